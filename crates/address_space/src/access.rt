@@ -6,7 +6,7 @@ ghost use Rattle.address_space.specs.Space.{map_of};
 ghost use Rattle.address_space.specs.Seen.{tables_of};
 ghost use Rattle.address_space.specs.Access.{denies, fault_code, IsGranted, IsDenied, AreBytesAt, IsAccessAnswer};
 ghost use Rattle.address_space.specs.Changing.{IsStored};
-ghost use Rattle.x86_tables.specs.PageFaultErrorCode.{page_fault_bits};
+ghost use Rattle.x86_flags.specs.PageFaultErrorCode.{page_fault_bits};
 
 use crate::bytes::{read_bytes, write_bytes};
 use crate::range::is_good_span;
@@ -17,7 +17,7 @@ use bitflags::Flags;
 use meminterval::IntervalTree;
 use paging_core::Rights;
 use public_list::PublicList;
-use x86_tables::idt::PageFaultErrorCode;
+use x86_flags::PageFaultErrorCode;
 
 /// Bytes, as a list.
 pub type Bytes = PublicList<u8>;

@@ -1,5 +1,5 @@
 use thiserror::Error;
-use x86_tables::idt::PageFaultErrorCode;
+use x86_flags::PageFaultErrorCode;
 
 /// Why a space refuses a call, which then changes nothing.
 #[derive(Clone, Copy, PartialEq, Eq, Debug, Error)]

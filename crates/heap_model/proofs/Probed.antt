@@ -3,8 +3,8 @@ use Rattle.std.proofs.Common.{◌≡◌, ℕ, zero, suc, ◌+◌, ◌-◌, ◌*�
 use Rattle.std.proofs.lemmas.Bool.Decides.{nat_tests}
 use Rattle.paging_core.specs.Address.{is_canonical}
 use Rattle.paging_core.specs.Walk.{walk_of, reached}
-use Rattle.x86_tables.specs.PageFaultErrorCode.{page_fault_bits}
-use Rattle.x86_tables.specs.declared.idt.page_fault_error_code.PageFaultErrorCode.{PageFaultErrorCode}
+use Rattle.x86_flags.specs.PageFaultErrorCode.{page_fault_bits}
+use Rattle.x86_flags.specs.declared.page_fault_error_code.PageFaultErrorCode.{PageFaultErrorCode}
 use Rattle.heap_model.specs.declared.region.Region.{Region}
 use Rattle.heap_model.specs.declared.call.Access.{Access}
 use Rattle.heap_model.specs.declared.call.Call.TheVariants.{Probe}

@@ -17,7 +17,7 @@ use Rattle.heap_model.specs.Place.{with_region, without_region, all_regions}
 use Rattle.heap_model.specs.Cut.{AreCut}
 use Rattle.heap_model.specs.Room.{user_region, IsGrowth, IsGrowthCut}
 use Rattle.heap_model.specs.Extents.{IsTiling}
-use Rattle.x86_tables.specs.PageFaultErrorCode.{page_fault_bits}
+use Rattle.x86_flags.specs.PageFaultErrorCode.{page_fault_bits}
 use Rattle.heap_model.specs.Probe.{rights_at, is_granted, fault_code, IsByteAt}
 use Rattle.heap_model.specs.Refusal.{own_align, least_align, must_refuse, MayRefuse, wanted_by}
 

@@ -1,7 +1,7 @@
 use crate::{Bytes, RegionList};
 use dlmalloc_chunks::ExtentList;
 use public_list::PublicList;
-use x86_tables::idt::PageFaultErrorCode;
+use x86_flags::PageFaultErrorCode;
 
 /// Why a call was refused. A refused call changes nothing.
 #[derive(Clone, Copy, PartialEq, Eq, Debug)]

@@ -18,7 +18,7 @@ pub use live::Live;
 pub use paging_core::Rights;
 pub use public_list::PublicList;
 pub use region::{Region, RegionList};
-pub use x86_tables::idt::PageFaultErrorCode;
+pub use x86_flags::PageFaultErrorCode;
 
 /// Bytes, as a list.
 pub type Bytes = PublicList<u8>;

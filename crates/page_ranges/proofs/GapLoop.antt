@@ -1,11 +1,11 @@
 -- The pages of a range between its large pages are mapped by tables.
-use Rattle.std.proofs.Common.{◌≡◌, ℕ, ◌+◌, ◌-◌, ◌*◌, ◌/◌, ◌%◌, ◌^◌, ◌<◌, ◌≤◌, Bool, List, Option, Some, None, refl, sym, ap, ◌∙◌, ◌⊎◌, inl, inr, arith}
+use Rattle.std.proofs.Common.{◌≡◌, ℕ, ◌+◌, ◌-◌, ◌*◌, ◌/◌, ◌%◌, ◌^◌, ◌<◌, ◌≤◌, Bool, true, false, List, Option, Some, None, refl, sym, ap, ◌∙◌, ◌⊎◌, inl, inr, arith}
 use Rattle.std.specs.Prelude.{IsSome, IsTrue}
-use Rattle.std.proofs.lemmas.Bool.{cases_lt}
+use Rattle.std.proofs.lemmas.Bool.{cases_Bool, cases_lt}
 use Rattle.paging_core.specs.Address.{is_canonical, IsCanonicalRange}
 use Rattle.paging_core.specs.Memory.{word_at, frame_count, byte_of}
 use Rattle.paging_core.specs.Prefix.{prefix_of}
-use Rattle.paging_core.specs.Pool.{free_count, FreeBelow}
+use Rattle.paging_core.specs.Pool.{is_free, free_count, FreeBelow, AreLowestTaken}
 use Rattle.paging_core.specs.Walk.{Place, reach, large_of, walk_of, reached, page_in, top, granted}
 use Rattle.paging_core.specs.Tree.{IsTree}
 use Rattle.paging_core.specs.Missing.{missing_of}
@@ -27,14 +27,29 @@ use Rattle.page_ranges.proofs.RangeSteps.{piece_added}
 -- After the slots (`mid`, `free1`), the first `done` pages are all mapped, and the others are as they were then.
 pub record AreGapsFilled (mid now : List ℕ) (free1 free2 : List Bool) (root first pages done : ℕ) (rights : Rights) : Type 0 where
   pub pages_added : ArePagesAdded mid now free1 free2 root first pages rights
+  pub lowest : AreLowestTaken free1 free2
+  pub ascending :
+      (j k : ℕ) (place far : Place) → j < k → k < done → walk_of mid root (first + j) ≡ None → walk_of mid root (first + k) ≡ None →
+      walk_of now root (first + j) ≡ Some place → walk_of now root (first + k) ≡ Some far → place.frame < far.frame
   pub larges : (n : ℕ) → large_of now root n ≡ large_of mid root n
   pub mapped : (k : ℕ) → k < done → (place : Place) × (walk_of now root (first + k) ≡ Some place)
   pub rest : (k : ℕ) → done ≤ k → k < pages → walk_of now root (first + k) ≡ walk_of mid root (first + k)
+
+-- the lowest frames are taken, and then again
+lowest_on : (free free1 free' : List Bool) → AreLowestTaken free free1 → AreLowestTaken free1 free' →
+    ((f : ℕ) → is_free free1 f ≡ false → is_free free' f ≡ false) → AreLowestTaken free free'
+lowest_on free free1 free' first second fewer f g was gone left = go (cases_Bool (is_free free1 f))
+  where
+    go : (is_free free1 f ≡ true) ⊎ (is_free free1 f ≡ false) → f < g
+    go (inl still) = second f g still gone left
+    go (inr taken) = first f g was taken (free_before free1 free' fewer g left)
 
 pub gaps_start : (mid : List ℕ) (free1 : List Bool) (root first pages : ℕ) (rights : Rights) → IsTree mid root free1 →
     AreGapsFilled mid mid free1 free1 root first pages 0 rights
 gaps_start mid free1 root first pages rights tree = record {
   pages_added = pages_start mid free1 root first pages rights tree;
+  lowest = λ f g was gone now. absurd (cc);
+  ascending = λ j k place far less lt. absurd (omega arith);
   larges = λ n. refl;
   mapped = λ k lt. absurd (omega arith);
   rest = λ k ge lt. refl;
@@ -96,10 +111,40 @@ module _ (old mid now : List ℕ) (free free1 free2 : List Bool) (root first pag
           let e : first + k ≡ first + done + (k - done) = omega arith in
           (granted p.frame rights, ap (walk_of new root) e ∙ p.found)
 
+      -- a page that is mapped already
+      page_before : (j : ℕ) (place : Place) → j < done → walk_of new root (first + j) ≡ Some place → walk_of now root (first + j) ≡ Some place
+      page_before j place lt is =
+          let p = filled.mapped j lt in
+          let s = next.pages_stay (first + j) p.0 p.1 in
+          let e : p.0 ≡ place = cc in
+          p.1 ∙ ap Some e
+
+      ascending : (j k : ℕ) (place far : Place) → j < k → k < done + count → walk_of mid root (first + j) ≡ None → walk_of mid root (first + k) ≡ None →
+          walk_of new root (first + j) ≡ Some place → walk_of new root (first + k) ≡ Some far → (j < done) ⊎ (done ≤ j) → (k < done) ⊎ (done ≤ k) → place.frame < far.frame
+      ascending j k place far less lt j_was k_was j_is k_is (inl a) (inl b) =
+          filled.ascending j k place far less b j_was k_was (page_before j place a j_is) (page_before k far b k_is)
+      ascending j k place far less lt j_was k_was j_is k_is (inl a) (inr b) =
+          let here = page_before j place a j_is in
+          let page = next.mapped (k - done) (omega arith) in
+          let e : first + k ≡ first + done + (k - done) = omega arith in
+          let s : walk_of new root (first + k) ≡ Some (granted page.frame rights) = ap (walk_of new root) e ∙ page.found in
+          let same : granted page.frame rights ≡ far = cc in
+          let g : page.frame ≡ far.frame = ap (λ m. m.frame) same in
+          filled.lowest place.frame far.frame (filled.pages_added.added (first + j) place j_was here).was_free
+          (filled.pages_added.tree.used 4 (prefix_of (first + j) 4) place (omega arith) (sym (walk_reach now root (first + j)) ∙ here))
+          (ap (is_free free2) (sym g) ∙ page.was_free)
+      ascending j k place far less lt j_was k_was j_is k_is (inr a) (inl b) = absurd (omega arith)
+      ascending j k place far less lt j_was k_was j_is k_is (inr a) (inr b) =
+          let x : first + done + (j - done) ≡ first + j = omega arith in
+          let y : first + done + (k - done) ≡ first + k = omega arith in
+          next.ascending (j - done) (k - done) place far (omega arith) (omega arith) (ap (walk_of new root) x ∙ j_is) (ap (walk_of new root) y ∙ k_is)
+
       pub gap_next : AreGapsFilled mid new free1 free' root first pages (done + count) rights
       gap_next = record {
         pages_added = pages_more mid now new free1 free2 free' root first pages rights filled.pages_added
             (piece_added now new free2 free' root first pages (first + done) count rights range (omega arith) (omega arith) some gap_unmapped next);
+        lowest = lowest_on free1 free2 free' filled.lowest next.lowest next.fewer;
+        ascending = λ j k place far less lt j_was k_was j_is k_is. ascending j k place far less lt j_was k_was j_is k_is (cases_lt j done) (cases_lt k done);
         larges = λ n. next.larges n ∙ filled.larges n;
         mapped = λ k lt. mapped_of k lt (cases_lt k done);
         rest = λ k ge lt.
@@ -116,11 +161,18 @@ module _ (old mid now : List ℕ) (free free1 free2 : List Bool) (root first pag
   pub gap_skip : IsSome (large_of now root (slot_of ((first + done) / 512))) → AreGapsFilled mid now free1 free2 root first pages (done + count) rights
   gap_skip large = record {
     pages_added = filled.pages_added;
+    lowest = filled.lowest;
+    ascending = λ j k place far less lt j_was k_was j_is k_is. ascending j k place far less lt j_was k_was j_is k_is (cases_lt k done);
     larges = filled.larges;
     mapped = λ k lt. mapped_of k lt (cases_lt k done);
     rest = λ k ge lt. filled.rest k (omega arith) lt;
   }
     where
+      ascending : (j k : ℕ) (place far : Place) → j < k → k < done + count → walk_of mid root (first + j) ≡ None → walk_of mid root (first + k) ≡ None →
+          walk_of now root (first + j) ≡ Some place → walk_of now root (first + k) ≡ Some far → (k < done) ⊎ (done ≤ k) → place.frame < far.frame
+      ascending j k place far less lt j_was k_was j_is k_is (inl x) = filled.ascending j k place far less x j_was k_was j_is k_is
+      ascending j k place far less lt j_was k_was j_is k_is (inr x) = let same = filled.rest k x (omega arith) in absurd (cc)
+
       mapped_of : (k : ℕ) → k < done + count → (k < done) ⊎ (done ≤ k) → (place : Place) × (walk_of now root (first + k) ≡ Some place)
       mapped_of k lt (inl x) = filled.mapped k x
       mapped_of k lt (inr x) =
@@ -211,6 +263,8 @@ module _ (old mid new : List ℕ) (free free1 free' : List Bool) (root first pag
     by_slots = slots;
     none_left = full;
     by_tables = filled.pages_added;
+    lowest = filled.lowest;
+    ascending = λ j k place far less lt. filled.ascending j k place far less (omega arith);
     pages_added = all;
     slots = record {
       large = λ slot it lt. rw (filled.larges (slot_of slot)) (slots.slots.large slot it lt);

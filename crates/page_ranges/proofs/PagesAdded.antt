@@ -31,6 +31,7 @@ pages_start words free root first pages rights tree = record {
   count = refl;
   bytes_stay = λ page place i is li. refl;
   words = λ f i li held untabled. refl;
+  free_words = λ f i li e. refl;
   entries = record {
     old_words = λ l n f i lt li was keeps large. refl;
     blank = λ l n f i lt li none now gone small. absurd (cc);
@@ -261,5 +262,6 @@ module _ (old mid new : List ℕ) (free free1 free' : List Bool) (root first pag
     count = let x = a.count in let y = b.count in omega arith;
     bytes_stay = λ page place i is li. b.bytes_stay page place i (walk_before page place is) li ∙ a.bytes_stay page place i is li;
     words = words_of;
+    free_words = λ f i li e. b.free_words f i li e ∙ a.free_words f i li (free_before free1 free' b.fewer f e);
     entries = record { old_words = old_words; blank = blank; table_words = table_words; page_words = page_words; large_words = large_words };
   }

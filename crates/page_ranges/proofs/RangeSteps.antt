@@ -13,7 +13,7 @@ use Rattle.paging_core.specs.Tree.{IsTree}
 use Rattle.paging_core.specs.Missing.{missing_of}
 use Rattle.paging_core.specs.Mapping.{IsRangeAdded}
 use Rattle.paging_core.specs.Large.{slot_of, above, missing_above, IsSlotEmpty, AreFramesCleared, IsLargeAdded}
-use Rattle.page_ranges.specs.RangeMapping.{IsNewPlace, ArePagesAdded, IsOpenSlot, AreSlotsAdded}
+use Rattle.page_ranges.specs.RangeMapping.{IsNewPlace, ArePagesAdded, IsOpenSlot, IsUsedFor, AreSlotsAdded}
 use Rattle.paging_core.specs.declared.page_table.Rights.{Rights}
 use Rattle.paging_core.proofs.Prefixes.{walk_reach, small_page}
 use Rattle.paging_core.proofs.Reach.{large_none}
@@ -23,6 +23,10 @@ use Rattle.paging_core.proofs.Ranges.{page_in as range_page}
 use Rattle.paging_core.proofs.RunTaken.{run_fewer, unmet, stays, run_same, run_larges, run_walk, slot_words}
 use Rattle.page_ranges.proofs.PagesAdded.{pages_more}
 use Rattle.page_ranges.proofs.Pieces.{piece_range, unmapped_step, missing_step_in}
+
+pub none_some : (o : Option Place) → o ≡ None → IsSome o → ⊥
+none_some None e h = absurd (cc)
+none_some (Some x) e h = absurd (cc)
 
 -- ---- a piece, by tables
 
@@ -92,6 +96,7 @@ module _ (old new : List ℕ) (free free' : List Bool) (root first pages p m : �
         omega arith;
     bytes_stay = next.bytes_stay;
     words = next.words;
+    free_words = next.free_words;
     entries = record {
       old_words = λ l n f i lt li was keeps large. next.entries.old_words l n f i lt li was keeps;
       blank = λ l n f i lt li gone now nowhere small. next.entries.blank l n f i lt li gone now nowhere;
@@ -175,19 +180,21 @@ module _ (old mid new : List ℕ) (free free1 free' : List Bool) (root first pag
           (e, s)
       go (inr ne) = let x = other_large n ne in absurd (cc)
 
-  -- a table that is new is one above the slot
-  made : (l n : ℕ) (met : Place) → l < 4 → reach old root l n ≡ None → reach new root l n ≡ Some met → is_free free met.frame ≡ true
-  made l n met ll gone now = go (cases_lt l 3) (cases_eq n (above page l))
+  -- a table that is new is one above the slot, and its frame was left by the run
+  made_left : (l n : ℕ) (met : Place) → l < 4 → reach old root l n ≡ None → reach new root l n ≡ Some met → is_free free1 met.frame ≡ true
+  made_left l n met ll gone now = go (cases_lt l 3) (cases_eq n (above page l))
     where
-      go : (l < 3) ⊎ (3 ≤ l) → (n ≡ above page l) ⊎ (n ≡ above page l → ⊥) → is_free free met.frame ≡ true
+      go : (l < 3) ⊎ (3 ≤ l) → (n ≡ above page l) ⊎ (n ≡ above page l → ⊥) → is_free free1 met.frame ≡ true
       go (inl lt) (inl e) =
           let t = added.made l lt (same l (above page l) (omega arith) ∙ (ap (reach old root l) (sym e) ∙ gone)) in
           let x : reach new root l n ≡ Some (top t.0) = ap (reach new root l) e ∙ t.1 in
           let s : top t.0 ≡ met = cc in
-          let f : is_free free1 met.frame ≡ true = rw (← s) t.2 in
-          free_before free free1 fewer1 met.frame f
+          rw (← s) t.2
       go (inl lt) (inr ne) = let x = others l n (omega arith) (λ _. ne) (λ e. absurd (omega arith)) in absurd (cc)
       go (inr ge) _ = let x = others l n (omega arith) (λ lt. absurd (omega arith)) (λ e. absurd (omega arith)) in absurd (cc)
+
+  made : (l n : ℕ) (met : Place) → l < 4 → reach old root l n ≡ None → reach new root l n ≡ Some met → is_free free met.frame ≡ true
+  made l n met ll gone now = free_before free free1 fewer1 met.frame (made_left l n met ll gone now)
 
   page_added : (other : ℕ) (place : Place) → walk_of old root other ≡ None → walk_of new root other ≡ Some place → IsNewPlace new free place rights
   page_added other place gone now = go (cases_eq (other / 512 % 2 ^ 27) (slot_of page))
@@ -300,6 +307,9 @@ module _ (old mid new : List ℕ) (free free1 free' : List Bool) (root first pag
         omega arith;
     bytes_stay = bytes_stay;
     words = words_of;
+    free_words = λ f i li e.
+        added.words f i li (λ l lt here. let x = tree'.used l (above page l) (top f) (omega arith) here in cc)
+        ∙ stay f i li (λ at. let x = taken.here f at in let y = free_before free1 free' added.fewer f e in cc);
     entries = record {
       old_words = old_words;
       blank = table_new;
@@ -311,7 +321,8 @@ module _ (old mid new : List ℕ) (free free1 free' : List Bool) (root first pag
 
   -- and the slots before it were gone through
   module _ (start : List ℕ) (flags : List Bool)
-      (before : AreSlotsAdded start old flags free root first pages page rights) where
+      (before : AreSlotsAdded start old flags free root first pages page rights)
+      (lowest_run : (lower : ℕ) → lower < run → ¬ (IsRunFree free lower)) where
     some_of : (o o' : Option Place) → ((m : Place) → o ≡ Some m → o' ≡ Some m) → IsSome o → IsSome o'
     some_of None o' h is = absurd (cc)
     some_of (Some m) o' h is = rw (h m refl) is
@@ -336,6 +347,60 @@ module _ (old mid new : List ℕ) (free free1 free' : List Bool) (root first pag
     page_stays n keeps (inr ne) =
         others 4 n (omega arith) (λ lt. absurd (omega arith)) (λ _. ne) ∙ before.others n (sym (other_large (n / 512) ne) ∙ keeps)
 
+    -- what was used for a slot before is used for it still
+    used_still : (slot f : ℕ) → IsUsedFor old root slot f → IsUsedFor new root slot f
+    used_still slot f (inl used) = inl (used.0, large_stayed (slot_of slot) used.0 used.1, used.2)
+    used_still slot f (inr used) =
+        let low = used.1 in inr (used.0, used.1, added.stayed used.0 (above slot used.0) (top f) (omega (arith, low)) (same used.0 (above slot used.0) (omega (arith, low)) ∙ used.2))
+
+    large_before : (slot : ℕ) (large : Place) → IsOpenSlot start root first pages slot → slot < page → large_of new root (slot_of slot) ≡ Some large →
+        large_of old root (slot_of slot) ≡ Some large
+    large_before slot large whole lt is = go (some_or_none (large_of old root (slot_of slot)))
+      where
+        go : ((m : Place) × (large_of old root (slot_of slot) ≡ Some m)) ⊎ (large_of old root (slot_of slot) ≡ None) → large_of old root (slot_of slot) ≡ Some large
+        go (inl p) =
+            let s = large_stayed (slot_of slot) p.0 p.1 in
+            let e : p.0 ≡ large = cc in
+            p.1 ∙ ap Some e
+        go (inr none) = absurd (none_some (large_of old root (slot_of slot)) none (before.slots.large slot whole lt))
+
+    spent : (f : ℕ) → is_free flags f ≡ true → ((slot : ℕ) → IsOpenSlot start root first pages slot → slot < page + 1 → ¬ (IsUsedFor new root slot f)) →
+        is_free free' f ≡ true
+    spent f was unused = go (cases_eq (f / 512) run)
+      where
+        go : (f / 512 ≡ run) ⊎ (f / 512 ≡ run → ⊥) → is_free free' f ≡ true
+        go (inl e) = absurd (unused page mine (omega arith) (inl (granted (512 * run) rights, added.large, omega (arith, e))))
+        go (inr ne) =
+            added.kept f (taken.elsewhere f ne ∙ before.spent f was (λ slot whole lt used. unused slot whole (omega (arith, lt)) (used_still slot f used)))
+            (λ l lt here. unused page mine (omega arith) (inr (l, lt, here)))
+
+    lowest_runs : (slot spare : ℕ) (large : Place) → IsOpenSlot start root first pages slot → slot < page + 1 → large_of new root (slot_of slot) ≡ Some large →
+        512 * spare < large.frame → IsRunFree flags spare →
+        ((f earlier : ℕ) → f / 512 ≡ spare → IsOpenSlot start root first pages earlier → earlier < slot → ¬ (IsUsedFor new root earlier f)) → ⊥
+    lowest_runs slot spare large whole lt is less was unused = go (cases_lt slot page)
+      where
+        go : (slot < page) ⊎ (page ≤ slot) → ⊥
+        go (inl x) =
+            before.lowest_runs slot spare large whole x (large_before slot large whole x is) less was
+            (λ f earlier at its sooner used. unused f earlier at its sooner (used_still earlier f used))
+        go (inr x) =
+            let e : slot ≡ page = omega arith in
+            let here : large_of new root (slot_of slot) ≡ Some (granted (512 * run) rights) = ap (λ s. large_of new root (slot_of s)) e ∙ added.large in
+            let s : large ≡ granted (512 * run) rights = cc in
+            let g : large.frame ≡ 512 * run = ap (λ m. m.frame) s in
+            lowest_run spare (omega (arith, less, g))
+            (λ f at. before.spent f (was f at) (λ earlier its sooner used. unused f earlier at its (omega (arith, sooner, e)) (used_still earlier f used)))
+
+    lowest_tables : (l n table f : ℕ) → l < 3 → reach start root l n ≡ None → reach new root l n ≡ Some (top table) → is_free free' f ≡ true → table < f
+    lowest_tables l n table f ll gone now left = go (some_or_none (reach old root l n))
+      where
+        go : ((m : Place) × (reach old root l n ≡ Some m)) ⊎ (reach old root l n ≡ None) → table < f
+        go (inl p) =
+            let s = added.stayed l n p.0 (omega arith) (same l n (omega arith) ∙ p.1) in
+            let e : p.0 ≡ top table = cc in
+            before.lowest_tables l n table f ll gone (p.1 ∙ ap Some e) (free_before free free1 fewer1 f (free_before free1 free' added.fewer f left))
+        go (inr none) = added.lowest table f (made_left l n (top table) (omega arith) none now) (tree'.used l n (top table) (omega arith) now) left
+
     pub slots_more : AreSlotsAdded start new flags free' root first pages (page + 1) rights
     slots_more = record {
       pages_added = pages_more start old new flags free free' root first pages rights before.pages_added slot_added;
@@ -345,4 +410,7 @@ module _ (old mid new : List ℕ) (free free1 free' : List Bool) (root first pag
       };
       tables = λ n. others 3 n (omega arith) (λ lt. absurd (omega arith)) (λ e. absurd (omega arith)) ∙ before.tables n;
       others = λ n keeps. page_stays n keeps (cases_eq (n / 512) (slot_of page));
+      spent = spent;
+      lowest_runs = lowest_runs;
+      lowest_tables = lowest_tables;
     }

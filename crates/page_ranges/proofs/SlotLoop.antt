@@ -6,11 +6,12 @@ use Rattle.paging_core.specs.Address.{IsCanonicalRange}
 use Rattle.paging_core.specs.Memory.{frame_count}
 use Rattle.paging_core.specs.Prefix.{prefix_of}
 use Rattle.paging_core.specs.Pool.{free_count, FreeBelow}
+use Rattle.paging_core.specs.Runs.{IsRunFree}
 use Rattle.paging_core.specs.Walk.{Place, reach, large_of, walk_of}
 use Rattle.paging_core.specs.Tree.{IsTree}
 use Rattle.paging_core.specs.Missing.{missing_of}
 use Rattle.paging_core.specs.Large.{slot_of, missing_above, IsSlotEmpty, IsSlotAdded}
-use Rattle.page_ranges.specs.RangeMapping.{AreSlotsAdded, IsOpenSlot}
+use Rattle.page_ranges.specs.RangeMapping.{AreSlotsAdded, IsOpenSlot, IsUsedFor}
 use Rattle.paging_core.specs.declared.page_table.Rights.{Rights}
 use Rattle.paging_core.proofs.Prefixes.{walk_reach}
 use Rattle.paging_core.proofs.Counts.{missing_one}
@@ -18,11 +19,7 @@ use Rattle.paging_core.proofs.FreshFrame.{free_before}
 use Rattle.paging_core.proofs.Ranges.{page_in}
 use Rattle.page_ranges.proofs.Pieces.{unmapped_all, unmapped_piece, missing_inside}
 use Rattle.page_ranges.proofs.PagesAdded.{pages_start}
-use Rattle.page_ranges.proofs.RangeSteps.{slots_more}
-
-none_some : (o : Option Place) → o ≡ None → IsSome o → ⊥
-none_some None e h = absurd (cc)
-none_some (Some x) e h = absurd (cc)
+use Rattle.page_ranges.proofs.RangeSteps.{none_some, slots_more}
 
 -- where the test for a table is false there is none
 pub no_table : (o : Option Place) (b : Bool) → (IsSome o → IsTrue b) → b ≡ false → o ≡ None
@@ -36,6 +33,26 @@ slots_start words free root first pages slot rights tree before = record {
   slots = record { large = λ s whole lt. absurd (let h : first ≤ 512 * s = whole.from in omega arith); small = λ n ne. refl };
   tables = λ n. refl;
   others = λ n keeps. refl;
+  spent = λ f was unused. was;
+  lowest_runs = λ s run large whole lt is less was unused. let h : first ≤ 512 * s = whole.from in omega arith;
+  lowest_tables = λ l n table f ll none now left. absurd (cc);
+}
+
+-- where one goes on to is told by the slots that lie whole in the range
+pub slots_to : (old mid : List ℕ) (free free1 : List Bool) (root first pages slot stop : ℕ) (rights : Rights) → AreSlotsAdded old mid free free1 root first pages slot rights →
+    ((s : ℕ) → IsOpenSlot old root first pages s → s < slot → s < stop) → ((s : ℕ) → IsOpenSlot old root first pages s → s < stop → s < slot) →
+    AreSlotsAdded old mid free free1 root first pages stop rights
+slots_to old mid free free1 root first pages slot stop rights added before behind = record {
+  pages_added = added.pages_added;
+  slots = record {
+    large = λ s whole lt. added.slots.large s whole (behind s whole lt);
+    small = λ n ne. added.slots.small n (λ s whole lt e. ne s whole (before s whole lt) e);
+  };
+  tables = added.tables;
+  others = added.others;
+  spent = λ f was unused. added.spent f was (λ s whole lt. unused s whole (before s whole lt));
+  lowest_runs = λ s run large whole lt. added.lowest_runs s run large whole (behind s whole lt);
+  lowest_tables = added.lowest_tables;
 }
 
 module _ (old mid : List ℕ) (free free1 : List Bool) (root first pages slot : ℕ) (rights : Rights)
@@ -100,8 +117,20 @@ module _ (old mid : List ℕ) (free free1 : List Bool) (root first pages slot : 
     };
     tables = before.tables;
     others = before.others;
+    spent = λ f was unused. before.spent f was (λ s whole lt. unused s whole (omega (arith, lt)));
+    lowest_runs = λ s run large whole lt. lowest s run large whole lt (cases_lt s slot);
+    lowest_tables = before.lowest_tables;
   }
     where
+      lowest : (s run : ℕ) (large : Place) → IsOpenSlot old root first pages s → s < slot + 1 → (s < slot) ⊎ (slot ≤ s) → large_of mid root (slot_of s) ≡ Some large →
+          512 * run < large.frame → IsRunFree free run →
+          ((f earlier : ℕ) → f / 512 ≡ run → IsOpenSlot old root first pages earlier → earlier < s → ¬ (IsUsedFor mid root earlier f)) → ⊥
+      lowest s run large whole lt (inl x) is less was unused = before.lowest_runs s run large whole x is less was unused
+      lowest s run large whole lt (inr x) is less was unused =
+          let e : s ≡ slot = omega arith in
+          let n : reach mid root 3 (slot_of slot) ≡ None = before.tables (slot_of slot) ∙ (ap (λ k. reach old root 3 (slot_of k)) (sym e) ∙ whole.no_table) in
+          none_some (reach mid root 3 (slot_of slot)) n some
+
       go : (s : ℕ) → IsOpenSlot old root first pages s → s < slot + 1 → (s < slot) ⊎ (slot ≤ s) → IsSome (large_of mid root (slot_of s))
       go s whole lt (inl x) = before.slots.large s whole x
       go s whole lt (inr x) =
@@ -118,4 +147,4 @@ module _ (old mid : List ℕ) (free free1 : List Bool) (root first pages slot : 
     pub slots_next : AreSlotsAdded old new free free' root first pages (slot + 1) rights
     slots_next =
         slots_more mid s.blank new free1 s.left free' root first pages slot s.run rights range from to slots_known before.pages_added.tree (slot_empty none)
-        s.taken.0 s.taken.1 s.cleared s.added tree' missing count old free before
+        s.taken.0 s.taken.1 s.cleared s.added tree' missing count old free before s.taken.2

@@ -137,7 +137,7 @@ module _ (old mid new : List ℕ) (free free1 free' : List Bool) (root first p q
   -- ---- the words
 
   tree_mid : IsTree mid root free1
-  tree_mid = unmapped_tree old mid free free1 root first p some tree a
+  tree_mid = unmapped_tree old mid free free1 root first p some tree a range_a
 
   -- a word of a last table, if it is not of a page of the second part
   third_stays : (f i n : ℕ) → i < 512 → reach mid root 3 n ≡ Some (top f) → among (first + p) q (512 * n + i) ≡ false → word_at new f i ≡ word_at mid f i
@@ -302,7 +302,11 @@ module _ (old now : List ℕ) (free free1 : List Bool) (root first pages done co
     where
       go : (done ≡ 0) ⊎ (0 < done) → IsTree now root free1
       go (inl e) = rw ((l.begun e).0, (l.begun e).1) tree
-      go (inr lt) = unmapped_tree old now free free1 root first done lt tree (l.unmapped lt)
+      go (inr lt) = unmapped_tree old now free free1 root first done lt tree (l.unmapped lt) (record {
+        some = lt;
+        canonical = range.canonical;
+        one_half = let h = range.one_half in let i = l.inside in omega arith;
+      })
 
   page_at : (k : ℕ) → first + done + k ≡ first + (done + k)
   page_at k = omega arith

@@ -1,5 +1,5 @@
 -- What follows from pages that were unmapped, and a range that is unmapped in pieces.
-use Rattle.std.proofs.Common.{◌≡◌, ℕ, zero, suc, ◌+◌, ◌-◌, ◌*◌, ◌/◌, ◌%◌, ◌<◌, ◌≤◌, Bool, true, false, ◌&&◌, ◌==◌, is_some, List, Some, None, refl, sym, ap, ◌∙◌, ◌⊎◌, inl, inr, arith}
+use Rattle.std.proofs.Common.{◌≡◌, ℕ, zero, suc, ◌+◌, ◌-◌, ◌*◌, ◌/◌, ◌%◌, ◌<◌, ◌≤◌, Bool, true, false, ◌&&◌, ◌==◌, is_some, List, Option, Some, None, refl, sym, ap, ◌∙◌, ◌⊎◌, inl, inr, arith}
 use Rattle.std.specs.Prelude.{IsSome, IsTrue}
 use Rattle.std.proofs.lemmas.Bool.{cases_Bool, cases_eq, cases_lt}
 use Rattle.std.proofs.lemmas.Bool.Decides.{nat_tests}
@@ -14,7 +14,10 @@ use Rattle.page_ranges.specs.RangeUnmapping.{is_cut, cut_tables, IsCutPage, AreU
 use Rattle.paging_core.proofs.Prefixes.{walk_reach, prefix_parent}
 use Rattle.paging_core.proofs.Reach.{reach_in, table_none}
 use Rattle.paging_core.proofs.LastEntry.{some_or_none}
-use Rattle.paging_core.proofs.Made.{reach_below}
+use Rattle.paging_core.specs.Entry.{has_bit}
+use Rattle.paging_core.specs.Plain.{IsPlain}
+use Rattle.paging_core.proofs.Plain.{plain_kept, plain_zero, plain_table, plain_page}
+use Rattle.paging_core.proofs.Made.{reach_below, large_below, large_small}
 use Rattle.paging_core.proofs.PageChanged.{some_place}
 use Rattle.paging_core.proofs.PageWritten.{same_byte}
 use Rattle.paging_core.proofs.Ranges.{page_in as range_page, page_canonical, same_number}
@@ -161,21 +164,6 @@ module _ (old new : List ℕ) (free free' : List Bool) (root first pages : ℕ)
       let is : among first pages n ≡ true = ap (among first pages) (sym d.1) ∙ g in
       cc)
 
-  pub unmapped_tree : IsTree new root free'
-  unmapped_tree = record {
-    rights = λ l n met lt is. rights_of l n met lt (ways l n met (omega arith) is);
-    distinct = λ l n k j x y ll lk is at e. same_place l n k j x y ll lk (ways l n x ll is) (ways k j y lk at) e;
-    used = λ l n met le is. used_of l n met le (ways l n met le is);
-  }
-    where
-      rights_of : (l n : ℕ) (met : Place) → l < 4 → IsNewTable l n met ⊎ IsOld l n met → met ≡ top met.frame
-      rights_of l n met lt (inl t) = t.framed ∙ ap top (sym (ap (λ p. p.frame) t.framed))
-      rights_of l n met lt (inr o) = tree.rights l n met lt o.was
-
-      used_of : (l n : ℕ) (met : Place) → l ≤ 4 → IsNewTable l n met ⊎ IsOld l n met → is_free free' met.frame ≡ false
-      used_of l n met le (inl t) = ap (is_free free') (ap (λ p. p.frame) t.framed) ∙ a.used t.large t.cut
-      used_of l n met le (inr o) = keeps_frame l n met le o ∙ tree.used l n met le o.was
-
   -- a table that was there is met as before
   pub unmapped_tables : (l n : ℕ) (met : Place) → l < 4 → reach old root l n ≡ Some met → reach new root l n ≡ Some met
   unmapped_tables l n met lt is = a.tables_stay l n lt small ∙ is
@@ -230,6 +218,114 @@ module _ (old new : List ℕ) (free free' : List Bool) (root first pages : ℕ)
             large_of old root n ≡ Some large
         go (inl k) = let z = a.large_gone k.0 k.1.0 in let w : large_of new root n ≡ None = ap (large_of new root) k.1.1 ∙ z in absurd (cc)
         go (inr ne) = sym (a.larges_stay n ne) ∙ is
+
+    -- ---- the entries are plain still
+
+    -- an entry of the new table
+    in_table : (large : Place) → IsCutPage old root first large → (i : ℕ) → i < 512 → (i < first % 512) ⊎ (first % 512 ≤ i) →
+        has_bit (word_at new (large.frame + first % 512) i) 0 ≡ true → IsPlain new 3 (word_at new (large.frame + first % 512) i)
+    in_table large it i li (inl lo) =
+        let e = a.entries.kept_words i large it lo in
+        let b = large_below old root (prefix_of first 3) large it.there in
+        let s = large_small old root (prefix_of first 3) large it.there in
+        let z = a.size in
+        rw e (λ _. plain_page new (large.frame + i) (record { write = large.write; user = large.user; fetch = large.fetch }) (omega (arith, s, b.0)) (omega (arith, b.1)))
+    in_table large it i li (inr hi) = plain_zero new 3 (word_at new (large.frame + first % 512) i) (a.entries.blank i large it hi li)
+
+    -- no table that was there is at the frame of the new one
+    not_cut : (l n : ℕ) (met : Place) → l < 4 → reach old root l n ≡ Some met → (large : Place) → IsCutPage old root first large →
+        met.frame ≡ large.frame + first % 512 → ⊥
+    not_cut l n met lt at large it e =
+        let d = tree.distinct 4 (prefix_of first 4) l n (page_in (first % 512) large) met (omega arith) (omega arith) (cut_page old root first large it) at (sym e) in
+        absurd (omega (arith, d.0))
+
+    -- a word that stays
+    stays_plain : (l n i : ℕ) (met : Place) → l < 4 → i < 512 → reach old root l n ≡ Some met →
+        (3 ≡ l → among first pages (512 * n + i) ≡ false) → (2 ≡ l → large_of new root (512 * n + i) ≡ large_of old root (512 * n + i)) →
+        has_bit (word_at new met.frame i) 0 ≡ true → IsPlain new l (word_at new met.frame i)
+    stays_plain l n i met lt li at pages_out larges_out =
+        plain_kept old new l (word_at old met.frame i) (word_at new met.frame i) a.size
+        (a.entries.words met.frame i li
+        (λ m here. let d = tree.distinct 3 m l n (top met.frame) met (omega arith) (omega arith) here at refl in ap (λ k. among first pages (512 * k + i)) d.1 ∙ pages_out d.0)
+        (λ m here.
+        let d = tree.distinct 2 m l n (top met.frame) met (omega arith) (omega arith) here at refl in
+        ap (λ k. large_of new root (512 * k + i)) d.1 ∙ (larges_out d.0 ∙ ap (λ k. large_of old root (512 * k + i)) (sym d.1)))
+        (not_cut l n met lt at))
+        (tree.plain.each l n i met lt li at)
+
+    -- an entry of a table of the third step, where a large page was
+    large_zero : (n i : ℕ) (met large : Place) → i < 512 → reach old root 2 n ≡ Some met → large_of old root (512 * n + i) ≡ Some large →
+        large_of new root (512 * n + i) ≡ None → (is_cut old root first ≡ true → 512 * n + i ≡ prefix_of first 3 → ⊥) →
+        has_bit (word_at new met.frame i) 0 ≡ true → IsPlain new 2 (word_at new met.frame i)
+    large_zero n i met large li at was gone whole =
+        let t : met ≡ top met.frame = tree.rights 2 n met (omega arith) at in
+        plain_zero new 2 (word_at new met.frame i) (a.entries.large_words n met.frame i large li (at ∙ ap Some t) was gone whole)
+
+    large_entry : (n i : ℕ) (met large : Place) → i < 512 → reach old root 2 n ≡ Some met → large_of old root (512 * n + i) ≡ Some large →
+        large_of new root (512 * n + i) ≡ None → ((cut : Place) × IsCutPage old root first cut) ⊎ (is_cut old root first ≡ false) →
+        (512 * n + i ≡ prefix_of first 3) ⊎ (512 * n + i ≡ prefix_of first 3 → ⊥) →
+        has_bit (word_at new met.frame i) 0 ≡ true → IsPlain new 2 (word_at new met.frame i)
+    large_entry n i met large li at was gone (inl cut) (inl e) =
+        let m : n ≡ prefix_of first 2 = let p = prefix_parent first 2 (omega arith) in omega arith in
+        let k : i ≡ prefix_of first 3 % 512 = omega arith in
+        let t : met ≡ top met.frame = tree.rights 2 n met (omega arith) at in
+        let w = a.entries.table_word met.frame cut.0 cut.1 (ap (reach old root 2) (sym m) ∙ (at ∙ ap Some t)) in
+        let b = large_below old root (prefix_of first 3) cut.0 cut.1.there in
+        let s = large_small old root (prefix_of first 3) cut.0 cut.1.there in
+        let z = a.size in
+        rw (k, w) (λ _. plain_table new 2 (cut.0.frame + first % 512) (omega arith) (omega (arith, s, b.0)) (omega (arith, b.1)))
+    large_entry n i met large li at was gone (inr whole) _ = large_zero n i met large li at was gone (λ c _. absurd (cc))
+    large_entry n i met large li at was gone _ (inr ne) = large_zero n i met large li at was gone (λ _ e. ne e)
+
+    third_plain : (n i : ℕ) (met : Place) → i < 512 → reach old root 2 n ≡ Some met →
+        has_bit (word_at new met.frame i) 0 ≡ true → IsPlain new 2 (word_at new met.frame i)
+    third_plain n i met li at = go (large_of new root (512 * n + i)) refl (large_of old root (512 * n + i)) refl
+      where
+        same_large : large_of new root (512 * n + i) ≡ large_of old root (512 * n + i) →
+            has_bit (word_at new met.frame i) 0 ≡ true → IsPlain new 2 (word_at new met.frame i)
+        same_large e = stays_plain 2 n i met (omega arith) li at (λ x. absurd (omega arith)) (λ _. e)
+
+        go : (o : Option Place) → large_of new root (512 * n + i) ≡ o → (p : Option Place) → large_of old root (512 * n + i) ≡ p →
+            has_bit (word_at new met.frame i) 0 ≡ true → IsPlain new 2 (word_at new met.frame i)
+        go (Some x) now p was = same_large (now ∙ sym (unmapped_large (512 * n + i) x now))
+        go None now None was = same_large (now ∙ sym was)
+        go None now (Some large) was =
+            large_entry n i met large li at was now (cut_or_not old root first) (cases_eq (512 * n + i) (prefix_of first 3))
+
+    old_plain : (l n i : ℕ) (met : Place) → l < 4 → i < 512 → reach old root l n ≡ Some met → (l ≡ 3) ⊎ (l ≡ 3 → ⊥) → (l ≡ 2) ⊎ (l ≡ 2 → ⊥) →
+        has_bit (word_at new met.frame i) 0 ≡ true → IsPlain new l (word_at new met.frame i)
+    old_plain l n i met lt li at (inl x) _ = go (cases_Bool (among first pages (512 * n + i)))
+      where
+        t : reach old root 3 n ≡ Some met
+        t = ap (λ k. reach old root k n) (sym x) ∙ at
+
+        go : (among first pages (512 * n + i) ≡ true) ⊎ (among first pages (512 * n + i) ≡ false) →
+            has_bit (word_at new met.frame i) 0 ≡ true → IsPlain new l (word_at new met.frame i)
+        go (inl c) = plain_zero new l (word_at new met.frame i) (a.entries.page_words n met.frame i li c (t ∙ ap Some (tree.rights 3 n met (omega arith) t)))
+        go (inr c) = stays_plain l n i met lt li at (λ _. c) (λ y. absurd (omega arith))
+    old_plain l n i met lt li at (inr x) (inl y) = rw y (third_plain n i met li (ap (λ k. reach old root k n) (sym y) ∙ at))
+    old_plain l n i met lt li at (inr x) (inr y) = stays_plain l n i met lt li at (λ z. absurd (x (sym z))) (λ z. absurd (y (sym z)))
+
+    plain_of : (l n i : ℕ) (met : Place) → l < 4 → i < 512 → IsNewTable l n met ⊎ IsOld l n met →
+        has_bit (word_at new met.frame i) 0 ≡ true → IsPlain new l (word_at new met.frame i)
+    plain_of l n i met lt li (inl t) = let f = t.framed in let g = t.at_three in rw (f, g) (in_table t.large t.cut i li (cases_lt i (first % 512)))
+    plain_of l n i met lt li (inr o) = old_plain l n i met lt li o.was (cases_eq l 3) (cases_eq l 2)
+
+    pub unmapped_tree : IsTree new root free'
+    unmapped_tree = record {
+      rights = λ l n met lt is. rights_of l n met lt (ways l n met (omega arith) is);
+      distinct = λ l n k j x y ll lk is at e. same_place l n k j x y ll lk (ways l n x ll is) (ways k j y lk at) e;
+      used = λ l n met le is. used_of l n met le (ways l n met le is);
+      plain = record { each = λ l n i met lt li is. plain_of l n i met lt li (ways l n met (omega arith) is) };
+    }
+      where
+        rights_of : (l n : ℕ) (met : Place) → l < 4 → IsNewTable l n met ⊎ IsOld l n met → met ≡ top met.frame
+        rights_of l n met lt (inl t) = t.framed ∙ ap top (sym (ap (λ p. p.frame) t.framed))
+        rights_of l n met lt (inr o) = tree.rights l n met lt o.was
+
+        used_of : (l n : ℕ) (met : Place) → l ≤ 4 → IsNewTable l n met ⊎ IsOld l n met → is_free free' met.frame ≡ false
+        used_of l n met le (inl t) = ap (is_free free') (ap (λ p. p.frame) t.framed) ∙ a.used t.large t.cut
+        used_of l n met le (inr o) = keeps_frame l n met le o ∙ tree.used l n met le o.was
 
     pub unmapped_gone : (k : ℕ) → k < pages → walk_of new root (first + k) ≡ None
     unmapped_gone k lt =

@@ -4,13 +4,13 @@ use Rattle.std.specs.Prelude.{◌≡◌, ℕ, ◌+◌, ◌*◌, ◌/◌, ◌<◌
 use Rattle.paging_core.specs.Memory.{word_at}
 use Rattle.paging_core.specs.Entry.{table_entry, page_entry, large_entry}
 use Rattle.paging_core.specs.Prefix.{prefix_of, prefixes_from}
-use Rattle.paging_core.specs.Pool.{is_free, free_count}
+use Rattle.paging_core.specs.Pool.{is_free, free_count, AreLowestTaken}
 use Rattle.paging_core.specs.Runs.{IsRunFree}
 use Rattle.paging_core.specs.Walk.{Place, reach, large_of, walk_of, top, granted}
 use Rattle.paging_core.specs.Tree.{IsTree}
 use Rattle.paging_core.specs.Missing.{is_missing, missing_of}
 use Rattle.paging_core.specs.Mapping.{IsNewPage}
-use Rattle.paging_core.specs.Large.{slot_of}
+use Rattle.paging_core.specs.Large.{slot_of, above}
 use Rattle.paging_core.specs.declared.page_table.Rights.{Rights}
 
 -- how many of the pages from `first` on are not mapped
@@ -77,6 +77,8 @@ pub record ArePagesAdded (old new : List ℕ) (free free' : List Bool) (root fir
   pub words :
       (f i : ℕ) → i < 512 → is_free free f ≡ false → ((l n : ℕ) → l < 4 → reach old root l n ≡ Some (top f) → ⊥) →
       word_at new f i ≡ word_at old f i
+  -- and what is free after has its words still
+  pub free_words : (f i : ℕ) → i < 512 → is_free free' f ≡ true → word_at new f i ≡ word_at old f i
   pub entries : HasNewEntries old new root rights
 
 -- The slot lies whole in the range and has no table.
@@ -96,6 +98,12 @@ abbrev pub NoRunAt : List ℕ → List Bool → ℕ → ℕ → ℕ → ℕ → 
 NoRunAt old free' root first pages stop =
     (slot : ℕ) → IsOpenSlot old root first pages slot → stop ≤ slot → (run : ℕ) → IsRunFree free' run → ⊥
 
+-- A frame is used for a slot: it is one of its large page, or that of a table above it.
+abbrev pub IsUsedFor : List ℕ → ℕ → ℕ → ℕ → Type 0
+IsUsedFor words root slot f =
+    ((large : Place) × (large_of words root (slot_of slot) ≡ Some large) × (f / 512 ≡ large.frame / 512))
+    ⊎ ((l : ℕ) × (l < 3) × (reach words root l (above slot l) ≡ Some (top f)))
+
 -- The slots below `stop` that lie whole in the range and had no table were mapped by one entry each, and no other page.
 pub record AreSlotsAdded (old new : List ℕ) (free free' : List Bool) (root first pages stop : ℕ) (rights : Rights) : Type 0 where
   pub pages_added : ArePagesAdded old new free free' root first pages rights
@@ -103,6 +111,18 @@ pub record AreSlotsAdded (old new : List ℕ) (free free' : List Bool) (root fir
   -- no table of a slot is made, and a page whose slot is not large is met as before
   pub tables : (n : ℕ) → reach new root 3 n ≡ reach old root 3 n
   pub others : (n : ℕ) → large_of new root (n / 512) ≡ large_of old root (n / 512) → reach new root 4 n ≡ reach old root 4 n
+  -- no frame was taken but for these slots
+  pub spent :
+      (f : ℕ) → is_free free f ≡ true → ((slot : ℕ) → IsOpenSlot old root first pages slot → slot < stop → ¬ (IsUsedFor new root slot f)) →
+      is_free free' f ≡ true
+  -- each got the lowest run: of a lower one that was free a frame was used for a slot before it
+  pub lowest_runs :
+      (slot run : ℕ) (large : Place) → IsOpenSlot old root first pages slot → slot < stop → large_of new root (slot_of slot) ≡ Some large →
+      512 * run < large.frame → IsRunFree free run →
+      ((f before : ℕ) → f / 512 ≡ run → IsOpenSlot old root first pages before → before < slot → ¬ (IsUsedFor new root before f)) → ⊥
+  -- and their tables the lowest frames
+  pub lowest_tables :
+      (l n table f : ℕ) → l < 3 → reach old root l n ≡ None → reach new root l n ≡ Some (top table) → is_free free' f ≡ true → table < f
 
 -- The pages from `first` on were added: first those of the slots below `stop` that lie whole in the range and had no table, in
 -- large pages, as long as a run of frames was free; then the others, by tables.
@@ -113,6 +133,11 @@ pub record IsRangeMapped (old new : List ℕ) (free free' : List Bool) (root fir
   pub by_slots : AreSlotsAdded old between free left root first pages stop rights
   pub none_left : NoRunAt old left root first pages stop
   pub by_tables : ArePagesAdded between new left free' root first pages rights
+  -- at the lowest frames, in the order of the pages
+  pub lowest : AreLowestTaken left free'
+  pub ascending :
+      (j k : ℕ) (place far : Place) → j < k → k < pages → walk_of between root (first + j) ≡ None → walk_of between root (first + k) ≡ None →
+      walk_of new root (first + j) ≡ Some place → walk_of new root (first + k) ≡ Some far → place.frame < far.frame
   -- and in all
   pub pages_added : ArePagesAdded old new free free' root first pages rights
   pub slots : AreLargeBelow old new root first pages stop

@@ -22,8 +22,8 @@ and_address e = let h : bit_and e 0xffffffffff000 ≡ (e / 2 ^ 12 % 2 ^ 40) * 2 
 low_word : (n low : ℕ) → n < 2 ^ 40 → low < 2 ^ 12 → bit_or (n * 4096 % 2 ^ 64) low ≡ n * 2 ^ 12 + low
 low_word n low lt small = let e : n * 4096 % 2 ^ 64 ≡ n * 2 ^ 12 = omega arith in rw e (or_shifted n 12 low small)
 
-pub table_word : (n : ℕ) → n < 2 ^ 40 → bit_or (n * 4096 % 2 ^ 64) 7 ≡ table_entry n
-table_word n lt = low_word n 7 lt (omega arith)
+pub table_word : (n : ℕ) → n < 2 ^ 40 → bit_or (n * 4096 % 2 ^ 64) 39 ≡ table_entry n
+table_word n lt = low_word n 39 lt (omega arith)
 
 -- with bit 63 set where it is to be
 with_high : (never : Bool) (x : ℕ) → x < 2 ^ 63 → bit_or (cond never 0x8000000000000000 0) x ≡ x + cond never (2 ^ 63) 0
@@ -33,7 +33,7 @@ with_high false x lt = let h : bit_or (0 * 2 ^ 63) x ≡ 0 * 2 ^ 63 + x = or_shi
 -- the word that the code makes
 abbrev made_word : ℕ → Bool → Bool → Bool → ℕ
 made_word n write user fetch = bit_or (cond (not fetch) 0x8000000000000000 0)
-    (bit_or (n * 4096 % 2 ^ 64) (bit_or (bit_or 1 (cond write 2 0)) (cond user 4 0)))
+    (bit_or (n * 4096 % 2 ^ 64) (bit_or (bit_or 97 (cond write 2 0)) (cond user 4 0)))
 
 made_low : (n low x : ℕ) (never : Bool) → n < 2 ^ 40 → low < 2 ^ 12 → x ≡ n * 2 ^ 12 + low →
     bit_or (cond never 0x8000000000000000 0) (bit_or (n * 4096 % 2 ^ 64) low) ≡ x + cond never (2 ^ 63) 0
@@ -44,14 +44,14 @@ pub page_word : (n : ℕ) (rights : Rights) → n < 2 ^ 40 → made_word n right
 page_word n rights lt = go rights.write rights.user rights.fetch
   where
     go : (write user fetch : Bool) → made_word n write user fetch ≡ page_entry n (record { write = write; user = user; fetch = fetch })
-    go true true true = made_low n 7 (n * 2 ^ 12 + 1 + 2 + 4) false lt (omega arith) (omega arith)
-    go true true false = made_low n 7 (n * 2 ^ 12 + 1 + 2 + 4) true lt (omega arith) (omega arith)
-    go true false true = made_low n 3 (n * 2 ^ 12 + 1 + 2 + 0) false lt (omega arith) (omega arith)
-    go true false false = made_low n 3 (n * 2 ^ 12 + 1 + 2 + 0) true lt (omega arith) (omega arith)
-    go false true true = made_low n 5 (n * 2 ^ 12 + 1 + 0 + 4) false lt (omega arith) (omega arith)
-    go false true false = made_low n 5 (n * 2 ^ 12 + 1 + 0 + 4) true lt (omega arith) (omega arith)
-    go false false true = made_low n 1 (n * 2 ^ 12 + 1 + 0 + 0) false lt (omega arith) (omega arith)
-    go false false false = made_low n 1 (n * 2 ^ 12 + 1 + 0 + 0) true lt (omega arith) (omega arith)
+    go true true true = made_low n 103 (n * 2 ^ 12 + 97 + 2 + 4) false lt (omega arith) (omega arith)
+    go true true false = made_low n 103 (n * 2 ^ 12 + 97 + 2 + 4) true lt (omega arith) (omega arith)
+    go true false true = made_low n 99 (n * 2 ^ 12 + 97 + 2 + 0) false lt (omega arith) (omega arith)
+    go true false false = made_low n 99 (n * 2 ^ 12 + 97 + 2 + 0) true lt (omega arith) (omega arith)
+    go false true true = made_low n 101 (n * 2 ^ 12 + 97 + 0 + 4) false lt (omega arith) (omega arith)
+    go false true false = made_low n 101 (n * 2 ^ 12 + 97 + 0 + 4) true lt (omega arith) (omega arith)
+    go false false true = made_low n 97 (n * 2 ^ 12 + 97 + 0 + 0) false lt (omega arith) (omega arith)
+    go false false false = made_low n 97 (n * 2 ^ 12 + 97 + 0 + 0) true lt (omega arith) (omega arith)
 
 -- all but the address field
 pub and_flags : (e : ℕ) → e < 2 ^ 64 → bit_and e 0xfff0000000000fff ≡ e % 2 ^ 12 + e / 2 ^ 52 * 2 ^ 52

@@ -26,6 +26,7 @@ freed_tree old new free free' root gone freed tree =
     record {
       rights = t.rights;
       distinct = t.distinct;
+      plain = t.plain;
       used = λ l n b le is.
           let p = met_before old new root removal gone freed.removed removal_keeps l n b le is in
           freed.kept b.frame (λ m place g at e.

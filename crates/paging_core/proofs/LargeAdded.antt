@@ -13,6 +13,8 @@ use Rattle.paging_core.specs.Large.{slot_of, above, IsSlotEmpty, IsLargeAdded}
 use Rattle.paging_core.specs.declared.page_table.Rights.{Rights}
 use Rattle.paging_core.specs.Address.{is_canonical}
 use Rattle.std.specs.Prelude.{IsTrue, IsSome}
+use Rattle.paging_core.specs.Plain.{IsPlain}
+use Rattle.paging_core.proofs.Plain.{plain_kept, plain_large}
 use Rattle.paging_core.proofs.PageWritten.{same_byte}
 use Rattle.paging_core.proofs.PageChanged.{some_place}
 use Rattle.paging_core.proofs.Ranges.{same_number}
@@ -188,8 +190,22 @@ module _ (old mid new : List ℕ) (free free' : List Bool) (root page table inde
     rights = λ l n b lt is. tree.rights l n b lt (sym (low l n lt) ∙ is);
     distinct = λ l n k j a b ll lk x y e. distinct_of l n k j a b ll lk e (met_now l n a ll x) (met_now k j b lk y);
     used = λ l n b le is. used_of l n b le (met_now l n b le is);
+    plain = record { each = λ l n i b lt li is. plain_of l n i b lt li (sym (low l n lt) ∙ is) (cases_eq b.frame table) (cases_eq i index) };
   }
     where
+      kept : (l n i : ℕ) (b : Place) → l < 4 → i < 512 → reach mid root l n ≡ Some b → (b.frame ≡ table → i ≡ index → ⊥) →
+          has_bit (word_at new b.frame i) 0 ≡ true → IsPlain new l (word_at new b.frame i)
+      kept l n i b lt li is ne = plain_kept mid new l (word_at mid b.frame i) (word_at new b.frame i) size (word_stays b.frame i li ne) (tree.plain.each l n i b lt li is)
+
+      plain_of : (l n i : ℕ) (b : Place) → l < 4 → i < 512 → reach mid root l n ≡ Some b → (b.frame ≡ table) ⊎ (b.frame ≡ table → ⊥) →
+          (i ≡ index) ⊎ (i ≡ index → ⊥) → has_bit (word_at new b.frame i) 0 ≡ true → IsPlain new l (word_at new b.frame i)
+      plain_of l n i b lt li is (inl x) (inl y) =
+          let p = alone l n b lt is x in
+          rw (x, y, p.0, written_here)
+          (λ _. plain_large new (512 * frame) rights small (omega arith) (let a = size in let b = prepared.size in omega arith))
+      plain_of l n i b lt li is (inr x) _ = kept l n i b lt li is (λ e _. x e)
+      plain_of l n i b lt li is _ (inr y) = kept l n i b lt li is (λ _ e. y e)
+
       used_of : (l n : ℕ) (b : Place) → l ≤ 4 → IsInside l n b ⊎ (reach mid root l n ≡ Some b) → is_free free' b.frame ≡ false
       used_of l n b le (inl x) = prepared.fewer b.frame (ap (is_free free) x.framed ∙ used (n % 512) (omega arith))
       used_of l n b le (inr x) = tree.used l n b le x

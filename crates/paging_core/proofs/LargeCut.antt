@@ -1,7 +1,9 @@
 -- A large page is cut: a table of single entries takes its place.
 use Rattle.std.proofs.Common.{◌≡◌, ℕ, ◌^◌, ◌+◌, ◌-◌, ◌*◌, ◌/◌, ◌%◌, ◌<◌, ◌≤◌, Bool, true, false, List, length, set, Some, None, refl, sym, ap, ◌∙◌, ◌⊎◌, inl, inr, arith, length-set}
 use Rattle.std.proofs.lemmas.Bool.{cases_eq, cases_lt}
-use Rattle.paging_core.specs.Entry.{table_entry, page_entry}
+use Rattle.paging_core.specs.Entry.{has_bit, table_entry, page_entry}
+use Rattle.paging_core.specs.Plain.{IsPlain}
+use Rattle.paging_core.proofs.Plain.{plain_kept, plain_zero, plain_table, plain_page}
 use Rattle.paging_core.specs.Memory.{word_at, frame_count, cleared}
 use Rattle.std.specs.Prelude.{IsSome}
 use Rattle.paging_core.specs.Prefix.{prefix_of}
@@ -199,8 +201,37 @@ module _ (old new : List ℕ) (free free' : List Bool) (root page keep table : �
     used = λ l n b le is.
         let w = ways l n b le is in
         kept b.frame (λ k lo hi e. past k lo (index_of l n k b le hi w e)) ∙ was_used l n b le w;
+    plain = record { each = λ l n i b lt li is. plain_of l n i b lt li (ways l n b (omega arith) is) };
   }
     where
+      -- an entry of the new table
+      in_table : (i : ℕ) → i < 512 → (i < keep) ⊎ (keep ≤ i) → has_bit (word_at new (large.frame + keep) i) 0 ≡ true →
+          IsPlain new 3 (word_at new (large.frame + keep) i)
+      in_table i li (inl lo) =
+          let e = page_words i lo in
+          rw e (λ _. plain_page new (large.frame + i) (rights_of large) (omega arith) (let b = below in omega arith))
+      in_table i li (inr hi) = plain_zero new 3 (word_at new (large.frame + keep) i) (blank i hi li)
+
+      -- an entry of a table that was there
+      stays_plain : (l n i : ℕ) (b : Place) → l < 4 → i < 512 → reach old root l n ≡ Some b → (b.frame ≡ table → i ≡ slot_of page % 512 → ⊥) →
+          has_bit (word_at new b.frame i) 0 ≡ true → IsPlain new l (word_at new b.frame i)
+      stays_plain l n i b lt li at ne =
+          plain_kept old new l (word_at old b.frame i) (word_at new b.frame i) size (words b.frame i li (no_table l n b lt at) ne) (tree.plain.each l n i b lt li at)
+
+      was_there : (l n i : ℕ) (b : Place) → l < 4 → i < 512 → reach old root l n ≡ Some b → (b.frame ≡ table) ⊎ (b.frame ≡ table → ⊥) →
+          (i ≡ slot_of page % 512) ⊎ (i ≡ slot_of page % 512 → ⊥) → has_bit (word_at new b.frame i) 0 ≡ true → IsPlain new l (word_at new b.frame i)
+      was_there l n i b lt li at (inl x) (inl y) =
+          let p = alone l n b lt at x in
+          rw (x, y, p.0, entry) (λ _. plain_table new 2 (large.frame + keep) (omega arith) (omega arith) (let b = below in omega arith))
+      was_there l n i b lt li at (inr x) _ = stays_plain l n i b lt li at (λ e _. x e)
+      was_there l n i b lt li at _ (inr y) = stays_plain l n i b lt li at (λ _ e. y e)
+
+      plain_of : (l n i : ℕ) (b : Place) → l < 4 → i < 512 → IsKept l n b ⊎ (IsNewTable l n b ⊎ IsOutside l n b) →
+          has_bit (word_at new b.frame i) 0 ≡ true → IsPlain new l (word_at new b.frame i)
+      plain_of l n i b lt li (inl x) = let f = x.at_four in absurd (omega arith)
+      plain_of l n i b lt li (inr (inl x)) = let f = x.is in let g = x.at_three in rw (f, g) (in_table i li (cases_lt i keep))
+      plain_of l n i b lt li (inr (inr x)) = was_there l n i b lt li x.met_old (cases_eq b.frame table) (cases_eq i (slot_of page % 512))
+
       rights : (l n : ℕ) (b : Place) → l < 4 → IsKept l n b ⊎ (IsNewTable l n b ⊎ IsOutside l n b) → b ≡ top b.frame
       rights l n b lt (inl x) = let f = x.at_four in absurd (omega arith)
       rights l n b lt (inr (inl x)) = rw x.is refl

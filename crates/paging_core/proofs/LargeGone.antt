@@ -1,5 +1,5 @@
 -- The entry that maps a slot is cleared.
-use Rattle.std.proofs.Common.{◌≡◌, ℕ, ◌+◌, ◌*◌, ◌/◌, ◌%◌, ◌^◌, ◌<◌, ◌≤◌, Bool, List, length, set, Some, None, refl, sym, ap, ◌∙◌, ◌⊎◌, inl, inr, arith, length-set}
+use Rattle.std.proofs.Common.{◌≡◌, ℕ, ◌+◌, ◌*◌, ◌/◌, ◌%◌, ◌^◌, ◌<◌, ◌≤◌, Bool, true, List, length, set, Some, None, refl, sym, ap, ◌∙◌, ◌⊎◌, inl, inr, arith, length-set}
 use Rattle.std.proofs.lemmas.Bool.{cases_eq}
 use Rattle.std.specs.Prelude.{IsSome}
 use Rattle.paging_core.specs.Memory.{word_at, frame_count}
@@ -7,6 +7,9 @@ use Rattle.paging_core.specs.Prefix.{prefix_of}
 use Rattle.paging_core.specs.Walk.{Place, large_step, reach, large_of, large_from, walk_of, reached}
 use Rattle.paging_core.specs.Tree.{IsTree}
 use Rattle.paging_core.specs.Large.{slot_of, above, IsLargeEntry, IsLargeCleared, IsLargeRemoved}
+use Rattle.paging_core.specs.Entry.{has_bit}
+use Rattle.paging_core.specs.Plain.{IsPlain}
+use Rattle.paging_core.proofs.Plain.{plain_kept, plain_zero}
 use Rattle.paging_core.proofs.Reach.{step_zero, large_zero, large_is, large_none, reach_none}
 use Rattle.paging_core.proofs.Slot.{slot_there, slot_large, slot_larges, slot_others}
 use Rattle.paging_core.proofs.Words.{word_at_set_same, word_at_set_other}
@@ -100,12 +103,23 @@ module _ (old new : List ℕ) (root page : ℕ)
         go (inr x) _ = sym (others l n le (λ e _. x e)) ∙ is
         go _ (inr y) = sym (others l n le (λ _ e. y e)) ∙ is
 
+    stays_plain : (l n i : ℕ) (b : Place) → l < 4 → i < 512 → reach old root l n ≡ Some b → (b.frame ≡ one.table.frame → i ≡ slot_of page % 512 → ⊥) →
+        has_bit (word_at new b.frame i) 0 ≡ true → IsPlain new l (word_at new b.frame i)
+    stays_plain l n i b lt li is ne = plain_kept old new l (word_at old b.frame i) (word_at new b.frame i) size (word_stays b.frame i li ne) (tree.plain.each l n i b lt li is)
+
     pub gone_tree : IsTree new root free
     gone_tree = record {
       rights = λ l n b lt is. tree.rights l n b lt (met_before l n b (omega arith) is);
       distinct = λ l n k j a b ll lk x y e. tree.distinct l n k j a b ll lk (met_before l n a ll x) (met_before k j b lk y) e;
       used = λ l n b le is. tree.used l n b le (met_before l n b le is);
+      plain = record { each = λ l n i b lt li is. plain_of l n i b lt li (met_before l n b (omega arith) is) (cases_eq b.frame one.table.frame) (cases_eq i (slot_of page % 512)) };
     }
+      where
+        plain_of : (l n i : ℕ) (b : Place) → l < 4 → i < 512 → reach old root l n ≡ Some b → (b.frame ≡ one.table.frame) ⊎ (b.frame ≡ one.table.frame → ⊥) →
+            (i ≡ slot_of page % 512) ⊎ (i ≡ slot_of page % 512 → ⊥) → has_bit (word_at new b.frame i) 0 ≡ true → IsPlain new l (word_at new b.frame i)
+        plain_of l n i b lt li is (inl x) (inl y) = plain_zero new l (word_at new b.frame i) (ap (λ f. word_at new f i) x ∙ (ap (word_at new one.table.frame) y ∙ zero_here))
+        plain_of l n i b lt li is (inr x) _ = stays_plain l n i b lt li is (λ e _. x e)
+        plain_of l n i b lt li is _ (inr y) = stays_plain l n i b lt li is (λ _ e. y e)
 
     pub large_removed : IsLargeRemoved old new root page
     large_removed = record {

@@ -13,6 +13,7 @@ use Rattle.paging_core.specs.Mapping.{HasExactEntries, IsPageAdded}
 use Rattle.paging_core.specs.declared.page_table.Rights.{Rights}
 use Rattle.paging_core.proofs.Words.{word_at_set_same, word_at_set_other}
 use Rattle.paging_core.proofs.Prefixes.{reach_page, prefix_more, prefix_split, walk_reach, none_below}
+use Rattle.paging_core.proofs.Plain.{plain_page}
 use Rattle.paging_core.proofs.Link.{IsLink, link_there, link_others, link_larges, tree_link}
 use Rattle.paging_core.proofs.Made.{reach_below}
 use Rattle.paging_core.proofs.Counts.{missing_one}
@@ -102,6 +103,7 @@ module _ (old mid new : List ℕ) (free free' : List Bool) (root page table inde
     was = was;
     is = step_page new table index frame rights small (let a = size in let b = prepared.size in omega arith) written_here;
     bare = λ lt j lj. absurd (omega arith);
+    plain = rw written_here (plain_page new frame rights small (let a = size in let b = prepared.size in omega arith));
   }
 
   same : (l n : ℕ) → l ≤ 4 → (l ≡ 4 → n ≡ prefix_of page 4 → ⊥) → reach new root l n ≡ reach mid root l n

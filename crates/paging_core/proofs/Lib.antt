@@ -6,6 +6,7 @@ pub mod Addresses
 pub mod Alignment
 pub mod FieldBits
 pub mod PageOrder
+pub mod Plain
 pub mod Link
 pub mod Slot
 pub mod Made
@@ -30,3 +31,6 @@ pub mod LargeMissing
 pub mod Roots
 pub mod FreshFrame
 pub mod PrefixLists
+pub mod ProcessorWalk
+pub mod ProcessorSteps
+pub mod ProcessorExamples

@@ -1,11 +1,14 @@
 -- A write of one entry that adds one place to the tree.
-use Rattle.std.proofs.Common.{◌≡◌, ℕ, suc, ◌+◌, ◌*◌, ◌<◌, ◌≤◌, Bool, false, List, length, Some, None, sym, ap, ◌∙◌, ◌⊎◌, inl, inr, arith}
+use Rattle.std.proofs.Common.{◌≡◌, ℕ, suc, ◌+◌, ◌*◌, ◌<◌, ◌≤◌, Bool, true, false, List, length, Some, None, sym, ap, ◌∙◌, ◌⊎◌, inl, inr, arith}
 use Rattle.std.proofs.lemmas.Bool.{cases_eq}
 use Rattle.paging_core.specs.Walk.{Place}
 use Rattle.paging_core.specs.Walk.{step, large_step, large_of, large_from, reach, next_from, top}
 use Rattle.paging_core.specs.Memory.{word_at}
 use Rattle.paging_core.specs.Pool.{is_free}
 use Rattle.paging_core.specs.Tree.{IsTree}
+use Rattle.paging_core.specs.Entry.{has_bit}
+use Rattle.paging_core.specs.Plain.{IsPlain}
+use Rattle.paging_core.proofs.Plain.{plain_kept, plain_zero}
 use Rattle.paging_core.proofs.Reach.{reach_there, reach_others, larges_others, step_zero, large_zero}
 
 -- the entry `index` of the table at `at`, absent in `old`, leads to `to` in `new`, and no other step is changed
@@ -21,6 +24,7 @@ pub record IsLink (old new : List ℕ) (root level prefix index : ℕ) (at to : 
   pub small : level ≡ 2 → (large_step old at index ≡ None) × (large_step new at index ≡ None)
   -- the new place is no table yet, or one with no entry
   pub bare : level < 3 → (j : ℕ) → j < 512 → word_at new to.frame j ≡ 0
+  pub plain : IsPlain new level (word_at new at.frame index)
 
 module _ (old new : List ℕ) (root level prefix index : ℕ) (at to : Place) (free : List Bool)
     (link : IsLink old new root level prefix index at to)
@@ -68,8 +72,24 @@ module _ (old new : List ℕ) (root level prefix index : ℕ) (at to : Place) (f
       rights = λ l n b lt is. rights_of l n b lt (met l n b (omega arith) is);
       distinct = λ l n k j a b ll lk ia ib e. distinct_of l n k j a b ll lk e (met l n a ll ia) (met k j b lk ib);
       used = λ l n b le is. used_of l n b le (met l n b le is);
+      plain = record { each = λ l n i b lt li is. plain_of l n i b lt li (met l n b (omega arith) is) };
     }
       where
+        plain_of : (l n i : ℕ) (b : Place) → l < 4 → i < 512 → ((l ≡ suc level) × (n ≡ 512 * prefix + index) × (b ≡ to)) ⊎ (reach old root l n ≡ Some b) →
+            has_bit (word_at new b.frame i) 0 ≡ true → IsPlain new l (word_at new b.frame i)
+        plain_of l n i b lt li (inl x) =
+            plain_zero new l (word_at new b.frame i) (ap (λ m. word_at new m.frame i) x.2 ∙ link.bare (omega arith) i li)
+        plain_of l n i b lt li (inr x) = go (cases_eq b.frame at.frame) (cases_eq i index)
+          where
+            kept : (b.frame ≡ at.frame → i ≡ index → ⊥) → has_bit (word_at new b.frame i) 0 ≡ true → IsPlain new l (word_at new b.frame i)
+            kept ne = plain_kept old new l (word_at old b.frame i) (word_at new b.frame i) link.size (link.elsewhere b.frame i li ne) (tree.plain.each l n i b lt li x)
+
+            go : (b.frame ≡ at.frame) ⊎ (b.frame ≡ at.frame → ⊥) → (i ≡ index) ⊎ (i ≡ index → ⊥) →
+                has_bit (word_at new b.frame i) 0 ≡ true → IsPlain new l (word_at new b.frame i)
+            go (inl e) (inl f) = let p = alone l n b lt x e in rw (e, f, p.0) (λ _. link.plain)
+            go (inr e) _ = kept (λ f _. e f)
+            go _ (inr f) = kept (λ _ g. f g)
+
         rights_of : (l n : ℕ) (b : Place) → l < 4 → ((l ≡ suc level) × (n ≡ 512 * prefix + index) × (b ≡ to)) ⊎ (reach old root l n ≡ Some b) → b ≡ top b.frame
         rights_of l n b lt (inl x) = let h : to ≡ top to.frame = rights (omega arith) in rw x.2 h
         rights_of l n b lt (inr x) = tree.rights l n b lt x

@@ -13,6 +13,7 @@ use Rattle.paging_core.specs.Tables.{IsTableMade}
 use Rattle.std.proofs.lemmas.List.Sums.{sum_by-set}
 use Rattle.paging_core.proofs.Reach.{step_same, large_same, reach_same, larges_same, reach_zero, reach_suc, large_is, either_way, ByEntry, InLarge}
 use Rattle.paging_core.proofs.Words.{length_cleared, word_at_cleared_same, word_at_cleared_other, word_at_set_same, word_at_set_other}
+use Rattle.paging_core.proofs.Plain.{plain_kept, plain_table}
 use Rattle.paging_core.proofs.Link.{IsLink, link_there, link_others, link_larges, tree_link}
 
 -- ---- one step
@@ -54,6 +55,16 @@ step_below words level b m j e = bound (word_at words b.frame j) e
         let f : frame_of w ≡ m.frame = ap (λ x. x.frame) p.1 in
         rw (← f) (ltb-true (frame_of w) (frame_count words) q.1)
 
+pub step_small : (words : List ℕ) (level : ℕ) (b m : Place) (j : ℕ) → step words level b j ≡ Some m → m.frame < 2 ^ 40
+unfolding step
+step_small words level b m j e = bound (word_at words b.frame j) e
+  where
+    bound : (w : ℕ) → cond (is_present words w && not (ends_walk level w)) (Some (named b w)) None ≡ Some m → m.frame < 2 ^ 40
+    bound w e =
+        let p : (is_present words w && not (ends_walk level w) ≡ true) × (named b w ≡ m) = some_of_cond (is_present words w && not (ends_walk level w)) (named b w) m e in
+        let f : frame_of w ≡ m.frame = ap (λ x. x.frame) p.1 in
+        rw (← f) (omega arith)
+
 -- the frames of a large page exist
 pub large_step_below : (words : List ℕ) (b m : Place) (j : ℕ) → large_step words b j ≡ Some m → (m.frame % 512 ≡ 0) × (m.frame + 511 < frame_count words)
 unfolding large_step
@@ -77,6 +88,24 @@ large_below words root n m e = go (reach words root 2 (n / 512)) (sym (large_is 
     go : (o : Option Place) → large_from words o (n % 512) ≡ Some m → (m.frame % 512 ≡ 0) × (m.frame + 511 < frame_count words)
     go None x = absurd (cc)
     go (Some b) x = large_step_below words b m (n % 512) x
+
+large_step_small : (words : List ℕ) (b m : Place) (j : ℕ) → large_step words b j ≡ Some m → m.frame < 2 ^ 40
+unfolding large_step
+large_step_small words b m j e = bound (word_at words b.frame j) e
+  where
+    bound : (w : ℕ) → cond (is_present words w && (has_bit w 7 && is_run words (frame_of w))) (Some (named b w)) None ≡ Some m → m.frame < 2 ^ 40
+    bound w e =
+        let p : (is_present words w && (has_bit w 7 && is_run words (frame_of w)) ≡ true) × (named b w ≡ m) =
+        some_of_cond (is_present words w && (has_bit w 7 && is_run words (frame_of w))) (named b w) m e in
+        let f : frame_of w ≡ m.frame = ap (λ x. x.frame) p.1 in
+        rw (← f) (omega arith)
+
+pub large_small : (words : List ℕ) (root n : ℕ) (m : Place) → large_of words root n ≡ Some m → m.frame < 2 ^ 40
+large_small words root n m e = go (reach words root 2 (n / 512)) (sym (large_is words root n) ∙ e)
+  where
+    go : (o : Option Place) → large_from words o (n % 512) ≡ Some m → m.frame < 2 ^ 40
+    go None x = absurd (cc)
+    go (Some b) x = large_step_small words b m (n % 512) x
 
 low_below : (words : List ℕ) (root l n : ℕ) (m : Place) → l < 4 → root < frame_count words → reach words root l n ≡ Some m → m.frame < frame_count words
 low_below words root zero n m low lt e =
@@ -157,13 +186,23 @@ taken_count free f e =
     let k : cond {A = ℕ} (is_free free f) 1 0 ≡ 1 = rw e refl in
     omega arith
 
-pub tree_same : (old new : List ℕ) (root : ℕ) (free : List Bool) → ((l n : ℕ) → l ≤ 4 → reach new root l n ≡ reach old root l n) →
+-- the tables stay a tree where their words stay
+pub tree_same : (old new : List ℕ) (root : ℕ) (free : List Bool) → length new ≡ length old →
+    ((l n : ℕ) (b : Place) (j : ℕ) → l < 4 → reach old root l n ≡ Some b → j < 512 → word_at new b.frame j ≡ word_at old b.frame j) →
     IsTree old root free → IsTree new root free
-tree_same old new root free same tree = record {
+tree_same old new root free size words tree = record {
   rights = λ l n m lt is. tree.rights l n m lt (sym (same l n (omega arith)) ∙ is);
   distinct = λ l n k j a b ll lk x y e. tree.distinct l n k j a b ll lk (sym (same l n ll) ∙ x) (sym (same k j lk) ∙ y) e;
   used = λ l n m le is. tree.used l n m le (sym (same l n le) ∙ is);
+  plain = record {
+    each = λ l n i m lt li is.
+        let at : reach old root l n ≡ Some m = sym (same l n (omega arith)) ∙ is in
+        plain_kept old new l (word_at old m.frame i) (word_at new m.frame i) size (words l n m i lt at li) (tree.plain.each l n i m lt li at);
+  };
 }
+  where
+    same : (l n : ℕ) → l ≤ 4 → reach new root l n ≡ reach old root l n
+    same = reach_same old new root size words
 
 module _ (old new : List ℕ) (free free' : List Bool) (root level prefix table index made : ℕ)
     (tree : IsTree old root free)
@@ -202,7 +241,8 @@ module _ (old new : List ℕ) (free free' : List Bool) (root level prefix table 
       (λ l n b j lt is lj. word_at_cleared_other old made b.frame j made_in lj (unmet l n b (omega arith) is))
 
   mid_tree : IsTree (cleared old made) root free
-  mid_tree = tree_same old (cleared old made) root free mid_same tree
+  mid_tree = tree_same old (cleared old made) root free cleared_size
+      (λ l n b j lt is lj. word_at_cleared_other old made b.frame j made_in lj (unmet l n b (omega arith) is)) tree
 
   link : IsLink (cleared old made) new root level prefix index (top table) (top made)
   link = record {
@@ -225,6 +265,10 @@ module _ (old new : List ℕ) (free free' : List Bool) (root level prefix table 
         ap (λ w. word_at w made j) m.words
         ∙ (word_at_set_other (cleared old made) table index (table_entry made) made j li lj (λ e _. table_apart (sym e))
         ∙ word_at_cleared_same old made j made_in lj);
+    plain = let e : word_at new table index ≡ table_entry made =
+        ap (λ w. word_at w table index) m.words
+        ∙ word_at_set_same (cleared old made) table index (table_entry made) (let a = table_in in let b = cleared_size in omega arith) li in
+        rw e (plain_table new level made low m.bounded (let a = made_in in let b = cleared_size in let c = new_size in omega arith));
   }
 
   pub made_there : reach new root (level + 1) (512 * prefix + index) ≡ Some (top made)

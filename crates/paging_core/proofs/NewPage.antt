@@ -47,8 +47,8 @@ module _ (old mid : List ℕ) (free free1 : List Bool) (root frame : ℕ)
 
   pub mid_tree : IsTree mid root free1
   mid_tree =
-      let t : IsTree mid root free = tree_same old mid root free mid_same tree in
-      record { rights = t.rights; distinct = t.distinct; used = λ l n m le is. mid_fewer m.frame (t.used l n m le is) }
+      let t : IsTree mid root free = tree_same old mid root free mid_size (λ l n b j lt is lj. mid_other b.frame j lj (mid_unmet l n b (omega arith) is)) tree in
+      record { rights = t.rights; distinct = t.distinct; plain = t.plain; used = λ l n m le is. mid_fewer m.frame (t.used l n m le is) }
 
   pub mid_walk : (page : ℕ) → walk_of mid root page ≡ walk_of old root page
   mid_walk page = walk_reach mid root page ∙ (mid_same 4 (prefix_of page 4) (omega arith) ∙ sym (walk_reach old root page))

@@ -9,24 +9,31 @@ use Rattle.paging_core.specs.Walk.{Place, step, reach, large_of, top, walk_of, g
 use Rattle.paging_core.specs.Tree.{IsTree}
 use Rattle.paging_core.specs.PageChanges.{Change, removal, regrant, IsLastEntry, IsPageChanged, ArePagesChanged, only}
 use Rattle.paging_core.specs.declared.page_table.Rights.{Rights}
-use Rattle.paging_core.proofs.Reach.{step_zero, reach_there, reach_others, larges_others}
+use Rattle.paging_core.specs.Entry.{has_bit}
+use Rattle.paging_core.specs.Plain.{IsPlain}
+use Rattle.paging_core.proofs.Plain.{plain_kept, plain_zero, plain_page}
+use Rattle.paging_core.proofs.Reach.{step_zero, reach_last, reach_there, reach_others, larges_others}
 use Rattle.paging_core.proofs.Words.{word_at_set_same, word_at_set_other}
 use Rattle.paging_core.proofs.Prefixes.{walk_reach, prefix_more}
-use Rattle.paging_core.proofs.Made.{reach_below}
+use Rattle.paging_core.proofs.Made.{reach_below, step_below, step_small}
 use Rattle.paging_core.proofs.LastEntry.{step_page, some_or_none}
 
 -- ---- what a change does to the frame
 
--- the page leads to the frame to which it led, or nowhere
+-- the page leads to the frame to which it led, or nowhere, by a plain entry
 pub record KeepsFrame (change : Change) : Type 0 where
   pub same : (place now : Place) → change.leads place ≡ Some now → now.frame ≡ place.frame
+  pub plain :
+      (words : List ℕ) (place : Place) → place.frame < 2 ^ 40 → place.frame < frame_count words →
+      has_bit (change.entry place) 0 ≡ true → IsPlain words 3 (change.entry place)
 
 pub removal_keeps : KeepsFrame removal
-removal_keeps = record { same = λ place now e. absurd (cc) }
+removal_keeps = record { same = λ place now e. absurd (cc); plain = λ words place small within. plain_zero words 3 0 refl }
 
 pub regrant_keeps : (rights : Rights) → KeepsFrame (regrant rights)
 regrant_keeps rights = record {
   same = λ place now e. let q : granted place.frame rights ≡ now = cc in sym (ap (λ p. p.frame) q);
+  plain = λ words place small within _. plain_page words place.frame rights small within;
 }
 
 pub some_place : (o : Option Place) → IsSome o → (place : Place) × (o ≡ Some place)
@@ -171,7 +178,36 @@ module _ (old new : List ℕ) (root : ℕ) (change : Change) (chosen : ℕ → B
         let q = met_before keeps k j b lk y in
         tree.distinct l n k j p.0 q.0 ll lk p.1 q.1 (p.2 ∙ (e ∙ sym q.2));
     used = λ l n m le is. let p = met_before keeps l n m le is in rw (← p.2) (tree.used l n p.0 le p.1);
+    plain = record {
+      each = λ l n i b lt li is.
+          plain_of l n i b lt li (sym (all.stayed l n (omega arith) (λ e. absurd (omega arith))) ∙ is) (cases_eq l 3) (cases_Bool (chosen (512 * n + i)));
+    };
   }
+    where
+      kept : (l n i : ℕ) (b : Place) → l < 4 → i < 512 → reach old root l n ≡ Some b →
+          ((m : ℕ) → reach old root 3 m ≡ Some (top b.frame) → chosen (512 * m + i) ≡ false) →
+          has_bit (word_at new b.frame i) 0 ≡ true → IsPlain new l (word_at new b.frame i)
+      kept l n i b lt li at apart =
+          plain_kept old new l (word_at old b.frame i) (word_at new b.frame i) all.size (all.words b.frame i li apart) (tree.plain.each l n i b lt li at)
+
+      -- the table of level 3 at this frame is the one that is met
+      its_own : (l n m : ℕ) (b : Place) → l < 4 → reach old root l n ≡ Some b → reach old root 3 m ≡ Some (top b.frame) → (3 ≡ l) × (m ≡ n)
+      its_own l n m b lt at here = tree.distinct 3 m l n (top b.frame) b (omega arith) (omega arith) here at refl
+
+      plain_of : (l n i : ℕ) (b : Place) → l < 4 → i < 512 → reach old root l n ≡ Some b → (l ≡ 3) ⊎ (l ≡ 3 → ⊥) →
+          (chosen (512 * n + i) ≡ true) ⊎ (chosen (512 * n + i) ≡ false) → has_bit (word_at new b.frame i) 0 ≡ true → IsPlain new l (word_at new b.frame i)
+      plain_of l n i b lt li at (inr x) _ = kept l n i b lt li at (λ m here. absurd (x (sym (its_own l n m b lt at here).0)))
+      plain_of l n i b lt li at (inl x) (inr c) =
+          kept l n i b lt li at (λ m here. ap (λ k. chosen (512 * k + i)) (its_own l n m b lt at here).1 ∙ c)
+      plain_of l n i b lt li at (inl x) (inl c) =
+          let m = all.mapped (512 * n + i) c in
+          let t : reach old root 3 n ≡ Some b = ap (λ k. reach old root k n) (sym x) ∙ at in
+          let r : b ≡ top b.frame = tree.rights 3 n b (omega arith) t in
+          let w : word_at new b.frame i ≡ change.entry m.0 = all.entries n i b.frame m.0 li c (t ∙ ap Some r) m.1 in
+          let q : (512 * n + i) / 512 ≡ n = omega arith in
+          let led : step old 3 b ((512 * n + i) % 512) ≡ Some m.0 = sym (reach_last old root (512 * n + i) b (ap (reach old root 3) q ∙ t)) ∙ m.1 in
+          let within = step_below old 3 b m.0 ((512 * n + i) % 512) led in
+          rw (w, x) (keeps.plain new m.0 (step_small old 3 b m.0 ((512 * n + i) % 512) led) (let z = all.size in omega arith))
 
   -- a page keeps its words
   pub words_stay : (free : List Bool) → IsTree old root free → (n i : ℕ) (place : Place) → i < 512 → reach old root 4 n ≡ Some place →

@@ -8,10 +8,9 @@ use Rattle.paging_core.specs.Prefix.{prefix_of}
 use Rattle.paging_core.specs.Walk.{Place, reach, large_of, walk_of, reached}
 use Rattle.paging_core.specs.Tree.{IsTree}
 use Rattle.paging_core.proofs.LastEntry.{some_or_none}
-use Rattle.paging_core.proofs.Made.{tree_same}
 use Rattle.paging_core.proofs.Prefixes.{walk_reach}
 use Rattle.paging_core.proofs.Ranges.{same_number}
-use Rattle.paging_core.proofs.Reached.{reach_data, larges_data}
+use Rattle.paging_core.proofs.Reached.{reach_data, tree_data, larges_data}
 
 -- the byte at an address of a page
 pub reached_at : (words : List ℕ) (root address : ℕ) (place : Place) → walk_of words root (address / 4096) ≡ Some place →
@@ -42,7 +41,7 @@ module _ (old new : List ℕ) (root page : ℕ) (place : Place) (free : List Boo
   written_larges = larges_data old new root place.frame (prefix_of page 4) free place tree here refl size elsewhere
 
   pub written_tree : IsTree new root free
-  written_tree = tree_same old new root free written_walks tree
+  written_tree = tree_data old new root place.frame (prefix_of page 4) free place tree here refl size elsewhere
 
   pub written_walk : (other : ℕ) → walk_of new root other ≡ walk_of old root other
   written_walk other = walk_reach new root other ∙ (written_walks 4 (prefix_of other 4) (omega arith) ∙ sym (walk_reach old root other))

@@ -23,6 +23,15 @@ reach_data old new root frame page free met tree here is size others =
     (λ l n b j lt at lj. others b.frame j lj
     (λ e. let p : (l ≡ 4) × (n ≡ page) = tree.distinct l n 4 page b met (omega arith) (omega arith) at here (e ∙ sym is) in absurd (omega arith)))
 
+pub tree_data : (old new : List ℕ) (root frame page : ℕ) (free : List Bool) (met : Place) → IsTree old root free →
+    reach old root 4 page ≡ Some met → met.frame ≡ frame → length new ≡ length old →
+    ((f i : ℕ) → i < 512 → (f ≡ frame → ⊥) → word_at new f i ≡ word_at old f i) → IsTree new root free
+tree_data old new root frame page free met tree here is size others =
+    tree_same old new root free size
+    (λ l n b j lt at lj. others b.frame j lj
+    (λ e. let p : (l ≡ 4) × (n ≡ page) = tree.distinct l n 4 page b met (omega arith) (omega arith) at here (e ∙ sym is) in absurd (omega arith)))
+    tree
+
 pub larges_data : (old new : List ℕ) (root frame page : ℕ) (free : List Bool) (met : Place) → IsTree old root free →
     reach old root 4 page ≡ Some met → met.frame ≡ frame → length new ≡ length old →
     ((f i : ℕ) → i < 512 → (f ≡ frame → ⊥) → word_at new f i ≡ word_at old f i) →
@@ -68,7 +77,10 @@ module _ (old new : List ℕ) (root address value : ℕ) (place : Place) (free :
       (λ f i li ne. ap (λ w. word_at w f i) written ∙ word_at_set_other old place.frame (address % 4096 / 8) value f i (omega arith) li (λ e _. ne e))
 
   pub stored_tree : IsTree new root free
-  stored_tree = tree_same old new root free stored_walks tree
+  stored_tree =
+      tree_data old new root place.frame (prefix_of (address / 4096) 4) free place tree at_reach refl
+      (rw written (length-set old (512 * place.frame + address % 4096 / 8) value))
+      (λ f i li ne. ap (λ w. word_at w f i) written ∙ word_at_set_other old place.frame (address % 4096 / 8) value f i (omega arith) li (λ e _. ne e))
 
   walks_stay : (page : ℕ) → walk_of new root page ≡ walk_of old root page
   walks_stay page = walk_reach new root page ∙ (stored_walks 4 (prefix_of page 4) (omega arith) ∙ sym (walk_reach old root page))

@@ -7,6 +7,7 @@ use Rattle.paging_core.specs.Pool.{is_free}
 use Rattle.paging_core.specs.Walk.{Place, by_entries, step, reach, large_of, large_from, next_from, walk_of, top}
 use Rattle.paging_core.specs.Tree.{IsTree}
 use Rattle.paging_core.proofs.Reach.{entries_zero, entries_suc, reach_low, reach_entries, step_zero, large_is, either_way, ByEntry, InLarge}
+use Rattle.paging_core.proofs.Plain.{plain_zero}
 use Rattle.paging_core.proofs.Prefixes.{walk_reach}
 use Rattle.paging_core.proofs.Made.{some_of_cond}
 
@@ -63,6 +64,11 @@ tree_start words root free blank taken = record {
       let q : (k ≡ 0) × (j ≡ 0) × (b ≡ top root) = only_root words root blank k j b y in
       (p.0 ∙ sym q.0, p.1 ∙ sym q.1);
   used = λ l n met le is. let p = only_root words root blank l n met is in rw p.2 taken;
+  plain = record {
+    each = λ l n i met lt li is.
+        let p = only_root words root blank l n met is in
+        plain_zero words l (word_at words met.frame i) (ap (λ m. word_at words m.frame i) p.2 ∙ blank i li);
+  };
 }
 
 pub none_past : (words : List ℕ) (root : ℕ) → ((i : ℕ) → i < 512 → word_at words root i ≡ 0) →

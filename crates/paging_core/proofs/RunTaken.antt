@@ -57,8 +57,8 @@ module _ (old mid : List ℕ) (free free1 : List Bool) (root run : ℕ)
 
   pub run_tree : IsTree mid root free1
   run_tree =
-      let t : IsTree mid root free = tree_same old mid root free run_same tree in
-      record { rights = t.rights; distinct = t.distinct; used = λ l n m le is. run_fewer m.frame (t.used l n m le is) }
+      let t : IsTree mid root free = tree_same old mid root free blank.size (λ l n b j lt is lj. stays b.frame j lj (unmet l n b (omega arith) is)) tree in
+      record { rights = t.rights; distinct = t.distinct; plain = t.plain; used = λ l n m le is. run_fewer m.frame (t.used l n m le is) }
 
   pub run_walk : (page : ℕ) → walk_of mid root page ≡ walk_of old root page
   run_walk page = walk_reach mid root page ∙ (run_same 4 (prefix_of page 4) (omega arith) ∙ sym (walk_reach old root page))

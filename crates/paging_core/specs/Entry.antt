@@ -9,15 +9,18 @@ has_bit word bit = word / 2 ^ bit % 2 == 1
 abbrev pub frame_of : ℕ → ℕ
 frame_of entry = entry / 2 ^ 12 % 2 ^ 40
 
--- the word that names a table: present (1), writable (2) and user (4)
-abbrev pub table_entry : ℕ → ℕ
-table_entry frame = frame * 2 ^ 12 + 7
+-- A processor sets accessed (bit 5) in each entry by which it walks, and dirty (bit 6) in that of a page to which it
+-- writes. Every entry has them from the start, so that it never writes to a table.
 
--- the word that maps a page: present, writable (2) and user (4) where they are granted, and
--- no-execute (bit 63) where fetch is denied
+-- the word that names a table: present (1), writable (2), user (4) and accessed (32)
+abbrev pub table_entry : ℕ → ℕ
+table_entry frame = frame * 2 ^ 12 + 39
+
+-- the word that maps a page: present, accessed and dirty (1 + 32 + 64), writable (2) and user (4) where they are
+-- granted, and no-execute (bit 63) where fetch is denied
 abbrev pub page_entry : ℕ → Rights → ℕ
 page_entry frame rights =
-    frame * 2 ^ 12 + 1 + (if rights.write then 2 else 0) + (if rights.user then 4 else 0) + (if rights.fetch then 0 else 2 ^ 63)
+    frame * 2 ^ 12 + 97 + (if rights.write then 2 else 0) + (if rights.user then 4 else 0) + (if rights.fetch then 0 else 2 ^ 63)
 
 -- the word that maps a large page from the frame on: that of a page, with bit 7
 abbrev pub large_entry : ℕ → Rights → ℕ

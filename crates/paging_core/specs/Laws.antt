@@ -1,10 +1,14 @@
 -- What the walk and the tree rule mean: laws above the definitions.
-use Rattle.std.specs.Prelude.{◌≡◌, ℕ, ◌+◌, ◌*◌, ◌/◌, ◌%◌, ◌^◌, ◌<◌, ◌≤◌, ◌↔◌, Bool, false, IsTrue, IsSome, List, Some, None, Contains}
+use Rattle.std.specs.Prelude.{◌≡◌, ℕ, ◌+◌, ◌*◌, ◌/◌, ◌%◌, ◌^◌, ◌<◌, ◌≤◌, ◌↔◌, Bool, true, false, IsTrue, IsSome, List, Some, None, Contains}
+use Rattle.paging_core.specs.Memory.{word_at, frame_count}
 use Rattle.paging_core.specs.Address.{IsCanonicalRange, is_canonical}
 use Rattle.paging_core.specs.Prefix.{prefix_of, prefixes_of}
 use Rattle.paging_core.specs.Steps.{position, pages_before}
 use Rattle.paging_core.specs.Pool.{is_free, IsFrameGiven}
 use Rattle.paging_core.specs.Walk.{Place, step, next_from, large_from, large_of, page_in, page_or, reach, walk_of, top}
+use Rattle.paging_core.specs.ProcessorWalk.{AtPage, processor_walk, page_of, is_refused}
+use Rattle.paging_core.specs.Entry.{has_bit}
+use Rattle.paging_core.specs.Plain.{ArePlain, marked}
 use Rattle.paging_core.specs.Tree.{IsTree}
 use Rattle.paging_core.specs.Mapping.{IsPageAdded}
 use Rattle.paging_core.specs.declared.page_table.Rights.{Rights}
@@ -68,3 +72,19 @@ abbrev pub MappedInALargePage : Type 0
 MappedInALargePage =
     (words : List ℕ) (root page : ℕ) (large : Place) → large_of words root (prefix_of page 3) ≡ Some large →
     (walk_of words root page ≡ Some (page_in (page % 512) large)) × (reach words root 3 (prefix_of page 3) ≡ None)
+
+-- Over plain entries a processor's walk, whose physical addresses reach the whole memory, ends at a page exactly where
+-- `walk_of` does, at the same frame with the same rights; the frame lies in the memory, and no reserved bit ends the walk.
+abbrev pub ProcessorsWalkAlike : Type 0
+ProcessorsWalkAlike =
+    (words : List ℕ) (root page width : ℕ) → ArePlain words root → 4096 * frame_count words ≤ 2 ^ width →
+    (page_of (processor_walk width words root page) ≡ walk_of words root page)
+    × (is_refused (processor_walk width words root page) ≡ false)
+    × ((place : Place) → processor_walk width words root page ≡ AtPage place → place.frame < frame_count words)
+
+-- Over plain entries a processor writes to no table: each entry by which it may walk has its marks.
+abbrev pub NoEntryIsMarked : Type 0
+NoEntryIsMarked =
+    (words : List ℕ) (root level number index : ℕ) (table : Place) (writes : Bool) → ArePlain words root → level < 4 → index < 512 →
+    reach words root level number ≡ Some table → has_bit (word_at words table.frame index) 0 ≡ true →
+    marked writes level (word_at words table.frame index) ≡ word_at words table.frame index

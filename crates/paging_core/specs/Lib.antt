@@ -9,6 +9,9 @@ pub mod Steps
 pub mod Walk
 pub mod Pool
 pub mod Runs
+pub mod ProcessorWalk
+pub mod ProcessorAccess
+pub mod Plain
 pub mod Tree
 pub mod Tables
 pub mod Missing

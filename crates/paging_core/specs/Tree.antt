@@ -1,7 +1,8 @@
--- The tables that the walk meets form a tree.
+-- The tables that the walk meets form a tree of plain entries.
 use Rattle.std.specs.Prelude.{◌≡◌, ℕ, ◌<◌, ◌≤◌, Bool, false, List, Some}
 use Rattle.paging_core.specs.Pool.{is_free}
 use Rattle.paging_core.specs.Walk.{Place, reach, top}
+use Rattle.paging_core.specs.Plain.{ArePlain}
 
 -- `free` has a flag for each frame
 pub record IsTree (words : List ℕ) (root : ℕ) (free : List Bool) : Type 0 where
@@ -15,6 +16,8 @@ pub record IsTree (words : List ℕ) (root : ℕ) (free : List Bool) : Type 0 wh
   -- no frame that is met is free
   pub used :
       (level number : ℕ) (met : Place) → level ≤ 4 → reach words root level number ≡ Some met → is_free free met.frame ≡ false
+  -- no bit is set but those that are written here
+  pub plain : ArePlain words root
 
 -- the tables are a tree beside some free frames
 abbrev pub HasTree : List ℕ → ℕ → Type 0

@@ -1,7 +1,7 @@
 //! Laws above the definitions of the walk and of the tree rule. Each function does nothing: its contract
 //! is the law.
 
-ghost use Rattle.paging_core.specs.Laws.{WalkStepsByIndices, PrefixesAreOfPages, OnePageForAFrame, NoPageAtAFreeFrame, MappingCommutes, PlacesCountPages, GivingKeepsTheTree, MappedByATable, MappedInALargePage};
+ghost use Rattle.paging_core.specs.Laws.{WalkStepsByIndices, PrefixesAreOfPages, OnePageForAFrame, NoPageAtAFreeFrame, MappingCommutes, PlacesCountPages, GivingKeepsTheTree, MappedByATable, MappedInALargePage, ProcessorsWalkAlike, NoEntryIsMarked};
 
 /// The walk of a page goes from the root by the page's four indices, or ends after three of them in a large page.
 pub fn walk_steps_by_indices()
@@ -46,4 +46,16 @@ pub fn mapped_by_a_table()
 /// A slot with a large page has no table, and its pages are those of the large page.
 pub fn mapped_in_a_large_page()
     ensures { MappedInALargePage }
+{}
+
+/// Over plain entries a processor's walk is `walk_of`: it ends at the same page with the same rights, or finds none. The
+/// page's frame lies in the memory, and no reserved bit ends the walk.
+pub fn processors_walk_alike()
+    ensures { ProcessorsWalkAlike }
+{}
+
+/// Over plain entries a processor writes to no table: each entry by which it may walk is accessed already, and dirty if it
+/// maps a page.
+pub fn no_entry_is_marked()
+    ensures { NoEntryIsMarked }
 {}

@@ -20,6 +20,8 @@ pub mod page_walk;
 pub mod pages;
 pub mod phys_frames;
 pub mod pool;
+pub mod processor_access;
+pub mod processor_walk;
 pub mod protecting;
 mod range;
 mod tables;
@@ -42,6 +44,8 @@ pub use pages::{
 };
 pub use phys_frames::{PhysFrame, PhysFrameRange, PhysFrameRangeInclusive};
 pub use pool::FramePool;
+pub use processor_access::{AccessKind, access_byte};
+pub use processor_walk::{Translated, translate};
 pub use protecting::{protect_page, protect_range};
 pub use range::map_range;
 pub use tables::make_root;

@@ -133,28 +133,36 @@ impl PageTableEntry {
         self.has(PageTableFlags::HUGE_PAGE)
     }
 
+    pub(crate) fn is_global(&self) -> bool
+        ensures { result ≡ has_bit self.now 8 }
+    {
+        self.has(PageTableFlags::GLOBAL)
+    }
+
     pub(crate) fn is_no_execute(&self) -> bool
         ensures { result ≡ has_bit self.now 63 }
     {
         self.has(PageTableFlags::NO_EXECUTE)
     }
 
-    /// The entry that names a table: present, writable and user accessible.
+    /// The entry that names a table: present, writable, user accessible, and accessed already.
     pub(crate) fn to_table(frame: PhysFrame) -> Self
         ensures { result ≡ table_entry frame }
     {
         let flags = PageTableFlags::PRESENT
             | PageTableFlags::WRITABLE
-            | PageTableFlags::USER_ACCESSIBLE;
+            | PageTableFlags::USER_ACCESSIBLE
+            | PageTableFlags::ACCESSED;
         PageTableEntry(frame.number() << 12 | flags.bits())
     }
 
-    /// The entry that maps a page to the frame with the rights.
+    /// The entry that maps a page to the frame with the rights. It is accessed and dirty already.
     pub(crate) fn to_page(frame: PhysFrame, rights: Rights) -> Self
         ensures value { result ≡ page_entry frame rights }
         ensures fits { frame < 2 ^ 40 }
     {
-        let low = PageTableFlags::PRESENT.bits()
+        let there = PageTableFlags::PRESENT | PageTableFlags::ACCESSED | PageTableFlags::DIRTY;
+        let low = there.bits()
             | bits_where(rights.write, PageTableFlags::WRITABLE)
             | bits_where(rights.user, PageTableFlags::USER_ACCESSIBLE);
         let high = bits_where(!rights.fetch, PageTableFlags::NO_EXECUTE);

@@ -49,6 +49,18 @@ impl Mapped {
     }
 }
 
+/// What the entry names, from a place, be it present and its frame there or not.
+pub(crate) fn led(from: Mapped, entry: PageTableEntry) -> Mapped
+    ensures { place_of result ≡ named (place_of from) entry }
+{
+    Mapped {
+        frame: entry.frame(),
+        write: from.write & entry.is_writable(),
+        user: from.user & entry.is_user_accessible(),
+        fetch: from.fetch & !entry.is_no_execute(),
+    }
+}
+
 /// Where the entry leads, from a place.
 fn follow(frames: &Frames, from: Mapped, entry: PageTableEntry) -> Option<Mapped>
     ensures led { option_map place_of result ≡ (if is_present frames.now entry then Some (named (place_of from) entry) else None) }
@@ -57,16 +69,11 @@ fn follow(frames: &Frames, from: Mapped, entry: PageTableEntry) -> Option<Mapped
     if !entry.is_present() {
         return None;
     }
-    let frame = entry.frame();
-    if frame.number() >= u64::from(frames.count()) {
+    let to = led(from, entry);
+    if to.frame.number() >= u64::from(frames.count()) {
         return None;
     }
-    Some(Mapped {
-        frame,
-        write: from.write & entry.is_writable(),
-        user: from.user & entry.is_user_accessible(),
-        fetch: from.fetch & !entry.is_no_execute(),
-    })
+    Some(to)
 }
 
 /// One step of the walk to a table or, from the last one, to a page's frame: from a table that was met after

@@ -1,5 +1,5 @@
-//! Worked rows of the page tables: sets of numbers, addresses and pages, frames of a pool, walks, large pages, words of
-//! pages, and ranges.
+//! Worked rows of the page tables: sets of numbers, addresses and pages, frames of a pool, walks, a processor's walks over
+//! odd entries, large pages, words of pages, and ranges.
 #![tactic(auto)]
 
 #[cfg(test)]
@@ -12,6 +12,8 @@ mod large_pages;
 mod numbers;
 #[cfg(test)]
 mod pages;
+#[cfg(test)]
+mod processor;
 #[cfg(test)]
 mod ranges;
 #[cfg(test)]

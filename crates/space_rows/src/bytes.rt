@@ -6,7 +6,7 @@ use bitflags::Flags;
 use paging_core::Rights;
 use std::process::Abort;
 use std::test::Fail;
-use x86_tables::idt::PageFaultErrorCode;
+use x86_flags::PageFaultErrorCode;
 
 const SHARED: Rights = Rights {
     write: false,

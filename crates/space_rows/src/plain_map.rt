@@ -8,7 +8,7 @@ use paging_core::Rights;
 use std::alloc::{AllocError, Global};
 use std::process::Abort;
 use std::test::Fail;
-use x86_tables::idt::PageFaultErrorCode;
+use x86_flags::PageFaultErrorCode;
 
 /// How many pages the plain map has: more than the calls name. They share their tables.
 const PAGES: u64 = 24;

@@ -3,8 +3,8 @@ use Rattle.std.proofs.Common.{◌≡◌, ℕ, ◌+◌, ◌*◌, ◌/◌, ◌%◌
 use Rattle.paging_core.specs.Address.{is_canonical}
 use Rattle.paging_core.specs.Memory.{word_at, byte_of}
 use Rattle.paging_core.specs.Walk.{Place, walk_of}
-use Rattle.x86_tables.specs.PageFaultErrorCode.{page_fault_bits}
-use Rattle.x86_tables.specs.declared.idt.page_fault_error_code.PageFaultErrorCode.{PageFaultErrorCode}
+use Rattle.x86_flags.specs.PageFaultErrorCode.{page_fault_bits}
+use Rattle.x86_flags.specs.declared.page_fault_error_code.PageFaultErrorCode.{PageFaultErrorCode}
 use Rattle.heap_model.specs.declared.call.Access.{Access}
 use Rattle.heap_model.specs.Machine.{Paged, rights_of}
 use Rattle.heap_model.specs.Probe.{is_granted, fault_code}

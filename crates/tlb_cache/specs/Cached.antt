@@ -9,7 +9,7 @@ use Rattle.paging_core.specs.declared.page_table.Rights.{Rights}
 use Rattle.x86_registers.specs.declared.cpu.Cpu.{Cpu}
 use Rattle.x86_instructions.specs.declared.tlb.FlushCommand.{FlushCommand}
 use Rattle.x86_instructions.specs.Invlpgb.{commands, limits_of, whole}
-use Rattle.x86_tables.specs.PageFaultErrorCode.{page_fault_bits}
+use Rattle.x86_flags.specs.PageFaultErrorCode.{page_fault_bits}
 use Rattle.heap_model.specs.declared.call.Access.{Access}
 use Rattle.heap_model.specs.Machine.{Paged, rights_of}
 use Rattle.heap_model.specs.Probe.{is_granted, fault_code}

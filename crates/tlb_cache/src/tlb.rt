@@ -65,7 +65,8 @@ impl Model for Tlb {
 }
 
 impl Tlb {
-    /// A cache with room for so many translations. It takes all its memory now, and has none yet (own).
+    /// A cache with room for so many translations. It takes all its memory now, and has none yet (own). From 2^31 places on it
+    /// answers want of memory.
     pub fn new(alloc: Global, capacity: u64) -> Result<Tlb, AllocError>
         requires { 0 < capacity }
         ensures { IfOk result (λ tlb. tlb ≡ record { entries = []; capacity = capacity }) }

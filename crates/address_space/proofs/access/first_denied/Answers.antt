@@ -1,6 +1,6 @@
 use Rattle.std.proofs.Common.{◌∙◌, sym, arith, refl, None}
 use Rattle.meminterval.specs.Tree.{entries}
-use Rattle.x86_tables.specs.PageFaultErrorCode.{page_fault_bits}
+use Rattle.x86_flags.specs.PageFaultErrorCode.{page_fault_bits}
 use Rattle.address_space.specs.Runs.{rights_in}
 use Rattle.address_space.proofs.Denied.{none_passed, passed_on, denied_at, all_granted}
 use Rattle.address_space.proofs.access.first_denied.Goals as goal

@@ -1,4 +1,4 @@
-use Rattle.std.proofs.Common.{◌+◌, ◌-◌, sym, refl, take, drop, arith}
+use Rattle.std.proofs.Common.{◌≡◌, ◌+◌, ◌-◌, length, sym, refl, take, drop, arith}
 use Rattle.address_space.proofs.Written.{none_written, written_on, part_length, part_byte}
 use Rattle.address_space.proofs.bytes.write_bytes.Goals as goal
 
@@ -15,3 +15,13 @@ loop-done-preserved c =
     written_on c.args.frames.now c.loop-done.frames c.write_part.new.frames c.args.root c.args.at done count (c.args.at + done) bytes (take (done + count - done) (drop done bytes))
     c.loop-done.invariant refl (sym (part_length bytes done count (omega (arith, least, less)))) (omega (arith, least, less))
     (λ k k_less. part_byte bytes done count k k_less) c.write_part.ensures.bytes c.write_part.ensures.size c.write_part.ensures.tree c.write_part.ensures.walks c.write_part.ensures.larges c.write_part.ensures.words
+
+pub write_part-requires-clause-tree : goal.write_part-requires-clause-tree
+write_part-requires-clause-tree c = (c.requires.tree.0, c.loop-done.invariant.tree c.requires.tree.0 c.requires.tree.1)
+
+pub returns-clause-words : goal.returns-clause-words
+returns-clause-words c =
+    let within = c.loop-done.invariant.within in
+    let behind = c.loop-done-test.false in
+    let e : c.loop-done.done ≡ length c.args.bytes.now = omega (arith, within, behind) in
+    rw e at c.loop-done.invariant.words

@@ -1,7 +1,7 @@
-use Rattle.std.proofs.Common.{◌≡◌, ◌+◌, ◌*◌, ◌≤◌, sym, ap, ◌∙◌, arith}
+use Rattle.std.proofs.Common.{◌≡◌, ◌+◌, ◌*◌, ◌/◌, ◌≤◌, sym, ap, ◌∙◌, arith}
 use Rattle.paging_core.specs.Walk.{reach}
 use Rattle.paging_core.specs.Large.{slot_of}
-use Rattle.page_ranges.proofs.SlotLoop.{no_table, slots_start, slot_empty, slot_room, slots_skip, slots_next}
+use Rattle.page_ranges.proofs.SlotLoop.{no_table, slots_start, slot_empty, slot_room, slots_skip, slots_next, slots_to}
 use Rattle.page_ranges.proofs.mapping.map_slots.Goals as goal
 use Rattle.page_ranges.proofs.mapping.map_slots.Goals.{else-not-has_table-via-then-not-has_table+else-not-map_slot, else-not-has_table-via-else-not-has_table}
 
@@ -62,3 +62,12 @@ loop-slot-preserved c =
             (rw e at (c.has_table.ensures.0 w.if-not-has_table.false)))
       ];
     }
+
+pub returns-clause-added : goal.returns-clause-added
+returns-clause-added c =
+    let n : c.number.result ≡ c.args.first = c.number.ensures.value in
+    let at_end : (c.number.result + c.args.pages) / 512 ≤ c.loop-slot.slot = let x = c.loop-slot-test.false in omega arith in
+    slots_to c.args.frames.now c.loop-slot.frames c.args.pool.now c.loop-slot.pool c.args.root c.args.first c.args.pages c.loop-slot.slot ((c.number.result + c.args.pages) / 512) c.args.rights
+    c.loop-slot.invariant.added
+    (λ s whole lt. let to : 512 * s + 512 ≤ c.args.first + c.args.pages = whole.to in omega (arith, to, n))
+    (λ s whole lt. omega (arith, lt, at_end))

@@ -61,7 +61,7 @@ returns-clause-unmapped c = all c (omega arith)
 pub returns-clause-tree : goal.returns-clause-tree
 returns-clause-tree c =
     unmapped_tree c.args.frames.now c.loop-done.frames c.args.pool.now c.loop-done.pool c.args.root c.args.first c.args.pages
-    c.requires.range.some c.requires.tree (all c (omega arith))
+    c.requires.range.some c.requires.tree (all c (omega arith)) c.requires.range
 
 pub returns-clause-known : goal.returns-clause-known
 returns-clause-known c =

@@ -21,3 +21,6 @@ unmap_range-requires-clause-small g c = λ k lt.
     let t = c.map_range.ensures.added.tables 3 k (omega arith) lt in
     let s = c.protect_range.ensures.changed.stayed 3 _ (omega arith) (λ e. absurd (omega arith)) ∙ t.1 in
     rw s refl
+
+pub unmap_range-requires-clause-tree : goal.unmap_range-requires-clause-tree
+unmap_range-requires-clause-tree g c = c.protect_range.ensures.tree c.map_range.new.pool c.map_range.ensures.added.tree
