@@ -1,9 +1,8 @@
 -- A request is served, or it is refused; a block is freed (dlmalloc: `malloc`, `free`).
-use Rattle.std.specs.Prelude.{◌≡◌, ◌≢◌, ℕ, ◌+◌, ◌-◌, ◌%◌, ◌^◌, ◌<◌, ◌≤◌, ◌⊎◌, ⊤, max, Bool, true, false, ◌&&◌, ◌==◌, nat_lt, List, [], ◌∷◌, map, filter, option_map, None, Some, IsTrue}
+use Rattle.std.specs.Prelude.{◌≡◌, ℕ, ◌+◌, ◌-◌, ◌%◌, ◌^◌, ◌<◌, ◌≤◌, ◌⊎◌, ⊤, max, Bool, true, false, ◌&&◌, ◌==◌, nat_lt, List, [], ◌∷◌, map, filter, option_map, None, Some, IsTrue}
 use Rattle.std.specs.List.{list_any, AllByRecursion}
 use Rattle.heap_memory.specs.declared.grant.Grant.{Grant}
 use Rattle.heap_memory.specs.declared.grant.GrantFault.{GrantFault}
-use Rattle.heap_memory.specs.declared.grant.GrantFault.TheVariants.{OutOfMemory}
 use Rattle.heap_memory.specs.Events.{Event, Granted, Refused}
 use Rattle.heap_memory.specs.Regions.{with_grant, is_granted, IsWordOf, IsApart}
 use Rattle.dlmalloc_chunks.specs.Request.{padded, limit, round_up}
@@ -66,12 +65,11 @@ IsObtained follows regions system old n at system' new =
     ⊎ ((grant : Grant) × IsTakenFromGrant old n at grant new × follows system (Granted (round_up (n + 96) old.granularity) grant ∷ []) system'
     × (regions system' ≡ with_grant grant (regions system)) × AllByRecursion (IsApart grant.base (grant.base + grant.size)) (regions system))
 
--- The system denied what the heap asked it for, since nothing was chosen, and blocks leave no run of n + 256 bytes. Want of
--- memory is free.
+-- The system denied what the heap asked it for, since nothing was chosen, and blocks leave no run of n + 256 bytes.
 pub record IsDenied {A : Type 0} (denies : A → ℕ → GrantFault → Type 0) (system : A) (old : HeapState) (n : ℕ) (fault : GrantFault) : Type 0 where
   pub none_chosen : chosen old n ≡ None
   pub full : IsFull old (n + 256)
-  pub denied : fault ≢ OutOfMemory → denies system (round_up (n + 96) old.granularity) fault
+  pub denied : denies system (round_up (n + 96) old.granularity) fault
 
 -- why a request is refused
 abbrev pub IsMallocRefused : {A : Type 0} → (A → ℕ → GrantFault → Type 0) → A → HeapState → ℕ → MallocError → Type 0

@@ -53,7 +53,7 @@ impl<A: Allocator> Dlmalloc<A> {
         ensures cut { IfOk result (λ chunk. (at : ℕ) → chunk ≡ Some at → IsCutOut A.regions A.word A.zeros A.follows self.old n at self.new) }
         ensures top { IfOk result (λ chunk. chunk ≡ None → IsGrown A.regions A.word A.zeros A.follows self.old n self.new) }
         ensures err { IfErr result (λ fault. IsAsItWas A.regions A.word A.follows A.refuses (Refused (round_up (n + 96) self.old.granularity) fault ∷ []) self.old self.new) }
-        ensures denied { IfErr result (λ fault. fault ≢ GrantFault.OutOfMemory → A.denies self.old.system (round_up (n + 96) self.old.granularity) fault) }
+        ensures denied { IfErr result (λ fault. A.denies self.old.system (round_up (n + 96) self.old.granularity) fault) }
         ensures linked { IsBinned A.regions A.word self.new }
         ensures order { KeepsOrder A.regions A.word self.old self.new }
         ensures refused_counted { IfErr result (λ fault. steps.new ≡ steps.old) }

@@ -6,15 +6,16 @@ use Rattle.std.proofs.lemmas.Bool.Decides.{nat_tests}
 use Rattle.heap_memory.specs.declared.grant.Grant.{Grant}
 use Rattle.heap_memory.specs.declared.grant.GrantFault.{GrantFault}
 use Rattle.heap_memory.specs.Regions.{is_granted, with_grant, IsApart, IsWordOf}
-use Rattle.heap_memory.specs.Events.{Refused, Released}
+use Rattle.heap_memory.specs.Events.{Granted, Refused, Released}
 use Rattle.heap_memory.specs.Words.{IsStored}
 use borrow.Rule.Slice.PartMut.{put_mid}
 use Rattle.heap_arena.specs.Grants.{are_between}
-use Rattle.heap_arena.specs.Arena.{regions_of, word_of, end_of, has_room, IsSameArena, IsArenaAfter, IsTakenBack}
-use Rattle.heap_arena.specs.Arenas.{are_in_order, regions_of_all, word_among, place_for, overlaps, AreAfter, IsAdded}
+use Rattle.heap_arena.specs.Arena.{regions_of, word_of, end_of, has_room, top_without, IsSameArena, IsArenaAfter, IsTakenBack, KeepsOthers}
+use Rattle.heap_arena.specs.Arenas.{are_in_order, regions_of_all, word_among, place_for, overlaps, AreAfter, IsOnlyWritten, IsAdded}
 use Rattle.heap_arena.specs.declared.arena.Arena.{Arena}
 use Rattle.heap_arena.proofs.GrantLemmas.{granted_between}
-use Rattle.heap_arena.specs.ArenasLaws.{inside, order_rest, rest_behind, all_after_others}
+use Rattle.heap_arena.specs.ArenaLaws.{after_other}
+use Rattle.heap_arena.specs.ArenasLaws.{inside, order_rest, rest_behind, all_after_refused}
 
 -- ---- grants, and others behind them
 
@@ -225,6 +226,47 @@ module _ (grant : Grant) (size : ℕ) where
       ap regions_of_all (put_rest arena arenas news) ∙ (ap (λ (gs : List Grant). regions_of arena ++ gs) are
       ∙ sym (with_behind arena.base (end_of arena) grant (regions_of arena) (regions_of_all arenas) (placed_behind (end_of arena) size grant.base arenas (grind (arith, nat_tests)) place) (inside arena)))
 
+-- of the arenas one was granted something, and the others were not
+module _ (grant : Grant) (size : ℕ) where
+  others_after : (end : ℕ) (arenas : List Arena) → grant.base < end → IsTrue (list_all (λ (later : Arena). nat_le end later.base) arenas) → AreAfter arenas (Granted size grant ∷ []) arenas
+  others_after end [] before are = tt
+  others_after end (arena ∷ arenas) before are = (after_other size grant arena (grind (arith, nat_tests)), others_after end arenas before (grind (arith, nat_tests)))
+
+  pub after_first : (arenas : List Arena) (d new : Arena) → 0 < length arenas → IsTrue (are_in_order arenas) → grant.base < end_of (slice_index_or arenas 0 d) →
+      IsArenaAfter (slice_index_or arenas 0 d) (Granted size grant ∷ []) new → AreAfter arenas (Granted size grant ∷ []) (slice_set arenas 0 new)
+  after_first [] d new some order before here = absurd (omega (arith, some))
+  after_first (arena ∷ arenas) d new some order before here = (here, others_after (end_of arena) arenas before (grind (arith, nat_tests)))
+
+  pub after_rest : (arenas news : List Arena) → 0 < length arenas → IsTrue (are_in_order arenas) → place_for (rest_of arenas) size ≡ Some grant.base →
+      AreAfter (rest_of arenas) (Granted size grant ∷ []) news → AreAfter arenas (Granted size grant ∷ []) (put_mid 1 (length arenas - 1) arenas news)
+  after_rest [] news some order place after = absurd (omega (arith, some))
+  after_rest (arena ∷ arenas) news some order place_given after_given =
+      let is = rest_is arena arenas in
+      let place : place_for arenas size ≡ Some grant.base = ap (λ (xs : List Arena). place_for xs size) (sym is) ∙ place_given in
+      let after : AreAfter arenas (Granted size grant ∷ []) news = subst (λ (xs : List Arena). AreAfter xs (Granted size grant ∷ []) news) is after_given in
+      let past : end_of arena ≤ grant.base = placed_behind (end_of arena) size grant.base arenas (grind (arith, nat_tests)) place in
+      subst (λ (xs : List Arena). AreAfter (arena ∷ arenas) (Granted size grant ∷ []) xs) (sym (put_rest arena arenas news)) (after_other size grant arena (grind (arith, nat_tests, past)), after)
+
+-- ---- words that are written one after the other
+
+pub only_none : (at : ℕ) (arenas : List Arena) → IsOnlyWritten at 0 arenas arenas
+only_none at [] = tt
+only_none at (arena ∷ arenas) = ((λ i beside. refl, refl, refl), only_none at arenas)
+
+keeps_more : (at i : ℕ) (x y z : Arena) → y.base ≡ x.base → KeepsOthers at i x y → KeepsOthers (at + 8 * i) 1 y z → KeepsOthers at (i + 1) x z
+keeps_more at i x y z base first second = λ k beside.
+    second k (elim beside [ inl low ↦ inl (omega (arith, base, low)) | inr high ↦ inr (omega (arith, base, high)) ])
+    ∙ first k (elim beside [ inl low ↦ inl low | inr high ↦ inr (omega (arith, high)) ])
+
+pub only_more : (at i : ℕ) (xs ys zs : List Arena) → AreAfter xs [] ys → IsOnlyWritten at i xs ys → IsOnlyWritten (at + 8 * i) 1 ys zs → IsOnlyWritten at (i + 1) xs zs
+only_more at i [] [] [] after first second = tt
+only_more at i [] [] (z ∷ zs) after first second = elim second [ ]
+only_more at i [] (y ∷ ys) zs after first second = elim first [ ]
+only_more at i (x ∷ xs) [] zs after first second = elim first [ ]
+only_more at i (x ∷ xs) (y ∷ ys) [] after first second = elim second [ ]
+only_more at i (x ∷ xs) (y ∷ ys) (z ∷ zs) after first second =
+    ((keeps_more at i x y z after.0.same.base first.0.0 second.0.0, second.0.1 ∙ first.0.1, second.0.2 ∙ first.0.2), only_more at i xs ys zs after.1 first.1 second.1)
+
 -- ---- a further arena
 
 all_insert : (test : Arena → Bool) (new : Arena) (place : ℕ) (arenas : List Arena) → IsTrue (list_all test arenas) → IsTrue (test new) → IsTrue (list_all test (insert arenas place new))
@@ -311,15 +353,16 @@ module _ (low high : ℕ) (x y : Arena) (taken : IsTakenBack low high x y) where
   pub taken_same : IsSameArena x y
   taken_same = record { base = taken.base; len = ap (λ (ws : List ℕ). length ws) taken.words; table = taken.table }
 
-  pub taken_after : (at old_size new_size : ℕ) → IsArenaAfter x (Released at old_size new_size ∷ []) y
-  taken_after at old_size new_size = record {
+  pub taken_after : (at old_size new_size : ℕ) → low ≡ at + new_size → high ≡ at + old_size → IsArenaAfter x (Released at old_size new_size ∷ []) y
+  taken_after at old_size new_size begins ends = record {
     same = taken_same;
-    top = let begins = x.begins in let top = taken.top in grind (arith, nat_tests, begins, top);
-    peak = inl taken.peak;
+    top = taken.top ∙ (ap (λ (n : ℕ). top_without x.base n high x.top) begins ∙ ap (λ (n : ℕ). top_without x.base (at + new_size) n x.top) ends);
+    peak = taken.peak;
+    placed = tt;
     untouched = λ i behind. ap (λ (ws : List ℕ). slice_index ws i) taken.words;
   }
 
 -- a refusal changes nothing
 pub refused_all : (answer : Result Grant GrantFault) (size : ℕ) (olds news : List Arena) → OnErr answer (news ≡ olds) → IfErr answer (λ fault. AreAfter olds (Refused size fault ∷ []) news)
 refused_all (Ok grant) size olds news same = tt
-refused_all (Err fault) size olds news same = subst (λ (xs : List Arena). AreAfter olds (Refused size fault ∷ []) xs) (sym same) (all_after_others (Refused size fault ∷ []) olds)
+refused_all (Err fault) size olds news same = subst (λ (xs : List Arena). AreAfter olds (Refused size fault ∷ []) xs) (sym same) (all_after_refused size fault olds)

@@ -1,5 +1,5 @@
 -- Grants of a table, as it changes.
-use Rattle.std.specs.Prelude.{◌≡◌, ◌≢◌, ℕ, zero, suc, ◌+◌, ◌-◌, ◌<◌, ◌≤◌, ◌⊎◌, max, Bool, true, false, ◌&&◌, ◌==◌, nat_le, nat_lt, not, if◌then◌else◌, List, [], ◌∷◌, ◌++◌, IsTrue, map, cond}
+use Rattle.std.specs.Prelude.{◌≡◌, ◌≢◌, ℕ, zero, suc, ◌+◌, ◌-◌, ◌<◌, ◌≤◌, ◌⊎◌, Bool, true, false, ◌==◌, not, if◌then◌else◌, List, [], ◌∷◌, ◌++◌, IsTrue, map, cond}
 use Rattle.std.specs.List.{AllByRecursion, filter}
 use Rattle.std.proofs.Common.{◌∙◌, ap, sym, subst, refl, inl, inr, arith}
 use Rattle.std.proofs.lemmas.Bool.Decides.{nat_tests}
@@ -7,6 +7,7 @@ use Rattle.heap_memory.specs.declared.grant.Grant.{Grant}
 use Rattle.heap_memory.specs.Regions.{is_granted, is_whole, are_whole, are_ordered, with_grant, IsApart}
 use Rattle.heap_memory.specs.Runs.{begins_in, up_to, without_run, IsRun}
 use Rattle.heap_memory.specs.RegionLaws.{ordered_with, whole_with}
+use Rattle.heap_arena.specs.Arena.{top_without}
 use Rattle.heap_arena.specs.Grants.{grant_at, grants, are_between}
 
 -- grants that stand at the same places are the same
@@ -106,8 +107,8 @@ between_without base top low high end (region ∷ regions) whole between (inl re
 between_without base top low high end (region ∷ regions) whole between (inr same) = grind (arith, nat_tests, between_without base top low high end regions)
 
 -- what is given back of a run, which ends below the top or there
-pub top_after : (base top low high : ℕ) → base ≤ low → low ≤ high → high ≤ top → (if nat_lt low top && nat_le top high then max low base else top) ≡ (if high == top then low else top)
-top_after base top low high within some ends = grind (arith, nat_tests)
+pub top_of_run : (base top low high : ℕ) → base ≤ low → low ≤ high → high ≤ top → top_without base low high top ≡ (if high == top then low else top)
+top_of_run base top low high within some ends = grind (arith, nat_tests)
 
 pub run_below : (base top low high : ℕ) (regions : List Grant) → IsTrue (are_between base top regions) → IsRun regions low high → high ≤ top
 run_below base top low high regions between run = let last = (granted_between base top regions (high - 1) between (run.granted (high - 1) (let some = run.some in omega (arith, some)) (let some = run.some in omega (arith, some)))).1 in omega (arith, last)

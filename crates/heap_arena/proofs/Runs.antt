@@ -34,8 +34,9 @@ kept_after old new at count same top peak below others =
     let risen = old.risen in
     record {
       same = same;
-      top = omega (arith, top);
-      peak = inl peak;
+      top = top;
+      peak = peak;
+      placed = tt;
       untouched = λ i behind. let base = same.base in others i (inr (omega (arith, below, risen, peak, base, behind)));
     }
 

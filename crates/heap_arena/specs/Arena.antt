@@ -1,12 +1,12 @@
 -- What an arena shows: its regions, its words, and what it denies (own).
-use Rattle.std.specs.Prelude.{◌≡◌, ℕ, ◌+◌, ◌-◌, ◌*◌, ◌/◌, ◌<◌, ◌≤◌, ◌⊎◌, max, Bool, true, false, ◌&&◌, nat_le, nat_lt, if◌then◌else◌, List, [], ◌∷◌, IsTrue, refl, length, slice_index}
+use Rattle.std.specs.Prelude.{◌≡◌, ℕ, ◌+◌, ◌-◌, ◌*◌, ◌/◌, ◌<◌, ◌≤◌, ⊤, max, Bool, true, false, ◌&&◌, nat_le, nat_lt, if◌then◌else◌, List, [], ◌∷◌, IsTrue, refl, length, slice_index}
 use Rattle.heap_memory.specs.declared.grant.Grant.{Grant}
 use Rattle.heap_memory.specs.declared.grant.GrantFault.{GrantFault}
 use Rattle.heap_memory.specs.declared.grant.GrantFault.TheVariants.{NoSpace}
 use Rattle.heap_memory.specs.Allocator.{IsFixed}
 use Rattle.heap_memory.specs.Events.{Event, Granted, Refused, Released}
 use Rattle.heap_memory.specs.Regions.{is_granted}
-use Rattle.heap_memory.specs.Runs.{without_run}
+use Rattle.heap_memory.specs.Runs.{begins_in, without_run}
 use Rattle.heap_memory.specs.Words.{IsBeside}
 use Rattle.heap_arena.specs.Grants.{grants}
 use Rattle.heap_arena.specs.declared.arena.Arena.{Arena}
@@ -33,29 +33,51 @@ pub record IsSameArena (old new : Arena) : Type 0 where
   pub len : length new.words.now ≡ length old.words.now
   pub table : length new.table.words.now ≡ length old.table.words.now
 
--- how many bytes were granted
-abbrev pub granted_in : List Event → ℕ
-granted_in [] = 0
-granted_in (Granted size grant ∷ events) = grant.size + granted_in events
-granted_in (Refused size fault ∷ events) = granted_in events
-granted_in (Released at old_size new_size ∷ events) = granted_in events
+-- The top after the bytes from an address on and below another one, the end of a run, came back: where they reach it, it is
+-- where they begin, or at the first word.
+abbrev pub top_without : (base low high top : ℕ) → ℕ
+top_without base low high top = if nat_lt low top && nat_le top high then max low base else top
 
--- What an arena says of two moments between which these events came. Its top rose by no more than was granted, and so did its
--- peak where it rose. The words behind the peak were never touched: they are as they were.
+-- The top that events leave of an arena whose words are from one address on and below another one. A grant among them ends
+-- where the top then is; other grants are of other arenas.
+abbrev pub top_after : (base end top : ℕ) → List Event → ℕ
+top_after base end top [] = top
+top_after base end top (Granted size grant ∷ events) = top_after base end (if begins_in base end grant then grant.base + grant.size else top) events
+top_after base end top (Refused size fault ∷ events) = top_after base end top events
+top_after base end top (Released at old_size new_size ∷ events) = top_after base end (top_without base (at + new_size) (at + old_size) top) events
+
+-- the peak that they leave: the highest that the top ever was
+abbrev pub peak_after : (base end peak : ℕ) → List Event → ℕ
+peak_after base end peak [] = peak
+peak_after base end peak (Granted size grant ∷ events) = peak_after base end (if begins_in base end grant then max peak (grant.base + grant.size) else peak) events
+peak_after base end peak (Refused size fault ∷ events) = peak_after base end peak events
+peak_after base end peak (Released at old_size new_size ∷ events) = peak_after base end peak events
+
+-- each grant among its words begins where the top then is, and has as many bytes as were asked for
+abbrev pub AreAtTop : (base end top : ℕ) → List Event → Type 0
+AreAtTop base end top [] = ⊤
+AreAtTop base end top (Granted size grant ∷ events) =
+    (begins_in base end grant ≡ true → (grant.base ≡ top) × (grant.size ≡ size)) × AreAtTop base end (if begins_in base end grant then grant.base + grant.size else top) events
+AreAtTop base end top (Refused size fault ∷ events) = AreAtTop base end top events
+AreAtTop base end top (Released at old_size new_size ∷ events) = AreAtTop base end (top_without base (at + new_size) (at + old_size) top) events
+
+-- What an arena says of two moments between which these events came. Grants were put at its top. Its top and its peak are where
+-- they left them, so all that came back at the end can be granted again. The words behind the peak were never touched: they are
+-- as they were.
 pub record IsArenaAfter (old : Arena) (events : List Event) (new : Arena) : Type 0 where
   pub same : IsSameArena old new
-  pub top : new.top ≤ old.top + granted_in events
-  pub peak : (new.peak ≡ old.peak) ⊎ ((old.peak < new.peak) × (new.peak ≤ old.top + granted_in events))
+  pub placed : AreAtTop old.base (end_of old) old.top events
+  pub top : new.top ≡ top_after old.base (end_of old) old.top events
+  pub peak : new.peak ≡ peak_after old.base (end_of old) old.peak events
   pub untouched : (i : ℕ) → new.peak ≤ new.base + 8 * i → slice_index new.words.now i ≡ slice_index old.words.now i
 
--- The bytes from an address on and below another one, the end of a run, came back. Where they reach the top, it is where they
--- begin, or at the first word.
+-- The bytes from an address on and below another one, the end of a run, came back.
 pub record IsTakenBack (low high : ℕ) (old new : Arena) : Type 0 where
   pub regions : regions_of new ≡ without_run low high (regions_of old)
   pub words : new.words.now ≡ old.words.now
   pub base : new.base ≡ old.base
   pub table : length new.table.words.now ≡ length old.table.words.now
-  pub top : new.top ≡ (if nat_lt low old.top && nat_le old.top high then max low old.base else old.top)
+  pub top : new.top ≡ top_without old.base low high old.top
   pub peak : new.peak ≡ old.peak
 
 -- its words are as they were, granted or not, but for so many from an address on

@@ -43,9 +43,9 @@ AreUnwritten old new = AllZip (λ x y. y.words.now ≡ x.words.now) old new
 abbrev pub IsGrantedByOne : ℕ → ℕ → List Arena → List Arena → Type 0
 IsGrantedByOne address size old new = AllZip (λ x y. (y ≡ x) ⊎ ((x.top ≡ address) × (y.top ≡ address + size) × (y.peak ≡ max x.peak (address + size)))) old new
 
--- A word was written, and no other, granted or not; nothing was granted, and nothing came back.
-abbrev pub IsOnlyWritten : ℕ → List Arena → List Arena → Type 0
-IsOnlyWritten at old new = AllZip (λ x y. KeepsOthers at 1 x y × (y.top ≡ x.top) × (y.peak ≡ x.peak)) old new
+-- So many words from an address on were written, and no other, granted or not; nothing was granted, and nothing came back.
+abbrev pub IsOnlyWritten : (at count : ℕ) → List Arena → List Arena → Type 0
+IsOnlyWritten at count old new = AllZip (λ x y. KeepsOthers at count x y × (y.top ≡ x.top) × (y.peak ≡ x.peak)) old new
 
 -- a request is denied where no arena has room for it
 abbrev pub IsDeniedByAll : List Arena → ℕ → GrantFault → Type 0

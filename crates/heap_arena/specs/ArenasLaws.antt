@@ -4,13 +4,14 @@ use Rattle.std.specs.List.{list_all}
 use Rattle.std.proofs.Common.{refl, arith}
 use Rattle.std.proofs.lemmas.Bool.Decides.{nat_tests}
 use Rattle.heap_memory.specs.declared.grant.Grant.{Grant}
-use Rattle.heap_memory.specs.Events.{Event}
+use Rattle.heap_memory.specs.declared.grant.GrantFault.{GrantFault}
+use Rattle.heap_memory.specs.Events.{Event, Refused}
 use Rattle.heap_memory.specs.Regions.{are_whole, are_ordered}
 use Rattle.heap_arena.specs.Grants.{are_between}
 use Rattle.heap_arena.specs.Arena.{regions_of, end_of}
 use Rattle.heap_arena.specs.Arenas.{are_in_order, regions_of_all, AreAfter}
 use Rattle.heap_arena.specs.declared.arena.Arena.{Arena}
-use Rattle.heap_arena.specs.ArenaLaws.{after_others, after_on}
+use Rattle.heap_arena.specs.ArenaLaws.{after_none, after_refused, after_on}
 
 -- ---- grants, and others behind them
 
@@ -73,12 +74,13 @@ all_ordered (arena ∷ arenas) order =
 
 -- ---- two times
 
-pub all_after_others : (events : List Event) (arenas : List Arena) → AreAfter arenas events arenas
-all_after_others events [] = tt
-all_after_others events (arena ∷ arenas) = (after_others events arena, all_after_others events arenas)
-
 pub all_after_none : (arenas : List Arena) → AreAfter arenas [] arenas
-all_after_none arenas = all_after_others [] arenas
+all_after_none [] = tt
+all_after_none (arena ∷ arenas) = (after_none arena, all_after_none arenas)
+
+pub all_after_refused : (size : ℕ) (fault : GrantFault) (arenas : List Arena) → AreAfter arenas (Refused size fault ∷ []) arenas
+all_after_refused size fault [] = tt
+all_after_refused size fault (arena ∷ arenas) = (after_refused size fault arena, all_after_refused size fault arenas)
 
 pub all_after_on : (x y z : List Arena) (a b c : List Event) → AreAfter x a y → AreAfter y b z → a ++ b ≡ c → AreAfter x c z
 all_after_on [] [] [] a b c first second are = tt

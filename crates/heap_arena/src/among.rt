@@ -34,7 +34,7 @@ pub(crate) fn store_among<'a>(arenas: &mut [Arena<'a>], at: u64, value: u64)
     requires word { IsWordOf (regions_of_all arenas.old) at }
     requires order { IsTrue (are_in_order arenas.old) }
     ensures stored { IsStored (regions_of_all arenas.old) (word_among arenas.old) at value (word_among arenas.new) }
-    ensures only { IsOnlyWritten at arenas.old arenas.new }
+    ensures only { IsOnlyWritten at 1 arenas.old arenas.new }
     ensures regions { regions_of_all arenas.new ≡ regions_of_all arenas.old }
     ensures after { AreAfter arenas.old [] arenas.new }
 {

@@ -4,7 +4,7 @@ ghost use Rattle.heap_memory.specs.Regions.{are_whole, are_ordered};
 ghost use Rattle.heap_arena.specs.Grants.{grants, are_between};
 
 use crate::table::Table;
-use crate::words::{put_word, word_at};
+use crate::words::{put_word, with_byte, word_at};
 use heap_memory::{Links, Memory};
 use std::sync::ledger::Ledger;
 use step_count::Steps;
@@ -230,7 +230,7 @@ impl<'a> Links for Arena<'a> {
 
 impl<'a> Memory for Arena<'a> {
     ghost use Rattle.heap_memory.specs.Regions.{IsWordOf};
-    ghost use Rattle.heap_memory.specs.Words.{IsStored};
+    ghost use Rattle.heap_memory.specs.Words.{IsStored, with_byte};
     ghost use Rattle.heap_arena.specs.Arena.{regions_of, word_of, KeepsOthers, IsArenaAfter};
 
     #[tactic(auto, using(crate::proofs::GrantLemmas::granted_between))]
@@ -251,5 +251,20 @@ impl<'a> Memory for Arena<'a> {
         ensures peak { self.new.peak ≡ self.old.peak }
     {
         put_word(self.words, (at - self.base) as usize, value);
+    }
+
+    /// Puts a byte at an address, and changes no word but its own, granted or not.
+    fn store_byte(&mut self, at: u64, byte: u8)
+        requires { IsWordOf (regions_of self.old) (at - at % 8) }
+        ensures stored { IsStored (regions_of self.old) (word_of self.old) (at - at % 8)
+            (with_byte (word_of self.old (at - at % 8)) (at % 8) byte) (word_of self.new) }
+        ensures regions { regions_of self.new ≡ regions_of self.old }
+        ensures follows { IsArenaAfter self.old [] self.new }
+        ensures others { KeepsOthers (at - at % 8) 1 self.old self.new }
+        ensures top { self.new.top ≡ self.old.top }
+        ensures peak { self.new.peak ≡ self.old.peak }
+    {
+        let word = with_byte(self.load(at - at % 8), at % 8, byte);
+        self.store(at - at % 8, word);
     }
 }

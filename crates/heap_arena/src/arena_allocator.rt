@@ -1,5 +1,5 @@
 // What an arena grants and takes back.
-ghost use Rattle.std.specs.Prelude.{◌≡◌, ◌≢◌, ℕ, ◌+◌, ◌%◌, ◌<◌, ◌≤◌, ◌==◌, max, true, false, if◌then◌else◌, [], ◌∷◌, IfOk, IfErr, OnErr, IsTrue, refl};
+ghost use Rattle.std.specs.Prelude.{◌≡◌, ℕ, ◌+◌, ◌%◌, ◌<◌, ◌≤◌, ◌==◌, max, true, false, if◌then◌else◌, [], ◌∷◌, IfOk, IfErr, OnErr, IsTrue, refl};
 ghost use Rattle.std.specs.Int.{is_power_of_two};
 ghost use Rattle.std.specs.List.{AllByRecursion};
 ghost use Rattle.heap_memory.specs.Events.{Granted, Refused, Released};
@@ -48,8 +48,7 @@ impl<'a> Allocator for Arena<'a> {
         ensures same { OnErr result (self.new ≡ self.old) }
         ensures err { OnErr result (regions_of self.new ≡ regions_of self.old) }
         ensures err_follows { IfErr result (λ fault. IsArenaAfter self.old (Refused size fault ∷ []) self.new) }
-        ensures refused { IfErr result (λ fault. IsDenied self.old size fault) }
-        ensures denied { IfErr result (λ fault. fault ≢ GrantFault.OutOfMemory → IsDenied self.old size fault) }
+        ensures denied { IfErr result (λ fault. IsDenied self.old size fault) }
         ensures room { IfOk result (λ grant. has_room self.old size ≡ true) }
     {
         if !self.has_room(size) {

@@ -1,5 +1,5 @@
 // What several arenas grant and take back.
-ghost use Rattle.std.specs.Prelude.{◌≡◌, ◌≢◌, ℕ, ◌+◌, ◌%◌, ◌<◌, ◌≤◌, true, false, [], ◌∷◌, Some, IfOk, IfErr, OnErr, IsTrue, refl};
+ghost use Rattle.std.specs.Prelude.{◌≡◌, ℕ, ◌+◌, ◌%◌, ◌<◌, ◌≤◌, true, false, [], ◌∷◌, Some, IfOk, IfErr, OnErr, IsTrue, refl};
 ghost use Rattle.std.specs.Int.{is_power_of_two};
 ghost use Rattle.std.specs.List.{AllByRecursion, AllZip};
 ghost use Rattle.heap_memory.specs.Events.{Granted, Refused, Released};
@@ -50,8 +50,7 @@ impl<'a, const N: usize> Allocator for Arenas<'a, N> {
         ensures same { OnErr result (self.new.arenas.items ≡ self.old.arenas.items) }
         ensures err { OnErr result (regions_of_all self.new.arenas.items ≡ regions_of_all self.old.arenas.items) }
         ensures err_follows { IfErr result (λ fault. AreAfter self.old.arenas.items (Refused size fault ∷ []) self.new.arenas.items) }
-        ensures refused { IfErr result (λ fault. IsDeniedByAll self.old.arenas.items size fault) }
-        ensures denied { IfErr result (λ fault. fault ≢ GrantFault.OutOfMemory → IsDeniedByAll self.old.arenas.items size fault) }
+        ensures denied { IfErr result (λ fault. IsDeniedByAll self.old.arenas.items size fault) }
     {
         alloc_among(self.arenas.as_mut_slice(), size)
     }

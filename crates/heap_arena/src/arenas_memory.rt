@@ -1,15 +1,16 @@
 // The words of several arenas.
-ghost use Rattle.std.specs.Prelude.{◌≡◌, ◌+◌, []};
+ghost use Rattle.std.specs.Prelude.{◌≡◌, ◌+◌, ◌-◌, ◌*◌, ◌%◌, ◌≤◌, ◌⊎◌, []};
 
 use crate::among::{load_among, store_among};
 use crate::arenas::Arenas;
+use crate::words::with_byte;
 use heap_memory::{Links, Memory};
 use std::sync::ledger::Ledger;
 use step_count::Steps;
 
 impl<'a, const N: usize> Links for Arenas<'a, N> {
     ghost use Rattle.heap_memory.specs.Regions.{IsWordOf};
-    ghost use Rattle.heap_memory.specs.Words.{IsStored};
+    ghost use Rattle.heap_memory.specs.Words.{IsStored, AreWordsOf, AreFilled, AreCopied};
     ghost use Rattle.heap_arena.specs.Arenas.{regions_of_all, word_among, AreAfter, IsOnlyWritten};
     ghost use Rattle.heap_arena.specs.ArenasLaws.{all_whole, all_after_none, all_after_on};
 
@@ -34,7 +35,7 @@ impl<'a, const N: usize> Links for Arenas<'a, N> {
     fn store_counted<L: Ledger>(&mut self, at: u64, value: u64, steps: &mut Steps<L>)
         requires { IsWordOf (regions_of_all self.old.arenas.items) at }
         ensures stored { IsStored (regions_of_all self.old.arenas.items) (word_among self.old.arenas.items) at value (word_among self.new.arenas.items) }
-        ensures only { IsOnlyWritten at self.old.arenas.items self.new.arenas.items }
+        ensures only { IsOnlyWritten at 1 self.old.arenas.items self.new.arenas.items }
         ensures regions { regions_of_all self.new.arenas.items ≡ regions_of_all self.old.arenas.items }
         ensures follows { AreAfter self.old.arenas.items [] self.new.arenas.items }
         ensures counted { steps.new ≡ steps.old + 1 }
@@ -42,11 +43,44 @@ impl<'a, const N: usize> Links for Arenas<'a, N> {
         self.store(at, value);
         steps.tick()
     }
+
+    /// Puts the same word at each of `count` places, from an address on, and changes no other, granted or not.
+    #[tactic(auto, using(heap_memory::proofs::WordRuns::word_of_run))]
+    fn fill_counted<L: Ledger>(&mut self, at: u64, count: u64, value: u64, steps: &mut Steps<L>)
+        requires { AreWordsOf (regions_of_all self.old.arenas.items) at count }
+        ensures filled { AreFilled (regions_of_all self.old.arenas.items) (word_among self.old.arenas.items) at count value (word_among self.new.arenas.items) }
+        ensures only { IsOnlyWritten at count self.old.arenas.items self.new.arenas.items }
+        ensures regions { regions_of_all self.new.arenas.items ≡ regions_of_all self.old.arenas.items }
+        ensures follows { AreAfter self.old.arenas.items [] self.new.arenas.items }
+        ensures counted { steps.new ≡ steps.old + count }
+    {
+        for i in 0..count {
+            self.store_counted(at + 8 * i, value, steps);
+        }
+    }
+
+    /// Copies `count` words from one place to another, apart from it, and changes no other, granted or not.
+    #[tactic(auto, using(heap_memory::proofs::WordRuns::word_of_run))]
+    fn copy_counted<L: Ledger>(&mut self, from: u64, to: u64, count: u64, steps: &mut Steps<L>)
+        requires from { AreWordsOf (regions_of_all self.old.arenas.items) from count }
+        requires to { AreWordsOf (regions_of_all self.old.arenas.items) to count }
+        requires apart { (from + 8 * count ≤ to) ⊎ (to + 8 * count ≤ from) }
+        ensures copied { AreCopied (regions_of_all self.old.arenas.items) (word_among self.old.arenas.items) from to count (word_among self.new.arenas.items) }
+        ensures only { IsOnlyWritten to count self.old.arenas.items self.new.arenas.items }
+        ensures regions { regions_of_all self.new.arenas.items ≡ regions_of_all self.old.arenas.items }
+        ensures follows { AreAfter self.old.arenas.items [] self.new.arenas.items }
+        ensures counted { steps.new ≡ steps.old + 2 * count }
+    {
+        for i in 0..count {
+            let word = self.load_counted(from + 8 * i, steps);
+            self.store_counted(to + 8 * i, word, steps);
+        }
+    }
 }
 
 impl<'a, const N: usize> Memory for Arenas<'a, N> {
     ghost use Rattle.heap_memory.specs.Regions.{IsWordOf};
-    ghost use Rattle.heap_memory.specs.Words.{IsStored};
+    ghost use Rattle.heap_memory.specs.Words.{IsStored, with_byte};
     ghost use Rattle.heap_arena.specs.Arenas.{regions_of_all, word_among, AreAfter, IsOnlyWritten};
 
     fn load(&self, at: u64) -> u64 {
@@ -57,10 +91,23 @@ impl<'a, const N: usize> Memory for Arenas<'a, N> {
     fn store(&mut self, at: u64, value: u64)
         requires { IsWordOf (regions_of_all self.old.arenas.items) at }
         ensures stored { IsStored (regions_of_all self.old.arenas.items) (word_among self.old.arenas.items) at value (word_among self.new.arenas.items) }
-        ensures only { IsOnlyWritten at self.old.arenas.items self.new.arenas.items }
+        ensures only { IsOnlyWritten at 1 self.old.arenas.items self.new.arenas.items }
         ensures regions { regions_of_all self.new.arenas.items ≡ regions_of_all self.old.arenas.items }
         ensures follows { AreAfter self.old.arenas.items [] self.new.arenas.items }
     {
         store_among(self.arenas.as_mut_slice(), at, value)
+    }
+
+    /// Puts a byte at an address, and changes no word but its own, granted or not.
+    fn store_byte(&mut self, at: u64, byte: u8)
+        requires { IsWordOf (regions_of_all self.old.arenas.items) (at - at % 8) }
+        ensures stored { IsStored (regions_of_all self.old.arenas.items) (word_among self.old.arenas.items) (at - at % 8)
+            (with_byte (word_among self.old.arenas.items (at - at % 8)) (at % 8) byte) (word_among self.new.arenas.items) }
+        ensures only { IsOnlyWritten (at - at % 8) 1 self.old.arenas.items self.new.arenas.items }
+        ensures regions { regions_of_all self.new.arenas.items ≡ regions_of_all self.old.arenas.items }
+        ensures follows { AreAfter self.old.arenas.items [] self.new.arenas.items }
+    {
+        let word = with_byte(self.load(at - at % 8), at % 8, byte);
+        self.store(at - at % 8, word);
     }
 }

@@ -1,4 +1,4 @@
 mod FlatWordsLemmas
 mod FlatScriptLemmas
-mod WordRuns
+pub mod WordRuns
 mod RunExamples

@@ -1,4 +1,4 @@
-ghost use Rattle.std.specs.Prelude.{◌≡◌, ◌≢◌, ℕ, ◌+◌, ◌%◌, ◌<◌, ◌≤◌, Bool, true, false, List, [], ◌∷◌, IsTrue, IfOk, IfErr, OnErr};
+ghost use Rattle.std.specs.Prelude.{◌≡◌, ℕ, ◌+◌, ◌%◌, ◌<◌, ◌≤◌, Bool, true, false, List, [], ◌∷◌, IsTrue, IfOk, IfErr, OnErr};
 ghost use Rattle.std.specs.List.{AllByRecursion};
 ghost use Rattle.std.specs.Int.{is_power_of_two};
 ghost use Rattle.heap_memory.specs.Events.{Granted, Refused, Released};
@@ -14,7 +14,8 @@ pub trait Allocator: Links {
     ghost use Rattle.heap_memory.specs.Events.{Event};
     ghost use Rattle.heap_memory.specs.Regions.{are_ordered};
 
-    /// Whether the system, as it stands, denies a request for so many bytes with a fault.
+    /// Whether the system, as it stands, may deny a request for so many bytes with a fault. It need not: one that wants memory
+    /// of its host may deny with `OutOfMemory` whenever it is asked, and may as well grant.
     ghost denies: { Self → ℕ → GrantFault → Type 0 };
 
     /// Whether the words of a new grant are zero.
@@ -47,7 +48,7 @@ pub trait Allocator: Links {
         ensures err { OnErr result (Self.regions self.new ≡ Self.regions self.old) }
         ensures err_follows { IfErr result (λ fault. Self.follows self.old (Refused size fault ∷ []) self.new) }
         ensures err_refuses { OnErr result (refuses self.old self.new) }
-        ensures denied { IfErr result (λ fault. fault ≢ GrantFault.OutOfMemory → denies self.old size fault) };
+        ensures denied { IfErr result (λ fault. denies self.old size fault) };
 
     /// Would give a run of whole regions another size, at another place where it may move. No system does, so the answer
     /// is None and nothing changes (dlmalloc: `remap`).

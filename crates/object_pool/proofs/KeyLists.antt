@@ -3,16 +3,16 @@ use Rattle.std.proofs.Common.{◌≡◌, ℕ, zero, suc, ◌+◌, Bool, true, fa
 use Rattle.std.proofs.lemmas.List.Elements.{filter-append}
 use Rattle.object_pool.specs.declared.key.Key.{Key}
 use Rattle.object_pool.specs.declared.slots.Slot.{Slot}
-use Rattle.object_pool.specs.Lists.{Entry, Lists, entries_at, index_count, keys_at, keys_of}
+use Rattle.object_pool.specs.Lists.{Entry, Lists, entries_at, keys_at, keys_of}
 use Rattle.object_pool.specs.Slots.{slot_at, keys_from}
 use Rattle.object_pool.specs.Pool.{past, present, Holds}
 use Rattle.object_pool.proofs.Entries.{history, entry_at}
 
-abbrev objects : List Entry → List Entry
+abbrev pub objects : List Entry → List Entry
 objects entries = filter (λ (entry : Entry). is_some entry.bytes) entries
 
 -- what was removed is no object
-none_past : (index generation : ℕ) → objects (past index generation) ≡ []
+pub none_past : (index generation : ℕ) → objects (past index generation) ≡ []
 none_past index zero = refl
 none_past index (suc generation) =
     filter-append (λ (entry : Entry). is_some entry.bytes) (past index generation) (entry_at index generation None ∷ []) ∙ ap (λ (list : List Entry). list ++ []) (none_past index generation)

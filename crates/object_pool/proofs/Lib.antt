@@ -5,8 +5,10 @@ mod ByteRuns
 mod HeapBlocks
 mod Rates
 mod SlabPlaces
+mod Emptying
 mod Entries
 mod Histories
 mod KeyLists
+mod FreeAgain
 mod Standing
 mod Examples

@@ -1,5 +1,5 @@
 -- Slabs of a heap: where the objects of their slots lie, and what the heap's calls leave of them.
-use Rattle.std.proofs.Common.{◌≡◌, ◌≢◌, ℕ, ◌+◌, ◌-◌, ◌*◌, ◌/◌, ◌%◌, ◌^◌, ◌<◌, ◌≤◌, inl, inr, List, [], ◌∷◌, ◌++◌, length, length-append, slice_index, refl, sym, ap, ◌∙◌, subst, arith, Bool, true, false, if◌then◌else◌, ◌==◌}
+use Rattle.std.proofs.Common.{◌≡◌, ◌≢◌, ℕ, ◌+◌, ◌-◌, ◌*◌, ◌/◌, ◌%◌, ◌^◌, ◌<◌, ◌≤◌, inl, inr, List, [], ◌∷◌, ◌++◌, length, length-append, slice_index, sym, ap, ◌∙◌, subst, arith, Bool, true, false, if◌then◌else◌, ◌==◌}
 use Rattle.std.proofs.lemmas.List.{get_or_append_left}
 use Rattle.std.proofs.Math.Seq.{get_or-append_seam}
 use Rattle.std.proofs.lemmas.Nat.{mul-le}
@@ -12,16 +12,13 @@ use Rattle.dlmalloc.specs.Blocks.{IsBlock, ArePlaced, BlocksAreApart}
 use Rattle.dlmalloc.specs.Heap.{state_of, IsSound, IsGranularity}
 use Rattle.dlmalloc.specs.Binned.{IsBinned}
 use Rattle.dlmalloc.specs.Requested.{IsHandedOut}
-use Rattle.dlmalloc.specs.AfterFree.{IsFreed}
-use Rattle.dlmalloc.specs.Freed.{freed}
 use Rattle.dlmalloc.specs.Served.{RestsOutside}
 use Rattle.dlmalloc.specs.declared.heap.Dlmalloc.{Dlmalloc}
 use Rattle.object_pool.specs.Bytes.{bytes_at, AreGranted, IsWritten}
-use Rattle.object_pool.specs.Pool.{place_of, bytes_of, IsLaidOut, KeepsOthers, IsEmptied, PlacesAreApart}
+use Rattle.object_pool.specs.Pool.{place_of, bytes_of, IsLaidOut, KeepsOthers, PlacesAreApart}
 use Rattle.object_pool.proofs.ByteRuns.{bytes_same, bytes_are}
-use Rattle.object_pool.proofs.HeapBlocks.{handed_keeps, handed_fresh, freed_keeps, freed_only, written_rests, written_keeps}
+use Rattle.object_pool.proofs.HeapBlocks.{handed_keeps, handed_fresh, written_rests, written_keeps}
 use Rattle.object_pool.proofs.Numbers.{lt_or_le, same_or_other}
-use Rattle.object_pool.proofs.Rates.{rate_after}
 
 -- ---- where objects lie
 
@@ -159,85 +156,3 @@ never_large granularity size is fits small = go (granularity == 16) (power_small
     go : (b : Bool) → granularity ≤ 2 ^ 63 → size < (if b then 2 ^ 64 - 135 else 2 ^ 64 - granularity - 103)
     go true most = omega (arith, small)
     go false most = omega (arith, small, most)
-
--- ---- the slabs are given back, from the last one on
-
--- All but the slabs that are left were given back.
-pub record IsEmptying {A : Type 0} (regions : A → List Grant) (word : A → ℕ → ℕ) (old : Dlmalloc A) (slabs : List ℕ) (size : ℕ) (heap : Dlmalloc A) (left : List ℕ) : Type 0 where
-  pub laid : IsLaidOut regions word heap size left
-  pub few : length left ≤ length slabs
-  pub front : (i : ℕ) → i < length left → slice_index left i ≡ slice_index slabs i
-  pub kept : KeepsOthers word slabs old heap
-  pub only : (address n : ℕ) → IsBlock (state_of word heap) address n → IsBlock (state_of word old) address n × ((i : ℕ) → length left ≤ i → i < length slabs → slice_index slabs i ≢ address)
-  pub granularity : heap.granularity ≡ old.granularity
-  pub rate : heap.rate ≡ old.rate
-
-pub emptying_none : {A : Type 0} (regions : A → List Grant) (word : A → ℕ → ℕ) (heap : Dlmalloc A) (slabs : List ℕ) (size : ℕ) → IsLaidOut regions word heap size slabs → IsEmptying regions word heap slabs size heap slabs
-emptying_none regions word heap slabs size laid = record {
-  laid = laid;
-  few = omega arith;
-  front = λ i less. refl;
-  kept = λ address n block none. record { block = block; bytes = λ k less. refl };
-  only = λ address n block. (block, λ i from to. absurd (omega (arith, from, to)));
-  granularity = refl;
-  rate = refl;
-}
-
-pub emptied : {A : Type 0} (regions : A → List Grant) (word : A → ℕ → ℕ) (old heap : Dlmalloc A) (slabs : List ℕ) (size : ℕ) (left : List ℕ) → length left ≡ 0 → IsEmptying regions word old slabs size heap left → IsEmptied regions word old slabs heap
-emptied regions word old heap slabs size left none e = record {
-  sound = e.laid.sound;
-  linked = e.laid.linked;
-  kept = e.kept;
-  only = λ address n block. (let was = e.only address n block in (was.0, λ i less. was.1 i (omega (arith, none)) less));
-  granularity = e.granularity;
-  rate = e.rate;
-}
-
-module _ {A : Type 0} (regions : A → List Grant) (word : A → ℕ → ℕ) (follows : A → List Event → A → Type 0) (frees parts : Bool) (unit : ℕ) (old heap new : Dlmalloc A) (slabs : List ℕ) (size : ℕ) (left rest : List ℕ) (address : ℕ)
-    (e : IsEmptying regions word old slabs size heap left) (is : left ≡ rest ++ address ∷ []) (placed : ArePlaced (regions heap.system) (state_of word heap))
-    (back : IsFreed regions word follows frees parts unit heap address new) (linked : IsBinned regions word new) where
-  many : length left ≡ length rest + 1
-  many = ap length is ∙ length-append rest (address ∷ [])
-
-  final : slice_index left (length rest) ≡ address
-  final = ap (λ xs. slice_index xs (length rest)) is ∙ get_or-append_seam rest address [] 0
-
-  same : (i : ℕ) → i < length rest → slice_index rest i ≡ slice_index left i
-  same i less = sym (ap (λ xs. slice_index xs i) is ∙ get_or_append_left rest (address ∷ []) 0 i less)
-
-  pub last_block : IsBlock (state_of word heap) address (64 * size)
-  last_block = subst (λ a. IsBlock (state_of word heap) a (64 * size)) final (e.laid.blocks (length rest) (omega (arith, many)))
-
-  pub emptying_more : IsEmptying regions word old slabs size new rest
-  emptying_more = record {
-    laid = record {
-      sound = back.sound;
-      linked = linked;
-      some = e.laid.some;
-      small = e.laid.small;
-      blocks = λ i less. subst (λ a. IsBlock (state_of word new) a (64 * size)) (sym (same i less))
-          (freed_keeps regions word follows heap new frees parts unit address placed last_block.low back (slice_index left i) (64 * size) (e.laid.blocks i (omega (arith, many, less)))
-          (λ at. e.laid.distinct i (length rest) (omega (arith, many, less)) (omega (arith, many)) (λ eq. absurd (omega (arith, eq, less))) (at ∙ sym final))).block;
-      distinct = λ i j less_i less_j differ eq. e.laid.distinct i j (omega (arith, many, less_i)) (omega (arith, many, less_j)) differ (sym (same i less_i) ∙ (eq ∙ same j less_j));
-    };
-    few = let few = e.few in omega (arith, many, few);
-    front = λ i less. same i less ∙ e.front i (omega (arith, many, less));
-    kept = λ at n block none.
-        let before = e.kept at n block none in
-        let few = e.few in
-        let apart : at ≢ address = λ eq. none (length rest) (omega (arith, many, few)) (sym (e.front (length rest) (omega (arith, many))) ∙ (final ∙ sym eq)) in
-        let now = freed_keeps regions word follows heap new frees parts unit address placed last_block.low back at n before.block apart in
-        record { block = now.block; bytes = λ k less. now.bytes k less ∙ before.bytes k less };
-    only = λ at n block.
-        let was = freed_only regions word follows heap new frees parts unit address placed last_block.low back at n block in
-        let before = e.only at n was.0 in (
-          before.0,
-          λ i from to. elim (lt_or_le i (length left)) [
-            | inl here ↦ (let one : i ≡ length rest = omega (arith, many, from, here) in
-                λ eq. was.1 (sym eq ∙ (ap (slice_index slabs) one ∙ (sym (e.front (length rest) (omega (arith, many))) ∙ final))))
-            | inr past ↦ before.1 i past to
-          ],
-        );
-    granularity = back.granularity ∙ e.granularity;
-    rate = ap (λ (h : HeapState). h.rate) back.state ∙ (rate_after frees parts unit (freed (state_of word heap) (address - 16)) (address - 16) ∙ e.rate);
-  }

@@ -14,7 +14,7 @@ use Rattle.dlmalloc.specs.declared.heap.Dlmalloc.{Dlmalloc}
 use Rattle.object_pool.specs.declared.key.Key.{Key}
 use Rattle.object_pool.specs.declared.slots.Slot.{Slot}
 use Rattle.object_pool.specs.Lists.{Lists, empty, index_count, object_of, next_key, inserted, replaced, removed, LacksSlot, IsFull}
-use Rattle.object_pool.specs.Slots.{IsIn, IsNext, IsTaken, IsReleased}
+use Rattle.object_pool.specs.Slots.{AreFreed, IsIn, IsNext, IsTaken, IsReleased}
 use Rattle.object_pool.specs.Pooled.{Pooled}
 use Rattle.object_pool.specs.Bytes.{byte_in, bytes_at}
 use Rattle.object_pool.specs.Pool.{place_of, bytes_of, Stands, IsLaidOut, IsNoSlab, KeepsOthers, Keeps, StaysInState, HasServed, IsAdded, HasRoom, IsPoolRefused, IsRefusedBy, TakesSlabIfNeeded}
@@ -25,6 +25,7 @@ use Rattle.object_pool.proofs.Numbers.{lt_or_le, same_or_other}
 use Rattle.object_pool.proofs.SlabPlaces.{place_ends}
 use Rattle.object_pool.proofs.Histories.{holds_none, object_is, object_none, key_is, holds_inserted, holds_replaced, holds_removed}
 use Rattle.object_pool.proofs.SlotLists.{used_there}
+use Rattle.object_pool.proofs.FreeAgain.{free_again}
 
 pub on_err : {A B : Type 0} (r : Result A B) (P : Type 0) → P → OnErr r P
 on_err (Ok a) P p = tt
@@ -42,7 +43,7 @@ pooled heap size slabs slots freed = record { heap = heap; size = size; slabs = 
 
 module _ {A : Type 0} (word : A → ℕ → ℕ) where
   pub stands_none : (heap : Dlmalloc A) (size : ℕ) → Stands word (pooled heap size [] [] []) empty
-  stands_none heap size = record { holds = holds_none (bytes_of word heap [] size); slabs = refl }
+  stands_none heap size = record { holds = holds_none (bytes_of word heap [] size); freed = λ index. refl; slabs = refl }
 
   module _ (heap : Dlmalloc A) (size : ℕ) (slabs : List ℕ) (slots : List Slot) (freed : List ℕ) (lists : Lists) (stands : Stands word (pooled heap size slabs slots freed) lists) where
     pub stands_object : (key : Key) → IsIn slots key → object_of key lists.entries ≡ Some (bytes_of word heap slabs size key.index)
@@ -55,20 +56,20 @@ module _ {A : Type 0} (word : A → ℕ → ℕ) where
     slabs_same : (indexes : ℕ) → indexes ≡ length slots → (indexes + 63) / 64 ≡ length slabs
     slabs_same indexes is = ap (λ n. (n + 63) / 64) (is ∙ sym stands.holds.indexes) ∙ stands.slabs
 
-    pub stands_replaced : (new : Dlmalloc A) (size' : ℕ) (slabs' : List ℕ) (key : Key) (bytes : List ℕ) → size' ≡ size → slabs' ≡ slabs → length slots ≤ 64 * length slabs → IsIn slots key →
+    pub stands_replaced : (new : Dlmalloc A) (size' : ℕ) (slabs' : List ℕ) (key : Key) (bytes : List ℕ) → size' ≡ size → slabs' ≡ slabs → length slots ≤ 64 * length slabs → AreFreed slots freed → IsIn slots key →
         bytes_of word new slabs size key.index ≡ bytes → ((other : ℕ) → other < 64 * length slabs → other ≢ key.index → bytes_of word new slabs size other ≡ bytes_of word heap slabs size other) →
         Stands word (pooled new size' slabs' slots freed) (replaced key bytes lists)
-    stands_replaced new size' slabs' key bytes same_size same_slabs within is here others =
+    stands_replaced new size' slabs' key bytes same_size same_slabs within are is here others =
         subst (λ n. Stands word (pooled new n slabs' slots freed) (replaced key bytes lists)) (sym same_size)
         (subst (λ (list : List ℕ). Stands word (pooled new size list slots freed) (replaced key bytes lists)) (sym same_slabs)
         (let holds = holds_replaced slots freed (bytes_of word heap slabs size) lists stands.holds key is bytes (bytes_of word new slabs size) here
         (λ other differ used. others other (let there = used_there slots other used in omega (arith, there, within)) differ) in
-        record { holds = holds; slabs = slabs_same (index_count (replaced key bytes lists).entries) holds.indexes }))
+        record { holds = holds; freed = free_again slots freed (bytes_of word new slabs size) (replaced key bytes lists) holds are; slabs = slabs_same (index_count (replaced key bytes lists).entries) holds.indexes }))
 
-    pub stands_removed : (key : Key) (new : List Slot) (new_freed : List ℕ) → IsIn slots key → IsReleased slots freed key new new_freed → Stands word (pooled heap size slabs new new_freed) (removed key lists)
-    stands_removed key new new_freed is released =
+    pub stands_removed : (key : Key) (new : List Slot) (new_freed : List ℕ) → IsIn slots key → IsReleased slots freed key new new_freed → AreFreed new new_freed → Stands word (pooled heap size slabs new new_freed) (removed key lists)
+    stands_removed key new new_freed is released are =
         let holds = holds_removed slots freed (bytes_of word heap slabs size) lists stands.holds key is new new_freed released in
-        record { holds = holds; slabs = slabs_same (index_count (removed key lists).entries) (holds.indexes ∙ released.same) }
+        record { holds = holds; freed = free_again new new_freed (bytes_of word heap slabs size) (removed key lists) holds are; slabs = slabs_same (index_count (removed key lists).entries) (holds.indexes ∙ released.same) }
 
     -- ---- an insert
 
@@ -76,15 +77,15 @@ module _ {A : Type 0} (word : A → ℕ → ℕ) where
     stands_key key new new_freed next taken = key_is slots freed (bytes_of word heap slabs size) lists stands.holds key new new_freed next taken
 
     pub stands_inserted : (new : Dlmalloc A) (size' : ℕ) (slabs' : List ℕ) (key : Key) (bytes : List ℕ) (new_slots : List Slot) (new_freed : List ℕ) → size' ≡ size → length slots ≤ 64 * length slabs →
-        IsNext slots freed key.index new_slots new_freed → IsTaken slots key new_slots →
+        IsNext slots freed key.index new_slots new_freed → IsTaken slots key new_slots → AreFreed new_slots new_freed →
         bytes_of word new slabs' size key.index ≡ bytes → ((other : ℕ) → other < 64 * length slabs → other ≢ key.index → bytes_of word new slabs' size other ≡ bytes_of word heap slabs size other) →
         (length new_slots + 63) / 64 ≡ length slabs' →
         Stands word (pooled new size' slabs' new_slots new_freed) (inserted bytes lists)
-    stands_inserted new size' slabs' key bytes new_slots new_freed same_size within next taken here others many =
+    stands_inserted new size' slabs' key bytes new_slots new_freed same_size within next taken are here others many =
         subst (λ n. Stands word (pooled new n slabs' new_slots new_freed) (inserted bytes lists)) (sym same_size)
         (let holds = holds_inserted slots freed (bytes_of word heap slabs size) lists stands.holds key new_slots new_freed next taken bytes (bytes_of word new slabs' size) here
         (λ other differ used. others other (let there = used_there slots other used in omega (arith, there, within)) differ) in
-        record { holds = holds; slabs = ap (λ n. (n + 63) / 64) holds.indexes ∙ many })
+        record { holds = holds; freed = free_again new_slots new_freed (bytes_of word new slabs' size) (inserted bytes lists) holds are; slabs = ap (λ n. (n + 63) / 64) holds.indexes ∙ many })
 
     -- ---- what is free
 
@@ -238,14 +239,15 @@ module _ {A : Type 0} (regions : A → List Grant) (word : A → ℕ → ℕ) (f
     ]
 
     module _ (new : Dlmalloc A) (new_size : ℕ) (new_slabs : List ℕ) (bytes : List ℕ) (same_size : new_size ≡ size) (same_slabs : new_slabs ≡ slabs) where
-      pub made_stands : (lists : Lists) → Stands word old lists → length old.slots ≤ 64 * length old.slabs → bytes_of word new slabs size key.index ≡ bytes →
+      pub made_stands : (lists : Lists) → Stands word old lists → length old.slots ≤ 64 * length old.slabs → AreFreed new_slots new_freed → bytes_of word new slabs size key.index ≡ bytes →
           ((other : ℕ) → other < 64 * length slabs → other ≢ key.index → bytes_of word new slabs size other ≡ bytes_of word heap slabs size other) →
           Stands word (pooled new new_size new_slabs new_slots new_freed) (inserted bytes lists)
-      made_stands lists stands within_old here others =
+      made_stands lists stands within_old are here others =
           subst (λ list. Stands word (pooled new new_size list new_slots new_freed) (inserted bytes lists)) (sym same_slabs)
           (stands_inserted word old.heap old.size old.slabs old.slots old.freed lists stands new new_size slabs key bytes new_slots new_freed (same_size ∙ size_is) within_old
           (subst (λ list. IsNext list old.freed key.index new_slots new_freed) slots_are (subst (λ list. IsNext slots list key.index new_slots new_freed) freed_are next))
           (subst (λ list. IsTaken list key new_slots) slots_are taken)
+          are
           (ap (λ n. bytes_of word new slabs n key.index) (sym size_is) ∙ here)
           (λ other less differ. ap (λ n. bytes_of word new slabs n other) (sym size_is) ∙ (others other (let more = fewer in omega (arith, less, more)) differ ∙ object_stays other less))
           (slabs_needed (ap (λ n. (n + 63) / 64) (sym stands.holds.indexes) ∙ stands.slabs)))

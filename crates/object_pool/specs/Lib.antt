@@ -3,3 +3,4 @@ pub mod Lists
 pub mod Slots
 pub mod Pooled
 pub mod Pool
+pub mod Emptied

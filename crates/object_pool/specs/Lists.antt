@@ -1,5 +1,6 @@
 -- The plain model of a pool: what was inserted, in order, and which slots are free again.
-use Rattle.std.specs.Prelude.{◌≡◌, ℕ, zero, suc, ◌+◌, ◌-◌, ◌*◌, ◌/◌, ◌^◌, max, Bool, ◌&&◌, ◌==◌, if◌then◌else◌, List, [], ◌∷◌, ◌++◌, length, map, filter, take, slice_get, is_some, unwrap_or, Option, Some, None}
+use Rattle.std.specs.Prelude.{◌≡◌, ℕ, zero, suc, ◌+◌, ◌-◌, ◌*◌, ◌/◌, ◌^◌, max, Bool, ◌&&◌, ◌==◌, nat_lt, if◌then◌else◌, List, [], ◌∷◌, ◌++◌, length, map, filter, take, slice_get, is_some, unwrap_or, Option, Some, None}
+use Rattle.std.specs.List.{count_by}
 use Rattle.object_pool.specs.declared.key.Key.{Key}
 
 -- what was inserted once
@@ -84,6 +85,16 @@ keys_of entries = keys_at 0 (index_count entries) entries
 -- how many slabs of 64 slots there are: as many as the indexes need
 abbrev pub slab_count : List Entry → ℕ
 slab_count entries = (index_count entries + 63) / 64
+
+-- whether the slot of an index may be used again: there were objects in it, each was removed, and they were fewer than
+-- 2 ^ 32 - 1
+abbrev pub may_be_used_again : ℕ → List Entry → Bool
+may_be_used_again index entries =
+    object_count (entries_at index entries) == 0 && nat_lt 0 (length (entries_at index entries)) && nat_lt (length (entries_at index entries)) (2 ^ 32 - 1)
+
+-- the slots that are free again are, each once, those that may be used again
+abbrev pub AreFreeAgain : Lists → Type 0
+AreFreeAgain lists = (index : ℕ) → count_by (λ one. one == index) lists.freed ≡ (if may_be_used_again index lists.entries then 1 else 0)
 
 -- no slot is free: none was freed that may be used again, and each slot of the slabs was used
 abbrev pub LacksSlot : Lists → Type 0

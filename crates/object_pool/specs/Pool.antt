@@ -15,7 +15,7 @@ use Rattle.object_pool.specs.declared.pool_fault.PoolFault.{PoolFault}
 use Rattle.object_pool.specs.declared.pool_fault.PoolFault.TheVariants.{Full, Heap, OutOfMemory}
 use Rattle.object_pool.specs.declared.slots.Slot.{Slot}
 use Rattle.object_pool.specs.Bytes.{byte_in, bytes_at}
-use Rattle.object_pool.specs.Lists.{Entry, Lists, entries_at, index_count, object_count, slab_count, LacksSlot, IsFull}
+use Rattle.object_pool.specs.Lists.{Entry, Lists, entries_at, index_count, object_count, slab_count, AreFreeAgain, LacksSlot, IsFull}
 use Rattle.object_pool.specs.Pooled.{Pooled}
 use Rattle.object_pool.specs.Slots.{slot_at, used_count}
 
@@ -81,16 +81,6 @@ pub record IsAdded {A : Type 0} (regions : A → List Grant) (word : A → ℕ �
   pub only : (at n : ℕ) → IsBlock (state_of word new) at n → IsBlock (state_of word old) at n ⊎ (at ≡ address)
   pub served : HasServed regions word follows old size address new
 
--- Every slab was given back: the heap is sound, each block of it was one that is no slab, and each of these has the bytes that
--- it had. What the heap's owner set stays.
-pub record IsEmptied {A : Type 0} (regions : A → List Grant) (word : A → ℕ → ℕ) (old : Dlmalloc A) (slabs : List ℕ) (new : Dlmalloc A) : Type 0 where
-  pub sound : IsSound regions word new
-  pub linked : IsBinned regions word new
-  pub kept : KeepsOthers word slabs old new
-  pub only : (address size : ℕ) → IsBlock (state_of word new) address size → IsBlock (state_of word old) address size × IsNoSlab slabs address
-  pub granularity : new.granularity ≡ old.granularity
-  pub rate : new.rate ≡ old.rate
-
 -- ---- what a pool keeps
 
 -- Its slabs are laid out, and each slot has a place in one of them; the slots of all slabs have places in the lists.
@@ -123,10 +113,11 @@ pub record Holds (slots : List Slot) (freed : List ℕ) (bytes : ℕ → List �
   pub freed_are : lists.freed ≡ freed
   pub objects : object_count lists.entries ≡ used_count slots
 
--- A pool stands for the lists: its slots hold their entries, with the bytes that stand in its heap. There are as many slabs as
--- the slots need.
+-- A pool stands for the lists: its slots hold their entries, with the bytes that stand in its heap, and those that may be used
+-- again are the freed ones. There are as many slabs as the slots need.
 pub record Stands {A : Type 0} (word : A → ℕ → ℕ) (pool : Pooled A) (lists : Lists) : Type 0 where
   pub holds : Holds pool.slots pool.freed (bytes_of word pool.heap pool.slabs pool.size) lists
+  pub freed : AreFreeAgain lists
   pub slabs : slab_count lists.entries ≡ length pool.slabs
 
 -- ---- what the calls leave

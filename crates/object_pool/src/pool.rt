@@ -56,7 +56,8 @@ impl<A: Allocator + Memory> Model for Pool<A> {
 }
 
 impl<A: Allocator + Memory> Pool<A> {
-    ghost use Rattle.object_pool.specs.Pool.{HasRoom, IsAdded, IsEmptied, IsLaidOut, IsPoolRefused, IsRefusedBy, IsUnchanged, Keeps, KeepsAll, PlacesAreApart, Stands, StaysInState, TakesSlabIfNeeded};
+    ghost use Rattle.object_pool.specs.Emptied.{IsEmptied};
+    ghost use Rattle.object_pool.specs.Pool.{HasRoom, IsAdded, IsLaidOut, IsPoolRefused, IsRefusedBy, IsUnchanged, Keeps, KeepsAll, PlacesAreApart, Stands, StaysInState, TakesSlabIfNeeded};
 
     /// A pool without objects or slabs, for objects of `size` bytes, over a heap.
     pub fn new(alloc: Global, heap: Dlmalloc<A>, size: u64) -> Pool<A>
@@ -227,9 +228,10 @@ impl<A: Allocator + Memory> Pool<A> {
         self.slabs.heap.blocks_are_apart();
     }
 
-    /// Gives every slab back, and answers the heap: the blocks that are no slabs stand in it with the bytes that they had.
+    /// Gives every slab back, the one taken last first, and answers the heap: the blocks that are no slabs stand in it with the
+    /// bytes that they had. It asks the heap's system for nothing; what that gets back is what these frees give back.
     pub fn finish(self) -> Dlmalloc<A>
-        ensures { IsEmptied A.regions A.word self.heap self.slabs result }
+        ensures { IsEmptied A.regions A.word A.follows (A.frees self.heap.system) (A.parts self.heap.system) (A.unit self.heap.system) self.heap self.slabs result }
     {
         self.slabs.free_all()
     }

@@ -9,7 +9,8 @@ ghost use Rattle.dlmalloc.specs.Heap.{state_of, IsGranularity, IsSound};
 ghost use Rattle.dlmalloc.specs.Requested.{IsHandedOut, IsServedAt};
 ghost use Rattle.dlmalloc.specs.Served.{IsDenied, IsRefusedWith, refused_events};
 ghost use Rattle.object_pool.specs.Bytes.{AreGranted};
-ghost use Rattle.object_pool.specs.Pool.{bytes_of, place_of, IsAdded, IsEmptied, IsLaidOut, KeepsAll, KeepsOthers, StaysInState};
+ghost use Rattle.object_pool.specs.Emptied.{IsEmptied};
+ghost use Rattle.object_pool.specs.Pool.{bytes_of, place_of, IsAdded, IsLaidOut, KeepsAll, KeepsOthers, StaysInState};
 
 use crate::Bytes;
 use crate::bytes::{read_bytes, write_bytes};
@@ -160,10 +161,10 @@ impl<A: Allocator + Memory> Slabs<A> {
         }
     }
 
-    /// Gives every slab back, and answers the heap.
+    /// Gives every slab back, the last one first, and answers the heap.
     pub(crate) fn free_all(self) -> Dlmalloc<A>
         requires laid { IsLaidOut A.regions A.word self.heap self.size self.places.items }
-        ensures { IsEmptied A.regions A.word self.heap self.places.items result }
+        ensures { IsEmptied A.regions A.word A.follows (A.frees self.heap.system) (A.parts self.heap.system) (A.unit self.heap.system) self.heap self.places.items result }
     {
         let mut heap = self.heap;
         let mut places = self.places;

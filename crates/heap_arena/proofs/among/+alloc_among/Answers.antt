@@ -1,15 +1,14 @@
 use Rattle.std.specs.Prelude.{ℕ, ◌≡◌, ◌+◌, ◌<◌, ◌⊎◌, [], ◌∷◌, ◌-◌, max, List, Some, length, slice_index_or, slice_set}
 use Rattle.std.specs.List.{AllByRecursion}
 use Rattle.heap_memory.specs.Regions.{IsApart, with_grant}
-use Rattle.heap_arena.specs.Arenas.{place_for, regions_of_all}
+use Rattle.heap_arena.specs.Arenas.{place_for, regions_of_all, AreAfter}
 use borrow.Rule.Slice.PartMut.{put_mid}
 use Rattle.std.proofs.Common.{◌∙◌, rules, refl, sym, ap, subst, inl, inr, arith}
 use Rattle.heap_memory.specs.declared.grant.Grant.{Grant}
 use Rattle.heap_memory.specs.Events.{Granted}
 use Rattle.heap_arena.specs.declared.arena.Arena.{Arena}
-use Rattle.heap_arena.specs.Arena.{IsArenaAfter, IsSameArena}
-use Rattle.heap_arena.specs.ArenaLaws.{after_others}
-use Rattle.heap_arena.proofs.ArenaLists.{zip_first, set_same, of_grant, grant_ends, rest_of, apart_first, regions_first, apart_rest, regions_rest}
+use Rattle.heap_arena.specs.Arena.{IsSameArena}
+use Rattle.heap_arena.proofs.ArenaLists.{zip_first, set_same, of_grant, grant_ends, rest_of, apart_first, regions_first, apart_rest, regions_rest, after_first, after_rest}
 use Rattle.heap_arena.proofs.among.+alloc_among.Goals as goal
 
 pub returns-in-Ok-clause-by_one : goal.returns-in-Ok-clause-by_one
@@ -40,7 +39,26 @@ returns-in-Ok-clause-regions t c =
 
 pub returns-in-Ok-clause-after : goal.returns-in-Ok-clause-after
 returns-in-Ok-clause-after t c =
-    zip_first (λ x y. IsArenaAfter x (Granted c.args.size c.in-Ok.grant ∷ []) y) (after_others (Granted c.args.size c.in-Ok.grant ∷ [])) c.args.arenas.now c.index-arenas-0.result c.alloc.new.self (search rules) c.in-Ok.ensures.follows
+    let arenas = c.args.arenas.now in
+    let first : Arena = slice_index_or arenas 0 c.index-arenas-0.result in
+    let ends = grant_ends first c.in-Ok.grant c.args.size c.in-Ok.ensures.place c.in-Ok.ensures.room in
+    let size : c.in-Ok.grant.size ≡ c.args.size = ap (λ (g : Grant). g.size) c.in-Ok.ensures.place in
+    let some = c.requires.some in
+    after_first c.in-Ok.grant c.args.size arenas c.index-arenas-0.result c.alloc.new.self (search rules) c.requires.order (omega (arith, ends, size, some)) c.in-Ok.ensures.follows
+
+pub returns-in-Err-clause-after : goal.returns-in-Err-clause-after
+returns-in-Err-clause-after t c =
+    let arenas = c.args.arenas.now in
+    let size = c.args.size in
+    let news = c.alloc_among.new.arenas in
+    let some : 0 < length arenas = search rules in
+    let same : slice_set arenas 0 c.alloc.new.self ≡ arenas = set_same arenas c.index-arenas-0.result c.alloc.new.self some c.in-Err.ensures.same in
+    of_grant (λ grant. (place_for (rest_of (slice_set arenas 0 c.alloc.new.self)) size ≡ Some grant.base) × (grant.size ≡ size) × (grant.flags ≡ 0))
+    (λ grant. AreAfter (rest_of (slice_set arenas 0 c.alloc.new.self)) (Granted size grant ∷ []) news)
+    (λ grant. AreAfter arenas (Granted size grant ∷ []) (put_mid 1 (length (slice_set arenas 0 c.alloc.new.self) - 1) (slice_set arenas 0 c.alloc.new.self) news)) c.alloc_among.result
+    (λ grant place after. subst (λ (xs : List Arena). AreAfter arenas (Granted size grant ∷ []) (put_mid 1 (length xs - 1) xs news)) (sym same)
+    (after_rest grant size arenas news some c.requires.order (ap (λ (xs : List Arena). place_for (rest_of xs) size) (sym same) ∙ place.0)
+    (subst (λ (xs : List Arena). AreAfter (rest_of xs) (Granted size grant ∷ []) news) same after))) c.alloc_among.ensures.place c.alloc_among.ensures.after
 
 pub returns-in-Err-clause-apart : goal.returns-in-Err-clause-apart
 returns-in-Err-clause-apart t c =

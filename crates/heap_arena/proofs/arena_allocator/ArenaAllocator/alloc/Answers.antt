@@ -1,7 +1,9 @@
-use Rattle.std.proofs.Common.{◌+◌, arith}
+use Rattle.std.specs.Prelude.{◌≡◌, ◌+◌, Bool, max, true, if◌then◌else◌}
+use Rattle.std.proofs.Common.{◌∙◌, arith, ap, sym, refl}
 use Rattle.std.proofs.lemmas.Bool.Decides.{nat_tests}
 use Rattle.heap_memory.specs.declared.grant.Grant.{Grant}
-use Rattle.heap_arena.specs.Arena.{regions_of}
+use Rattle.heap_memory.specs.Runs.{begins_in}
+use Rattle.heap_arena.specs.Arena.{regions_of, end_of}
 use Rattle.heap_arena.proofs.GrantLemmas.{whole_more, ordered_more, between_more}
 use Rattle.heap_arena.proofs.arena_allocator.ArenaAllocator.alloc.Goals as goal
 
@@ -22,3 +24,18 @@ invariant_of-self-clause-between c =
     let arena = c.args.self.now in
     let grant : Grant = record { base = arena.top; size = c.args.size; flags = 0 } in
     rw c.push.ensures.grants (between_more arena.base arena.top (arena.top + c.args.size) (regions_of arena) grant arena.between arena.begins (omega arith) (omega arith))
+
+pub returns-clause-follows : goal.returns-clause-follows
+returns-clause-follows c =
+    let arena = c.args.self.now in
+    let grant : Grant = record { base = arena.top; size = c.args.size; flags = 0 } in
+    let begins = arena.begins in
+    let some = c.requires.some in
+    let own : begins_in arena.base (end_of arena) grant ≡ true = grind (arith, nat_tests, begins, some) in
+    record {
+      same = record { base = refl; len = refl; table = c.push.ensures.len };
+      placed = (λ is. (refl, refl), tt);
+      top = sym (ap (λ (is : Bool). if is then arena.top + c.args.size else arena.top) own);
+      peak = c.max-self.ensures ∙ sym (ap (λ (is : Bool). if is then max arena.peak (arena.top + c.args.size) else arena.peak) own);
+      untouched = λ i behind. refl;
+    }

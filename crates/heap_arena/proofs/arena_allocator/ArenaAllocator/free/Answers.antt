@@ -1,7 +1,8 @@
-use Rattle.std.proofs.Common.{◌∙◌, ◌+◌, ◌^◌, ◌<◌, arith}
+use Rattle.std.proofs.Common.{◌∙◌, ◌+◌, ◌^◌, ◌<◌, arith, refl}
 use Rattle.heap_memory.specs.RunLaws.{run_aligned, run_bounded}
 use Rattle.heap_arena.specs.Arena.{regions_of}
-use Rattle.heap_arena.proofs.GrantLemmas.{run_within, run_below, top_after}
+use Rattle.heap_arena.proofs.GrantLemmas.{run_within, run_below, top_of_run}
+use Rattle.heap_arena.proofs.ArenaLists.{taken_after}
 use Rattle.heap_arena.proofs.arena_allocator.ArenaAllocator.free.Goals as goal
 
 pub overflow_add-at : goal.overflow_add-at
@@ -17,4 +18,7 @@ returns-clause-top c =
     let arena = c.args.self.now in
     let begins = run_within arena.base arena.top c.args.at (c.args.at + c.args.size) (regions_of arena) arena.between c.requires in
     let ends = run_below arena.base arena.top c.args.at (c.args.at + c.args.size) (regions_of arena) arena.between c.requires in
-    c.take_back.ensures.top ∙ top_after arena.base arena.top c.args.at (c.args.at + c.args.size) (omega (arith, begins)) (omega arith) ends
+    c.take_back.ensures.top ∙ top_of_run arena.base arena.top c.args.at (c.args.at + c.args.size) (omega (arith, begins)) (omega arith) ends
+
+pub returns-clause-follows : goal.returns-clause-follows
+returns-clause-follows c = taken_after c.args.at (c.args.at + c.args.size) c.args.self.now _ c.take_back.ensures c.args.at c.args.size 0 (omega arith) refl

@@ -1,6 +1,6 @@
 use Rattle.std.specs.Prelude.{◌≡◌, ◌+◌, ◌%◌, ◌^◌, ◌<◌, [], ◌∷◌, List}
 use Rattle.std.specs.List.{AllZip}
-use Rattle.std.proofs.Common.{◌∙◌, rules, ap, subst, arith}
+use Rattle.std.proofs.Common.{◌∙◌, rules, ap, subst, arith, refl}
 use Rattle.heap_memory.specs.Events.{Released}
 use Rattle.heap_memory.specs.RunLaws.{run_aligned, run_bounded}
 use Rattle.heap_arena.specs.declared.arena.Arena.{Arena}
@@ -47,4 +47,4 @@ returns-clause-follows g c =
     let olds = c.args.self.now.arenas.items in
     let news = c.take_back_among.new.arenas in
     let taken = subst (λ (xs : List Arena). AllZip (λ x y. IsTakenBack (c.args.at + c.args.new_size) (c.args.at + c.args.old_size) x y) xs news) c.as_mut_slice.ensures.value c.take_back_among.ensures.taken in
-    rw (refilled olds news (search rules)) (zip_map (λ x y. IsTakenBack (c.args.at + c.args.new_size) (c.args.at + c.args.old_size) x y) (λ x y. IsArenaAfter x (Released c.args.at c.args.old_size c.args.new_size ∷ []) y) (λ x y back. taken_after (c.args.at + c.args.new_size) (c.args.at + c.args.old_size) x y back c.args.at c.args.old_size c.args.new_size) olds news taken)
+    rw (refilled olds news (search rules)) (zip_map (λ x y. IsTakenBack (c.args.at + c.args.new_size) (c.args.at + c.args.old_size) x y) (λ x y. IsArenaAfter x (Released c.args.at c.args.old_size c.args.new_size ∷ []) y) (λ x y back. taken_after (c.args.at + c.args.new_size) (c.args.at + c.args.old_size) x y back c.args.at c.args.old_size c.args.new_size refl refl) olds news taken)

@@ -45,7 +45,7 @@ returns-clause-after g c = λ lists stands.
     (subst (λ mid. HasRoom g.A.Links.regions g.A.Links.word g.A.Links.follows c.args.self.now mid) (sym c.self.view_is) c.in_ok-make_room.ensures.room) c.self.invariant.within
     c.take-key.result c.take-key.new.self.slots.items c.take-key.new.self.freed.items c.take-key.ensures.next c.take-key.ensures.taken
     c.write.new.self.heap c.write.new.self.size c.write.new.self.places.items c.args.bytes.now c.write.ensures.size (ap (λ places. places.items) c.write.ensures.places)
-    lists stands c.make_room.ensures.within c.write.ensures.here c.write.ensures.others
+    lists stands c.make_room.ensures.within c.take-key.new.self.freed_are c.write.ensures.here c.write.ensures.others
 
 pub returns-clause-kept : goal.returns-clause-kept
 returns-clause-kept g c =

@@ -21,4 +21,4 @@ pub returns-clause-after : goal.returns-clause-after
 returns-clause-after g c = λ lists stands yes.
     let p = c.self.inside in
     stands_removed g.A.Links.word p.slabs.heap p.slabs.size p.slabs.places.items p.slots.slots.items p.slots.freed.items lists (subst (λ pool. Stands g.A.Links.word pool lists) (sym c.self.view_is) stands)
-    c.args.key c.release.new.self.slots.items c.release.new.self.freed.items (c.has.ensures.0 c.if-not-has.false) c.release.ensures.released
+    c.args.key c.release.new.self.slots.items c.release.new.self.freed.items (c.has.ensures.0 c.if-not-has.false) c.release.ensures.released c.release.new.self.freed_are

@@ -21,7 +21,7 @@ pub returns-clause-after : goal.returns-clause-after
 returns-clause-after g c = λ lists stands yes.
     let p = c.self.inside in
     stands_replaced g.A.Links.word p.slabs.heap p.slabs.size p.slabs.places.items p.slots.slots.items p.slots.freed.items lists (subst (λ pool. Stands g.A.Links.word pool lists) (sym c.self.view_is) stands)
-    c.write.new.self.heap c.write.new.self.size c.write.new.self.places.items c.args.key c.args.bytes.now c.write.ensures.size (ap (λ places. places.items) c.write.ensures.places) c.self.invariant.within
+    c.write.new.self.heap c.write.new.self.size c.write.new.self.places.items c.args.key c.args.bytes.now c.write.ensures.size (ap (λ places. places.items) c.write.ensures.places) c.self.invariant.within p.slots.freed_are
     (c.has.ensures.0 c.if-not-has.false) c.write.ensures.here c.write.ensures.others
 
 pub returns-clause-kept : goal.returns-clause-kept
