@@ -5,3 +5,4 @@ mod Counting
 mod MarkLemmas
 mod Marking
 mod MemoryParts
+mod Room

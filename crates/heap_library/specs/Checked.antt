@@ -1,5 +1,6 @@
 -- A heap over an arena, and what its marks say (own).
 use Rattle.std.specs.Prelude.{◌≡◌, ℕ, ◌+◌, ◌-◌, ◌*◌, ◌/◌, ◌^◌, ◌<◌, ◌≤◌, min, Bool, true, false, List, length, take, drop, replicate}
+use Rattle.std.specs.Int.{div_ceil}
 use Rattle.heap_memory.specs.declared.grant.GrantFault.{GrantFault}
 use Rattle.heap_memory.specs.Events.{Event}
 use Rattle.dlmalloc.specs.State.{HeapState}
@@ -15,8 +16,8 @@ use Rattle.heap_library.specs.Counted.{counted}
 abbrev pub zeros : Arena → Bool
 zeros arena = false
 
--- what a heap over an arena says of the time between two moments: the words behind its peak are as they were, and the peak
--- rose by no more than was granted
+-- what a heap over an arena says of the time between two moments: its top and its peak are where what was granted and what came
+-- back left them, and the words behind the peak are as they were
 abbrev pub follows : Arena → List Event → Arena → Type 0
 follows old events new = IsArenaAfter old events new
 
@@ -40,26 +41,26 @@ pub record IsMarked (base : ℕ) (marks : List ℕ) (count : ℕ) (heap : Dlmall
   pub blocks : (address : ℕ) → is_marked base marks address ≡ true → HasBlock (heap_state heap) address
   pub marked : (address : ℕ) → HasBlock (heap_state heap) address → is_marked base marks address ≡ true
 
--- Of the words of one memory: those that are left beside a bit for each two of all; of them two for each 4096, for the table;
--- and the others.
+-- Of the words of one memory: those that are left beside a bit for each two of all; of them those for the table, which has a
+-- place of two words beside each granularity of bytes; and the others.
 abbrev pub left_beside_marks : ℕ → ℕ
 left_beside_marks count = count - (count + 127) / 128
 
-abbrev pub table_in : ℕ → ℕ
-table_in rest = min rest (2 * ((rest + 4095) / 4096))
+abbrev pub table_in : (granularity rest : ℕ) → ℕ
+table_in granularity rest = min rest (2 * div_ceil rest (granularity / 8 + 2))
 
-abbrev pub table_of : ℕ → ℕ
-table_of count = table_in (left_beside_marks count)
+abbrev pub table_of : (granularity count : ℕ) → ℕ
+table_of granularity count = table_in granularity (left_beside_marks count)
 
-abbrev pub left_for_words : ℕ → ℕ
-left_for_words count = left_beside_marks count - table_of count
+abbrev pub left_for_words : (granularity count : ℕ) → ℕ
+left_for_words granularity count = left_beside_marks count - table_of granularity count
 
 -- Where they stand: those for blocks from the first one on, those for the table behind them, and those for the marks at the end.
-abbrev pub words_for_blocks : List ℕ → List ℕ
-words_for_blocks memory = take (left_for_words (length memory)) memory
+abbrev pub words_for_blocks : (granularity : ℕ) → List ℕ → List ℕ
+words_for_blocks granularity memory = take (left_for_words granularity (length memory)) memory
 
-abbrev pub words_for_table : List ℕ → List ℕ
-words_for_table memory = drop (left_for_words (length memory)) (take (left_beside_marks (length memory)) memory)
+abbrev pub words_for_table : (granularity : ℕ) → List ℕ → List ℕ
+words_for_table granularity memory = drop (left_for_words granularity (length memory)) (take (left_beside_marks (length memory)) memory)
 
 -- the words of a memory that are for the marks are 0
 abbrev pub IsCleared : List ℕ → Type 0

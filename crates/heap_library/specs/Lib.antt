@@ -2,3 +2,4 @@ pub mod Checked
 pub mod Counted
 pub mod Library
 pub mod Marks
+pub mod Room

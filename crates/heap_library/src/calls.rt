@@ -6,7 +6,7 @@ ghost use Rattle.dlmalloc.specs.Blocks.{BlocksAreApart};
 ghost use Rattle.dlmalloc.specs.Heap.{state_of, IsSound};
 ghost use Rattle.dlmalloc.specs.Served.{IsRefusedWith, IsListed};
 ghost use Rattle.dlmalloc.specs.AfterFree.{IsFreed};
-ghost use Rattle.dlmalloc.specs.Requested.{asked, IsHandedOut, IsServedAt};
+ghost use Rattle.dlmalloc.specs.Requested.{asked, IsHandedOut, IsServedAt, IsMemberServed};
 ghost use Rattle.dlmalloc.specs.Written.{IsServedCleared};
 ghost use Rattle.dlmalloc_chunks.specs.Request.{padded};
 ghost use Rattle.dlmalloc.specs.Resized.{in_place};
@@ -45,6 +45,7 @@ pub(crate) fn hand_out<A: Allocator, L: Ledger>(
     ensures ok { IfOk result (λ address. IsHandedOut A.regions A.word A.follows heap.old size align address heap.new) }
     ensures served { cleared ≡ false → IfOk result (λ address. IsServedAt A.regions A.word A.zeros A.follows heap.old size align address heap.new) }
     ensures served_cleared { cleared ≡ true → IfOk result (λ address. IsServedCleared A.regions A.word A.zeros A.follows heap.old size align address heap.new) }
+    ensures member { IfOk result (λ address. IsMemberServed A.regions A.word heap.old size align address) }
     ensures zeros { cleared ≡ true → IfOk result (λ address. AreZero (A.word heap.new.system) address size) }
     ensures err { IfErr result (λ error. IsRefusedWith A.regions A.word A.follows A.refuses A.denies heap.old (asked size align) error heap.new) }
     ensures sound { IsSound A.regions A.word heap.new }
@@ -76,6 +77,7 @@ pub(crate) fn resize<A: Allocator, L: Ledger>(
     requires block { HasBlock (state_of A.word heap.old) address }
     ensures resized { IfOk result (λ to. IsResized A.regions A.word A.zeros A.follows (A.frees heap.old.system) (A.parts heap.old.system) (A.unit heap.old.system) heap.old address (usable (state_of A.word heap.old) address) 16 size to heap.new) }
     ensures ok { IfOk result (λ to. IsGivenSize A.regions A.word A.follows (A.frees heap.old.system) (A.parts heap.old.system) (A.unit heap.old.system) heap.old address (usable (state_of A.word heap.old) address) 16 size to heap.new) }
+    ensures member { IfOk result (λ to. to ≢ address → IsMemberServed A.regions A.word heap.old size 16 to) }
     ensures err { IfErr result (λ error. IsRefusedWith A.regions A.word A.follows A.refuses A.denies heap.old size error heap.new) }
     ensures tried { IfErr result (λ error. error ≢ MallocError.TooLarge → in_place (state_of A.word heap.old) (address - 16) (padded size) ≡ None) }
     ensures sound { IsSound A.regions A.word heap.new }

@@ -4,6 +4,7 @@ ghost use Rattle.heap_memory.specs.Regions.{is_granted};
 ghost use Rattle.heap_arena.specs.Arena.{regions_of};
 ghost use Rattle.heap_library.specs.Marks.{is_marked};
 ghost use Rattle.heap_library.specs.Counted.{counted};
+ghost use Rattle.heap_library.specs.Checked.{table_in};
 
 use crate::heap::Heap;
 use crate::heap_error::HeapError;
@@ -12,6 +13,9 @@ use dlmalloc::ExtentList;
 use heap_arena::Arena;
 use std::alloc::{AllocError, Global};
 use std::marker::Model;
+
+/// The granularity of a heap for which none is given, in bytes.
+pub const GRANULARITY: u64 = 65536;
 
 /// A heap over words of the caller. Its marks stand where blocks begin, and nowhere else.
 #[derive(Drop)]
@@ -51,14 +55,22 @@ fn mark<'a>(marks: &mut Marks<'a>, heap: &Heap<Arena<'a>>, address: u64)
     marks.set(address);
 }
 
+/// How many of the words beside the marks are for the table: two for each granularity of bytes that the others have.
+fn words_for_table(rest: usize, granularity: u64) -> usize
+    ensures { result ≡ table_in granularity rest }
+{
+    let places = rest.div_ceil((granularity / 8) as usize + 2);
+    places.saturating_mul(2).min(rest)
+}
+
 impl<'a> CheckedHeap<'a> {
     ghost use Rattle.std.specs.Prelude.{◌≡◌, ◌≢◌, ◌↔◌, ℕ, ◌+◌, ◌-◌, ◌*◌, ◌/◌, ◌%◌, ◌^◌, ◌<◌, ◌≤◌, min, true, false, [], if◌then◌else◌, Some, None, IfOk, IfErr, IfSome, IfNone, IsTrue, length, take, drop};
     ghost use Rattle.std.specs.Int.{IsPowerOfTwo};
     ghost use Rattle.heap_memory.specs.Words.{IsStored};
-    ghost use Rattle.dlmalloc.specs.State.{new_heap};
+    ghost use Rattle.dlmalloc.specs.State.{new_heap, countdown_from};
     ghost use Rattle.dlmalloc.specs.Heap.{IsGranularity};
     ghost use Rattle.dlmalloc.specs.Blocks.{ArePlaced, BlocksAreApart};
-    ghost use Rattle.dlmalloc.specs.Requested.{IsHandedOut, IsServedAt};
+    ghost use Rattle.dlmalloc.specs.Requested.{IsHandedOut, IsServedAt, IsMemberServed};
     ghost use Rattle.dlmalloc.specs.Written.{IsServedCleared};
     ghost use Rattle.dlmalloc.specs.Moved.{IsGivenSize, IsResized};
     ghost use Rattle.dlmalloc.specs.AfterFree.{IsFreed};
@@ -69,6 +81,7 @@ impl<'a> CheckedHeap<'a> {
     ghost use Rattle.heap_library.specs.Counted.{HasBlocks, counted};
     ghost use Rattle.heap_library.specs.Checked.{zeros, follows, refuses, denies, heap_state, table_in, table_of, left_for_words, words_for_blocks, words_for_table, IsCleared};
     ghost use Rattle.heap_library.specs.Marks.{is_marked};
+    ghost use Rattle.heap_library.specs.Room.{IsRefused, IsRefusedResize};
 
     /// An empty heap over words, the first of them at the address `base`. It has a bit of `marks` for each 16 bytes, and
     /// takes no more words than these are for; in `table` it notes what it was granted, in two words for each grant. Words
@@ -96,8 +109,8 @@ impl<'a> CheckedHeap<'a> {
     }
 
     /// An empty heap over one memory, the first word of it at the address `base`. Its last words are for the marks, and
-    /// those before them for the table, which has a place for a grant of each 32 KiB. All but the marks are as they were
-    /// given.
+    /// those before them for the table, which has a place for each 64 KiB of the others. All but the marks are as they
+    /// were given.
     #[tactic(auto, using(crate::proofs::MemoryParts::blocks_of_front, crate::proofs::MemoryParts::table_of_front))]
     pub fn over(memory: &'a mut [u64], base: u64) -> CheckedHeap<'a>
         requires aligned { base % 16 ≡ 0 }
@@ -108,19 +121,42 @@ impl<'a> CheckedHeap<'a> {
         ensures base { result.system.base ≡ base }
         ensures top { result.system.top ≡ base }
         ensures peak { result.system.peak ≡ base }
-        ensures words { result.system.words.now ≡ words_for_blocks memory.entry.now }
-        ensures len { length result.system.words.now ≡ left_for_words (length memory.entry.now) }
-        ensures table { result.system.table.words.now ≡ words_for_table memory.entry.now }
-        ensures table_len { length result.system.table.words.now ≡ table_of (length memory.entry.now) }
+        ensures words { result.system.words.now ≡ words_for_blocks 65536 memory.entry.now }
+        ensures len { length result.system.words.now ≡ left_for_words 65536 (length memory.entry.now) }
+        ensures table { result.system.table.words.now ≡ words_for_table 65536 memory.entry.now }
+        ensures table_len { length result.system.table.words.now ≡ table_of 65536 (length memory.entry.now) }
     {
         let count = memory.len();
         let (front, marks) = memory.split_at_mut(count - count.div_ceil(128));
-        CheckedHeap::over_front(front, Marks::new(marks, base), base)
+        CheckedHeap::over_front(front, Marks::new(marks, base), base, GRANULARITY)
     }
 
-    /// As `over`, where the words for the marks are 0 already: no word is touched.
+    /// As `over`, with a granularity, where the words for the marks are 0 already: no word is touched. The table has a
+    /// place for each granularity of bytes.
+    pub fn over_cleared(memory: &'a mut [u64], base: u64, granularity: u64) -> CheckedHeap<'a>
+        requires aligned { base % 16 ≡ 0 }
+        requires low { 4096 ≤ base }
+        requires high { base + 8 * length memory.now < 2 ^ 64 }
+        requires cleared { IsCleared memory.now }
+        requires granularity { IsGranularity granularity }
+        ensures state { heap_state result ≡ record new_heap { granularity = granularity } }
+        ensures regions { regions_of result.system ≡ [] }
+        ensures base { result.system.base ≡ base }
+        ensures top { result.system.top ≡ base }
+        ensures peak { result.system.peak ≡ base }
+        ensures words { result.system.words.now ≡ words_for_blocks granularity memory.entry.now }
+        ensures len { length result.system.words.now ≡ left_for_words granularity (length memory.entry.now) }
+        ensures table { result.system.table.words.now ≡ words_for_table granularity memory.entry.now }
+        ensures table_len { length result.system.table.words.now ≡ table_of granularity (length memory.entry.now) }
+    {
+        let mut heap = CheckedHeap::over_zeros(memory, base, granularity);
+        heap.set_granularity(granularity);
+        heap
+    }
+
+    /// So is this one, whose granularity is that of a new heap still.
     #[tactic(auto, using(crate::proofs::Cleared::clear_rest, crate::proofs::MemoryParts::blocks_of_front, crate::proofs::MemoryParts::table_of_front))]
-    pub fn over_cleared(memory: &'a mut [u64], base: u64) -> CheckedHeap<'a>
+    fn over_zeros(memory: &'a mut [u64], base: u64, granularity: u64) -> CheckedHeap<'a>
         requires aligned { base % 16 ≡ 0 }
         requires low { 4096 ≤ base }
         requires high { base + 8 * length memory.now < 2 ^ 64 }
@@ -130,19 +166,24 @@ impl<'a> CheckedHeap<'a> {
         ensures base { result.system.base ≡ base }
         ensures top { result.system.top ≡ base }
         ensures peak { result.system.peak ≡ base }
-        ensures words { result.system.words.now ≡ words_for_blocks memory.entry.now }
-        ensures len { length result.system.words.now ≡ left_for_words (length memory.entry.now) }
-        ensures table { result.system.table.words.now ≡ words_for_table memory.entry.now }
-        ensures table_len { length result.system.table.words.now ≡ table_of (length memory.entry.now) }
+        ensures words { result.system.words.now ≡ words_for_blocks granularity memory.entry.now }
+        ensures len { length result.system.words.now ≡ left_for_words granularity (length memory.entry.now) }
+        ensures table { result.system.table.words.now ≡ words_for_table granularity memory.entry.now }
+        ensures table_len { length result.system.table.words.now ≡ table_of granularity (length memory.entry.now) }
     {
         let count = memory.len();
         let (front, zeros) = memory.split_at_mut(count - count.div_ceil(128));
-        CheckedHeap::over_front(front, Marks::over_zeros(zeros, base), base)
+        CheckedHeap::over_front(front, Marks::over_zeros(zeros, base), base, granularity)
     }
 
     /// An empty heap over words and a table, in this order, and marks of which none is set.
     #[tactic(auto, using(crate::proofs::MemoryParts::blocks_of_parts, crate::proofs::MemoryParts::table_of_parts))]
-    fn over_front(front: &'a mut [u64], marks: Marks<'a>, base: u64) -> CheckedHeap<'a>
+    fn over_front(
+        front: &'a mut [u64],
+        marks: Marks<'a>,
+        base: u64,
+        granularity: u64,
+    ) -> CheckedHeap<'a>
         requires aligned { base % 16 ≡ 0 }
         requires low { 4096 ≤ base }
         requires high { base + 8 * length front.now < 2 ^ 64 }
@@ -155,13 +196,13 @@ impl<'a> CheckedHeap<'a> {
         ensures base { result.system.base ≡ base }
         ensures top { result.system.top ≡ base }
         ensures peak { result.system.peak ≡ base }
-        ensures words { result.system.words.now ≡ take (length front.entry.now - table_in (length front.entry.now)) front.entry.now }
-        ensures len { length result.system.words.now ≡ length front.entry.now - table_in (length front.entry.now) }
-        ensures table { result.system.table.words.now ≡ drop (length front.entry.now - table_in (length front.entry.now)) front.entry.now }
-        ensures table_len { length result.system.table.words.now ≡ table_in (length front.entry.now) }
+        ensures words { result.system.words.now ≡ take (length front.entry.now - table_in granularity (length front.entry.now)) front.entry.now }
+        ensures len { length result.system.words.now ≡ length front.entry.now - table_in granularity (length front.entry.now) }
+        ensures table { result.system.table.words.now ≡ drop (length front.entry.now - table_in granularity (length front.entry.now)) front.entry.now }
+        ensures table_len { length result.system.table.words.now ≡ table_in granularity (length front.entry.now) }
     {
         let rest = front.len();
-        let (words, table) = front.split_at_mut(rest - (2 * rest.div_ceil(4096)).min(rest));
+        let (words, table) = front.split_at_mut(rest - words_for_table(rest, granularity));
         CheckedHeap::with_marks(words, marks, table, base)
     }
 
@@ -205,6 +246,15 @@ impl<'a> CheckedHeap<'a> {
         self.heap.set_granularity(granularity)
     }
 
+    /// Sets how many large chunks are freed between two release passes, and begins to count them anew. With 0 there is no
+    /// such pass.
+    pub fn set_release_rate(&mut self, rate: u64)
+        ensures state { heap_state self.new ≡ record (heap_state self.old) { rate = rate; countdown = countdown_from rate } }
+        ensures system { self.new.system ≡ self.old.system }
+    {
+        self.heap.set_release_rate(rate);
+    }
+
     /// Whether a block begins at an address, which may be any.
     pub fn has_block(&self, address: u64) -> bool
         ensures { IsTrue result ↔ HasBlock (heap_state self.now) address }
@@ -216,9 +266,12 @@ impl<'a> CheckedHeap<'a> {
     pub fn malloc(&mut self, size: u64, align: u64) -> Result<u64, HeapError>
         ensures ok { IfOk result (λ address. IsHandedOut regions_of word_of follows self.old size align address self.new) }
         ensures served { IfOk result (λ address. IsServedAt regions_of word_of zeros follows self.old size align address self.new) }
+        ensures member { IfOk result (λ address. IsMemberServed regions_of word_of self.old size align address) }
         ensures enough { IfOk result (λ address. size ≤ usable (heap_state self.new) address) }
         ensures power { IfOk result (λ address. IsPowerOfTwo align) }
         ensures err { IfErr result (λ error. IsRequestRefused regions_of word_of follows refuses denies self.old size align error self.new) }
+        ensures refused { IfErr result (λ error. IsRefused self.old size align) }
+        ensures room { IfOk result (λ address. IsRefused self.old size align → ⊥) }
         ensures apart { BlocksAreApart (heap_state self.new) }
     {
         match self.heap.malloc(size, align) {
@@ -235,9 +288,12 @@ impl<'a> CheckedHeap<'a> {
         ensures ok { IfOk result (λ address. IsHandedOut regions_of word_of follows self.old size align address self.new) }
         ensures served { IfOk result (λ address. IsServedCleared regions_of word_of zeros follows self.old size align address self.new) }
         ensures zeros { IfOk result (λ address. AreZero (word_of self.new.system) address size) }
+        ensures member { IfOk result (λ address. IsMemberServed regions_of word_of self.old size align address) }
         ensures enough { IfOk result (λ address. size ≤ usable (heap_state self.new) address) }
         ensures power { IfOk result (λ address. IsPowerOfTwo align) }
         ensures err { IfErr result (λ error. IsRequestRefused regions_of word_of follows refuses denies self.old size align error self.new) }
+        ensures refused { IfErr result (λ error. IsRefused self.old size align) }
+        ensures room { IfOk result (λ address. IsRefused self.old size align → ⊥) }
         ensures apart { BlocksAreApart (heap_state self.new) }
     {
         match self.heap.calloc(size, align) {
@@ -255,8 +311,11 @@ impl<'a> CheckedHeap<'a> {
         ensures block { IfOk result (λ to. HasBlock (heap_state self.old) from) }
         ensures resized { IfOk result (λ to. IsResized regions_of word_of zeros follows true true 1 self.old from (usable (heap_state self.old) from) 16 size to self.new) }
         ensures ok { IfOk result (λ to. IsGivenSize regions_of word_of follows true true 1 self.old from (usable (heap_state self.old) from) 16 size to self.new) }
+        ensures member { IfOk result (λ to. to ≢ from → IsMemberServed regions_of word_of self.old size 16 to) }
         ensures enough { IfOk result (λ to. size ≤ usable (heap_state self.new) to) }
         ensures err { IfErr result (λ error. IsResizeRefused regions_of word_of follows refuses denies self.old from size error self.new) }
+        ensures refused { IfErr result (λ error. IsRefusedResize self.old from size) }
+        ensures room { IfOk result (λ to. IsRefusedResize self.old from size → ⊥) }
         ensures apart { BlocksAreApart (heap_state self.new) }
     {
         if !self.has_block(from) {

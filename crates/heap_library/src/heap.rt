@@ -25,12 +25,12 @@ impl<A: Allocator> Model for Heap<A> {
 }
 
 impl<A: Allocator> Heap<A> {
-    ghost use Rattle.std.specs.Prelude.{◌≡◌, ◌↔◌, ◌≤◌, true, false, if◌then◌else◌, IfOk, IfErr, IsTrue};
+    ghost use Rattle.std.specs.Prelude.{◌≡◌, ◌≢◌, ◌↔◌, ◌≤◌, true, false, if◌then◌else◌, IfOk, IfErr, IsTrue};
     ghost use Rattle.std.specs.Int.{IsPowerOfTwo};
-    ghost use Rattle.dlmalloc.specs.State.{new_heap};
+    ghost use Rattle.dlmalloc.specs.State.{new_heap, countdown_from};
     ghost use Rattle.dlmalloc.specs.Heap.{state_of, IsGranularity};
     ghost use Rattle.dlmalloc.specs.Blocks.{ArePlaced, BlocksAreApart};
-    ghost use Rattle.dlmalloc.specs.Requested.{IsHandedOut, IsServedAt};
+    ghost use Rattle.dlmalloc.specs.Requested.{IsHandedOut, IsServedAt, IsMemberServed};
     ghost use Rattle.dlmalloc.specs.Written.{IsServedCleared};
     ghost use Rattle.dlmalloc.specs.Moved.{IsGivenSize, IsResized};
     ghost use Rattle.dlmalloc.specs.AfterFree.{IsFreed};
@@ -58,10 +58,20 @@ impl<A: Allocator> Heap<A> {
         self.heap.set_granularity(granularity)
     }
 
+    /// Sets how many large chunks are freed between two release passes, and begins to count them anew. With 0 there is no
+    /// such pass.
+    pub fn set_release_rate(&mut self, rate: u64)
+        ensures state { state_of A.word self.new ≡ record (state_of A.word self.old) { rate = rate; countdown = countdown_from rate } }
+        ensures system { self.new.system ≡ self.old.system }
+    {
+        self.heap.set_max_release_check_rate(rate);
+    }
+
     /// The address of a block of `size` bytes, at a multiple of `align` and of 16.
     pub fn malloc(&mut self, size: u64, align: u64) -> Result<u64, HeapError>
         ensures ok { IfOk result (λ address. IsHandedOut A.regions A.word A.follows self.old size align address self.new) }
         ensures served { IfOk result (λ address. IsServedAt A.regions A.word A.zeros A.follows self.old size align address self.new) }
+        ensures member { IfOk result (λ address. IsMemberServed A.regions A.word self.old size align address) }
         ensures enough { IfOk result (λ address. size ≤ usable (state_of A.word self.new) address) }
         ensures power { IfOk result (λ address. IsPowerOfTwo align) }
         ensures err { IfErr result (λ error. IsRequestRefused A.regions A.word A.follows A.refuses A.denies self.old size align error self.new) }
@@ -75,6 +85,7 @@ impl<A: Allocator> Heap<A> {
         ensures ok { IfOk result (λ address. IsHandedOut A.regions A.word A.follows self.old size align address self.new) }
         ensures served { IfOk result (λ address. IsServedCleared A.regions A.word A.zeros A.follows self.old size align address self.new) }
         ensures zeros { IfOk result (λ address. AreZero (A.word self.new.system) address size) }
+        ensures member { IfOk result (λ address. IsMemberServed A.regions A.word self.old size align address) }
         ensures enough { IfOk result (λ address. size ≤ usable (state_of A.word self.new) address) }
         ensures power { IfOk result (λ address. IsPowerOfTwo align) }
         ensures err { IfErr result (λ error. IsRequestRefused A.regions A.word A.follows A.refuses A.denies self.old size align error self.new) }
@@ -89,6 +100,7 @@ impl<A: Allocator> Heap<A> {
         ensures served { cleared ≡ false → IfOk result (λ address. IsServedAt A.regions A.word A.zeros A.follows self.old size align address self.new) }
         ensures served_cleared { cleared ≡ true → IfOk result (λ address. IsServedCleared A.regions A.word A.zeros A.follows self.old size align address self.new) }
         ensures zeros { cleared ≡ true → IfOk result (λ address. AreZero (A.word self.new.system) address size) }
+        ensures member { IfOk result (λ address. IsMemberServed A.regions A.word self.old size align address) }
         ensures enough { IfOk result (λ address. size ≤ usable (state_of A.word self.new) address) }
         ensures power { IfOk result (λ address. IsPowerOfTwo align) }
         ensures err { IfErr result (λ error. IsRequestRefused A.regions A.word A.follows A.refuses A.denies self.old size align error self.new) }
@@ -110,6 +122,7 @@ impl<A: Allocator> Heap<A> {
         requires block { HasBlock (state_of A.word self.old) address }
         ensures resized { IfOk result (λ to. IsResized A.regions A.word A.zeros A.follows (A.frees self.old.system) (A.parts self.old.system) (A.unit self.old.system) self.old address (usable (state_of A.word self.old) address) 16 size to self.new) }
         ensures ok { IfOk result (λ to. IsGivenSize A.regions A.word A.follows (A.frees self.old.system) (A.parts self.old.system) (A.unit self.old.system) self.old address (usable (state_of A.word self.old) address) 16 size to self.new) }
+        ensures member { IfOk result (λ to. to ≢ address → IsMemberServed A.regions A.word self.old size 16 to) }
         ensures enough { IfOk result (λ to. size ≤ usable (state_of A.word self.new) to) }
         ensures err { IfErr result (λ error. IsResizeRefused A.regions A.word A.follows A.refuses A.denies self.old address size error self.new) }
         ensures apart { BlocksAreApart (state_of A.word self.new) }

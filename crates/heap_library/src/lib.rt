@@ -11,7 +11,7 @@ mod heap_arenas;
 mod heap_error;
 mod marks;
 
-pub use checked::CheckedHeap;
+pub use checked::{CheckedHeap, GRANULARITY};
 pub use heap::Heap;
 pub use heap_error::HeapError;
 

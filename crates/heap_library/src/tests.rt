@@ -118,7 +118,7 @@ fn words_that_no_block_needs_stay(rt: HostRuntime) -> Result<(), Fail> {
     // A word for blocks, two for the table, and one for the marks.
     let mut memory = [7, 8, 9, 0];
     {
-        let heap = CheckedHeap::over_cleared(&mut memory, 0x10000);
+        let heap = CheckedHeap::over_cleared(&mut memory, 0x10000, 4096);
         assert_eq!(rt; heap.touched(), 0);
     }
     assert_eq!(rt; memory, [7, 8, 9, 0]);

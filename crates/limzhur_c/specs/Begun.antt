@@ -6,15 +6,15 @@ use Rattle.heap_arena.specs.Arena.{regions_of}
 use Rattle.heap_arena.specs.declared.arena.Arena.{Arena}
 use Rattle.heap_library.specs.Checked.{heap_state, left_for_words, table_of, words_for_blocks, words_for_table}
 
--- A heap that has nothing yet, over the first words of a memory, which begin at an address. Words and table are as they were
--- given, and no word was ever in a grant.
-pub record IsBegun (memory : List ℕ) (address : ℕ) (heap : Dlmalloc Arena) : Type 0 where
-  pub state : heap_state heap ≡ new_heap
+-- A heap of a granularity that has nothing yet, over the first words of a memory, which begin at an address. Words and table are
+-- as they were given, and no word was ever in a grant.
+pub record IsBegun (memory : List ℕ) (address granularity : ℕ) (heap : Dlmalloc Arena) : Type 0 where
+  pub state : heap_state heap ≡ record new_heap { granularity = granularity }
   pub regions : regions_of heap.system ≡ []
   pub base : heap.system.base ≡ address
   pub top : heap.system.top ≡ address
   pub peak : heap.system.peak ≡ address
-  pub words : heap.system.words.now ≡ words_for_blocks memory
-  pub len : length heap.system.words.now ≡ left_for_words (length memory)
-  pub table : heap.system.table.words.now ≡ words_for_table memory
-  pub table_len : length heap.system.table.words.now ≡ table_of (length memory)
+  pub words : heap.system.words.now ≡ words_for_blocks granularity memory
+  pub len : length heap.system.words.now ≡ left_for_words granularity (length memory)
+  pub table : heap.system.table.words.now ≡ words_for_table granularity memory
+  pub table_len : length heap.system.table.words.now ≡ table_of granularity (length memory)

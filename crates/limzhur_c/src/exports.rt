@@ -1,8 +1,10 @@
 // What a C program calls of a heap that it began.
-ghost use Rattle.std.specs.Prelude.{◌≡◌, ◌≢◌, ◌↔◌, ◌+◌, ◌*◌, true, false, IsTrue};
+ghost use Rattle.std.specs.Prelude.{◌≡◌, ◌≢◌, ◌↔◌, ◌+◌, ◌*◌, true, false, if◌then◌else◌, IsTrue};
 ghost use Rattle.std.specs.Int.{IsPowerOfTwo};
+ghost use Rattle.dlmalloc.specs.State.{countdown_from};
+ghost use Rattle.dlmalloc.specs.Heap.{IsGranularity};
 ghost use Rattle.dlmalloc.specs.Blocks.{BlocksAreApart};
-ghost use Rattle.dlmalloc.specs.Requested.{IsHandedOut, IsServedAt};
+ghost use Rattle.dlmalloc.specs.Requested.{IsHandedOut, IsServedAt, IsMemberServed};
 ghost use Rattle.dlmalloc.specs.Written.{IsServedCleared};
 ghost use Rattle.dlmalloc.specs.Moved.{IsGivenSize, IsResized};
 ghost use Rattle.dlmalloc.specs.AfterFree.{IsFreed};
@@ -12,6 +14,7 @@ ghost use Rattle.heap_library.specs.declared.heap_error.HeapError.{HeapError};
 ghost use Rattle.heap_library.specs.Counted.{HasBlocks};
 ghost use Rattle.heap_library.specs.Library.{HasBlock, AreZero, usable, IsRequestRefused, IsResizeRefused};
 ghost use Rattle.heap_library.specs.Checked.{zeros, follows, refuses, denies, heap_state};
+ghost use Rattle.heap_library.specs.Room.{IsRefused, IsRefusedResize};
 
 use crate::handle::Handle;
 
@@ -20,8 +23,10 @@ use crate::handle::Handle;
 pub extern "C" fn limzhur_malloc(handle: &mut Handle, size: u64, align: u64) -> u64
     ensures ok { result ≢ 0 → IsHandedOut regions_of word_of follows handle.old.heap size align result handle.new.heap }
     ensures served { result ≢ 0 → IsServedAt regions_of word_of zeros follows handle.old.heap size align result handle.new.heap }
+    ensures member { result ≢ 0 → IsMemberServed regions_of word_of handle.old.heap size align result }
     ensures power { result ≢ 0 → IsPowerOfTwo align }
     ensures err { result ≡ 0 → (error : HeapError) × IsRequestRefused regions_of word_of follows refuses denies handle.old.heap size align error handle.new.heap }
+    ensures refused { (result ≡ 0) ↔ IsRefused handle.old.heap size align }
     ensures apart { BlocksAreApart (heap_state handle.new.heap) }
 {
     match handle.open().malloc(size, align) {
@@ -35,9 +40,11 @@ pub extern "C" fn limzhur_malloc(handle: &mut Handle, size: u64, align: u64) -> 
 pub extern "C" fn limzhur_calloc(handle: &mut Handle, size: u64, align: u64) -> u64
     ensures ok { result ≢ 0 → IsHandedOut regions_of word_of follows handle.old.heap size align result handle.new.heap }
     ensures served { result ≢ 0 → IsServedCleared regions_of word_of zeros follows handle.old.heap size align result handle.new.heap }
+    ensures member { result ≢ 0 → IsMemberServed regions_of word_of handle.old.heap size align result }
     ensures zeros { result ≢ 0 → AreZero (word_of handle.new.heap.system) result size }
     ensures power { result ≢ 0 → IsPowerOfTwo align }
     ensures err { result ≡ 0 → (error : HeapError) × IsRequestRefused regions_of word_of follows refuses denies handle.old.heap size align error handle.new.heap }
+    ensures refused { (result ≡ 0) ↔ IsRefused handle.old.heap size align }
     ensures apart { BlocksAreApart (heap_state handle.new.heap) }
 {
     match handle.open().calloc(size, align) {
@@ -53,7 +60,9 @@ pub extern "C" fn limzhur_realloc(handle: &mut Handle, address: u64, size: u64) 
     ensures block { result ≢ 0 → HasBlock (heap_state handle.old.heap) address }
     ensures resized { result ≢ 0 → IsResized regions_of word_of zeros follows true true 1 handle.old.heap address (usable (heap_state handle.old.heap) address) 16 size result handle.new.heap }
     ensures ok { result ≢ 0 → IsGivenSize regions_of word_of follows true true 1 handle.old.heap address (usable (heap_state handle.old.heap) address) 16 size result handle.new.heap }
+    ensures member { result ≢ 0 → result ≢ address → IsMemberServed regions_of word_of handle.old.heap size 16 result }
     ensures err { result ≡ 0 → (error : HeapError) × IsResizeRefused regions_of word_of follows refuses denies handle.old.heap address size error handle.new.heap }
+    ensures refused { (result ≡ 0) ↔ IsRefusedResize handle.old.heap address size }
     ensures apart { BlocksAreApart (heap_state handle.new.heap) }
 {
     match handle.open().realloc(address, size) {
@@ -78,6 +87,26 @@ pub extern "C" fn limzhur_trim(handle: &mut Handle, pad: u64) -> bool
     ensures { IsTrimmed regions_of word_of follows true true 1 handle.old.heap pad result handle.new.heap }
 {
     handle.open().trim(pad)
+}
+
+/// Sets the granularity of a heap. False where the number is none; nothing then changes.
+#[unsafe(no_mangle)]
+pub extern "C" fn limzhur_set_granularity(handle: &mut Handle, bytes: u64) -> bool
+    ensures answer { IsTrue result ↔ IsGranularity bytes }
+    ensures state { heap_state handle.new.heap ≡ record (heap_state handle.old.heap) { granularity = if result then bytes else handle.old.heap.granularity } }
+    ensures system { handle.new.heap.system ≡ handle.old.heap.system }
+{
+    handle.open().set_granularity(bytes)
+}
+
+/// Sets how many large chunks are freed between two release passes, and begins to count them anew. With 0 there is no such
+/// pass.
+#[unsafe(no_mangle)]
+pub extern "C" fn limzhur_set_release_rate(handle: &mut Handle, rate: u64)
+    ensures state { heap_state handle.new.heap ≡ record (heap_state handle.old.heap) { rate = rate; countdown = countdown_from rate } }
+    ensures system { handle.new.heap.system ≡ handle.old.heap.system }
+{
+    handle.open().set_release_rate(rate);
 }
 
 /// The bytes of the block at an address; 0 where none begins there.

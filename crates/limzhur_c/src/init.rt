@@ -6,6 +6,7 @@ ghost use denote.Array.{Array};
 ghost use denote.Builtin.{u64};
 ghost use denote.RawPtr.{lies_at, room_at};
 ghost use denote.Signature.{static_lft};
+ghost use Rattle.dlmalloc.specs.Heap.{IsGranularity};
 ghost use Rattle.dlmalloc.specs.declared.heap.Dlmalloc.{Dlmalloc};
 ghost use Rattle.heap_arena.specs.declared.arena.Arena.{Arena};
 ghost use Rattle.heap_library.specs.contracts.checked.CheckedHeap.{the_row as heap_row};
@@ -23,15 +24,16 @@ pub extern "C" fn limzhur_room() -> usize
     size_of::<CheckedHeap<'static>>()
 }
 
-/// An empty heap over a memory, whose first word is at an address.
-fn begin(memory: &'static mut [u64], address: u64) -> CheckedHeap<'static>
+/// An empty heap of a granularity over a memory, whose first word is at an address.
+fn begin(memory: &'static mut [u64], address: u64, granularity: u64) -> CheckedHeap<'static>
     requires aligned { address % 16 ≡ 0 }
     requires low { 4096 ≤ address }
     requires high { address + 8 * length memory.now < 2 ^ 64 }
     requires cleared { IsCleared memory.now }
-    ensures begun { IsBegun memory.entry.now address result }
+    requires granularity { IsGranularity granularity }
+    ensures begun { IsBegun memory.entry.now address granularity result }
 {
-    CheckedHeap::over_cleared(memory, address)
+    CheckedHeap::over_cleared(memory, address, granularity)
 }
 
 /// The words at a pointer. Who gives them has them no more.
@@ -44,8 +46,32 @@ pub(crate) unsafe fn words_at(memory: *mut u64, count: usize) -> &'static mut [u
     std::slice::from_raw_parts_mut(memory, count)
 }
 
-/// Makes an empty heap in a room, over `count` words of memory, the first of them at `address`. Room and memory are then
-/// the heap's; a handle that leads to the room has both.
+/// Makes an empty heap of a granularity in a room, over `count` words of memory, the first of them at `address`. Room and
+/// memory are then the heap's; a handle that leads to the room has both.
+#[unsafe(no_mangle)]
+pub unsafe extern "C" fn limzhur_init_with(
+    room: *mut u8,
+    memory: *mut u64,
+    count: usize,
+    address: u64,
+    granularity: u64,
+)
+    ghost words: { List ℕ }
+    requires* room { sem 𝓛 (room_at (heap_row static_lft) room) }
+    requires* memory { sem 𝓛 (lies_at (Array u64 count) full_share memory words) }
+    requires few { count < 2 ^ 60 }
+    requires cleared { IsCleared words }
+    requires aligned { address % 16 ≡ 0 }
+    requires low { 4096 ≤ address }
+    requires high { address + 8 * count < 2 ^ 64 }
+    requires granularity { IsGranularity granularity }
+    ensures* heap { ∃ₛ (λ (heap : Dlmalloc Arena). sem 𝓛 (lies_at (heap_row static_lft) full_share room heap) ∗ ⌜ IsBegun words address granularity heap ⌝) }
+{
+    let heap = begin(words_at(memory, count), address, granularity);
+    (room as *mut CheckedHeap<'static>).write(heap);
+}
+
+/// The same, with a granularity of 64 KiB.
 #[unsafe(no_mangle)]
 pub unsafe extern "C" fn limzhur_init(room: *mut u8, memory: *mut u64, count: usize, address: u64)
     ghost words: { List ℕ }
@@ -56,8 +82,7 @@ pub unsafe extern "C" fn limzhur_init(room: *mut u8, memory: *mut u64, count: us
     requires aligned { address % 16 ≡ 0 }
     requires low { 4096 ≤ address }
     requires high { address + 8 * count < 2 ^ 64 }
-    ensures* heap { ∃ₛ (λ (heap : Dlmalloc Arena). sem 𝓛 (lies_at (heap_row static_lft) full_share room heap) ∗ ⌜ IsBegun words address heap ⌝) }
+    ensures* heap { ∃ₛ (λ (heap : Dlmalloc Arena). sem 𝓛 (lies_at (heap_row static_lft) full_share room heap) ∗ ⌜ IsBegun words address 65536 heap ⌝) }
 {
-    let heap = begin(words_at(memory, count), address);
-    (room as *mut CheckedHeap<'static>).write(heap);
+    limzhur_init_with(room, memory, count, address, 65536);
 }

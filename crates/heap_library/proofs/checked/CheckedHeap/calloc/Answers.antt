@@ -1,10 +1,12 @@
-use Rattle.std.proofs.Common.{subst, arith}
-use Rattle.dlmalloc.specs.Requested.{IsHandedOut}
+use Rattle.std.proofs.Common.{subst, sym, arith}
+use Rattle.dlmalloc.specs.Requested.{IsHandedOut, IsMemberServed}
 use Rattle.dlmalloc.specs.Written.{IsServedCleared}
 use Rattle.heap_arena.specs.Arena.{regions_of, word_of}
 use Rattle.heap_library.specs.Library.{IsRequestRefused}
 use Rattle.heap_library.specs.Checked.{zeros, follows, refuses, denies}
 use Rattle.heap_library.proofs.Marking.{made_unmarked, made_marked, unserved_marked}
+use Rattle.heap_library.proofs.Room.{refused_for, not_refused}
+use Rattle.heap_library.specs.Room.{IsRefused}
 use Rattle.heap_library.proofs.checked.CheckedHeap.calloc.Goals as goal
 
 pub mark-requires-clause-unmarked : goal.mark-requires-clause-unmarked
@@ -30,5 +32,15 @@ returns-in-Ok-clause-ok c = subst (λ heap. IsHandedOut regions_of word_of follo
 pub returns-in-Ok-clause-served : goal.returns-in-Ok-clause-served
 returns-in-Ok-clause-served c = subst (λ heap. IsServedCleared regions_of word_of zeros follows heap c.args.size c.args.align c.in-Ok.address c.calloc.new.self) c.self.view_is c.in-Ok.ensures.served
 
+pub returns-in-Ok-clause-member : goal.returns-in-Ok-clause-member
+returns-in-Ok-clause-member c = subst (λ heap. IsMemberServed regions_of word_of heap c.args.size c.args.align c.in-Ok.address) c.self.view_is c.in-Ok.ensures.member
+
 pub returns-in-Err-clause-err : goal.returns-in-Err-clause-err
 returns-in-Err-clause-err c = subst (λ heap. IsRequestRefused regions_of word_of follows refuses denies heap c.args.size c.args.align c.in-Err.error c.calloc.new.self) c.self.view_is c.in-Err.ensures.err
+
+pub returns-in-Err-clause-refused : goal.returns-in-Err-clause-refused
+returns-in-Err-clause-refused c = subst (λ heap. IsRefused heap c.args.size c.args.align) c.self.view_is (refused_for c.self.inside.heap c.calloc.new.self c.args.size c.args.align c.in-Err.error c.in-Err.ensures.err)
+
+pub returns-in-Ok-clause-room : goal.returns-in-Ok-clause-room
+returns-in-Ok-clause-room c = λ refused.
+    not_refused c.self.inside.heap c.in-Ok.ensures.served.middle c.args.size c.args.align c.in-Ok.address c.in-Ok.ensures.power c.in-Ok.ensures.ok.small c.in-Ok.ensures.served.served (subst (λ heap. IsRefused heap c.args.size c.args.align) (sym c.self.view_is) refused)

@@ -1,11 +1,14 @@
 use Rattle.std.proofs.Common.{◌∙◌, subst, sym, true, arith}
 use Rattle.dlmalloc.specs.Blocks.{BlocksAreApart}
+use Rattle.dlmalloc.specs.Requested.{IsMemberServed}
 use Rattle.dlmalloc.specs.Moved.{IsGivenSize, IsResized}
 use Rattle.heap_arena.specs.Arena.{regions_of, word_of}
 use Rattle.heap_library.specs.Library.{HasBlock, usable, IsResizeRefused}
 use Rattle.heap_library.specs.Checked.{zeros, follows, refuses, denies, heap_state}
 use Rattle.heap_library.proofs.MarkLemmas.{place_of_mark}
 use Rattle.heap_library.proofs.Marking.{resized_same, moved_unmarked, moved_marked, unresized_marked}
+use Rattle.heap_library.proofs.Room.{resize_refused_for, resize_not_refused}
+use Rattle.heap_library.specs.Room.{IsRefusedResize}
 use Rattle.heap_library.proofs.checked.CheckedHeap.realloc.Goals as goal
 
 pub returns-then-not-has_block-clause-apart : goal.returns-then-not-has_block-clause-apart
@@ -68,5 +71,18 @@ pub returns-in-Ok-clause-resized : goal.returns-in-Ok-clause-resized
 returns-in-Ok-clause-resized c =
     subst (λ heap. IsResized regions_of word_of zeros follows true true 1 heap c.args.from (usable (heap_state heap) c.args.from) 16 c.args.size c.in-Ok.to c.realloc.new.self) c.self.view_is c.in-Ok.ensures.resized
 
+pub returns-in-Ok-clause-member : goal.returns-in-Ok-clause-member
+returns-in-Ok-clause-member c = λ moved. subst (λ heap. IsMemberServed regions_of word_of heap c.args.size 16 c.in-Ok.to) c.self.view_is (c.in-Ok.ensures.member moved)
+
 pub returns-in-Err-clause-err : goal.returns-in-Err-clause-err
 returns-in-Err-clause-err c = subst (λ heap. IsResizeRefused regions_of word_of follows refuses denies heap c.args.from c.args.size c.in-Err.refusal c.realloc.new.self) c.self.view_is c.in-Err.ensures.err
+
+pub returns-in-Err-clause-refused : goal.returns-in-Err-clause-refused
+returns-in-Err-clause-refused c = subst (λ heap. IsRefusedResize heap c.args.from c.args.size) c.self.view_is (resize_refused_for c.self.inside.heap c.realloc.new.self c.args.from c.args.size c.in-Err.refusal c.in-Err.ensures.err)
+
+pub returns-in-Ok-clause-room : goal.returns-in-Ok-clause-room
+returns-in-Ok-clause-room c = λ refused.
+    let heap = c.self.inside.heap in
+    let block = subst (λ heap. HasBlock (heap_state heap) c.args.from) (sym c.self.view_is) (c.has_block.ensures.0 c.if-not-has_block.false) in
+    resize_not_refused heap c.realloc.new.self c.args.from (usable (heap_state heap) c.args.from) c.args.size c.in-Ok.to block c.in-Ok.ensures.ok.small c.in-Ok.ensures.resized
+    (subst (λ heap. IsRefusedResize heap c.args.from c.args.size) (sym c.self.view_is) refused)

@@ -1,0 +1,15 @@
+use Rattle.std.proofs.Common.{ap, length, sym}
+use Rattle.dlmalloc.specs.State.{extents_in}
+use Rattle.heap_arena.specs.declared.arena.Arena.{Arena}
+use Rattle.heap_library.specs.Checked.{heap_state}
+use Rattle.heap_library.proofs.Marking.{kept_marked, same_blocks}
+use Rattle.heap_library.proofs.checked.CheckedHeap.set_release_rate.Goals as goal
+
+pub invariant_of-self : goal.invariant_of-self
+invariant_of-self c =
+    let marks = c.self.inside.marks in
+    let system = c.set_release_rate.ensures.system in
+    let state = c.set_release_rate.ensures.state in
+    kept_marked marks.base marks.words.now marks.count c.self.inside.heap c.set_release_rate.new.self c.self.invariant
+    (record { base = ap (λ (a : Arena). a.base) system; len = ap (λ (a : Arena). length a.words.now) system; table = ap (λ (a : Arena). length a.table.words.now) system })
+    (same_blocks (heap_state c.self.inside.heap) (heap_state c.set_release_rate.new.self) (ap extents_in state)) (same_blocks (heap_state c.set_release_rate.new.self) (heap_state c.self.inside.heap) (sym (ap extents_in state)))
