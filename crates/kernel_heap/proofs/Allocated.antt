@@ -1,17 +1,16 @@
 -- A request was granted, or refused: what a heap over the system sees of it.
-use Rattle.std.proofs.Common.{◌≡◌, ◌≢◌, ℕ, ◌+◌, ◌-◌, ◌/◌, ◌%◌, ◌^◌, ◌<◌, ◌≤◌, [], ◌∷◌, Result, Ok, Err, IfErr, OnErr, map, refl, sym, ap, ◌∙◌, subst, arith, Some}
+use Rattle.std.proofs.Common.{◌≡◌, ℕ, ◌+◌, ◌-◌, ◌/◌, ◌%◌, ◌^◌, ◌<◌, ◌≤◌, [], ◌∷◌, Result, Ok, Err, IfErr, OnErr, map, refl, sym, ap, ◌∙◌, subst, arith, Some}
 use Rattle.std.specs.List.{AllByRecursion}
 use Rattle.paging_core.specs.Walk.{walk_of, granted as granted_place}
 use Rattle.heap_memory.specs.declared.grant.Grant.{Grant}
 use Rattle.heap_memory.specs.declared.grant.GrantFault.{GrantFault}
-use Rattle.heap_memory.specs.declared.grant.GrantFault.TheVariants.{OutOfMemory}
 use Rattle.heap_memory.specs.Events.{Refused}
 use Rattle.heap_memory.specs.Regions.{IsWordOf, IsApart, IsGoodGrant, with_grant}
 use Rattle.heap_model.specs.Request.{pages_in}
 use Rattle.heap_model.specs.Room.{heap_region, heap_rights}
 use Rattle.heap_model.specs.Machine.{Paged, OnlyHeapBytesChange}
 use Rattle.kernel_heap.specs.Follows.{Follows, still_none}
-use Rattle.kernel_heap.specs.Layout.{IsPagedKept, IsGrantedFor, LacksPlaceOrFrames}
+use Rattle.kernel_heap.specs.Layout.{IsPagedKept, IsGrantedFor, MayDeny}
 use Rattle.kernel_heap.specs.Words.{heap_regions, grant_of, grants_of}
 use Rattle.mapped_regions.specs.Mapped.{word_reached}
 use Rattle.kernel_heap.proofs.HeapRegions.{apart_from, heap_joined, grants_joined}
@@ -61,6 +60,6 @@ module _ (old new : Paged) (asked : ℕ) (grant : Grant) (kept : IsPagedKept old
 
 -- a refusal is an event that changes nothing
 pub follows_refused : (old new : Paged) (asked : ℕ) (answer : Result Grant GrantFault) → OnErr answer (new ≡ old) →
-    IfErr answer (λ fault. fault ≢ OutOfMemory → LacksPlaceOrFrames old (pages_in asked) fault) → IfErr answer (λ fault. Follows old (Refused asked fault ∷ []) new)
+    IfErr answer (λ fault. MayDeny old asked fault) → IfErr answer (λ fault. Follows old (Refused asked fault ∷ []) new)
 follows_refused old new asked (Ok grant) same lacks = tt
 follows_refused old new asked (Err fault) same lacks = (old, still_none old, lacks, subst (OnlyHeapBytesChange old) (sym same) (still_none old))

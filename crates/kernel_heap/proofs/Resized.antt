@@ -14,7 +14,7 @@ use Rattle.dlmalloc.specs.Extents.{extent_at}
 use Rattle.dlmalloc.specs.State.{extents_in}
 use Rattle.std.proofs.lemmas.Bool.Decides.{nat_tests}
 use Rattle.dlmalloc.specs.Blocks.{ArePlaced, BlocksAreApart}
-use Rattle.dlmalloc.specs.Requested.{asked, IsFound}
+use Rattle.dlmalloc.specs.Requested.{asked, IsFound, IsMemberServed}
 use Rattle.dlmalloc.specs.Moved.{others_at, IsGivenSize, HasByteOf}
 use Rattle.dlmalloc.specs.Served.{IsRefusedWith}
 use Rattle.dlmalloc.specs.declared.malloc_error.MallocError.{MallocError}
@@ -48,7 +48,7 @@ use Rattle.kernel_heap.specs.Numbered.{live_at}
 use Rattle.kernel_heap.specs.LaidOut.{IsLaidOut}
 use Rattle.kernel_heap.specs.Refusing.{IsRefusalOf}
 use Rattle.kernel_heap.specs.Blocks.{resizing, align_kept, IsResizedTo}
-use Rattle.kernel_heap.specs.Moves.{IsToldFrom, HeapMoves}
+use Rattle.kernel_heap.specs.Moves.{IsToldFrom, AreSlotsTold, HeapMoves}
 use Rattle.kernel_heap.specs.declared.numbered_heap.NumberedHeap.{NumberedHeap}
 use Rattle.kernel_heap.specs.declared.paged_system.PagedSystem.{PagedSystem}
 use Rattle.kernel_heap.proofs.BlockPlaces.{byte_kept, bytes_within}
@@ -300,8 +300,8 @@ step_not_resized {top = top} heap new blocks number size keeps live laid is s go
     same false block is = refl
 
 -- how the heap moves is told by the call
-pub moves_resizing : (keeps : Bool) (old : NumberedHeap) (number size address : ℕ) (live : Live) (new : NumberedHeap) → live_at old.blocks.items number ≡ Some live →
-    (heap : Dlmalloc PagedSystem) → IsResizedTo keeps old.heap live size address heap → IsToldFrom heap new.heap →
-    HeapMoves old (resizing keeps number size) (Placed number address) new
-moves_resizing true old number size address live new is heap resized told = rw is (heap, resized, told)
-moves_resizing false old number size address live new is heap resized told = rw is (heap, resized, told)
+pub moves_resizing : (keeps : Bool) (old : NumberedHeap) (number size address : ℕ) (live : Live) (large : Option (List ℕ)) (new : NumberedHeap) → live_at old.blocks.items number ≡ Some live →
+    (heap : Dlmalloc PagedSystem) → IsResizedTo keeps old.heap live size address heap → IsToldFrom heap new.heap → AreSlotsTold old.heap heap large →
+    (address ≢ live.address → IsMemberServed regions word old.heap size (align_kept keeps live) address) → HeapMoves old (resizing keeps number size) (Placed number address) large new
+moves_resizing true old number size address live large new is heap resized told slots member = rw is (heap, resized, told, slots, member)
+moves_resizing false old number size address live large new is heap resized told slots member = rw is (heap, resized, told, slots, member)

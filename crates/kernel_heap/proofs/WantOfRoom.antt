@@ -1,5 +1,5 @@
 -- Calls that are refused: where room is wanting the heap has none, and what is seen of the machine stays.
-use Rattle.std.proofs.Common.{◌≡◌, ◌≢◌, ℕ, ◌-◌, ◌≤◌, Bool, true, false, None, Some, refl, subst}
+use Rattle.std.proofs.Common.{◌≡◌, ◌≢◌, ℕ, ◌-◌, ◌≤◌, Bool, true, false, List, Option, None, Some, refl, subst}
 use Rattle.std.specs.Prelude.{IsTrue}
 use Rattle.heap_memory.specs.declared.grant.GrantFault.TheVariants.{NoSpace, NoFrames, OutOfMemory}
 use Rattle.dlmalloc_chunks.specs.Request.{padded}
@@ -56,21 +56,21 @@ pub left_refused : (old new : Dlmalloc PagedSystem) (size : ℕ) (error : Malloc
 left_refused old new size error refusal is out = rw (tells error refusal is) out
 
 -- a request that is refused moves nothing
-pub request_refused_moves : (cleared : Bool) (old : NumberedHeap) (size align : ℕ) (refusal : Refusal) (new : NumberedHeap) → IsLeft old.heap (asked size align) refusal new.heap → HasNoneFor (heap_of old) size align refusal →
-    HeapMoves old (request cleared size align) (Refused refusal) new
-request_refused_moves false old size align refusal new same none = (same, none)
-request_refused_moves true old size align refusal new same none = (same, none)
+pub request_refused_moves : (cleared : Bool) (old : NumberedHeap) (size align : ℕ) (refusal : Refusal) (large : Option (List ℕ)) (new : NumberedHeap) → IsLeft old.heap (asked size align) refusal new.heap → HasNoneFor (heap_of old) size align refusal →
+    HeapMoves old (request cleared size align) (Refused refusal) large new
+request_refused_moves false old size align refusal large new same none = (same, none)
+request_refused_moves true old size align refusal large new same none = (same, none)
 
 -- and so does another size that is refused, of a block or of none
-pub resizing_refused_moves : (keeps : Bool) (old : NumberedHeap) (number size : ℕ) (refusal : Refusal) (new : NumberedHeap) (live : Live) → live_at old.blocks.items number ≡ Some live → IsLeft old.heap (asked size (align_kept keeps live)) refusal new.heap →
-    HasNoneBeside (heap_of old) live.address size (align_kept keeps live) refusal → HeapMoves old (resizing keeps number size) (Refused refusal) new
-resizing_refused_moves true old number size refusal new live is same none = rw is (same, none)
-resizing_refused_moves false old number size refusal new live is same none = rw is (same, none)
+pub resizing_refused_moves : (keeps : Bool) (old : NumberedHeap) (number size : ℕ) (refusal : Refusal) (large : Option (List ℕ)) (new : NumberedHeap) (live : Live) → live_at old.blocks.items number ≡ Some live → IsLeft old.heap (asked size (align_kept keeps live)) refusal new.heap →
+    HasNoneBeside (heap_of old) live.address size (align_kept keeps live) refusal → HeapMoves old (resizing keeps number size) (Refused refusal) large new
+resizing_refused_moves true old number size refusal large new live is same none = rw is (same, none)
+resizing_refused_moves false old number size refusal large new live is same none = rw is (same, none)
 
-pub unknown_moves : (keeps : Bool) (old : NumberedHeap) (number size : ℕ) (refusal : Refusal) (new : NumberedHeap) → live_at old.blocks.items number ≡ None → new.heap ≡ old.heap →
-    HeapMoves old (resizing keeps number size) (Refused refusal) new
-unknown_moves true old number size refusal new none same = rw none same
-unknown_moves false old number size refusal new none same = rw none same
+pub unknown_moves : (keeps : Bool) (old : NumberedHeap) (number size : ℕ) (refusal : Refusal) (large : Option (List ℕ)) (new : NumberedHeap) → live_at old.blocks.items number ≡ None → new.heap ≡ old.heap →
+    HeapMoves old (resizing keeps number size) (Refused refusal) large new
+unknown_moves true old number size refusal large new none same = rw none same
+unknown_moves false old number size refusal large new none same = rw none same
 
 -- any other reply may tell of a change
 pub other_reply : (reply : Reply) (old new : NumberedHeap) → leaves_all reply ≡ false → IsSeenAsBefore reply old new

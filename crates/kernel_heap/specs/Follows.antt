@@ -1,20 +1,18 @@
 -- What is said of a paged system over a time.
-use Rattle.std.specs.Prelude.{◌≡◌, ◌≢◌, List, [], ◌∷◌, ◌++◌, refl}
+use Rattle.std.specs.Prelude.{◌≡◌, List, [], ◌∷◌, ◌++◌, refl}
 use Rattle.std.proofs.Common.{ap, ◌∙◌, subst, sym, arith}
 use Rattle.heap_memory.specs.Events.{Event, Granted, Refused, Released}
-use Rattle.heap_memory.specs.declared.grant.GrantFault.TheVariants.{OutOfMemory}
 use Rattle.paging_core.specs.Walk.{reach, large_of, reached}
 use Rattle.heap_model.specs.Machine.{Paged, OnlyHeapBytesChange}
-use Rattle.heap_model.specs.Request.{pages_in}
-use Rattle.kernel_heap.specs.Layout.{IsGrantedFor, LacksPlaceOrFrames}
+use Rattle.kernel_heap.specs.Layout.{IsGrantedFor, MayDeny}
 use Rattle.kernel_heap.specs.Released.{IsReleasedFor}
 
 -- With no event all but the bytes of the heap's pages stays. A request is granted or refused, and a run given back, as the
--- system stands at its moment. A refusal changes nothing; one for want of memory is free.
+-- system stands at its moment. A refusal changes nothing.
 abbrev pub Follows : Paged → List Event → Paged → Type 0
 Follows old [] new = OnlyHeapBytesChange old new
 Follows old (Granted asked grant ∷ events) new = (at : Paged) × (later : Paged) × OnlyHeapBytesChange old at × IsGrantedFor at later asked grant × Follows later events new
-Follows old (Refused asked fault ∷ events) new = (at : Paged) × OnlyHeapBytesChange old at × (fault ≢ OutOfMemory → LacksPlaceOrFrames at (pages_in asked) fault) × Follows at events new
+Follows old (Refused asked fault ∷ events) new = (at : Paged) × OnlyHeapBytesChange old at × MayDeny at asked fault × Follows at events new
 Follows old (Released at size left ∷ events) new = (before : Paged) × (later : Paged) × OnlyHeapBytesChange old before × IsReleasedFor before later at size left × Follows later events new
 
 pub still_none : (p : Paged) → OnlyHeapBytesChange p p

@@ -7,8 +7,7 @@ use Rattle.dlmalloc.specs.State.{HeapState}
 use Rattle.dlmalloc.specs.Heap.{state_of, IsSound}
 use Rattle.dlmalloc.specs.Binned.{IsBinned}
 use Rattle.dlmalloc.specs.declared.heap.Dlmalloc.{Dlmalloc}
-use Rattle.heap_model.specs.Request.{pages_in}
-use Rattle.kernel_heap.specs.Layout.{LacksPlaceOrFrames}
+use Rattle.kernel_heap.specs.Layout.{MayDeny}
 use Rattle.kernel_heap.specs.Words.{grants_of}
 use Rattle.mapped_regions.specs.Mapped.{word_reached}
 use Rattle.kernel_heap.specs.Follows.{Follows}
@@ -26,7 +25,7 @@ abbrev pub follows : PagedSystem → List Event → PagedSystem → Type 0
 follows old events new = Follows (paged old) events (paged new)
 
 abbrev pub denies : PagedSystem → ℕ → GrantFault → Type 0
-denies system size fault = LacksPlaceOrFrames (paged system) (pages_in size) fault
+denies system size fault = MayDeny (paged system) size fault
 
 abbrev pub zeros : PagedSystem → Bool
 zeros system = true

@@ -1,5 +1,5 @@
 -- What a paged system keeps, beside what its state says.
-use Rattle.std.specs.Prelude.{◌≡◌, ℕ, ◌+◌, ◌*◌, ◌/◌, ◌%◌, ◌^◌, ◌<◌, ◌≤◌, List, [], ◌∷◌, None}
+use Rattle.std.specs.Prelude.{◌≡◌, ◌≢◌, ℕ, ◌+◌, ◌*◌, ◌/◌, ◌%◌, ◌^◌, ◌<◌, ◌≤◌, List, [], ◌∷◌, None}
 use Rattle.paging_core.specs.Memory.{frame_count}
 use Rattle.paging_core.specs.Pool.{free_count}
 use Rattle.paging_core.specs.Walk.{reach, large_of, walk_of}
@@ -49,6 +49,10 @@ abbrev pub LacksPlaceOrFrames : Paged → ℕ → GrantFault → Type 0
 LacksPlaceOrFrames p pages NoSpace = HasNoPlace p.base p.pages p.regions pages
 LacksPlaceOrFrames p pages NoFrames = (address : ℕ) × IsPlace p.base p.pages p.regions pages address × (free_count p.free < pages + missing_of p.words p.root (address / 4096) pages)
 LacksPlaceOrFrames p pages OutOfMemory = ⊥
+
+-- Why a request for so many bytes may be denied. Want of the host's memory may come at any time.
+abbrev pub MayDeny : Paged → ℕ → GrantFault → Type 0
+MayDeny p asked fault = fault ≢ OutOfMemory → LacksPlaceOrFrames p (pages_in asked) fault
 
 -- So many pages were granted at an address, and their region joined the others. Slots that lie whole in it and had no table were
 -- mapped by one entry each, as long as a run of frames was free.

@@ -1,5 +1,5 @@
 -- How the heap moves in a step.
-use Rattle.std.specs.Prelude.{◌≡◌, ℕ, Bool, true, false, MatchOption, if◌then◌else◌}
+use Rattle.std.specs.Prelude.{◌≡◌, ◌≢◌, ℕ, Bool, true, false, List, Option, None, MatchOption, if◌then◌else◌}
 use Rattle.dlmalloc.specs.Requested.{asked, IsMemberServed}
 use Rattle.dlmalloc.specs.State.{countdown_from}
 use Rattle.dlmalloc.specs.AfterFree.{IsFreed}
@@ -7,6 +7,7 @@ use Rattle.dlmalloc.specs.Shortened.{IsTrimmed}
 use Rattle.dlmalloc.specs.Order.{KeepsIndex}
 use Rattle.dlmalloc.specs.Served.{IsRefusedWith, IsListed}
 use Rattle.dlmalloc.specs.declared.heap.Dlmalloc.{Dlmalloc}
+use Rattle.heap_model.specs.Slots.{listed_slots}
 use Rattle.heap_model.specs.declared.call.Call.{Call}
 use Rattle.heap_model.specs.declared.call.Call.TheVariants.{Malloc, Calloc, Realloc, CRealloc, Free, Trim, SetRate, SetGranularity, Reset, Extents}
 use Rattle.heap_model.specs.declared.answer.Reply.{Reply}
@@ -26,6 +27,12 @@ pub record IsToldFrom (before now : Dlmalloc PagedSystem) : Type 0 where
   pub system : paged now.system ≡ record (paged before.system) { slots = (paged now.system).slots }
   pub rest : now ≡ record before { system = now.system }
 
+-- The slots that a call tells: none if no region joined, and else those of the new region that it mapped as large pages, also where
+-- the call cut one again.
+pub record AreSlotsTold (old new : Dlmalloc PagedSystem) (large : Option (List ℕ)) : Type 0 where
+  pub none : (paged new.system).joins ≡ (paged old.system).joins → large ≡ None
+  pub joined : ((paged new.system).joins ≡ (paged old.system).joins → ⊥) → large ≡ listed_slots (paged new.system).slots
+
 -- A heap stays in its state, and each size of its bins keeps its chunks, in their order.
 abbrev pub IsStill : Dlmalloc PagedSystem → Dlmalloc PagedSystem → Type 0
 IsStill old new = (heap_state new ≡ heap_state old) × KeepsIndex regions word old new
@@ -36,29 +43,31 @@ IsLeft old size why new = MatchOption (error_of why) (new ≡ old) (λ error. Is
 
 -- How the heap moves in a step, as the heap itself tells it: a block is handed out, gets another size or is freed, memory that
 -- none needs goes back, a setting is another, the heap is a new one with the settings in force, and nothing else changes its state.
--- A binned chunk for a block that is not cleared is the one that the bins' order names. Room is wanting only if the heap itself
--- has none. The extents that are listed are the heap's.
-abbrev pub HeapMoves : NumberedHeap → Call → Reply → NumberedHeap → Type 0
-HeapMoves old (Malloc size align) (Placed number address) new =
-    (heap : Dlmalloc PagedSystem) × IsServedFor false old.heap size align address heap × IsToldFrom heap new.heap × IsMemberServed regions word old.heap size align address
-HeapMoves old (Calloc size align) (Placed number address) new =
-    (heap : Dlmalloc PagedSystem) × IsServedFor true old.heap size align address heap × IsToldFrom heap new.heap
-HeapMoves old (Realloc number size) (Placed given address) new =
-    MatchOption (live_at old.blocks.items number) ⊥ (λ live. (heap : Dlmalloc PagedSystem) × IsResizedTo true old.heap live size address heap × IsToldFrom heap new.heap)
-HeapMoves old (CRealloc number size) (Placed given address) new =
-    MatchOption (live_at old.blocks.items number) ⊥ (λ live. (heap : Dlmalloc PagedSystem) × IsResizedTo false old.heap live size address heap × IsToldFrom heap new.heap)
-HeapMoves old (Malloc size align) (Refused why) new = IsLeft old.heap (asked size align) why new.heap × HasNoneFor (heap_of old) size align why
-HeapMoves old (Calloc size align) (Refused why) new = IsLeft old.heap (asked size align) why new.heap × HasNoneFor (heap_of old) size align why
-HeapMoves old (Realloc number size) (Refused why) new =
+-- A binned chunk for a block is the one that the bins' order names. Slots are told where a block is. Room is wanting only if the
+-- heap itself has none. The extents that are listed are the heap's.
+abbrev pub HeapMoves : NumberedHeap → Call → Reply → Option (List ℕ) → NumberedHeap → Type 0
+HeapMoves old (Malloc size align) (Placed number address) large new =
+    (heap : Dlmalloc PagedSystem) × IsServedFor false old.heap size align address heap × IsToldFrom heap new.heap × AreSlotsTold old.heap heap large × IsMemberServed regions word old.heap size align address
+HeapMoves old (Calloc size align) (Placed number address) large new =
+    (heap : Dlmalloc PagedSystem) × IsServedFor true old.heap size align address heap × IsToldFrom heap new.heap × AreSlotsTold old.heap heap large × IsMemberServed regions word old.heap size align address
+HeapMoves old (Realloc number size) (Placed given address) large new =
+    MatchOption (live_at old.blocks.items number) ⊥ (λ live. (heap : Dlmalloc PagedSystem) × IsResizedTo true old.heap live size address heap × IsToldFrom heap new.heap × AreSlotsTold old.heap heap large
+    × (address ≢ live.address → IsMemberServed regions word old.heap size live.align address))
+HeapMoves old (CRealloc number size) (Placed given address) large new =
+    MatchOption (live_at old.blocks.items number) ⊥ (λ live. (heap : Dlmalloc PagedSystem) × IsResizedTo false old.heap live size address heap × IsToldFrom heap new.heap × AreSlotsTold old.heap heap large
+    × (address ≢ live.address → IsMemberServed regions word old.heap size 16 address))
+HeapMoves old (Malloc size align) (Refused why) large new = IsLeft old.heap (asked size align) why new.heap × HasNoneFor (heap_of old) size align why
+HeapMoves old (Calloc size align) (Refused why) large new = IsLeft old.heap (asked size align) why new.heap × HasNoneFor (heap_of old) size align why
+HeapMoves old (Realloc number size) (Refused why) large new =
     MatchOption (live_at old.blocks.items number) (new.heap ≡ old.heap) (λ live. IsLeft old.heap (asked size live.align) why new.heap × HasNoneBeside (heap_of old) live.address size live.align why)
-HeapMoves old (CRealloc number size) (Refused why) new =
+HeapMoves old (CRealloc number size) (Refused why) large new =
     MatchOption (live_at old.blocks.items number) (new.heap ≡ old.heap) (λ live. IsLeft old.heap size why new.heap × HasNoneBeside (heap_of old) live.address size 16 why)
-HeapMoves old (Free number) Done new = MatchOption (live_at old.blocks.items number) ⊥ (λ live. IsFreed regions word follows true true 4096 old.heap live.address new.heap)
-HeapMoves old (Free number) (Refused why) new = new.heap ≡ old.heap
-HeapMoves old (Trim pad) (Trimmed released) new = (gave : Bool) × IsTrimmed regions word follows true true 4096 old.heap pad gave new.heap
-HeapMoves old (SetRate rate) Done new = (heap_of new ≡ record (heap_of old) { rate = rate; countdown = countdown_from rate }) × KeepsIndex regions word old.heap new.heap
-HeapMoves old (SetGranularity granularity) (Accepted accepted) new =
+HeapMoves old (Free number) Done large new = MatchOption (live_at old.blocks.items number) ⊥ (λ live. IsFreed regions word follows true true 4096 old.heap live.address new.heap)
+HeapMoves old (Free number) (Refused why) large new = new.heap ≡ old.heap
+HeapMoves old (Trim pad) (Trimmed released) large new = (gave : Bool) × IsTrimmed regions word follows true true 4096 old.heap pad gave new.heap
+HeapMoves old (SetRate rate) Done large new = (heap_of new ≡ record (heap_of old) { rate = rate; countdown = countdown_from rate }) × KeepsIndex regions word old.heap new.heap
+HeapMoves old (SetGranularity granularity) (Accepted accepted) large new =
     (heap_of new ≡ record (heap_of old) { granularity = if accepted then granularity else (heap_of old).granularity }) × KeepsIndex regions word old.heap new.heap
-HeapMoves old Reset (Released bytes) new = heap_of new ≡ fresh_heap (heap_of old).granularity (heap_of old).rate
-HeapMoves old Extents (Listed list) new = (new.heap ≡ old.heap) × IsListed word old.heap list
-HeapMoves old call reply new = IsStill old.heap new.heap
+HeapMoves old Reset (Released bytes) large new = heap_of new ≡ fresh_heap (heap_of old).granularity (heap_of old).rate
+HeapMoves old Extents (Listed list) large new = (new.heap ≡ old.heap) × IsListed word old.heap list
+HeapMoves old call reply large new = IsStill old.heap new.heap

@@ -42,7 +42,7 @@ pub(crate) fn hand_out<L: Ledger>(
     ensures ok { IfOk result (λ address. IsHandedOut regions word follows heap.old size align address heap.new) }
     ensures served { IfOk result (λ address. IsServedFor cleared heap.old size align address heap.new) }
     ensures zeros { cleared ≡ true → IfOk result (λ address. AreZero (word heap.new.system) address size) }
-    ensures member { cleared ≡ false → IfOk result (λ address. IsMemberServed regions word heap.old size align address) }
+    ensures member { IfOk result (λ address. IsMemberServed regions word heap.old size align address) }
     ensures err { IfErr result (λ error. IsRefusedWith regions word follows refuses denies heap.old (asked size align) error heap.new) }
     ensures linked { HasBins heap.new }
     ensures placed_before { ArePlaced (regions heap.old.system) (heap_state heap.old) }
@@ -78,6 +78,7 @@ pub(crate) fn resize<L: Ledger>(
     requires block { IsLive (heap_state heap.old) live }
     ensures ok { IfOk result (λ address. IsGivenSize regions word follows true true 4096 heap.old live.address live.size (align_kept keeps_alignment live) size address heap.new) }
     ensures resized { IfOk result (λ address. IsResizedTo keeps_alignment heap.old live size address heap.new) }
+    ensures member { IfOk result (λ address. address ≢ live.address → IsMemberServed regions word heap.old size (align_kept keeps_alignment live) address) }
     ensures err { IfErr result (λ error. IsRefusedWith regions word follows refuses denies heap.old (asked size (align_kept keeps_alignment live)) error heap.new) }
     ensures tried { IfErr result (λ error. error ≢ MallocError.TooLarge → align_kept keeps_alignment live ≤ 16 → in_place (heap_state heap.old) (live.address - 16) (padded size) ≡ None) }
     ensures linked { HasBins heap.new }

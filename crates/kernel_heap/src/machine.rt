@@ -124,10 +124,11 @@ impl Machine {
     /// Serves a call. The answer is allowed in each good state for which the machine stands, and afterwards the
     /// machine stands for the state that the answer leaves. An `Err` leaves the machine as it was. A write, an unmap, a
     /// probe and a setting take no memory, and are always answered.
+    #[inline(always)]
     pub fn step(&mut self, call: &Call) -> Result<Answer, AllocError>
         ensures ok { (s : State) → IsGood s → Stands (seen self.old) s → IfOk result (λ answer. IsStep s call.now answer (seen self.new)) }
         ensures err { OnErr result (seen self.new ≡ seen self.old) }
-        ensures heap { IfOk result (λ answer. HeapMoves self.old.heap call.now answer.reply self.new.heap) }
+        ensures heap { IfOk result (λ answer. HeapMoves self.old.heap call.now answer.reply answer.large self.new.heap) }
         ensures heap_err { OnErr result (IsStill self.old.heap.heap self.new.heap.heap) }
         // A refused call, one that only looks, a fault and a setting that is not accepted leave each byte, block and region as it was.
         ensures kept { IfOk result (λ answer. IsTrue (leaves_all answer.reply) → seen self.new ≡ seen self.old) }

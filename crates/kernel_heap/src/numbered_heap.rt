@@ -81,6 +81,7 @@ impl NumberedHeap {
 
     /// Hands out a block of `size` bytes at a multiple of `align`, of value 0 where that is asked for. The answer and the
     /// block have their places before anything changes.
+    #[inline(always)]
     pub(crate) fn hand_out(
         &mut self,
         size: u64,
@@ -92,7 +93,7 @@ impl NumberedHeap {
         ensures ok { (top : ℕ) (s : State) → IsGood s → Stands (seen_with top self.old) s → IfOk result (λ answer. IsStep s (request cleared size align) answer (seen_with top self.new)) }
         ensures err { (top : ℕ) → OnErr result (seen_with top self.new ≡ seen_with top self.old) }
         ensures runs { (top : ℕ) (s : State) → IsGood s → Stands (seen_with top self.old) s → IfOk result (λ answer. AreRunsUsedFor (paged (system_of self.old)) (paged (system_of self.new)) (lasting_pages s (request cleared size align) answer)) }
-        ensures heap { IfOk result (λ answer. HeapMoves self.old (request cleared size align) answer.reply self.new) }
+        ensures heap { IfOk result (λ answer. HeapMoves self.old (request cleared size align) answer.reply answer.large self.new) }
         ensures kept { IfOk result (λ answer. IsSeenAsBefore answer.reply self.old self.new) }
         ensures heap_err { OnErr result (IsStill self.old.heap self.new.heap) }
     {
@@ -116,6 +117,7 @@ impl NumberedHeap {
 
     /// Gives a block another size, at its own alignment or at the least. The answer has its places before anything
     /// changes.
+    #[inline(always)]
     pub(crate) fn resize(
         &mut self,
         number: u64,
@@ -126,7 +128,7 @@ impl NumberedHeap {
         ensures sound { IsSound self.new }
         ensures ok { (top : ℕ) (s : State) → IsGood s → Stands (seen_with top self.old) s → IfOk result (λ answer. IsStep s (resizing keeps_alignment number size) answer (seen_with top self.new)) }
         ensures err { (top : ℕ) → OnErr result (seen_with top self.new ≡ seen_with top self.old) }
-        ensures heap { IfOk result (λ answer. HeapMoves self.old (resizing keeps_alignment number size) answer.reply self.new) }
+        ensures heap { IfOk result (λ answer. HeapMoves self.old (resizing keeps_alignment number size) answer.reply answer.large self.new) }
         ensures kept { IfOk result (λ answer. IsSeenAsBefore answer.reply self.old self.new) }
         ensures heap_err { OnErr result (IsStill self.old.heap self.new.heap) }
     {
@@ -249,12 +251,13 @@ impl NumberedHeap {
     }
 
     /// Ends a block. The answer has its places before anything changes: regions may go back to the system by it.
+    #[inline(always)]
     pub(crate) fn free(&mut self, number: u64) -> Result<Answer, AllocError>
         requires sound { IsSound self.old }
         ensures sound { IsSound self.new }
         ensures ok { (top : ℕ) (s : State) → IsGood s → Stands (seen_with top self.old) s → IfOk result (λ answer. IsStep s (Call.Free number) answer (seen_with top self.new)) }
         ensures err { (top : ℕ) → OnErr result (seen_with top self.new ≡ seen_with top self.old) }
-        ensures heap { IfOk result (λ answer. HeapMoves self.old (Call.Free number) answer.reply self.new) }
+        ensures heap { IfOk result (λ answer. HeapMoves self.old (Call.Free number) answer.reply answer.large self.new) }
         ensures kept { IfOk result (λ answer. IsSeenAsBefore answer.reply self.old self.new) }
         ensures heap_err { OnErr result (IsStill self.old.heap self.new.heap) }
     {
@@ -278,7 +281,7 @@ impl NumberedHeap {
     pub(crate) fn extents(&self) -> Result<Answer, AllocError>
         requires sound { IsSound self.now }
         ensures ok { (top : ℕ) (s : State) → IsGood s → Stands (seen_with top self.now) s → IfOk result (λ answer. IsStep s Call.Extents answer (seen_with top self.now)) }
-        ensures heap { IfOk result (λ answer. HeapMoves self.now Call.Extents answer.reply self.now) }
+        ensures heap { IfOk result (λ answer. HeapMoves self.now Call.Extents answer.reply answer.large self.now) }
     {
         Ok(Answer {
             reply: Reply::Extents(heap_calls::extents::<Brand>(

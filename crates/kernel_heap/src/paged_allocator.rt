@@ -1,5 +1,5 @@
 // The paged system as a system that grants regions.
-ghost use Rattle.std.specs.Prelude.{◌≡◌, ◌≢◌, ℕ, ◌+◌, ◌%◌, ◌<◌, ◌≤◌, List, [], ◌∷◌, true, false, refl, IsTrue, IfOk, IfErr, OnErr};
+ghost use Rattle.std.specs.Prelude.{◌≡◌, ℕ, ◌+◌, ◌%◌, ◌<◌, ◌≤◌, List, [], ◌∷◌, true, false, refl, IsTrue, IfOk, IfErr, OnErr};
 ghost use Rattle.std.specs.List.{AllByRecursion};
 ghost use Rattle.std.specs.Int.{is_power_of_two};
 ghost use Rattle.kernel_heap.specs.System.{paged};
@@ -11,15 +11,13 @@ use paging_core::{PageSize, Size4KiB};
 impl Allocator for PagedSystem {
     ghost use Rattle.heap_memory.specs.Events.{Granted, Refused};
     ghost use Rattle.heap_memory.specs.Regions.{IsWordOf, IsApart, IsGoodGrant, with_grant};
-    ghost use Rattle.heap_memory.specs.declared.grant.GrantFault.TheVariants.{OutOfMemory};
-    ghost use Rattle.heap_model.specs.Request.{pages_in};
     ghost use Rattle.mapped_regions.specs.Mapped.{word_reached};
     ghost use Rattle.kernel_heap.specs.Follows.{Follows};
-    ghost use Rattle.kernel_heap.specs.Layout.{LacksPlaceOrFrames};
+    ghost use Rattle.kernel_heap.specs.Layout.{MayDeny};
     ghost use Rattle.kernel_heap.specs.Ordered.{regions_ordered};
     ghost use Rattle.kernel_heap.specs.Words.{grants_of};
 
-    ghost denies = { λ system size fault. LacksPlaceOrFrames (paged system) (pages_in size) fault };
+    ghost denies = { λ system size fault. MayDeny (paged system) size fault };
 
     ghost zeros = { λ system. true };
 
@@ -52,7 +50,7 @@ impl Allocator for PagedSystem {
         ensures err_follows { IfErr result (λ fault. Follows (paged self.old) (Refused size fault ∷ []) (paged self.new)) }
         ensures words { (at : ℕ) → IsWordOf (grants_of (paged self.old)) at → word_reached (paged self.new) at ≡ word_reached (paged self.old) at }
         ensures err { OnErr result (paged self.new ≡ paged self.old) }
-        ensures denied { IfErr result (λ fault. fault ≢ OutOfMemory → LacksPlaceOrFrames (paged self.old) (pages_in size) fault) }
+        ensures denied { IfErr result (λ fault. MayDeny (paged self.old) size fault) }
     {
         self.grant_bytes(size)
     }

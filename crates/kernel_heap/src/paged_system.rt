@@ -1,5 +1,5 @@
 // The paged system: regions of the heap in a window, and regions of the user anywhere.
-ghost use Rattle.std.specs.Prelude.{◌≡◌, ℕ, ◌+◌, ◌*◌, ◌/◌, ◌^◌, ◌<◌, ◌≤◌, ◌%◌, ◌≢◌, IsTrue, IsSome, Some, option_map, IfOk, IfErr, OnOk, OnErr, length, vec_capacity, []};
+ghost use Rattle.std.specs.Prelude.{◌≡◌, ℕ, ◌+◌, ◌*◌, ◌/◌, ◌^◌, ◌<◌, ◌≤◌, ◌%◌, IsTrue, IsSome, Some, option_map, IfOk, IfErr, OnOk, OnErr, length, vec_capacity, []};
 ghost use Rattle.paging_core.specs.Address.{is_canonical};
 ghost use Rattle.paging_core.specs.Pool.{free_count};
 ghost use Rattle.paging_core.specs.Walk.{walk_of, reached};
@@ -7,7 +7,6 @@ ghost use Rattle.region_tree.specs.Regions.{kind_at};
 ghost use Rattle.heap_model.specs.Machine.{rights_of};
 ghost use Rattle.heap_model.specs.Room.{heap_region as granted_region, heap_rights as granted_rights};
 ghost use Rattle.kernel_heap.specs.Config.{IsGoodWindow};
-ghost use Rattle.heap_memory.specs.declared.grant.GrantFault.TheVariants.{OutOfMemory};
 ghost use Rattle.heap_model.specs.Request.{pages_in};
 ghost use Rattle.kernel_heap.specs.Layout.{IsPagedKept, IsPagedKept-prop};
 ghost use Rattle.mapped_regions.specs.Shown.{shown};
@@ -57,7 +56,7 @@ pub struct PagedSystem {
 }
 
 impl PagedSystem {
-    ghost use Rattle.kernel_heap.specs.Layout.{IsNew, CanGrant, LacksPlaceOrFrames, IsGranted, IsGrantedFor};
+    ghost use Rattle.kernel_heap.specs.Layout.{IsNew, CanGrant, LacksPlaceOrFrames, MayDeny, IsGranted, IsGrantedFor};
     ghost use Rattle.kernel_heap.specs.System.{paged};
     ghost use Rattle.kernel_heap.specs.Words.{heap_regions, grants_of};
     ghost use Rattle.mapped_regions.specs.Mapped.{word_reached};
@@ -167,7 +166,7 @@ impl PagedSystem {
         requires some { 0 < size }
         ensures ok { IfOk result (λ grant. IsGrantedFor (paged self.old) (paged self.new) size grant) }
         ensures err { OnErr result (paged self.new ≡ paged self.old) }
-        ensures lacks { IfErr result (λ fault. fault ≢ OutOfMemory → LacksPlaceOrFrames (paged self.old) (pages_in size) fault) }
+        ensures lacks { IfErr result (λ fault. MayDeny (paged self.old) size fault) }
     {
         let pages = pages_in(size);
         let place = self.plan(pages)?;

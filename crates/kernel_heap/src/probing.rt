@@ -7,7 +7,7 @@ ghost use Rattle.heap_model.specs.Machine.{Stands, IsStep};
 ghost use Rattle.kernel_heap.specs.System.{paged};
 ghost use Rattle.kernel_heap.specs.Machine.{seen_with, system_of};
 ghost use Rattle.kernel_heap.specs.Kept.{IsReachedByte};
-ghost use Rattle.x86_tables.specs.PageFaultErrorCode.{page_fault_bits};
+ghost use Rattle.x86_flags.specs.PageFaultErrorCode.{page_fault_bits};
 
 use crate::numbered_heap::{NumberedHeap, refused};
 use bitflags::Flags;

@@ -16,13 +16,14 @@ use std::alloc::AllocError;
 
 impl NumberedHeap {
     /// Serves a call. A write, an unmap, a probe and a setting take no memory, and are always answered.
+    #[inline(always)]
     pub(crate) fn serve(&mut self, call: &Call) -> Result<Answer, AllocError>
         requires sound { IsSound self.old }
         ensures sound { IsSound self.new }
         ensures ok { (top : ℕ) (s : State) → IsGood s → Stands (seen_with top self.old) s → IfOk result (λ answer. IsStep s call.now answer (seen_with top self.new)) }
         ensures err { (top : ℕ) → OnErr result (seen_with top self.new ≡ seen_with top self.old) }
         ensures runs { (top : ℕ) (s : State) → IsGood s → Stands (seen_with top self.old) s → IfOk result (λ answer. AreRunsUsedFor (paged (system_of self.old)) (paged (system_of self.new)) (lasting_pages s call.now answer)) }
-        ensures heap { IfOk result (λ answer. HeapMoves self.old call.now answer.reply self.new) }
+        ensures heap { IfOk result (λ answer. HeapMoves self.old call.now answer.reply answer.large self.new) }
         ensures kept { IfOk result (λ answer. IsSeenAsBefore answer.reply self.old self.new) }
         ensures heap_err { OnErr result (IsStill self.old.heap self.new.heap) }
         ensures reached { IfOk result (λ answer. IsReachedByte (paged (system_of self.new)) call.now answer.reply) }

@@ -17,7 +17,7 @@ impl NumberedHeap {
         requires sound { IsSound self.old }
         ensures sound { IsSound self.new }
         ensures ok { (top : ℕ) (s : State) → IsGood s → Stands (seen_with top self.old) s → IsStep s (Call.SetRate rate) result (seen_with top self.new) }
-        ensures heap { HeapMoves self.old (Call.SetRate rate) result.reply self.new }
+        ensures heap { HeapMoves self.old (Call.SetRate rate) result.reply result.large self.new }
         ensures kept { IsSeenAsBefore result.reply self.old self.new }
     {
         self.heap.set_max_release_check_rate(rate);
@@ -33,7 +33,7 @@ impl NumberedHeap {
         requires sound { IsSound self.old }
         ensures sound { IsSound self.new }
         ensures ok { (top : ℕ) (s : State) → IsGood s → Stands (seen_with top self.old) s → IsStep s (Call.SetGranularity granularity) result (seen_with top self.new) }
-        ensures heap { HeapMoves self.old (Call.SetGranularity granularity) result.reply self.new }
+        ensures heap { HeapMoves self.old (Call.SetGranularity granularity) result.reply result.large self.new }
         ensures kept { IsSeenAsBefore result.reply self.old self.new }
     {
         Answer {

@@ -24,7 +24,7 @@ impl NumberedHeap {
         ensures sound { IsSound self.new }
         ensures ok { (top : ℕ) (s : State) → IsGood s → Stands (seen_with top self.old) s → IfOk result (λ answer. IsStep s (Call.Trim pad) answer (seen_with top self.new)) }
         ensures err { (top : ℕ) → OnErr result (seen_with top self.new ≡ seen_with top self.old) }
-        ensures heap { IfOk result (λ answer. HeapMoves self.old (Call.Trim pad) answer.reply self.new) }
+        ensures heap { IfOk result (λ answer. HeapMoves self.old (Call.Trim pad) answer.reply answer.large self.new) }
         ensures kept { IfOk result (λ answer. IsSeenAsBefore answer.reply self.old self.new) }
         ensures heap_err { OnErr result (IsStill self.old.heap self.new.heap) }
     {
@@ -48,7 +48,7 @@ impl NumberedHeap {
         ensures sound { IsSound self.new }
         ensures ok { (top : ℕ) (s : State) → IsGood s → Stands (seen_with top self.old) s → IfOk result (λ answer. IsStep s Call.Reset answer (seen_with top self.new)) }
         ensures err { (top : ℕ) → OnErr result (seen_with top self.new ≡ seen_with top self.old) }
-        ensures heap { IfOk result (λ answer. HeapMoves self.old Call.Reset answer.reply self.new) }
+        ensures heap { IfOk result (λ answer. HeapMoves self.old Call.Reset answer.reply answer.large self.new) }
         ensures kept { IfOk result (λ answer. IsSeenAsBefore answer.reply self.old self.new) }
         ensures heap_err { OnErr result (IsStill self.old.heap self.new.heap) }
     {

@@ -1,5 +1,5 @@
 // A paged system with flat words beside it.
-ghost use Rattle.std.specs.Prelude.{◌≡◌, ◌≢◌, ℕ, ◌+◌, ◌*◌, ◌%◌, ◌<◌, ◌≤◌, ◌⊎◌, [], ◌∷◌, true, refl, IsTrue, IfSome, IfNone, IfOk, IfErr, OnErr};
+ghost use Rattle.std.specs.Prelude.{◌≡◌, ℕ, ◌+◌, ◌*◌, ◌%◌, ◌<◌, ◌≤◌, ◌⊎◌, [], ◌∷◌, true, refl, IsTrue, IfSome, IfNone, IfOk, IfErr, OnErr};
 ghost use Rattle.std.specs.List.{AllByRecursion};
 ghost use Rattle.std.specs.Int.{is_power_of_two};
 ghost use Rattle.kernel_heap.specs.Config.{IsGoodWindow};
@@ -31,9 +31,7 @@ impl TwinSystem {
     ghost use Rattle.heap_memory.specs.Words.{IsStored, AreWordsOf, AreFilled, AreCopied};
     ghost use Rattle.heap_model.specs.Machine.{OnlyHeapBytesChange};
     ghost use Rattle.mapped_regions.specs.Mapped.{word_reached};
-    ghost use Rattle.heap_memory.specs.declared.grant.GrantFault.TheVariants.{OutOfMemory};
-    ghost use Rattle.heap_model.specs.Request.{pages_in};
-    ghost use Rattle.kernel_heap.specs.Layout.{IsNew, IsGrantedFor, LacksPlaceOrFrames};
+    ghost use Rattle.kernel_heap.specs.Layout.{IsNew, IsGrantedFor, MayDeny};
     ghost use Rattle.kernel_heap.specs.FlatWindow.{IsCovered, flat_word};
     ghost use Rattle.kernel_heap.specs.TwinSystem.{paged_of, IsFlatCleared};
     ghost use Rattle.kernel_heap.specs.Words.{grants_of};
@@ -127,7 +125,7 @@ impl TwinSystem {
         ensures ok { IfOk result (λ grant. IsGrantedFor (paged_of self.old) (paged_of self.new) size grant) }
         ensures flat { IfOk result (λ grant. IsFlatCleared self.new grant) }
         ensures err { OnErr result (paged_of self.new ≡ paged_of self.old) }
-        ensures lacks { IfErr result (λ fault. fault ≢ OutOfMemory → LacksPlaceOrFrames (paged_of self.old) (pages_in size) fault) }
+        ensures lacks { IfErr result (λ fault. MayDeny (paged_of self.old) size fault) }
     {
         let pages = pages_in(size);
         let place = self.mapped.plan(pages)?;
@@ -250,16 +248,14 @@ impl Memory for TwinSystem {
 impl Allocator for TwinSystem {
     ghost use Rattle.heap_memory.specs.Events.{Granted, Refused};
     ghost use Rattle.heap_memory.specs.Regions.{IsWordOf, IsApart, IsGoodGrant, with_grant};
-    ghost use Rattle.heap_memory.specs.declared.grant.GrantFault.TheVariants.{OutOfMemory};
-    ghost use Rattle.heap_model.specs.Request.{pages_in};
     ghost use Rattle.kernel_heap.specs.Follows.{Follows};
     ghost use Rattle.kernel_heap.specs.Words.{grants_of};
     ghost use Rattle.mapped_regions.specs.Mapped.{word_reached};
-    ghost use Rattle.kernel_heap.specs.Layout.{LacksPlaceOrFrames};
+    ghost use Rattle.kernel_heap.specs.Layout.{MayDeny};
     ghost use Rattle.kernel_heap.specs.Ordered.{regions_ordered};
     ghost use Rattle.kernel_heap.specs.TwinSystem.{paged_of, IsFlatCleared};
 
-    ghost denies = { λ system size fault. LacksPlaceOrFrames (paged_of system) (pages_in size) fault };
+    ghost denies = { λ system size fault. MayDeny (paged_of system) size fault };
 
     ghost zeros = { λ system. true };
 
@@ -292,7 +288,7 @@ impl Allocator for TwinSystem {
         ensures err_follows { IfErr result (λ fault. Follows (paged_of self.old) (Refused size fault ∷ []) (paged_of self.new)) }
         ensures words { (at : ℕ) → IsWordOf (grants_of (paged_of self.old)) at → word_reached (paged_of self.new) at ≡ word_reached (paged_of self.old) at }
         ensures err { OnErr result (paged_of self.new ≡ paged_of self.old) }
-        ensures denied { IfErr result (λ fault. fault ≢ OutOfMemory → LacksPlaceOrFrames (paged_of self.old) (pages_in size) fault) }
+        ensures denied { IfErr result (λ fault. MayDeny (paged_of self.old) size fault) }
     {
         self.grant_bytes(size)
     }

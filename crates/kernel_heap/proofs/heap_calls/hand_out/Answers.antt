@@ -19,8 +19,8 @@ returns-clause-zeros g c =
 
 pub returns-clause-member : goal.returns-clause-member
 returns-clause-member g c = elim c.if-cleared.branch [
-  | then-cleared w ↦ λ is. absurd (let yes = w.if-cleared.true in cc)
-  | else-cleared w ↦ λ is. rw w.answer-is w.malloc-answer.ensures.member
+  | then-cleared w ↦ rw w.answer-is w.calloc-answer.ensures.member
+  | else-cleared w ↦ rw w.answer-is w.malloc-answer.ensures.member
 ]
 
 pub returns-clause-linked : goal.returns-clause-linked

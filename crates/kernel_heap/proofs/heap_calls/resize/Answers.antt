@@ -1,5 +1,5 @@
 use Rattle.std.proofs.lemmas.Result.{IfOk-weaker, IfErr-weaker}
-use Rattle.std.proofs.Common.{◌-◌, ◌==◌}
+use Rattle.std.proofs.Common.{◌≡◌, ◌-◌, ◌==◌}
 use Rattle.dlmalloc.specs.State.{extents_in, size_where}
 use Rattle.kernel_heap.specs.Heap.{heap_state}
 use Rattle.kernel_heap.proofs.HeapCalls.{given_fewer, bytes_held}
@@ -21,6 +21,13 @@ pub returns-clause-resized : goal.returns-clause-resized
 returns-clause-resized g c = elim c.if-keeps_alignment.branch [
   | then-keeps_alignment w ↦ rw (w.heap-is, w.answer-is, w.if-keeps_alignment.true) w.realloc-answer.ensures.resized
   | else-keeps_alignment w ↦ rw (w.heap-is, w.answer-is, w.if-keeps_alignment.false) w.c_realloc-answer.ensures.resized
+]
+
+pub returns-clause-member : goal.returns-clause-member
+returns-clause-member g c = elim c.if-keeps_alignment.branch [
+  | then-keeps_alignment w ↦ rw (w.answer-is, w.if-keeps_alignment.true) w.realloc-answer.ensures.member
+  | else-keeps_alignment w ↦ rw (w.answer-is, w.if-keeps_alignment.false)
+      (IfOk-weaker w.c_realloc-answer.result _ _ (λ address member moved. member (λ same. let e : address ≡ c.args.live.address = cc in moved e)) w.c_realloc-answer.ensures.member)
 ]
 
 pub returns-clause-tried : goal.returns-clause-tried

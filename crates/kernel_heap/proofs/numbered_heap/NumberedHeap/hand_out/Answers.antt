@@ -1,4 +1,4 @@
-use Rattle.std.proofs.Common.{rules, arith, ℕ, ◌+◌, ◌≤◌, vec_capacity, ◌≡◌, ◌∙◌, ap, refl, sym, subst, length, Some, Bool, true, false}
+use Rattle.std.proofs.Common.{rules, arith, ℕ, ◌+◌, ◌≤◌, vec_capacity, ◌≡◌, ◌∙◌, ap, refl, sym, subst, length, List, Option, None, Some, Bool, true, false}
 use Rattle.std.specs.Int.{is_power_of_two}
 use Rattle.std.proofs.lemmas.Result.{IfOk-weaker, on_err_weaker}
 use Rattle.dlmalloc_chunks.specs.Request.{padded, wanted}
@@ -17,7 +17,7 @@ use Rattle.kernel_heap.specs.Heap.{regions, word}
 use Rattle.kernel_heap.specs.Machine.{system_of, seen_with}
 use Rattle.kernel_heap.specs.Blocks.{request, IsServedFor}
 use Rattle.kernel_heap.specs.Kept.{lasting_pages, AreRunsUsedFor, leaves_all}
-use Rattle.kernel_heap.specs.Moves.{IsToldFrom, HeapMoves}
+use Rattle.kernel_heap.specs.Moves.{IsToldFrom, AreSlotsTold, HeapMoves}
 use Rattle.kernel_heap.specs.declared.numbered_heap.NumberedHeap.{NumberedHeap}
 use Rattle.kernel_heap.specs.declared.paged_system.PagedSystem.{PagedSystem}
 use Rattle.kernel_heap.proofs.LastingPages.{runs_refused}
@@ -35,10 +35,10 @@ pub hand_out-requires-clause-align : goal.hand_out-requires-clause-align
 hand_out-requires-clause-align c = let power : is_power_of_two c.args.align ≡ true = search rules in power_from_test c.args.align power
 
 -- how the heap moves is told by the request
-moves_request : (cleared : Bool) (old : NumberedHeap) (size align number address : ℕ) (new : NumberedHeap) (heap : Dlmalloc PagedSystem) → IsServedFor cleared old.heap size align address heap →
-    IsToldFrom heap new.heap → (cleared ≡ false → IsMemberServed regions word old.heap size align address) → HeapMoves old (request cleared size align) (Placed number address) new
-moves_request false old size align number address new heap served told member = (heap, served, told, member refl)
-moves_request true old size align number address new heap served told member = (heap, served, told)
+moves_request : (cleared : Bool) (old : NumberedHeap) (size align number address : ℕ) (large : Option (List ℕ)) (new : NumberedHeap) (heap : Dlmalloc PagedSystem) → IsServedFor cleared old.heap size align address heap →
+    IsToldFrom heap new.heap → AreSlotsTold old.heap heap large → IsMemberServed regions word old.heap size align address → HeapMoves old (request cleared size align) (Placed number address) large new
+moves_request false old size align number address large new heap served told slots member = (heap, served, told, slots, member)
+moves_request true old size align number address large new heap served told slots member = (heap, served, told, slots, member)
 
 -- the list has a place for one region more
 pub changed_regions-requires-clause-places : goal.changed_regions-requires-clause-places
@@ -121,10 +121,15 @@ returns-in-Ok-clause-heap c =
       blocks = c.new_slots.ensures.blocks;
     } in
     let heap = c.changed_regions.ensures.heap ∙ c.add_block.ensures.heap in
+    let joins_now = ap (λ h. (paged h.system).joins) heap in
+    let slots : AreSlotsTold c.args.self.now.heap c.hand_out.new.heap c.new_slots.result = record {
+      none = λ same. (c.new_slots.ensures.none (joins_now ∙ (same ∙ sym c.marks-before.ensures.joins))).0;
+      joined = λ other. c.new_slots.ensures.slots (λ same. other (sym joins_now ∙ (same ∙ c.marks-before.ensures.joins))) ∙ ap (λ h. listed_slots (paged h.system).slots) heap;
+    } in
     rw c.add_block.ensures.reply
-    (moves_request c.args.cleared c.args.self.now c.args.size c.args.align _ c.in-Ok.address c.new_slots.new.self c.hand_out.new.heap c.in-Ok.ensures.served
+    (moves_request c.args.cleared c.args.self.now c.args.size c.args.align _ c.in-Ok.address c.new_slots.result c.new_slots.new.self c.hand_out.new.heap c.in-Ok.ensures.served
     (subst (λ h. IsToldFrom h c.new_slots.new.self.heap) heap (told_from c.changed_regions.new.self c.new_slots.new.self c.marks-before.result.joins told))
-    (λ is. c.in-Ok.ensures.member is))
+    slots c.in-Ok.ensures.member)
 
 pub returns-in-Err-clause-sound : goal.returns-in-Err-clause-sound
 returns-in-Err-clause-sound c =
@@ -169,8 +174,8 @@ pub returns-in-Err-clause-heap : goal.returns-in-Err-clause-heap
 returns-in-Err-clause-heap c =
     let new : NumberedHeap = record { alloc = c.args.self.now.alloc; heap = c.hand_out.new.heap; blocks = c.reserve.new.self; list = c.reserve-2.new.self } in
     IfOk-weaker c.refused_by.result _ _
-    (λ answer given. subst (λ (a : Answer). HeapMoves c.args.self.now (request c.args.cleared c.args.size c.args.align) a.reply new) (sym given.2)
-    (request_refused_moves c.args.cleared c.args.self.now c.args.size c.args.align given.0 new (left_refused c.args.self.now.heap c.hand_out.new.heap (asked c.args.size c.args.align) c.in-Err.error given.0 given.1 c.in-Err.ensures.err)
+    (λ answer given. subst (λ (a : Answer). HeapMoves c.args.self.now (request c.args.cleared c.args.size c.args.align) a.reply a.large new) (sym given.2)
+    (request_refused_moves c.args.cleared c.args.self.now c.args.size c.args.align given.0 None new (left_refused c.args.self.now.heap c.hand_out.new.heap (asked c.args.size c.args.align) c.in-Err.error given.0 given.1 c.in-Err.ensures.err)
     (none_for c.args.self.now.heap c.args.size c.args.align c.in-Err.error given.0 given.1 c.in-Err.ensures.err.refused)))
     c.refused_by.ensures.ok
 
@@ -179,7 +184,7 @@ returns-in-Err-clause-heap_err c = on_err_weaker c.refused_by.result (λ none. (
 
 pub returns-then-not-is_power_of_two-clause-heap : goal.returns-then-not-is_power_of_two-clause-heap
 returns-then-not-is_power_of_two-clause-heap c =
-    rw c.refused.ensures (request_refused_moves c.args.cleared c.args.self.now c.args.size c.args.align BadAlign c.args.self.now refl (λ room. absurd (cc)))
+    rw c.refused.ensures (request_refused_moves c.args.cleared c.args.self.now c.args.size c.args.align BadAlign None c.args.self.now refl (λ room. absurd (cc)))
 
 pub returns-in-Ok-clause-kept : goal.returns-in-Ok-clause-kept
 returns-in-Ok-clause-kept c = other_reply c.add_block.result c.args.self.now c.new_slots.new.self (ap leaves_all c.add_block.ensures.reply)

@@ -3,7 +3,7 @@ use Rattle.paging_core.specs.Address.{is_canonical}
 use Rattle.paging_core.specs.Walk.{walk_of, reached}
 use Rattle.heap_model.specs.Machine.{rights_of}
 use Rattle.heap_model.specs.Probe.{is_granted, fault_code}
-use Rattle.x86_tables.specs.PageFaultErrorCode.{page_fault_bits}
+use Rattle.x86_flags.specs.PageFaultErrorCode.{page_fault_bits}
 use Rattle.heap_model.proofs.Probed.{step_byte, step_fault}
 use Rattle.kernel_heap.specs.System.{paged}
 use Rattle.kernel_heap.specs.Machine.{seen_with}

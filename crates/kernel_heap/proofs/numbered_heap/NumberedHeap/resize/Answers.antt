@@ -10,7 +10,7 @@ use Rattle.kernel_heap.specs.System.{paged}
 use Rattle.kernel_heap.specs.Machine.{seen_with}
 use Rattle.kernel_heap.specs.Numbered.{live_at}
 use Rattle.kernel_heap.specs.Blocks.{resizing, align_kept}
-use Rattle.kernel_heap.specs.Moves.{HeapMoves, IsToldFrom}
+use Rattle.kernel_heap.specs.Moves.{HeapMoves, AreSlotsTold, IsToldFrom}
 use Rattle.kernel_heap.proofs.Laid.{laid_resized, laid_denied, still_err}
 use Rattle.kernel_heap.proofs.Found.{few_regions}
 use Rattle.kernel_heap.proofs.Resized.{step_resized, step_not_resized, step_unknown, kept_power, moves_resizing, moved_shortened}
@@ -77,8 +77,14 @@ returns-in-Ok-clause-heap c =
       rest = c.new_slots.ensures.rest;
       blocks = c.new_slots.ensures.blocks;
     } in
-    moves_resizing c.args.keeps_alignment c.args.self.now c.args.number c.args.size c.in-Ok.address c.in-Some.live c.new_slots.new.self is c.resize.new.heap c.in-Ok.ensures.resized
+    let joins_now = ap (λ heap. (paged heap.system).joins) c.changed_regions.ensures.heap in
+    let slots : AreSlotsTold c.args.self.now.heap c.resize.new.heap c.new_slots.result = record {
+      none = λ same. (c.new_slots.ensures.none (joins_now ∙ (same ∙ sym c.marks-before.ensures.joins))).0;
+      joined = λ other. c.new_slots.ensures.slots (λ same. other (sym joins_now ∙ (same ∙ c.marks-before.ensures.joins))) ∙ ap (λ heap. listed_slots (paged heap.system).slots) c.changed_regions.ensures.heap;
+    } in
+    moves_resizing c.args.keeps_alignment c.args.self.now c.args.number c.args.size c.in-Ok.address c.in-Some.live c.new_slots.result c.new_slots.new.self is c.resize.new.heap c.in-Ok.ensures.resized
     (subst (λ h. IsToldFrom h c.new_slots.new.self.heap) c.changed_regions.ensures.heap (told_from c.changed_regions.new.self c.new_slots.new.self c.marks-before.result.joins told))
+    slots c.in-Ok.ensures.member
 
 pub returns-in-Err-clause-sound : goal.returns-in-Err-clause-sound
 returns-in-Err-clause-sound c =
@@ -107,8 +113,8 @@ returns-in-Err-clause-heap c =
     let is = sym c.live.ensures ∙ c.in-Some.is in
     let new : NumberedHeap = record { alloc = c.args.self.now.alloc; heap = c.resize.new.heap; blocks = c.args.self.now.blocks; list = c.reserve.new.self } in
     IfOk-weaker c.refused_by.result _ _
-    (λ answer given. subst (λ (a : Answer). HeapMoves c.args.self.now (resizing c.args.keeps_alignment c.args.number c.args.size) a.reply new) (sym given.2)
-    (resizing_refused_moves c.args.keeps_alignment c.args.self.now c.args.number c.args.size given.0 new c.in-Some.live is (left_refused c.args.self.now.heap c.resize.new.heap (asked c.args.size (align_kept c.args.keeps_alignment c.in-Some.live)) c.in-Err.error given.0 given.1 c.in-Err.ensures.err)
+    (λ answer given. subst (λ (a : Answer). HeapMoves c.args.self.now (resizing c.args.keeps_alignment c.args.number c.args.size) a.reply a.large new) (sym given.2)
+    (resizing_refused_moves c.args.keeps_alignment c.args.self.now c.args.number c.args.size given.0 None new c.in-Some.live is (left_refused c.args.self.now.heap c.resize.new.heap (asked c.args.size (align_kept c.args.keeps_alignment c.in-Some.live)) c.in-Err.error given.0 given.1 c.in-Err.ensures.err)
     (none_beside c.args.self.now.heap c.args.size (align_kept c.args.keeps_alignment c.in-Some.live) c.in-Some.live.address c.in-Err.error given.0 given.1 c.in-Err.ensures.err.refused c.in-Err.ensures.tried)))
     c.refused_by.ensures.ok
 
@@ -118,7 +124,7 @@ returns-in-Err-clause-heap_err c = on_err_weaker c.refused_by.result (λ none. (
 pub returns-in_default-clause-heap : goal.returns-in_default-clause-heap
 returns-in_default-clause-heap c =
     let none : live_at c.args.self.now.blocks.items c.args.number ≡ None = search rules in
-    rw c.refused.ensures (unknown_moves c.args.keeps_alignment c.args.self.now c.args.number c.args.size UnknownBlock c.args.self.now none refl)
+    rw c.refused.ensures (unknown_moves c.args.keeps_alignment c.args.self.now c.args.number c.args.size UnknownBlock None c.args.self.now none refl)
 
 pub returns-in-Err-clause-kept : goal.returns-in-Err-clause-kept
 returns-in-Err-clause-kept c =
