@@ -8,6 +8,7 @@ pub mod Hexes
 pub mod Known
 pub mod LineLemmas
 pub mod LiveBlocks
+pub mod ProcessorRegions
 pub mod Numerals
 pub mod Powers
 pub mod Runs

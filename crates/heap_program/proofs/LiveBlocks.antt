@@ -1,13 +1,17 @@
 -- A machine that stands for a good state holds its live blocks.
-use Rattle.std.proofs.Common.{◌≡◌, ℕ, ◌+◌, ◌*◌, ◌/◌, ◌%◌, inl, inr, IfSome, List, [], ◌∷◌, ◌++◌, find, refl, sym, ap, ◌∙◌, subst, arith, Bool, true, false, cond, Option, Some, None, option_map, IsTrue}
+use Rattle.std.proofs.Common.{◌≡◌, ℕ, ◌+◌, ◌*◌, ◌/◌, ◌%◌, ◌^◌, ◌<◌, ◌≤◌, inl, inr, IfSome, List, [], ◌∷◌, ◌++◌, find, refl, sym, ap, ◌∙◌, subst, arith, Bool, true, false, cond, Option, Some, None, option_map, IsTrue}
 use Rattle.std.proofs.lemmas.Bool.Decides.{nat_tests}
 use Rattle.std.specs.List.{list_any, AllByRecursion}
 use Rattle.paging_core.specs.Address.{is_canonical}
+use Rattle.paging_core.specs.Memory.{word_at, byte_of, frame_count}
 use Rattle.paging_core.specs.Walk.{Place, walk_of, reached}
+use Rattle.paging_core.specs.ProcessorWalk.{Outcome, NotPresent, Reserved, AtPage, processor_walk, page_of}
+use Rattle.paging_core.specs.Plain.{ArePlain}
+use Rattle.paging_core.proofs.ProcessorWalk.{walks_alike}
 use Rattle.paging_core.specs.declared.page_table.Rights.{Rights}
 use Rattle.heap_model.specs.declared.answer.Answer.{Answer}
 use Rattle.heap_model.specs.declared.region.Region.{Region}
-use Rattle.heap_model.specs.State.{State, is_within}
+use Rattle.heap_model.specs.State.{State, Block, is_within, block_at, cell_at, cover}
 use Rattle.heap_model.specs.Room.{heap_rights}
 use Rattle.heap_model.specs.Run.{IsGood, IsWhole, IsHeapRegion}
 use Rattle.heap_model.specs.Machine.{Seen, Stands, rights_of}
@@ -16,7 +20,7 @@ use Rattle.kernel_heap.specs.declared.machine.Machine.{Machine}
 use Rattle.kernel_heap.specs.Machine.{seen}
 use Rattle.heap_program.specs.Generated.{IsGenerated}
 use Rattle.heap_program.specs.Headline.{IsAnswered}
-use Rattle.heap_program.specs.LiveBlocks.{HoldsBlocks, HoldsEachBlock}
+use Rattle.heap_program.specs.LiveBlocks.{IsHeld, HoldsBlocks, HoldsEachBlock}
 
 abbrev region_rights : Option Region → Option Rights
 region_rights found = option_map (λ region. region.rights) found
@@ -61,18 +65,43 @@ walked m s at good stands there =
     (writable_page (walk_of m.paged.words m.paged.root (at / 4096))
     (stands.pages_found (at / 4096) (subst (λ a. IsTrue (is_canonical a)) page canonical) ∙ page_rights s at s.heap s.users good.heap there))
 
+-- a walk that finds a page ends there
+ends_there : (outcome : Outcome) (page : Place) → page_of outcome ≡ Some page → outcome ≡ AtPage page
+ends_there (NotPresent step) page is = absurd (cc)
+ends_there (Reserved step) page is = absurd (cc)
+ends_there (AtPage place) page is = let same : place ≡ page = cc in ap AtPage same
+
+-- the byte that is reached is the one in the page
+byte_in : (words : List ℕ) (root address value : ℕ) (page : Place) → walk_of words root (address / 4096) ≡ Some page → reached words root address ≡ Some value →
+    byte_of (word_at words page.frame (address % 4096 / 8)) (address % 8) ≡ value
+byte_in words root address value page found is =
+    let here : Some (byte_of (word_at words page.frame (address % 4096 / 8)) (address % 8)) ≡ Some value =
+    sym (ap (option_map (λ (place : Place). byte_of (word_at words place.frame (address % 4096 / 8)) (address % 8))) found) ∙ is in
+    cc
+
+-- a known byte of a block is held
+held_at : (m : Seen) (s : State) (width i k : ℕ) (a : Block) → IsGood s → Stands m s → 4096 * frame_count m.paged.words ≤ 2 ^ width → block_at s.blocks i ≡ Some a →
+    k < cover a → IsHeld width m.paged.words m.top (a.address + k) (cell_at a.cells k)
+held_at m s width i k a good stands reaches is less =
+    let found = walked m s (a.address + k) good stands ((good.each i a is).granted k less) in
+    let plain : ArePlain m.paged.words m.top = subst (ArePlain m.paged.words) stands.root stands.tree.plain in
+    let alike = walks_alike m.paged.words m.top ((a.address + k) / 4096) width plain reaches in
+    let ends : processor_walk width m.paged.words m.top ((a.address + k) / 4096) ≡ AtPage found.page = ends_there (processor_walk width m.paged.words m.top ((a.address + k) / 4096)) found.page (alike.0 ∙ found.is) in
+    record {
+      page = found.page;
+      found = ends;
+      writable = found.writable;
+      inside = alike.2 found.page ends;
+      byte = λ value known.
+          byte_in m.paged.words m.top (a.address + k) value found.page found.is
+          (ap (λ root. reached m.paged.words root (a.address + k)) (sym stands.root) ∙ stands.bytes.known i k value a is known);
+    }
+
 pub holds_blocks : HoldsEachBlock
 holds_blocks m s good stands = record {
   live = stands.blocks;
   aligned = λ i a is. (good.each i a is).aligned;
-  held = λ i k a is less.
-      let found = walked m s (a.address + k) good stands ((good.each i a is).granted k less) in
-      record {
-        page = found.page;
-        found = found.is;
-        writable = found.writable;
-        byte = λ value known. ap (λ root. reached m.paged.words root (a.address + k)) (sym stands.root) ∙ stands.bytes.known i k value a is known;
-      };
+  held = λ width i k a reaches is less. held_at m s width i k a good stands reaches is less;
   apart = λ i j k l a b is_a is_b differ less_a less_b same. elim (good.apart i j a b is_a is_b differ) [ inl before ↦ omega arith | inr after ↦ omega arith ];
 }
 

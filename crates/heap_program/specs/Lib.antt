@@ -11,9 +11,9 @@ pub mod Grammar
 pub mod Headline
 pub mod Lines
 pub mod LiveBlocks
+pub mod ProcessorRegions
 pub mod Number
 pub mod Planned
-pub mod Process
 pub mod Progress
 pub mod Responses
 pub mod Spelling

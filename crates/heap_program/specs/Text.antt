@@ -15,7 +15,7 @@ use Rattle.heap_model.specs.declared.region.Region.{Region}
 use Rattle.heap_model.specs.State.{State}
 use Rattle.heap_model.specs.Place.{all_regions}
 use Rattle.heap_model.specs.Tables.{free_frames}
-use Rattle.x86_tables.specs.PageFaultErrorCode.{page_fault_bits}
+use Rattle.x86_flags.specs.PageFaultErrorCode.{page_fault_bits}
 use Rattle.paging_core.specs.declared.page_table.Rights.{Rights}
 
 -- an address, in lower case without leading zeros

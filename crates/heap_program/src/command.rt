@@ -97,8 +97,8 @@ pub fn heap_main<S: Source, K: Sink>(
     ensures machine { IsSome result.machine ↔ (result.status ≡ 0) }
     ensures answered { (config : Config) → command_of words.now ≡ Some (Run config) → IfSome result.machine (λ machine.
         IsAnswered (start config) (S.left source.old) (S.left source.new) (K.taken sink.old) (K.taken sink.new) (K.flushed sink.new) machine) }
-    // By the walk over the raw page tables, each live block of the machine lies wholly in present writable pages that
-    // hold the bytes last written, and apart from the others.
+    // By a processor's own walk over the raw page tables, each live block of the machine lies wholly in present writable
+    // pages that hold the bytes last written, and apart from the others.
     ensures live { (config : Config) → command_of words.now ≡ Some (Run config) → IfSome result.machine (λ machine.
         (run : IsAnswered (start config) (S.left source.old) (S.left source.new) (K.taken sink.old) (K.taken sink.new) (K.flushed sink.new) machine)
         × HoldsBlocks (seen machine) run.state.blocks) }

@@ -1,5 +1,6 @@
 // Laws of the definitions, which no call needs.
 ghost use Rattle.heap_program.specs.LiveBlocks.{HoldsEachBlock};
+ghost use Rattle.heap_program.specs.ProcessorRegions.{FindsEachRegion, LeavesEachTable};
 ghost use Rattle.heap_program.specs.Spelling.{SpellsOne, RunsSpellOne};
 
 /// An output spells one list of answers: where two lists of answers to the same number of lines are
@@ -11,9 +12,17 @@ pub fn one_spelling()
     ensures runs { RunsSpellOne }
 {}
 
-/// By the walk over the raw page tables, each live block lies wholly in present writable pages that hold the
-/// bytes last written, and apart from the others. So it is of each machine that stands for a good state: a new
-/// one, and one that has answered a call.
+/// By a processor's own walk over the raw page tables from CR3, each live block lies wholly in present writable
+/// pages that hold the bytes last written, and apart from the others. So it is of each machine that stands for a
+/// good state: a new one, and one that has answered a call.
 pub fn live_blocks()
     ensures { HoldsEachBlock }
+{}
+
+/// A processor finds by its own walk from CR3 what the state says: a page exactly where a region holds it, with the
+/// region's rights, and no reserved bit. It leaves each entry of the tables as it is: all are accessed, and dirty if
+/// they map a page.
+pub fn processor_regions()
+    ensures regions { FindsEachRegion }
+    ensures tables { LeavesEachTable }
 {}
