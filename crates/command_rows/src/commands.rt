@@ -124,11 +124,12 @@ fn commands_have_configurations(rt: HostRuntime) -> Result<(), Fail> {
 }
 
 /// Words that end before anything is read or written, and their status.
-const REFUSED: [(&'static [&'static str], u8); 28] = [
+const REFUSED: [(&'static [&'static str], u8); 29] = [
     (&[], 1),
     (&["Run"], 1),
     (&["run", "run"], 1),
     (&["--help"], 1),
+    (&["-h"], 1),
     (&["run 1"], 1),
     (&["run", ""], 1),
     (&["", "run"], 1),
@@ -255,10 +256,13 @@ fn drawings_are_printed(rt: HostRuntime) -> Result<(), Fail> {
 
 #[test]
 fn the_same_seed_draws_the_same(rt: HostRuntime) -> Result<(), Fail> {
-    let (first, sink) = outcome(rt.alloc(), &["gen", "7", "1000"], b"")?;
-    let (second, other) = outcome(rt.alloc(), &["gen", "7", "1000"], b"")?;
+    let (first, sink) = outcome(rt.alloc(), &["gen", "7", "10000"], b"")?;
+    let (second, other) = outcome(rt.alloc(), &["gen", "7", "10000"], b"")?;
     same(&rt, (first.status, second.status), (0, 0));
     same(&rt, sink.written(), other.written());
-    assert!(rt; sink.written().starts_with(b"calls 1000 blocks ".as_slice()));
+    assert!(rt;
+        sink.written()
+            .starts_with(b"calls 10000 blocks ".as_slice())
+    );
     Ok(())
 }

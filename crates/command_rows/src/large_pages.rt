@@ -7,7 +7,7 @@ use std::test::Fail;
 /// A window of 4 MiB, and frames in which there are three free runs for large pages.
 const MORE_FRAMES: &[&str] = &["run", "0x400000", "1024", "65536", "2048", "4095"];
 
-const RUNS: [Command; 15] = [
+const RUNS: [Command; 16] = [
     Command {
         words: &["run"],
         row: Row {
@@ -125,6 +125,15 @@ const RUNS: [Command; 15] = [
         row: Row {
             input: "map 0x200000 507 r---\nmap 0x40000000 512 r---\nunmap 0x200000 507\nmap 0x200000 506 r---\nmap 0x40000000 512 r---\n",
             output: "done\nrefused no-frames\ndone\ndone\ndone\nlarge 0x40000000\nregion 0x200000+506 user r---\nregion 0x40000000+512 user r---\nframes 1 tables 5\n",
+        },
+    },
+    // A resized block takes the place of the user's pages. Its call makes two slots large and cuts one of them again, as the old
+    // block's pages go back: the answer tells both.
+    Command {
+        words: &["run", "0x430000", "8192", "65536", "8192", "4095"],
+        row: Row {
+            input: "map 0x430000 1488 rw--\nmalloc 3000000 1048576\nunmap 0x430000 1488\nrealloc 0 5000000\n",
+            output: "done\nlarge 0x600000 0x800000\nblock 0 0xb00000\nheap 0xa00000+992\nlarge 0xa00000\ndone\nblock 0 0x500000\nheap 0x430000+1440\nlarge 0x600000 0x800000\nregion 0x430000+1440 heap\nframes 6746 tables 6\n",
         },
     },
 ];

@@ -1,13 +1,13 @@
 //! The program `heap`: a kernel heap over four-level page tables, driven by lines of text.
 #![tactic(auto)]
 
-mod pages;
-mod served;
+mod command;
 #[cfg(test)]
 mod tests;
 
-use heap_program::{ReaderSource, WriterSink, program_arguments};
-use served::program;
+use command::Heap;
+use command_line::{Pages, program, program_arguments};
+use heap_program::{ReaderSource, WriterSink};
 use std::io;
 use std::process::ExitCode;
 
@@ -30,9 +30,9 @@ Usage: heap run [BASE PAGES GRANULARITY FRAMES RATE]
         prints how many calls there were, how many numbers they gave and how
         many were refused, and then what run prints at its end.
 
-  --help         prints this text
-  --help lines   prints which lines there are, and their answers
-  --version      prints the name and the version
+  -h, --help         prints this text
+  -h, --help lines   prints which lines there are, and their answers
+  --version          prints the name and the version
 
 Exit status: 0 ok, 1 usage, 2 bad window, 3 bad granularity, 4 too few frames,
 5 out of memory, 6 read fault, 7 write fault, 8 input too long (more than 2^30
@@ -91,16 +91,20 @@ At the end each region has a line, `region ADDRESS+PAGES heap`, or if the user's
 `region ADDRESS+PAGES user RIGHTS`. The last is `frames FREE tables TABLES`.
 ";
 
+const PAGES: Pages = Pages {
+    help: HELP,
+    version: VERSION,
+    lines: Some(LINES),
+};
+
 fn main(rt: HostRuntime) -> ExitCode {
     let stderr = rt.stderr();
-    let mut source = ReaderSource::new(rt.reader());
-    let mut sink = WriterSink::new(io::writer(&rt));
-    let mut errors = WriterSink::new(io::writer(&stderr));
-    program(
+    program::<Heap, _, _, _>(
         rt.alloc(),
+        &PAGES,
         program_arguments(&rt),
-        &mut source,
-        &mut sink,
-        &mut errors,
+        &mut ReaderSource::new(rt.reader()),
+        &mut WriterSink::new(io::writer(&rt)),
+        &mut WriterSink::new(io::writer(&stderr)),
     )
 }

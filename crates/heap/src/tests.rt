@@ -1,6 +1,7 @@
 // The program over readers and writers of its own: its pages, its statuses and what it tells of them.
-use crate::pages::{Page, text_of};
-use crate::served::program;
+use crate::command::Heap;
+use crate::{HELP, LINES, PAGES, VERSION};
+use command_line::program;
 use heap_program::{MemorySink, MemorySource, ReaderSource, WriterSink};
 use std::alloc::{AllocError, Global};
 use std::fmt::Debug;
@@ -18,7 +19,7 @@ struct Row {
 
 const END: &str = "frames 1023 tables 1\n";
 
-const ROWS: [Row; 12] = [
+const ROWS: [Row; 15] = [
     Row {
         words: &["run"],
         status: 0,
@@ -51,6 +52,24 @@ const ROWS: [Row; 12] = [
     },
     Row {
         words: &["--help", "lines", "run"],
+        status: 1,
+        output: "",
+        errors: "usage\n",
+    },
+    Row {
+        words: &["-h", "run"],
+        status: 1,
+        output: "",
+        errors: "usage\n",
+    },
+    Row {
+        words: &["-h", "-h"],
+        status: 1,
+        output: "",
+        errors: "usage\n",
+    },
+    Row {
+        words: &["-H"],
         status: 1,
         output: "",
         errors: "usage\n",
@@ -121,8 +140,9 @@ impl Call {
     }
 
     fn run(&mut self, alloc: Global, arguments: io::Result<Vec<String>>) -> ExitCode {
-        program(
+        program::<Heap, _, _, _>(
             alloc,
+            &PAGES,
             arguments,
             &mut self.source,
             &mut self.sink,
@@ -157,12 +177,12 @@ fn words_have_their_statuses(rt: HostRuntime) -> Result<(), Fail> {
 }
 
 /// Sees that these words show a page, and that no input is read.
-fn expect_page(rt: &impl Abort, alloc: Global, words: &[&str], page: Page) -> Result<(), Fail> {
+fn expect_page(rt: &impl Abort, alloc: Global, words: &[&str], text: &str) -> Result<(), Fail> {
     let arguments = arguments(alloc, words)?;
     let mut call = Call::new(alloc, "malloc 24\n", &[0], &[])?;
     let status = call.run(alloc, Ok(arguments));
     same(rt, status, ExitCode::from(0), words);
-    same(rt, call.sink.written(), text_of(page).as_bytes(), words);
+    same(rt, call.sink.written(), text.as_bytes(), words);
     same(rt, call.sink.flushed(), call.sink.written().len(), words);
     same(rt, call.errors.written(), b"".as_slice(), words);
     Ok(())
@@ -170,12 +190,14 @@ fn expect_page(rt: &impl Abort, alloc: Global, words: &[&str], page: Page) -> Re
 
 #[test]
 fn pages_are_shown(rt: HostRuntime) -> Result<(), Fail> {
-    for (words, page) in [
-        (["--help"].as_slice(), Page::Help),
-        (["--help", "lines"].as_slice(), Page::Lines),
-        (["--version"].as_slice(), Page::Version),
+    for (words, text) in [
+        (["--help"].as_slice(), HELP),
+        (["-h"].as_slice(), HELP),
+        (["--help", "lines"].as_slice(), LINES),
+        (["-h", "lines"].as_slice(), LINES),
+        (["--version"].as_slice(), VERSION),
     ] {
-        expect_page(&rt, rt.alloc(), words, page)?;
+        expect_page(&rt, rt.alloc(), words, text)?;
     }
     Ok(())
 }
@@ -246,9 +268,11 @@ fn expect_unread(
     status: u8,
     errors: &str,
 ) -> Result<(), Fail> {
-    let mut call = Call::new(alloc, "", &[], &[])?;
+    // A read or a write would fail, and give another status.
+    let mut call = Call::new(alloc, "malloc 24\n", &[0], &[0])?;
     let ended = call.run(alloc, Err(Error::from(kind)));
     same(rt, ended, ExitCode::from(status), &[]);
+    same(rt, call.sink.written(), b"".as_slice(), &[]);
     same(rt, call.errors.written(), errors.as_bytes(), &[]);
     Ok(())
 }
@@ -340,8 +364,9 @@ fn interrupted_calls_are_tried_again(rt: HostRuntime) -> Result<(), Fail> {
     });
     let mut sink = WriterSink::new(&mut writer);
     let mut errors = MemorySink::new(rt.alloc(), 4096, Vec::new(rt.alloc()));
-    let status = program(
+    let status = program::<Heap, _, _, _>(
         rt.alloc(),
+        &PAGES,
         Ok(arguments),
         &mut source,
         &mut sink,

@@ -4,6 +4,7 @@ ghost use Rattle.dlmalloc_chunks.specs.Tiling.{AreInSegments};
 ghost use Rattle.heap_model.specs.State.{State, total_pages};
 ghost use Rattle.heap_model.specs.Place.{all_regions};
 ghost use Rattle.heap_program.specs.Progress.{IsAt};
+ghost use Rattle.heap_report.specs.Ran.{HasRun};
 ghost use Rattle.heap_report.specs.Telling.{Tells};
 ghost use Rattle.heap_picture.specs.Legend.{legend};
 ghost use Rattle.heap_picture.specs.Picture.{picture_of, figure_lines, line_feeds, svg_text, head_text, frame_text, map_text, heading_text, regions_frame, regions_text, figures_head, numbers_text};
@@ -15,6 +16,7 @@ use crate::layout::{figures_top, regions_line, regions_top, row_top};
 use crate::legend::legend;
 use crate::regions::{PAGE_UNITS, push_regions, total_pages};
 use crate::scale::{all_rows, row_units};
+use command_line::Command;
 use heap_figures::push_figures;
 use heap_program::{Sink, Source};
 use heap_report::{Reported, Tell, tell_main};
@@ -200,4 +202,17 @@ pub fn picture_main<S: Source, K: Sink>(
     ensures untouched { 1 ≤ result.status → result.status ≤ 4 → (source.new ≡ source.old) × (sink.new ≡ sink.old) }
 {
     tell_main::<Picture, S, K>(alloc, words, source, sink)
+}
+
+impl Command for Picture {
+    ghost comes = { λ S K. HasRun (picture_of legend) };
+
+    fn run<S: Source, K: Sink>(
+        alloc: Global,
+        words: &[String],
+        source: &mut S,
+        sink: &mut K,
+    ) -> u8 {
+        picture_main(alloc, words, source, sink).status
+    }
 }

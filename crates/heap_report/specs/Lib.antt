@@ -1,10 +1,10 @@
 pub mod Calls
 pub mod Listed
 pub mod Live
+pub mod Ran
 pub mod Replaying
 pub mod ReplayingLaws
 pub mod Report
 pub mod Reported
-pub mod Served
 pub mod Sizes
 pub mod Telling

@@ -6,7 +6,6 @@
 //! `tell_main` is the same for any such text (`Tell`).
 #![tactic(auto)]
 
-mod command_line;
 mod listed;
 mod note;
 mod replay;
@@ -14,7 +13,6 @@ mod report;
 mod reported;
 mod tell;
 
-pub use command_line::program;
 pub use listed::Listed;
 pub use replay::Replay;
 pub use report::{Figures, report_main};

@@ -1,10 +1,12 @@
 // The report: the figures of a run.
 ghost use Rattle.std.specs.Prelude.{◌≡◌, ◌≤◌, map, string_bytes};
+ghost use Rattle.heap_report.specs.Ran.{HasRun};
 ghost use Rattle.heap_report.specs.Report.{report_of};
 ghost use Rattle.heap_report.specs.Telling.{Tells};
 
 use crate::reported::Reported;
 use crate::tell::{Tell, tell_main};
+use command_line::Command;
 use heap_figures::push_figures;
 use heap_program::{Sink, Source};
 use kernel_heap::{Extent, Machine};
@@ -41,4 +43,17 @@ pub fn report_main<S: Source, K: Sink>(
     ensures untouched { 1 ≤ result.status → result.status ≤ 4 → (source.new ≡ source.old) × (sink.new ≡ sink.old) }
 {
     tell_main::<Figures, S, K>(alloc, words, source, sink)
+}
+
+impl Command for Figures {
+    ghost comes = { λ S K. HasRun report_of };
+
+    fn run<S: Source, K: Sink>(
+        alloc: Global,
+        words: &[String],
+        source: &mut S,
+        sink: &mut K,
+    ) -> u8 {
+        report_main(alloc, words, source, sink).status
+    }
 }

@@ -1,8 +1,10 @@
 //! The program `heap_picture`: a picture of the heap that a recorded run leaves.
 #![tactic(auto)]
 
+use command_line::{Pages, program, program_arguments};
 use heap_picture::Picture;
-use heap_report::program;
+use heap_program::{ReaderSource, WriterSink};
+use std::io;
 use std::process::ExitCode;
 
 const VERSION: &str = "\
@@ -27,7 +29,7 @@ the lines of `heap_report`. A browser shows at each rectangle what it is.
 A line that is no call is passed over, and a refused call changes nothing. The
 words are those of `heap run`; the default is 0x400000 1024 65536 1024 4095.
 
-  --help      prints this text
+  -h, --help  prints this text
   --version   prints the name and the version
 
 Exit status: 0 ok, 1 usage, 2 bad window, 3 bad granularity, 4 too few frames,
@@ -35,6 +37,20 @@ Exit status: 0 ok, 1 usage, 2 bad window, 3 bad granularity, 4 too few frames,
 bytes). Nothing is printed at 6 and 8.
 ";
 
+const PAGES: Pages = Pages {
+    help: HELP,
+    version: VERSION,
+    lines: None,
+};
+
 fn main(rt: HostRuntime) -> ExitCode {
-    program::<Picture>(&rt, HELP, VERSION)
+    let stderr = rt.stderr();
+    program::<Picture, _, _, _>(
+        rt.alloc(),
+        &PAGES,
+        program_arguments(&rt),
+        &mut ReaderSource::new(rt.reader()),
+        &mut WriterSink::new(io::writer(&rt)),
+        &mut WriterSink::new(io::writer(&stderr)),
+    )
 }

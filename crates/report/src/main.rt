@@ -1,7 +1,10 @@
 //! The program `heap_report`: what a recorded run leaves of a heap, in numbers.
 #![tactic(auto)]
 
-use heap_report::{Figures, program};
+use command_line::{Pages, program, program_arguments};
+use heap_program::{ReaderSource, WriterSink};
+use heap_report::Figures;
+use std::io;
 use std::process::ExitCode;
 
 const VERSION: &str = "\
@@ -29,7 +32,7 @@ them, and then prints one line each:
 A line that is no call is passed over, and a refused call changes nothing. The
 words are those of `heap run`; the default is 0x400000 1024 65536 1024 4095.
 
-  --help      prints this text
+  -h, --help  prints this text
   --version   prints the name and the version
 
 Exit status: 0 ok, 1 usage, 2 bad window, 3 bad granularity, 4 too few frames,
@@ -37,6 +40,20 @@ Exit status: 0 ok, 1 usage, 2 bad window, 3 bad granularity, 4 too few frames,
 bytes). Nothing is printed at 6 and 8.
 ";
 
+const PAGES: Pages = Pages {
+    help: HELP,
+    version: VERSION,
+    lines: None,
+};
+
 fn main(rt: HostRuntime) -> ExitCode {
-    program::<Figures>(&rt, HELP, VERSION)
+    let stderr = rt.stderr();
+    program::<Figures, _, _, _>(
+        rt.alloc(),
+        &PAGES,
+        program_arguments(&rt),
+        &mut ReaderSource::new(rt.reader()),
+        &mut WriterSink::new(io::writer(&rt)),
+        &mut WriterSink::new(io::writer(&stderr)),
+    )
 }

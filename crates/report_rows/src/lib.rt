@@ -6,4 +6,6 @@ mod checks;
 #[cfg(test)]
 mod pictures;
 #[cfg(test)]
+mod programs;
+#[cfg(test)]
 mod reports;

@@ -1,0 +1,4 @@
+pub mod Pages
+pub mod Process
+pub mod Served
+pub mod Streams

@@ -1,0 +1,15 @@
+-- What comes of words that are the command of a program that tells of a run.
+use Rattle.std.specs.Prelude.{◌≡◌, ℕ, List, map, String, string_bytes}
+use Rattle.std.specs.declared.alloc.Global.{Global}
+use Rattle.dlmalloc_chunks.specs.declared.extent.Extent.{Extent}
+use Rattle.heap_model.specs.State.{State}
+use Rattle.command_line.specs.Streams.{Streams}
+use Rattle.heap_report.specs.declared.reported.Reported.{Reported}
+use Rattle.heap_report.specs.Telling.{Tells}
+
+-- A run was told of, over a source and a sink, each as it was and as it then is. So ended the command.
+abbrev pub HasRun : {S K : Type 0} → (State → ℕ → ℕ → List Extent → List ℕ) → Streams S K → List (String Global) → S → S → K → K → ℕ → Type 0
+HasRun text streams words source source' sink sink' status =
+    (reported : Reported)
+    × (status ≡ reported.status)
+    × Tells text (map string_bytes words) (streams.left source) (streams.left source') (streams.taken sink) (streams.taken sink') (streams.flushed sink') (streams.reads source) (streams.reads source') (streams.writes sink) (streams.writes sink') reported
