@@ -1,0 +1,13 @@
+pub mod Cells
+pub mod Classes
+pub mod Composition
+pub mod Histogram
+pub mod Map
+pub mod Marks
+pub mod Pieces
+pub mod Pixels
+pub mod Rows
+pub mod Shapes
+pub mod Tiles
+pub mod Totals
+pub mod Words

@@ -1,0 +1,201 @@
+// What is said of the extents of a row.
+ghost use Rattle.std.specs.Prelude.{◌≡◌, ◌<◌, ◌≤◌, ◌+◌, ◌^◌, ◌++◌, IfOk, OnOk, string_bytes};
+ghost use Rattle.heap_map.specs.Marks.{extent_title, long_label, short_label, label_text, offset, first_cell, mark_text, piece_text, marks_text, counts_text, row_title};
+
+use crate::cells::held_in;
+use crate::classes::{Class, kind_words, letters};
+use crate::pieces::Piece;
+use crate::shapes::{Area, push_rect, push_text, push_titled};
+use crate::words::{push_address, push_commas};
+use dlmalloc_chunks::Extent;
+use std::alloc::{AllocError, Global};
+
+/// Puts the address of an extent, what it is, and its bytes at the end.
+#[tactic(auto, unfolding(crate::specs::Marks::extent_title))]
+pub fn push_title(out: &mut String, extent: Extent) -> Result<(), AllocError>
+    ensures { OnOk result (string_bytes out.new ≡ string_bytes out.old ++ extent_title extent) }
+{
+    push_address(out, extent.at)?;
+    out.push_str(": ")?;
+    out.push_str(kind_words(extent.kind))?;
+    out.push_str(" of ")?;
+    push_commas(out, u128::from(extent.size))?;
+    out.push_str(" bytes")
+}
+
+#[tactic(auto, unfolding(crate::specs::Marks::long_label))]
+fn push_long(out: &mut String, extent: Extent) -> Result<(), AllocError>
+    ensures { OnOk result (string_bytes out.new ≡ string_bytes out.old ++ long_label extent) }
+{
+    out.push_str(kind_words(extent.kind))?;
+    out.push_str(" ")?;
+    push_commas(out, u128::from(extent.size))?;
+    out.push_str(" B")
+}
+
+#[tactic(auto, unfolding(crate::specs::Marks::short_label))]
+fn push_short(out: &mut String, extent: Extent) -> Result<(), AllocError>
+    ensures { OnOk result (string_bytes out.new ≡ string_bytes out.old ++ short_label extent) }
+{
+    push_commas(out, u128::from(extent.size))?;
+    out.push_str(" B")
+}
+
+/// Puts the label of an extent at the end that fits so many pixels, if one does.
+#[tactic(auto, unfolding(crate::specs::Marks::label_text))]
+pub fn push_label(
+    alloc: Global,
+    out: &mut String,
+    x: u128,
+    y: u128,
+    width: u128,
+    extent: Extent,
+) -> Result<(), AllocError>
+    ensures { OnOk result (string_bytes out.new ≡ string_bytes out.old ++ label_text x y width extent) }
+{
+    let mut long = String::new(alloc);
+    push_long(&mut long, extent)?;
+    if 8 * long.len() as u128 + 8 <= width {
+        return push_text(out, letters(extent.kind), x, y, long.as_str());
+    }
+    let mut short = String::new(alloc);
+    push_short(&mut short, extent)?;
+    if 8 * short.len() as u128 + 8 <= width {
+        return push_text(out, letters(extent.kind), x, y, short.as_str());
+    }
+    Ok(())
+}
+
+// Where an address is in a row.
+fn offset(row: u128, base: u128, address: u128) -> u128
+    ensures value { result ≡ offset row base address }
+    ensures few { result ≤ row }
+{
+    address.saturating_sub(base).min(row)
+}
+
+// The first cell that begins there or later.
+#[tactic(auto, using(crate::proofs::Numbers::quotient_least))]
+fn first_cell(cell: u128, offset: u128) -> u128
+    requires cell { (1 ≤ cell) × (cell ≤ 2 ^ 53) }
+    requires offset { offset ≤ 2 ^ 53 }
+    ensures value { result ≡ first_cell cell offset }
+    ensures few { result ≤ 2 ^ 54 }
+{
+    (offset + (cell - 1)) / cell
+}
+
+// Puts a mark over the cells from one to another at the end.
+#[tactic(auto, unfolding(crate::specs::Marks::mark_text))]
+fn push_mark(
+    alloc: Global,
+    out: &mut String,
+    base: u128,
+    y: u128,
+    first: u128,
+    last: u128,
+    piece: Piece,
+) -> Result<(), AllocError>
+    requires y { y < 2 ^ 100 }
+    requires cells { (first ≤ last) × (last ≤ 2 ^ 55) }
+    ensures { OnOk result (string_bytes out.new ≡ string_bytes out.old ++ mark_text base y first last piece) }
+{
+    let x = 144 + 2 * first;
+    let width = 2 * (last - first);
+    if base < piece.start {
+        let gap = Area {
+            x,
+            y,
+            width: 1,
+            height: 18,
+        };
+        push_rect(out, "paper", gap)?;
+    }
+    let area = Area {
+        x,
+        y,
+        width,
+        height: 18,
+    };
+    let mut title = String::new(alloc);
+    push_title(&mut title, piece.of)?;
+    push_titled(out, "none", area, title.as_str())?;
+    if piece.start == u128::from(piece.of.at) {
+        return push_label(alloc, out, x + 5, y + 13, width, piece.of);
+    }
+    Ok(())
+}
+
+// Puts the mark of a piece at the end, if it has four cells or more to itself.
+#[tactic(auto, unfolding(crate::specs::Marks::piece_text), using(crate::proofs::Numbers::quotient_least))]
+fn push_piece(
+    alloc: Global,
+    out: &mut String,
+    row: u128,
+    base: u128,
+    y: u128,
+    piece: Piece,
+) -> Result<(), AllocError>
+    requires row { (512 ≤ row) × (row ≤ 2 ^ 53) }
+    requires y { y < 2 ^ 100 }
+    ensures { OnOk result (string_bytes out.new ≡ string_bytes out.old ++ piece_text row base y piece) }
+{
+    let cell = row / 512;
+    let first = first_cell(cell, offset(row, base, piece.start));
+    let last = offset(row, base, piece.end) / cell;
+    if first + 4 <= last {
+        return push_mark(alloc, out, base, y, first, last, piece);
+    }
+    Ok(())
+}
+
+/// Puts the marks of a row at the end.
+#[tactic(auto, unfolding(crate::specs::Marks::marks_text))]
+pub fn push_marks(
+    alloc: Global,
+    out: &mut String,
+    row: u128,
+    base: u128,
+    y: u128,
+    line: &[Piece],
+) -> Result<(), AllocError>
+    requires row { (512 ≤ row) × (row ≤ 2 ^ 53) }
+    requires y { y < 2 ^ 100 }
+    ensures { OnOk result (string_bytes out.new ≡ string_bytes out.old ++ marks_text row base y line.now) }
+{
+    for piece in line {
+        push_piece(alloc, out, row, base, y, *piece)?;
+    }
+    Ok(())
+}
+
+// Puts how many extents a row has at the end, and how many of its bytes are in blocks.
+#[tactic(auto, unfolding(crate::specs::Marks::counts_text))]
+fn push_counts(out: &mut String, number: u128, used: u128, row: u128) -> Result<(), AllocError>
+    ensures { OnOk result (string_bytes out.new ≡ string_bytes out.old ++ counts_text number used row) }
+{
+    push_commas(out, number)?;
+    out.push_str(" extents, ")?;
+    push_commas(out, used)?;
+    out.push_str(" of ")?;
+    push_commas(out, row)?;
+    out.push_str(" bytes in blocks")
+}
+
+/// Puts what is said of a whole row at the end.
+#[tactic(auto, unfolding(crate::specs::Marks::row_title))]
+pub fn push_row_title(
+    out: &mut String,
+    row: u128,
+    base: u128,
+    line: &[Piece],
+) -> Result<(), AllocError>
+    requires row { row ≤ 2 ^ 53 }
+    requires base { base < 2 ^ 64 }
+    ensures { OnOk result (string_bytes out.new ≡ string_bytes out.old ++ row_title row base line.now) }
+{
+    let used = held_in(line, Class::Block, base, base + row);
+    push_address(out, base as u64)?;
+    out.push_str(": ")?;
+    push_counts(out, line.len() as u128, used, row)
+}
