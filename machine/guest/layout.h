@@ -1,0 +1,6 @@
+/* Where the guest lies, for its code and its linker script. It leaves memory below USER_PAGE to the tables that are tested. */
+#define SLOT 421                        /* the slot of the root table that is the guest's own */
+#define BASE 0xffffd28000000000         /* what it maps: physical address p is at BASE + p, up to 1 GiB */
+#define USER_PAGE 0x0f000000            /* code and stack of ring 3, and where descriptor tables are tried */
+#define GUEST 0x10000000                /* the guest itself; the module lies behind it */
+#define RESULTS 0x20000000              /* what it found, which the host reads from the file that is its memory */
