@@ -1,188 +1,92 @@
 /*
- * The proved heap as the malloc of programs that know nothing of it (Linux, glibc):
+ * The proved heap as the malloc of programs that know nothing of it (Linux, glibc, x86-64):
  *
  *     LD_PRELOAD=.build/limzhur_preload.so python3 ..
  *
- * One heap over one range of addresses, reserved at the first call, and one lock. What does not fit is refused with
- * ENOMEM. An address of no live block is not freed: the heap refuses it, and the program goes on. Built with
- * -DLIMZHUR_CHECK, each such free ends the program, and so does a heap that is not sound: every 10,000 calls look at each
- * chunk.
+ * One heap over one range of addresses, and one lock. What does not fit is refused with ENOMEM. An address of no live block
+ * is not freed: the heap refuses it, and the program goes on. With LIMZHUR_CHECK=1 in the environment such a call ends the
+ * program, and so does a heap that is not sound.
  */
 #define _GNU_SOURCE
-#include <limzhur.h>
+#include "preload/check.h"
+#include "preload/lock.h"
+#include "preload/memory.h"
 
 #include <errno.h>
 #include <malloc.h>
 #include <pthread.h>
 #include <stdint.h>
+#include <stdio.h>
 #include <stdlib.h>
-#include <string.h>
-#include <sys/mman.h>
-#include <unistd.h>
 
-/* The range that is reserved, in bytes: the largest of these halved that the system gives. Pages are had as they are used. */
-#define LARGEST ((size_t)1 << 36)
-#define LEAST ((size_t)1 << 24)
-
-/* The alignment of each block. */
+/* The alignment of each block, and the least other one that glibc serves. */
 #define ALIGN 16
+#define LEAST_ALIGN 32
 
-/* How many bytes at the end have to fall free before their pages are given back. */
-#define GIVE_BACK ((uint64_t)1 << 20)
-
-static pthread_mutex_t lock = PTHREAD_MUTEX_INITIALIZER;
-static _Alignas(16) unsigned char room[LIMZHUR_ROOM];
-static struct limzhur_heap heap = {room};
-static bool begun;
-
-/* Where the memory begins, and from where on no page of it was used. */
-static uint64_t front, untouched;
-
-/* Where what the heap has ends. */
-static uint64_t end(void) {
-    struct limzhur_stats stats;
-    limzhur_stats(&heap, &stats);
-    return front + stats.used;
+/* Runs before each other library's constructor, and so registers the fork handlers before theirs: the linker is told so. */
+__attribute__((constructor)) static void begin_program(int count, char **words, char **variables) {
+    (void)count, (void)words;
+    read_environment(variables);
+    pthread_atfork(before_fork, in_parent, in_child);
 }
 
-/* Ends the program at once: no handler of its own runs, which might call the heap again. */
-static _Noreturn void die(const char *text) {
-    (void)!write(2, text, strlen(text));
-    _exit(134);
-}
-
-static void begin(void) {
-    if (limzhur_room() > sizeof room) die("limzhur: the room is too small\n");
-    for (size_t size = LARGEST; size >= LEAST; size /= 2) {
-        void *memory = mmap(NULL, size, PROT_READ | PROT_WRITE, MAP_PRIVATE | MAP_ANONYMOUS | MAP_NORESERVE, -1, 0);
-        if (memory != MAP_FAILED) {
-            limzhur_init(room, memory, size / 8, (uintptr_t)memory);
-            front = untouched = (uintptr_t)memory;
-            begun = true;
-            return;
-        }
+/* Begins a call. The first one begins the heap. */
+static enum entry enter(void) {
+    static bool begun;
+    enum entry entry = enter_lock();
+    if (entry == REFUSED) return entry;
+    if (!begun) {
+        if (limzhur_room() > sizeof room) die("limzhur: the room is too small\n");
+        if (!begin_heap()) die("limzhur: no range of addresses\n");
+        begun = true;
     }
-    die("limzhur: no range of addresses\n");
-}
-
-#ifdef LIMZHUR_CHECK
-/* A chunk has its size and two bits in the word 8 bytes behind its beginning; its block begins 16 bytes behind that. */
-enum { IS_BEHIND_USED = 1, IS_USED = 2, LEAST_CHUNK = 32, FOOT = 80 };
-
-static uint64_t word(uint64_t address) {
-    return *(const uint64_t *)address;
-}
-
-/* Whether the chunks tile what the heap has, their bits and sizes agree, and marks stand where blocks begin. */
-static bool is_sound(void) {
-    uint64_t chunk = front, last = end() - FOOT;
-    if (end() == front) return true;
-    bool was_used = true;
-    while (chunk < last) {
-        uint64_t head = word(chunk + 8), size = head & ~(uint64_t)7;
-        bool is_used = head & IS_USED;
-        if (size % 16 != 0 || size < (is_used ? LEAST_CHUNK : 16) || size > last - chunk) return false;
-        if (was_used != ((head & IS_BEHIND_USED) != 0) || (!was_used && !is_used)) return false;
-        bool is_top = chunk + size == last;
-        if (is_top && is_used) return false;
-        if (!is_used && !is_top && word(chunk + size) != size) return false;
-        if (limzhur_usable_size(&heap, chunk + 16) != (is_used ? size - 8 : 0)) return false;
-        was_used = is_used;
-        chunk += size;
-    }
-    return chunk == last;
-}
-
-static void check(void) {
-    static unsigned calls;
-    if (++calls % 10000 == 0 && !is_sound()) die("limzhur: the heap is not sound\n");
-}
-#else
-static void check(void) {}
-#endif
-
-static void enter(void) {
-    pthread_mutex_lock(&lock);
-    if (!begun) begin();
     check();
-}
-
-static void leave(void) {
-    pthread_mutex_unlock(&lock);
-}
-
-static void before_fork(void) {
-    pthread_mutex_lock(&lock);
-}
-
-__attribute__((constructor)) static void watch_forks(void) {
-    pthread_atfork(before_fork, leave, leave);
+    return entry;
 }
 
 static bool is_power_of_two(size_t number) {
     return number != 0 && (number & (number - 1)) == 0;
 }
 
-/* Notes that a block was given, and answers a refusal. */
-static void *given(uint64_t address, size_t size) {
-    if (address == 0) {
-        errno = ENOMEM;
-    } else if (address + size > untouched) {
-        untouched = end();
-    }
-    return (void *)address;
+static void *refused(void) {
+    errno = ENOMEM;
+    return NULL;
 }
 
-/* Gives the pages back that the heap needs no more. */
-static void give_back(void) {
-    uint64_t from = (end() + 4095) & ~(uint64_t)4095;
-    if (from + GIVE_BACK < untouched) {
-        int number = errno;
-        madvise((void *)from, untouched - from, MADV_DONTNEED);
-        untouched = from;
-        errno = number;
-    }
+/* The block that a call of the heap answered, and the end of the call. */
+static void *given(enum entry entry, uint64_t address) {
+    leave_lock(entry);
+    return address == 0 ? refused() : (void *)address;
 }
 
-static void *allocate(size_t size, size_t align) {
-    enter();
-    void *block = given(limzhur_malloc(&heap, size, align), size);
-    leave();
-    return block;
+static void *allocate(size_t size, size_t align, request *call) {
+    enum entry entry = enter();
+    if (entry == REFUSED) return refused();
+    return given(entry, serve(call, size, align, size, align));
 }
 
 void *malloc(size_t size) {
-    return allocate(size, ALIGN);
+    return allocate(size, ALIGN, limzhur_malloc);
 }
 
 void *calloc(size_t count, size_t size) {
     size_t bytes;
-    if (__builtin_mul_overflow(count, size, &bytes)) {
-        errno = ENOMEM;
-        return NULL;
-    }
-    enter();
-    void *block = given(limzhur_calloc(&heap, bytes, ALIGN), bytes);
-    leave();
-    return block;
+    return __builtin_mul_overflow(count, size, &bytes) ? refused() : allocate(bytes, ALIGN, limzhur_calloc);
 }
 
-static void free_block(void *block) {
-    static unsigned frees;
-    bool is_large = limzhur_usable_size(&heap, (uintptr_t)block) >= GIVE_BACK;
-    if (!limzhur_free(&heap, (uintptr_t)block)) {
-#ifdef LIMZHUR_CHECK
-        die("limzhur: a free of no live block\n");
-#endif
-    }
-    if (is_large || ++frees % 1024 == 0) give_back();
+/* Whether an address may be asked about: outside of what the heap has are no blocks, and no open pages. */
+static bool is_within(void *block) {
+    return (uint64_t)block >= blocks.begin + HEAD && (uint64_t)block < used_to;
 }
 
 void free(void *block) {
     if (block == NULL) return;
-    enter();
-    free_block(block);
-    leave();
+    enum entry entry = enter();
+    if (entry == REFUSED) return;
+    bool is_top_long = is_within(block) && makes_top_long((uint64_t)block);
+    if (!is_within(block) || !limzhur_free(&heap, (uint64_t)block)) tell_wrong_block("free", (uint64_t)block);
+    settle(is_top_long);
+    leave_lock(entry);
 }
 
 /* As glibc has it, a size of 0 frees. */
@@ -192,51 +96,111 @@ void *realloc(void *block, size_t size) {
         free(block);
         return NULL;
     }
-    enter();
-    void *moved = given(limzhur_realloc(&heap, (uintptr_t)block, size), size);
-    leave();
-    return moved;
+    enum entry entry = enter();
+    if (entry == REFUSED) return refused();
+    uint64_t had = is_within(block) ? limzhur_usable_size(&heap, (uint64_t)block) : 0;
+    if (had == 0) {
+        tell_wrong_block("realloc", (uint64_t)block);
+        return given(entry, 0);
+    }
+    bool is_top_long = size < had && makes_top_long((uint64_t)block);
+    uint64_t address = serve(limzhur_realloc, (uint64_t)block, size, size, ALIGN);
+    /* A block that grew and moved may grow on: what it left at the end is for that. */
+    if (address != (uint64_t)block || size < had) settle(is_top_long);
+    return given(entry, address);
 }
 
 int posix_memalign(void **to, size_t align, size_t size) {
     if (!is_power_of_two(align) || align % sizeof(void *) != 0) return EINVAL;
     int number = errno;
-    void *block = allocate(size, align);
+    void *block = allocate(size, align, limzhur_malloc);
     errno = number;
     if (block == NULL) return ENOMEM;
     *to = block;
     return 0;
 }
 
-void *aligned_alloc(size_t align, size_t size) {
-    if (!is_power_of_two(align)) {
+/* As glibc has it, an alignment that is no power of two is taken for the next one. */
+void *memalign(size_t align, size_t size) {
+    if (align <= ALIGN) return malloc(size);
+    if (align > SIZE_MAX / 2 + 1) {
         errno = EINVAL;
         return NULL;
     }
-    return allocate(size, align);
+    size_t power = LEAST_ALIGN;
+    while (power < align) power *= 2;
+    return allocate(size, power, limzhur_malloc);
 }
 
-void *memalign(size_t align, size_t size) {
-    return aligned_alloc(align, size);
+void *aligned_alloc(size_t align, size_t size) {
+    return memalign(align, size);
 }
 
 void *valloc(size_t size) {
-    return allocate(size, sysconf(_SC_PAGESIZE));
+    return allocate(size, PAGE, limzhur_malloc);
 }
 
 void *pvalloc(size_t size) {
-    size_t page = sysconf(_SC_PAGESIZE);
-    if (size > SIZE_MAX - page) {
-        errno = ENOMEM;
-        return NULL;
-    }
-    return allocate((size + page - 1) / page * page, page);
+    return size > SIZE_MAX - PAGE ? refused() : valloc(page_up(size));
 }
 
 size_t malloc_usable_size(void *block) {
     if (block == NULL) return 0;
-    enter();
-    size_t size = limzhur_usable_size(&heap, (uintptr_t)block);
-    leave();
+    enum entry entry = enter();
+    if (entry == REFUSED) return 0;
+    size_t size = is_within(block) ? limzhur_usable_size(&heap, (uint64_t)block) : 0;
+    leave_lock(entry);
     return size;
+}
+
+/* 1 if pages went back to the system. */
+int malloc_trim(size_t pad) {
+    enum entry entry = enter();
+    if (entry == REFUSED) return 0;
+    limzhur_trim(&heap, pad);
+    bool closed = give_back(1);
+    leave_lock(entry);
+    return closed;
+}
+
+/* What the heap has, chunk by chunk, and how many bytes from the first to the last of it. */
+static struct survey survey(uint64_t *bytes) {
+    struct survey told = {0};
+    enum entry entry = enter();
+    *bytes = 0;
+    if (entry == REFUSED) return told;
+    if (!look_at_chunks(&told)) die("limzhur: the heap is not sound\n");
+    *bytes = used_to - blocks.begin;
+    leave_lock(entry);
+    return told;
+}
+
+struct mallinfo2 mallinfo2(void) {
+    uint64_t bytes;
+    struct survey told = survey(&bytes);
+    return (struct mallinfo2){
+        .arena = bytes,
+        .ordblks = told.free_chunks,
+        .uordblks = bytes - told.free_bytes,
+        .fordblks = told.free_bytes,
+        .keepcost = told.top_bytes,
+    };
+}
+
+struct mallinfo mallinfo(void) {
+    struct mallinfo2 told = mallinfo2();
+    return (struct mallinfo){
+        .arena = told.arena,
+        .ordblks = told.ordblks,
+        .uordblks = told.uordblks,
+        .fordblks = told.fordblks,
+        .keepcost = told.keepcost,
+    };
+}
+
+void malloc_stats(void) {
+    uint64_t bytes;
+    struct survey told = survey(&bytes);
+    dprintf(2, "system bytes     = %10lu\nin use bytes     = %10lu\nblocks           = %10lu\n", bytes, bytes - told.free_bytes,
+            told.used_chunks);
 }
