@@ -20,19 +20,19 @@ use Rattle.address_space.proofs.Mapped.{canonical_in}
 -- no table is at the frame of a page
 pub no_table : (words : List ℕ) (root : ℕ) (free : List Bool) (l n m f : ℕ) (place : Place) → IsTree words root free → l < 4 → reach words root l n ≡ Some (top f) → reach words root 4 m ≡ Some place → place.frame ≡ f → ⊥
 no_table words root free l n m f place tree less table at same =
-    let d = tree.distinct l n 4 m (top f) place (omega (arith, less)) (omega arith) table at (sym same) in
+    let d = tree.distinct l n 4 m (top f) place (omega (arith, less)) (omega arith) (λ _ _. refl) table at (sym same) in
     let four = d.0 in
     omega (arith, four, less)
 
 -- a table is met at one prefix
 pub one_table : (words : List ℕ) (root : ℕ) (free : List Bool) (l n k m f : ℕ) → IsTree words root free → l < 4 → k < 4 → reach words root l n ≡ Some (top f) → reach words root k m ≡ Some (top f) → (l ≡ k) × (n ≡ m)
-one_table words root free l n k m f tree less few table at = tree.distinct l n k m (top f) (top f) (omega (arith, less)) (omega (arith, few)) table at refl
+one_table words root free l n k m f tree less few table at = tree.distinct l n k m (top f) (top f) (omega (arith, less)) (omega (arith, few)) (λ _ _. refl) table at refl
 
 -- two pages have two frames
 pub page_apart : (words : List ℕ) (root : ℕ) (free : List Bool) (a b : ℕ) (p q : Place) → IsTree words root free → IsTrue (is_canonical (a * 4096)) → IsTrue (is_canonical (b * 4096)) → (a ≡ b → ⊥) →
     walk_of words root a ≡ Some p → walk_of words root b ≡ Some q → p.frame ≡ q.frame → ⊥
 page_apart words root free a b p q tree ca cb apart at_a at_b same =
-    let d = tree.distinct 4 (prefix_of a 4) 4 (prefix_of b 4) p q (omega arith) (omega arith) (sym (walk_reach words root a) ∙ at_a) (sym (walk_reach words root b) ∙ at_b) same in
+    let d = tree.distinct 4 (prefix_of a 4) 4 (prefix_of b 4) p q (omega arith) (omega arith) (λ _ _. refl) (sym (walk_reach words root a) ∙ at_a) (sym (walk_reach words root b) ∙ at_b) same in
     let number = d.1 in
     apart (same_number a b ca cb (omega (arith, number)))
 

@@ -226,7 +226,7 @@ module _ (old mid new : List ℕ) (free free1 free' : List Bool) (root first pag
       let was : reach old root 4 (prefix_of other 4) ≡ Some place = sym (walk_reach old root other) ∙ is in
       let now : reach new root 4 (prefix_of other 4) ≡ Some place = added.stayed 4 (prefix_of other 4) place (omega arith) (same 4 (prefix_of other 4) (omega arith) ∙ was) in
       added.words place.frame i li
-      (λ l ll here. let d = tree'.distinct 4 (prefix_of other 4) l (above page l) place (top place.frame) (omega arith) (omega arith) now here refl in absurd (omega (arith, d.0)))
+      (λ l ll here. let d = tree'.distinct 4 (prefix_of other 4) l (above page l) place (top place.frame) (omega arith) (omega arith) (λ _ _. refl) now here refl in absurd (omega (arith, d.0)))
       ∙ stay place.frame i li (not_met 4 (prefix_of other 4) place (omega arith) was)
 
   words_of : (f i : ℕ) → i < 512 → is_free free f ≡ false → ((l n : ℕ) → l < 4 → reach old root l n ≡ Some (top f) → ⊥) → word_at new f i ≡ word_at old f i

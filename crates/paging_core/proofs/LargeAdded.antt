@@ -3,11 +3,12 @@ use Rattle.std.proofs.Common.{◌≡◌, ℕ, ◌^◌, ◌+◌, ◌-◌, ◌*◌
 use Rattle.std.proofs.lemmas.Bool.{cases_eq, cases_lt, lt-ltb}
 use Rattle.std.proofs.lemmas.Bool.Decides.{nat_tests}
 use Rattle.paging_core.specs.Entry.{has_bit, frame_of, table_entry, large_entry}
+use Rattle.paging_core.specs.Area.{Area, Whole}
 use Rattle.paging_core.specs.Memory.{word_at, frame_count}
 use Rattle.paging_core.specs.Prefix.{prefix_of}
 use Rattle.paging_core.specs.Walk.{Place, large_step, reach, large_of, top, walk_of, reached, granted}
 use Rattle.paging_core.specs.Pool.{is_free}
-use Rattle.paging_core.specs.Tree.{IsTree}
+use Rattle.paging_core.specs.Tree.{IsTreeIn}
 use Rattle.paging_core.specs.Tables.{IsPrepared}
 use Rattle.paging_core.specs.Large.{slot_of, above, IsSlotEmpty, IsLargeAdded}
 use Rattle.paging_core.specs.declared.page_table.Rights.{Rights}
@@ -57,15 +58,15 @@ step_large words t j frame rights small aligned within e =
     let is = large_bits frame small rights in
     rw (e, is.names, is.present, is.writable, is.usable, is.large, is.executable, p, q, aligned, not_not) refl
 
-module _ (old mid new : List ℕ) (free free' : List Bool) (root page table index frame : ℕ) (rights : Rights)
+module _ {area : Area} (old mid new : List ℕ) (free free' : List Bool) (root page table index frame : ℕ) (rights : Rights)
     (root_in : root < frame_count old)
     (empty : IsSlotEmpty old root page)
     (small : 512 * frame < 2 ^ 40)
     (frame_in : 512 * frame + 511 < frame_count old)
     (used : (k : ℕ) → k < 512 → is_free free (512 * frame + k) ≡ false)
-    (unmet : (k l n : ℕ) (b : Place) → k < 512 → l ≤ 4 → reach old root l n ≡ Some b → b.frame ≡ 512 * frame + k → ⊥)
+    (unmet : (k l n : ℕ) (b : Place) → k < 512 → l ≤ 4 → (l ≡ 4 → area ≡ Whole) → reach old root l n ≡ Some b → b.frame ≡ 512 * frame + k → ⊥)
     (ix : index ≡ prefix_of (512 * page) 3 % 512)
-    (tree : IsTree mid root free')
+    (tree : IsTreeIn area mid root free')
     (met : reach mid root 2 (above page 2) ≡ Some (top table))
     (prepared : IsPrepared old mid free free' root (512 * page) 2)
     (written : new ≡ set mid (512 * table + index) (large_entry (512 * frame) rights)) where
@@ -94,7 +95,7 @@ module _ (old mid new : List ℕ) (free free' : List Bool) (root page table inde
   written_here = ap (λ w. word_at w table index) written ∙ word_at_set_same mid table index (large_entry (512 * frame) rights) table_in index_in
 
   alone : (l n : ℕ) (b : Place) → l < 4 → reach mid root l n ≡ Some b → b.frame ≡ table → (l ≡ 2) × (n ≡ above page 2)
-  alone l n b lt is e = tree.distinct l n 2 (above page 2) b (top table) (omega arith) (omega arith) is met e
+  alone l n b lt is e = tree.distinct l n 2 (above page 2) b (top table) (omega arith) (omega arith) (λ x y. absurd (omega arith)) is met e
 
   same : (l n : ℕ) (b : Place) (j : ℕ) → l < 4 → reach mid root l n ≡ Some b → j < 512 → (b.frame ≡ table → j ≡ index → ⊥) →
       word_at new b.frame j ≡ word_at mid b.frame j
@@ -147,15 +148,15 @@ module _ (old mid new : List ℕ) (free free' : List Bool) (root page table inde
       let p : n ≡ prefix_of (512 * page + n % 512) 4 = omega arith in
       ap (reach old root 4) p ∙ (sym (walk_reach old root (512 * page + n % 512)) ∙ empty.unmapped (n % 512) (omega arith))
 
-  fresh : (k l n : ℕ) (b : Place) → k < 512 → l ≤ 4 → reach mid root l n ≡ Some b → b.frame ≡ 512 * frame + k → ⊥
-  fresh k l n b lk le now e = go (cases_eq n (above page l)) (cases_lt 2 l)
+  fresh : (k l n : ℕ) (b : Place) → k < 512 → l ≤ 4 → (l ≡ 4 → area ≡ Whole) → reach mid root l n ≡ Some b → b.frame ≡ 512 * frame + k → ⊥
+  fresh k l n b lk le whole now e = go (cases_eq n (above page l)) (cases_lt 2 l)
     where
       here_of : (n ≡ above page l) → l ≤ 2 → ((x : Place) × (reach old root l (above page l) ≡ Some x)) ⊎ (reach old root l (above page l) ≡ None) → ⊥
       here_of x lo (inl p) =
           let s = prepared.stayed l p.0 le p.1 in
           let w : reach mid root l (above page l) ≡ Some b = rw (← x) now in
           let q : p.0 ≡ b = cc in
-          unmet k l (above page l) b lk le (p.1 ∙ ap Some q) e
+          unmet k l (above page l) b lk le whole (p.1 ∙ ap Some q) e
       here_of x lo (inr p) =
           let w : reach mid root l (above page l) ≡ Some b = rw (← x) now in
           let f : is_free free b.frame ≡ true = prepared.made l b lo p w in
@@ -164,8 +165,8 @@ module _ (old mid new : List ℕ) (free free' : List Bool) (root page table inde
 
       go : (n ≡ above page l) ⊎ (n ≡ above page l → ⊥) → (2 < l) ⊎ (l ≤ 2) → ⊥
       go (inl x) (inr lo) = here_of x lo (some_or_none (reach old root l (above page l)))
-      go (inr x) _ = unmet k l n b lk le (sym (prepared.others l n le (λ _ y. x y)) ∙ now) e
-      go _ (inl hi) = unmet k l n b lk le (sym (prepared.others l n le (λ lo _. absurd (omega arith))) ∙ now) e
+      go (inr x) _ = unmet k l n b lk le whole (sym (prepared.others l n le (λ _ y. x y)) ∙ now) e
+      go _ (inl hi) = unmet k l n b lk le whole (sym (prepared.others l n le (λ lo _. absurd (omega arith))) ∙ now) e
 
   -- what the new walk meets is a page of the slot, or was met before
   record IsInside (l n : ℕ) (b : Place) : Type 0 where
@@ -185,11 +186,12 @@ module _ (old mid new : List ℕ) (free free' : List Bool) (root page table inde
       go (inr x) _ = inr (sym (outside l n le (λ e _. x e)) ∙ is)
       go _ (inr y) = inr (sym (outside l n le (λ _ e. y e)) ∙ is)
 
-  pub large_tree : IsTree new root free'
+  pub large_tree : IsTreeIn area new root free'
   large_tree = record {
     rights = λ l n b lt is. tree.rights l n b lt (sym (low l n lt) ∙ is);
-    distinct = λ l n k j a b ll lk x y e. distinct_of l n k j a b ll lk e (met_now l n a ll x) (met_now k j b lk y);
+    distinct = λ l n k j a b ll lk apart x y e. distinct_of l n k j a b ll lk apart e (met_now l n a ll x) (met_now k j b lk y);
     used = λ l n b le is. used_of l n b le (met_now l n b le is);
+    inside = λ l n b lt is. tree.inside l n b lt (sym (low l n lt) ∙ is);
     plain = record { each = λ l n i b lt li is. plain_of l n i b lt li (sym (low l n lt) ∙ is) (cases_eq b.frame table) (cases_eq i index) };
   }
     where
@@ -210,15 +212,15 @@ module _ (old mid new : List ℕ) (free free' : List Bool) (root page table inde
       used_of l n b le (inl x) = prepared.fewer b.frame (ap (is_free free) x.framed ∙ used (n % 512) (omega arith))
       used_of l n b le (inr x) = tree.used l n b le x
 
-      distinct_of : (l n k j : ℕ) (a b : Place) → l ≤ 4 → k ≤ 4 → a.frame ≡ b.frame →
+      distinct_of : (l n k j : ℕ) (a b : Place) → l ≤ 4 → k ≤ 4 → (l ≡ 4 → k ≡ 4 → area ≡ Whole) → a.frame ≡ b.frame →
           IsInside l n a ⊎ (reach mid root l n ≡ Some a) → IsInside k j b ⊎ (reach mid root k j ≡ Some b) → (l ≡ k) × (n ≡ j)
-      distinct_of l n k j a b ll lk e (inl x) (inl y) = (
+      distinct_of l n k j a b ll lk apart e (inl x) (inl y) = (
         x.at_four ∙ sym y.at_four,
         (let p = x.in_slot in let q = y.in_slot in let r = x.framed in let s = y.framed in omega arith),
       )
-      distinct_of l n k j a b ll lk e (inl x) (inr y) = absurd (fresh (n % 512) k j b (omega arith) lk y (sym e ∙ x.framed))
-      distinct_of l n k j a b ll lk e (inr x) (inl y) = absurd (fresh (j % 512) l n a (omega arith) ll x (e ∙ y.framed))
-      distinct_of l n k j a b ll lk e (inr x) (inr y) = tree.distinct l n k j a b ll lk x y e
+      distinct_of l n k j a b ll lk apart e (inl x) (inr y) = absurd (fresh (n % 512) k j b (omega arith) lk (apart x.at_four) y (sym e ∙ x.framed))
+      distinct_of l n k j a b ll lk apart e (inr x) (inl y) = absurd (fresh (j % 512) l n a (omega arith) ll (λ s. apart s y.at_four) x (e ∙ y.framed))
+      distinct_of l n k j a b ll lk apart e (inr x) (inr y) = tree.distinct l n k j a b ll lk apart x y e
 
   -- each table above the slot is there
   made_of : (l : ℕ) → l < 3 → reach old root l (above page l) ≡ None →
@@ -327,7 +329,7 @@ module _ (old mid new : List ℕ) (free free' : List Bool) (root page table inde
       go (inr ne) _ =
           words_of f i li
           (λ k lk now. let p : (l ≡ k) × (n ≡ above page k) =
-          large_tree.distinct l n k (above page k) (top f) (top f) (omega arith) (omega arith) (stayed l n (top f) (omega arith) was) now refl in
+          large_tree.distinct l n k (above page k) (top f) (top f) (omega arith) (omega arith) (λ x y. absurd (omega arith)) (stayed l n (top f) (omega arith) was) now refl in
           ne (p.1 ∙ ap (above page) (sym p.0)))
 
   blank : (l n f i : ℕ) → l < 4 → i < 512 → reach old root l n ≡ None → reach new root l n ≡ Some (top f) →
@@ -401,7 +403,7 @@ module _ (old mid new : List ℕ) (free free' : List Bool) (root page table inde
       let now : reach new root 4 (prefix_of (address / 4096) 4) ≡ Some p.0 = stayed 4 (prefix_of (address / 4096) 4) p.0 (omega arith) was in
       same_byte old new root address p.0 p.0 p.1 (walk_reach new root (address / 4096) ∙ now) refl
       (words_of p.0.frame (address % 4096 / 8) (omega arith)
-      (λ l lt here. let d = large_tree.distinct 4 (prefix_of (address / 4096) 4) l (above page l) p.0 (top p.0.frame) (omega arith) (omega arith) now here refl in
+      (λ l lt here. let d = large_tree.distinct 4 (prefix_of (address / 4096) 4) l (above page l) p.0 (top p.0.frame) (omega arith) (omega arith) (λ x y. absurd (omega arith)) now here refl in
       absurd (omega (arith, d.0))))
 
 -- a slot is told apart from others by its indices

@@ -2,10 +2,11 @@
 use Rattle.std.proofs.Common.{◌≡◌, ℕ, ◌+◌, ◌*◌, ◌/◌, ◌%◌, ◌^◌, ◌<◌, ◌≤◌, Bool, true, List, length, set, Some, None, refl, sym, ap, ◌∙◌, ◌⊎◌, inl, inr, arith, length-set}
 use Rattle.std.proofs.lemmas.Bool.{cases_eq}
 use Rattle.std.specs.Prelude.{IsSome}
+use Rattle.paging_core.specs.Area.{Area}
 use Rattle.paging_core.specs.Memory.{word_at, frame_count}
 use Rattle.paging_core.specs.Prefix.{prefix_of}
 use Rattle.paging_core.specs.Walk.{Place, large_step, reach, large_of, large_from, walk_of, reached}
-use Rattle.paging_core.specs.Tree.{IsTree}
+use Rattle.paging_core.specs.Tree.{IsTreeIn}
 use Rattle.paging_core.specs.Large.{slot_of, above, IsLargeEntry, IsLargeCleared, IsLargeRemoved}
 use Rattle.paging_core.specs.Entry.{has_bit}
 use Rattle.paging_core.specs.Plain.{IsPlain}
@@ -58,9 +59,9 @@ module _ (old new : List ℕ) (root page : ℕ)
       ap (λ w. word_at w one.table.frame (slot_of page % 512)) one.words
       ∙ word_at_set_same old one.table.frame (slot_of page % 512) 0 table_in (omega arith)
 
-  module _ (free : List Bool) (tree : IsTree old root free) where
+  module _ {area : Area} (free : List Bool) (tree : IsTreeIn area old root free) where
     alone : (l n : ℕ) (b : Place) → l < 4 → reach old root l n ≡ Some b → b.frame ≡ one.table.frame → (l ≡ 2) × (n ≡ above page 2)
-    alone l n b lt is e = tree.distinct l n 2 (above page 2) b one.table (omega arith) (omega arith) is one.met e
+    alone l n b lt is e = tree.distinct l n 2 (above page 2) b one.table (omega arith) (omega arith) (λ x y. absurd (omega arith)) is one.met e
 
     same : (l n : ℕ) (b : Place) (j : ℕ) → l < 4 → reach old root l n ≡ Some b → j < 512 → (b.frame ≡ one.table.frame → j ≡ slot_of page % 512 → ⊥) →
         word_at new b.frame j ≡ word_at old b.frame j
@@ -107,11 +108,12 @@ module _ (old new : List ℕ) (root page : ℕ)
         has_bit (word_at new b.frame i) 0 ≡ true → IsPlain new l (word_at new b.frame i)
     stays_plain l n i b lt li is ne = plain_kept old new l (word_at old b.frame i) (word_at new b.frame i) size (word_stays b.frame i li ne) (tree.plain.each l n i b lt li is)
 
-    pub gone_tree : IsTree new root free
+    pub gone_tree : IsTreeIn area new root free
     gone_tree = record {
       rights = λ l n b lt is. tree.rights l n b lt (met_before l n b (omega arith) is);
-      distinct = λ l n k j a b ll lk x y e. tree.distinct l n k j a b ll lk (met_before l n a ll x) (met_before k j b lk y) e;
+      distinct = λ l n k j a b ll lk apart x y e. tree.distinct l n k j a b ll lk apart (met_before l n a ll x) (met_before k j b lk y) e;
       used = λ l n b le is. tree.used l n b le (met_before l n b le is);
+      inside = λ l n b lt is. tree.inside l n b lt (met_before l n b (omega arith) is);
       plain = record { each = λ l n i b lt li is. plain_of l n i b lt li (met_before l n b (omega arith) is) (cases_eq b.frame one.table.frame) (cases_eq i (slot_of page % 512)) };
     }
       where
@@ -141,7 +143,7 @@ module _ (old new : List ℕ) (root page : ℕ)
         let was : reach old root 4 (prefix_of (address / 4096) 4) ≡ Some p.0 = met_before 4 (prefix_of (address / 4096) 4) p.0 (omega arith) now in
         same_byte old new root address p.0 p.0 (walk_reach old root (address / 4096) ∙ was) p.1 refl
         (word_stays p.0.frame (address % 4096 / 8) (omega arith)
-        (λ e _. let d = tree.distinct 4 (prefix_of (address / 4096) 4) 2 (above page 2) p.0 one.table (omega arith) (omega arith) was one.met e in
+        (λ e _. let d = tree.distinct 4 (prefix_of (address / 4096) 4) 2 (above page 2) p.0 one.table (omega arith) (omega arith) (λ x y. absurd (omega arith)) was one.met e in
         absurd (omega (arith, d.0))))
 
     -- no page of another slot is changed

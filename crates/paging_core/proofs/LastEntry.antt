@@ -3,11 +3,12 @@ use Rattle.std.proofs.Common.{◌≡◌, ℕ, ◌^◌, ◌+◌, ◌-◌, ◌*◌
 use Rattle.std.proofs.lemmas.Bool.{cases_eq, cases_lt, lt-ltb}
 use Rattle.std.proofs.lemmas.Bool.Decides.{nat_tests}
 use Rattle.paging_core.specs.Entry.{has_bit, frame_of, table_entry, page_entry}
+use Rattle.paging_core.specs.Area.{Area, Whole}
 use Rattle.paging_core.specs.Memory.{word_at, frame_count}
 use Rattle.paging_core.specs.Prefix.{prefix_of}
 use Rattle.paging_core.specs.Walk.{Place, step, reach, large_of, top, walk_of, granted}
 use Rattle.paging_core.specs.Pool.{is_free}
-use Rattle.paging_core.specs.Tree.{IsTree}
+use Rattle.paging_core.specs.Tree.{IsTreeIn}
 use Rattle.paging_core.specs.Tables.{IsPrepared}
 use Rattle.paging_core.specs.Mapping.{HasExactEntries, IsPageAdded}
 use Rattle.paging_core.specs.declared.page_table.Rights.{Rights}
@@ -56,15 +57,15 @@ pub some_or_none : {A : Type 0} (o : Option A) → ((x : A) × (o ≡ Some x)) �
 some_or_none None = inr refl
 some_or_none (Some x) = inl (x, refl)
 
-module _ (old mid new : List ℕ) (free free' : List Bool) (root page table index frame : ℕ) (rights : Rights)
+module _ {area : Area} (old mid new : List ℕ) (free free' : List Bool) (root page table index frame : ℕ) (rights : Rights)
     (root_in : root < frame_count old)
     (unmapped : walk_of old root page ≡ None)
     (small : frame < 2 ^ 40)
     (frame_in : frame < frame_count old)
     (used : is_free free frame ≡ false)
-    (unmet : (l n : ℕ) (b : Place) → l ≤ 4 → reach old root l n ≡ Some b → b.frame ≡ frame → ⊥)
+    (unmet : (l n : ℕ) (b : Place) → l ≤ 4 → (l ≡ 4 → area ≡ Whole) → reach old root l n ≡ Some b → b.frame ≡ frame → ⊥)
     (ix : index ≡ prefix_of page 4 % 512)
-    (tree : IsTree mid root free')
+    (tree : IsTreeIn area mid root free')
     (met : reach mid root 3 (prefix_of page 3) ≡ Some (top table))
     (prepared : IsPrepared old mid free free' root page 3)
     (written : new ≡ set mid (512 * table + index) (page_entry frame rights)) where
@@ -112,15 +113,15 @@ module _ (old mid new : List ℕ) (free free' : List Bool) (root page table inde
   there : reach new root 4 (prefix_of page 4) ≡ Some (granted frame rights)
   there = rw (← place) (link_there mid new root 3 (prefix_of page 3) index (top table) (granted frame rights) free' link tree)
 
-  fresh : (l n : ℕ) (b : Place) → l ≤ 4 → reach mid root l n ≡ Some b → b.frame ≡ frame → ⊥
-  fresh l n b le now e = go (cases_eq n (prefix_of page l)) (cases_lt 3 l)
+  fresh : (l n : ℕ) (b : Place) → l ≤ 4 → (l ≡ 4 → area ≡ Whole) → reach mid root l n ≡ Some b → b.frame ≡ frame → ⊥
+  fresh l n b le whole now e = go (cases_eq n (prefix_of page l)) (cases_lt 3 l)
     where
       here_of : (n ≡ prefix_of page l) → l ≤ 3 → ((x : Place) × (reach old root l (prefix_of page l) ≡ Some x)) ⊎ (reach old root l (prefix_of page l) ≡ None) → ⊥
       here_of x lo (inl p) =
           let s = prepared.stayed l p.0 le p.1 in
           let w : reach mid root l (prefix_of page l) ≡ Some b = rw (← x) now in
           let q : p.0 ≡ b = cc in
-          unmet l (prefix_of page l) b le (p.1 ∙ ap Some q) e
+          unmet l (prefix_of page l) b le whole (p.1 ∙ ap Some q) e
       here_of x lo (inr p) =
           let w : reach mid root l (prefix_of page l) ≡ Some b = rw (← x) now in
           let f : is_free free b.frame ≡ true = prepared.made l b lo p w in
@@ -128,15 +129,15 @@ module _ (old mid new : List ℕ) (free free' : List Bool) (root page table inde
 
       go : (n ≡ prefix_of page l) ⊎ (n ≡ prefix_of page l → ⊥) → (3 < l) ⊎ (l ≤ 3) → ⊥
       go (inl x) (inr lo) = here_of x lo (some_or_none (reach old root l (prefix_of page l)))
-      go (inr x) _ = unmet l n b le (sym (prepared.others l n le (λ _ y. x y)) ∙ now) e
-      go _ (inl hi) = unmet l n b le (sym (prepared.others l n le (λ lo _. absurd (omega arith))) ∙ now) e
+      go (inr x) _ = unmet l n b le whole (sym (prepared.others l n le (λ _ y. x y)) ∙ now) e
+      go _ (inl hi) = unmet l n b le whole (sym (prepared.others l n le (λ lo _. absurd (omega arith))) ∙ now) e
 
   larges : (n : ℕ) → large_of new root n ≡ large_of old root n
   larges n = link_larges mid new root 3 (prefix_of page 3) index (top table) (granted frame rights) free' link tree n ∙ prepared.larges n
 
-  pub mapped_tree : IsTree new root free'
-  mapped_tree = tree_link mid new root 3 (prefix_of page 3) index (top table) (granted frame rights) free' link tree free' fresh
-      (λ lt. absurd (omega arith)) (prepared.fewer frame used) (λ f e. e)
+  pub mapped_tree : IsTreeIn area new root free'
+  mapped_tree = tree_link mid new root 3 (prefix_of page 3) index (top table) (granted frame rights) free' link tree free' (λ l n b le whole. fresh l n b le (whole refl))
+      (λ lt. absurd (omega arith)) (λ lt. absurd (omega arith)) (prepared.fewer frame used) (λ f e. e)
 
   low : (l : ℕ) (n : ℕ) → l < 4 → reach new root l n ≡ reach mid root l n
   low l n lt = same l n (omega arith) (λ x _. absurd (omega arith))
@@ -156,7 +157,7 @@ module _ (old mid new : List ℕ) (free free' : List Bool) (root page table inde
 
   -- the last table is met at its own prefix alone
   here_only : (l f : ℕ) → l < 4 → reach mid root l (prefix_of page l) ≡ Some (top f) → f ≡ table → l ≡ 3
-  here_only l f lt now e = (tree.distinct l (prefix_of page l) 3 (prefix_of page 3) (top f) (top table) (omega arith) (omega arith) now met e).0
+  here_only l f lt now e = (tree.distinct l (prefix_of page l) 3 (prefix_of page 3) (top f) (top table) (omega arith) (omega arith) (λ x y. absurd (omega arith)) now met e).0
 
   was_low : (l n : ℕ) (m : Place) → l < 4 → reach new root l n ≡ Some m → reach mid root l n ≡ Some m
   was_low l n m lt now = sym (low l n lt) ∙ now
@@ -254,7 +255,7 @@ module _ (old mid new : List ℕ) (free free' : List Bool) (root page table inde
       go (inr ne) _ =
           mapped_page_words f i li
           (λ k lk now. let p : (l ≡ k) × (n ≡ prefix_of page k) =
-          mapped_tree.distinct l n k (prefix_of page k) (top f) (top f) (omega arith) (omega arith) (stayed l n (top f) lt was) now refl in
+          mapped_tree.distinct l n k (prefix_of page k) (top f) (top f) (omega arith) (omega arith) (λ x y. absurd (omega arith)) (stayed l n (top f) lt was) now refl in
           ne (p.1 ∙ ap (prefix_of page) (sym p.0)))
 
   -- what was not met and is met now is met on the way to the page

@@ -1,5 +1,8 @@
 pub mod Words
+pub mod LateFrames
 pub mod Reach
+pub mod Areas
+pub mod Padded
 pub mod Prefixes
 pub mod EntryBits
 pub mod Addresses
@@ -30,7 +33,9 @@ pub mod RunTaken
 pub mod LargeMissing
 pub mod Roots
 pub mod FreshFrame
+pub mod Ahead
 pub mod PrefixLists
 pub mod ProcessorWalk
+pub mod AreaWalk
 pub mod ProcessorSteps
 pub mod ProcessorExamples

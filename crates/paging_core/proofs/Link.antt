@@ -3,9 +3,10 @@ use Rattle.std.proofs.Common.{◌≡◌, ℕ, suc, ◌+◌, ◌*◌, ◌<◌, �
 use Rattle.std.proofs.lemmas.Bool.{cases_eq}
 use Rattle.paging_core.specs.Walk.{Place}
 use Rattle.paging_core.specs.Walk.{step, large_step, large_of, large_from, reach, next_from, top}
+use Rattle.paging_core.specs.Area.{Area, Whole, in_area}
 use Rattle.paging_core.specs.Memory.{word_at}
 use Rattle.paging_core.specs.Pool.{is_free}
-use Rattle.paging_core.specs.Tree.{IsTree}
+use Rattle.paging_core.specs.Tree.{IsTreeIn}
 use Rattle.paging_core.specs.Entry.{has_bit}
 use Rattle.paging_core.specs.Plain.{IsPlain}
 use Rattle.paging_core.proofs.Plain.{plain_kept, plain_zero}
@@ -26,11 +27,11 @@ pub record IsLink (old new : List ℕ) (root level prefix index : ℕ) (at to : 
   pub bare : level < 3 → (j : ℕ) → j < 512 → word_at new to.frame j ≡ 0
   pub plain : IsPlain new level (word_at new at.frame index)
 
-module _ (old new : List ℕ) (root level prefix index : ℕ) (at to : Place) (free : List Bool)
+module _ {area : Area} (old new : List ℕ) (root level prefix index : ℕ) (at to : Place) (free : List Bool)
     (link : IsLink old new root level prefix index at to)
-    (tree : IsTree old root free) where
+    (tree : IsTreeIn area old root free) where
   alone : (l n : ℕ) (b : Place) → l < 4 → reach old root l n ≡ Some b → b.frame ≡ at.frame → (l ≡ level) × (n ≡ prefix)
-  alone l n b lt is e = tree.distinct l n level prefix b at (omega arith) (omega (arith, link.level_bound)) is link.here e
+  alone l n b lt is e = tree.distinct l n level prefix b at (omega arith) (omega (arith, link.level_bound)) (λ x y. absurd (omega arith)) is link.here e
 
   below : level < 3 → (j : ℕ) → j < 512 → next_from new (suc level) (step new level at index) j ≡ next_from old (suc level) (step old level at index) j
   below lt j lj = rw (link.is, link.was) (step_zero new (suc level) to j (link.bare lt j lj))
@@ -63,15 +64,17 @@ module _ (old new : List ℕ) (root level prefix index : ℕ) (at to : Place) (f
       go (inr x) _ = inr (sym (link_others l n le (λ z _. x z)) ∙ is)
 
   module _ (free' : List Bool)
-      (fresh : (l n : ℕ) (b : Place) → l ≤ 4 → reach old root l n ≡ Some b → b.frame ≡ to.frame → ⊥)
+      (fresh : (l n : ℕ) (b : Place) → l ≤ 4 → (suc level ≡ 4 → l ≡ 4 → area ≡ Whole) → reach old root l n ≡ Some b → b.frame ≡ to.frame → ⊥)
       (rights : level < 3 → to ≡ top to.frame)
+      (within : level < 3 → in_area area to.frame ≡ true)
       (taken : is_free free' to.frame ≡ false)
       (fewer : (f : ℕ) → is_free free f ≡ false → is_free free' f ≡ false) where
-    pub tree_link : IsTree new root free'
+    pub tree_link : IsTreeIn area new root free'
     tree_link = record {
       rights = λ l n b lt is. rights_of l n b lt (met l n b (omega arith) is);
-      distinct = λ l n k j a b ll lk ia ib e. distinct_of l n k j a b ll lk e (met l n a ll ia) (met k j b lk ib);
+      distinct = λ l n k j a b ll lk apart ia ib e. distinct_of l n k j a b ll lk apart e (met l n a ll ia) (met k j b lk ib);
       used = λ l n b le is. used_of l n b le (met l n b le is);
+      inside = λ l n b lt is. inside_of l n b lt (met l n b (omega arith) is);
       plain = record { each = λ l n i b lt li is. plain_of l n i b lt li (met l n b (omega arith) is) };
     }
       where
@@ -94,14 +97,18 @@ module _ (old new : List ℕ) (root level prefix index : ℕ) (at to : Place) (f
         rights_of l n b lt (inl x) = let h : to ≡ top to.frame = rights (omega arith) in rw x.2 h
         rights_of l n b lt (inr x) = tree.rights l n b lt x
 
+        inside_of : (l n : ℕ) (b : Place) → l < 4 → ((l ≡ suc level) × (n ≡ 512 * prefix + index) × (b ≡ to)) ⊎ (reach old root l n ≡ Some b) → in_area area b.frame ≡ true
+        inside_of l n b lt (inl x) = let h = within (omega arith) in rw x.2 h
+        inside_of l n b lt (inr x) = tree.inside l n b lt x
+
         used_of : (l n : ℕ) (b : Place) → l ≤ 4 → ((l ≡ suc level) × (n ≡ 512 * prefix + index) × (b ≡ to)) ⊎ (reach old root l n ≡ Some b) → is_free free' b.frame ≡ false
         used_of l n b le (inl x) = rw x.2 taken
         used_of l n b le (inr x) = fewer b.frame (tree.used l n b le x)
 
-        distinct_of : (l n k j : ℕ) (a b : Place) → l ≤ 4 → k ≤ 4 → a.frame ≡ b.frame →
+        distinct_of : (l n k j : ℕ) (a b : Place) → l ≤ 4 → k ≤ 4 → (l ≡ 4 → k ≡ 4 → area ≡ Whole) → a.frame ≡ b.frame →
             ((l ≡ suc level) × (n ≡ 512 * prefix + index) × (a ≡ to)) ⊎ (reach old root l n ≡ Some a) →
             ((k ≡ suc level) × (j ≡ 512 * prefix + index) × (b ≡ to)) ⊎ (reach old root k j ≡ Some b) → (l ≡ k) × (n ≡ j)
-        distinct_of l n k j a b ll lk e (inl x) (inl y) = (omega arith, omega arith)
-        distinct_of l n k j a b ll lk e (inl x) (inr y) = absurd (fresh k j b lk y (let h : a.frame ≡ to.frame = ap (λ m. m.frame) x.2 in sym e ∙ h))
-        distinct_of l n k j a b ll lk e (inr x) (inl y) = absurd (fresh l n a ll x (let h : b.frame ≡ to.frame = ap (λ m. m.frame) y.2 in e ∙ h))
-        distinct_of l n k j a b ll lk e (inr x) (inr y) = tree.distinct l n k j a b ll lk x y e
+        distinct_of l n k j a b ll lk apart e (inl x) (inl y) = (omega arith, omega arith)
+        distinct_of l n k j a b ll lk apart e (inl x) (inr y) = absurd (fresh k j b lk (λ s f. apart (x.0 ∙ s) f) y (let h : a.frame ≡ to.frame = ap (λ m. m.frame) x.2 in sym e ∙ h))
+        distinct_of l n k j a b ll lk apart e (inr x) (inl y) = absurd (fresh l n a ll (λ s f. apart f (y.0 ∙ s)) x (let h : b.frame ≡ to.frame = ap (λ m. m.frame) y.2 in e ∙ h))
+        distinct_of l n k j a b ll lk apart e (inr x) (inr y) = tree.distinct l n k j a b ll lk apart x y e

@@ -5,9 +5,10 @@ use Rattle.std.proofs.lemmas.Bool.Decides.{nat_tests}
 use Rattle.std.proofs.Math.Bool.{and-false}
 use Rattle.std.proofs.lemmas.List.{get_or-set_same, get_or-set_other, get_or_past}
 use Rattle.paging_core.specs.Entry.{has_bit, frame_of, table_entry}
+use Rattle.paging_core.specs.Area.{Area, in_area}
 use Rattle.paging_core.specs.Memory.{word_at, frame_count, cleared}
 use Rattle.paging_core.specs.Walk.{Place, step, large_step, large_of, large_from, reach, next_from, top, is_present, is_run, ends_walk, named}
-use Rattle.paging_core.specs.Tree.{IsTree}
+use Rattle.paging_core.specs.Tree.{IsTreeIn}
 use Rattle.paging_core.specs.Pool.{is_free, free_count, FreeBelow, AreLowestTaken}
 use Rattle.paging_core.specs.Tables.{IsTableMade}
 use Rattle.std.proofs.lemmas.List.Sums.{sum_by-set}
@@ -187,13 +188,14 @@ taken_count free f e =
     omega arith
 
 -- the tables stay a tree where their words stay
-pub tree_same : (old new : List ℕ) (root : ℕ) (free : List Bool) → length new ≡ length old →
+pub tree_same : {area : Area} (old new : List ℕ) (root : ℕ) (free : List Bool) → length new ≡ length old →
     ((l n : ℕ) (b : Place) (j : ℕ) → l < 4 → reach old root l n ≡ Some b → j < 512 → word_at new b.frame j ≡ word_at old b.frame j) →
-    IsTree old root free → IsTree new root free
+    IsTreeIn area old root free → IsTreeIn area new root free
 tree_same old new root free size words tree = record {
   rights = λ l n m lt is. tree.rights l n m lt (sym (same l n (omega arith)) ∙ is);
-  distinct = λ l n k j a b ll lk x y e. tree.distinct l n k j a b ll lk (sym (same l n ll) ∙ x) (sym (same k j lk) ∙ y) e;
+  distinct = λ l n k j a b ll lk apart x y e. tree.distinct l n k j a b ll lk apart (sym (same l n ll) ∙ x) (sym (same k j lk) ∙ y) e;
   used = λ l n m le is. tree.used l n m le (sym (same l n le) ∙ is);
+  inside = λ l n m lt is. tree.inside l n m lt (sym (same l n (omega arith)) ∙ is);
   plain = record {
     each = λ l n i m lt li is.
         let at : reach old root l n ≡ Some m = sym (same l n (omega arith)) ∙ is in
@@ -204,8 +206,8 @@ tree_same old new root free size words tree = record {
     same : (l n : ℕ) → l ≤ 4 → reach new root l n ≡ reach old root l n
     same = reach_same old new root size words
 
-module _ (old new : List ℕ) (free free' : List Bool) (root level prefix table index made : ℕ)
-    (tree : IsTree old root free)
+module _ {area : Area} (old new : List ℕ) (free free' : List Bool) (root level prefix table index made : ℕ)
+    (tree : IsTreeIn area old root free)
     (low : level < 3)
     (li : index < 512)
     (root_in : root < frame_count old)
@@ -240,7 +242,7 @@ module _ (old new : List ℕ) (free free' : List Bool) (root level prefix table 
   mid_larges = larges_same old (cleared old made) root cleared_size
       (λ l n b j lt is lj. word_at_cleared_other old made b.frame j made_in lj (unmet l n b (omega arith) is))
 
-  mid_tree : IsTree (cleared old made) root free
+  mid_tree : IsTreeIn area (cleared old made) root free
   mid_tree = tree_same old (cleared old made) root free cleared_size
       (λ l n b j lt is lj. word_at_cleared_other old made b.frame j made_in lj (unmet l n b (omega arith) is)) tree
 
@@ -281,10 +283,11 @@ module _ (old new : List ℕ) (free free' : List Bool) (root level prefix table 
   pub made_larges : (n : ℕ) → large_of new root n ≡ large_of old root n
   made_larges n = link_larges (cleared old made) new root level prefix index (top table) (top made) free link mid_tree n ∙ mid_larges n
 
-  pub made_tree : IsTree new root free'
-  made_tree = tree_link (cleared old made) new root level prefix index (top table) (top made) free link mid_tree free'
-      (λ l n b le is e. unmet l n b le (sym (mid_same l n le) ∙ is) e)
+  pub made_tree : in_area area made ≡ true → IsTreeIn area new root free'
+  made_tree within = tree_link (cleared old made) new root level prefix index (top table) (top made) free link mid_tree free'
+      (λ l n b le _ is e. unmet l n b le (sym (mid_same l n le) ∙ is) e)
       (λ _. refl)
+      (λ _. within)
       (rw m.taken (taken_flag free made m.was_free))
       (λ f e. rw m.taken (fewer_flags free made f e))
 

@@ -48,7 +48,7 @@ module _ (old mid : List ℕ) (free free1 : List Bool) (root frame : ℕ)
   pub mid_tree : IsTree mid root free1
   mid_tree =
       let t : IsTree mid root free = tree_same old mid root free mid_size (λ l n b j lt is lj. mid_other b.frame j lj (mid_unmet l n b (omega arith) is)) tree in
-      record { rights = t.rights; distinct = t.distinct; plain = t.plain; used = λ l n m le is. mid_fewer m.frame (t.used l n m le is) }
+      record { rights = t.rights; distinct = t.distinct; plain = t.plain; inside = λ _ _ _ _ _. refl; used = λ l n m le is. mid_fewer m.frame (t.used l n m le is) }
 
   pub mid_walk : (page : ℕ) → walk_of mid root page ≡ walk_of old root page
   mid_walk page = walk_reach mid root page ∙ (mid_same 4 (prefix_of page 4) (omega arith) ∙ sym (walk_reach old root page))
@@ -85,7 +85,7 @@ module _ (old mid : List ℕ) (free free1 : List Bool) (root frame : ℕ)
 
     -- what the new walk meets in a frame that was met before was met there before
     no_table : (l n k j : ℕ) (m : Place) → l ≤ 4 → k < 4 → reach old root l n ≡ Some m → reach new root k j ≡ Some (top m.frame) → (l ≡ k) × (n ≡ j)
-    no_table l n k j m le lt is now = tree'.distinct l n k j m (top m.frame) le (omega arith) (stayed l n m le is) now refl
+    no_table l n k j m le lt is now = tree'.distinct l n k j m (top m.frame) le (omega arith) (λ _ _. refl) (stayed l n m le is) now refl
 
     table_of : (l : ℕ) → l < 4 → ((m : Place) × (reach mid root l (prefix_of page l) ≡ Some m)) ⊎ (reach mid root l (prefix_of page l) ≡ None) →
         (table : ℕ) × (reach new root l (prefix_of page l) ≡ Some (top table))
@@ -111,7 +111,7 @@ module _ (old mid : List ℕ) (free free1 : List Bool) (root frame : ℕ)
 
     page_frame : (l n : ℕ) → l < 4 → reach new root l n ≡ Some (top frame) → ⊥
     page_frame l n lt now =
-        let p : (l ≡ 4) × (n ≡ prefix_of page 4) = tree'.distinct l n 4 (prefix_of page 4) (top frame) (granted frame rights) (omega arith) (omega arith) now there refl in
+        let p : (l ≡ 4) × (n ≡ prefix_of page 4) = tree'.distinct l n 4 (prefix_of page 4) (top frame) (granted frame rights) (omega arith) (omega arith) (λ _ _. refl) now there refl in
         omega arith
 
     fewer : (f : ℕ) → is_free free f ≡ false → is_free free' f ≡ false

@@ -3,10 +3,11 @@ use Rattle.std.proofs.Common.{◌≡◌, ℕ, ◌+◌, ◌*◌, ◌/◌, ◌%◌
 use Rattle.std.proofs.lemmas.Bool.{cases_eq, cases_Bool}
 use Rattle.std.proofs.lemmas.Bool.Decides.{nat_tests}
 use Rattle.std.specs.Prelude.{IsSome}
+use Rattle.paging_core.specs.Area.{Area}
 use Rattle.paging_core.specs.Memory.{word_at, frame_count, byte_of}
 use Rattle.paging_core.specs.Prefix.{prefix_of}
 use Rattle.paging_core.specs.Walk.{Place, step, reach, large_of, top, walk_of, granted, reached}
-use Rattle.paging_core.specs.Tree.{IsTree}
+use Rattle.paging_core.specs.Tree.{IsTreeIn}
 use Rattle.paging_core.specs.PageChanges.{Change, removal, regrant, IsLastEntry, IsPageChanged, ArePagesChanged, only}
 use Rattle.paging_core.specs.declared.page_table.Rights.{Rights}
 use Rattle.paging_core.specs.Entry.{has_bit}
@@ -80,11 +81,11 @@ module _ (old new : List ℕ) (root page : ℕ) (change : Change)
       ap (λ w. word_at w one.table.frame (prefix_of page 4 % 512)) one.words
       ∙ word_at_set_same old one.table.frame (prefix_of page 4 % 512) (change.entry one.place) table_in (omega arith)
 
-  module _ (free : List Bool)
-      (tree : IsTree old root free)
+  module _ {area : Area} (free : List Bool)
+      (tree : IsTreeIn area old root free)
       (leads : step new 3 one.table (prefix_of page 4 % 512) ≡ change.leads one.place) where
     alone : (l n : ℕ) (b : Place) → l < 4 → reach old root l n ≡ Some b → b.frame ≡ one.table.frame → (l ≡ 3) × (n ≡ prefix_of page 3)
-    alone l n b lt is e = tree.distinct l n 3 (prefix_of page 3) b one.table (omega arith) (omega arith) is one.met e
+    alone l n b lt is e = tree.distinct l n 3 (prefix_of page 3) b one.table (omega arith) (omega arith) (λ x y. absurd (omega arith)) is one.met e
 
     there : reach new root 4 (prefix_of page 4) ≡ change.leads one.place
     there =
@@ -137,14 +138,14 @@ module _ (old new : List ℕ) (root page : ℕ) (change : Change)
           grind (arith, nat_tests));
     }
 
-pub page_removed : (old new : List ℕ) (root page : ℕ) (free : List Bool) → root < frame_count old → IsPageChanged old new root page removal →
-    IsTree old root free → ArePagesChanged old new root removal (only page)
+pub page_removed : {area : Area} (old new : List ℕ) (root page : ℕ) (free : List Bool) → root < frame_count old → IsPageChanged old new root page removal →
+    IsTreeIn area old root free → ArePagesChanged old new root removal (only page)
 page_removed old new root page free root_in one tree =
     page_changed old new root page removal root_in one free tree
     (step_zero new 3 one.table (prefix_of page 4 % 512) (entry_here old new root page removal root_in one))
 
-pub page_regranted : (old new : List ℕ) (root page : ℕ) (rights : Rights) (free : List Bool) → root < frame_count old →
-    (one : IsPageChanged old new root page (regrant rights)) → one.place.frame < 2 ^ 40 → IsTree old root free → ArePagesChanged old new root (regrant rights) (only page)
+pub page_regranted : {area : Area} (old new : List ℕ) (root page : ℕ) (rights : Rights) (free : List Bool) → root < frame_count old →
+    (one : IsPageChanged old new root page (regrant rights)) → one.place.frame < 2 ^ 40 → IsTreeIn area old root free → ArePagesChanged old new root (regrant rights) (only page)
 page_regranted old new root page rights free root_in one small tree =
     let is_top : one.table ≡ top one.table.frame = tree.rights 3 (prefix_of page 3) one.table (omega arith) one.met in
     page_changed old new root page (regrant rights) root_in one free tree
@@ -170,14 +171,15 @@ module _ (old new : List ℕ) (root : ℕ) (change : Change) (chosen : ℕ → B
           let now : reach new root 4 n ≡ Some b = rw (← e) is in
           (m.0, was, sym (keeps.same m.0 b (sym (all.changed n m.0 x m.1) ∙ now)))
 
-  pub changed_tree : KeepsFrame change → (free : List Bool) → IsTree old root free → IsTree new root free
+  pub changed_tree : {area : Area} → KeepsFrame change → (free : List Bool) → IsTreeIn area old root free → IsTreeIn area new root free
   changed_tree keeps free tree = record {
     rights = λ l n m lt is. tree.rights l n m lt (sym (all.stayed l n (omega arith) (λ e. absurd (omega arith))) ∙ is);
-    distinct = λ l n k j a b ll lk x y e.
+    distinct = λ l n k j a b ll lk apart x y e.
         let p = met_before keeps l n a ll x in
         let q = met_before keeps k j b lk y in
-        tree.distinct l n k j p.0 q.0 ll lk p.1 q.1 (p.2 ∙ (e ∙ sym q.2));
+        tree.distinct l n k j p.0 q.0 ll lk apart p.1 q.1 (p.2 ∙ (e ∙ sym q.2));
     used = λ l n m le is. let p = met_before keeps l n m le is in rw (← p.2) (tree.used l n p.0 le p.1);
+    inside = λ l n m lt is. let p = met_before keeps l n m (omega arith) is in rw (← p.2) (tree.inside l n p.0 lt p.1);
     plain = record {
       each = λ l n i b lt li is.
           plain_of l n i b lt li (sym (all.stayed l n (omega arith) (λ e. absurd (omega arith))) ∙ is) (cases_eq l 3) (cases_Bool (chosen (512 * n + i)));
@@ -192,7 +194,7 @@ module _ (old new : List ℕ) (root : ℕ) (change : Change) (chosen : ℕ → B
 
       -- the table of level 3 at this frame is the one that is met
       its_own : (l n m : ℕ) (b : Place) → l < 4 → reach old root l n ≡ Some b → reach old root 3 m ≡ Some (top b.frame) → (3 ≡ l) × (m ≡ n)
-      its_own l n m b lt at here = tree.distinct 3 m l n (top b.frame) b (omega arith) (omega arith) here at refl
+      its_own l n m b lt at here = tree.distinct 3 m l n (top b.frame) b (omega arith) (omega arith) (λ x y. absurd (omega arith)) here at refl
 
       plain_of : (l n i : ℕ) (b : Place) → l < 4 → i < 512 → reach old root l n ≡ Some b → (l ≡ 3) ⊎ (l ≡ 3 → ⊥) →
           (chosen (512 * n + i) ≡ true) ⊎ (chosen (512 * n + i) ≡ false) → has_bit (word_at new b.frame i) 0 ≡ true → IsPlain new l (word_at new b.frame i)
@@ -210,14 +212,14 @@ module _ (old new : List ℕ) (root : ℕ) (change : Change) (chosen : ℕ → B
           rw (w, x) (keeps.plain new m.0 (step_small old 3 b m.0 ((512 * n + i) % 512) led) (let z = all.size in omega arith))
 
   -- a page keeps its words
-  pub words_stay : (free : List Bool) → IsTree old root free → (n i : ℕ) (place : Place) → i < 512 → reach old root 4 n ≡ Some place →
+  pub words_stay : {area : Area} (free : List Bool) → IsTreeIn area old root free → (n i : ℕ) (place : Place) → i < 512 → reach old root 4 n ≡ Some place →
       word_at new place.frame i ≡ word_at old place.frame i
   words_stay free tree n i place li at =
       all.words place.frame i li (λ m here.
-      let d : (3 ≡ 4) × (m ≡ n) = tree.distinct 3 m 4 n (top place.frame) place (omega arith) (omega arith) here at refl in absurd (omega (arith, d.0)))
+      let d : (3 ≡ 4) × (m ≡ n) = tree.distinct 3 m 4 n (top place.frame) place (omega arith) (omega arith) (λ x y. absurd (omega arith)) here at refl in absurd (omega (arith, d.0)))
 
   -- and its bytes, where it is met still
-  pub bytes_stay : KeepsFrame change → (free : List Bool) → IsTree old root free → (address : ℕ) → (now : Place) → walk_of new root (address / 4096) ≡ Some now →
+  pub bytes_stay : {area : Area} → KeepsFrame change → (free : List Bool) → IsTreeIn area old root free → (address : ℕ) → (now : Place) → walk_of new root (address / 4096) ≡ Some now →
       reached new root address ≡ reached old root address
   bytes_stay keeps free tree address now is =
       let at : reach new root 4 (prefix_of (address / 4096) 4) ≡ Some now = sym (walk_reach new root (address / 4096)) ∙ is in
@@ -227,8 +229,8 @@ module _ (old new : List ℕ) (root : ℕ) (change : Change) (chosen : ℕ → B
       rw (is, was) (ap (λ f. Some (byte_of (word_at new f (address % 4096 / 8)) (address % 8))) (sym p.2) ∙ ap (λ v. Some (byte_of v (address % 8))) w)
 
 -- where pages get rights, no byte is changed
-pub regranted_bytes : (old new : List ℕ) (root : ℕ) (rights : Rights) (chosen : ℕ → Bool) (free : List Bool) →
-    ArePagesChanged old new root (regrant rights) chosen → IsTree old root free → (address : ℕ) → reached new root address ≡ reached old root address
+pub regranted_bytes : {area : Area} (old new : List ℕ) (root : ℕ) (rights : Rights) (chosen : ℕ → Bool) (free : List Bool) →
+    ArePagesChanged old new root (regrant rights) chosen → IsTreeIn area old root free → (address : ℕ) → reached new root address ≡ reached old root address
 regranted_bytes old new root rights chosen free all tree address = go (some_or_none (walk_of new root (address / 4096)))
   where
     gone : reach new root 4 (prefix_of (address / 4096) 4) ≡ None → (chosen (prefix_of (address / 4096) 4) ≡ true) ⊎ (chosen (prefix_of (address / 4096) 4) ≡ false) →
@@ -283,8 +285,8 @@ module _ (old mid new : List ℕ) (root : ℕ) (change : Change) (a b c : ℕ �
   was : (n : ℕ) → a n ≡ false → reach mid root 4 n ≡ reach old root 4 n
   was n x = one.stayed 4 n (omega arith) (λ _. x)
 
-  module _ (free : List Bool)
-      (tree : IsTree old root free)
+  module _ {area : Area} (free : List Bool)
+      (tree : IsTreeIn area old root free)
       (apart : (n : ℕ) → a n ≡ true → b n ≡ false) where
     mapped_of : (n : ℕ) → c n ≡ true → (a n ≡ true) ⊎ (a n ≡ false) → (place : Place) × (reach old root 4 n ≡ Some place)
     mapped_of n g (inl x) = one.mapped n x
@@ -298,7 +300,7 @@ module _ (old mid new : List ℕ) (root : ℕ) (change : Change) (a b c : ℕ �
         (a (512 * n + i) ≡ true) ⊎ (a (512 * n + i) ≡ false) → word_at new f i ≡ change.entry place
     entries_of n i f place li g here at (inl x) =
         two.words f i li (λ m is.
-        let d = tree.distinct 3 m 3 n (top f) (top f) (omega arith) (omega arith) (sym (tables m) ∙ is) here refl in
+        let d = tree.distinct 3 m 3 n (top f) (top f) (omega arith) (omega arith) (λ x y. absurd (omega arith)) (sym (tables m) ∙ is) here refl in
         ap (λ k. b (512 * k + i)) d.1 ∙ apart (512 * n + i) x)
         ∙ one.entries n i f place li x here at
     entries_of n i f place li g here at (inr x) =

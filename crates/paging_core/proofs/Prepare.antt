@@ -3,15 +3,17 @@ use Rattle.std.proofs.Common.{◌≡◌, ℕ, zero, suc, ◌+◌, ◌*◌, ◌/�
 use Rattle.std.proofs.lemmas.Bool.{cases_eq, cases_lt, cases_Bool}
 use Rattle.std.proofs.lemmas.List.{get_or-set_other}
 use Rattle.paging_core.specs.Entry.{table_entry}
+use Rattle.paging_core.specs.Area.{Area, in_area}
 use Rattle.paging_core.specs.Memory.{word_at, frame_count, cleared}
 use Rattle.paging_core.specs.Prefix.{prefix_of}
-use Rattle.paging_core.specs.Pool.{is_free, free_count, FreeBelow}
+use Rattle.paging_core.specs.Pool.{is_free, free_count, FreeBelow, FreeIn}
 use Rattle.paging_core.specs.Walk.{Place, step, large_step, large_of, large_from, reach, next_from, top}
-use Rattle.paging_core.specs.Tree.{IsTree}
+use Rattle.paging_core.specs.Tree.{IsTreeIn}
 use Rattle.paging_core.specs.Tables.{IsTableMade, IsEnsured, IsPrepared, missing_at, missing_past}
 use Rattle.paging_core.proofs.Words.{word_at_cleared_same, word_at_cleared_other, word_at_set_other, word_at_set_same, length_cleared}
 use Rattle.paging_core.proofs.Prefixes.{reach_prefix, prefix_more}
 use Rattle.paging_core.proofs.Reach.{large_is}
+use Rattle.paging_core.proofs.Areas.{free_below, free_inside, free_in}
 use Rattle.paging_core.proofs.Made.{made_tree, made_there, made_others, made_larges, made_size, fewer_flags, lowest_more, taken_count, reach_below}
 
 pub prepared_start : (words : List ℕ) (free : List Bool) (root page : ℕ) → IsPrepared words words free free root page 0
@@ -59,12 +61,12 @@ missing_none words root page level e = rw e refl
 missing_some : (words : List ℕ) (root page level : ℕ) (m : Place) → reach words root level (prefix_of page level) ≡ Some m → missing_at words root page level ≡ 0
 missing_some words root page level m e = rw e refl
 
-module _ (old mid : List ℕ) (free freem : List Bool) (root page level table index : ℕ)
+module _ {area : Area} (old mid : List ℕ) (free freem : List Bool) (root page level table index : ℕ)
     (root_in : root < frame_count old)
-    (known : FreeBelow free (frame_count old))
+    (known : FreeIn area free (frame_count old))
     (lt : level < 3)
     (ix : index ≡ prefix_of page (level + 1) % 512)
-    (tree : IsTree mid root freem)
+    (tree : IsTreeIn area mid root freem)
     (met : reach mid root level (prefix_of page level) ≡ Some (top table))
     (prepared : IsPrepared old mid free freem root page level)
     (slot : level ≡ 2 → large_of old root (prefix_of page 3) ≡ None) where
@@ -98,8 +100,14 @@ module _ (old mid : List ℕ) (free freem : List Bool) (root page level table in
       go (inl h) = h
       go (inr h) = let x = prepared.fewer f h in absurd (cc)
 
-  pub known_mid : FreeBelow freem (frame_count mid)
-  known_mid f e = let s = prepared.size in let b = known f (first_free f e) in omega arith
+  below_mid : FreeBelow freem (frame_count mid)
+  below_mid f e = let s = prepared.size in let b = free_below area free (frame_count old) known f (first_free f e) in omega arith
+
+  pub known_mid : FreeIn area freem (frame_count mid)
+  known_mid = free_in area freem (frame_count mid) below_mid (λ f e. free_inside area free (frame_count old) known f (first_free f e))
+
+  pub table_inside : in_area area table ≡ true
+  table_inside = tree.inside level (prefix_of page level) (top table) (omega arith) met
 
   pub room_for : (levels : ℕ) → level < levels → levels ≤ 3 → missing_past old root page 0 ≤ free_count free + missing_past old root page levels →
       step mid level (top table) index ≡ None → 0 < free_count freem
@@ -174,21 +182,22 @@ module _ (old mid : List ℕ) (free freem : List Bool) (root page level table in
 
     now_there : reach new root (level + 1) (prefix_of page (level + 1)) ≡ Some (top made)
     now_there = rw (← place)
-        (made_there mid new freem free' root level (prefix_of page level) table index made tree lt index_in root_mid known_mid met absent small m)
+        (made_there mid new freem free' root level (prefix_of page level) table index made tree lt index_in root_mid below_mid met absent small m)
 
     now_others : (l n : ℕ) → l ≤ 4 → (l ≡ level + 1 → n ≡ prefix_of page (level + 1) → ⊥) → reach new root l n ≡ reach mid root l n
     now_others l n le ne =
-        made_others mid new freem free' root level (prefix_of page level) table index made tree lt index_in root_mid known_mid met absent small m l n le
+        made_others mid new freem free' root level (prefix_of page level) table index made tree lt index_in root_mid below_mid met absent small m l n le
         (λ x y. ne x (y ∙ place))
 
-    now_tree : IsTree new root free'
-    now_tree = made_tree mid new freem free' root level (prefix_of page level) table index made tree lt index_in root_mid known_mid met absent small m
+    now_tree : IsTreeIn area new root free'
+    now_tree = made_tree mid new freem free' root level (prefix_of page level) table index made tree lt index_in root_mid below_mid met absent small m
+        (free_inside area freem (frame_count mid) known_mid made m.was_free)
 
     now_larges : (n : ℕ) → large_of new root n ≡ large_of mid root n
-    now_larges = made_larges mid new freem free' root level (prefix_of page level) table index made tree lt index_in root_mid known_mid met absent small m
+    now_larges = made_larges mid new freem free' root level (prefix_of page level) table index made tree lt index_in root_mid below_mid met absent small m
 
     now_size : length new ≡ length mid
-    now_size = made_size mid new freem free' root level (prefix_of page level) table index made tree lt index_in root_mid known_mid met absent small m
+    now_size = made_size mid new freem free' root level (prefix_of page level) table index made tree lt index_in root_mid below_mid met absent small m
 
     grown : (l : ℕ) (b : Place) → l ≤ 4 → reach mid root l (prefix_of page l) ≡ Some b → reach new root l (prefix_of page l) ≡ Some b
     grown l b le is = go (cases_eq l (level + 1))
@@ -198,7 +207,7 @@ module _ (old mid : List ℕ) (free freem : List Bool) (root page level table in
         go (inr e) = now_others l (prefix_of page l) le (λ x _. e x) ∙ is
 
     made_below : made < frame_count mid
-    made_below = known_mid made m.was_free
+    made_below = below_mid made m.was_free
 
     -- a word outside the new table and the entry
     word_stays : (f i : ℕ) → i < 512 → (f ≡ made → ⊥) → (f ≡ table → i ≡ index → ⊥) → word_at new f i ≡ word_at mid f i
@@ -215,7 +224,7 @@ module _ (old mid : List ℕ) (free freem : List Bool) (root page level table in
     -- the table is met at its own prefix alone
     here_only : (l f : ℕ) → l < 4 → reach mid root l (prefix_of page l) ≡ Some (top f) → f ≡ table → l ≡ level
     here_only l f lt4 now e =
-        (tree.distinct l (prefix_of page l) level (prefix_of page level) (top f) (top table) (omega arith) (omega arith) now met e).0
+        (tree.distinct l (prefix_of page l) level (prefix_of page level) (top f) (top table) (omega arith) (omega arith) (λ x y. absurd (omega arith)) now met e).0
 
     word_linked : word_at new table index ≡ table_entry made
     word_linked =
@@ -322,7 +331,7 @@ module _ (old mid : List ℕ) (free freem : List Bool) (root page level table in
 
   -- the invariant, one level on
   pub record IsStep (new : List ℕ) (free' : List Bool) (result : ℕ) : Type 0 where
-    pub tree_on : IsTree new root free'
+    pub tree_on : IsTreeIn area new root free'
     pub met_on : reach new root (level + 1) (prefix_of page (level + 1)) ≡ Some (top result)
     pub prepared_on : IsPrepared old new free free' root page (level + 1)
 

@@ -156,35 +156,35 @@ module _ (words : List ℕ) (root page width : ℕ)
     (plain : ArePlain words root)
     (reaches : 4096 * frame_count words ≤ 2 ^ width) where
   -- the entries that a processor reads, and where they lead
-  abbrev first : ℕ
+  abbrev pub first : ℕ
   first = word_at words root (page / 2 ^ 27 % 512)
 
-  abbrev to_first : Place
+  abbrev pub to_first : Place
   to_first = named (top root) first
 
-  abbrev second : ℕ
+  abbrev pub second : ℕ
   second = word_at words to_first.frame (page / 2 ^ 18 % 512)
 
-  abbrev to_second : Place
+  abbrev pub to_second : Place
   to_second = named to_first second
 
-  abbrev third_entry : ℕ
+  abbrev pub third_entry : ℕ
   third_entry = word_at words to_second.frame (page / 2 ^ 9 % 512)
 
-  abbrev to_third : Place
+  abbrev pub to_third : Place
   to_third = named to_second third_entry
 
-  abbrev fourth_entry : ℕ
+  abbrev pub fourth_entry : ℕ
   fourth_entry = word_at words to_third.frame (page % 512)
 
   -- the tables on the way are met, and so their entries are plain
-  root_met : reach words root 0 0 ≡ Some (top root)
+  pub root_met : reach words root 0 0 ≡ Some (top root)
   root_met = reach_zero words root 0
 
   plain_first : has_bit first 0 ≡ true → IsPlain words 0 first
   plain_first = plain.each 0 0 (page / 2 ^ 27 % 512) (top root) (omega arith) (omega arith) root_met
 
-  first_met : has_bit first 0 ≡ true → reach words root 1 (page / 2 ^ 27 % 512) ≡ Some to_first
+  pub first_met : has_bit first 0 ≡ true → reach words root 1 (page / 2 ^ 27 % 512) ≡ Some to_first
   first_met e =
       let q : page / 2 ^ 27 % 512 / 512 ≡ 0 = omega arith in
       let r : page / 2 ^ 27 % 512 % 512 ≡ page / 2 ^ 27 % 512 = omega arith in
@@ -194,7 +194,7 @@ module _ (words : List ℕ) (root page width : ℕ)
   plain_second : has_bit first 0 ≡ true → has_bit second 0 ≡ true → IsPlain words 1 second
   plain_second e = plain.each 1 (page / 2 ^ 27 % 512) (page / 2 ^ 18 % 512) to_first (omega arith) (omega arith) (first_met e)
 
-  second_met : has_bit first 0 ≡ true → has_bit second 0 ≡ true → reach words root 2 (page / 2 ^ 18 % 2 ^ 18) ≡ Some to_second
+  pub second_met : has_bit first 0 ≡ true → has_bit second 0 ≡ true → reach words root 2 (page / 2 ^ 18 % 2 ^ 18) ≡ Some to_second
   second_met e f =
       let q : page / 2 ^ 18 % 2 ^ 18 / 512 ≡ page / 2 ^ 27 % 512 = omega arith in
       let r : page / 2 ^ 18 % 2 ^ 18 % 512 ≡ page / 2 ^ 18 % 512 = omega arith in
@@ -205,7 +205,7 @@ module _ (words : List ℕ) (root page width : ℕ)
   plain_third : has_bit first 0 ≡ true → has_bit second 0 ≡ true → has_bit third_entry 0 ≡ true → IsPlain words 2 third_entry
   plain_third e f = plain.each 2 (page / 2 ^ 18 % 2 ^ 18) (page / 2 ^ 9 % 512) to_second (omega arith) (omega arith) (second_met e f)
 
-  third_met : has_bit first 0 ≡ true → has_bit second 0 ≡ true → has_bit third_entry 0 ≡ true → has_bit third_entry 7 ≡ false →
+  pub third_met : has_bit first 0 ≡ true → has_bit second 0 ≡ true → has_bit third_entry 0 ≡ true → has_bit third_entry 7 ≡ false →
       reach words root 3 (page / 2 ^ 9 % 2 ^ 27) ≡ Some to_third
   third_met e f g h =
       let q : page / 2 ^ 9 % 2 ^ 27 / 512 ≡ page / 2 ^ 18 % 2 ^ 18 = omega arith in

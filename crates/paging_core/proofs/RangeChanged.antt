@@ -4,9 +4,10 @@ use Rattle.std.proofs.lemmas.Bool.{cases_Bool}
 use Rattle.std.proofs.lemmas.Bool.Decides.{nat_tests}
 use Rattle.std.specs.Prelude.{IsTrue}
 use Rattle.paging_core.specs.Address.{is_canonical, IsCanonicalRange}
+use Rattle.paging_core.specs.Area.{Area}
 use Rattle.paging_core.specs.Prefix.{prefix_of}
 use Rattle.paging_core.specs.Walk.{Place, walk_of}
-use Rattle.paging_core.specs.Tree.{IsTree}
+use Rattle.paging_core.specs.Tree.{IsTreeIn}
 use Rattle.paging_core.specs.PageChanges.{Change, ArePagesChanged, only, among}
 use Rattle.paging_core.proofs.Prefixes.{walk_reach}
 use Rattle.paging_core.proofs.PageChanged.{none_changed, changed_more}
@@ -49,7 +50,7 @@ module _ (old mid : List ℕ) (root first pages k : ℕ) (change : Change)
   pub next_both : k < pages → (n : ℕ) → among first (k + 1) n ≡ (among first k n || only (first + k) n)
   next_both lt n = among_more first k n (number k lt)
 
-  pub next_changed : k < pages → (new : List ℕ) (free : List Bool) → IsTree old root free → ArePagesChanged mid new root change (only (first + k)) →
+  pub next_changed : {area : Area} → k < pages → (new : List ℕ) (free : List Bool) → IsTreeIn area old root free → ArePagesChanged mid new root change (only (first + k)) →
       ArePagesChanged old new root change (among first (k + 1))
   next_changed lt new free tree next =
       changed_more old mid new root change (among first k) (only (first + k)) (among first (k + 1)) all next (next_both lt) free tree (next_apart lt)

@@ -1,11 +1,12 @@
 -- A root table with no entry.
 use Rattle.std.proofs.Common.{◌≡◌, ℕ, zero, suc, ◌/◌, ◌%◌, ◌<◌, Bool, true, false, eqb, List, Option, Some, None, refl, sym, ap, ◌∙◌, ◌⊎◌, inl, inr, arith}
 use Rattle.std.proofs.lemmas.Bool.{eqb-true, cases_eq}
+use Rattle.paging_core.specs.Area.{Area, in_area}
 use Rattle.paging_core.specs.Memory.{word_at}
 use Rattle.paging_core.specs.Prefix.{prefix_of}
 use Rattle.paging_core.specs.Pool.{is_free}
 use Rattle.paging_core.specs.Walk.{Place, by_entries, step, reach, large_of, large_from, next_from, walk_of, top}
-use Rattle.paging_core.specs.Tree.{IsTree}
+use Rattle.paging_core.specs.Tree.{IsTreeIn}
 use Rattle.paging_core.proofs.Reach.{entries_zero, entries_suc, reach_low, reach_entries, step_zero, large_is, either_way, ByEntry, InLarge}
 use Rattle.paging_core.proofs.Plain.{plain_zero}
 use Rattle.paging_core.proofs.Prefixes.{walk_reach}
@@ -55,15 +56,16 @@ only_root words root blank l n met is = go (cases_eq l 4)
     go (inr ne) = entries_root words root blank l n met (sym (reach_entries words root l n ne) ∙ is)
     go (inl x) = way (either_way words root n met (rw x at is))
 
-pub tree_start : (words : List ℕ) (root : ℕ) (free : List Bool) → ((i : ℕ) → i < 512 → word_at words root i ≡ 0) → is_free free root ≡ false →
-    IsTree words root free
-tree_start words root free blank taken = record {
+pub tree_start : (area : Area) (words : List ℕ) (root : ℕ) (free : List Bool) → ((i : ℕ) → i < 512 → word_at words root i ≡ 0) → is_free free root ≡ false →
+    in_area area root ≡ true → IsTreeIn area words root free
+tree_start area words root free blank taken within = record {
   rights = λ l n met lt is. let p = only_root words root blank l n met is in rw p.2 refl;
-  distinct = λ l n k j a b ll lk x y e.
+  distinct = λ l n k j a b ll lk apart x y e.
       let p : (l ≡ 0) × (n ≡ 0) × (a ≡ top root) = only_root words root blank l n a x in
       let q : (k ≡ 0) × (j ≡ 0) × (b ≡ top root) = only_root words root blank k j b y in
       (p.0 ∙ sym q.0, p.1 ∙ sym q.1);
   used = λ l n met le is. let p = only_root words root blank l n met is in rw p.2 taken;
+  inside = λ l n met lt is. let p = only_root words root blank l n met is in rw p.2 within;
   plain = record {
     each = λ l n i met lt li is.
         let p = only_root words root blank l n met is in

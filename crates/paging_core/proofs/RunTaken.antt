@@ -58,7 +58,7 @@ module _ (old mid : List ℕ) (free free1 : List Bool) (root run : ℕ)
   pub run_tree : IsTree mid root free1
   run_tree =
       let t : IsTree mid root free = tree_same old mid root free blank.size (λ l n b j lt is lj. stays b.frame j lj (unmet l n b (omega arith) is)) tree in
-      record { rights = t.rights; distinct = t.distinct; plain = t.plain; used = λ l n m le is. run_fewer m.frame (t.used l n m le is) }
+      record { rights = t.rights; distinct = t.distinct; plain = t.plain; inside = λ _ _ _ _ _. refl; used = λ l n m le is. run_fewer m.frame (t.used l n m le is) }
 
   pub run_walk : (page : ℕ) → walk_of mid root page ≡ walk_of old root page
   run_walk page = walk_reach mid root page ∙ (run_same 4 (prefix_of page 4) (omega arith) ∙ sym (walk_reach old root page))
@@ -107,7 +107,7 @@ module _ (old mid : List ℕ) (free free1 : List Bool) (root run : ℕ)
         let met : reach new root 4 (prefix_of (512 * page + k) 4) ≡ Some (granted (512 * run + k) rights) = sym (walk_reach new root (512 * page + k)) ∙ added.there k lt in
         added.words (512 * run + k) i li
         (λ l ll here. let d = tree'.distinct 4 (prefix_of (512 * page + k) 4) l (above page l) (granted (512 * run + k) rights) (top (512 * run + k))
-        (omega arith) (omega arith) met here refl in absurd (omega (arith, d.0)))
+        (omega arith) (omega arith) (λ _ _. refl) met here refl in absurd (omega (arith, d.0)))
         ∙ blank.zeros k i lt li
 
     -- each byte of the slot is 0
@@ -118,7 +118,7 @@ module _ (old mid : List ℕ) (free free1 : List Bool) (root run : ℕ)
         let w : word_at new (512 * run + k) (address % 4096 / 8) ≡ 0 =
         added.words (512 * run + k) (address % 4096 / 8) (omega arith)
         (λ l ll here. let d = tree'.distinct 4 (prefix_of (address / 4096) 4) l (above page l) (granted (512 * run + k) rights) (top (512 * run + k))
-        (omega arith) (omega arith) met here refl in absurd (omega (arith, d.0)))
+        (omega arith) (omega arith) (λ _ _. refl) met here refl in absurd (omega (arith, d.0)))
         ∙ blank.zeros k (address % 4096 / 8) lt (omega arith) in
         reached_at new root address (granted (512 * run + k) rights) at
         ∙ (ap (λ v. Some (byte_of v (address % 8))) w ∙ ap Some (zero_byte (address % 8)))

@@ -1,5 +1,6 @@
 -- What the walk and the tree rule mean: laws above the definitions.
 use Rattle.std.specs.Prelude.{◌≡◌, ℕ, ◌+◌, ◌*◌, ◌/◌, ◌%◌, ◌^◌, ◌<◌, ◌≤◌, ◌↔◌, Bool, true, false, IsTrue, IsSome, List, Some, None, Contains}
+use Rattle.paging_core.specs.Area.{Area, in_area}
 use Rattle.paging_core.specs.Memory.{word_at, frame_count}
 use Rattle.paging_core.specs.Address.{IsCanonicalRange, is_canonical}
 use Rattle.paging_core.specs.Prefix.{prefix_of, prefixes_of}
@@ -9,7 +10,7 @@ use Rattle.paging_core.specs.Walk.{Place, step, next_from, large_from, large_of,
 use Rattle.paging_core.specs.ProcessorWalk.{AtPage, processor_walk, page_of, is_refused}
 use Rattle.paging_core.specs.Entry.{has_bit}
 use Rattle.paging_core.specs.Plain.{ArePlain, marked}
-use Rattle.paging_core.specs.Tree.{IsTree}
+use Rattle.paging_core.specs.Tree.{IsTree, IsTreeIn}
 use Rattle.paging_core.specs.Mapping.{IsPageAdded}
 use Rattle.paging_core.specs.declared.page_table.Rights.{Rights}
 
@@ -81,6 +82,17 @@ ProcessorsWalkAlike =
     (page_of (processor_walk width words root page) ≡ walk_of words root page)
     × (is_refused (processor_walk width words root page) ≡ false)
     × ((place : Place) → processor_walk width words root page ≡ AtPage place → place.frame < frame_count words)
+
+-- Tables in an area: whatever else the machine's memory holds, a processor's walk ends at a page exactly where `walk_of`
+-- does over the words of the tables, at the same frame with the same rights, and no reserved bit ends it.
+abbrev pub AreaWalksAlike : Type 0
+AreaWalksAlike =
+    (area : Area) (words real : List ℕ) (root page width : ℕ) (free : List Bool) → IsTreeIn area words root free →
+    ((frame index : ℕ) → index < 512 → in_area area frame ≡ true → word_at real frame index ≡ word_at words frame index) →
+    4096 * frame_count words ≤ 2 ^ width →
+    (page_of (processor_walk width real root page) ≡ walk_of words root page)
+    × (is_refused (processor_walk width real root page) ≡ false)
+    × ((place : Place) → processor_walk width real root page ≡ AtPage place → place.frame < frame_count words)
 
 -- Over plain entries a processor writes to no table: each entry by which it may walk has its marks.
 abbrev pub NoEntryIsMarked : Type 0

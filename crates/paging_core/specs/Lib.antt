@@ -2,12 +2,14 @@ pub mod Address
 pub mod Align
 pub mod Field
 pub mod Memory
+pub mod Area
 pub mod Entry
 pub mod PageTableFlags
 pub mod Prefix
 pub mod Steps
 pub mod Walk
 pub mod Pool
+pub mod Ahead
 pub mod Runs
 pub mod ProcessorWalk
 pub mod ProcessorAccess

@@ -1,5 +1,6 @@
 -- A pool of frames: a flag for each frame, true where it is free. A frame past the flags is not free.
 use Rattle.std.specs.Prelude.{◌≡◌, ℕ, ◌<◌, Bool, true, false, List, set, count_by, slice_index_or, Option, Some, None}
+use Rattle.paging_core.specs.Area.{Area, in_area, Whole, Part}
 
 abbrev pub is_free : List Bool → ℕ → Bool
 is_free free frame = slice_index_or free frame false
@@ -10,6 +11,11 @@ free_count free = count_by (λ flag. flag) free
 -- the free frames are below the count
 abbrev pub FreeBelow : List Bool → ℕ → Type 0
 FreeBelow free count = (frame : ℕ) → is_free free frame ≡ true → frame < count
+
+-- the free frames lie in the area, and below the count
+abbrev pub FreeIn : Area → List Bool → ℕ → Type 0
+FreeIn Whole free count = FreeBelow free count
+FreeIn (Part first end) free count = (frame : ℕ) → is_free free frame ≡ true → (in_area (Part first end) frame ≡ true) × (frame < count)
 
 -- a frame was taken that was free, or none is free
 abbrev pub IsFrameTaken : List Bool → List Bool → Option ℕ → Type 0

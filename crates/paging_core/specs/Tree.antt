@@ -1,16 +1,17 @@
 -- The tables that the walk meets form a tree of plain entries.
-use Rattle.std.specs.Prelude.{◌≡◌, ℕ, ◌<◌, ◌≤◌, Bool, false, List, Some}
+use Rattle.std.specs.Prelude.{◌≡◌, ℕ, ◌<◌, ◌+◌, ◌≤◌, Bool, true, false, List, Some}
+use Rattle.paging_core.specs.Area.{Area, in_area, Whole, Part}
 use Rattle.paging_core.specs.Pool.{is_free}
 use Rattle.paging_core.specs.Walk.{Place, reach, top}
 use Rattle.paging_core.specs.Plain.{ArePlain}
 
--- `free` has a flag for each frame
-pub record IsTree (words : List ℕ) (root : ℕ) (free : List Bool) : Type 0 where
+-- The tables lie in the area. `free` has a flag for each frame.
+pub record IsTreeIn (area : Area) (words : List ℕ) (root : ℕ) (free : List Bool) : Type 0 where
   -- each table is met with all rights
   pub rights : (level number : ℕ) (met : Place) → level < 4 → reach words root level number ≡ Some met → met ≡ top met.frame
-  -- no frame is met twice
+  -- No frame of a table is met twice. In the whole memory no frame of a page is; else two pages may lead to one frame.
   pub distinct :
-      (level number level' number' : ℕ) (met met' : Place) → level ≤ 4 → level' ≤ 4 →
+      (level number level' number' : ℕ) (met met' : Place) → level ≤ 4 → level' ≤ 4 → (level ≡ 4 → level' ≡ 4 → area ≡ Whole) →
       reach words root level number ≡ Some met → reach words root level' number' ≡ Some met' → met.frame ≡ met'.frame →
       (level ≡ level') × (number ≡ number')
   -- no frame that is met is free
@@ -18,7 +19,30 @@ pub record IsTree (words : List ℕ) (root : ℕ) (free : List Bool) : Type 0 wh
       (level number : ℕ) (met : Place) → level ≤ 4 → reach words root level number ≡ Some met → is_free free met.frame ≡ false
   -- no bit is set but those that are written here
   pub plain : ArePlain words root
+  -- each table lies in the area
+  pub inside : (level number : ℕ) (met : Place) → level < 4 → reach words root level number ≡ Some met → in_area area met.frame ≡ true
+
+-- the tables are a tree in an area beside some free frames
+abbrev pub HasTreeIn : Area → List ℕ → ℕ → Type 0
+HasTreeIn area words root = (free : List Bool) × IsTreeIn area words root free
+
+-- any frame may be a table's
+abbrev pub IsTree : List ℕ → ℕ → List Bool → Type 0
+IsTree words root free = IsTreeIn Whole words root free
 
 -- the tables are a tree beside some free frames
 abbrev pub HasTree : List ℕ → ℕ → Type 0
 HasTree words root = (free : List Bool) × IsTree words root free
+
+-- A page may be mapped to the frame: it is no table's. In the whole memory it is no page's either; else two pages may
+-- lead to one frame.
+abbrev pub IsUnmet : Area → List ℕ → ℕ → ℕ → Type 0
+IsUnmet Whole words root frame = (level number : ℕ) (met : Place) → level ≤ 4 → reach words root level number ≡ Some met → met.frame ≡ frame → ⊥
+IsUnmet (Part first end) words root frame = (level number : ℕ) (met : Place) → level < 4 → reach words root level number ≡ Some met → met.frame ≡ frame → ⊥
+
+-- a run of 512 frames from the first on may be mapped
+abbrev pub IsRunUnmet : Area → List ℕ → ℕ → ℕ → Type 0
+IsRunUnmet Whole words root first =
+    (k level number : ℕ) (met : Place) → k < 512 → level ≤ 4 → reach words root level number ≡ Some met → met.frame ≡ first + k → ⊥
+IsRunUnmet (Part from end) words root first =
+    (k level number : ℕ) (met : Place) → k < 512 → level < 4 → reach words root level number ≡ Some met → met.frame ≡ first + k → ⊥

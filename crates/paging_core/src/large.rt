@@ -1,12 +1,13 @@
 ghost use Rattle.std.specs.Prelude.{◌≡◌, ℕ, ◌+◌, ◌*◌, ◌/◌, ◌%◌, ◌^◌, ◌<◌, ◌≤◌, ◌↔◌, IsSome, IfSome, IsTrue, List, Bool, None, Some, true, false, length, IsFalse};
 ghost use Rattle.std.specs.Option.{option_map};
 ghost use Rattle.paging_core.specs.Address.{is_canonical, IsCanonicalRange};
+ghost use Rattle.paging_core.specs.Area.{in_area};
 ghost use Rattle.paging_core.specs.Memory.{frame_count, word_at};
 ghost use Rattle.paging_core.specs.Entry.{page_entry};
 ghost use Rattle.paging_core.specs.Walk.{Place, reach, large_of, walk_of, reached, place_of};
-ghost use Rattle.paging_core.specs.Pool.{is_free, free_count, FreeBelow, IsOut};
+ghost use Rattle.paging_core.specs.Pool.{is_free, free_count, FreeBelow, FreeIn, IsOut};
 ghost use Rattle.paging_core.specs.Runs.{IsRunFree};
-ghost use Rattle.paging_core.specs.Tree.{IsTree};
+ghost use Rattle.paging_core.specs.Tree.{IsTree, IsTreeIn, IsRunUnmet};
 ghost use Rattle.paging_core.specs.Missing.{missing_of};
 ghost use Rattle.paging_core.specs.Large.{slot_of, missing_above, IsSlotEmpty, IsLargeAdded, AreFramesCleared, IsSlotAdded, IsLargeEntry, IsLargeCleared, IsLargeRemoved, IsLargeCut};
 
@@ -16,7 +17,9 @@ use crate::page_table::{PageTableEntry, Rights};
 use crate::page_walk::{Mapped, descend, large_at};
 use crate::pages::{Page, Size2MiB, index_after};
 use crate::phys_frames::PhysFrame;
+use crate::physical_memory::PhysicalMemory;
 use crate::pool::FramePool;
+use crate::table_frames::TableFrames;
 use crate::tables::ensure_tables;
 
 /// The first page of the slot.
@@ -38,33 +41,34 @@ fn first_frame(frame: PhysFrame<Size2MiB>) -> PhysFrame
 /// Maps the slot of the page to the run of frames with the rights, by one entry. The tables above it that are missing
 /// are made, each in a frame from the pool.
 ///
-/// No page of the slot is mapped, and it has no table. The frames are neither free nor met by a walk. The pool has the
-/// frames for the missing tables.
-pub fn map_large(
-    frames: &mut Frames,
-    pool: &mut FramePool,
+/// No page of the slot is mapped, and it has no table. The frames are neither free nor those of tables. In a whole memory no
+/// page leads to them; where the tables lie in an area other pages may. The pool has the frames for the missing tables.
+pub fn map_large<M: PhysicalMemory, P: TableFrames>(
+    frames: &mut M,
+    pool: &mut P,
     root: PhysFrame,
     page: Page<Size2MiB>,
     frame: PhysFrame<Size2MiB>,
     rights: Rights,
 )
-    requires root { root < frame_count frames.old }
-    requires known { FreeBelow pool.old (frame_count frames.old) }
-    requires tree { IsTree frames.old root pool.old }
-    requires empty { IsSlotEmpty frames.old root page }
-    requires frame { 512 * frame + 511 < frame_count frames.old }
-    requires used { (k : ℕ) → k < 512 → is_free pool.old (512 * frame + k) ≡ false }
-    requires unmet { (k level number : ℕ) (met : Place) → k < 512 → level ≤ 4 → reach frames.old root level number ≡ Some met → met.frame ≡ 512 * frame + k → ⊥ }
-    requires room { missing_above frames.old root page ≤ free_count pool.old }
-    ensures tree { IsTree frames.new root pool.new }
-    ensures known { FreeBelow pool.new (frame_count frames.new) }
-    ensures elsewhere { (other : ℕ) → IsTrue (is_canonical (other * 4096)) → (other / 512 ≡ page → ⊥) → walk_of frames.new root other ≡ walk_of frames.old root other }
-    ensures bytes { (address : ℕ) → IsSome (walk_of frames.old root (address / 4096)) → reached frames.new root address ≡ reached frames.old root address }
-    ensures added { IsLargeAdded frames.old frames.new pool.old pool.new root page frame rights }
+    requires root { root < frame_count (M.words frames.old) }
+    requires known { FreeIn (M.area frames.old) (P.free pool.old) (frame_count (M.words frames.old)) }
+    requires tree { IsTreeIn (M.area frames.old) (M.words frames.old) root (P.free pool.old) }
+    requires empty { IsSlotEmpty (M.words frames.old) root page }
+    requires frame { 512 * frame + 511 < frame_count (M.words frames.old) }
+    requires used { (k : ℕ) → k < 512 → is_free (P.free pool.old) (512 * frame + k) ≡ false }
+    requires unmet { IsRunUnmet (M.area frames.old) (M.words frames.old) root (512 * frame) }
+    requires room { missing_above (M.words frames.old) root page ≤ free_count (P.free pool.old) }
+    ensures tree { IsTreeIn (M.area frames.new) (M.words frames.new) root (P.free pool.new) }
+    ensures known { FreeIn (M.area frames.new) (P.free pool.new) (frame_count (M.words frames.new)) }
+    ensures area { M.area frames.new ≡ M.area frames.old }
+    ensures elsewhere { (other : ℕ) → IsTrue (is_canonical (other * 4096)) → (other / 512 ≡ page → ⊥) → walk_of (M.words frames.new) root other ≡ walk_of (M.words frames.old) root other }
+    ensures bytes { (address : ℕ) → IsSome (walk_of (M.words frames.old) root (address / 4096)) → reached (M.words frames.new) root address ≡ reached (M.words frames.old) root address }
+    ensures added { IsLargeAdded (M.words frames.old) (M.words frames.new) (P.free pool.old) (P.free pool.new) root page frame rights }
 
     // A range of pages with the slot misses the tables above it no more. The slot's own counts as missing still.
     ensures missing { (first pages : ℕ) → IsCanonicalRange first pages → first ≤ 512 * page → 512 * page + 512 ≤ first + pages →
-        missing_of frames.new root first pages + missing_above frames.old root page ≡ missing_of frames.old root first pages }
+        missing_of (M.words frames.new) root first pages + missing_above (M.words frames.old) root page ≡ missing_of (M.words frames.old) root first pages }
 {
     let first = first_page(page);
     let table = ensure_tables(frames, pool, root, first, 2);
@@ -124,9 +128,13 @@ pub fn map_slot(
 }
 
 /// The large page of the slot, by its first frame. None exactly where the slot is not mapped by one entry.
-pub fn large_page(frames: &Frames, root: PhysFrame, page: Page<Size2MiB>) -> Option<Mapped>
-    requires root { root < frame_count frames.now }
-    ensures { option_map place_of result ≡ large_of frames.now root (slot_of page) }
+pub fn large_page<M: PhysicalMemory>(
+    frames: &M,
+    root: PhysFrame,
+    page: Page<Size2MiB>,
+) -> Option<Mapped>
+    requires root { root < frame_count (M.words frames.now) }
+    ensures { option_map place_of result ≡ large_of (M.words frames.now) root (slot_of page) }
 {
     let first = first_page(page);
     let at = descend(frames, root, first, 2)?;
@@ -134,9 +142,9 @@ pub fn large_page(frames: &Frames, root: PhysFrame, page: Page<Size2MiB>) -> Opt
 }
 
 /// Whether the slot has a table, whose entries map its pages.
-pub fn has_table(frames: &Frames, root: PhysFrame, page: Page<Size2MiB>) -> bool
-    requires root { root < frame_count frames.now }
-    ensures { IsTrue result ↔ IsSome (reach frames.now root 3 (slot_of page)) }
+pub fn has_table<M: PhysicalMemory>(frames: &M, root: PhysFrame, page: Page<Size2MiB>) -> bool
+    requires root { root < frame_count (M.words frames.now) }
+    ensures { IsTrue result ↔ IsSome (reach (M.words frames.now) root 3 (slot_of page)) }
 {
     descend(frames, root, first_page(page), 3).is_some()
 }
@@ -150,13 +158,14 @@ struct LargeEntry {
 }
 
 /// The entry of the slot, which is mapped by one.
-fn large_entry(frames: &Frames, root: PhysFrame, page: Page<Size2MiB>) -> LargeEntry
-    requires root { root < frame_count frames.now }
-    requires large { IsSome (large_of frames.now root (slot_of page)) }
-    ensures entry { IsLargeEntry frames.now root page result.table result.index (place_of result.large) }
-    ensures table { result.table < frame_count frames.now }
+fn large_entry<M: PhysicalMemory>(frames: &M, root: PhysFrame, page: Page<Size2MiB>) -> LargeEntry
+    requires root { root < frame_count (M.words frames.now) }
+    requires large { IsSome (large_of (M.words frames.now) root (slot_of page)) }
+    ensures entry { IsLargeEntry (M.words frames.now) root page result.table result.index (place_of result.large) }
+    ensures inside { in_area (M.area frames.now) result.table ≡ true }
+    ensures table { result.table < frame_count (M.words frames.now) }
     ensures index { result.index < 512 }
-    ensures bounded { result.large.frame + 511 < 2 ^ 32 }
+    ensures bounded { result.large.frame + 512 < 2 ^ 40 }
     ensures canonical { IsTrue (is_canonical (512 * page * 4096)) }
 {
     let first = first_page(page);
@@ -179,22 +188,23 @@ fn large_entry(frames: &Frames, root: PhysFrame, page: Page<Size2MiB>) -> LargeE
 /// which the slot led.
 ///
 /// The slot is mapped by one entry. The tables stay, and the frames are still out.
-pub fn unmap_large(
-    frames: &mut Frames,
+pub fn unmap_large<M: PhysicalMemory>(
+    frames: &mut M,
     root: PhysFrame,
     page: Page<Size2MiB>,
 ) -> PhysFrame<Size2MiB>
-    requires root { root < frame_count frames.old }
-    requires large { IsSome (large_of frames.old root (slot_of page)) }
-    ensures frame { IfSome (large_of frames.old root (slot_of page)) (λ large. 512 * result ≡ large.frame) }
-    ensures below { 512 * result + 511 < frame_count frames.new }
-    ensures cleared { IsLargeCleared frames.old frames.new root page }
+    requires root { root < frame_count (M.words frames.old) }
+    requires large { IsSome (large_of (M.words frames.old) root (slot_of page)) }
+    ensures frame { IfSome (large_of (M.words frames.old) root (slot_of page)) (λ large. 512 * result ≡ large.frame) }
+    ensures below { 512 * result + 511 < frame_count (M.words frames.new) }
+    ensures cleared { IsLargeCleared (M.words frames.old) (M.words frames.new) root page }
+    ensures area { M.area frames.new ≡ M.area frames.old }
 
     // Where the tables are a tree they stay one, and no other page's walk is changed.
-    ensures tree { (free : List Bool) → IsTree frames.old root free → IsTree frames.new root free }
-    ensures bytes { (free : List Bool) → IsTree frames.old root free → (address : ℕ) → IsSome (walk_of frames.new root (address / 4096)) → reached frames.new root address ≡ reached frames.old root address }
-    ensures removed { (free : List Bool) → IsTree frames.old root free → IsLargeRemoved frames.old frames.new root page }
-    ensures elsewhere { (free : List Bool) → IsTree frames.old root free → (other : ℕ) → IsTrue (is_canonical (other * 4096)) → (other / 512 ≡ page → ⊥) → walk_of frames.new root other ≡ walk_of frames.old root other }
+    ensures tree { (free : List Bool) → IsTreeIn (M.area frames.old) (M.words frames.old) root free → IsTreeIn (M.area frames.new) (M.words frames.new) root free }
+    ensures bytes { (free : List Bool) → IsTreeIn (M.area frames.old) (M.words frames.old) root free → (address : ℕ) → IsSome (walk_of (M.words frames.new) root (address / 4096)) → reached (M.words frames.new) root address ≡ reached (M.words frames.old) root address }
+    ensures removed { (free : List Bool) → IsTreeIn (M.area frames.old) (M.words frames.old) root free → IsLargeRemoved (M.words frames.old) (M.words frames.new) root page }
+    ensures elsewhere { (free : List Bool) → IsTreeIn (M.area frames.old) (M.words frames.old) root free → (other : ℕ) → IsTrue (is_canonical (other * 4096)) → (other / 512 ≡ page → ⊥) → walk_of (M.words frames.new) root other ≡ walk_of (M.words frames.old) root other }
 {
     let LargeEntry {
         table,
@@ -209,7 +219,7 @@ pub fn unmap_large(
 fn fill_table(frames: &mut Frames, table: PhysFrame, first: PhysFrame, count: u16, rights: Rights)
     requires table { table < frame_count frames.old }
     requires count { count < 512 }
-    requires first { first + 511 < 2 ^ 32 }
+    requires first { first + 512 < 2 ^ 40 }
     ensures size { length frames.new ≡ length frames.old }
     ensures filled { (k : ℕ) → k < count → word_at frames.new table k ≡ page_entry (first + k) rights }
     ensures others { (f i : ℕ) → i < 512 → (f ≡ table → i < count → ⊥) → word_at frames.new f i ≡ word_at frames.old f i }

@@ -1,7 +1,7 @@
 //! Laws above the definitions of the walk and of the tree rule. Each function does nothing: its contract
 //! is the law.
 
-ghost use Rattle.paging_core.specs.Laws.{WalkStepsByIndices, PrefixesAreOfPages, OnePageForAFrame, NoPageAtAFreeFrame, MappingCommutes, PlacesCountPages, GivingKeepsTheTree, MappedByATable, MappedInALargePage, ProcessorsWalkAlike, NoEntryIsMarked};
+ghost use Rattle.paging_core.specs.Laws.{WalkStepsByIndices, PrefixesAreOfPages, OnePageForAFrame, NoPageAtAFreeFrame, MappingCommutes, PlacesCountPages, GivingKeepsTheTree, MappedByATable, MappedInALargePage, ProcessorsWalkAlike, AreaWalksAlike, NoEntryIsMarked};
 
 /// The walk of a page goes from the root by the page's four indices, or ends after three of them in a large page.
 pub fn walk_steps_by_indices()
@@ -52,6 +52,12 @@ pub fn mapped_in_a_large_page()
 /// page's frame lies in the memory, and no reserved bit ends the walk.
 pub fn processors_walk_alike()
     ensures { ProcessorsWalkAlike }
+{}
+
+/// Tables in an area: whatever else the machine's memory holds, a processor finds exactly the pages of the tables, and no
+/// reserved bit ends a walk.
+pub fn area_walks_alike()
+    ensures { AreaWalksAlike }
 {}
 
 /// Over plain entries a processor writes to no table: each entry by which it may walk is accessed already, and dirty if it

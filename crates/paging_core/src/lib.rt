@@ -3,12 +3,16 @@
 //!
 //! What a walk finds is defined over the raw words of the memory. Each of these calls keeps the tables
 //! a tree: no frame is met twice on walks, and no free frame is met.
+//!
+//! The tables lie in a program's own memory (`Frames`), whose pages have words too, or in an area that a caller lends
+//! (`TableArea`): then pages lead to any frames below a limit, and two pages may lead to one.
 #![tactic(auto)]
 
 pub mod access;
 pub mod addr;
 pub mod bit_field;
 pub mod frame_allocator;
+pub mod frames_ahead;
 pub mod large;
 pub mod laws;
 pub mod mapping;
@@ -19,11 +23,14 @@ pub mod page_table_flags;
 pub mod page_walk;
 pub mod pages;
 pub mod phys_frames;
+pub mod physical_memory;
 pub mod pool;
 pub mod processor_access;
 pub mod processor_walk;
 pub mod protecting;
 mod range;
+pub mod table_area;
+pub mod table_frames;
 mod tables;
 pub mod unmapping;
 
@@ -31,6 +38,7 @@ pub use access::{copy_page, load_word, load_words, store_word, store_words};
 pub use addr::{PhysAddr, PhysAddrNotValid, VirtAddr, VirtAddrNotValid, align_down, align_up};
 pub use bit_field::{get_bits, set_bits};
 pub use frame_allocator::{FrameAllocator, FrameDeallocator};
+pub use frames_ahead::FramesAhead;
 pub use large::{cut_large, has_table, large_page, map_large, map_slot, unmap_large};
 pub use mapping::map_page;
 pub use memory::Frames;
@@ -43,10 +51,13 @@ pub use pages::{
     Size2MiB, Size4KiB,
 };
 pub use phys_frames::{PhysFrame, PhysFrameRange, PhysFrameRangeInclusive};
+pub use physical_memory::PhysicalMemory;
 pub use pool::FramePool;
 pub use processor_access::{AccessKind, access_byte};
 pub use processor_walk::{Translated, translate};
 pub use protecting::{protect_page, protect_range};
 pub use range::map_range;
+pub use table_area::TableArea;
+pub use table_frames::TableFrames;
 pub use tables::make_root;
 pub use unmapping::{unmap_page, unmap_range};

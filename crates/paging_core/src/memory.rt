@@ -1,4 +1,5 @@
-ghost use Rattle.std.specs.Prelude.{◌≡◌, ℕ, ◌+◌, ◌*◌, ◌/◌, ◌^◌, ◌<◌, ◌≤◌, IfOk, length, replicate, List, set};
+ghost use Rattle.std.specs.Prelude.{◌≡◌, ℕ, ◌+◌, ◌-◌, ◌*◌, ◌/◌, ◌%◌, ◌^◌, ◌<◌, ◌≤◌, ◌++◌, IfOk, length, replicate, List, set};
+ghost use Rattle.std.specs.Vec.{vec_len, vec_capacity};
 ghost use Rattle.paging_core.specs.Memory.{word_at, frame_count, cleared, IsFrameCopied, AreWordsWritten, AreWordsOf};
 
 use crate::phys_frames::PhysFrame;
@@ -6,6 +7,9 @@ use std::alloc::{AllocError, Global};
 use std::marker::Model;
 
 /// The physical memory: frames of 512 words. Frame f has the physical address 4096 * f.
+///
+/// Memory for all frames is reserved at the start, and a frame comes into being, with all frames
+/// before it, when it is first written. Until then its words are 0.
 #[derive(Drop)]
 pub struct Frames {
     words: Vec<u64>,
@@ -15,18 +19,48 @@ pub struct Frames {
 impl Model for Frames {
     ghost Value = { List ℕ };
 
-    ghost view = { λ f. f.words.items };
+    ghost view = { λ f. f.words.items ++ replicate (512 * f.count - vec_len f.words) 0 };
 
-    ghost invariant = { λ f. length f.words.items ≡ 512 * f.count };
+    ghost invariant = { λ f. (vec_len f.words % 512 ≡ 0) × ((vec_len f.words ≤ 512 * f.count) × (512 * f.count ≤ vec_capacity f.words)) };
+}
+
+/// Makes the frames up to the one with the word at `place`, each word 0, in the room that is reserved.
+#[cold]
+#[inline(never)]
+fn make_frames(words: &mut Vec<u64>, place: usize)
+    requires missing { vec_len words.old ≤ place }
+    requires whole { vec_len words.old % 512 ≡ 0 }
+    requires room { 512 * (place / 512) + 512 ≤ vec_capacity words.old }
+    ensures words { words.new.items ≡ words.old.items ++ replicate (512 * (place / 512) + 512 - vec_len words.old) 0 }
+    ensures room { vec_capacity words.old ≤ vec_capacity words.new }
+{
+    for _ in words.len() / 512..place / 512 + 1 {
+        let _made = words.extend_from_slice(&[0; 512]);
+    }
+}
+
+/// Makes the frames up to the one with the word at `place`, if it is not there.
+#[inline(always)]
+fn reach(words: &mut Vec<u64>, place: usize)
+    requires whole { vec_len words.old % 512 ≡ 0 }
+    requires room { 512 * (place / 512) + 512 ≤ vec_capacity words.old }
+    ensures words { words.new.items ≡ words.old.items ++ replicate (512 * (place / 512) + 512 - vec_len words.old) 0 }
+    ensures room { vec_capacity words.old ≤ vec_capacity words.new }
+{
+    if words.len() <= place {
+        make_frames(words, place);
+    }
 }
 
 impl Frames {
     /// A memory of so many frames, each word 0.
+    ///
+    /// `AllocError` if memory for them cannot be reserved.
     pub fn new(alloc: Global, count: u32) -> Result<Self, AllocError>
         ensures words { IfOk result (λ frames. frames ≡ replicate (512 * count) 0) }
         ensures count { IfOk result (λ frames. frame_count frames ≡ count) }
     {
-        let words = vec![in alloc; 0; 512 * count as usize]?;
+        let words = Vec::with_capacity(alloc, 512 * count as usize)?;
         Ok(Frames { words, count })
     }
 
@@ -44,7 +78,12 @@ impl Frames {
         requires index { index < 512 }
         ensures { result ≡ word_at self.now frame index }
     {
-        self.words[512 * frame.number() as usize + index as usize]
+        let place = 512 * frame.number() as usize + index as usize;
+        if place < self.words.len() {
+            self.words[place]
+        } else {
+            0
+        }
     }
 
     /// Writes the word of the frame.
@@ -53,7 +92,9 @@ impl Frames {
         requires index { index < 512 }
         ensures { self.new ≡ set self.old (512 * frame + index) value }
     {
-        self.words[512 * frame.number() as usize + index as usize] = value;
+        let place = 512 * frame.number() as usize + index as usize;
+        reach(&mut self.words, place);
+        self.words[place] = value;
     }
 
     /// Makes each word of the frame 0.
@@ -62,7 +103,11 @@ impl Frames {
         ensures { self.new ≡ cleared self.old frame }
     {
         let base = 512 * frame.number() as usize;
-        self.words[base..base + 512].copy_from_slice(&[0; 512]);
+        if base < self.words.len() {
+            self.words[base..base + 512].copy_from_slice(&[0; 512]);
+        } else {
+            make_frames(&mut self.words, base);
+        }
     }
 
     /// Copies the words of one frame to another.
@@ -73,6 +118,7 @@ impl Frames {
     {
         let source = 512 * from.number() as usize;
         let target = 512 * to.number() as usize;
+        reach(&mut self.words, source.max(target));
         self.words.copy_within(source..source + 512, target);
     }
 
@@ -85,8 +131,13 @@ impl Frames {
         ensures read { AreWordsOf self.now frame index words.new }
         ensures length { length words.new ≡ length words.old }
     {
-        let base = 512 * frame.number() as usize + index as usize;
-        words.copy_from_slice(&self.words[base..base + words.len()]);
+        let base = 512 * frame.number() as usize;
+        if base < self.words.len() {
+            let start = base + index as usize;
+            words.copy_from_slice(&self.words[start..start + words.len()]);
+        } else {
+            words.fill(0);
+        }
     }
 
     /// Writes the words to the frame, from `index` on.
@@ -97,7 +148,9 @@ impl Frames {
         requires fits { index + length words.now ≤ 512 }
         ensures { AreWordsWritten self.old self.new frame index words.now }
     {
-        let base = 512 * frame.number() as usize + index as usize;
-        self.words[base..base + words.len()].copy_from_slice(words);
+        let base = 512 * frame.number() as usize;
+        reach(&mut self.words, base);
+        let start = base + index as usize;
+        self.words[start..start + words.len()].copy_from_slice(words);
     }
 }

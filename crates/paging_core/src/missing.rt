@@ -5,18 +5,18 @@ ghost use Rattle.paging_core.specs.Prefix.{prefix_of, prefixes_from};
 ghost use Rattle.paging_core.specs.Walk.{step, reach};
 ghost use Rattle.paging_core.specs.Missing.{is_missing, missing_of};
 
-use crate::memory::Frames;
 use crate::page_walk::{Mapped, next};
 use crate::phys_frames::PhysFrame;
+use crate::physical_memory::PhysicalMemory;
 
 /// How many tables the walk along the prefix meets below the root before one is missing.
-fn depth(frames: &Frames, root: PhysFrame, level: u32, prefix: u64) -> u32
-    requires root { root < frame_count frames.now }
+fn depth<M: PhysicalMemory>(frames: &M, root: PhysFrame, level: u32, prefix: u64) -> u32
+    requires root { root < frame_count (M.words frames.now) }
     requires level { level < 4 }
     requires prefix { prefix < 2 ^ (9 * level) }
     ensures bounded { result ≤ level }
-    ensures there { result ≡ level → IsSome (reach frames.now root level prefix) }
-    ensures absent { result < level → reach frames.now root (result + 1) (prefix / 2 ^ (9 * (level - (result + 1)))) ≡ None }
+    ensures there { result ≡ level → IsSome (reach (M.words frames.now) root level prefix) }
+    ensures absent { result < level → reach (M.words frames.now) root (result + 1) (prefix / 2 ^ (9 * (level - (result + 1)))) ≡ None }
 {
     let mut at = Mapped::full(root);
     for met in 0..level {
@@ -37,14 +37,14 @@ struct Run {
 }
 
 /// The run that begins at the prefix: as far as one missing table above it tells.
-fn run_from(frames: &Frames, root: PhysFrame, level: u32, from: u64, last: u64) -> Run
-    requires root { root < frame_count frames.now }
+fn run_from<M: PhysicalMemory>(frames: &M, root: PhysFrame, level: u32, from: u64, last: u64) -> Run
+    requires root { root < frame_count (M.words frames.now) }
     requires level { level < 4 }
     requires from { from ≤ last }
     requires last { last < 2 ^ (9 * level) }
     ensures more { from < result.end }
     ensures within { result.end ≤ last + 1 }
-    ensures count { count_by (is_missing frames.now root) (prefixes_from level from (result.end - from)) ≡ (if result.is_missing then result.end - from else 0) }
+    ensures count { count_by (is_missing (M.words frames.now) root) (prefixes_from level from (result.end - from)) ≡ (if result.is_missing then result.end - from else 0) }
 {
     let met = depth(frames, root, level, from);
     if met == level {
@@ -63,12 +63,18 @@ fn run_from(frames: &Frames, root: PhysFrame, level: u32, from: u64, last: u64) 
 }
 
 /// How many of the prefixes have no table.
-fn missing_of_level(frames: &Frames, root: PhysFrame, level: u32, first: u64, last: u64) -> u64
-    requires root { root < frame_count frames.now }
+fn missing_of_level<M: PhysicalMemory>(
+    frames: &M,
+    root: PhysFrame,
+    level: u32,
+    first: u64,
+    last: u64,
+) -> u64
+    requires root { root < frame_count (M.words frames.now) }
     requires level { level < 4 }
     requires first { first ≤ last }
     requires last { last < 2 ^ (9 * level) }
-    ensures count { result ≡ count_by (is_missing frames.now root) (prefixes_from level first (last + 1 - first)) }
+    ensures count { result ≡ count_by (is_missing (M.words frames.now) root) (prefixes_from level first (last + 1 - first)) }
     ensures bounded { result ≤ last + 1 - first }
 {
     let mut from = first;
@@ -85,11 +91,11 @@ fn missing_of_level(frames: &Frames, root: PhysFrame, level: u32, first: u64, la
 
 /// How many tables are missing for the pages with these numbers: for how many index prefixes of one,
 /// two and three indices the walk meets no table. The cost is that of the tables that are there.
-pub fn missing_tables(frames: &Frames, root: PhysFrame, first: u64, pages: u64) -> u64
-    requires root { root < frame_count frames.now }
+pub fn missing_tables<M: PhysicalMemory>(frames: &M, root: PhysFrame, first: u64, pages: u64) -> u64
+    requires root { root < frame_count (M.words frames.now) }
     requires range { IsCanonicalRange first pages }
     requires pages { pages ≤ 2 ^ 32 }
-    ensures count { result ≡ missing_of frames.now root first pages }
+    ensures count { result ≡ missing_of (M.words frames.now) root first pages }
     ensures few { result ≤ 3 * pages }
 {
     let first = first & 0xf_ffff_ffff;

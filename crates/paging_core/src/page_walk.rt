@@ -1,5 +1,6 @@
 ghost use Rattle.std.specs.Prelude.{◌≡◌, ℕ, ◌+◌, ◌*◌, ◌/◌, ◌%◌, ◌^◌, ◌<◌, ◌≤◌, IsSome, IfSome, IsTrue, true, if◌then◌else◌, Some, None};
 ghost use Rattle.std.specs.Option.{option_map};
+ghost use Rattle.paging_core.specs.Area.{in_area};
 ghost use Rattle.paging_core.specs.Memory.{frame_count};
 ghost use Rattle.paging_core.specs.Prefix.{prefix_of};
 ghost use Rattle.paging_core.specs.Walk.{is_present, is_run, named, step, next_from, large_step, page_in, page_or, reach, walk_of, place_of};
@@ -10,6 +11,7 @@ use crate::memory::Frames;
 use crate::page_table::{PageTableEntry, Rights};
 use crate::pages::{Page, index_after};
 use crate::phys_frames::PhysFrame;
+use crate::physical_memory::PhysicalMemory;
 
 /// Where a walk arrives, with the rights that all entries on the way grant.
 #[derive(Clone, Copy, PartialEq, Eq, Debug)]
@@ -62,15 +64,15 @@ pub(crate) fn led(from: Mapped, entry: PageTableEntry) -> Mapped
 }
 
 /// Where the entry leads, from a place.
-fn follow(frames: &Frames, from: Mapped, entry: PageTableEntry) -> Option<Mapped>
-    ensures led { option_map place_of result ≡ (if is_present frames.now entry then Some (named (place_of from) entry) else None) }
-    ensures below { IfSome result (λ to. to.frame < frame_count frames.now) }
+fn follow<M: PhysicalMemory>(frames: &M, from: Mapped, entry: PageTableEntry) -> Option<Mapped>
+    ensures led { option_map place_of result ≡ (if is_present (M.words frames.now) entry then Some (named (place_of from) entry) else None) }
+    ensures below { IfSome result (λ to. to.frame < frame_count (M.words frames.now)) }
 {
     if !entry.is_present() {
         return None;
     }
     let to = led(from, entry);
-    if to.frame.number() >= u64::from(frames.count()) {
+    if to.frame.number() >= frames.limit() {
         return None;
     }
     Some(to)
@@ -79,11 +81,17 @@ fn follow(frames: &Frames, from: Mapped, entry: PageTableEntry) -> Option<Mapped
 /// One step of the walk to a table or, from the last one, to a page's frame: from a table that was met after
 /// `level` steps. None also where the entry maps a large page.
 #[tactic(auto, unfolding(crate::specs::Walk::step))]
-pub(crate) fn next(frames: &Frames, level: u32, from: Mapped, index: u16) -> Option<Mapped>
-    requires frame { from.frame < frame_count frames.now }
+pub(crate) fn next<M: PhysicalMemory>(
+    frames: &M,
+    level: u32,
+    from: Mapped,
+    index: u16,
+) -> Option<Mapped>
+    requires frame { from.frame < frame_count (M.words frames.now) }
     requires index { index < 512 }
-    ensures step { option_map place_of result ≡ step frames.now level (place_of from) index }
-    ensures below { IfSome result (λ to. to.frame < frame_count frames.now) }
+    ensures step { option_map place_of result ≡ step (M.words frames.now) level (place_of from) index }
+    ensures inside { IfSome result (λ _. in_area (M.area frames.now) from.frame ≡ true) }
+    ensures below { IfSome result (λ to. to.frame < frame_count (M.words frames.now)) }
 {
     let entry = PageTableEntry::from_bits(frames.word(from.frame, index));
     if level == 2 && entry.is_huge() {
@@ -93,21 +101,22 @@ pub(crate) fn next(frames: &Frames, level: u32, from: Mapped, index: u16) -> Opt
 }
 
 /// Whether a large page may begin at the frame: it is a multiple of 512, and the 512 frames from it on exist.
-fn is_run(frames: &Frames, first: PhysFrame) -> bool
-    ensures run { result ≡ is_run frames.now first }
-    ensures bounded { result ≡ true → first + 511 < 2 ^ 32 }
+fn is_run<M: PhysicalMemory>(frames: &M, first: PhysFrame) -> bool
+    ensures run { result ≡ is_run (M.words frames.now) first }
+    ensures bounded { result ≡ true → first + 512 < 2 ^ 40 }
 {
     let number = first.number();
-    number % 512 == 0 && number + 511 < u64::from(frames.count())
+    number % 512 == 0 && number + 511 < frames.limit()
 }
 
 /// The large page that the entry of a table of the third step maps, by its first frame.
 #[tactic(auto, unfolding(crate::specs::Walk::large_step))]
-pub(crate) fn large_at(frames: &Frames, at: Mapped, index: u16) -> Option<Mapped>
-    requires frame { at.frame < frame_count frames.now }
+pub(crate) fn large_at<M: PhysicalMemory>(frames: &M, at: Mapped, index: u16) -> Option<Mapped>
+    requires frame { at.frame < frame_count (M.words frames.now) }
     requires index { index < 512 }
-    ensures step { option_map place_of result ≡ large_step frames.now (place_of at) index }
-    ensures bounded { IfSome result (λ large. large.frame + 511 < 2 ^ 32) }
+    ensures step { option_map place_of result ≡ large_step (M.words frames.now) (place_of at) index }
+    ensures inside { IfSome result (λ _. in_area (M.area frames.now) at.frame ≡ true) }
+    ensures bounded { IfSome result (λ large. large.frame + 512 < 2 ^ 40) }
 {
     let entry = PageTableEntry::from_bits(frames.word(at.frame, index));
     let to = follow(frames, at, entry)?;
@@ -120,11 +129,11 @@ pub(crate) fn large_at(frames: &Frames, at: Mapped, index: u16) -> Option<Mapped
 
 /// The page with this index in a large page that begins at the place. None where the frames of the large page
 /// do not all exist, or the first is no multiple of 512.
-fn in_run(frames: &Frames, large: Mapped, index: u16) -> Option<Mapped>
+fn in_run<M: PhysicalMemory>(frames: &M, large: Mapped, index: u16) -> Option<Mapped>
     requires index { index < 512 }
-    requires below { large.frame < frame_count frames.now }
-    ensures page { option_map place_of result ≡ (if is_run frames.now large.frame then Some (page_in index (place_of large)) else None) }
-    ensures below { IfSome result (λ page. page.frame < frame_count frames.now) }
+    requires below { large.frame < frame_count (M.words frames.now) }
+    ensures page { option_map place_of result ≡ (if is_run (M.words frames.now) large.frame then Some (page_in index (place_of large)) else None) }
+    ensures below { IfSome result (λ page. page.frame < frame_count (M.words frames.now)) }
 {
     if !is_run(frames, large.frame) {
         return None;
@@ -138,12 +147,12 @@ fn in_run(frames: &Frames, large: Mapped, index: u16) -> Option<Mapped>
 /// Where a walk ends that is at a table of the third step: by that entry of it, in a large page, or by the last
 /// entry.
 #[tactic(auto, unfolding(crate::specs::Walk::step, crate::specs::Walk::large_step))]
-fn last_steps(frames: &Frames, at: Mapped, index: u16, last: u16) -> Option<Mapped>
-    requires frame { at.frame < frame_count frames.now }
+fn last_steps<M: PhysicalMemory>(frames: &M, at: Mapped, index: u16, last: u16) -> Option<Mapped>
+    requires frame { at.frame < frame_count (M.words frames.now) }
     requires index { index < 512 }
     requires last { last < 512 }
-    ensures page { option_map place_of result ≡ page_or (large_step frames.now (place_of at) index) last (next_from frames.now 3 (step frames.now 2 (place_of at) index) last) }
-    ensures below { IfSome result (λ page. page.frame < frame_count frames.now) }
+    ensures page { option_map place_of result ≡ page_or (large_step (M.words frames.now) (place_of at) index) last (next_from (M.words frames.now) 3 (step (M.words frames.now) 2 (place_of at) index) last) }
+    ensures below { IfSome result (λ page. page.frame < frame_count (M.words frames.now)) }
 {
     let entry = PageTableEntry::from_bits(frames.word(at.frame, index));
     let to = follow(frames, at, entry)?;
@@ -155,11 +164,16 @@ fn last_steps(frames: &Frames, at: Mapped, index: u16, last: u16) -> Option<Mapp
 }
 
 /// The table at which the first steps of the page's walk arrive.
-pub(crate) fn descend(frames: &Frames, root: PhysFrame, page: Page, levels: u32) -> Option<Mapped>
-    requires root { root < frame_count frames.now }
+pub(crate) fn descend<M: PhysicalMemory>(
+    frames: &M,
+    root: PhysFrame,
+    page: Page,
+    levels: u32,
+) -> Option<Mapped>
+    requires root { root < frame_count (M.words frames.now) }
     requires levels { levels ≤ 3 }
-    ensures reach { option_map place_of result ≡ reach frames.now root levels (prefix_of page levels) }
-    ensures below { IfSome result (λ at. at.frame < frame_count frames.now) }
+    ensures reach { option_map place_of result ≡ reach (M.words frames.now) root levels (prefix_of page levels) }
+    ensures below { IfSome result (λ at. at.frame < frame_count (M.words frames.now)) }
 {
     let mut at = Mapped::full(root);
     for level in 0..levels {
@@ -170,10 +184,10 @@ pub(crate) fn descend(frames: &Frames, root: PhysFrame, page: Page, levels: u32)
 
 /// Where the page is mapped. The walk reads three entries where the third maps a large page, and else four; None
 /// where one of them is not present, or the frames of the large page are not there.
-pub fn walk(frames: &Frames, root: PhysFrame, page: Page) -> Option<Mapped>
-    requires { root < frame_count frames.now }
-    ensures found { option_map place_of result ≡ walk_of frames.now root page }
-    ensures below { IfSome result (λ mapped. mapped.frame < frame_count frames.now) }
+pub fn walk<M: PhysicalMemory>(frames: &M, root: PhysFrame, page: Page) -> Option<Mapped>
+    requires { root < frame_count (M.words frames.now) }
+    ensures found { option_map place_of result ≡ walk_of (M.words frames.now) root page }
+    ensures below { IfSome result (λ mapped. mapped.frame < frame_count (M.words frames.now)) }
 {
     let at = descend(frames, root, page, 2)?;
     last_steps(frames, at, index_after(page, 2), index_after(page, 3))
@@ -203,14 +217,15 @@ pub(crate) struct LastEntry {
 }
 
 /// The last entry of the page, which is mapped by one: its slot has a table.
-pub(crate) fn last_entry(frames: &Frames, root: PhysFrame, page: Page) -> LastEntry
-    requires root { root < frame_count frames.now }
-    requires mapped { IsSome (walk_of frames.now root page) }
-    requires small { IsSome (reach frames.now root 3 (prefix_of page 3)) }
-    ensures entry { IsLastEntry frames.now root page result.table result.index result.frame }
-    ensures table { result.table < frame_count frames.now }
+pub(crate) fn last_entry<M: PhysicalMemory>(frames: &M, root: PhysFrame, page: Page) -> LastEntry
+    requires root { root < frame_count (M.words frames.now) }
+    requires mapped { IsSome (walk_of (M.words frames.now) root page) }
+    requires small { IsSome (reach (M.words frames.now) root 3 (prefix_of page 3)) }
+    ensures entry { IsLastEntry (M.words frames.now) root page result.table result.index result.frame }
+    ensures inside { in_area (M.area frames.now) result.table ≡ true }
+    ensures table { result.table < frame_count (M.words frames.now) }
     ensures index { result.index < 512 }
-    ensures frame { result.frame < frame_count frames.now }
+    ensures frame { result.frame < frame_count (M.words frames.now) }
     ensures canonical { IsTrue (is_canonical (page * 4096)) }
 {
     let Some(at) = descend(frames, root, page, 3) else {

@@ -3,31 +3,32 @@ ghost use Rattle.paging_core.specs.Address.{is_canonical, IsCanonicalRange};
 ghost use Rattle.paging_core.specs.Memory.{frame_count};
 ghost use Rattle.paging_core.specs.Prefix.{prefix_of};
 ghost use Rattle.paging_core.specs.Walk.{reach, walk_of, reached, granted};
-ghost use Rattle.paging_core.specs.Tree.{IsTree, HasTree};
+ghost use Rattle.paging_core.specs.Tree.{IsTreeIn, HasTreeIn};
 ghost use Rattle.paging_core.specs.PageChanges.{regrant, IsPageChanged, ArePagesChanged, only, among};
 
-use crate::memory::Frames;
 use crate::page_table::{PageTableEntry, Rights};
 use crate::page_walk::{LastEntry, last_entry};
 use crate::pages::Page;
 use crate::phys_frames::PhysFrame;
+use crate::physical_memory::PhysicalMemory;
 
 /// Gives the page these rights: its last entry becomes the one that maps its frame with them, and no other
 /// word is changed.
 ///
 /// The page is mapped by an entry of a last table, and not in a large page.
-pub fn protect_page(frames: &mut Frames, root: PhysFrame, page: Page, rights: Rights)
-    requires root { root < frame_count frames.old }
-    requires mapped { IsSome (walk_of frames.old root page) }
-    requires small { IsSome (reach frames.old root 3 (prefix_of page 3)) }
-    ensures changed { IsPageChanged frames.old frames.new root page (regrant rights) }
+pub fn protect_page<M: PhysicalMemory>(frames: &mut M, root: PhysFrame, page: Page, rights: Rights)
+    requires root { root < frame_count (M.words frames.old) }
+    requires mapped { IsSome (walk_of (M.words frames.old) root page) }
+    requires small { IsSome (reach (M.words frames.old) root 3 (prefix_of page 3)) }
+    ensures changed { IsPageChanged (M.words frames.old) (M.words frames.new) root page (regrant rights) }
+    ensures area { M.area frames.new ≡ M.area frames.old }
 
     // Where the tables are a tree they stay one; no other page's walk is changed, and no byte of any page.
-    ensures tree { (free : List Bool) → IsTree frames.old root free → IsTree frames.new root free }
-    ensures pages { (free : List Bool) → IsTree frames.old root free → ArePagesChanged frames.old frames.new root (regrant rights) (only page) }
-    ensures granted { (free : List Bool) → IsTree frames.old root free → IfSome (walk_of frames.old root page) (λ place. walk_of frames.new root page ≡ Some (granted place.frame rights)) }
-    ensures elsewhere { (free : List Bool) → IsTree frames.old root free → (other : ℕ) → IsTrue (is_canonical (other * 4096)) → (other ≡ page → ⊥) → walk_of frames.new root other ≡ walk_of frames.old root other }
-    ensures bytes { (free : List Bool) → IsTree frames.old root free → (address : ℕ) → reached frames.new root address ≡ reached frames.old root address }
+    ensures tree { (free : List Bool) → IsTreeIn (M.area frames.old) (M.words frames.old) root free → IsTreeIn (M.area frames.new) (M.words frames.new) root free }
+    ensures pages { (free : List Bool) → IsTreeIn (M.area frames.old) (M.words frames.old) root free → ArePagesChanged (M.words frames.old) (M.words frames.new) root (regrant rights) (only page) }
+    ensures granted { (free : List Bool) → IsTreeIn (M.area frames.old) (M.words frames.old) root free → IfSome (walk_of (M.words frames.old) root page) (λ place. walk_of (M.words frames.new) root page ≡ Some (granted place.frame rights)) }
+    ensures elsewhere { (free : List Bool) → IsTreeIn (M.area frames.old) (M.words frames.old) root free → (other : ℕ) → IsTrue (is_canonical (other * 4096)) → (other ≡ page → ⊥) → walk_of (M.words frames.new) root other ≡ walk_of (M.words frames.old) root other }
+    ensures bytes { (free : List Bool) → IsTreeIn (M.area frames.old) (M.words frames.old) root free → (address : ℕ) → reached (M.words frames.new) root address ≡ reached (M.words frames.old) root address }
 {
     let LastEntry {
         table,
@@ -41,19 +42,26 @@ pub fn protect_page(frames: &mut Frames, root: PhysFrame, page: Page, rights: Ri
 /// Gives the pages from `first` on these rights. Each keeps its frame.
 ///
 /// The range lies in one canonical half, and each of its pages is mapped, none in a large page. The tables are a tree.
-pub fn protect_range(frames: &mut Frames, root: PhysFrame, first: Page, pages: u64, rights: Rights)
-    requires root { root < frame_count frames.old }
-    requires tree { HasTree frames.old root }
+pub fn protect_range<M: PhysicalMemory>(
+    frames: &mut M,
+    root: PhysFrame,
+    first: Page,
+    pages: u64,
+    rights: Rights,
+)
+    requires root { root < frame_count (M.words frames.old) }
+    requires tree { HasTreeIn (M.area frames.old) (M.words frames.old) root }
     requires range { IsCanonicalRange first pages }
-    requires mapped { (k : ℕ) → k < pages → IsSome (walk_of frames.old root (first + k)) }
-    requires small { (k : ℕ) → k < pages → IsSome (reach frames.old root 3 (prefix_of (first + k) 3)) }
-    ensures changed { ArePagesChanged frames.old frames.new root (regrant rights) (among first pages) }
-    ensures tree { (free : List Bool) → IsTree frames.old root free → IsTree frames.new root free }
+    requires mapped { (k : ℕ) → k < pages → IsSome (walk_of (M.words frames.old) root (first + k)) }
+    requires small { (k : ℕ) → k < pages → IsSome (reach (M.words frames.old) root 3 (prefix_of (first + k) 3)) }
+    ensures changed { ArePagesChanged (M.words frames.old) (M.words frames.new) root (regrant rights) (among first pages) }
+    ensures area { M.area frames.new ≡ M.area frames.old }
+    ensures tree { (free : List Bool) → IsTreeIn (M.area frames.old) (M.words frames.old) root free → IsTreeIn (M.area frames.new) (M.words frames.new) root free }
 
     // The pages of the range have the rights. No other page's walk is changed, and no byte of any page.
-    ensures granted { (k : ℕ) → k < pages → IfSome (walk_of frames.old root (first + k)) (λ place. walk_of frames.new root (first + k) ≡ Some (granted place.frame rights)) }
-    ensures elsewhere { (other : ℕ) → IsTrue (is_canonical (other * 4096)) → ((k : ℕ) → k < pages → other ≡ first + k → ⊥) → walk_of frames.new root other ≡ walk_of frames.old root other }
-    ensures bytes { (address : ℕ) → reached frames.new root address ≡ reached frames.old root address }
+    ensures granted { (k : ℕ) → k < pages → IfSome (walk_of (M.words frames.old) root (first + k)) (λ place. walk_of (M.words frames.new) root (first + k) ≡ Some (granted place.frame rights)) }
+    ensures elsewhere { (other : ℕ) → IsTrue (is_canonical (other * 4096)) → ((k : ℕ) → k < pages → other ≡ first + k → ⊥) → walk_of (M.words frames.new) root other ≡ walk_of (M.words frames.old) root other }
+    ensures bytes { (address : ℕ) → reached (M.words frames.new) root address ≡ reached (M.words frames.old) root address }
 {
     for step in 0..pages {
         protect_page(frames, root, first.after(step), rights);

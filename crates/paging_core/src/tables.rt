@@ -1,50 +1,61 @@
-ghost use Rattle.std.specs.Prelude.{◌≡◌, ℕ, ◌+◌, ◌*◌, ◌/◌, ◌%◌, ◌^◌, ◌<◌, ◌≤◌, None, Some, IfSome, MatchOption, length, false};
+ghost use Rattle.std.specs.Prelude.{◌≡◌, ℕ, ◌+◌, ◌*◌, ◌/◌, ◌%◌, ◌^◌, ◌<◌, ◌≤◌, None, Some, IfSome, MatchOption, length, true, false};
+ghost use Rattle.paging_core.specs.Area.{in_area};
 ghost use Rattle.paging_core.specs.Memory.{frame_count, cleared};
 ghost use Rattle.paging_core.specs.Prefix.{prefix_of};
 ghost use Rattle.paging_core.specs.Walk.{step, large_of, reach, walk_of, top};
-ghost use Rattle.paging_core.specs.Pool.{is_free, free_count, FreeBelow, IsFrameTaken};
-ghost use Rattle.paging_core.specs.Tree.{IsTree};
+ghost use Rattle.paging_core.specs.Pool.{is_free, free_count, FreeIn, IsFrameTaken};
+ghost use Rattle.paging_core.specs.Tree.{IsTreeIn};
 ghost use Rattle.paging_core.specs.Tables.{IsTableMade, IsEnsured, IsPrepared, missing_past};
 
-use crate::frame_allocator::FrameAllocator;
-use crate::memory::Frames;
 use crate::page_table::PageTableEntry;
 use crate::page_walk::{Mapped, next};
 use crate::pages::{Page, index_after};
 use crate::phys_frames::PhysFrame;
-use crate::pool::FramePool;
+use crate::physical_memory::PhysicalMemory;
+use crate::table_frames::TableFrames;
 
 /// Takes the lowest free frame for a root table, and clears it: nothing is mapped. None exactly where no
 /// frame is free; then nothing is changed.
-pub fn make_root(frames: &mut Frames, pool: &mut FramePool) -> Option<PhysFrame>
-    requires { FreeBelow pool.old (frame_count frames.old) }
-    ensures taken { IsFrameTaken pool.old pool.new result }
-    ensures flags { length pool.new ≡ length pool.old }
-    ensures lowest { IfSome result (λ root. (lower : ℕ) → lower < root → is_free pool.old lower ≡ false) }
-    ensures count { MatchOption result (free_count pool.old ≡ 0) (λ _. free_count pool.new + 1 ≡ free_count pool.old) }
-    ensures known { FreeBelow pool.new (frame_count frames.new) }
-    ensures words { MatchOption result (frames.new ≡ frames.old) (λ root. frames.new ≡ cleared frames.old root) }
-    ensures size { length frames.new ≡ length frames.old }
-    ensures below { IfSome result (λ root. root < frame_count frames.new) }
-    ensures tree { IfSome result (λ root. IsTree frames.new root pool.new) }
-    ensures empty { IfSome result (λ root. (level number : ℕ) → 0 < level → reach frames.new root level number ≡ None) }
-    ensures no_large { IfSome result (λ root. (slot : ℕ) → large_of frames.new root slot ≡ None) }
-    ensures unmapped { IfSome result (λ root. (page : ℕ) → walk_of frames.new root page ≡ None) }
+pub fn make_root<M: PhysicalMemory, P: TableFrames>(
+    frames: &mut M,
+    pool: &mut P,
+) -> Option<PhysFrame>
+    requires { FreeIn (M.area frames.old) (P.free pool.old) (frame_count (M.words frames.old)) }
+    ensures taken { IsFrameTaken (P.free pool.old) (P.free pool.new) result }
+    ensures flags { length (P.free pool.new) ≡ length (P.free pool.old) }
+    ensures lowest { IfSome result (λ root. (lower : ℕ) → lower < root → is_free (P.free pool.old) lower ≡ false) }
+    ensures count { MatchOption result (free_count (P.free pool.old) ≡ 0) (λ _. free_count (P.free pool.new) + 1 ≡ free_count (P.free pool.old)) }
+    ensures known { FreeIn (M.area frames.new) (P.free pool.new) (frame_count (M.words frames.new)) }
+    ensures words { MatchOption result ((M.words frames.new) ≡ (M.words frames.old)) (λ root. (M.words frames.new) ≡ cleared (M.words frames.old) root) }
+    ensures size { length (M.words frames.new) ≡ length (M.words frames.old) }
+    ensures area { M.area frames.new ≡ M.area frames.old }
+    ensures below { IfSome result (λ root. root < frame_count (M.words frames.new)) }
+    ensures tree { IfSome result (λ root. IsTreeIn (M.area frames.new) (M.words frames.new) root (P.free pool.new)) }
+    ensures empty { IfSome result (λ root. (level number : ℕ) → 0 < level → reach (M.words frames.new) root level number ≡ None) }
+    ensures no_large { IfSome result (λ root. (slot : ℕ) → large_of (M.words frames.new) root slot ≡ None) }
+    ensures unmapped { IfSome result (λ root. (page : ℕ) → walk_of (M.words frames.new) root page ≡ None) }
 {
-    let root = pool.allocate_frame()?;
+    let root = pool.take_frame()?;
     frames.clear_frame(root);
     Some(root)
 }
 
 /// Takes a free frame for a table, clears it, and names it at the entry.
-fn make_table(frames: &mut Frames, pool: &mut FramePool, table: PhysFrame, index: u16) -> PhysFrame
+fn make_table<M: PhysicalMemory, P: TableFrames>(
+    frames: &mut M,
+    pool: &mut P,
+    table: PhysFrame,
+    index: u16,
+) -> PhysFrame
     requires index { index < 512 }
-    requires table { table < frame_count frames.old }
-    requires known { FreeBelow pool.old (frame_count frames.old) }
-    requires room { 0 < free_count pool.old }
-    ensures { IsTableMade frames.old frames.new pool.old pool.new table index result }
+    requires inside { in_area (M.area frames.old) table ≡ true }
+    requires table { table < frame_count (M.words frames.old) }
+    requires known { FreeIn (M.area frames.old) (P.free pool.old) (frame_count (M.words frames.old)) }
+    requires room { 0 < free_count (P.free pool.old) }
+    ensures area { M.area frames.new ≡ M.area frames.old }
+    ensures made { IsTableMade (M.words frames.old) (M.words frames.new) (P.free pool.old) (P.free pool.new) table index result }
 {
-    let Some(frame) = pool.allocate_frame() else {
+    let Some(frame) = pool.take_frame() else {
         unreachable!()
     };
     let entry = PageTableEntry::to_table(frame);
@@ -54,18 +65,20 @@ fn make_table(frames: &mut Frames, pool: &mut FramePool, table: PhysFrame, index
 }
 
 /// The table that the entry names, made where it is missing.
-fn ensure_table(
-    frames: &mut Frames,
-    pool: &mut FramePool,
+fn ensure_table<M: PhysicalMemory, P: TableFrames>(
+    frames: &mut M,
+    pool: &mut P,
     level: u32,
     table: PhysFrame,
     index: u16,
 ) -> PhysFrame
     requires index { index < 512 }
-    requires table { table < frame_count frames.old }
-    requires known { FreeBelow pool.old (frame_count frames.old) }
-    requires room { step frames.old level (top table) index ≡ None → 0 < free_count pool.old }
-    ensures { IsEnsured (step frames.old level (top table) index) frames.old frames.new pool.old pool.new table index result }
+    requires inside { in_area (M.area frames.old) table ≡ true }
+    requires table { table < frame_count (M.words frames.old) }
+    requires known { FreeIn (M.area frames.old) (P.free pool.old) (frame_count (M.words frames.old)) }
+    requires room { step (M.words frames.old) level (top table) index ≡ None → 0 < free_count (P.free pool.old) }
+    ensures area { M.area frames.new ≡ M.area frames.old }
+    ensures ensured { IsEnsured (step (M.words frames.old) level (top table) index) (M.words frames.old) (M.words frames.new) (P.free pool.old) (P.free pool.new) table index result }
 {
     match next(frames, level, Mapped::full(table), index) {
         Some(met) => met.frame,
@@ -74,22 +87,23 @@ fn ensure_table(
 }
 
 /// The page's table after so many steps, with all that is missing above it made.
-pub(crate) fn ensure_tables(
-    frames: &mut Frames,
-    pool: &mut FramePool,
+pub(crate) fn ensure_tables<M: PhysicalMemory, P: TableFrames>(
+    frames: &mut M,
+    pool: &mut P,
     root: PhysFrame,
     page: Page,
     levels: u32,
 ) -> PhysFrame
-    requires root { root < frame_count frames.old }
-    requires known { FreeBelow pool.old (frame_count frames.old) }
-    requires tree { IsTree frames.old root pool.old }
+    requires root { root < frame_count (M.words frames.old) }
+    requires known { FreeIn (M.area frames.old) (P.free pool.old) (frame_count (M.words frames.old)) }
+    requires tree { IsTreeIn (M.area frames.old) (M.words frames.old) root (P.free pool.old) }
     requires levels { levels ≤ 3 }
-    requires small { levels ≡ 3 → large_of frames.old root (prefix_of page 3) ≡ None }
-    requires room { missing_past frames.old root page 0 ≤ free_count pool.old + missing_past frames.old root page levels }
-    ensures tree { IsTree frames.new root pool.new }
-    ensures met { reach frames.new root levels (prefix_of page levels) ≡ Some (top result) }
-    ensures prepared { IsPrepared frames.old frames.new pool.old pool.new root page levels }
+    requires small { levels ≡ 3 → large_of (M.words frames.old) root (prefix_of page 3) ≡ None }
+    requires room { missing_past (M.words frames.old) root page 0 ≤ free_count (P.free pool.old) + missing_past (M.words frames.old) root page levels }
+    ensures tree { IsTreeIn (M.area frames.new) (M.words frames.new) root (P.free pool.new) }
+    ensures met { reach (M.words frames.new) root levels (prefix_of page levels) ≡ Some (top result) }
+    ensures area { M.area frames.new ≡ M.area frames.old }
+    ensures prepared { IsPrepared (M.words frames.old) (M.words frames.new) (P.free pool.old) (P.free pool.new) root page levels }
 {
     let mut table = root;
     for level in 0..levels {

@@ -4,7 +4,7 @@ ghost use Rattle.paging_core.specs.Memory.{frame_count};
 ghost use Rattle.paging_core.specs.Prefix.{prefix_of};
 ghost use Rattle.paging_core.specs.Walk.{reach, walk_of, reached};
 ghost use Rattle.paging_core.specs.Pool.{free_count, FreeBelow};
-ghost use Rattle.paging_core.specs.Tree.{IsTree};
+ghost use Rattle.paging_core.specs.Tree.{IsTree, IsTreeIn};
 ghost use Rattle.paging_core.specs.PageChanges.{removal, IsPageChanged, ArePagesChanged, ArePagesFreed, only, among};
 
 use crate::frame_allocator::FrameDeallocator;
@@ -12,6 +12,7 @@ use crate::memory::Frames;
 use crate::page_walk::{LastEntry, last_entry};
 use crate::pages::Page;
 use crate::phys_frames::PhysFrame;
+use crate::physical_memory::PhysicalMemory;
 use crate::pool::FramePool;
 
 /// Unmaps the page: its last entry becomes 0, and no other word is changed. The answer is the frame to
@@ -19,19 +20,20 @@ use crate::pool::FramePool;
 ///
 /// The page is mapped by an entry of a last table, and not in a large page. Its tables stay, and its frame is
 /// still out.
-pub fn unmap_page(frames: &mut Frames, root: PhysFrame, page: Page) -> PhysFrame
-    requires root { root < frame_count frames.old }
-    requires mapped { IsSome (walk_of frames.old root page) }
-    requires small { IsSome (reach frames.old root 3 (prefix_of page 3)) }
-    ensures frame { IfSome (walk_of frames.old root page) (λ place. result ≡ place.frame) }
-    ensures below { result < frame_count frames.new }
-    ensures removed { IsPageChanged frames.old frames.new root page removal }
+pub fn unmap_page<M: PhysicalMemory>(frames: &mut M, root: PhysFrame, page: Page) -> PhysFrame
+    requires root { root < frame_count (M.words frames.old) }
+    requires mapped { IsSome (walk_of (M.words frames.old) root page) }
+    requires small { IsSome (reach (M.words frames.old) root 3 (prefix_of page 3)) }
+    ensures frame { IfSome (walk_of (M.words frames.old) root page) (λ place. result ≡ place.frame) }
+    ensures below { result < frame_count (M.words frames.new) }
+    ensures removed { IsPageChanged (M.words frames.old) (M.words frames.new) root page removal }
+    ensures area { M.area frames.new ≡ M.area frames.old }
 
     // Where the tables are a tree they stay one, and no other page's walk is changed.
-    ensures tree { (free : List Bool) → IsTree frames.old root free → IsTree frames.new root free }
-    ensures pages { (free : List Bool) → IsTree frames.old root free → ArePagesChanged frames.old frames.new root removal (only page) }
-    ensures unmapped { (free : List Bool) → IsTree frames.old root free → walk_of frames.new root page ≡ None }
-    ensures elsewhere { (free : List Bool) → IsTree frames.old root free → (other : ℕ) → IsTrue (is_canonical (other * 4096)) → (other ≡ page → ⊥) → walk_of frames.new root other ≡ walk_of frames.old root other }
+    ensures tree { (free : List Bool) → IsTreeIn (M.area frames.old) (M.words frames.old) root free → IsTreeIn (M.area frames.new) (M.words frames.new) root free }
+    ensures pages { (free : List Bool) → IsTreeIn (M.area frames.old) (M.words frames.old) root free → ArePagesChanged (M.words frames.old) (M.words frames.new) root removal (only page) }
+    ensures unmapped { (free : List Bool) → IsTreeIn (M.area frames.old) (M.words frames.old) root free → walk_of (M.words frames.new) root page ≡ None }
+    ensures elsewhere { (free : List Bool) → IsTreeIn (M.area frames.old) (M.words frames.old) root free → (other : ℕ) → IsTrue (is_canonical (other * 4096)) → (other ≡ page → ⊥) → walk_of (M.words frames.new) root other ≡ walk_of (M.words frames.old) root other }
 {
     let LastEntry {
         table,

@@ -1,47 +1,50 @@
 use Rattle.std.proofs.Common.{◌≡◌, ◌∙◌, ◌+◌, ◌*◌, ◌/◌, ◌%◌, ◌^◌, ℕ, length, arith, length-set, ap}
 use Rattle.paging_core.specs.Walk.{place_of}
 use Rattle.paging_core.specs.Large.{slot_of, IsLargeCleared}
+use Rattle.paging_core.proofs.Areas.{tree_moved}
 use Rattle.paging_core.proofs.Made.{large_below}
 use Rattle.paging_core.proofs.LargeAdded.{same_slot}
 use Rattle.paging_core.proofs.LargeGone.{large_cleared, gone_tree, large_removed, gone_bytes, gone_elsewhere}
+use Rattle.paging_core.proofs.large.unmap_large.Given.{Over}
 use Rattle.paging_core.proofs.large.unmap_large.Goals as goal
 
 -- the run of frames that begins at the frame
 run_number : (f a r : ℕ) → f % 512 ≡ 0 → a ≡ f * 4096 → r ≡ a / 2 ^ 21 → 512 * r ≡ f
 run_number f a r aligned e is = omega arith
 
-cleared : (c : goal.After-containing_address) → IsLargeCleared c.args.frames.now c.set_word.new.self c.args.root c.args.page
-cleared c =
-    large_cleared c.args.frames.now c.set_word.new.self c.args.root c.args.page c.large_entry-table.result.table c.large_entry-table.result.index
-    (place_of c.large_entry-table.result.large) c.large_entry-table.ensures.entry c.set_word.ensures
+cleared : (g : Over) (c : goal.After-containing_address g) → IsLargeCleared (g.M.PhysicalMemory.words c.args.frames.now) (g.M.PhysicalMemory.words c.set_word.new.self) c.args.root c.args.page
+cleared g c =
+    large_cleared (g.M.PhysicalMemory.words c.args.frames.now) (g.M.PhysicalMemory.words c.set_word.new.self) c.args.root c.args.page c.large_entry-table.result.table c.large_entry-table.result.index
+    (place_of c.large_entry-table.result.large) c.large_entry-table.ensures.entry c.set_word.ensures.words
 
-run : (c : goal.After-containing_address) → 512 * c.containing_address.result ≡ c.large_entry-table.result.large.frame
-run c =
-    let b = large_below c.args.frames.now c.args.root (slot_of c.args.page) (place_of c.large_entry-table.result.large) c.large_entry-table.ensures.entry.found in
+run : (g : Over) (c : goal.After-containing_address g) → 512 * c.containing_address.result ≡ c.large_entry-table.result.large.frame
+run g c =
+    let b = large_below (g.M.PhysicalMemory.words c.args.frames.now) c.args.root (slot_of c.args.page) (place_of c.large_entry-table.result.large) c.large_entry-table.ensures.entry.found in
     run_number c.large_entry-table.result.large.frame c.start_address.result c.containing_address.result b.0 c.start_address.ensures c.containing_address.ensures
 
 pub returns-clause-frame : goal.returns-clause-frame
-returns-clause-frame c = rw c.large_entry-table.ensures.entry.found (run c)
+returns-clause-frame g c = rw c.large_entry-table.ensures.entry.found (run g c)
 
 pub returns-clause-below : goal.returns-clause-below
-returns-clause-below c =
-    let b = large_below c.args.frames.now c.args.root (slot_of c.args.page) (place_of c.large_entry-table.result.large) c.large_entry-table.ensures.entry.found in
-    let r = run c in
-    let s : length c.set_word.new.self ≡ length c.args.frames.now =
-    ap length c.set_word.ensures
-    ∙ length-set c.args.frames.now (512 * c.large_entry-table.result.table + c.large_entry-table.result.index) 0 in
+returns-clause-below g c =
+    let b = large_below (g.M.PhysicalMemory.words c.args.frames.now) c.args.root (slot_of c.args.page) (place_of c.large_entry-table.result.large) c.large_entry-table.ensures.entry.found in
+    let r = run g c in
+    let s : length (g.M.PhysicalMemory.words c.set_word.new.self) ≡ length (g.M.PhysicalMemory.words c.args.frames.now) =
+    ap length c.set_word.ensures.words
+    ∙ length-set (g.M.PhysicalMemory.words c.args.frames.now) (512 * c.large_entry-table.result.table + c.large_entry-table.result.index) 0 in
     omega (arith, b.1)
 
 pub returns-clause-tree : goal.returns-clause-tree
-returns-clause-tree c = λ free tree. gone_tree c.args.frames.now c.set_word.new.self c.args.root c.args.page c.requires.root (cleared c) free tree
+returns-clause-tree g c = λ free tree. tree_moved (g.M.PhysicalMemory.area c.args.frames.now) (g.M.PhysicalMemory.area c.set_word.new.self) (g.M.PhysicalMemory.words c.set_word.new.self) c.args.root free c.set_word.ensures.area
+    (gone_tree (g.M.PhysicalMemory.words c.args.frames.now) (g.M.PhysicalMemory.words c.set_word.new.self) c.args.root c.args.page c.requires.root (cleared g c) free tree)
 
 pub returns-clause-removed : goal.returns-clause-removed
-returns-clause-removed c = λ free tree. large_removed c.args.frames.now c.set_word.new.self c.args.root c.args.page c.requires.root (cleared c) free tree
+returns-clause-removed g c = λ free tree. large_removed (g.M.PhysicalMemory.words c.args.frames.now) (g.M.PhysicalMemory.words c.set_word.new.self) c.args.root c.args.page c.requires.root (cleared g c) free tree
 
 pub returns-clause-elsewhere : goal.returns-clause-elsewhere
-returns-clause-elsewhere c = λ free tree other canonical ne.
-    gone_elsewhere c.args.frames.now c.set_word.new.self c.args.root c.args.page c.requires.root (cleared c) free tree other
+returns-clause-elsewhere g c = λ free tree other canonical ne.
+    gone_elsewhere (g.M.PhysicalMemory.words c.args.frames.now) (g.M.PhysicalMemory.words c.set_word.new.self) c.args.root c.args.page c.requires.root (cleared g c) free tree other
     (λ e. ne (same_slot other c.args.page canonical c.large_entry-table.ensures.canonical e))
 
 pub returns-clause-bytes : goal.returns-clause-bytes
-returns-clause-bytes c = λ free tree. gone_bytes c.args.frames.now c.set_word.new.self c.args.root c.args.page c.requires.root (cleared c) free tree
+returns-clause-bytes g c = λ free tree. gone_bytes (g.M.PhysicalMemory.words c.args.frames.now) (g.M.PhysicalMemory.words c.set_word.new.self) c.args.root c.args.page c.requires.root (cleared g c) free tree

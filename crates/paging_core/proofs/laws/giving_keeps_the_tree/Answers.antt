@@ -8,5 +8,6 @@ returns c = λ words root free free' frame tree given unmet. record {
   rights = tree.rights;
   distinct = tree.distinct;
   plain = tree.plain;
+  inside = tree.inside;
   used = λ l n b le is. ap (λ flags. is_free flags b.frame) given ∙ (given_other free frame b.frame (unmet l n b le is) ∙ tree.used l n b le is);
 }

@@ -5,7 +5,7 @@ use Rattle.paging_core.specs.Walk.{reach, place_of}
 use Rattle.paging_core.proofs.page_walk.descend.Given as goal
 
 abbrev pub invariant-loop-level : goal.invariant-loop-level
-invariant-loop-level l = record {
-  met : reach l.frames l.fn.root l.level (prefix_of l.page l.level) ≡ Some (place_of l.at);
-  below : l.at.frame < frame_count l.frames;
+invariant-loop-level g l = record {
+  met : reach (g.M.PhysicalMemory.words l.frames) l.fn.root l.level (prefix_of l.page l.level) ≡ Some (place_of l.at);
+  below : l.at.frame < frame_count (g.M.PhysicalMemory.words l.frames);
 }

@@ -1,64 +1,69 @@
-use Rattle.std.proofs.Common.{◌+◌, arith}
+use Rattle.std.proofs.Common.{◌+◌, ◌∙◌, refl, arith}
 use Rattle.paging_core.specs.Prefix.{prefix_of}
 use Rattle.paging_core.specs.Walk.{walk_of}
 use Rattle.paging_core.specs.PageChanges.{regrant, among}
+use Rattle.paging_core.proofs.Areas.{tree_moved}
 use Rattle.paging_core.proofs.Ranges.{page_canonical}
 use Rattle.paging_core.proofs.PageChanged.{regrant_keeps, some_place, changed_tree, regranted_bytes}
 use Rattle.paging_core.proofs.RangeChanged.{range_begun, next_mapped, next_changed, range_leads, range_rest}
 use Rattle.paging_core.proofs.protecting.protect_range.Goals as goal
 
 pub loop-step-init : goal.loop-step-init
-loop-step-init c = range_begun c.args.frames.now c.args.root c.args.first (regrant c.args.rights)
+loop-step-init g c = record { area = refl; changed = range_begun (g.M.PhysicalMemory.words c.args.frames.now) c.args.root c.args.first (regrant c.args.rights) }
 
 pub after-requires : goal.after-requires
-after-requires c = page_canonical c.args.first c.args.pages c.loop-step.step c.requires.range (omega arith)
+after-requires g c = page_canonical c.args.first c.args.pages c.loop-step.step c.requires.range (omega arith)
 
 pub protect_page-requires-clause-root : goal.protect_page-requires-clause-root
-protect_page-requires-clause-root c = let s = c.loop-step.invariant.size in omega (arith, c.requires.root)
+protect_page-requires-clause-root g c = let s = c.loop-step.invariant.changed.size in omega (arith, c.requires.root)
 
 pub protect_page-requires-clause-mapped : goal.protect_page-requires-clause-mapped
-protect_page-requires-clause-mapped c =
+protect_page-requires-clause-mapped g c =
     rw (
       c.after.ensures,
-      next_mapped c.args.frames.now c.loop-step.frames c.args.root c.args.first c.args.pages c.loop-step.step (regrant c.args.rights)
-          c.requires.range c.loop-step.invariant c.loop-step-test.true,
+      next_mapped (g.M.PhysicalMemory.words c.args.frames.now) (g.M.PhysicalMemory.words c.loop-step.frames) c.args.root c.args.first c.args.pages c.loop-step.step (regrant c.args.rights)
+          c.requires.range c.loop-step.invariant.changed c.loop-step-test.true,
     )
     (c.requires.mapped c.loop-step.step c.loop-step-test.true)
 
 pub protect_page-requires-clause-small : goal.protect_page-requires-clause-small
-protect_page-requires-clause-small c =
+protect_page-requires-clause-small g c =
     rw (
       c.after.ensures,
-      c.loop-step.invariant.stayed 3 (prefix_of (c.args.first + c.loop-step.step) 3) (omega arith) (λ e. absurd (omega arith)),
+      c.loop-step.invariant.changed.stayed 3 (prefix_of (c.args.first + c.loop-step.step) 3) (omega arith) (λ e. absurd (omega arith)),
     )
     (c.requires.small c.loop-step.step c.loop-step-test.true)
 
 pub loop-step-preserved : goal.loop-step-preserved
-loop-step-preserved c =
-    let t = changed_tree c.args.frames.now c.loop-step.frames c.args.root (regrant c.args.rights) (among c.args.first c.loop-step.step) c.loop-step.invariant
+loop-step-preserved g c =
+    let t = changed_tree (g.M.PhysicalMemory.words c.args.frames.now) (g.M.PhysicalMemory.words c.loop-step.frames) c.args.root (regrant c.args.rights) (among c.args.first c.loop-step.step) c.loop-step.invariant.changed
     (regrant_keeps c.args.rights) c.requires.tree.0 c.requires.tree.1 in
-    next_changed c.args.frames.now c.loop-step.frames c.args.root c.args.first c.args.pages c.loop-step.step (regrant c.args.rights)
-    c.requires.range c.loop-step.invariant c.loop-step-test.true c.protect_page.new.frames c.requires.tree.0 c.requires.tree.1
-    (rw c.after.ensures at (c.protect_page.ensures.pages c.requires.tree.0 t))
+    record {
+      area = c.protect_page.ensures.area ∙ c.loop-step.invariant.area;
+      changed = next_changed (g.M.PhysicalMemory.words c.args.frames.now) (g.M.PhysicalMemory.words c.loop-step.frames) c.args.root c.args.first c.args.pages c.loop-step.step (regrant c.args.rights)
+          c.requires.range c.loop-step.invariant.changed c.loop-step-test.true (g.M.PhysicalMemory.words c.protect_page.new.frames) c.requires.tree.0 c.requires.tree.1
+          (rw c.after.ensures at (c.protect_page.ensures.pages c.requires.tree.0 (tree_moved (g.M.PhysicalMemory.area c.args.frames.now) (g.M.PhysicalMemory.area c.loop-step.frames) (g.M.PhysicalMemory.words c.loop-step.frames) c.args.root c.requires.tree.0 c.loop-step.invariant.area t)));
+    }
 
 pub returns-clause-tree : goal.returns-clause-tree
-returns-clause-tree c = λ free tree.
-    changed_tree c.args.frames.now c.loop-step.frames c.args.root (regrant c.args.rights) (among c.args.first c.loop-step.step) c.loop-step.invariant
-    (regrant_keeps c.args.rights) free tree
+returns-clause-tree g c = λ free tree.
+    tree_moved (g.M.PhysicalMemory.area c.args.frames.now) (g.M.PhysicalMemory.area c.loop-step.frames) (g.M.PhysicalMemory.words c.loop-step.frames) c.args.root free c.loop-step.invariant.area
+    (changed_tree (g.M.PhysicalMemory.words c.args.frames.now) (g.M.PhysicalMemory.words c.loop-step.frames) c.args.root (regrant c.args.rights) (among c.args.first c.loop-step.step) c.loop-step.invariant.changed
+    (regrant_keeps c.args.rights) free tree)
 
 pub returns-clause-granted : goal.returns-clause-granted
-returns-clause-granted c = λ k lt.
-    let p = some_place (walk_of c.args.frames.now c.args.root (c.args.first + k)) (c.requires.mapped k lt) in
+returns-clause-granted g c = λ k lt.
+    let p = some_place (walk_of (g.M.PhysicalMemory.words c.args.frames.now) c.args.root (c.args.first + k)) (c.requires.mapped k lt) in
     rw p.1
-    (range_leads c.args.frames.now c.loop-step.frames c.args.root c.args.first c.args.pages c.loop-step.step (regrant c.args.rights)
-    c.requires.range c.loop-step.invariant (omega arith) k (omega arith) p.0 p.1)
+    (range_leads (g.M.PhysicalMemory.words c.args.frames.now) (g.M.PhysicalMemory.words c.loop-step.frames) c.args.root c.args.first c.args.pages c.loop-step.step (regrant c.args.rights)
+    c.requires.range c.loop-step.invariant.changed (omega arith) k (omega arith) p.0 p.1)
 
 pub returns-clause-elsewhere : goal.returns-clause-elsewhere
-returns-clause-elsewhere c =
-    range_rest c.args.frames.now c.loop-step.frames c.args.root c.args.first c.args.pages c.loop-step.step (regrant c.args.rights)
-    c.requires.range c.loop-step.invariant (omega arith)
+returns-clause-elsewhere g c =
+    range_rest (g.M.PhysicalMemory.words c.args.frames.now) (g.M.PhysicalMemory.words c.loop-step.frames) c.args.root c.args.first c.args.pages c.loop-step.step (regrant c.args.rights)
+    c.requires.range c.loop-step.invariant.changed (omega arith)
 
 pub returns-clause-bytes : goal.returns-clause-bytes
-returns-clause-bytes c =
-    regranted_bytes c.args.frames.now c.loop-step.frames c.args.root c.args.rights (among c.args.first c.loop-step.step) c.requires.tree.0
-    c.loop-step.invariant c.requires.tree.1
+returns-clause-bytes g c =
+    regranted_bytes (g.M.PhysicalMemory.words c.args.frames.now) (g.M.PhysicalMemory.words c.loop-step.frames) c.args.root c.args.rights (among c.args.first c.loop-step.step) c.requires.tree.0
+    c.loop-step.invariant.changed c.requires.tree.1
