@@ -1,0 +1,35 @@
+use Rattle.std.proofs.Common.{◌+◌, ◌/◌, length, ap, ◌∙◌, refl, arith}
+use Rattle.paging_core.specs.Area.{AreaWords}
+use Rattle.paging_core.specs.Pool.{free_count}
+use Rattle.paging_core.proofs.Ahead.{ahead_left}
+use Rattle.paging_core.proofs.Padded.{count_padded}
+use Rattle.kernel_tables.proofs.Sound.{start_known, start_some, start_root}
+use Rattle.kernel_tables.proofs.tables.Tables.new.Goals as goal
+
+pub make_root-requires : goal.make_root-requires
+make_root-requires c =
+    let k = c.in_ok-memory.ensures.some.0 refl in
+    start_known c.in_ok-memory.memory.area c.in_ok-memory.memory.words c.args.words.now c.new-free.result c.args.first c.args.limit (c.args.first + length c.args.words.now / 512)
+    (ap (λ (m : AreaWords). m.area) c.in_ok-memory.ensures.value) (ap (λ (m : AreaWords). m.words) c.in_ok-memory.ensures.value) c.new-free.ensures
+    (omega (arith, k.0)) (omega (arith, k.2))
+
+pub unreachable-requires : goal.unreachable-requires
+unreachable-requires c =
+    let k = c.in_ok-memory.ensures.some.0 refl in
+    start_some c.new-free.result c.args.first (c.args.first + length c.args.words.now / 512) c.new-free.ensures (omega (arith, k.0, k.1)) c.in_default.ensures.taken.1
+
+pub returns-clause-limit : goal.returns-clause-limit
+returns-clause-limit c =
+    let k = c.in_ok-memory.ensures.some.0 refl in
+    let n = count_padded c.args.words.now c.args.first c.args.limit (omega (arith, k.0, k.2)) in
+    ap (λ n. n / 512) (c.in-Some.ensures.size ∙ ap (λ (m : AreaWords). length m.words) c.in_ok-memory.ensures.value) ∙ n
+
+pub returns-clause-root : goal.returns-clause-root
+returns-clause-root c =
+    let k = c.in_ok-memory.ensures.some.0 refl in
+    start_root c.new-free.result c.args.first (c.args.first + length c.args.words.now / 512) c.in-Some.root c.new-free.ensures (omega (arith, k.0, k.1))
+    c.in-Some.ensures.taken.0 c.in-Some.ensures.lowest
+
+pub returns-clause-free : goal.returns-clause-free
+returns-clause-free c =
+    c.in-Some.ensures.count ∙ (ap free_count c.new-free.ensures ∙ ahead_left (length c.args.words.now / 512) c.args.first (c.args.first + length c.args.words.now / 512) refl)

@@ -1,0 +1,3 @@
+pub mod TableState
+pub mod Faults
+pub mod Flush

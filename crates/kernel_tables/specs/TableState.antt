@@ -1,0 +1,49 @@
+-- Page tables in an area of frames, beside the free frames of the area.
+use Rattle.std.specs.Prelude.{◌≡◌, ℕ, ◌*◌, ◌^◌, ◌<◌, ◌≤◌, Bool, true, false, List, length, Option, Some}
+use Rattle.paging_core.specs.Area.{Area, in_area}
+use Rattle.paging_core.specs.Memory.{word_at, frame_count}
+use Rattle.paging_core.specs.Pool.{FreeIn}
+use Rattle.paging_core.specs.ProcessorWalk.{processor_walk, page_of, is_refused}
+use Rattle.paging_core.specs.Tree.{IsTreeIn}
+use Rattle.paging_core.specs.Walk.{Place, walk_of}
+
+pub record TableState : Type 0 where
+  -- the words of all frames below the limit; those outside the area are 0 here
+  pub words : List ℕ
+  pub area : Area
+  pub root : ℕ
+  -- a flag for each frame: no other is free
+  pub free : List Bool
+
+-- where the page leads
+abbrev pub leads : TableState → ℕ → Option Place
+leads state page = walk_of state.words state.root page
+
+-- frames of pages are below it
+abbrev pub limit_of : TableState → ℕ
+limit_of state = frame_count state.words
+
+-- The tables are a tree in the area, the free frames lie there, and no page leads into it.
+pub record AreSound (state : TableState) : Type 0 where
+  pub root_in : state.root < frame_count state.words
+  pub tree : IsTreeIn state.area state.words state.root state.free
+  pub known : FreeIn state.area state.free (frame_count state.words)
+  pub apart : (page : ℕ) (place : Place) → leads state page ≡ Some place → in_area state.area place.frame ≡ false
+
+-- the machine's memory has the words of the area, and any others elsewhere
+abbrev pub HasArea : List ℕ → TableState → Type 0
+HasArea real state =
+    (frame index : ℕ) → index < 512 → in_area state.area frame ≡ true → word_at real frame index ≡ word_at state.words frame index
+
+-- From the root a processor finds exactly the pages of the tables, with their frames and rights, and meets no reserved bit;
+-- `width` is how many bits a physical address has.
+abbrev pub IsWalkedAlike : TableState → Type 0
+IsWalkedAlike state =
+    (real : List ℕ) (page width : ℕ) → HasArea real state → 4096 * limit_of state ≤ 2 ^ width →
+    (page_of (processor_walk width real state.root page) ≡ leads state page) × (is_refused (processor_walk width real state.root page) ≡ false)
+
+-- the root, the area and the limit stay
+pub record IsSamePlace (old new : TableState) : Type 0 where
+  pub root : new.root ≡ old.root
+  pub area : new.area ≡ old.area
+  pub size : length new.words ≡ length old.words

@@ -1,0 +1,32 @@
+use thiserror::Error;
+
+/// Why a page is not mapped.
+#[derive(Clone, Copy, PartialEq, Eq, Debug, Error)]
+pub enum MapFault {
+    /// It is mapped already.
+    #[error("the page is mapped already")]
+    IsMapped,
+    /// It is a large page, and its slot has a table of single pages.
+    #[error("the large page's slot has a table")]
+    HasTable,
+    /// Its frame is not below the limit.
+    #[error("the frame is past the limit")]
+    PastLimit,
+    /// Its frame is one of the tables' area.
+    #[error("the frame lies in the area of the tables")]
+    InArea,
+    /// The frames of the area that are free are too few for the tables that the page misses.
+    #[error("no frames for the missing tables")]
+    NoFrames,
+}
+
+/// Why the entry of a page is not changed.
+#[derive(Clone, Copy, PartialEq, Eq, Debug, Error)]
+pub enum EntryFault {
+    /// The page is not mapped.
+    #[error("the page is not mapped")]
+    NotMapped,
+    /// The page is part of a large one, and has no entry of its own.
+    #[error("the page is part of a large page")]
+    InLargePage,
+}

@@ -1,0 +1,16 @@
+//! Page tables for a kernel: they lie in an area of frames that the kernel gives, and their pages lead to any frames
+//! outside of it.
+//!
+//! No call asks for more than its types do. What is refused changes nothing.
+#![tactic(auto)]
+
+mod faults;
+mod large_pages;
+pub mod laws;
+mod tables;
+
+pub use faults::{EntryFault, MapFault};
+pub use tables::Tables;
+
+#[cfg(test)]
+mod tests;

@@ -1,0 +1,188 @@
+ghost use Rattle.std.specs.Prelude.{◌≡◌, ℕ, ◌+◌, ◌*◌, ◌/◌, ◌%◌, ◌<◌, ◌≤◌, ◌^◌, ◌↔◌, Bool, true, false, None, Some, IsTrue, IsSome, IfSome, OnOk, OnErr, IfOk, IfErr, length};
+ghost use Rattle.std.specs.Option.{option_map};
+ghost use Rattle.paging_core.specs.Address.{is_canonical};
+ghost use Rattle.paging_core.specs.Area.{Part};
+ghost use Rattle.paging_core.specs.Mapping.{IsPageAdded};
+ghost use Rattle.paging_core.specs.PageChanges.{removal, regrant, IsPageChanged};
+ghost use Rattle.paging_core.specs.Pool.{free_count};
+ghost use Rattle.paging_core.specs.Walk.{place_of, granted};
+ghost use Rattle.kernel_tables.specs.Faults.{map_fault, entry_fault};
+ghost use Rattle.kernel_tables.specs.Flush.{no_page, page_alone, IsFlushEnough};
+ghost use Rattle.kernel_tables.specs.TableState.{leads, limit_of, IsSamePlace, IsWalkedAlike};
+
+use crate::faults::{EntryFault, MapFault};
+use paging_core::{
+    FramesAhead, Mapped, Page, PhysFrame, PhysicalMemory, Rights, Size2MiB, TableArea, has_table,
+    make_root, map_page, missing_tables, protect_page, unmap_page, walk,
+};
+use std::marker::Model;
+
+/// Page tables in an area of frames whose words a kernel lends. Their pages lead to any frames below a limit that are not of
+/// the area, and two pages may lead to one frame.
+#[derive(Drop)]
+pub struct Tables<'a> {
+    pub(crate) memory: TableArea<'a>,
+    pub(crate) free: FramesAhead,
+    pub(crate) root: PhysFrame,
+}
+
+impl<'a> Model for Tables<'a> {
+    ghost use Rattle.kernel_tables.specs.TableState.{TableState, AreSound};
+
+    ghost Value = { TableState };
+
+    ghost view = { λ t. record { words = t.memory.words; area = t.memory.area; root = t.root; free = t.free } };
+
+    ghost invariant = { λ t. AreSound (record { words = t.memory.words; area = t.memory.area; root = t.root; free = t.free }) };
+}
+
+impl<'a> Tables<'a> {
+    /// Tables in the area of which these are the words, 512 a frame, from the first frame on. Pages lead to frames below the
+    /// limit. No page is mapped, and one frame is taken for the root.
+    ///
+    /// None exactly where the words are not those of whole frames, or are none; where the area ends behind the limit; or
+    /// where the limit is not below 2^40, the number of frames that an entry can name.
+    pub fn new(words: &'a mut [u64], first: u64, limit: u64) -> Option<Tables<'a>>
+        ensures some { IsSome result ↔ ((length words.entry.now % 512 ≡ 0) × (0 < length words.entry.now) × (first + length words.entry.now / 512 ≤ limit) × (limit < 2 ^ 40)) }
+        ensures empty { IfSome result (λ tables. (page : ℕ) → leads tables page ≡ None) }
+        ensures area { IfSome result (λ tables. tables.area ≡ Part first (first + length words.entry.now / 512)) }
+        ensures limit { IfSome result (λ tables. limit_of tables ≡ limit) }
+        ensures root { IfSome result (λ tables. tables.root ≡ first) }
+        ensures free { IfSome result (λ tables. free_count tables.free + 1 ≡ length words.entry.now / 512) }
+    {
+        let count = words.len() as u64 / 512;
+        let mut memory = TableArea::over(words, first, limit)?;
+        let mut free = FramesAhead::new(first, first + count);
+        let Some(root) = make_root(&mut memory, &mut free) else {
+            unreachable!()
+        };
+        Some(Tables { memory, free, root })
+    }
+
+    /// The frame of the root table: CR3 is to have its address. Whatever else the machine's memory holds, a processor then
+    /// finds exactly the pages of the tables.
+    pub fn root(&self) -> PhysFrame
+        ensures root { result ≡ self.now.root }
+        ensures processor { IsWalkedAlike self.now }
+    {
+        self.root
+    }
+
+    /// How many frames of the area are free.
+    pub fn free_frames(&self) -> u64
+        ensures { result ≡ free_count self.now.free }
+    {
+        self.free.left()
+    }
+
+    /// Where the page leads, and with which rights.
+    pub fn walk(&self, page: Page) -> Option<Mapped>
+        ensures { option_map place_of result ≡ leads self.now page }
+    {
+        walk(&self.memory, self.root, page)
+    }
+
+    /// Why the page is not mapped to the frame, if it is not.
+    fn map_fault(&self, page: Page, frame: PhysFrame) -> Option<MapFault>
+        ensures fault { result ≡ map_fault self.now page frame }
+        ensures canonical { IsTrue (is_canonical (page * 4096)) }
+    {
+        let number = page.number();
+        if walk(&self.memory, self.root, page).is_some() {
+            return Some(MapFault::IsMapped);
+        }
+        if frame.number() >= self.memory.limit() {
+            return Some(MapFault::PastLimit);
+        }
+        if self.memory.contains(frame) {
+            return Some(MapFault::InArea);
+        }
+        if missing_tables(&self.memory, self.root, number, 1) > self.free.left() {
+            return Some(MapFault::NoFrames);
+        }
+        None
+    }
+
+    /// Maps the page to the frame with the rights, and makes the tables that it misses. No entry that was present changes,
+    /// so no flush is needed.
+    pub fn map(&mut self, page: Page, frame: PhysFrame, rights: Rights) -> Result<(), MapFault>
+        ensures ok { OnOk result (map_fault self.old page frame ≡ None) }
+        ensures err { IfErr result (λ fault. map_fault self.old page frame ≡ Some fault) }
+        ensures same { OnErr result (self.new ≡ self.old) }
+        ensures place { IsSamePlace self.old self.new }
+        ensures mapped { OnOk result (leads self.new page ≡ Some (granted frame rights)) }
+        ensures elsewhere { (other : ℕ) → IsTrue (is_canonical (other * 4096)) → (other ≡ page → ⊥) → leads self.new other ≡ leads self.old other }
+        ensures flush { IsFlushEnough self.old self.new no_page }
+        ensures added { OnOk result (IsPageAdded self.old.words self.new.words self.old.free self.new.free self.old.root page frame rights) }
+    {
+        match self.map_fault(page, frame) {
+            Some(fault) => Err(fault),
+            None => {
+                map_page(
+                    &mut self.memory,
+                    &mut self.free,
+                    self.root,
+                    page,
+                    frame,
+                    rights,
+                );
+                Ok(())
+            }
+        }
+    }
+
+    /// Why the page has no entry of its own, if it has none.
+    fn entry_fault(&self, page: Page) -> Option<EntryFault>
+        ensures { result ≡ entry_fault self.now page }
+    {
+        if walk(&self.memory, self.root, page).is_none() {
+            return Some(EntryFault::NotMapped);
+        }
+        let slot: Page<Size2MiB> = Page::containing_address(page.start_address());
+        if !has_table(&self.memory, self.root, slot) {
+            return Some(EntryFault::InLargePage);
+        }
+        None
+    }
+
+    /// Ends the mapping of the page, and answers the frame to which it led. The tables stay. The page is to be flushed before
+    /// its frame has another use.
+    pub fn unmap(&mut self, page: Page) -> Result<PhysFrame, EntryFault>
+        ensures ok { OnOk result (entry_fault self.old page ≡ None) }
+        ensures err { IfErr result (λ fault. entry_fault self.old page ≡ Some fault) }
+        ensures same { OnErr result (self.new ≡ self.old) }
+        ensures place { IsSamePlace self.old self.new }
+        ensures free { self.new.free ≡ self.old.free }
+        ensures frame { IfOk result (λ frame. IfSome (leads self.old page) (λ place. frame ≡ place.frame)) }
+        ensures unmapped { OnOk result (leads self.new page ≡ None) }
+        ensures elsewhere { (other : ℕ) → IsTrue (is_canonical (other * 4096)) → (other ≡ page → ⊥) → leads self.new other ≡ leads self.old other }
+        ensures flush { IsFlushEnough self.old self.new (page_alone page) }
+        ensures removed { OnOk result (IsPageChanged self.old.words self.new.words self.old.root page removal) }
+    {
+        match self.entry_fault(page) {
+            Some(fault) => Err(fault),
+            None => Ok(unmap_page(&mut self.memory, self.root, page)),
+        }
+    }
+
+    /// Gives the page these rights. It keeps its frame. The page is to be flushed.
+    pub fn protect(&mut self, page: Page, rights: Rights) -> Result<(), EntryFault>
+        ensures ok { OnOk result (entry_fault self.old page ≡ None) }
+        ensures err { IfErr result (λ fault. entry_fault self.old page ≡ Some fault) }
+        ensures same { OnErr result (self.new ≡ self.old) }
+        ensures place { IsSamePlace self.old self.new }
+        ensures free { self.new.free ≡ self.old.free }
+        ensures granted { OnOk result (IfSome (leads self.old page) (λ place. leads self.new page ≡ Some (granted place.frame rights))) }
+        ensures elsewhere { (other : ℕ) → IsTrue (is_canonical (other * 4096)) → (other ≡ page → ⊥) → leads self.new other ≡ leads self.old other }
+        ensures flush { IsFlushEnough self.old self.new (page_alone page) }
+        ensures changed { OnOk result (IsPageChanged self.old.words self.new.words self.old.root page (regrant rights)) }
+    {
+        match self.entry_fault(page) {
+            Some(fault) => Err(fault),
+            None => {
+                protect_page(&mut self.memory, self.root, page, rights);
+                Ok(())
+            }
+        }
+    }
+}

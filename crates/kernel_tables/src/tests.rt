@@ -1,0 +1,88 @@
+use super::*;
+use paging_core::{Mapped, Page, PhysAddr, PhysFrame, Rights, Size2MiB, VirtAddr};
+use std::test::Fail;
+
+const ALL: Rights = Rights {
+    write: true,
+    user: false,
+    fetch: false,
+};
+
+const FEW: Rights = Rights {
+    write: false,
+    user: false,
+    fetch: false,
+};
+
+/// The frame and whether it may be written.
+fn seen(found: Option<Mapped>) -> Option<(u64, bool)> {
+    found.map(|mapped| (mapped.frame.number(), mapped.write))
+}
+
+fn number(frame: Result<PhysFrame, EntryFault>) -> Result<u64, EntryFault> {
+    frame.map(|frame| frame.number())
+}
+
+#[test]
+fn pages_lead_out_of_the_area(rt: HostRuntime) -> Result<(), Fail> {
+    // eight frames from 16 on, of 2^20
+    let mut words = vec![in rt.alloc(); 0u64; 4096]?;
+    let Some(mut tables) = Tables::new(&mut words, 16, 1 << 20) else {
+        return Err(Fail::from("no tables"));
+    };
+    assert_eq!(rt; (tables.root().number(), tables.free_frames()), (16, 7));
+    let first = Page::containing_address(VirtAddr::new(0x400000));
+    let second = Page::containing_address(VirtAddr::new(0x401000));
+    let third = Page::containing_address(VirtAddr::new(0x402000));
+    let memory = PhysFrame::containing_address(PhysAddr::new(0x64000));
+    let device = PhysFrame::containing_address(PhysAddr::new(0xfffff000));
+    let own = PhysFrame::containing_address(PhysAddr::new(0x17000));
+    let past = PhysFrame::containing_address(PhysAddr::new(0x100000000));
+    assert_eq!(rt; tables.map(first, memory, ALL), Ok(()));
+    assert_eq!(rt; tables.map(first, device, ALL), Err(MapFault::IsMapped));
+    assert_eq!(rt; tables.map(second, memory, ALL), Ok(()));
+    assert_eq!(rt; tables.map(third, own, ALL), Err(MapFault::InArea));
+    assert_eq!(rt; tables.map(third, past, ALL), Err(MapFault::PastLimit));
+    assert_eq!(rt; tables.map(third, device, ALL), Ok(()));
+    assert_eq!(rt; tables.free_frames(), 4);
+    assert_eq!(rt; seen(tables.walk(second)), Some((0x64, true)));
+    assert_eq!(rt; seen(tables.walk(third)), Some((0xfffff, true)));
+    assert_eq!(rt; number(tables.unmap(first)), Ok(0x64));
+    assert_eq!(rt; number(tables.unmap(first)), Err(EntryFault::NotMapped));
+    assert_eq!(rt; tables.protect(second, FEW), Ok(()));
+    assert_eq!(rt; seen(tables.walk(second)), Some((0x64, false)));
+    assert_eq!(rt; seen(tables.walk(first)), None);
+    Ok(())
+}
+
+#[test]
+fn large_pages_take_one_entry(rt: HostRuntime) -> Result<(), Fail> {
+    // four frames from 16 on, of 1024
+    let mut words = vec![in rt.alloc(); 0u64; 2048]?;
+    let Some(mut tables) = Tables::new(&mut words, 16, 1024) else {
+        return Err(Fail::from("no tables"));
+    };
+    let page: Page<Size2MiB> = Page::containing_address(VirtAddr::new(0x400000));
+    let low: PhysFrame<Size2MiB> = PhysFrame::containing_address(PhysAddr::new(0));
+    let high: PhysFrame<Size2MiB> = PhysFrame::containing_address(PhysAddr::new(0x200000));
+    let past: PhysFrame<Size2MiB> = PhysFrame::containing_address(PhysAddr::new(0x400000));
+    let inside = Page::containing_address(VirtAddr::new(0x405000));
+    assert_eq!(rt; tables.map_large(page, low, ALL), Err(MapFault::InArea));
+    assert_eq!(rt; tables.map_large(page, past, ALL), Err(MapFault::PastLimit));
+    assert_eq!(rt; tables.map_large(page, high, ALL), Ok(()));
+    assert_eq!(rt; tables.free_frames(), 1);
+    assert_eq!(rt; tables.map_large(page, high, ALL), Err(MapFault::IsMapped));
+    assert_eq!(rt; seen(tables.walk(inside)), Some((0x205, true)));
+    assert_eq!(rt; tables.protect(inside, FEW), Err(EntryFault::InLargePage));
+    assert_eq!(rt;
+        tables.unmap_large(page).map(|frame| frame.number()),
+        Some(1)
+    );
+    assert_eq!(rt; tables.unmap_large(page).is_none(), true);
+    let memory = PhysFrame::containing_address(PhysAddr::new(0x64000));
+    assert_eq!(rt; tables.map(inside, memory, ALL), Ok(()));
+    assert_eq!(rt; tables.map_large(page, high, ALL), Err(MapFault::HasTable));
+    let far = Page::containing_address(VirtAddr::new(0x8000000000));
+    assert_eq!(rt; tables.map(far, memory, ALL), Err(MapFault::NoFrames));
+    Ok(())
+}
