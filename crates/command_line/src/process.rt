@@ -62,7 +62,7 @@ fn tell<E: Sink>(errors: &mut E, status: u8) -> Result<(), SinkFault>
     write_text(errors, "\n")
 }
 
-/// Ends with a status, and tells what it means if it is not 0. A text that cannot be written changes nothing.
+/// Ends with a status, and tells what it means if it is not 0. If that text cannot be written, the status is the same.
 pub fn exit_with<E: Sink>(errors: &mut E, status: u8) -> ExitCode
     requires few { status ≤ 8 }
     ensures status { exit_status result ≡ status }

@@ -17,7 +17,7 @@ fn serve(rt: &HostRuntime, heap: &mut CheckedHeap<'_>) -> anyhow::Result<()> {
     for i in 0..12 {
         heap.store(squares, 8 * i, i * i);
     }
-    // The name stands behind the squares, so they move, and their words with them.
+    // The name lies right after the squares, so they move, and their words with them.
     let moved = heap.realloc(squares, 1000)?;
     if let Some(word) = heap.load(moved, 88) {
         println!(rt; "the last square at {moved:#x} is {word}")?;

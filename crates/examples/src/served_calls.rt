@@ -33,7 +33,7 @@ pub(crate) fn run(rt: &HostRuntime) -> anyhow::Result<()> {
     serve(rt, &mut machine)
 }
 
-// Serves the calls, and prints what comes of each.
+// Serves the calls, and prints the result of each.
 fn serve(rt: &HostRuntime, machine: &mut Machine) -> anyhow::Result<()> {
     for call in &CALLS {
         match machine.step(call)?.reply {

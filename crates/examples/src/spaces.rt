@@ -19,7 +19,7 @@ pub(crate) fn run(rt: &HostRuntime) -> anyhow::Result<()> {
     change(rt, &mut space)
 }
 
-// Changes the pages of a space, and prints what comes of it.
+// Changes the pages of a space, and prints the results.
 fn change(rt: &HostRuntime, space: &mut Space) -> anyhow::Result<()> {
     space.map_at(0x1000, 2, DATA)?;
     let start = space.place(0x1000, 0x8000, 2, DATA)?;

@@ -8,7 +8,8 @@ use Rattle.dlmalloc.specs.Extents.{extent_at}
 use Rattle.dlmalloc.specs.Blocks.{IsBlock, IsInside}
 use Rattle.dlmalloc.specs.Heap.{state_of, IsSound}
 use Rattle.dlmalloc.specs.Binned.{IsBinned}
-use Rattle.dlmalloc.specs.Served.{OnlyBlocksChange, RestsOutside}
+use Rattle.dlmalloc.specs.Order.{KeepsIndex}
+use Rattle.dlmalloc.specs.Served.{OnlyBlocksChange, RestsOutside, OrderRestsOutside}
 use Rattle.dlmalloc.specs.declared.heap.Dlmalloc.{Dlmalloc}
 use Rattle.dlmalloc.proofs.Extents.Lookup.{found}
 use Rattle.dlmalloc.proofs.Laws.{used_inside, same_regions}
@@ -57,3 +58,10 @@ module _ {A : Type 0} (regions : A → List Grant) (word : A → ℕ → ℕ) (h
   still_intact rests linked offset value system within aligned same stored =
       let still = rests sound system (same_regions regions word heap sound system same) (only_block offset value (word system) within aligned stored) in
       (record { sound = still.0; linked = still.2 linked }, still.1)
+
+  -- and its bins keep their order
+  pub still_ordered : OrderRestsOutside regions word heap → (offset value : ℕ) (system : A) → offset + 8 ≤ usable (state_of word heap) address → offset % 8 ≡ 0 →
+      regions system ≡ regions heap.system → IsStored (regions heap.system) (word heap.system) (address + offset) value (word system) →
+      KeepsIndex regions word heap (record heap { system = system })
+  still_ordered rests offset value system within aligned same stored =
+      rests sound system (same_regions regions word heap sound system same) (only_block offset value (word system) within aligned stored)

@@ -3,7 +3,6 @@ use Rattle.std.specs.Prelude.{◌≡◌, ℕ, ◌+◌, ◌-◌, ◌≤◌, ◌�
 use Rattle.std.specs.Int.{IsPowerOfTwo}
 use Rattle.dlmalloc_chunks.specs.Request.{padded, limit, round_up}
 use Rattle.dlmalloc.specs.Choice.{chosen}
-use Rattle.dlmalloc.specs.Blocks.{IsFull}
 use Rattle.dlmalloc.specs.Requested.{asked}
 use Rattle.dlmalloc.specs.Resized.{in_place}
 use Rattle.dlmalloc.specs.declared.heap.Dlmalloc.{Dlmalloc}
@@ -12,11 +11,10 @@ use Rattle.heap_arena.specs.declared.arena.Arena.{Arena}
 use Rattle.heap_library.specs.Library.{HasBlock}
 use Rattle.heap_library.specs.Checked.{heap_state}
 
--- There is no room for a chunk of n bytes: no free extent serves it, blocks leave no run of n + 256 bytes, and the arena has not
--- n + 96 bytes in whole granularities behind its grants, or no place for another grant.
+-- There is no room for a chunk of n bytes: no free extent serves it, and the arena has not n + 96 bytes in whole granularities
+-- behind its grants, or no place for another grant.
 pub record HasNoRoom (heap : Dlmalloc Arena) (n : ℕ) : Type 0 where
   pub none_chosen : chosen (heap_state heap) n ≡ None
-  pub full : IsFull (heap_state heap) (n + 256)
   pub arena_full : has_room heap.system (round_up (n + 96) heap.granularity) ≡ false
 
 -- A request for so many bytes at a multiple of an alignment is refused: the alignment is no power of two, the size is too large, or

@@ -75,6 +75,7 @@ impl<'a> CheckedHeap<'a> {
     ghost use Rattle.dlmalloc.specs.Moved.{IsGivenSize, IsResized};
     ghost use Rattle.dlmalloc.specs.AfterFree.{IsFreed};
     ghost use Rattle.dlmalloc.specs.Shortened.{IsTrimmed};
+    ghost use Rattle.dlmalloc.specs.Order.{KeepsIndex};
     ghost use Rattle.dlmalloc.specs.Served.{IsListed};
     ghost use Rattle.heap_arena.specs.Arena.{regions_of, word_of, IsAbove};
     ghost use Rattle.heap_library.specs.Library.{HasBlock, HasWord, usable, AreZero, IsRequestRefused, IsResizeRefused};
@@ -242,6 +243,7 @@ impl<'a> CheckedHeap<'a> {
         ensures answer { IsTrue result ↔ IsGranularity granularity }
         ensures state { heap_state self.new ≡ record (heap_state self.old) { granularity = if result then granularity else self.old.granularity } }
         ensures system { self.new.system ≡ self.old.system }
+        ensures index { KeepsIndex regions_of word_of self.old self.new }
     {
         self.heap.set_granularity(granularity)
     }
@@ -251,6 +253,7 @@ impl<'a> CheckedHeap<'a> {
     pub fn set_release_rate(&mut self, rate: u64)
         ensures state { heap_state self.new ≡ record (heap_state self.old) { rate = rate; countdown = countdown_from rate } }
         ensures system { self.new.system ≡ self.old.system }
+        ensures index { KeepsIndex regions_of word_of self.old self.new }
     {
         self.heap.set_release_rate(rate);
     }
@@ -354,7 +357,7 @@ impl<'a> CheckedHeap<'a> {
         self.heap.trim(pad)
     }
 
-    /// The bytes of the block at an address, if one begins there: those that were asked for, and at most 79 more.
+    /// The bytes of the block at an address, if one begins there: those that were asked for, and at most 71 more.
     pub fn usable_size(&self, address: u64) -> Option<u64>
         ensures some { IfSome result (λ size. HasBlock (heap_state self.now) address × (size ≡ usable (heap_state self.now) address)) }
         ensures none { IfNone result (HasBlock (heap_state self.now) address → ⊥) }
@@ -396,6 +399,7 @@ impl<'a> CheckedHeap<'a> {
         ensures state { heap_state self.new ≡ heap_state self.old }
         ensures regions { regions_of self.new.system ≡ regions_of self.old.system }
         ensures follows { follows self.old.system [] self.new.system }
+        ensures index { KeepsIndex regions_of word_of self.old self.new }
         ensures same { result ≡ false → self.new ≡ self.old }
     {
         if !self.has_word(address, offset) {

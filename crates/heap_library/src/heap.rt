@@ -35,6 +35,7 @@ impl<A: Allocator> Heap<A> {
     ghost use Rattle.dlmalloc.specs.Moved.{IsGivenSize, IsResized};
     ghost use Rattle.dlmalloc.specs.AfterFree.{IsFreed};
     ghost use Rattle.dlmalloc.specs.Shortened.{IsTrimmed};
+    ghost use Rattle.dlmalloc.specs.Order.{KeepsIndex};
     ghost use Rattle.dlmalloc.specs.Served.{IsListed};
     ghost use Rattle.heap_library.specs.Library.{HasBlock, usable, AreZero, IsRequestRefused, IsResizeRefused};
 
@@ -54,6 +55,7 @@ impl<A: Allocator> Heap<A> {
         ensures answer { IsTrue result ↔ IsGranularity granularity }
         ensures state { state_of A.word self.new ≡ record (state_of A.word self.old) { granularity = if result then granularity else self.old.granularity } }
         ensures system { self.new.system ≡ self.old.system }
+        ensures index { KeepsIndex A.regions A.word self.old self.new }
     {
         self.heap.set_granularity(granularity)
     }
@@ -63,6 +65,7 @@ impl<A: Allocator> Heap<A> {
     pub fn set_release_rate(&mut self, rate: u64)
         ensures state { state_of A.word self.new ≡ record (state_of A.word self.old) { rate = rate; countdown = countdown_from rate } }
         ensures system { self.new.system ≡ self.old.system }
+        ensures index { KeepsIndex A.regions A.word self.old self.new }
     {
         self.heap.set_max_release_check_rate(rate);
     }
@@ -149,7 +152,7 @@ impl<A: Allocator> Heap<A> {
         calls::trim::<A, Brand>(&mut self.heap, pad, Blank::new(1))
     }
 
-    /// The bytes of the block at an address: those that were asked for, and at most 79 more.
+    /// The bytes of the block at an address: those that were asked for, and at most 71 more.
     pub fn usable_size(&self, address: u64) -> u64
         requires block { HasBlock (state_of A.word self.now) address }
         ensures { result ≡ usable (state_of A.word self.now) address }
@@ -189,6 +192,7 @@ impl<A: Allocator> Heap<A> {
 impl<A: Allocator + Memory> Heap<A> {
     ghost use Rattle.std.specs.Prelude.{◌≡◌, ◌+◌, ◌%◌, ◌≤◌, []};
     ghost use Rattle.dlmalloc.specs.Heap.{state_of};
+    ghost use Rattle.dlmalloc.specs.Order.{KeepsIndex};
     ghost use Rattle.heap_memory.specs.Words.{IsStored};
     ghost use Rattle.heap_library.specs.Library.{HasBlock, usable};
 
@@ -213,8 +217,10 @@ impl<A: Allocator + Memory> Heap<A> {
         ensures usable { usable (state_of A.word self.new) address ≡ usable (state_of A.word self.old) address }
         ensures regions { A.regions self.new.system ≡ A.regions self.old.system }
         ensures follows { A.follows self.old.system [] self.new.system }
+        ensures index { KeepsIndex A.regions A.word self.old self.new }
     {
         self.heap.rests_outside();
+        self.heap.order_rests_outside();
         self.heap.allocator_mut().store(address + offset, value);
     }
 }

@@ -16,7 +16,7 @@ use Rattle.dlmalloc.specs.Trimmed.{cut_of, cut_off, end_released, is_cut, is_tri
 use Rattle.dlmalloc.specs.AfterFree.{after_free, free_releases, is_above_check, regions_after, IsFreed}
 use Rattle.dlmalloc.specs.declared.heap.Dlmalloc.{Dlmalloc}
 use Rattle.object_pool.specs.Pool.{IsLaidOut, KeepsOthers}
-use Rattle.object_pool.specs.Emptied.{slabs_freed, slab_releases, regions_left, IsRelease, IsEmptied}
+use Rattle.object_pool.specs.Emptied.{slabs_freed, slab_releases, regions_left, IsRelease, AreFreed, IsEmptied}
 use Rattle.object_pool.proofs.HeapBlocks.{freed_keeps, freed_only}
 use Rattle.object_pool.proofs.Numbers.{lt_or_le}
 use Rattle.object_pool.proofs.Rates.{rate_after}
@@ -70,6 +70,7 @@ pub record IsEmptying {A : Type 0} (regions : A → List Grant) (word : A → �
   pub only : (address n : ℕ) → IsBlock (state_of word heap) address n → IsBlock (state_of word old) address n × ((i : ℕ) → length left ≤ i → i < length slabs → slice_index slabs i ≢ address)
   pub back : List ℕ
   pub all : slabs ≡ left ++ back
+  pub each : AreFreed regions word follows frees parts unit old back heap
   pub state : state_of word heap ≡ slabs_freed frees parts unit back (state_of word old)
   pub followed : follows old.system (slab_releases frees parts unit back (state_of word old)) heap.system
   pub regions_are : regions heap.system ≡ regions_left frees parts unit back (state_of word old) (regions old.system)
@@ -86,6 +87,7 @@ emptying_none regions word follows frees parts unit heap slabs size followed lai
   only = λ address n block. (block, λ i from to. absurd (omega (arith, from, to)));
   back = [];
   all = sym (append-nil slabs);
+  each = refl;
   state = refl;
   followed = followed;
   regions_are = refl;
@@ -104,6 +106,7 @@ emptied regions word follows frees parts unit old heap slabs size left none e =
     record {
       sound = e.laid.sound;
       linked = e.laid.linked;
+      each = subst (λ (list : List ℕ). AreFreed regions word follows frees parts unit old list heap) same e.each;
       kept = e.kept;
       only = λ address n block. (let was = e.only address n block in (was.0, λ i less. was.1 i (omega (arith, none)) less));
       state = e.state ∙ ap (λ (list : List ℕ). slabs_freed frees parts unit list (state_of word old)) same;
@@ -171,6 +174,7 @@ module _ {A : Type 0} (regions : A → List Grant) (word : A → ℕ → ℕ) (f
           ],
         );
     back = address ∷ e.back;
+    each = (heap, e.each, e.laid.linked, back);
     all = e.all ∙ (ap (λ (list : List ℕ). list ++ e.back) is ∙ append_assoc rest (address ∷ []) e.back);
     state = back.state ∙ ap (λ (h : HeapState). after_free frees parts unit (freed h (address - 16)) (address - 16)) e.state;
     followed = follows_on old.system heap.system new.system (slab_releases frees parts unit e.back (state_of word old)) (free_releases frees parts unit (freed (state_of word heap) (address - 16)) (address - 16))

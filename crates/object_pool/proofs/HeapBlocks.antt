@@ -13,7 +13,8 @@ use Rattle.dlmalloc.specs.Heap.{state_of, IsSound}
 use Rattle.dlmalloc.specs.Grown.{IsAsItWas}
 use Rattle.dlmalloc.specs.Requested.{IsHandedOut, IsServedAt}
 use Rattle.dlmalloc.specs.AfterFree.{IsFreed}
-use Rattle.dlmalloc.specs.Served.{regions_in, IsObtained, KeepsRegions, OnlyBlocksChange, RestsOutside}
+use Rattle.dlmalloc.specs.Order.{KeepsOrder, KeepsIndex}
+use Rattle.dlmalloc.specs.Served.{regions_in, IsObtained, KeepsRegions, OnlyBlocksChange, RestsOutside, OrderRestsOutside}
 use Rattle.dlmalloc.specs.Binned.{IsBinned}
 use Rattle.dlmalloc.specs.declared.heap.Dlmalloc.{Dlmalloc}
 use Rattle.dlmalloc_chunks.specs.Request.{padded}
@@ -98,6 +99,10 @@ module _ {A : Type 0} (regions : A → List Grant) (word : A → ℕ → ℕ) (f
   unfolding HasServed
   served_once zeros size address served = served_cut zeros (64 * size) address served
 
+  -- which leaves the bins in order
+  pub order_once : (zeros : A → Bool) (size address : ℕ) → IsServedAt regions word zeros follows old size 16 address new → KeepsOrder regions word old new
+  order_once zeros size address served = elim served [ inl here ↦ here.1.order | inr more ↦ absurd (let over = more.0 in omega (arith, over)) ]
+
   -- ---- a block less
 
   module _ (frees parts : Bool) (unit : ℕ) (address : ℕ) (placed : ArePlaced (regions old.system) (state_of word old)) (low : 16 ≤ address) (back : IsFreed regions word follows frees parts unit old address new) where
@@ -157,6 +162,10 @@ module _ {A : Type 0} (regions : A → List Grant) (word : A → ℕ → ℕ) (h
   pub written_rests : RestsOutside regions word heap → IsSound regions word heap → regions system ≡ regions heap.system →
       IsSound regions word (record heap { system = system }) × (state_of word (record heap { system = system }) ≡ state_of word heap) × (IsBinned regions word heap → IsBinned regions word (record heap { system = system }))
   written_rests rests sound same = rests sound system (same_regions regions (state_of word heap) heap.system system same) outside
+
+  -- and they have their order
+  pub written_index : OrderRestsOutside regions word heap → IsSound regions word heap → regions system ≡ regions heap.system → KeepsIndex regions word heap (record heap { system = system })
+  written_index rests sound same = rests sound system (same_regions regions (state_of word heap) heap.system system same) outside
 
   -- every other block has the bytes that it had
   pub written_keeps : BlocksAreApart (state_of word heap) → state_of word (record heap { system = system }) ≡ state_of word heap →

@@ -12,12 +12,13 @@ use Rattle.dlmalloc.specs.Blocks.{IsBlock, ArePlaced, BlocksAreApart}
 use Rattle.dlmalloc.specs.Heap.{state_of, IsSound, IsGranularity}
 use Rattle.dlmalloc.specs.Binned.{IsBinned}
 use Rattle.dlmalloc.specs.Requested.{IsHandedOut}
-use Rattle.dlmalloc.specs.Served.{RestsOutside}
+use Rattle.dlmalloc.specs.Order.{KeepsIndex}
+use Rattle.dlmalloc.specs.Served.{RestsOutside, OrderRestsOutside}
 use Rattle.dlmalloc.specs.declared.heap.Dlmalloc.{Dlmalloc}
 use Rattle.object_pool.specs.Bytes.{bytes_at, AreGranted, IsWritten}
 use Rattle.object_pool.specs.Pool.{place_of, bytes_of, IsLaidOut, KeepsOthers, PlacesAreApart}
 use Rattle.object_pool.proofs.ByteRuns.{bytes_same, bytes_are}
-use Rattle.object_pool.proofs.HeapBlocks.{handed_keeps, handed_fresh, written_rests, written_keeps}
+use Rattle.object_pool.proofs.HeapBlocks.{handed_keeps, handed_fresh, written_rests, written_index, written_keeps}
 use Rattle.object_pool.proofs.Numbers.{lt_or_le, same_or_other}
 
 -- ---- where objects lie
@@ -83,6 +84,9 @@ module _ {A : Type 0} (regions : A → List Grant) (word : A → ℕ → ℕ) (h
 
     pub written_state : state_of word new ≡ state_of word heap
     written_state = rest.1
+
+    pub written_order : OrderRestsOutside regions word heap → KeepsIndex regions word heap new
+    written_order ordered = written_index regions word heap system (slice_index slabs (index / 64)) (64 * size) (slab_block index less) placed (place_of slabs size index) bytes (length bytes) (omega arith) within written ordered laid.sound same
 
     pub written_laid : IsLaidOut regions word new size slabs
     written_laid = record {

@@ -7,6 +7,7 @@ use Rattle.heap_memory.specs.declared.grant.GrantFault.{GrantFault}
 use Rattle.heap_memory.specs.Events.{Event, Granted}
 use Rattle.dlmalloc_chunks.specs.Request.{padded, round_up}
 use Rattle.dlmalloc.specs.State.{HeapState}
+use Rattle.dlmalloc.specs.Order.{IsInOrder}
 use Rattle.dlmalloc.specs.Served.{IsTakenFromExtent, IsTakenFromGrant, IsObtained}
 use Rattle.dlmalloc.specs.Blocks.{IsBlock}
 use Rattle.dlmalloc.specs.Heap.{state_of}
@@ -137,6 +138,11 @@ module _ {A : Type 0} (regions : A → List Grant) (word : A → ℕ → ℕ) (f
     fresh = added.fresh;
     only = λ at n block. added.only at n (subst (λ (h : HeapState). IsBlock h at n) stays.state block);
     served = served_stays size added.address added.served;
+    member = added.member;
+    order = λ before.
+        let first = added.order before in
+        let second = stays.index first.0 in
+        (second.0, λ n. subst (λ (chunks : List ℕ). IsInOrder (before.index n) chunks) (sym (second.1 n)) (first.1 n));
   }
 
 -- ---- a slot is made free, and used

@@ -10,6 +10,8 @@ use Rattle.dlmalloc.specs.Binned.{IsBinned}
 use Rattle.dlmalloc.specs.Blocks.{IsBlock}
 use Rattle.dlmalloc.specs.Grown.{IsAsItWas}
 use Rattle.dlmalloc.specs.declared.malloc_error.MallocError.TheVariants.{System}
+use Rattle.dlmalloc.specs.Order.{KeepsOrder, KeepsIndex}
+use Rattle.dlmalloc.specs.Requested.{IsMemberServed}
 use Rattle.dlmalloc.specs.Served.{IsDenied, IsObtained, refused_events}
 use Rattle.object_pool.specs.declared.pool_fault.PoolFault.{PoolFault}
 use Rattle.object_pool.specs.declared.pool_fault.PoolFault.TheVariants.{Full, Heap, OutOfMemory}
@@ -62,24 +64,29 @@ KeepsAll word old new = (address size : ℕ) → IsBlock (state_of word old) add
 abbrev pub KeepsOthers : {A : Type 0} → (A → ℕ → ℕ) → List ℕ → Dlmalloc A → Dlmalloc A → Type 0
 KeepsOthers word slabs old new = (address size : ℕ) → IsBlock (state_of word old) address size → IsNoSlab slabs address → IsBlockKept word old address size new
 
--- The heap is in its state, and its system was asked for nothing: at most bytes of blocks were written.
+-- The heap is in its state, its bins have their chunks in their order, and its system was asked for nothing: at most bytes of
+-- blocks were written.
 pub record StaysInState {A : Type 0} (regions : A → List Grant) (word : A → ℕ → ℕ) (follows : A → List Event → A → Type 0) (old new : Dlmalloc A) : Type 0 where
   pub state : state_of word new ≡ state_of word old
   pub regions_same : regions new.system ≡ regions old.system
   pub followed : follows old.system [] new.system
+  pub index : KeepsIndex regions word old new
 
 -- The heap served one request, for the slab at an address: it was cut from what the heap had, or from a region of its system
 -- where it had no room.
 unfoldable pub HasServed : {A : Type 0} → (A → List Grant) → (A → ℕ → ℕ) → (A → List Event → A → Type 0) → Dlmalloc A → ℕ → ℕ → Dlmalloc A → Type 0
 HasServed regions word follows old size address new = IsObtained follows regions old.system (state_of word old) (padded (64 * size)) (address - 16) new.system (state_of word new)
 
--- A slab more was taken, which was no block before. It is the one block that came: the heap served one request, for it.
+-- A slab more was taken, which was no block before. It is the one block that came: the heap served one request, for it, of chunks
+-- of one size from the one whose turn it was, and left the others in order.
 pub record IsAdded {A : Type 0} (regions : A → List Grant) (word : A → ℕ → ℕ) (follows : A → List Event → A → Type 0) (old : Dlmalloc A) (size : ℕ) (slabs : List ℕ) (new : Dlmalloc A) (new_slabs : List ℕ) : Type 0 where
   pub address : ℕ
   pub is : new_slabs ≡ slabs ++ address ∷ []
   pub fresh : (n : ℕ) → IsBlock (state_of word old) address n → ⊥
   pub only : (at n : ℕ) → IsBlock (state_of word new) at n → IsBlock (state_of word old) at n ⊎ (at ≡ address)
   pub served : HasServed regions word follows old size address new
+  pub member : IsMemberServed regions word old (64 * size) 16 address
+  pub order : KeepsOrder regions word old new
 
 -- ---- what a pool keeps
 

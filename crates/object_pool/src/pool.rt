@@ -229,7 +229,8 @@ impl<A: Allocator + Memory> Pool<A> {
     }
 
     /// Gives every slab back, the one taken last first, and answers the heap: the blocks that are no slabs stand in it with the
-    /// bytes that they had. It asks the heap's system for nothing; what that gets back is what these frees give back.
+    /// bytes that they had. It asks the heap's system for nothing; what that gets back is what these frees give back, and its
+    /// bins are in the order that they leave.
     pub fn finish(self) -> Dlmalloc<A>
         ensures { IsEmptied A.regions A.word A.follows (A.frees self.heap.system) (A.parts self.heap.system) (A.unit self.heap.system) self.heap self.slabs result }
     {

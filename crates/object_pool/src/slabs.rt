@@ -6,7 +6,7 @@ ghost use Rattle.dlmalloc.specs.Binned.{IsBinned};
 ghost use Rattle.dlmalloc.specs.Blocks.{IsBlock, ArePlaced};
 ghost use Rattle.dlmalloc.specs.Grown.{IsAsItWas};
 ghost use Rattle.dlmalloc.specs.Heap.{state_of, IsGranularity, IsSound};
-ghost use Rattle.dlmalloc.specs.Requested.{IsHandedOut, IsServedAt};
+ghost use Rattle.dlmalloc.specs.Requested.{IsHandedOut, IsMemberServed, IsServedAt};
 ghost use Rattle.dlmalloc.specs.Served.{IsDenied, IsRefusedWith, refused_events};
 ghost use Rattle.object_pool.specs.Bytes.{AreGranted};
 ghost use Rattle.object_pool.specs.Emptied.{IsEmptied};
@@ -56,6 +56,7 @@ fn take_block<A: Allocator, L: Ledger>(
     requires linked { IsBinned A.regions A.word heap.old }
     ensures ok { IfOk result (λ address. IsHandedOut A.regions A.word A.follows heap.old size 16 address heap.new) }
     ensures served { IfOk result (λ address. IsServedAt A.regions A.word A.zeros A.follows heap.old size 16 address heap.new) }
+    ensures member { IfOk result (λ address. IsMemberServed A.regions A.word heap.old size 16 address) }
     ensures err { IfErr result (λ error. IsRefusedWith A.regions A.word A.follows A.refuses A.denies heap.old size error heap.new) }
     ensures sound { IsSound A.regions A.word heap.new }
     ensures linked { IsBinned A.regions A.word heap.new }
@@ -135,6 +136,7 @@ impl<A: Allocator + Memory> Slabs<A> {
         self.heap.blocks_are_placed();
         self.heap.blocks_are_apart();
         self.heap.rests_outside();
+        self.heap.order_rests_outside();
         write_bytes(self.heap.allocator_mut(), place, bytes);
     }
 

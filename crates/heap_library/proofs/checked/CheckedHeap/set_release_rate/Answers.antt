@@ -1,5 +1,7 @@
-use Rattle.std.proofs.Common.{ap, length, sym}
+use Rattle.std.proofs.Common.{ap, length, subst, sym}
 use Rattle.dlmalloc.specs.State.{extents_in}
+use Rattle.dlmalloc.specs.Order.{KeepsIndex}
+use Rattle.heap_arena.specs.Arena.{regions_of, word_of}
 use Rattle.heap_arena.specs.declared.arena.Arena.{Arena}
 use Rattle.heap_library.specs.Checked.{heap_state}
 use Rattle.heap_library.proofs.Marking.{kept_marked, same_blocks}
@@ -13,3 +15,6 @@ invariant_of-self c =
     kept_marked marks.base marks.words.now marks.count c.self.inside.heap c.set_release_rate.new.self c.self.invariant
     (record { base = ap (λ (a : Arena). a.base) system; len = ap (λ (a : Arena). length a.words.now) system; table = ap (λ (a : Arena). length a.table.words.now) system })
     (same_blocks (heap_state c.self.inside.heap) (heap_state c.set_release_rate.new.self) (ap extents_in state)) (same_blocks (heap_state c.set_release_rate.new.self) (heap_state c.self.inside.heap) (sym (ap extents_in state)))
+
+pub returns-clause-index : goal.returns-clause-index
+returns-clause-index c = subst (λ heap. KeepsIndex regions_of word_of heap c.set_release_rate.new.self) c.self.view_is c.set_release_rate.ensures.index

@@ -2,7 +2,8 @@ use Rattle.std.proofs.Common.{arith, ◌+◌, ◌≤◌, ◌∙◌, ap, sym, sub
 use Rattle.heap_memory.specs.Words.{IsStored}
 use Rattle.dlmalloc.specs.Heap.{state_of}
 use Rattle.heap_library.specs.Library.{HasBlock, usable}
-use Rattle.heap_library.proofs.BlockWords.{word_inside, still_intact}
+use Rattle.dlmalloc.specs.Order.{KeepsIndex}
+use Rattle.heap_library.proofs.BlockWords.{word_inside, still_intact, still_ordered}
 use Rattle.heap_library.proofs.heap.Heap.store.Goals as goal
 
 pub overflow_add-address : goal.overflow_add-address
@@ -46,3 +47,13 @@ returns-clause-block g c = subst (λ heap. HasBlock heap c.args.address) (sym (s
 
 pub returns-clause-usable : goal.returns-clause-usable
 returns-clause-usable g c = ap (λ heap. usable heap c.args.address) (same_state g c)
+
+pub returns-clause-index : goal.returns-clause-index
+returns-clause-index g c =
+    let block = subst (λ heap. HasBlock (state_of g.A.Links.word heap) c.args.address) (sym c.self.view_is) c.requires.block in
+    let within = subst (λ heap. c.args.offset + 8 ≤ usable (state_of g.A.Links.word heap) c.args.address) (sym c.self.view_is) c.requires.within in
+    let value = c.allocator_mut.ensures.value in
+    let stored = subst (λ system. IsStored (g.A.Links.regions system) (g.A.Links.word system) (c.args.address + c.args.offset) c.args.value (g.A.Links.word c.store.new.self)) value c.store.ensures.stored in
+    subst (λ heap. KeepsIndex g.A.Links.regions g.A.Links.word heap (record c.self.inside.heap { system = c.store.new.self })) c.self.view_is
+    (still_ordered g.A.Links.regions g.A.Links.word c.self.inside.heap c.self.invariant.sound c.args.address block c.order_rests_outside.ensures
+    c.args.offset c.args.value c.store.new.self within c.requires.aligned (c.store.ensures.regions ∙ ap g.A.Links.regions value) stored)

@@ -26,3 +26,11 @@ returns-clause-after g c = λ lists stands yes.
 
 pub returns-clause-kept : goal.returns-clause-kept
 returns-clause-kept g c = subst (λ pool. Keeps g.A.Links.word pool (pooled c.write.new.self.heap c.write.new.self.size c.write.new.self.places.items c.self.inside.slots.slots.items c.self.inside.slots.freed.items)) c.self.view_is (record { size = c.write.ensures.size; blocks = c.write.ensures.kept })
+
+pub returns-then-not-has-clause-heap : goal.returns-then-not-has-clause-heap
+returns-then-not-has-clause-heap g c = record {
+  state = refl;
+  regions_same = refl;
+  followed = g.A.Links.follows_none c.args.self.now.heap.system;
+  index = λ before. (before, λ n. refl);
+}

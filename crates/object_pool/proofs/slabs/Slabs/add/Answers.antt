@@ -4,7 +4,7 @@ use Rattle.dlmalloc.specs.Blocks.{IsBlock}
 use Rattle.dlmalloc.specs.Heap.{state_of}
 use Rattle.dlmalloc.specs.Served.{IsMallocRefused}
 use Rattle.object_pool.specs.Pool.{IsLaidOut}
-use Rattle.object_pool.proofs.HeapBlocks.{handed_keeps, handed_fresh, handed_only, served_once, refused_keeps}
+use Rattle.object_pool.proofs.HeapBlocks.{handed_keeps, handed_fresh, handed_only, served_once, order_once, refused_keeps}
 use Rattle.object_pool.proofs.SlabPlaces.{added_laid}
 use Rattle.object_pool.proofs.slabs.Slabs.add.Goals as goal
 
@@ -35,6 +35,8 @@ returns-in-Ok-clause-added g c =
       fresh = handed_fresh g.A.Links.regions g.A.Links.word g.A.Links.follows s.heap c.take_block.new.heap (64 * s.size) 16 c.in-Ok.address c.take_block.ensures.placed c.in-Ok.ensures.ok;
       only = handed_only g.A.Links.regions g.A.Links.word g.A.Links.follows s.heap c.take_block.new.heap (64 * s.size) 16 c.in-Ok.address c.take_block.ensures.placed c.in-Ok.ensures.ok;
       served = served_once g.A.Links.regions g.A.Links.word g.A.Links.follows s.heap c.take_block.new.heap g.A.Allocator.zeros s.size c.in-Ok.address c.in-Ok.ensures.served;
+      member = c.in-Ok.ensures.member;
+      order = order_once g.A.Links.regions g.A.Links.word g.A.Links.follows s.heap c.take_block.new.heap g.A.Allocator.zeros (64 * s.size) c.in-Ok.address c.in-Ok.ensures.served;
     }
 
 pub returns-in-Err-System-clause-kept : goal.returns-in-Err-System-clause-kept
