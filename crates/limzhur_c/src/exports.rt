@@ -9,6 +9,7 @@ ghost use Rattle.dlmalloc.specs.Written.{IsServedCleared};
 ghost use Rattle.dlmalloc.specs.Moved.{IsGivenSize, IsResized};
 ghost use Rattle.dlmalloc.specs.AfterFree.{IsFreed};
 ghost use Rattle.dlmalloc.specs.Shortened.{IsTrimmed};
+ghost use Rattle.dlmalloc.specs.Order.{KeepsIndex};
 ghost use Rattle.heap_arena.specs.Arena.{regions_of, word_of, IsAbove};
 ghost use Rattle.heap_library.specs.declared.heap_error.HeapError.{HeapError};
 ghost use Rattle.heap_library.specs.Counted.{HasBlocks};
@@ -81,7 +82,8 @@ pub extern "C" fn limzhur_free(handle: &mut Handle, address: u64) -> bool
     handle.open().free(address)
 }
 
-/// Gives memory back to the arena that no block needs, all but `pad` bytes of the top.
+/// Gives memory back to the arena that no block needs: the top keeps more than `pad` bytes. True exactly where bytes went
+/// back.
 #[unsafe(no_mangle)]
 pub extern "C" fn limzhur_trim(handle: &mut Handle, pad: u64) -> bool
     ensures { IsTrimmed regions_of word_of follows true true 1 handle.old.heap pad result handle.new.heap }
@@ -95,6 +97,7 @@ pub extern "C" fn limzhur_set_granularity(handle: &mut Handle, bytes: u64) -> bo
     ensures answer { IsTrue result ↔ IsGranularity bytes }
     ensures state { heap_state handle.new.heap ≡ record (heap_state handle.old.heap) { granularity = if result then bytes else handle.old.heap.granularity } }
     ensures system { handle.new.heap.system ≡ handle.old.heap.system }
+    ensures index { KeepsIndex regions_of word_of handle.old.heap handle.new.heap }
 {
     handle.open().set_granularity(bytes)
 }
@@ -105,6 +108,7 @@ pub extern "C" fn limzhur_set_granularity(handle: &mut Handle, bytes: u64) -> bo
 pub extern "C" fn limzhur_set_release_rate(handle: &mut Handle, rate: u64)
     ensures state { heap_state handle.new.heap ≡ record (heap_state handle.old.heap) { rate = rate; countdown = countdown_from rate } }
     ensures system { handle.new.heap.system ≡ handle.old.heap.system }
+    ensures index { KeepsIndex regions_of word_of handle.old.heap handle.new.heap }
 {
     handle.open().set_release_rate(rate);
 }

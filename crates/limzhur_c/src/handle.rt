@@ -22,6 +22,9 @@ impl Model for Handle {
     ghost also_owns = { λ h. lies_at (heap_row static_lft) full_share h.room h.heap };
 }
 
+// What it owns, the heap with its words, is no thread's own.
+unsafe impl Send for Handle {}
+
 impl Handle {
     ghost use Rattle.limzhur_c.specs.contracts.handle.Handle.{the_row};
 

@@ -1,0 +1,54 @@
+-- What the calls of page tables answer to C: a number for each refusal, and 0 for success. The names are those of limzhur_tables.h.
+use Rattle.std.specs.Prelude.{ℕ, ◌/◌, ◌%◌, ◌^◌, ◌==◌, ◌&&◌, is_some, nat_lt, if◌then◌else◌, Option, Some, None}
+use Rattle.paging_core.specs.Address.{is_canonical}
+use Rattle.paging_core.specs.Walk.{Place, large_of}
+use Rattle.kernel_tables.specs.declared.faults.MapFault.{MapFault}
+use Rattle.kernel_tables.specs.declared.faults.MapFault.TheVariants.{IsMapped, HasTable, PastLimit, InArea, NoFrames}
+use Rattle.kernel_tables.specs.declared.faults.EntryFault.{EntryFault}
+use Rattle.kernel_tables.specs.declared.faults.EntryFault.TheVariants.{NotMapped, InLargePage}
+use Rattle.paging_core.specs.Large.{slot_of}
+use Rattle.kernel_tables.specs.Faults.{map_fault, map_large_fault, entry_fault}
+use Rattle.kernel_tables.specs.TableState.{TableState}
+use Rattle.limzhur_c.specs.declared.tables_exports.PlaceOfPage.{PlaceOfPage}
+
+abbrev pub map_code : Option MapFault → ℕ
+map_code None = 0
+map_code (Some IsMapped) = 2
+map_code (Some PastLimit) = 3
+map_code (Some InArea) = 4
+map_code (Some NoFrames) = 5
+map_code (Some HasTable) = 8
+
+abbrev pub entry_code : Option EntryFault → ℕ
+entry_code None = 0
+entry_code (Some NotMapped) = 6
+entry_code (Some InLargePage) = 7
+
+-- the answer to a request that the page of an address be mapped to a frame
+abbrev pub map_answer : TableState → ℕ → ℕ → ℕ
+map_answer tables address frame =
+    (if is_canonical address then (if nat_lt frame (2 ^ 40) then map_code (map_fault tables (address / 4096) frame) else 3) else 1)
+
+-- the answer to a request that the 2 MiB from an address on be mapped by one entry to the 512 frames from `frame` on
+abbrev pub map_large_answer : TableState → ℕ → ℕ → ℕ
+map_large_answer tables address frame =
+    (if is_canonical address
+    then (if address % 2 ^ 21 == 0 && frame % 512 == 0
+    then (if nat_lt frame (2 ^ 40) then map_code (map_large_fault tables (address / 2 ^ 21) (frame / 512)) else 3)
+    else 9)
+    else 1)
+
+-- the answer to a request that the entry of the 2 MiB from an address on be taken away
+abbrev pub unmap_large_answer : TableState → ℕ → ℕ
+unmap_large_answer tables address =
+    (if is_canonical address
+    then (if address % 2 ^ 21 == 0 then (if is_some (large_of tables.words tables.root (slot_of (address / 2 ^ 21))) then 0 else 6) else 9)
+    else 1)
+
+-- the answer to a request that the entry of the page of an address be changed
+abbrev pub entry_answer : TableState → ℕ → ℕ
+entry_answer tables address = (if is_canonical address then entry_code (entry_fault tables (address / 4096)) else 1)
+
+-- the place that C is told
+abbrev pub place_told : PlaceOfPage → Place
+place_told told = record { frame = told.frame; write = told.write; user = told.user; fetch = told.fetch }
