@@ -8,7 +8,7 @@ unfolding encode_with
 encode_with-append t [] ys = refl
 encode_with-append t (x ∷ xs) ys = ap (λ (l : List ℕ). slice_index t (x / 16) ∷ slice_index t (x % 16) ∷ l) (encode_with-append t xs ys)
 
-small_at : (t : List ℕ) (k : ℕ) → AllByRecursion (λ b. b < 128) t → slice_index t k < 128
+pub small_at : (t : List ℕ) (k : ℕ) → AllByRecursion (λ b. b < 128) t → slice_index t k < 128
 small_at [] k all = lit≤ tt
 small_at (x ∷ xs) zero all = all.0
 small_at (x ∷ xs) (suc k) all = small_at xs k all.1

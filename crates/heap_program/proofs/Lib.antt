@@ -1,9 +1,12 @@
+pub mod Blocks
 pub mod Commands
+pub mod Decoded
 pub mod Draws
 pub mod Endings
 pub mod Errors
 mod Examples
 pub mod Fits
+pub mod Found
 pub mod Hexes
 pub mod Known
 pub mod LineLemmas

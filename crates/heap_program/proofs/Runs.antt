@@ -20,6 +20,18 @@ module _ {R : Type 0} (responds : R → List (Option Call) → List ℕ → R �
     responses = responses;
   }
 
+  -- a whole line where none had begun
+  pub responded_whole : (x y : R) (before line told after : List ℕ) → before ≡ [] → after ≡ before → IsOneLine line → responds x (item_of line ∷ []) told y → Responded responds x before (line ++ 10 ∷ []) told after y
+  responded_whole x y before line told after none same one responses = record {
+    items = item_of line ∷ [];
+    read = λ rest.
+        ap (λ (l : List ℕ). items_of (l ++ ((line ++ 10 ∷ []) ++ rest))) none
+        ∙ ap items_of (append_assoc line (10 ∷ []) rest)
+        ∙ items-whole line rest one
+        ∙ ap (λ (l : List ℕ). item_of line ∷ items_of (l ++ rest)) (sym (same ∙ none));
+    responses = responses;
+  }
+
   -- some bytes, and then some more
   pub responded_more :
       ((x y z : R) (a b : List (Option Call)) (t u : List ℕ) → responds x a t y → responds y b u z → responds x (a ++ b) (t ++ u) z) →

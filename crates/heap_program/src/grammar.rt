@@ -3,9 +3,9 @@ ghost use Rattle.std.specs.Prelude.{◌≡◌, IfOk, MatchOption, Some, None};
 ghost use Rattle.heap_program.specs.Grammar.{one_number, two_numbers, request_of, malloc_of, calloc_of, realloc_of, c_realloc_of, free_of, bytes_of, write_call, write_of, read_of, right_of, rights_of_letters, map_of, unmap_of, access_of, user_of, probe_of, trim_of, rate_of, granularity_of, alone, call_of, item_of};
 ghost use Rattle.heap_program.specs.Words.{words_of};
 
+use crate::decode::decode;
 use crate::number::number;
-use crate::words::Words;
-use hex::FromHexError;
+use crate::words::{Words, is_word};
 use kernel_heap::{Access, Bytes, Call, Rights};
 use std::alloc::{AllocError, Global};
 
@@ -111,11 +111,7 @@ fn bytes(alloc: Global, word: &[u8]) -> Result<Option<Bytes>, AllocError>
     if word.is_empty() {
         return Ok(None);
     }
-    match hex::decode(alloc, word) {
-        Ok(bytes) => Ok(Some(Bytes::from_vec(bytes))),
-        Err(FromHexError::OutOfMemory) => Err(AllocError),
-        Err(_) => Ok(None),
-    }
+    decode(alloc, word)
 }
 
 // The words behind `write`, the first two as numbers.
@@ -277,35 +273,35 @@ fn call_of(alloc: Global, line: &[u8]) -> Result<Option<Call>, AllocError>
     let Some(name) = words.next_word() else {
         return Ok(None);
     };
-    if name == b"malloc".as_slice() {
+    if is_word(name, b"malloc") {
         Ok(malloc(&mut words))
-    } else if name == b"calloc".as_slice() {
+    } else if is_word(name, b"calloc") {
         Ok(calloc(&mut words))
-    } else if name == b"realloc".as_slice() {
+    } else if is_word(name, b"realloc") {
         Ok(realloc(&mut words))
-    } else if name == b"c_realloc".as_slice() {
+    } else if is_word(name, b"c_realloc") {
         Ok(c_realloc(&mut words))
-    } else if name == b"free".as_slice() {
+    } else if is_word(name, b"free") {
         Ok(free(&mut words))
-    } else if name == b"write".as_slice() {
+    } else if is_word(name, b"write") {
         write(alloc, &mut words)
-    } else if name == b"read".as_slice() {
+    } else if is_word(name, b"read") {
         Ok(read(&mut words))
-    } else if name == b"map".as_slice() {
+    } else if is_word(name, b"map") {
         Ok(map(&mut words))
-    } else if name == b"unmap".as_slice() {
+    } else if is_word(name, b"unmap") {
         Ok(unmap(&mut words))
-    } else if name == b"probe".as_slice() {
+    } else if is_word(name, b"probe") {
         Ok(probe(&mut words))
-    } else if name == b"trim".as_slice() {
+    } else if is_word(name, b"trim") {
         Ok(trim(&mut words))
-    } else if name == b"rate".as_slice() {
+    } else if is_word(name, b"rate") {
         Ok(rate(&mut words))
-    } else if name == b"granularity".as_slice() {
+    } else if is_word(name, b"granularity") {
         Ok(granularity(&mut words))
-    } else if name == b"reset".as_slice() {
+    } else if is_word(name, b"reset") {
         Ok(alone(&mut words, Call::Reset))
-    } else if name == b"extents".as_slice() {
+    } else if is_word(name, b"extents") {
         Ok(alone(&mut words, Call::Extents))
     } else {
         Ok(None)

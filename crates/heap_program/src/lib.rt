@@ -4,6 +4,8 @@
 mod answering;
 mod arguments;
 mod command;
+mod decode;
+mod digits;
 mod ended;
 mod generate;
 mod generator;
@@ -14,6 +16,7 @@ mod memory;
 mod number;
 mod respond;
 mod run;
+mod search;
 mod session;
 mod sink;
 mod source;

@@ -35,8 +35,8 @@ fn numeral(base: u32, most: usize, digits: &[u8]) -> Option<u64>
 pub fn number(word: &[u8]) -> Option<u64>
     ensures { result ≡ number_of word.now }
 {
-    match word.strip_prefix(b"0x".as_slice()) {
-        Some(digits) => numeral(16, 16, digits),
-        None => numeral(10, 20, word),
+    match word {
+        [b'0', b'x', digits @ ..] => numeral(16, 16, digits),
+        _ => numeral(10, 20, word),
     }
 }

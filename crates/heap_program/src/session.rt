@@ -1,5 +1,5 @@
 // What responds to the lines, the line that has begun and the text that is not yet written.
-ghost use Rattle.std.specs.Prelude.{◌≡◌, ◌∷◌, [], ◌<◌, ◌≤◌, IfOk, OnOk, length, slice_index, take, string_bytes};
+ghost use Rattle.std.specs.Prelude.{◌≡◌, ◌∷◌, [], ◌++◌, ◌<◌, ◌≤◌, IfOk, OnOk, length, slice_index, take, string_bytes};
 ghost use Rattle.heap_model.specs.State.{State};
 ghost use Rattle.heap_program.specs.Grammar.{item_of};
 ghost use Rattle.heap_program.specs.Lines.{items_of, IsOneLine};
@@ -10,6 +10,7 @@ ghost use Rattle.heap_program.specs.Responses.{HasResponded};
 use crate::grammar::parse_call;
 use crate::line::Line;
 use crate::respond::Respond;
+use crate::search::first_of;
 use crate::text::push_end;
 use kernel_heap::Machine;
 use std::alloc::{AllocError, Global};
@@ -32,12 +33,10 @@ fn line_length(bytes: &[u8]) -> usize
     ensures line { IsOneLine (take result bytes.now) }
     ensures feed { result < length bytes.now → slice_index bytes.now result ≡ 10 }
 {
-    for k in 0..bytes.len() {
-        if bytes[k] == b'\n' {
-            return k;
-        }
+    match first_of(b'\n', bytes) {
+        Some(feed) => feed,
+        None => bytes.len(),
     }
-    bytes.len()
 }
 
 impl<R: Respond + Drop> Session<R> {
@@ -53,6 +52,16 @@ impl<R: Respond + Drop> Session<R> {
             line: Line::new(alloc),
             output: String::new(alloc),
         }
+    }
+
+    // Responds to a whole line, of which no byte was kept, at its line feed.
+    fn whole_line(&mut self, line: &[u8]) -> Result<(), AllocError>
+        requires one_line { IsOneLine line.now }
+        requires none_begun { self.old.line ≡ [] }
+        ensures { OnOk result (Advanced R.responds self.old self.new (line.now ++ 10 ∷ [])) }
+    {
+        let item = parse_call(self.alloc, line)?;
+        self.responder.respond(item, &mut self.output)
     }
 
     // Responds to the line that has begun, which is then no other.
@@ -82,6 +91,18 @@ impl<R: Respond + Drop> Session<R> {
         self.line.extend(bytes)
     }
 
+    // Takes the last bytes of a line, and its line feed.
+    fn end_at(&mut self, bytes: &[u8]) -> Result<(), AllocError>
+        requires { IsOneLine bytes.now }
+        ensures { OnOk result (Advanced R.responds self.old self.new (bytes.now ++ 10 ∷ [])) }
+    {
+        if self.line.bytes().is_empty() {
+            return self.whole_line(bytes);
+        }
+        self.go_on(bytes)?;
+        self.end_line()
+    }
+
     // Takes bytes to the end of the first line that ends among them, or all, and says how many.
     fn feed_line(&mut self, bytes: &[u8]) -> Result<usize, AllocError>
         requires some { 0 < length bytes.now }
@@ -90,11 +111,11 @@ impl<R: Respond + Drop> Session<R> {
         ensures fed { IfOk result (λ count. Advanced R.responds self.old self.new (take count bytes.now)) }
     {
         let length = line_length(bytes);
-        self.go_on(&bytes[..length])?;
         if length == bytes.len() {
+            self.go_on(&bytes[..length])?;
             return Ok(length);
         }
-        self.end_line()?;
+        self.end_at(&bytes[..length])?;
         Ok(length + 1)
     }
 

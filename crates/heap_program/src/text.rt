@@ -1,12 +1,12 @@
 // What is printed.
-ghost use Rattle.std.specs.Prelude.{◌≡◌, ◌<◌, [], ◌∷◌, ◌++◌, codes, slice_index, IfOk, OnOk, string_bytes};
+ghost use Rattle.std.specs.Prelude.{◌≡◌, ◌++◌, codes, IfOk, OnOk, string_bytes};
 ghost use Rattle.std.specs.List.{flat_map};
-ghost use Rattle.hex.specs.Hex.{encode_lower, lower_digits};
 ghost use Rattle.heap_model.specs.State.{State};
 ghost use Rattle.heap_model.specs.Machine.{Stands};
 ghost use Rattle.kernel_heap.specs.Machine.{seen};
 ghost use Rattle.heap_program.specs.Text.{text_of, reply_text, bytes_text, refusal_word, truth_word, span_text, spaced, hexadecimal, kind_word, extent_text, pages_text, regions_text, heap_line, large_line, right_text, rights_text, owner_text, region_line, counts_line, tally_line, end_text_of};
 
+use crate::digits::{push_block, push_digits};
 use bitflags::Flags;
 use kernel_heap::{
     Answer, Bytes, Extent, Kind, Machine, Refusal, Region, RegionList, Reply, Rights, SlotList,
@@ -57,36 +57,6 @@ fn push_span(out: &mut String, start: u64, size: u64) -> Result<(), AllocError>
     write!(out, "0x{start:x}+{size}")
 }
 
-// The digits of the values below 16.
-const DIGITS: [u8; 16] = *b"0123456789abcdef";
-
-#[tactic(auto, using(crate::proofs::Hexes::lower_small))]
-fn push_digit(out: &mut String, value: u8) -> Result<(), AllocError>
-    requires { value < 16 }
-    ensures { OnOk result (string_bytes out.new ≡ string_bytes out.old ++ slice_index lower_digits value ∷ []) }
-{
-    out.push(char::from(DIGITS[usize::from(value)]))
-}
-
-#[tactic(auto, unfolding(hex::specs::Hex::encode_with))]
-fn push_byte(out: &mut String, byte: u8) -> Result<(), AllocError>
-    ensures { OnOk result (string_bytes out.new ≡ string_bytes out.old ++ encode_lower (byte ∷ [])) }
-{
-    push_digit(out, byte / 16)?;
-    push_digit(out, byte % 16)
-}
-
-// Bytes as two digits each.
-fn push_digits(out: &mut String, bytes: &[u8]) -> Result<(), AllocError>
-    ensures { OnOk result (string_bytes out.new ≡ string_bytes out.old ++ encode_lower bytes.now) }
-{
-    out.reserve(bytes.len().saturating_mul(2))?;
-    for byte in bytes {
-        push_byte(out, *byte)?;
-    }
-    Ok(())
-}
-
 // Bytes as two digits each, behind a space where there are bytes.
 fn push_bytes(out: &mut String, bytes: &[u8]) -> Result<(), AllocError>
     ensures { OnOk result (string_bytes out.new ≡ string_bytes out.old ++ bytes_text bytes.now) }
@@ -122,10 +92,7 @@ fn push_reply(out: &mut String, reply: &Reply) -> Result<(), AllocError>
     ensures { OnOk result (string_bytes out.new ≡ string_bytes out.old ++ reply_text reply.now) }
 {
     match reply {
-        Reply::Block { number, address } => {
-            let (number, address) = (*number, *address);
-            writeln!(out, "block {number} 0x{address:x}")
-        }
+        Reply::Block { number, address } => { push_block(out, *number, *address) }
         Reply::Done => out.push_str("done\n"),
         Reply::Bytes(bytes) => {
             out.push_str("bytes")?;

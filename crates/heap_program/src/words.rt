@@ -1,13 +1,25 @@
 // The words of a line.
-ghost use Rattle.std.specs.Prelude.{◌≡◌, ◌==◌, ◌∷◌, [], MatchOption, position};
+ghost use Rattle.std.specs.Prelude.{◌≡◌, ◌∷◌, [], MatchOption};
+ghost use Rattle.std.specs.Str.{bytes_eq};
 ghost use Rattle.heap_program.specs.Words.{words_of};
 
+use crate::search::first_of;
 use std::marker::Model;
 
-fn first_space(bytes: &[u8]) -> Option<usize>
-    ensures { result ≡ position (λ b. b == 32) bytes.now }
+/// Whether a word is this one.
+#[inline(always)]
+pub fn is_word(word: &[u8], name: &[u8]) -> bool
+    ensures { result ≡ bytes_eq word.now name.now }
 {
-    bytes.iter().position(|byte| *byte == b' ')
+    if word.len() != name.len() {
+        return false;
+    }
+    for k in 0..name.len() {
+        if word[k] != name[k] {
+            return false;
+        }
+    }
+    true
 }
 
 /// The words of a line that are left, from the first on. Words stand between single spaces.
@@ -39,7 +51,7 @@ impl<'a> Words<'a> {
         ensures { MatchOption result ((self.old ≡ []) × (self.new ≡ [])) (λ word. self.old ≡ word.now ∷ self.new) }
     {
         let rest = self.rest?;
-        match first_space(rest) {
+        match first_of(b' ', rest) {
             Some(at) => {
                 self.rest = Some(&rest[at + 1..]);
                 Some(&rest[..at])

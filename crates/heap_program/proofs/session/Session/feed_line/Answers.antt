@@ -1,7 +1,6 @@
 use Rattle.std.proofs.Common.{◌∷◌, [], ◌++◌, ◌<◌, length, take, ap, ◌∙◌, sym, subst, arith}
 use Rattle.std.proofs.lemmas.List.{take_more}
 use Rattle.heap_program.specs.Advanced.{Advanced}
-use Rattle.heap_program.proofs.Sessions.{advanced_more}
 use Rattle.heap_program.proofs.session.Session.feed_line.Goals as goal
 
 pub returns-clause-fed : goal.returns-clause-fed
@@ -11,5 +10,5 @@ returns-clause-fed g c =
     let few = c.line_length-length.ensures.few in
     let less : n < length bytes = grind (arith, few, c.if-length-bytes.false) in
     let feed = c.line_length-length.ensures.feed less in
-    subst (Advanced g.R.Respond.responds c.args.self.now c.end_line.new.self) (ap (λ byte. take n bytes ++ byte ∷ []) (sym feed) ∙ sym (take_more bytes n 0 less))
-    (advanced_more g.R.Respond.responds g.met.R.Respond.responds_on c.args.self.now c.go_on.new.self c.end_line.new.self (take n bytes) (10 ∷ []) c.in_ok-go_on.ensures c.in_ok-end_line.ensures)
+    subst (Advanced g.R.Respond.responds c.args.self.now c.end_at.new.self) (ap (λ byte. take n bytes ++ byte ∷ []) (sym feed) ∙ sym (take_more bytes n 0 less))
+    c.in_ok-end_at.ensures

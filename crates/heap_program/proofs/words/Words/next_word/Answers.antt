@@ -18,7 +18,7 @@ returns-in-Some c =
     let at = c.in-Some.at in
     sym c.self.view_is
     ∙ ap left c.in_ok-rest.was
-    ∙ split_at (λ (b : ℕ). b == 32) rest 0 at (sym c.first_space.ensures ∙ c.in-Some.is)
+    ∙ split_at (λ (b : ℕ). b == 32) rest 0 at (sym c.first_of.ensures ∙ c.in-Some.is)
     ∙ ap (λ (l : List ℕ). take at rest ∷ words_of l) (sym (take_rest rest (at + 1)))
 
 pub returns-in-None : goal.returns-in-None
@@ -27,4 +27,4 @@ returns-in-None c =
     let rest = c.in_ok-rest.rest.now in
     sym c.self.view_is
     ∙ ap left c.in_ok-rest.was
-    ∙ split_whole (λ (b : ℕ). b == 32) rest (sym c.first_space.ensures ∙ c.in-None.is)
+    ∙ split_whole (λ (b : ℕ). b == 32) rest (sym c.first_of.ensures ∙ c.in-None.is)
