@@ -27,10 +27,10 @@ rows_words rows = commas rows ++ (if nat_eq rows 1 then codes " row" else codes 
 -- rows that lie wholly in one extent: a thin line, with their number
 unfoldable pub whole_text : ℕ → ℕ → ℕ → Piece → List ℕ
 whole_text row base y piece =
-    text_at (codes "m e faint") 134 (y + 11) (hexadecimal base)
-    ++ (titled (colour piece.of.kind) 144 y 1024 14 (extent_title piece.of)
-    ++ ((if nat_eq piece.start piece.of.at then label_text 149 (y + 11) 1024 piece.of else [])
-    ++ text_at (codes "m e faint") 1280 (y + 11) (rows_words ((piece.end - piece.start) / row))))
+    text_at (codes "m e faint") 134 (y + 13) (hexadecimal base)
+    ++ (titled (colour piece.of.kind) 144 (y + 2) 1024 14 (extent_title piece.of)
+    ++ ((if nat_eq piece.start piece.of.at then label_text 149 (y + 13) 1024 piece.of else [])
+    ++ text_at (codes "m e faint") 1280 (y + 13) (rows_words ((piece.end - piece.start) / row))))
 
 -- the address at which the row of a line begins; addresses are below 2 ^ 64
 abbrev pub row_base : ℕ → List Piece → ℕ

@@ -66,10 +66,10 @@ fn push_whole(
     requires y { y < 2 ^ 100 }
     ensures { OnOk result (string_bytes out.new ≡ string_bytes out.old ++ whole_text row base y piece) }
 {
-    push_place(alloc, out, y + 11, base)?;
+    push_place(alloc, out, y + 13, base)?;
     let area = Area {
         x: 144,
-        y,
+        y: y + 2,
         width: 1024,
         height: 14,
     };
@@ -77,11 +77,11 @@ fn push_whole(
     push_title(&mut title, piece.of)?;
     push_titled(out, colour(piece.of.kind), area, title.as_str())?;
     if piece.start == u128::from(piece.of.at) {
-        push_label(alloc, out, 149, y + 11, 1024, piece.of)?;
+        push_label(alloc, out, 149, y + 13, 1024, piece.of)?;
     }
     let mut words = String::new(alloc);
     push_rows_words(&mut words, piece.end.saturating_sub(piece.start) / row)?;
-    push_text(out, "m e faint", 1280, y + 11, words.as_str())
+    push_text(out, "m e faint", 1280, y + 13, words.as_str())
 }
 
 // The address at which the row of a line begins.

@@ -1,7 +1,4 @@
-pub mod Lists
-pub mod Rows
-pub mod Groups
-pub mod Drawing
-pub mod RegionTexts
+pub mod Joins
+pub mod Larges
 pub mod Slots
 pub mod Pictures

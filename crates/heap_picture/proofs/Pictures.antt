@@ -1,20 +1,24 @@
 -- The parts of a picture, one behind the other.
-use Rattle.std.proofs.Common.{◌≡◌, ◌<◌, ℕ, ◌+◌, ◌*◌, ◌^◌, List, ◌++◌, codes, ◌∙◌, ap, arith, append_assoc}
+use Rattle.std.proofs.Common.{◌≡◌, ◌<◌, ◌≤◌, ℕ, ◌+◌, ◌*◌, ◌^◌, List, [], ◌∷◌, ◌++◌, length, get_or, take, drop, codes, sym, ◌∙◌, ap, arith, append_assoc}
 use Rattle.std.specs.Prelude.{Result, Ok, Err, is_ok, OnOk, if◌then◌else◌}
+use Rattle.std.proofs.lemmas.List.{append-nil, drop_all}
 use Rattle.dlmalloc_chunks.specs.declared.extent.Extent.{Extent}
+use Rattle.paging_core.specs.Pool.{free_count}
 use Rattle.heap_model.specs.declared.region.Region.{Region}
 use Rattle.heap_model.specs.State.{State, total_pages}
 use Rattle.heap_model.specs.Place.{all_regions}
+use Rattle.heap_model.specs.Tables.{free_frames}
 use Rattle.kernel_heap.specs.System.{paged}
 use Rattle.kernel_heap.specs.Machine.{system_of}
 use Rattle.kernel_heap.specs.declared.machine.Machine.{Machine}
-use Rattle.heap_program.specs.Progress.{IsAt}
 use Rattle.kernel_heap.specs.declared.paged_system.PagedSystem.{PagedSystem}
-use Rattle.heap_figures.specs.Text.{figures_text}
-use Rattle.heap_picture.specs.Layout.{figures_top}
-use Rattle.heap_picture.specs.Scale.{all_rows}
-use Rattle.heap_picture.specs.Regions.{regions_from}
-use Rattle.heap_picture.specs.Picture.{picture_of, figure_lines, head_text, map_text, regions_frame, regions_text, figures_head, numbers_text}
+use Rattle.heap_program.specs.Progress.{IsAt}
+use Rattle.heap_map.specs.Map.{map_text, lines_number, below_lines}
+use Rattle.heap_picture.specs.Large.{larges_in}
+use Rattle.heap_picture.specs.Lines.{region_lines, most_pages}
+use Rattle.heap_picture.specs.Regions.{line_words, bar_text, larges_text, line_text, lines_text, lines_shown, more_text, list_text, heading_text, regions_text}
+use Rattle.heap_picture.specs.Picture.{picture_of, head_text}
+use Rattle.heap_picture.proofs.Joins.{rest_at}
 
 -- what a text is after bytes were put at its end
 pub pushed : {T E : Type 0} (r : Result T E) (new after before : List ℕ) → new ≡ (if is_ok r then after else before) → OnOk r (new ≡ after)
@@ -29,54 +33,82 @@ few_pages system regions is =
     let same = ap total_pages is in
     omega (arith, count, few, same)
 
--- the frame of the regions, the regions, and the end of the frame
-pub regions_whole : (s : State) (rows : ℕ) (regions : List Region) (old one two new : List ℕ) → regions ≡ all_regions s → one ≡ old ++ regions_frame rows (total_pages regions) →
-    two ≡ one ++ regions_from s.large 0 regions → new ≡ two ++ codes "</svg>\n" → new ≡ old ++ regions_text s rows
+-- the words of a line, its bar, and its large pages
+pub line_whole : (large : List ℕ) (y most : ℕ) (line : Region) (larges : ℕ) (old one two new : List ℕ) → larges ≡ larges_in large line → one ≡ old ++ line_words y line → two ≡ one ++ bar_text y most line →
+    new ≡ two ++ larges_text y most line.pages larges → new ≡ old ++ line_text large most y line
+unfolding line_text
+line_whole large y most line larges old one two new are first second last =
+    let words = line_words y line in
+    let bar = bar_text y most line in
+    let more = larges_text y most line.pages larges in
+    last
+    ∙ ap (λ (t : List ℕ). t ++ more) (second ∙ ap (λ (t : List ℕ). t ++ bar) first)
+    ∙ append_assoc (old ++ words) bar more
+    ∙ append_assoc old words (bar ++ more)
+    ∙ ap (λ (n : ℕ). old ++ (words ++ (bar ++ larges_text y most line.pages n))) are
+
+lines_more : (large : List ℕ) (most y : ℕ) (lines : List Region) (i : ℕ) (d : Region) → i < length lines →
+    lines_text large most y (drop i lines) ≡ line_text large most y (get_or lines i d) ++ lines_text large most (y + 25) (drop (i + 1) lines)
+lines_more large most y lines i d within = ap (lines_text large most y) (rest_at lines i d within)
+
+-- the text with one line more, and the rest below it
+pub lines_put : (large : List ℕ) (most y y' : ℕ) (lines : List Region) (i : ℕ) (d : Region) (out new text : List ℕ) → i < length lines → y' ≡ y + 25 → new ≡ out ++ line_text large most y (get_or lines i d) →
+    out ++ lines_text large most y (drop i lines) ≡ text → new ++ lines_text large most y' (drop (i + 1) lines) ≡ text
+lines_put large most y y' lines i d out new text within below put whole =
+    let line = line_text large most y (get_or lines i d) in
+    ap (λ (t : List ℕ). t ++ lines_text large most y' (drop (i + 1) lines)) put
+    ∙ ap (λ (n : ℕ). (out ++ line) ++ lines_text large most n (drop (i + 1) lines)) below
+    ∙ append_assoc out line (lines_text large most (y + 25) (drop (i + 1) lines))
+    ∙ ap (λ (t : List ℕ). out ++ t) (sym (lines_more large most y lines i d within))
+    ∙ whole
+
+-- no line is below the last one
+pub lines_end : (large : List ℕ) (most y : ℕ) (lines : List Region) (i : ℕ) (out text : List ℕ) → length lines ≤ i → out ++ lines_text large most y (drop i lines) ≡ text → out ≡ text
+lines_end large most y lines i out text all is =
+    sym (ap (λ (rs : List Region). out ++ lines_text large most y rs) (drop_all i lines all) ∙ append-nil out) ∙ is
+
+-- the lines that have room, and the others counted
+pub list_whole : (large : List ℕ) (y most shown : ℕ) (lines front back : List Region) (old one new : List ℕ) → most ≡ most_pages lines → shown ≡ lines_shown (length lines) → front ≡ take shown lines → back ≡ drop shown lines →
+    one ≡ old ++ lines_text large most y front → new ≡ one ++ more_text (y + 150) back → new ≡ old ++ list_text large y lines
+unfolding list_text
+list_whole large y most shown lines front back old one new most_is shown_is front_is back_is first last =
+    last
+    ∙ ap (λ (t : List ℕ). t ++ more_text (y + 150) back) first
+    ∙ append_assoc old (lines_text large most y front) (more_text (y + 150) back)
+    ∙ ap (λ (rs : List Region). old ++ (lines_text large most y rs ++ more_text (y + 150) back)) front_is
+    ∙ ap (λ (rs : List Region). old ++ (lines_text large most y (take shown lines) ++ more_text (y + 150) rs)) back_is
+    ∙ ap (λ (n : ℕ). old ++ (lines_text large n y (take shown lines) ++ more_text (y + 150) (drop shown lines))) most_is
+    ∙ ap (λ (n : ℕ). old ++ (lines_text large (most_pages lines) y (take n lines) ++ more_text (y + 150) (drop n lines))) shown_is
+
+-- the heading, and the lines, of what a machine tells of its system
+pub regions_whole : (machine : Machine) (s : State) (y : ℕ) (system : PagedSystem) (list lines : List Region) (frames tables : ℕ) (old one new : List ℕ) → IsAt machine s →
+    system ≡ system_of machine.heap → list ≡ (paged system).regions → lines ≡ region_lines list → frames ≡ free_count (paged system).free → tables ≡ (paged system).tables →
+    one ≡ old ++ heading_text y frames tables → new ≡ one ++ list_text s.large (y + 26) lines → new ≡ old ++ regions_text y s
 unfolding regions_text
-regions_whole s rows regions old one two new are first second last =
-    let frame = regions_frame rows (total_pages regions) in
-    let texts = regions_from s.large 0 regions in
+regions_whole machine s y system list lines frames tables old one new at is listed lines_are frames_are tables_are first last =
+    let regions : list ≡ all_regions s = listed ∙ ap (λ (p : PagedSystem). (paged p).regions) is ∙ at.stands.regions in
+    let free : frames ≡ free_frames s = frames_are ∙ ap (λ (p : PagedSystem). free_count (paged p).free) is ∙ at.stands.free_frames in
+    let count : tables ≡ 1 + length s.tables = tables_are ∙ ap (λ (p : PagedSystem). (paged p).tables) is ∙ at.stands.table_count in
     last
-    ∙ ap (λ (t : List ℕ). t ++ codes "</svg>\n") (second ∙ ap (λ (t : List ℕ). t ++ texts) first)
-    ∙ append_assoc (old ++ frame) texts (codes "</svg>\n")
-    ∙ append_assoc old frame (texts ++ codes "</svg>\n")
-    ∙ ap (λ (rs : List Region). old ++ (regions_frame rows (total_pages rs) ++ (regions_from s.large 0 rs ++ codes "</svg>\n"))) are
+    ∙ ap (λ (t : List ℕ). t ++ list_text s.large (y + 26) lines) first
+    ∙ append_assoc old (heading_text y frames tables) (list_text s.large (y + 26) lines)
+    ∙ ap (λ (rs : List Region). old ++ (heading_text y frames tables ++ list_text s.large (y + 26) rs)) (lines_are ∙ ap region_lines regions)
+    ∙ ap (λ (n : ℕ). old ++ (heading_text y n tables ++ list_text s.large (y + 26) (region_lines (all_regions s)))) free
+    ∙ ap (λ (n : ℕ). old ++ (heading_text y (free_frames s) n ++ list_text s.large (y + 26) (region_lines (all_regions s)))) count
 
--- and so of the regions of a machine
-pub regions_seen : (machine : Machine) (s : State) (rows : ℕ) (system : PagedSystem) (list regions : List Region) (pages : ℕ) (old one two new : List ℕ) → IsAt machine s →
-    system ≡ system_of machine.heap → list ≡ (paged system).regions → regions ≡ list → pages ≡ total_pages regions → one ≡ old ++ regions_frame rows pages → two ≡ one ++ regions_from s.large 0 regions →
-    new ≡ two ++ codes "</svg>\n" → new ≡ old ++ regions_text s rows
-regions_seen machine s rows system list regions pages old one two new at is listed same sum first second last =
-    regions_whole s rows regions old one two new (same ∙ listed ∙ ap (λ (y : PagedSystem). (paged y).regions) is ∙ at.stands.regions) (first ∙ ap (λ (n : ℕ). old ++ regions_frame rows n) sum) second last
-
--- the head of the figures, the figures, and the end of the document
-pub numbers_whole : (rows live peak : ℕ) (extents : List Extent) (top : ℕ) (old one two new : List ℕ) → top ≡ figures_top rows → one ≡ old ++ figures_head top →
-    two ≡ one ++ figures_text (codes "<tspan x=\"8\" dy=\"18\">") (codes "</tspan>\n") live peak extents → new ≡ two ++ codes "</text>\n</svg>\n" → new ≡ old ++ numbers_text rows live peak extents
-unfolding numbers_text
-numbers_whole rows live peak extents top old one two new is first second last =
-    let figures = figures_text (codes "<tspan x=\"8\" dy=\"18\">") (codes "</tspan>\n") live peak extents in
-    let end = codes "</text>\n</svg>\n" in
-    last
-    ∙ ap (λ (t : List ℕ). t ++ end) (second ∙ ap (λ (t : List ℕ). t ++ figures) first)
-    ∙ append_assoc (old ++ figures_head top) figures end
-    ∙ append_assoc old (figures_head top) (figures ++ end)
-    ∙ ap (λ (n : ℕ). old ++ (figures_head n ++ (figures ++ end))) is
-
--- the head, the map, the regions and the figures
-pub picture_whole : (legend : List ℕ) (s : State) (live peak : ℕ) (extents : List Extent) (rows lines top : ℕ) (old one two three new : List ℕ) → rows ≡ all_rows extents →
-    lines ≡ figure_lines live peak extents → top ≡ figures_top rows → one ≡ old ++ head_text legend (top + 18 * lines + 16) → two ≡ one ++ map_text extents →
-    three ≡ two ++ regions_text s rows → new ≡ three ++ numbers_text rows live peak extents → new ≡ old ++ picture_of legend s live peak extents
+-- the head, the map, the regions, and the end of the document
+pub picture_whole : (style : List ℕ) (s : State) (live peak : ℕ) (extents : List Extent) (lines : ℕ) (old one two three new : List ℕ) → lines ≡ lines_number extents →
+    one ≡ old ++ head_text style (194 + 23 * lines + 210) → two ≡ one ++ map_text live peak extents → three ≡ two ++ regions_text (194 + 23 * lines) s → new ≡ three ++ codes "</svg>\n" →
+    new ≡ old ++ picture_of style s live peak extents
 unfolding picture_of
-picture_whole legend s live peak extents rows lines top old one two three new rows_are lines_are top_is first second third last =
-    let head = head_text legend (top + 18 * lines + 16) in
-    let map = map_text extents in
-    let regions = regions_text s rows in
-    let numbers = numbers_text rows live peak extents in
+picture_whole style s live peak extents lines old one two three new are first second third last =
+    let head = head_text style (194 + 23 * lines + 210) in
+    let map = map_text live peak extents in
+    let regions = regions_text (194 + 23 * lines) s in
+    let end = codes "</svg>\n" in
     last
-    ∙ ap (λ (t : List ℕ). t ++ numbers) (third ∙ ap (λ (t : List ℕ). t ++ regions) (second ∙ ap (λ (t : List ℕ). t ++ map) first))
-    ∙ append_assoc ((old ++ head) ++ map) regions numbers
-    ∙ append_assoc (old ++ head) map (regions ++ numbers)
-    ∙ append_assoc old head (map ++ (regions ++ numbers))
-    ∙ ap (λ (t : ℕ). old ++ (head_text legend (t + 18 * lines + 16) ++ (map ++ (regions ++ numbers)))) top_is
-    ∙ ap (λ (n : ℕ). old ++ (head_text legend (figures_top rows + 18 * n + 16) ++ (map ++ (regions ++ numbers)))) lines_are
-    ∙ ap (λ (r : ℕ). old ++ (head_text legend (figures_top r + 18 * figure_lines live peak extents + 16) ++ (map ++ (regions_text s r ++ numbers_text r live peak extents)))) rows_are
+    ∙ ap (λ (t : List ℕ). t ++ end) (third ∙ ap (λ (t : List ℕ). t ++ regions) (second ∙ ap (λ (t : List ℕ). t ++ map) first))
+    ∙ append_assoc ((old ++ head) ++ map) regions end
+    ∙ append_assoc (old ++ head) map (regions ++ end)
+    ∙ append_assoc old head (map ++ (regions ++ end))
+    ∙ ap (λ (n : ℕ). old ++ (head_text style (below_lines n + 210) ++ (map ++ (regions_text (below_lines n) s ++ end)))) are

@@ -1,7 +1,6 @@
 pub mod Drawn
-pub mod Layout
-pub mod Legend
+pub mod Large
+pub mod Lines
 pub mod Picture
 pub mod Regions
-pub mod Scale
-pub mod Shape
+pub mod Style

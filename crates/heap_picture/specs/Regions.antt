@@ -1,40 +1,93 @@
--- The regions of the heap and the user, and the slots that are large pages.
-use Rattle.std.specs.Prelude.{ℕ, zero, suc, ◌+◌, ◌-◌, ◌*◌, ◌/◌, List, [], ◌∷◌, ◌++◌, codes, decimal, nat_le, if◌then◌else◌}
+-- The regions of the heap and the user, a line each, beside what the heap consists of.
+use Rattle.std.specs.Prelude.{ℕ, ◌+◌, ◌*◌, ◌/◌, min, max, nat_eq, nat_le, List, [], ◌∷◌, ◌++◌, length, take, drop, codes, if◌then◌else◌}
 use Rattle.heap_model.specs.declared.region.Region.{Region}
-use Rattle.heap_model.specs.Slots.{has_slot}
-use Rattle.heap_program.specs.Text.{hexadecimal, pages_text, owner_text}
-use Rattle.heap_picture.specs.Shape.{rect_text}
+use Rattle.heap_model.specs.State.{State, total_pages}
+use Rattle.heap_model.specs.Place.{all_regions}
+use Rattle.heap_model.specs.Tables.{free_frames}
+use Rattle.heap_program.specs.Text.{pages_text, owner_text}
+use Rattle.heap_map.specs.Words.{hexadecimal, commas}
+use Rattle.heap_map.specs.Shapes.{text_at, rect, titled}
+use Rattle.heap_picture.specs.Large.{larges_in}
+use Rattle.heap_picture.specs.Lines.{region_lines, most_pages}
 
--- a region behind so many pages of others: a rectangle of its pages, each of 256 units of 16 bytes
-abbrev pub region_text : ℕ → Region → List ℕ
-region_text before region = rect_text (if region.heap then codes "h" else codes "w") (pages_text region ++ (codes " " ++ owner_text region)) (256 * before) 0 (256 * region.pages) 16
+-- so many pages
+unfoldable pub pages_words : ℕ → List ℕ
+pages_words pages = commas pages ++ (if nat_eq pages 1 then codes " page" else codes " pages")
 
--- the slot at an address, in a region behind so many pages of others
-abbrev pub slot_text : ℕ → ℕ → List ℕ
-slot_text before slot = rect_text (codes "l") (codes "large " ++ hexadecimal slot) (256 * before) 18 131072 6
+-- the address of a line, its pages, and whose they are
+unfoldable pub line_words : ℕ → Region → List ℕ
+line_words y line =
+    text_at (codes "m") 912 y (hexadecimal line.start)
+    ++ (text_at (codes "m e") 1120 y (pages_words line.pages) ++ text_at (codes "m e faint") 1280 y (owner_text line))
 
--- The slots among so many pages from an address on that are large: the address of the first slot that can be, and of each one
--- later, is a multiple of 2 MiB.
-unfoldable pub slots_text : List ℕ → ℕ → ℕ → ℕ → List ℕ
-slots_text large before start zero = []
-slots_text large before start (suc slots) = slots_text large before start slots ++ (if has_slot large (start + 2097152 * slots) then slot_text (before + 512 * slots) (start + 2097152 * slots) else [])
+-- the pixels of so many pages of the most that a line has: 3 at least, and 368 at most
+abbrev pub bar_width : ℕ → ℕ → ℕ
+bar_width pages most = min 368 (max 3 (368 * pages / max 1 most))
 
--- the first slot at or behind an address
-abbrev pub first_slot : ℕ → ℕ
-first_slot start = (start + 2097151) / 2097152 * 2097152
+-- the colour of a line: blocks and heap regions have one
+abbrev pub line_class : Region → List ℕ
+line_class line = if line.heap then codes "u" else codes "w"
 
--- how many slots lie whole between two addresses
-abbrev pub slots_between : ℕ → ℕ → ℕ
-slots_between start end = (end - start) / 2097152
+-- what is said of a line
+unfoldable pub line_title : Region → List ℕ
+line_title line = pages_text line ++ (codes " " ++ owner_text line)
 
--- the large slots of a region behind so many pages of others
-unfoldable pub region_slots : List ℕ → ℕ → Region → List ℕ
-region_slots large before region =
-    let first = first_slot region.start in
-    slots_text large (before + (first - region.start) / 4096) first (slots_between first (region.start + 4096 * region.pages))
+-- the bar of a line, below its words
+unfoldable pub bar_text : ℕ → ℕ → Region → List ℕ
+bar_text y most line = rect (codes "line") 912 (y + 5) 368 4 ++ titled (line_class line) 912 (y + 5) (bar_width line.pages most) 4 (line_title line)
 
--- the regions one beside the other, behind so many pages, each with its large slots
-unfoldable pub regions_from : List ℕ → ℕ → List Region → List ℕ
-regions_from large before [] = []
-regions_from large before (region ∷ regions) =
-    region_text before region ++ (region_slots large before region ++ regions_from large (before + region.pages) regions)
+-- so many large pages
+unfoldable pub larges_words : ℕ → List ℕ
+larges_words larges = commas larges ++ codes " large"
+
+-- how many large pages a line has, and their part of its bar, if there are any
+unfoldable pub larges_text : ℕ → ℕ → ℕ → ℕ → List ℕ
+larges_text y most pages larges =
+    if nat_eq larges 0 then []
+    else text_at (codes "m e faint") 1206 y (larges_words larges)
+    ++ titled (codes "l") 912 (y + 5) (bar_width (min pages (512 * larges)) most) 4 (larges_words larges)
+
+-- a line at a height
+unfoldable pub line_text : List ℕ → ℕ → ℕ → Region → List ℕ
+line_text large most y line = line_words y line ++ (bar_text y most line ++ larges_text y most line.pages (larges_in large line))
+
+-- lines, one below the other
+abbrev pub lines_text : List ℕ → ℕ → ℕ → List Region → List ℕ
+lines_text large most y [] = []
+lines_text large most y (line ∷ lines) = line_text large most y line ++ lines_text large most (y + 25) lines
+
+-- how many of the lines have room: 7, or 6 and how many more there are
+abbrev pub lines_shown : ℕ → ℕ
+lines_shown lines = if nat_le lines 7 then lines else 6
+
+-- how many lines there are more, and their pages
+unfoldable pub more_words : ℕ → ℕ → List ℕ
+more_words lines pages = codes "and " ++ (commas lines ++ (codes " more, of " ++ (commas pages ++ codes " pages")))
+
+unfoldable pub more_text : ℕ → List Region → List ℕ
+more_text y lines = if nat_eq (length lines) 0 then [] else text_at (codes "faint") 912 y (more_words (length lines) (total_pages lines))
+
+-- the lines that have room, and the others counted
+unfoldable pub list_text : List ℕ → ℕ → List Region → List ℕ
+list_text large y lines =
+    lines_text large (most_pages lines) y (take (lines_shown (length lines)) lines)
+    ++ more_text (y + 150) (drop (lines_shown (length lines)) lines)
+
+-- the frames that are free
+unfoldable pub free_front : List ℕ
+free_front = codes "free frames: "
+
+unfoldable pub free_words : ℕ → List ℕ
+free_words frames = free_front ++ commas frames
+
+-- and the tables
+unfoldable pub frames_words : ℕ → ℕ → List ℕ
+frames_words frames tables = free_words frames ++ (codes ", tables: " ++ commas tables)
+
+-- the heading
+unfoldable pub heading_text : ℕ → ℕ → ℕ → List ℕ
+heading_text y frames tables = text_at (codes "q") 912 y (codes "Regions") ++ text_at (codes "e faint") 1280 y (frames_words frames tables)
+
+-- the regions of a state, from a base line on
+unfoldable pub regions_text : ℕ → State → List ℕ
+regions_text y s = heading_text y (free_frames s) (1 + length s.tables) ++ list_text s.large (y + 26) (region_lines (all_regions s))

@@ -1,7 +1,7 @@
 // What the definitions of a picture come to.
-ghost use Rattle.heap_picture.specs.Drawn.{EachIsDrawnOnce};
+ghost use Rattle.heap_picture.specs.Lines.{EachIsInOneLine};
 
-/// Each extent is drawn once, and in order: the groups that are drawn as one, joined, are the extents, and none is empty.
-pub fn each_is_drawn_once()
-    ensures { EachIsDrawnOnce }
+/// Each region is in one line: a line is a run of neighbours, and the lines have the pages of the regions, in order.
+pub fn each_region_is_in_one_line()
+    ensures { EachIsInOneLine }
 {}

@@ -1,183 +1,275 @@
-// The regions, and the large pages among them.
-ghost use Rattle.std.specs.Prelude.{◌≡◌, ◌%◌, ◌<◌, ◌^◌, ◌++◌, ◌↔◌, OnOk, IsSome, IfSome, IsTrue, is_some, string_bytes};
-ghost use Rattle.paging_core.specs.Address.{is_canonical};
-ghost use Rattle.paging_core.specs.Walk.{large_of};
+// The regions, a line each.
+ghost use Rattle.std.specs.Prelude.{◌≡◌, ◌≤◌, ◌<◌, ◌^◌, ◌++◌, length, OnOk, string_bytes};
 ghost use Rattle.heap_model.specs.State.{State, total_pages};
-ghost use Rattle.heap_model.specs.Slots.{slot_number, has_slot};
-ghost use Rattle.kernel_heap.specs.System.{paged};
 ghost use Rattle.heap_program.specs.Progress.{IsAt};
-ghost use Rattle.heap_picture.specs.Regions.{region_text, slot_text, slots_text, region_slots, regions_from};
+ghost use Rattle.heap_picture.specs.Regions.{pages_words, line_words, bar_width, line_class, line_title, bar_text, larges_words, larges_text, line_text, lines_text, lines_shown, more_words, more_text, list_text, free_front, free_words, frames_words, heading_text, regions_text};
 
-use crate::shape::{Area, push_rect};
+use crate::large::larges_in;
+use crate::lines::{most_pages, region_lines, total_pages};
+use heap_map::{Area, push_address, push_commas, push_rect, push_text, push_titled};
 use heap_program::{push_owner, push_pages};
-use kernel_heap::{Machine, PagedSystem, Region};
-use paging_core::{Page, Size2MiB, VirtAddr, large_page};
+use kernel_heap::{Machine, Region};
 use std::alloc::{AllocError, Global};
 
-/// The last number that is an address.
-const LAST_ADDRESS: u128 = 0xffff_ffff_ffff_ffff;
-
-/// The bytes of a slot, which one entry maps as a large page.
-const SLOT_BYTES: u128 = 2_097_152;
-
-/// The units of 16 bytes that a page has.
-pub const PAGE_UNITS: u128 = 256;
-
-/// The pages of all regions.
-pub fn total_pages(regions: &[Region]) -> u128
-    ensures value { result ≡ total_pages regions.now }
-    ensures few { result < 2 ^ 127 }
+#[tactic(auto, unfolding(crate::specs::Regions::pages_words))]
+fn push_pages_words(out: &mut String, pages: u64) -> Result<(), AllocError>
+    ensures { OnOk result (string_bytes out.new ≡ string_bytes out.old ++ pages_words pages) }
 {
-    let mut pages = 0;
-    for region in regions {
-        pages += u128::from(region.pages);
+    push_commas(out, u128::from(pages))?;
+    if pages == 1 {
+        return out.push_str(" page");
     }
-    pages
+    out.push_str(" pages")
 }
 
-// A region behind so many pages of others.
-fn push_region(
+// Puts the address of a line at the end, its pages, and whose they are.
+#[tactic(auto, unfolding(crate::specs::Regions::line_words))]
+fn push_line_words(alloc: Global, out: &mut String, y: u128, line: Region) -> Result<(), AllocError>
+    ensures { OnOk result (string_bytes out.new ≡ string_bytes out.old ++ line_words y line) }
+{
+    let mut address = String::new(alloc);
+    push_address(&mut address, line.start)?;
+    push_text(out, "m", 912, y, address.as_str())?;
+    let mut pages = String::new(alloc);
+    push_pages_words(&mut pages, line.pages)?;
+    push_text(out, "m e", 1120, y, pages.as_str())?;
+    let mut owner = String::new(alloc);
+    push_owner(&mut owner, line)?;
+    push_text(out, "m e faint", 1280, y, owner.as_str())
+}
+
+// The pixels of so many pages of the most that a line has.
+fn bar_width(pages: u128, most: u64) -> u128
+    requires { pages < 2 ^ 110 }
+    ensures { result ≡ bar_width pages most }
+{
+    (368 * pages / u128::from(most).max(1)).max(3).min(368)
+}
+
+// The colour of a line.
+fn line_class(line: Region) -> &'static str
+    ensures { result.now ≡ line_class line }
+{
+    if line.heap { "u" } else { "w" }
+}
+
+#[tactic(auto, unfolding(crate::specs::Regions::line_title))]
+fn push_line_title(out: &mut String, line: Region) -> Result<(), AllocError>
+    ensures { OnOk result (string_bytes out.new ≡ string_bytes out.old ++ line_title line) }
+{
+    push_pages(out, line)?;
+    out.push_str(" ")?;
+    push_owner(out, line)
+}
+
+// Puts the bar of a line at the end.
+#[tactic(auto, unfolding(crate::specs::Regions::bar_text))]
+fn push_bar(
     alloc: Global,
     out: &mut String,
-    before: u128,
-    region: Region,
+    y: u128,
+    most: u64,
+    line: Region,
 ) -> Result<(), AllocError>
-    requires { before < 2 ^ 32 }
-    ensures { OnOk result (string_bytes out.new ≡ string_bytes out.old ++ region_text before region) }
+    requires { y < 2 ^ 100 }
+    ensures { OnOk result (string_bytes out.new ≡ string_bytes out.old ++ bar_text y most line) }
 {
-    let mut title = String::new(alloc);
-    push_pages(&mut title, region)?;
-    title.push_str(" ")?;
-    push_owner(&mut title, region)?;
-    let class = if region.heap { "h" } else { "w" };
-    let area = Area {
-        x: PAGE_UNITS * before,
-        y: 0,
-        width: PAGE_UNITS * u128::from(region.pages),
-        height: 16,
+    let y = y + 5;
+    let ground = Area {
+        x: 912,
+        y,
+        width: 368,
+        height: 4,
     };
-    push_rect(out, class, title.as_str(), area)
-}
-
-// Whether the slot of an address is a large page.
-fn is_mapped_large(system: &PagedSystem, address: VirtAddr) -> bool
-    ensures { result ≡ is_some (large_of (paged system.now).words (paged system.now).root (slot_number address)) }
-{
-    let page = Page::<Size2MiB>::containing_address(address);
-    large_page(system.frames(), system.root(), page).is_some()
-}
-
-// The address with this number, if it is canonical.
-fn canonical(number: u128) -> Option<VirtAddr>
-    ensures canonical { IsSome result ↔ IsTrue (is_canonical number) }
-    ensures few { IsSome result → number < 2 ^ 64 }
-    ensures value { IfSome result (λ address. address ≡ number) }
-{
-    if number > LAST_ADDRESS {
-        return None;
-    }
-    match VirtAddr::try_new(number as u64) {
-        Ok(address) => Some(address),
-        Err(_) => None,
-    }
-}
-
-// Whether the slot that begins at an address is a large page.
-fn is_large(machine: &Machine, slot: u128) -> bool
-    requires { slot % 2097152 ≡ 0 }
-    ensures value { (s : State) → IsAt machine.now s → result ≡ has_slot s.large slot }
-    ensures few { IsTrue result → slot < 2 ^ 64 }
-{
-    match canonical(slot) {
-        Some(address) => is_mapped_large(machine.system(), address),
-        None => false,
-    }
-}
-
-// The slot at an address, behind so many pages of others.
-fn push_slot(alloc: Global, out: &mut String, before: u128, slot: u128) -> Result<(), AllocError>
-    requires before { before < 2 ^ 116 }
-    requires slot { slot < 2 ^ 64 }
-    ensures { OnOk result (string_bytes out.new ≡ string_bytes out.old ++ slot_text before slot) }
-{
-    let address = slot as u64;
-    let mut title = String::new(alloc);
-    write!(title, "large 0x{address:x}")?;
+    push_rect(out, "line", ground)?;
     let area = Area {
-        x: PAGE_UNITS * before,
-        y: 18,
-        width: 131_072,
-        height: 6,
+        x: 912,
+        y,
+        width: bar_width(u128::from(line.pages), most),
+        height: 4,
     };
-    push_rect(out, "l", title.as_str(), area)
+    let mut title = String::new(alloc);
+    push_line_title(&mut title, line)?;
+    push_titled(out, line_class(line), area, title.as_str())
 }
 
-// The large pages among so many slots from an address on, behind so many pages of others.
-fn push_slots(
+#[tactic(auto, unfolding(crate::specs::Regions::larges_words))]
+fn push_larges_words(out: &mut String, larges: u128) -> Result<(), AllocError>
+    ensures { OnOk result (string_bytes out.new ≡ string_bytes out.old ++ larges_words larges) }
+{
+    push_commas(out, larges)?;
+    out.push_str(" large")
+}
+
+// Puts how many large pages a line has at the end, and their part of its bar, if there are any.
+#[tactic(auto, unfolding(crate::specs::Regions::larges_text))]
+fn push_larges(
     alloc: Global,
     out: &mut String,
-    before: u128,
-    start: u128,
-    slots: u128,
+    y: u128,
+    most: u64,
+    pages: u64,
+    larges: u128,
+) -> Result<(), AllocError>
+    requires y { y < 2 ^ 100 }
+    requires larges { larges < 2 ^ 100 }
+    ensures { OnOk result (string_bytes out.new ≡ string_bytes out.old ++ larges_text y most pages larges) }
+{
+    if larges == 0 {
+        return Ok(());
+    }
+    let mut words = String::new(alloc);
+    push_larges_words(&mut words, larges)?;
+    push_text(out, "m e faint", 1206, y, words.as_str())?;
+    let area = Area {
+        x: 912,
+        y: y + 5,
+        width: bar_width(u128::from(pages).min(512 * larges), most),
+        height: 4,
+    };
+    push_titled(out, "l", area, words.as_str())
+}
+
+// Puts a line at the end.
+fn push_line(
+    alloc: Global,
+    out: &mut String,
+    y: u128,
+    most: u64,
+    line: Region,
     machine: &Machine,
 ) -> Result<(), AllocError>
-    requires before { before < 2 ^ 100 }
-    requires start { start < 2 ^ 100 }
-    requires slots { slots < 2 ^ 100 }
-    requires aligned { start % 2097152 ≡ 0 }
-    ensures { OnOk result ((s : State) → IsAt machine.now s → string_bytes out.new ≡ string_bytes out.old ++ slots_text s.large before start slots) }
+    requires { y < 2 ^ 100 }
+    ensures { OnOk result ((s : State) → IsAt machine.now s → string_bytes out.new ≡ string_bytes out.old ++ line_text s.large most y line) }
 {
-    for number in 0..slots {
-        let slot = start + SLOT_BYTES * number;
-        if is_large(machine, slot) {
-            push_slot(alloc, out, before + 512 * number, slot)?;
-        }
+    push_line_words(alloc, out, y, line)?;
+    push_bar(alloc, out, y, most, line)?;
+    push_larges(alloc, out, y, most, line.pages, larges_in(machine, line))
+}
+
+// Puts lines at the end, one below the other.
+fn push_lines(
+    alloc: Global,
+    out: &mut String,
+    y: u128,
+    most: u64,
+    lines: &[Region],
+    machine: &Machine,
+) -> Result<(), AllocError>
+    requires { y < 2 ^ 90 }
+    ensures { OnOk result ((s : State) → IsAt machine.now s → string_bytes out.new ≡ string_bytes out.old ++ lines_text s.large most y lines.now) }
+{
+    let mut below = y;
+    for line in lines {
+        push_line(alloc, out, below, most, *line, machine)?;
+        below += 25;
     }
     Ok(())
 }
 
-// The large pages of a region behind so many pages of others.
-#[tactic(auto, unfolding(crate::specs::Regions::region_slots))]
-fn push_region_slots(
-    alloc: Global,
-    out: &mut String,
-    before: u128,
-    region: Region,
-    machine: &Machine,
-) -> Result<(), AllocError>
-    requires { before < 2 ^ 32 }
-    ensures { OnOk result ((s : State) → IsAt machine.now s → string_bytes out.new ≡ string_bytes out.old ++ region_slots s.large before region) }
+// How many of the lines have room.
+fn lines_shown(lines: usize) -> usize
+    ensures value { result ≡ lines_shown lines }
+    ensures few { result ≤ lines }
 {
-    let start = u128::from(region.start);
-    let end = start + 4096 * u128::from(region.pages);
-    let first = (start + (SLOT_BYTES - 1)) / SLOT_BYTES * SLOT_BYTES;
-    let slots = end.saturating_sub(first) / SLOT_BYTES;
-    push_slots(
-        alloc,
-        out,
-        before + (first - start) / 4096,
-        first,
-        slots,
-        machine,
-    )
+    if lines <= 7 { lines } else { 6 }
 }
 
-/// Puts the regions at the end, each once, with the large pages of each.
+#[tactic(auto, unfolding(crate::specs::Regions::more_words))]
+fn push_more_words(out: &mut String, lines: u128, pages: u128) -> Result<(), AllocError>
+    ensures { OnOk result (string_bytes out.new ≡ string_bytes out.old ++ more_words lines pages) }
+{
+    out.push_str("and ")?;
+    push_commas(out, lines)?;
+    out.push_str(" more, of ")?;
+    push_commas(out, pages)?;
+    out.push_str(" pages")
+}
+
+// Puts how many lines there are more at the end, if there are any.
+#[tactic(auto, unfolding(crate::specs::Regions::more_text))]
+fn push_more(alloc: Global, out: &mut String, y: u128, lines: &[Region]) -> Result<(), AllocError>
+    ensures { OnOk result (string_bytes out.new ≡ string_bytes out.old ++ more_text y lines.now) }
+{
+    if lines.len() == 0 {
+        return Ok(());
+    }
+    let mut words = String::new(alloc);
+    push_more_words(&mut words, lines.len() as u128, total_pages(lines))?;
+    push_text(out, "faint", 912, y, words.as_str())
+}
+
+// Puts the lines at the end that have room, and counts the others.
+fn push_list(
+    alloc: Global,
+    out: &mut String,
+    y: u128,
+    lines: &[Region],
+    machine: &Machine,
+) -> Result<(), AllocError>
+    requires { y < 2 ^ 90 }
+    ensures { OnOk result ((s : State) → IsAt machine.now s → string_bytes out.new ≡ string_bytes out.old ++ list_text s.large y lines.now) }
+{
+    let shown = lines_shown(lines.len());
+    push_lines(alloc, out, y, most_pages(lines), &lines[..shown], machine)?;
+    push_more(alloc, out, y + 150, &lines[shown..])
+}
+
+#[tactic(auto, unfolding(crate::specs::Regions::free_front))]
+fn free_front() -> &'static str
+    ensures { result.now ≡ free_front }
+{
+    "free frames: "
+}
+
+#[tactic(auto, unfolding(crate::specs::Regions::free_words))]
+fn push_free_words(out: &mut String, frames: u128) -> Result<(), AllocError>
+    ensures { OnOk result (string_bytes out.new ≡ string_bytes out.old ++ free_words frames) }
+{
+    out.push_str(free_front())?;
+    push_commas(out, frames)
+}
+
+#[tactic(auto, unfolding(crate::specs::Regions::frames_words))]
+fn push_frames_words(out: &mut String, frames: u128, tables: u128) -> Result<(), AllocError>
+    ensures { OnOk result (string_bytes out.new ≡ string_bytes out.old ++ frames_words frames tables) }
+{
+    push_free_words(out, frames)?;
+    out.push_str(", tables: ")?;
+    push_commas(out, tables)
+}
+
+// Puts the heading at the end.
+#[tactic(auto, unfolding(crate::specs::Regions::heading_text))]
+fn push_heading(
+    alloc: Global,
+    out: &mut String,
+    y: u128,
+    frames: u64,
+    tables: u64,
+) -> Result<(), AllocError>
+    ensures { OnOk result (string_bytes out.new ≡ string_bytes out.old ++ heading_text y frames tables) }
+{
+    push_text(out, "q", 912, y, "Regions")?;
+    let mut words = String::new(alloc);
+    push_frames_words(&mut words, u128::from(frames), u128::from(tables))?;
+    push_text(out, "e faint", 1280, y, words.as_str())
+}
+
+/// Puts the regions of a machine at the end, from a base line on.
+#[tactic(auto, using(crate::proofs::Pictures::few_pages))]
 pub fn push_regions(
     alloc: Global,
     out: &mut String,
-    regions: &[Region],
+    y: u128,
     machine: &Machine,
 ) -> Result<(), AllocError>
-    requires { total_pages regions.now < 2 ^ 32 }
-    ensures { OnOk result ((s : State) → IsAt machine.now s → string_bytes out.new ≡ string_bytes out.old ++ regions_from s.large 0 regions.now) }
+    requires { y < 2 ^ 80 }
+    ensures { OnOk result ((s : State) → IsAt machine.now s → string_bytes out.new ≡ string_bytes out.old ++ regions_text y s) }
 {
-    let mut before = 0;
-    for region in regions {
-        let region = *region;
-        push_region(alloc, out, before, region)?;
-        push_region_slots(alloc, out, before, region, machine)?;
-        before += u128::from(region.pages);
-    }
-    Ok(())
+    let system = machine.system();
+    let list = system.regions(alloc)?;
+    let lines = region_lines(alloc, list.as_slice())?;
+    push_heading(alloc, out, y, system.free_frames(), system.tables())?;
+    push_list(alloc, out, y + 26, &lines, machine)
 }

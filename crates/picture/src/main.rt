@@ -14,17 +14,18 @@ heap_picture 0.1.0
 const HELP: &str = "\
 heap_picture 0.1.0: a picture of the heap that a recorded run leaves
 
-Usage: heap_picture [BASE PAGES GRANULARITY FRAMES RATE]
+Usage: heap_picture [map] [BASE PAGES GRANULARITY FRAMES RATE]
 
 Replays the calls of standard input, which are lines as `heap --help lines` has
 them, and then prints a picture of the heap, as an SVG document.
 
-The heap's segments are rows of 1024 columns in address order, to scale: a
-column stands for as many bytes as it takes for all segments to need about 8192
-columns, and for 16 at least. Each extent is drawn once; neighbours that end in
-the column in which the first of them begins are drawn as one, and its colour
-says how much of it is used. Below are the regions with their large pages, and
-the lines of `heap_report`. A browser shows at each rectangle what it is.
+Each row has a power of two of addresses, 512 bytes at least, and as few as it
+takes for the map to have at most 20 lines. Rows that lie wholly in one extent
+are one thin line. A row has 512 cells: a cell is blue from the ground up as far
+as its bytes are in blocks, and above that it has the colour of most of its
+other bytes. Above the rows are the figures of the heap; below them is what it
+consists of, its free chunks by size, and the regions of the heap and the user
+with their large pages. A browser shows at each extent what it is.
 
 A line that is no call is passed over, and a refused call changes nothing. The
 words are those of `heap run`; the default is 0x400000 1024 65536 1024 4095.

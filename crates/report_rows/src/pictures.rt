@@ -3,9 +3,9 @@ ghost use Rattle.std.specs.Prelude.{◌<◌, IfSome, length};
 
 use crate::checks::same;
 use heap_picture::picture_main;
-use heap_program::{MemorySink, MemorySource, SureSink, SureSource, push_extent};
+use heap_program::{MemorySink, MemorySource, SureSink, SureSource};
 use heap_report::Reported;
-use kernel_heap::Extent;
+use kernel_heap::{Extent, Kind};
 use std::alloc::{AllocError, Global};
 use std::process::Abort;
 use std::test::Fail;
@@ -47,7 +47,19 @@ fn two_hundred_calls(alloc: Global) -> Result<String, AllocError> {
     Ok(calls)
 }
 
-/// Looks that the extent is drawn once, behind a place in the text. Answers where.
+/// What the map calls an extent.
+fn words_of(kind: Kind) -> &'static str {
+    match kind {
+        Kind::Used => "block",
+        Kind::Free => "free",
+        Kind::Victim => "victim",
+        Kind::Top => "top",
+        Kind::Record => "record",
+        Kind::Foot => "foot",
+    }
+}
+
+/// Looks that the extent has a title, behind a place in the text. Answers where.
 fn expect_drawn(
     rt: &impl Abort,
     alloc: Global,
@@ -56,41 +68,16 @@ fn expect_drawn(
     extent: Extent,
 ) -> Result<usize, Fail> {
     let mut title = String::new(alloc);
-    title.push_str("<title>")?;
-    push_extent(&mut title, extent)?;
-    title.push_str("</title>")?;
+    let (at, words) = (extent.at, words_of(extent.kind));
+    write!(title, "<title>0x{at:x}: {words} of ")?;
     let Some(at) = find(text, last, title.as_bytes()) else {
         panic!(rt; "an extent is not drawn in its place");
     };
-    same(rt, find(text, 0, title.as_bytes()), Some(at));
-    same(rt, find(text, at + 1, title.as_bytes()), None);
     Ok(at)
 }
 
-/// Looks that each of the extents is drawn once, in their order, and how many shapes there are.
-fn expect_all_drawn(
-    rt: &impl Abort,
-    alloc: Global,
-    text: &[u8],
-    extents: &[Extent],
-) -> Result<(), Fail> {
-    let mut last = 0;
-    for extent in extents {
-        last = expect_drawn(rt, alloc, text, last, *extent)?;
-    }
-    // So many shapes there are, with those of the one region and of the document.
-    let mut titles = 0usize;
-    for at in 0..text.len() {
-        if text[at..].starts_with(b"<title>".as_slice()) {
-            titles = titles.wrapping_add(1);
-        }
-    }
-    same(rt, titles, extents.len().wrapping_add(2));
-    Ok(())
-}
-
 #[test]
-fn each_extent_is_drawn_once_in_order(rt: HostRuntime) -> Result<(), Fail> {
+fn each_extent_is_drawn_in_order(rt: HostRuntime) -> Result<(), Fail> {
     let calls = two_hundred_calls(rt.alloc())?;
     let (reported, sink) = outcome(rt.alloc(), calls.as_bytes())?;
     same(&rt, reported.status, 0);
@@ -98,34 +85,21 @@ fn each_extent_is_drawn_once_in_order(rt: HostRuntime) -> Result<(), Fail> {
         panic!(rt; "no extents");
     };
     assert!(rt; extents.len() > 60);
-    expect_all_drawn(&rt, rt.alloc(), sink.written(), extents.as_slice())
-}
-
-#[test]
-fn an_empty_heap_has_a_picture(rt: HostRuntime) -> Result<(), Fail> {
-    let (reported, sink) = outcome(rt.alloc(), b"".as_slice())?;
-    same(&rt, reported.status, 0);
-    assert!(rt; sink.written().starts_with(b"<svg xmlns=".as_slice()));
-    assert!(rt;
-        sink.written().ends_with(
-            b"<tspan x=\"8\" dy=\"18\">permille 0</tspan>\n</text>\n</svg>\n".as_slice()
-        )
-    );
+    let mut last = 0;
+    // With rows of at most 4096 bytes each of these has four cells of a row to itself.
+    for extent in extents.as_slice() {
+        if extent.size >= 64 {
+            last = expect_drawn(&rt, rt.alloc(), sink.written(), last, *extent)?;
+        }
+    }
     Ok(())
 }
 
-#[test]
-fn regions_and_large_pages_are_marked(rt: HostRuntime) -> Result<(), Fail> {
-    let (reported, sink) = outcome(
-        rt.alloc(),
-        b"malloc 2500000\nmap 0x700000 2 r-ux\n".as_slice(),
-    )?;
-    same(&rt, reported.status, 0);
-    for part in [
-        "<rect class=\"h\" x=\"0\" y=\"0\" width=\"159744\" height=\"16\"><title>0x400000+624 heap</title></rect>\n",
-        "<rect class=\"l\" x=\"0\" y=\"18\" width=\"131072\" height=\"6\"><title>large 0x400000</title></rect>\n",
-        "<rect class=\"w\" x=\"159744\" y=\"0\" width=\"512\" height=\"16\"><title>0x700000+2 user r-ux</title></rect>\n",
-    ] {
+/// Looks that the parts stand in the picture of a run.
+fn expect_parts(rt: &impl Abort, alloc: Global, calls: &[u8], parts: &[&str]) -> Result<(), Fail> {
+    let (reported, sink) = outcome(alloc, calls)?;
+    same(rt, reported.status, 0);
+    for part in parts {
         assert!(rt;
             find(sink.written(), 0, part.as_bytes()).is_some(),
             "{}",
@@ -136,18 +110,62 @@ fn regions_and_large_pages_are_marked(rt: HostRuntime) -> Result<(), Fail> {
 }
 
 #[test]
-fn neighbours_in_one_column_are_drawn_as_one(rt: HostRuntime) -> Result<(), Fail> {
-    let mut calls = String::new(rt.alloc());
-    // A block of 3 MiB has a column stand for 400 bytes, so that small blocks before it share columns.
-    for _ in 0..40 {
-        calls.push_str("malloc 24\n")?;
-    }
-    calls.push_str("malloc 3000000\nfree 1\nfree 3\n")?;
-    let (reported, sink) = outcome(rt.alloc(), calls.as_bytes())?;
+fn an_empty_heap_has_a_picture(rt: HostRuntime) -> Result<(), Fail> {
+    let (reported, sink) = outcome(rt.alloc(), b"".as_slice())?;
     same(&rt, reported.status, 0);
-    let part = b"<title>12 extents:0x400000+384, used 320</title>".as_slice();
-    assert!(rt; find(sink.written(), 0, part).is_some());
+    assert!(rt; sink.written().starts_with(b"<svg xmlns=".as_slice()));
+    assert!(rt;
+        sink.written().ends_with(b">free frames: 1,023, tables: 1</text>\n</svg>\n".as_slice())
+    );
     Ok(())
+}
+
+#[test]
+fn regions_and_large_pages_are_marked(rt: HostRuntime) -> Result<(), Fail> {
+    expect_parts(
+        &rt,
+        rt.alloc(),
+        b"malloc 2500000\nmap 0x700000 2 r-ux\n".as_slice(),
+        &[
+            "<text class=\"m e\" x=\"1120\" y=\"312\">624 pages</text>\n<text class=\"m e faint\" x=\"1280\" y=\"312\">heap</text>\n",
+            "<rect class=\"u\" x=\"912\" y=\"317\" width=\"368\" height=\"4\"><title>0x400000+624 heap</title></rect>\n",
+            "<rect class=\"l\" x=\"912\" y=\"317\" width=\"301\" height=\"4\"><title>1 large</title></rect>\n",
+            "<rect class=\"w\" x=\"912\" y=\"342\" width=\"3\" height=\"4\"><title>0x700000+2 user r-ux</title></rect>\n",
+        ],
+    )
+}
+
+#[test]
+fn neighbours_are_one_line_and_eight_lines_are_counted(rt: HostRuntime) -> Result<(), Fail> {
+    expect_parts(
+        &rt,
+        rt.alloc(),
+        b"map 0x10000 1 r---\nmap 0x11000 2 r---\nmap 0x13000 1 rw--\nmap 0x20000 1 r---\nmap 0x30000 1 r---\nmap 0x40000 1 r---\nmap 0x50000 1 r---\nmap 0x60000 1 r---\nmap 0x70000 5 r---\n".as_slice(),
+        &[
+            ">0x10000</text>\n<text class=\"m e\" x=\"1120\" y=\"220\">3 pages</text>\n",
+            ">0x13000</text>\n<text class=\"m e\" x=\"1120\" y=\"245\">1 page</text>\n",
+            ">0x50000</text>\n",
+            "<text class=\"faint\" x=\"912\" y=\"370\">and 2 more, of 6 pages</text>\n",
+        ],
+    )
+}
+
+#[test]
+fn small_extents_share_cells(rt: HostRuntime) -> Result<(), Fail> {
+    let mut calls = String::new(rt.alloc());
+    // 30 blocks of 40,000 bytes have a cell stand for 128 bytes: the first has 32 that are free and 96 of a block.
+    for _ in 0..30 {
+        calls.push_str("malloc 24\nmalloc 40000\n")?;
+    }
+    calls.push_str("free 0\n")?;
+    expect_parts(
+        &rt,
+        rt.alloc(),
+        calls.as_bytes(),
+        &[
+            "<rect class=\"u\" x=\"144\" y=\"170\" width=\"2\" height=\"14\"/>\n<rect class=\"f\" x=\"144\" y=\"166\" width=\"2\" height=\"4\"/>\n",
+        ],
+    )
 }
 
 /// Looks how a run ends of which a read or a write fails.

@@ -93,6 +93,34 @@ const ROWS: [Row; 11] = [
     },
 ];
 
+/// Of `heap_picture` alone: `map` may stand before the words.
+const PICTURE_ROWS: [Row; 4] = [
+    Row {
+        words: &["map"],
+        status: 6,
+        output: "",
+        errors: "read fault\n",
+    },
+    Row {
+        words: &["map", "0x400001", "1024", "65536", "1024", "4095"],
+        status: 2,
+        output: "",
+        errors: "bad window\n",
+    },
+    Row {
+        words: &["map", "map"],
+        status: 1,
+        output: "",
+        errors: "usage\n",
+    },
+    Row {
+        words: &["mop"],
+        status: 1,
+        output: "",
+        errors: "usage\n",
+    },
+];
+
 /// The arguments: the program's name, and then the words.
 fn arguments(alloc: Global, words: &[&str]) -> Result<Vec<String>, AllocError> {
     let mut all = Vec::new(alloc);
@@ -128,6 +156,14 @@ fn expect_row<C: Command>(rt: &impl Abort, alloc: Global, row: &Row) -> Result<(
 fn words_have_their_statuses(rt: HostRuntime) -> Result<(), Fail> {
     for row in &ROWS {
         expect_row::<Figures>(&rt, rt.alloc(), row)?;
+        expect_row::<Picture>(&rt, rt.alloc(), row)?;
+    }
+    Ok(())
+}
+
+#[test]
+fn a_kind_stands_before_the_words(rt: HostRuntime) -> Result<(), Fail> {
+    for row in &PICTURE_ROWS {
         expect_row::<Picture>(&rt, rt.alloc(), row)?;
     }
     Ok(())
