@@ -85,6 +85,9 @@ handlers:
     .text
 note:
     mov %rax, seen + 0(%rip)
+    pushf
+    pop seen + 56(%rip)             /* the flags */
+    cli
     pop seen + 8(%rip)              /* the vector */
     pop seen + 16(%rip)             /* the error code */
     mov %rsp, seen + 48(%rip)
@@ -111,7 +114,7 @@ own_table_at: .quad own_table
     .bss
     .balign 16
     .globl seen, kept_stack
-seen: .skip 56                      /* struct seen of guest.h */
+seen: .skip 64                      /* struct seen of guest.h */
 kept_stack: .skip 8
     .balign 4096
     .skip 32768

@@ -8,7 +8,7 @@ typedef uint32_t u32;
 typedef uint16_t u16;
 typedef uint8_t u8;
 
-struct seen { u64 rax, vector, error, cr2, rip, cs, rsp; };
+struct seen { u64 rax, vector, error, cr2, rip, cs, rsp, rflags; };
 struct pointer { u16 limit; u64 base; } __attribute__((packed));
 
 extern struct seen seen;

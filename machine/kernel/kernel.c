@@ -1,13 +1,15 @@
 /* A kernel over the proved heap: it makes a heap on the memory that the multiboot map gives, uses it, and has a page fault. What
  * it finds goes to the serial line; its status is 0 if all was as it had to be. */
-#include "platform.h"
+#include "meanings.h"
+#include "paging.h"
 #include <limzhur.h>
 
 #define CALLS 20000
+#define CALLS_ON_DEMAND 100000
 #define BLOCKS 512
 #define MOST_BYTES (64ull << 20)
 
-static _Alignas(8) unsigned char room[LIMZHUR_ROOM];
+static _Alignas(8) unsigned char room[LIMZHUR_ROOM], second_room[LIMZHUR_ROOM];
 static struct block { uint64_t at, size; uint8_t byte; } blocks[BLOCKS];
 static struct counts { uint64_t made, resized, freed, refused, wrong; } counts;
 
@@ -67,10 +69,10 @@ static void end(struct limzhur_heap *heap, struct block *block) {
 }
 
 /* Random calls, with each byte of each block looked at; then all blocks end. */
-static void use(struct limzhur_heap *heap) {
+static void use(struct limzhur_heap *heap, int calls) {
     struct limzhur_stats stats;
     uint64_t live = 0;
-    for (int n = 0; n < CALLS; n++) {
+    for (int n = 0; n < calls; n++) {
         struct block *block = blocks + draw(BLOCKS);
         if (!block->at) make(heap, block, draw(3000), 1ull << draw(13));
         else if (draw(3)) end(heap, block);
@@ -87,16 +89,31 @@ static void use(struct limzhur_heap *heap) {
     wants(!limzhur_free(heap, 1) && !limzhur_malloc(heap, 24, 24) && !limzhur_malloc(heap, ~0ull, 16));
 }
 
-/* A page fault, and what its code says (AMD64 manual, volume 2, section 8.4.2). */
+/* A page fault, and what its code says. */
 static void fault_once(void) {
     uint64_t address = DIRECT + (1ull << 40), code, fault_address;
     wants(!try_to_write(address, &code, &fault_address));
-    wants(fault_address == address && code == 2);
+    wants(fault_address == address && code == CAUSED_BY_WRITE);
     say("page fault at 0x");
     say_number(fault_address, 16);
-    say(code & 1 ? ": denied, " : ": not present, ");
-    say(code & 2 ? "a write " : code & 16 ? "a fetch " : "a read ");
-    say(code & 4 ? "by the user\n" : "by the kernel\n");
+    say(":");
+    for (size_t n = 0; n < sizeof page_fault_flags / sizeof *page_fault_flags; n++) {
+        if (!(code & page_fault_flags[n].flag)) continue;
+        say(" ");
+        say(page_fault_flags[n].name);
+    }
+    say("\n");
+}
+
+/* A heap over pages that are mapped when they are touched, by page tables of the library in the memory that is no more used. */
+static void use_own_tables(struct memory memory) {
+    begin_paging(memory);
+    limzhur_init(second_room, (uint64_t *)HEAP, HEAP_BYTES / 8, HEAP);
+    struct limzhur_heap heap = {second_room};
+    use(&heap, CALLS_ON_DEMAND);
+    counts.wrong += look_at_paging();
+    say_line("pages ", mapped_pages());
+    say_line("tables ", made_tables());
 }
 
 void kernel_main(uint32_t info) {
@@ -111,8 +128,9 @@ void kernel_main(uint32_t info) {
     memset(words + count - (count + 127) / 128, 0, (count + 127) / 128 * 8);
     limzhur_init(room, words, count, (uint64_t)words);
     struct limzhur_heap heap = {room};
-    use(&heap);
+    use(&heap, CALLS);
     fault_once();
+    use_own_tables(memory);
     say_line("made ", counts.made);
     say_line("resized ", counts.resized);
     say_line("freed ", counts.freed);

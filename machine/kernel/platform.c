@@ -1,3 +1,4 @@
+#include "meanings.h"
 #include "platform.h"
 
 #define SERIAL 0x3f8
@@ -6,7 +7,8 @@ struct frame { uint64_t rip, cs, rflags, rsp, ss; };
 
 extern char handlers[], kernel_end[], after_fault[];
 bool write_or_fault(uint64_t address);
-void __attribute__((noreturn)) resume(struct frame *frame);
+
+bool (*page_fault_is_met)(uint64_t address, uint64_t code);
 
 static uint64_t idt[64], seen_code, seen_address;
 
@@ -62,14 +64,17 @@ void *memset(void *to, int byte, size_t count) {
 void fault(uint64_t vector, uint64_t code, struct frame *frame) {
     uint64_t address;
     __asm__ volatile("mov %%cr2, %0" : "=r"(address));
+    if (vector == 14 && page_fault_is_met && page_fault_is_met(address, code)) return;
     if (vector == 14 && frame->rip == (uint64_t)write_or_fault) {
         seen_code = code;
         seen_address = address;
         frame->rip = (uint64_t)after_fault;
-        resume(frame);
+        return;
     }
     say("exception ");
     say_number(vector, 10);
+    say(" ");
+    say(exception_names[vector] ? exception_names[vector] : "that is none");
     say(" code 0x");
     say_number(code, 16);
     say(" CR2 0x");

@@ -25,6 +25,9 @@ void set_handlers(void);
 /* Writes a byte. False if that raises a page fault, whose code and address are then in *code and *fault_address. */
 bool try_to_write(uint64_t address, uint64_t *code, uint64_t *fault_address);
 
+/* What a page fault is handed to first, if it is not null: true where the access is to be tried again. */
+extern bool (*page_fault_is_met)(uint64_t address, uint64_t code);
+
 /* The greatest run of usable memory behind the kernel and below 4 GiB, by the multiboot map; empty if there is none. */
 struct memory greatest_memory(const uint32_t *info);
 

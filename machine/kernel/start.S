@@ -37,7 +37,7 @@ start:
     mov %eax, %cr4
     mov $0xC0000080, %ecx
     rdmsr
-    or $0x100, %eax
+    or $0x900, %eax                 /* long mode, and no-execute, which the entries of the library use */
     wrmsr
     mov %cr0, %eax
     and $~4, %eax
@@ -73,7 +73,7 @@ kernel_table: .skip 4096
 pages:        .skip 4 * 4096
 
     .text
-/* A handler for each vector calls fault(vector, code, frame). */
+/* A handler for each vector calls fault(vector, code, frame), and goes to where that leads, with all registers as they were. */
     .globl handlers
 handlers:
     .set n, 0
@@ -88,11 +88,21 @@ handlers:
     .set n, n + 1
     .endr
 to_fault:
-    pop %rdi
-    pop %rsi
-    mov %rsp, %rdx
+    .irp register, rax, rcx, rdx, rbx, rbp, rsi, rdi, r8, r9, r10, r11, r12, r13, r14, r15
+    push %\register
+    .endr
+    mov 120(%rsp), %rdi             /* the vector */
+    mov 128(%rsp), %rsi             /* the error code */
+    lea 136(%rsp), %rdx             /* the frame */
+    mov %rsp, %rbp
     and $~15, %rsp
     call fault
+    mov %rbp, %rsp
+    .irp register, r15, r14, r13, r12, r11, r10, r9, r8, rdi, rsi, rbp, rbx, rdx, rcx, rax
+    pop %\register
+    .endr
+    add $16, %rsp
+    iretq
 /* write_or_fault(address): writes a byte. True if it did; false if a page fault came, from which fault() goes to after_fault. */
     .globl write_or_fault, after_fault
 write_or_fault:
@@ -102,11 +112,6 @@ write_or_fault:
 after_fault:
     xor %eax, %eax
     ret
-/* resume(frame) */
-    .globl resume
-resume:
-    mov %rdi, %rsp
-    iretq
     .bss
     .balign 4096
     .globl stack_bottom, stack_top

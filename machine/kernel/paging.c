@@ -1,0 +1,201 @@
+#include "meanings.h"
+#include "paging.h"
+#include <limzhur_tables.h>
+
+#define TABLE_FRAMES 64
+#define LIMIT (1ull << 20)                      /* frames of pages lie below 4 GiB */
+#define SHARED 0xffffa00000000000ull            /* two pages that lead to one frame */
+#define LARGE 0xffffb00000000000ull             /* a large page, */
+#define LARGE_FRAME 0x8000                      /* to 2 MiB of memory that nothing else uses: from 128 MiB on */
+
+extern char load_start[], kernel_end[];
+
+static _Alignas(8) unsigned char room[LIMZHUR_TABLES_ROOM];
+static struct limzhur_tables tables = {room};
+static const uint64_t *words;
+static uint64_t first_tables, own_tables, first_frame, next_frame, end_frame, pages;
+
+static uint64_t get_cr3(void) {
+    uint64_t value;
+    __asm__ volatile("mov %%cr3, %0" : "=r"(value));
+    return value;
+}
+
+/* This flushes all translations, since no page is global. */
+static void set_cr3(uint64_t value) { __asm__ volatile("mov %0, %%cr3" ::"r"(value) : "memory"); }
+
+/* The tables never map the frames in which they lie. So each call of the library runs on the tables of start.S, which map all
+ * memory. */
+static uint32_t map(uint64_t address, uint64_t frame, bool write, bool fetch) {
+    set_cr3(first_tables);
+    uint32_t answer = limzhur_map(&tables, address, frame, write, false, fetch);
+    set_cr3(own_tables);
+    pages += answer == LIMZHUR_DONE;
+    return answer;
+}
+
+static uint32_t unmap(uint64_t address, uint64_t *frame) {
+    set_cr3(first_tables);
+    uint32_t answer = limzhur_unmap(&tables, address, frame);
+    set_cr3(own_tables);
+    pages -= answer == LIMZHUR_DONE;
+    return answer;
+}
+
+static uint32_t protect(uint64_t address, bool write) {
+    set_cr3(first_tables);
+    uint32_t answer = limzhur_protect(&tables, address, write, false, false);
+    set_cr3(own_tables);
+    return answer;
+}
+
+/* A frame that no page leads to, cleared. */
+static uint64_t take_frame(void) {
+    if (next_frame == end_frame) leave(4);
+    set_cr3(first_tables);
+    memset((void *)(DIRECT + 4096 * next_frame), 0, 4096);
+    set_cr3(own_tables);
+    return next_frame++;
+}
+
+/* What the handler of page faults asks: whether the access can be tried again. It may have interrupted the library, which may use
+ * vector registers, and calls it itself. */
+static bool map_on_demand(uint64_t address, uint64_t code) {
+    static _Alignas(16) unsigned char registers[512];
+    if (code & PROTECTION_VIOLATION || address < HEAP || address >= HEAP + HEAP_BYTES) return false;
+    __asm__ volatile("fxsave64 %0" : "=m"(registers));
+    uint32_t answer = map(address, take_frame(), true, false);
+    __asm__ volatile("fxrstor64 %0" ::"m"(registers));
+    return answer == LIMZHUR_DONE;
+}
+
+void begin_paging(struct memory memory) {
+    first_frame = memory.from / 4096;
+    next_frame = first_frame + TABLE_FRAMES;
+    end_frame = memory.to / 4096;
+    words = (const uint64_t *)(DIRECT + memory.from);
+    if (next_frame >= end_frame || limzhur_tables_room() > sizeof room) leave(3);
+    limzhur_tables_init(room, (uint64_t *)words, 512 * TABLE_FRAMES, first_frame, LIMIT);
+    first_tables = own_tables = get_cr3();
+    for (uint64_t at = (uint64_t)load_start; at < (uint64_t)kernel_end - KERNEL; at += 4096) {
+        /* The first: the processor finds its segments there. */
+        if (map(at, at / 4096, false, false) || map(KERNEL + at, at / 4096, true, true)) leave(3);
+    }
+    own_tables = 4096 * limzhur_tables_root(&tables);
+    page_fault_is_met = map_on_demand;
+    set_cr3(own_tables);
+}
+
+static uint64_t wrong;
+
+static void wants(bool good) { wrong += !good; }
+
+/* Whether a write to the address faults, with this code. */
+static bool faults(uint64_t address, uint64_t wanted) {
+    uint64_t code, fault_address;
+    return !try_to_write(address, &code, &fault_address) && code == wanted && fault_address == address;
+}
+
+static void take_rights(void) {
+    wants(protect(HEAP, false) == LIMZHUR_DONE);
+    wants(faults(HEAP, PROTECTION_VIOLATION | CAUSED_BY_WRITE));
+    wants(protect(HEAP, true) == LIMZHUR_DONE);
+    wants(*(volatile uint64_t *)HEAP + 1 != 0 && !faults(HEAP + 8, 0));
+}
+
+static void share_a_frame(void) {
+    uint64_t frame = take_frame(), gone = 0;
+    volatile uint64_t *one = (uint64_t *)SHARED, *other = (uint64_t *)(SHARED + (1ull << 30));
+    wants(map(SHARED, frame, true, false) == LIMZHUR_DONE);
+    wants(map(SHARED + (1ull << 30), frame, false, false) == LIMZHUR_DONE);
+    *one = 12345;
+    wants(*other == 12345);
+    wants(faults((uint64_t)other, PROTECTION_VIOLATION | CAUSED_BY_WRITE));
+    wants(unmap((uint64_t)other, &gone) == LIMZHUR_DONE && gone == frame);
+    wants(faults((uint64_t)other, CAUSED_BY_WRITE) && *one == 12345);
+}
+
+static uint32_t map_large(uint64_t address, uint64_t frame) {
+    set_cr3(first_tables);
+    uint32_t answer = limzhur_map_large(&tables, address, frame, true, false, false);
+    set_cr3(own_tables);
+    if (answer == LIMZHUR_DONE) pages += 512;
+    return answer;
+}
+
+static uint32_t unmap_large(uint64_t address, uint64_t *frame) {
+    set_cr3(first_tables);
+    uint32_t answer = limzhur_unmap_large(&tables, address, frame);
+    set_cr3(own_tables);
+    if (answer == LIMZHUR_DONE) pages -= 512;
+    return answer;
+}
+
+/* A page of 4 KiB at the last frame of a large one shows the same bytes. The large page stays for the walk. */
+static void use_a_large_page(void) {
+    volatile uint64_t *last = (uint64_t *)(LARGE + (511 << 12)), *same = (uint64_t *)(SHARED + 8192);
+    uint64_t gone = 0;
+    wants(map_large(LARGE, LARGE_FRAME) == LIMZHUR_DONE && map_large(LARGE, LARGE_FRAME) == LIMZHUR_IS_MAPPED);
+    wants(map(SHARED + 8192, LARGE_FRAME + 511, false, false) == LIMZHUR_DONE);
+    *last = 54321;
+    wants(*same == 54321);
+    wants(protect(LARGE, false) == LIMZHUR_IN_LARGE_PAGE);
+    wants(unmap_large(LARGE, &gone) == LIMZHUR_DONE && gone == LARGE_FRAME);
+    wants(faults(LARGE + (511 << 12), CAUSED_BY_WRITE));
+    wants(map_large(LARGE, LARGE_FRAME) == LIMZHUR_DONE && *last == 54321);
+}
+
+static void be_refused(void) {
+    uint64_t gone;
+    wants(map(HEAP, next_frame, true, false) == LIMZHUR_IS_MAPPED);
+    wants(map(SHARED + 4096, first_frame + 1, true, false) == LIMZHUR_IN_AREA);
+    wants(map(SHARED + 4096, LIMIT, true, false) == LIMZHUR_PAST_LIMIT);
+    wants(map(1ull << 47, next_frame, true, false) == LIMZHUR_NOT_CANONICAL);
+    wants(unmap(SHARED + 4096, &gone) == LIMZHUR_NOT_MAPPED);
+    wants(protect(SHARED + 4096, true) == LIMZHUR_NOT_MAPPED);
+}
+
+/* Whether the library says of the page what its entry says, and no entry on the way takes rights away. */
+static bool is_told(uint64_t address, uint64_t entry, uint64_t index) {
+    struct limzhur_place place;
+    return limzhur_lookup(&tables, address, &place) && place.frame == (entry & 0xffffffffff000) / 4096 + index && place.write == (entry >> 1 & 1)
+        && place.user == (entry >> 2 & 1) && place.fetch == !(entry >> 63);
+}
+
+/* The pages of a table, each beside what the library says. A processor that used the tables has changed no entry: each has its
+ * accessed bit, and that of a page its dirty bit, since they were written. */
+static uint64_t walk(uint64_t frame, uint64_t address, int shift) {
+    uint64_t found = 0;
+    for (uint64_t index = 0; index < 512; index++) {
+        uint64_t entry = words[512 * (frame - first_frame) + index], page = address + (index << shift);
+        if (shift == 39 && index >= 256) page |= 0xffff000000000000;
+        if (!(entry & 1)) continue;
+        if (shift > 12 && !(entry & 0x80)) {
+            found += walk((entry & 0xffffffffff000) / 4096, page, shift - 9);
+            continue;
+        }
+        wants(shift <= 21 && (entry & 0x60) == 0x60);
+        for (uint64_t part = 0; part < 1ull << (shift - 12); part++, found++) wants(is_told(page + (part << 12), entry, part));
+    }
+    return found;
+}
+
+uint64_t look_at_paging(void) {
+    take_rights();
+    share_a_frame();
+    use_a_large_page();
+    be_refused();
+    set_cr3(first_tables);
+    wants(walk(limzhur_tables_root(&tables), 0, 39) == pages);
+    set_cr3(own_tables);
+    return wrong;
+}
+
+uint64_t mapped_pages(void) { return pages; }
+
+uint64_t made_tables(void) {
+    set_cr3(first_tables);
+    uint64_t left = limzhur_tables_left(&tables);
+    set_cr3(own_tables);
+    return TABLE_FRAMES - left;
+}
