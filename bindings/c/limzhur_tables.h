@@ -1,0 +1,124 @@
+/*
+ * Proved page tables, for C: AMD64's four levels, in frames that the caller gives. Freestanding: they need no C library.
+ *
+ * The tables lie in an area of frames, which is theirs for good. Their pages lead to any other frames below a limit: memory
+ * that the kernel uses as it likes, or devices. Two pages may lead to one frame. Nothing in the area is ever mapped.
+ *
+ * Every function is proved from what stands here as "C keeps". Nothing checks C, so C has to keep it:
+ *   - The room and the words of the area are the tables' from limzhur_tables_init on. C neither writes nor reads them but
+ *     by these calls. A processor may walk them at any time: each entry has its accessed bit, and each entry of a page its
+ *     dirty bit, so no walk writes to them.
+ *   - A handle leads to one set of tables, and each has one handle. No two calls run at the same time. There is no lock:
+ *     the caller has it.
+ *
+ * What the tables mean is where each page leads. A processor whose CR3 has the root's address finds just that, whatever
+ * else its memory holds: that is proved over the words of the entries, for a processor's own walk with its reserved bits.
+ *
+ * What has to be flushed (INVLPG, on each processor that uses the tables): nothing after limzhur_map
+ * and limzhur_map_large; the one page after
+ * limzhur_unmap, before its frame has another use, and after limzhur_protect; the 2 MiB after limzhur_unmap_large. Every other
+ * page leads where it led.
+ *
+ * What the processor needs: EFER.NXE (bit 11), since a page without the right to fetch has bit 63 in its entry; and CR0.WP
+ * (bit 16), if the right to write is to mean something to the kernel itself. While a call runs the words of the area have to
+ * be mapped, which the tables themselves never do: a kernel that runs on them changes to other tables for the call.
+ *
+ * A frame is given by its number: its physical address divided by 4096. An address names its whole page.
+ */
+#ifndef LIMZHUR_TABLES_H
+#define LIMZHUR_TABLES_H
+
+#include <stdbool.h>
+#include <stddef.h>
+#include <stdint.h>
+
+#ifdef __cplusplus
+extern "C" {
+#endif
+
+/* Bytes that are room enough for the state of page tables, at a multiple of 8. */
+#define LIMZHUR_TABLES_ROOM 128
+
+/* A handle: it leads to the state of page tables. */
+struct limzhur_tables {
+    void *room;
+};
+
+/* Where a page leads, and what all entries on the way grant. Reads are always granted. */
+struct limzhur_place {
+    uint64_t frame;
+    bool write;
+    bool user;
+    bool fetch;
+};
+
+/* What calls answer. Of several reasons the first in this order is told, and then nothing is changed. */
+enum limzhur_tables_answer {
+    LIMZHUR_DONE = 0,
+    /* Bits 47 to 63 of the address differ. */
+    LIMZHUR_NOT_CANONICAL = 1,
+    /* The page to be mapped is mapped. */
+    LIMZHUR_IS_MAPPED = 2,
+    /* The frame is not below the limit. A frame of 2^40 and more is told so before anything is looked at. */
+    LIMZHUR_PAST_LIMIT = 3,
+    /* The frame is one of the area. */
+    LIMZHUR_IN_AREA = 4,
+    /* Fewer frames are left than the page needs tables. */
+    LIMZHUR_NO_FRAMES = 5,
+    /* The page to be changed is not mapped. */
+    LIMZHUR_NOT_MAPPED = 6,
+    /* The page to be changed lies in a large page. */
+    LIMZHUR_IN_LARGE_PAGE = 7,
+    /* The 2 MiB to be mapped by one entry have a table: a page of them was mapped before. */
+    LIMZHUR_HAS_TABLE = 8,
+    /* The address is no multiple of 2 MiB, or the frame none of 512. This is told after LIMZHUR_NOT_CANONICAL. */
+    LIMZHUR_MISALIGNED = 9,
+};
+
+/* How many bytes of room the state takes: at most LIMZHUR_TABLES_ROOM. */
+size_t limzhur_tables_room(void);
+
+/*
+ * Begins page tables with no page in a room, in the frames from `first` on, of which `count` words are at `words`: 512 for
+ * each frame. The first frame is the root table, the others are left for further tables. Pages lie in frames below `limit`.
+ *
+ * C keeps: `room` has limzhur_tables_room() bytes, at a multiple of 8. `words` has 8 * count bytes, at a multiple of 8, and
+ * is not null; room and words are apart, and C gives them until it needs the tables no more. count is a multiple of 512,
+ * above 0 and below 2^60. first + count / 512 is at most limit, and limit is below 2^40. What a processor finds is proved
+ * of the words at `words`: they are those of the frames from `first` on.
+ */
+void limzhur_tables_init(void *room, uint64_t *words, size_t count, uint64_t first, uint64_t limit);
+
+/* The frame of the root table: CR3 has 4096 times it. */
+uint64_t limzhur_tables_root(struct limzhur_tables *tables);
+
+/* How many frames are left for tables. A page needs at most three, and none if a page of the same 2 MiB was mapped. */
+uint64_t limzhur_tables_left(struct limzhur_tables *tables);
+
+/* Tells where the page of an address leads. False if it is not mapped, or the address not canonical; nothing is then told. */
+bool limzhur_lookup(struct limzhur_tables *tables, uint64_t address, struct limzhur_place *place);
+
+/* Maps the page of an address to a frame, with the tables that it misses. Nothing is to be flushed. */
+uint32_t limzhur_map(struct limzhur_tables *tables, uint64_t address, uint64_t frame, bool write, bool user, bool fetch);
+
+/* Ends the mapping of the page of an address, and tells its frame. Its tables stay. The page is to be flushed. */
+uint32_t limzhur_unmap(struct limzhur_tables *tables, uint64_t address, uint64_t *frame);
+
+/* Gives the page of an address other rights; it keeps its frame. The page is to be flushed. */
+uint32_t limzhur_protect(struct limzhur_tables *tables, uint64_t address, bool write, bool user, bool fetch);
+
+/*
+ * Maps the 2 MiB from an address on to the 512 frames from `frame` on, by one entry, with the tables above it that are missing.
+ * LIMZHUR_IS_MAPPED says that one entry maps them already; a frame that is told is one of the 512. Nothing is to be flushed.
+ */
+uint32_t limzhur_map_large(struct limzhur_tables *tables, uint64_t address, uint64_t frame, bool write, bool user, bool fetch);
+
+/* Ends the mapping of the 2 MiB from an address on, which one entry maps, and tells the first of their frames. They are to be
+ * flushed. */
+uint32_t limzhur_unmap_large(struct limzhur_tables *tables, uint64_t address, uint64_t *frame);
+
+#ifdef __cplusplus
+}
+#endif
+
+#endif
