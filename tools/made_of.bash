@@ -52,8 +52,9 @@ is_made_of() {
     done
 }
 
-# As many as there are processors, and 2 GB of free memory for each.
+# As many as RT_JOBS says, as rt has it; else as many as there are processors, and 2 GB of free memory for each.
 jobs_for_proofs() {
+    [[ ! "${RT_JOBS-}" =~ ^[1-9][0-9]*$ ]] || { echo "$RT_JOBS" && return; }
     awk -v most="$(nproc)" '/^MemAvailable/ { n = int($2 / 2000000) } END { print n < 1 ? 1 : n < most ? n : most }' /proc/meminfo
 }
 
