@@ -6,7 +6,7 @@ const STYLE: &str = "\
 <title>A heap after a run</title>
 <style>
 text{font:13px ui-sans-serif,system-ui,Helvetica,Arial,sans-serif;fill:#1f2328}
-.m{font-family:ui-monospace,SFMono-Regular,Menlo,Consolas,monospace;font-size:12px}
+.m{font-family:ui-monospace,SFMono-Regular,Menlo,Consolas,monospace;font-size:11px}
 .h{font-size:20px;font-weight:600}.n{font-size:19px;font-weight:600}.q{font-weight:600}.e{text-anchor:end}.c{text-anchor:middle}
 .none{fill:none;pointer-events:all}.panel{rx:6px}
 .paper{fill:#fff}.panel{fill:#f6f8fa}.line{fill:#d1d9e0}.u{fill:#0969b5}.f{fill:#f2a900}.v{fill:#e0437d}.t{fill:#dfd5b0}.o{fill:#1f2328}.w{fill:#5a8500}.l{fill:#f0531f}
