@@ -49,7 +49,7 @@ large_bits n lt rights = go rights.write rights.user rights.fetch
     go false false true = record { names = omega arith; present = grind (arith, nat_tests); writable = grind (arith, nat_tests); usable = grind (arith, nat_tests); large = grind (arith, nat_tests); executable = grind (arith, nat_tests) }
     go false false false = record { names = omega arith; present = grind (arith, nat_tests); writable = grind (arith, nat_tests); usable = grind (arith, nat_tests); large = grind (arith, nat_tests); executable = grind (arith, nat_tests) }
 
-step_large : (words : List ℕ) (t j frame : ℕ) (rights : Rights) → frame < 2 ^ 40 → frame % 512 ≡ 0 → frame + 511 < frame_count words →
+pub step_large : (words : List ℕ) (t j frame : ℕ) (rights : Rights) → frame < 2 ^ 40 → frame % 512 ≡ 0 → frame + 511 < frame_count words →
     word_at words t j ≡ large_entry frame rights → large_step words (top t) j ≡ Some (granted frame rights)
 unfolding large_step
 step_large words t j frame rights small aligned within e =

@@ -3,28 +3,21 @@ use Rattle.std.proofs.Common.{◌≡◌, ℕ, ◌^◌, ◌+◌, ◌-◌, ◌*◌
 use Rattle.std.proofs.lemmas.Bool.{cases_eq, cases_lt}
 use Rattle.paging_core.specs.Entry.{has_bit, table_entry, page_entry}
 use Rattle.paging_core.specs.Plain.{IsPlain}
-use Rattle.paging_core.proofs.Plain.{plain_kept, plain_zero, plain_table, plain_page}
+use Rattle.paging_core.proofs.Plain.{plain_kept, plain_zero, plain_table}
 use Rattle.paging_core.specs.Memory.{word_at, frame_count, cleared}
 use Rattle.std.specs.Prelude.{IsSome}
 use Rattle.paging_core.specs.Prefix.{prefix_of}
-use Rattle.paging_core.specs.Walk.{Place, step, reach, large_of, walk_of, reached, top, page_in}
+use Rattle.paging_core.specs.Walk.{Place, reach, large_of, walk_of, reached, top, page_in}
 use Rattle.paging_core.specs.Pool.{is_free, free_count, FreeBelow}
 use Rattle.paging_core.specs.Tree.{IsTree}
 use Rattle.paging_core.specs.Large.{slot_of, above, IsLargeEntry, IsLargeCut}
-use Rattle.paging_core.specs.declared.page_table.Rights.{Rights}
-use Rattle.paging_core.proofs.Reach.{step_zero, reach_last, reach_in}
-use Rattle.paging_core.proofs.Slot.{slot_there, slot_large, slot_larges, slot_others}
+use Rattle.paging_core.proofs.Reach.{step_zero, reach_in}
+use Rattle.paging_core.proofs.SlotTable.{rights_of, at_page, slot_table, slot_no_large, slot_outside, slot_still, slot_inside, slot_kept, slot_plain}
 use Rattle.paging_core.proofs.Prefixes.{walk_reach}
-use Rattle.paging_core.proofs.Made.{large_below, step_table, large_table}
-use Rattle.paging_core.proofs.LastEntry.{step_page}
+use Rattle.paging_core.proofs.Made.{large_below}
 use Rattle.paging_core.proofs.PageWritten.{same_byte}
 use Rattle.paging_core.proofs.PageChanged.{some_place}
-use Rattle.paging_core.proofs.LargeGone.{slot_place}
 use Rattle.paging_core.proofs.Words.{length_cleared, word_at_cleared_same, word_at_cleared_other, word_at_set_same, word_at_set_other}
-
--- the rights of a place
-abbrev pub rights_of : Place → Rights
-rights_of large = record { write = large.write; user = large.user; fetch = large.fetch }
 
 module _ (old new : List ℕ) (free free' : List Bool) (root page keep table : ℕ) (large : Place)
     (some : 0 < keep)
@@ -45,16 +38,12 @@ module _ (old new : List ℕ) (free free' : List Bool) (root page keep table : �
   below : large.frame + 511 < frame_count new
   below = let b = large_below old root (slot_of page) large was in omega (arith, b.1)
 
-  -- page k of the slot, by its number
-  at_page : (n : ℕ) → n / 512 ≡ slot_of page → reach old root 4 n ≡ Some (page_in (n % 512) large)
-  at_page n e = reach_in old root n large (ap (large_of old root) e ∙ was)
-
   -- a frame of the large page is met at its page alone
   its_page : (l n k : ℕ) (b : Place) → l ≤ 4 → k < 512 → reach old root l n ≡ Some b → b.frame ≡ large.frame + k → (l ≡ 4) × (n ≡ 512 * slot_of page + k)
   its_page l n k b le lk is e =
       let p : (512 * slot_of page + k) / 512 ≡ slot_of page = omega arith in
       let q : (512 * slot_of page + k) % 512 ≡ k = omega arith in
-      let at : reach old root 4 (512 * slot_of page + k) ≡ Some (page_in k large) = at_page (512 * slot_of page + k) p ∙ ap (λ j. Some (page_in j large)) q in
+      let at : reach old root 4 (512 * slot_of page + k) ≡ Some (page_in k large) = at_page old root page large was (512 * slot_of page + k) p ∙ ap (λ j. Some (page_in j large)) q in
       tree.distinct l n 4 (512 * slot_of page + k) b (page_in k large) le (omega arith) (λ _ _. refl) is at e
 
   no_table : (l n : ℕ) (b : Place) → l < 4 → reach old root l n ≡ Some b → b.frame ≡ large.frame + keep → ⊥
@@ -67,34 +56,23 @@ module _ (old new : List ℕ) (free free' : List Bool) (root page keep table : �
       word_at new b.frame j ≡ word_at old b.frame j
   same l n b j lt is lj ne = words b.frame j lj (no_table l n b lt is) ne
 
-  table_now : reach new root 3 (slot_of page) ≡ Some (top (large.frame + keep))
-  table_now =
-      ap (reach new root 3) (sym (slot_place page))
-      ∙ (slot_there old new root (above page 2) (slot_of page % 512) (top table) (omega arith) size met same alone
-      ∙ step_table new 2 table (slot_of page % 512) (large.frame + keep) (omega arith) (let b = below in omega arith) entry)
+  keep_in : large.frame + keep < frame_count old
+  keep_in = let b = large_below old root (slot_of page) large was in omega (arith, b.1)
 
-  no_large : large_of new root (slot_of page) ≡ None
-  no_large =
-      ap (large_of new root) (sym (slot_place page))
-      ∙ (slot_large old new root (above page 2) (slot_of page % 512) (top table) (omega arith) size met same alone
-      ∙ large_table new table (slot_of page % 512) (large.frame + keep) (omega arith) entry)
+  table_now : reach new root 3 (slot_of page) ≡ Some (top (large.frame + keep))
+  table_now = slot_table old new root page keep table (large.frame + keep) large (omega arith) bounded (omega arith) keep_in was met size page_words entry same alone
 
   others : (l n : ℕ) → l ≤ 4 → (l ≡ 3 → n ≡ slot_of page → ⊥) → (l ≡ 4 → n / 512 ≡ slot_of page → ⊥) → reach new root l n ≡ reach old root l n
-  others l n le a b =
-      slot_others old new root (above page 2) (slot_of page % 512) (top table) (omega arith) size met same alone l n le
-      (λ x y. a x (y ∙ slot_place page)) (λ x y. b x (y ∙ slot_place page))
+  others = slot_outside old new root page keep table (large.frame + keep) large (omega arith) bounded (omega arith) keep_in was met size page_words entry same alone
 
   -- the pages of the slot now
-  inside : (n : ℕ) → n / 512 ≡ slot_of page → reach new root 4 n ≡ step new 3 (top (large.frame + keep)) (n % 512)
-  inside n e = reach_last new root n (top (large.frame + keep)) (ap (reach new root 3) e ∙ table_now)
-
   inside_kept : (n : ℕ) → n / 512 ≡ slot_of page → n % 512 < keep → reach new root 4 n ≡ Some (page_in (n % 512) large)
-  inside_kept n e lt =
-      inside n e
-      ∙ step_page new (large.frame + keep) (n % 512) (large.frame + n % 512) (rights_of large) (omega arith) (let b = below in omega arith) (page_words (n % 512) lt)
+  inside_kept = slot_kept old new root page keep table (large.frame + keep) large (omega arith) bounded (omega arith) keep_in was met size page_words entry same alone
 
   inside_gone : (n : ℕ) → n / 512 ≡ slot_of page → keep ≤ n % 512 → reach new root 4 n ≡ None
-  inside_gone n e le = inside n e ∙ step_zero new 3 (top (large.frame + keep)) (n % 512) (blank (n % 512) le (omega arith))
+  inside_gone n e le =
+      slot_inside old new root page keep table (large.frame + keep) large (omega arith) bounded (omega arith) keep_in was met size page_words entry same alone n e
+      ∙ step_zero new 3 (top (large.frame + keep)) (n % 512) (blank (n % 512) le (omega arith))
 
   -- what is met now: a page that stays, the new table, or what was met outside the slot
   record IsKept (l n : ℕ) (b : Place) : Type 0 where
@@ -185,12 +163,12 @@ module _ (old new : List ℕ) (free free' : List Bool) (root page keep table : �
   -- what is met now was out before
   was_used : (l n : ℕ) (b : Place) → l ≤ 4 → IsKept l n b ⊎ (IsNewTable l n b ⊎ IsOutside l n b) → is_free free b.frame ≡ false
   was_used l n b le (inl x) =
-      ap (is_free free) x.framed ∙ tree.used 4 n (page_in (n % 512) large) (omega arith) (at_page n x.in_slot)
+      ap (is_free free) x.framed ∙ tree.used 4 n (page_in (n % 512) large) (omega arith) (at_page old root page large was n x.in_slot)
   was_used l n b le (inr (inl x)) =
       let p : (512 * slot_of page + keep) / 512 ≡ slot_of page = omega arith in
       let q : (512 * slot_of page + keep) % 512 ≡ keep = omega arith in
       let at : reach old root 4 (512 * slot_of page + keep) ≡ Some (page_in keep large) =
-      at_page (512 * slot_of page + keep) p ∙ ap (λ j. Some (page_in j large)) q in
+      at_page old root page large was (512 * slot_of page + keep) p ∙ ap (λ j. Some (page_in j large)) q in
       ap (is_free free) (ap (λ m. m.frame) x.is) ∙ tree.used 4 (512 * slot_of page + keep) (page_in keep large) (omega arith) at
   was_used l n b le (inr (inr x)) = tree.used l n b le x.met_old
 
@@ -208,9 +186,7 @@ module _ (old new : List ℕ) (free free' : List Bool) (root page keep table : �
       -- an entry of the new table
       in_table : (i : ℕ) → i < 512 → (i < keep) ⊎ (keep ≤ i) → has_bit (word_at new (large.frame + keep) i) 0 ≡ true →
           IsPlain new 3 (word_at new (large.frame + keep) i)
-      in_table i li (inl lo) =
-          let e = page_words i lo in
-          rw e (λ _. plain_page new (large.frame + i) (rights_of large) (omega arith) (let b = below in omega arith))
+      in_table i li (inl lo) = slot_plain old new root page keep table (large.frame + keep) large (omega arith) bounded (omega arith) keep_in was met size page_words entry same alone i lo
       in_table i li (inr hi) = plain_zero new 3 (word_at new (large.frame + keep) i) (blank i hi li)
 
       -- an entry of a table that was there
@@ -256,16 +232,15 @@ module _ (old new : List ℕ) (free free' : List Bool) (root page keep table : �
         let p = number k (omega arith) in
         walk_reach new root (512 * page + k)
         ∙ (inside_kept (prefix_of (512 * page + k) 4) p.0 (let q : prefix_of (512 * page + k) 4 % 512 ≡ k = p.1 in omega arith)
-        ∙ (sym (at_page (prefix_of (512 * page + k) 4) p.0) ∙ sym (walk_reach old root (512 * page + k))));
+        ∙ (sym (at_page old root page large was (prefix_of (512 * page + k) 4) p.0) ∙ sym (walk_reach old root (512 * page + k))));
     gone = λ k lo hi.
         let p = number k hi in
         walk_reach new root (512 * page + k)
         ∙ inside_gone (prefix_of (512 * page + k) 4) p.0 (let q : prefix_of (512 * page + k) 4 % 512 ≡ k = p.1 in omega arith);
     table = table_now;
-    no_large = no_large;
+    no_large = slot_no_large old new root page keep table (large.frame + keep) large (omega arith) bounded (omega arith) keep_in was met size page_words entry same alone;
     others = others;
-    larges = λ n ne.
-        slot_larges old new root (above page 2) (slot_of page % 512) (top table) (omega arith) size met same alone n (λ e. ne (e ∙ slot_place page));
+    larges = slot_still old new root page keep table (large.frame + keep) large (omega arith) bounded (omega arith) keep_in was met size page_words entry same alone;
     given = given;
     kept = kept;
     count = count;
@@ -299,7 +274,7 @@ module _ (old new : List ℕ) (free free' : List Bool) (root page keep table : �
 
       old_of : (l n : ℕ) (b : Place) → l ≡ 4 → IsKept l n b ⊎ (IsNewTable l n b ⊎ IsOutside l n b) →
           (a : Place) × (reach old root l n ≡ Some a) × (a.frame ≡ b.frame)
-      old_of l n b four (inl x) = (page_in (n % 512) large, ap (λ k. reach old root k n) four ∙ at_page n x.in_slot, sym x.framed)
+      old_of l n b four (inl x) = (page_in (n % 512) large, ap (λ k. reach old root k n) four ∙ at_page old root page large was n x.in_slot, sym x.framed)
       old_of l n b four (inr (inl x)) = let r : l ≡ 3 = x.at_three in absurd (omega arith)
       old_of l n b four (inr (inr x)) = (b, x.met_old, refl)
 

@@ -1,17 +1,19 @@
--- The entry that maps a slot is cleared.
+-- The entry that maps a slot is written, and names no table: it maps the slot's frames still, or it is cleared.
 use Rattle.std.proofs.Common.{◌≡◌, ℕ, ◌+◌, ◌*◌, ◌/◌, ◌%◌, ◌^◌, ◌<◌, ◌≤◌, Bool, true, List, length, set, Some, None, refl, sym, ap, ◌∙◌, ◌⊎◌, inl, inr, arith, length-set}
 use Rattle.std.proofs.lemmas.Bool.{cases_eq}
 use Rattle.std.specs.Prelude.{IsSome}
 use Rattle.paging_core.specs.Area.{Area}
 use Rattle.paging_core.specs.Memory.{word_at, frame_count}
 use Rattle.paging_core.specs.Prefix.{prefix_of}
-use Rattle.paging_core.specs.Walk.{Place, large_step, reach, large_of, large_from, walk_of, reached}
+use Rattle.paging_core.specs.Walk.{Place, step, large_step, reach, large_of, large_from, walk_of, reached, page_in}
 use Rattle.paging_core.specs.Tree.{IsTreeIn}
 use Rattle.paging_core.specs.Large.{slot_of, above, IsLargeEntry, IsLargeCleared, IsLargeRemoved}
 use Rattle.paging_core.specs.Entry.{has_bit}
 use Rattle.paging_core.specs.Plain.{IsPlain}
+use Rattle.paging_core.specs.Pool.{is_free}
+use Rattle.paging_core.proofs.LastEntry.{some_or_none}
 use Rattle.paging_core.proofs.Plain.{plain_kept, plain_zero}
-use Rattle.paging_core.proofs.Reach.{step_zero, large_zero, large_is, large_none, reach_none}
+use Rattle.paging_core.proofs.Reach.{step_zero, large_zero, large_is, large_none, reach_none, reach_in}
 use Rattle.paging_core.proofs.Slot.{slot_there, slot_large, slot_larges, slot_others}
 use Rattle.paging_core.proofs.Words.{word_at_set_same, word_at_set_other}
 use Rattle.paging_core.proofs.Prefixes.{prefix_more, walk_reach}
@@ -41,116 +43,183 @@ large_at words root page at met =
     large_is words root (slot_of page)
     ∙ (ap (λ n. large_from words (reach words root 2 n) (slot_of page % 512)) e ∙ ap (λ o. large_from words o (slot_of page % 512)) met)
 
-module _ (old new : List ℕ) (root page : ℕ)
+module _ (old new : List ℕ) (root page value : ℕ) (large table : Place)
     (root_in : root < frame_count old)
-    (one : IsLargeCleared old new root page) where
-  size : length new ≡ length old
-  size = rw one.words (length-set old (512 * one.table.frame + slot_of page % 512) 0)
+    (was : large_of old root (slot_of page) ≡ Some large)
+    (met : reach old root 2 (above page 2) ≡ Some table)
+    (written : new ≡ set old (512 * table.frame + slot_of page % 512) value) where
+  pub entry_size : length new ≡ length old
+  entry_size = rw written (length-set old (512 * table.frame + slot_of page % 512) value)
 
-  table_in : one.table.frame < frame_count old
-  table_in = reach_below old root 2 (above page 2) one.table (omega arith) root_in one.met
+  word_stays : (f i : ℕ) → i < 512 → (f ≡ table.frame → i ≡ slot_of page % 512 → ⊥) → word_at new f i ≡ word_at old f i
+  word_stays f i li ne = ap (λ w. word_at w f i) written ∙ word_at_set_other old table.frame (slot_of page % 512) value f i (omega arith) li ne
 
-  word_stays : (f i : ℕ) → i < 512 → (f ≡ one.table.frame → i ≡ slot_of page % 512 → ⊥) → word_at new f i ≡ word_at old f i
-  word_stays f i li ne =
-      ap (λ w. word_at w f i) one.words ∙ word_at_set_other old one.table.frame (slot_of page % 512) 0 f i (omega arith) li ne
+  pub entry_word : word_at new table.frame (slot_of page % 512) ≡ value
+  entry_word =
+      ap (λ w. word_at w table.frame (slot_of page % 512)) written
+      ∙ word_at_set_same old table.frame (slot_of page % 512) value (reach_below old root 2 (above page 2) table (omega arith) root_in met) (omega arith)
 
-  zero_here : word_at new one.table.frame (slot_of page % 512) ≡ 0
-  zero_here =
-      ap (λ w. word_at w one.table.frame (slot_of page % 512)) one.words
-      ∙ word_at_set_same old one.table.frame (slot_of page % 512) 0 table_in (omega arith)
+  module _ {area : Area} (free : List Bool) (tree : IsTreeIn area old root free) (no_step : step new 2 table (slot_of page % 512) ≡ None) where
+    alone : (l n : ℕ) (b : Place) → l < 4 → reach old root l n ≡ Some b → b.frame ≡ table.frame → (l ≡ 2) × (n ≡ above page 2)
+    alone l n b lt is e = tree.distinct l n 2 (above page 2) b table (omega arith) (omega arith) (λ x y. absurd (omega arith)) is met e
 
-  module _ {area : Area} (free : List Bool) (tree : IsTreeIn area old root free) where
-    alone : (l n : ℕ) (b : Place) → l < 4 → reach old root l n ≡ Some b → b.frame ≡ one.table.frame → (l ≡ 2) × (n ≡ above page 2)
-    alone l n b lt is e = tree.distinct l n 2 (above page 2) b one.table (omega arith) (omega arith) (λ x y. absurd (omega arith)) is one.met e
-
-    same : (l n : ℕ) (b : Place) (j : ℕ) → l < 4 → reach old root l n ≡ Some b → j < 512 → (b.frame ≡ one.table.frame → j ≡ slot_of page % 512 → ⊥) →
+    same : (l n : ℕ) (b : Place) (j : ℕ) → l < 4 → reach old root l n ≡ Some b → j < 512 → (b.frame ≡ table.frame → j ≡ slot_of page % 512 → ⊥) →
         word_at new b.frame j ≡ word_at old b.frame j
     same l n b j lt is lj ne = word_stays b.frame j lj ne
 
     no_table : reach new root 3 (slot_of page) ≡ None
     no_table =
         ap (reach new root 3) (sym (slot_place page))
-        ∙ (slot_there old new root (above page 2) (slot_of page % 512) one.table (omega arith) size one.met same alone
-        ∙ step_zero new 2 one.table (slot_of page % 512) zero_here)
+        ∙ (slot_there old new root (above page 2) (slot_of page % 512) table (omega arith) entry_size met same alone ∙ no_step)
 
-    no_large : large_of new root (slot_of page) ≡ None
-    no_large =
+    pub entry_large : large_of new root (slot_of page) ≡ large_step new table (slot_of page % 512)
+    entry_large =
         ap (large_of new root) (sym (slot_place page))
-        ∙ (slot_large old new root (above page 2) (slot_of page % 512) one.table (omega arith) size one.met same alone
-        ∙ large_zero new one.table (slot_of page % 512) zero_here)
+        ∙ slot_large old new root (above page 2) (slot_of page % 512) table (omega arith) entry_size met same alone
 
-    others : (l n : ℕ) → l ≤ 4 → (l ≡ 4 → n / 512 ≡ slot_of page → ⊥) → reach new root l n ≡ reach old root l n
-    others l n le ne = go (cases_eq l 3) (cases_eq n (slot_of page))
+    pub entry_larges : (n : ℕ) → (n ≡ slot_of page → ⊥) → large_of new root n ≡ large_of old root n
+    entry_larges n ne =
+        slot_larges old new root (above page 2) (slot_of page % 512) table (omega arith) entry_size met same alone n (λ e. ne (e ∙ slot_place page))
+
+    pub entry_others : (l n : ℕ) → l ≤ 4 → (l ≡ 4 → n / 512 ≡ slot_of page → ⊥) → reach new root l n ≡ reach old root l n
+    entry_others l n le ne = go (cases_eq l 3) (cases_eq n (slot_of page))
       where
         out : (l ≡ 3 → n ≡ slot_of page → ⊥) → reach new root l n ≡ reach old root l n
         out away =
-            slot_others old new root (above page 2) (slot_of page % 512) one.table (omega arith) size one.met same alone l n le
+            slot_others old new root (above page 2) (slot_of page % 512) table (omega arith) entry_size met same alone l n le
             (λ x y. away x (y ∙ slot_place page)) (λ x y. ne x (y ∙ slot_place page))
 
         go : (l ≡ 3) ⊎ (l ≡ 3 → ⊥) → (n ≡ slot_of page) ⊎ (n ≡ slot_of page → ⊥) → reach new root l n ≡ reach old root l n
-        go (inl x) (inl y) = rw (x, y) (no_table ∙ sym (large_none old root (slot_of page) one.large one.was))
+        go (inl x) (inl y) = rw (x, y) (no_table ∙ sym (large_none old root (slot_of page) large was))
         go (inr x) _ = out (λ e _. x e)
         go _ (inr y) = out (λ _ e. y e)
 
-    none_inside : (n : ℕ) → n / 512 ≡ slot_of page → reach new root 4 n ≡ None
-    none_inside n e = reach_none new root n (ap (reach new root 3) e ∙ no_table) (ap (large_of new root) e ∙ no_large)
+    -- the pages of the slot now
+    pub entry_pages : (n : ℕ) (now : Place) → n / 512 ≡ slot_of page → large_step new table (slot_of page % 512) ≡ Some now →
+        reach new root 4 n ≡ Some (page_in (n % 512) now)
+    entry_pages n now e is = reach_in new root n now (ap (large_of new root) e ∙ (entry_large ∙ is))
 
-    -- what is met was met before
-    met_before : (l n : ℕ) (b : Place) → l ≤ 4 → reach new root l n ≡ Some b → reach old root l n ≡ Some b
-    met_before l n b le is = go (cases_eq l 4) (cases_eq (n / 512) (slot_of page))
-      where
-        go : (l ≡ 4) ⊎ (l ≡ 4 → ⊥) → (n / 512 ≡ slot_of page) ⊎ (n / 512 ≡ slot_of page → ⊥) → reach old root l n ≡ Some b
-        go (inl x) (inl y) = let z = none_inside n y in let w : reach new root 4 n ≡ Some b = rw (← x) is in absurd (cc)
-        go (inr x) _ = sym (others l n le (λ e _. x e)) ∙ is
-        go _ (inr y) = sym (others l n le (λ _ e. y e)) ∙ is
+    pub entry_none : (n : ℕ) → n / 512 ≡ slot_of page → large_step new table (slot_of page % 512) ≡ None → reach new root 4 n ≡ None
+    entry_none n e is = reach_none new root n (ap (reach new root 3) e ∙ no_table) (ap (large_of new root) e ∙ (entry_large ∙ is))
 
-    stays_plain : (l n i : ℕ) (b : Place) → l < 4 → i < 512 → reach old root l n ≡ Some b → (b.frame ≡ one.table.frame → i ≡ slot_of page % 512 → ⊥) →
-        has_bit (word_at new b.frame i) 0 ≡ true → IsPlain new l (word_at new b.frame i)
-    stays_plain l n i b lt li is ne = plain_kept old new l (word_at old b.frame i) (word_at new b.frame i) size (word_stays b.frame i li ne) (tree.plain.each l n i b lt li is)
+    -- no page of another slot is changed
+    pub entry_elsewhere : (other : ℕ) → (other / 512 % 2 ^ 27 ≡ slot_of page → ⊥) → walk_of new root other ≡ walk_of old root other
+    entry_elsewhere other ne =
+        let p : prefix_of other 4 / 512 ≡ other / 512 % 2 ^ 27 = omega arith in
+        walk_reach new root other ∙ (entry_others 4 (prefix_of other 4) (omega arith) (λ _ e. ne (sym p ∙ e)) ∙ sym (walk_reach old root other))
 
+    -- what is met now was met before, and its frame is as it was
+    record WasMet (l n : ℕ) (b : Place) : Type 0 where
+      before : Place
+      at : reach old root l n ≡ Some before
+      framed : before.frame ≡ b.frame
+      table_stays : l < 4 → before ≡ b
+
+    module _ (keeps : (now : Place) → large_step new table (slot_of page % 512) ≡ Some now → now.frame ≡ large.frame)
+        (plain : has_bit value 0 ≡ true → IsPlain new 2 value) where
+      met_before : (l n : ℕ) (b : Place) → l ≤ 4 → reach new root l n ≡ Some b → WasMet l n b
+      met_before l n b le is = go (cases_eq l 4) (cases_eq (n / 512) (slot_of page))
+        where
+          in_slot : l ≡ 4 → n / 512 ≡ slot_of page → ((now : Place) × (large_step new table (slot_of page % 512) ≡ Some now)) ⊎ (large_step new table (slot_of page % 512) ≡ None) →
+              WasMet l n b
+          in_slot x y (inl p) =
+              let i = entry_pages n p.0 y p.1 in
+              let w : reach new root 4 n ≡ Some b = rw (← x) is in
+              let q : page_in (n % 512) p.0 ≡ b = cc in
+              record {
+                before = page_in (n % 512) large;
+                at = ap (λ k. reach old root k n) x ∙ reach_in old root n large (ap (large_of old root) y ∙ was);
+                framed = ap (λ f. f + n % 512) (sym (keeps p.0 p.1)) ∙ ap (λ m. m.frame) q;
+                table_stays = λ lt. absurd (omega arith);
+              }
+          in_slot x y (inr none) = let z = entry_none n y none in let w : reach new root 4 n ≡ Some b = rw (← x) is in absurd (cc)
+
+          go : (l ≡ 4) ⊎ (l ≡ 4 → ⊥) → (n / 512 ≡ slot_of page) ⊎ (n / 512 ≡ slot_of page → ⊥) → WasMet l n b
+          go (inl x) (inl y) = in_slot x y (some_or_none (large_step new table (slot_of page % 512)))
+          go (inr x) _ = record { before = b; at = sym (entry_others l n le (λ e _. x e)) ∙ is; framed = refl; table_stays = λ _. refl }
+          go _ (inr y) = record { before = b; at = sym (entry_others l n le (λ _ e. y e)) ∙ is; framed = refl; table_stays = λ _. refl }
+
+      -- a table that is met
+      table_before : (l n : ℕ) (b : Place) → l < 4 → reach new root l n ≡ Some b → reach old root l n ≡ Some b
+      table_before l n b lt is = let m = met_before l n b (omega arith) is in m.at ∙ ap Some (m.table_stays lt)
+
+      stays_plain : (l n i : ℕ) (b : Place) → l < 4 → i < 512 → reach old root l n ≡ Some b → (b.frame ≡ table.frame → i ≡ slot_of page % 512 → ⊥) →
+          has_bit (word_at new b.frame i) 0 ≡ true → IsPlain new l (word_at new b.frame i)
+      stays_plain l n i b lt li is ne =
+          plain_kept old new l (word_at old b.frame i) (word_at new b.frame i) entry_size (word_stays b.frame i li ne) (tree.plain.each l n i b lt li is)
+
+      pub entry_tree : IsTreeIn area new root free
+      entry_tree = record {
+        rights = λ l n b lt is. tree.rights l n b lt (table_before l n b lt is);
+        distinct = λ l n k j a b ll lk apart x y e.
+            let p = met_before l n a ll x in
+            let q = met_before k j b lk y in
+            tree.distinct l n k j p.before q.before ll lk apart p.at q.at (p.framed ∙ (e ∙ sym q.framed));
+        used = λ l n b le is. let m = met_before l n b le is in ap (is_free free) (sym m.framed) ∙ tree.used l n m.before le m.at;
+        inside = λ l n b lt is. tree.inside l n b lt (table_before l n b lt is);
+        plain = record { each = λ l n i b lt li is. plain_of l n i b lt li (table_before l n b lt is) (cases_eq b.frame table.frame) (cases_eq i (slot_of page % 512)) };
+      }
+        where
+          plain_of : (l n i : ℕ) (b : Place) → l < 4 → i < 512 → reach old root l n ≡ Some b → (b.frame ≡ table.frame) ⊎ (b.frame ≡ table.frame → ⊥) →
+              (i ≡ slot_of page % 512) ⊎ (i ≡ slot_of page % 512 → ⊥) → has_bit (word_at new b.frame i) 0 ≡ true → IsPlain new l (word_at new b.frame i)
+          plain_of l n i b lt li is (inl x) (inl y) = let p = alone l n b lt is x in rw (x, y, p.0, entry_word) plain
+          plain_of l n i b lt li is (inr x) _ = stays_plain l n i b lt li is (λ e _. x e)
+          plain_of l n i b lt li is _ (inr y) = stays_plain l n i b lt li is (λ _ e. y e)
+
+      -- no byte of a page that is mapped still is changed
+      pub entry_bytes : (address : ℕ) → IsSome (walk_of new root (address / 4096)) → reached new root address ≡ reached old root address
+      entry_bytes address is =
+          let p = some_place (walk_of new root (address / 4096)) is in
+          let now : reach new root 4 (prefix_of (address / 4096) 4) ≡ Some p.0 = sym (walk_reach new root (address / 4096)) ∙ p.1 in
+          let m = met_before 4 (prefix_of (address / 4096) 4) p.0 (omega arith) now in
+          same_byte old new root address m.before p.0 (walk_reach old root (address / 4096) ∙ m.at) p.1 (sym m.framed)
+          (word_stays m.before.frame (address % 4096 / 8) (omega arith)
+          (λ e _. let d = tree.distinct 4 (prefix_of (address / 4096) 4) 2 (above page 2) m.before table (omega arith) (omega arith) (λ x y. absurd (omega arith)) m.at met e in
+          absurd (omega (arith, d.0))))
+
+-- ---- the entry is 0 now
+
+module _ (old new : List ℕ) (root page : ℕ)
+    (root_in : root < frame_count old)
+    (one : IsLargeCleared old new root page) where
+  zero_here : word_at new one.table.frame (slot_of page % 512) ≡ 0
+  zero_here = entry_word old new root page 0 one.large one.table root_in one.was one.met one.words
+
+  leads_nowhere : step new 2 one.table (slot_of page % 512) ≡ None
+  leads_nowhere = step_zero new 2 one.table (slot_of page % 512) zero_here
+
+  maps_none : large_step new one.table (slot_of page % 512) ≡ None
+  maps_none = large_zero new one.table (slot_of page % 512) zero_here
+
+  module _ {area : Area} (free : List Bool) (tree : IsTreeIn area old root free) where
     pub gone_tree : IsTreeIn area new root free
-    gone_tree = record {
-      rights = λ l n b lt is. tree.rights l n b lt (met_before l n b (omega arith) is);
-      distinct = λ l n k j a b ll lk apart x y e. tree.distinct l n k j a b ll lk apart (met_before l n a ll x) (met_before k j b lk y) e;
-      used = λ l n b le is. tree.used l n b le (met_before l n b le is);
-      inside = λ l n b lt is. tree.inside l n b lt (met_before l n b (omega arith) is);
-      plain = record { each = λ l n i b lt li is. plain_of l n i b lt li (met_before l n b (omega arith) is) (cases_eq b.frame one.table.frame) (cases_eq i (slot_of page % 512)) };
-    }
-      where
-        plain_of : (l n i : ℕ) (b : Place) → l < 4 → i < 512 → reach old root l n ≡ Some b → (b.frame ≡ one.table.frame) ⊎ (b.frame ≡ one.table.frame → ⊥) →
-            (i ≡ slot_of page % 512) ⊎ (i ≡ slot_of page % 512 → ⊥) → has_bit (word_at new b.frame i) 0 ≡ true → IsPlain new l (word_at new b.frame i)
-        plain_of l n i b lt li is (inl x) (inl y) = plain_zero new l (word_at new b.frame i) (ap (λ f. word_at new f i) x ∙ (ap (word_at new one.table.frame) y ∙ zero_here))
-        plain_of l n i b lt li is (inr x) _ = stays_plain l n i b lt li is (λ e _. x e)
-        plain_of l n i b lt li is _ (inr y) = stays_plain l n i b lt li is (λ _ e. y e)
+    gone_tree = entry_tree old new root page 0 one.large one.table root_in one.was one.met one.words free tree leads_nowhere
+        (λ now is. let z = maps_none in absurd (cc)) (plain_zero new 2 0 refl)
 
     pub large_removed : IsLargeRemoved old new root page
     large_removed = record {
-      size = size;
+      size = entry_size old new root page 0 one.large one.table root_in one.was one.met one.words;
       gone = λ k lt.
           let p : prefix_of (512 * page + k) 4 / 512 ≡ slot_of page = omega arith in
-          walk_reach new root (512 * page + k) ∙ none_inside (prefix_of (512 * page + k) 4) p;
-      no_large = no_large;
-      others = others;
-      larges = λ n ne.
-          slot_larges old new root (above page 2) (slot_of page % 512) one.table (omega arith) size one.met same alone n (λ e. ne (e ∙ slot_place page));
+          walk_reach new root (512 * page + k)
+          ∙ entry_none old new root page 0 one.large one.table root_in one.was one.met one.words free tree leads_nowhere (prefix_of (512 * page + k) 4) p maps_none;
+      no_large = entry_large old new root page 0 one.large one.table root_in one.was one.met one.words free tree leads_nowhere ∙ maps_none;
+      others = entry_others old new root page 0 one.large one.table root_in one.was one.met one.words free tree leads_nowhere;
+      larges = entry_larges old new root page 0 one.large one.table root_in one.was one.met one.words free tree leads_nowhere;
     }
 
-    -- no byte of a page that is mapped still is changed
     pub gone_bytes : (address : ℕ) → IsSome (walk_of new root (address / 4096)) → reached new root address ≡ reached old root address
-    gone_bytes address is =
-        let p = some_place (walk_of new root (address / 4096)) is in
-        let now : reach new root 4 (prefix_of (address / 4096) 4) ≡ Some p.0 = sym (walk_reach new root (address / 4096)) ∙ p.1 in
-        let was : reach old root 4 (prefix_of (address / 4096) 4) ≡ Some p.0 = met_before 4 (prefix_of (address / 4096) 4) p.0 (omega arith) now in
-        same_byte old new root address p.0 p.0 (walk_reach old root (address / 4096) ∙ was) p.1 refl
-        (word_stays p.0.frame (address % 4096 / 8) (omega arith)
-        (λ e _. let d = tree.distinct 4 (prefix_of (address / 4096) 4) 2 (above page 2) p.0 one.table (omega arith) (omega arith) (λ x y. absurd (omega arith)) was one.met e in
-        absurd (omega (arith, d.0))))
+    gone_bytes = entry_bytes old new root page 0 one.large one.table root_in one.was one.met one.words free tree leads_nowhere
+        (λ now is. let z = maps_none in absurd (cc)) (plain_zero new 2 0 refl)
 
-    -- no page of another slot is changed
     pub gone_elsewhere : (other : ℕ) → (other / 512 % 2 ^ 27 ≡ slot_of page → ⊥) → walk_of new root other ≡ walk_of old root other
-    gone_elsewhere other ne =
-        let p : prefix_of other 4 / 512 ≡ other / 512 % 2 ^ 27 = omega arith in
-        walk_reach new root other ∙ (others 4 (prefix_of other 4) (omega arith) (λ _ e. ne (sym p ∙ e)) ∙ sym (walk_reach old root other))
+    gone_elsewhere = entry_elsewhere old new root page 0 one.large one.table root_in one.was one.met one.words free tree leads_nowhere
+
+-- the words after a write to the entry of the slot
+pub entry_set : (old new : List ℕ) (root page table index value : ℕ) (large : Place) (entry : IsLargeEntry old root page table index large) →
+    new ≡ set old (512 * table + index) value → new ≡ set old (512 * entry.met.frame + slot_of page % 512) value
+entry_set old new root page table index value large entry written =
+    written ∙ (ap (λ t. set old (512 * t + index) value) (sym entry.in_table) ∙ ap (λ i. set old (512 * entry.met.frame + i) value) entry.at_index)
 
 -- the entry of the slot becomes 0
 pub large_cleared : (old new : List ℕ) (root page table index : ℕ) (large : Place) (entry : IsLargeEntry old root page table index large) →
@@ -160,5 +229,5 @@ large_cleared old new root page table index large entry written = record {
   table = entry.met;
   was = entry.found;
   met = entry.reached;
-  words = written ∙ (ap (λ t. set old (512 * t + index) 0) (sym entry.in_table) ∙ ap (λ i. set old (512 * entry.met.frame + i) 0) entry.at_index);
+  words = entry_set old new root page table index 0 large entry written;
 }

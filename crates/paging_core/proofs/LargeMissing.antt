@@ -22,7 +22,7 @@ absent_past old new root level (suc count) from h =
     rw (absent_suc new root level from count, absent_suc old root level from count, e, k) refl
 
 -- where one prefix has a table now, and all else stays, one is missing fewer if it was missing
-absent_at : (old new : List ℕ) (root level p : ℕ) (m : Place) → ((n : ℕ) → (n ≡ p → ⊥) → reach new root level n ≡ reach old root level n) →
+pub absent_at : (old new : List ℕ) (root level p : ℕ) (m : Place) → ((n : ℕ) → (n ≡ p → ⊥) → reach new root level n ≡ reach old root level n) →
     reach new root level p ≡ Some m → (count from : ℕ) → from ≤ p → p < from + count →
     absent new root level from count + cond (is_none (reach old root level p)) 1 0 ≡ absent old root level from count
 absent_at old new root level p m others there zero from lo hi = absurd (omega arith)

@@ -57,6 +57,29 @@ pub some_or_none : {A : Type 0} (o : Option A) → ((x : A) × (o ≡ Some x)) �
 some_or_none None = inr refl
 some_or_none (Some x) = inl (x, refl)
 
+-- a frame that is met nowhere is not met once the missing tables are made
+pub kept_unmet : (area : Area) (old mid : List ℕ) (free free' : List Bool) (root page frame : ℕ) → is_free free frame ≡ false →
+    IsPrepared old mid free free' root page 3 →
+    ((l n : ℕ) (b : Place) → l ≤ 4 → (l ≡ 4 → area ≡ Whole) → reach old root l n ≡ Some b → b.frame ≡ frame → ⊥) →
+    (l n : ℕ) (b : Place) → l ≤ 4 → (l ≡ 4 → area ≡ Whole) → reach mid root l n ≡ Some b → b.frame ≡ frame → ⊥
+kept_unmet area old mid free free' root page frame used prepared unmet l n b le whole now e = go (cases_eq n (prefix_of page l)) (cases_lt 3 l)
+  where
+    here_of : (n ≡ prefix_of page l) → l ≤ 3 → ((x : Place) × (reach old root l (prefix_of page l) ≡ Some x)) ⊎ (reach old root l (prefix_of page l) ≡ None) → ⊥
+    here_of x lo (inl p) =
+        let s = prepared.stayed l p.0 le p.1 in
+        let w : reach mid root l (prefix_of page l) ≡ Some b = rw (← x) now in
+        let q : p.0 ≡ b = cc in
+        unmet l (prefix_of page l) b le whole (p.1 ∙ ap Some q) e
+    here_of x lo (inr p) =
+        let w : reach mid root l (prefix_of page l) ≡ Some b = rw (← x) now in
+        let f : is_free free b.frame ≡ true = prepared.made l b lo p w in
+        let g = ap (is_free free) e in cc
+
+    go : (n ≡ prefix_of page l) ⊎ (n ≡ prefix_of page l → ⊥) → (3 < l) ⊎ (l ≤ 3) → ⊥
+    go (inl x) (inr lo) = here_of x lo (some_or_none (reach old root l (prefix_of page l)))
+    go (inr x) _ = unmet l n b le whole (sym (prepared.others l n le (λ _ y. x y)) ∙ now) e
+    go _ (inl hi) = unmet l n b le whole (sym (prepared.others l n le (λ lo _. absurd (omega arith))) ∙ now) e
+
 module _ {area : Area} (old mid new : List ℕ) (free free' : List Bool) (root page table index frame : ℕ) (rights : Rights)
     (root_in : root < frame_count old)
     (unmapped : walk_of old root page ≡ None)
@@ -113,30 +136,11 @@ module _ {area : Area} (old mid new : List ℕ) (free free' : List Bool) (root p
   there : reach new root 4 (prefix_of page 4) ≡ Some (granted frame rights)
   there = rw (← place) (link_there mid new root 3 (prefix_of page 3) index (top table) (granted frame rights) free' link tree)
 
-  fresh : (l n : ℕ) (b : Place) → l ≤ 4 → (l ≡ 4 → area ≡ Whole) → reach mid root l n ≡ Some b → b.frame ≡ frame → ⊥
-  fresh l n b le whole now e = go (cases_eq n (prefix_of page l)) (cases_lt 3 l)
-    where
-      here_of : (n ≡ prefix_of page l) → l ≤ 3 → ((x : Place) × (reach old root l (prefix_of page l) ≡ Some x)) ⊎ (reach old root l (prefix_of page l) ≡ None) → ⊥
-      here_of x lo (inl p) =
-          let s = prepared.stayed l p.0 le p.1 in
-          let w : reach mid root l (prefix_of page l) ≡ Some b = rw (← x) now in
-          let q : p.0 ≡ b = cc in
-          unmet l (prefix_of page l) b le whole (p.1 ∙ ap Some q) e
-      here_of x lo (inr p) =
-          let w : reach mid root l (prefix_of page l) ≡ Some b = rw (← x) now in
-          let f : is_free free b.frame ≡ true = prepared.made l b lo p w in
-          let g = ap (is_free free) e in cc
-
-      go : (n ≡ prefix_of page l) ⊎ (n ≡ prefix_of page l → ⊥) → (3 < l) ⊎ (l ≤ 3) → ⊥
-      go (inl x) (inr lo) = here_of x lo (some_or_none (reach old root l (prefix_of page l)))
-      go (inr x) _ = unmet l n b le whole (sym (prepared.others l n le (λ _ y. x y)) ∙ now) e
-      go _ (inl hi) = unmet l n b le whole (sym (prepared.others l n le (λ lo _. absurd (omega arith))) ∙ now) e
-
   larges : (n : ℕ) → large_of new root n ≡ large_of old root n
   larges n = link_larges mid new root 3 (prefix_of page 3) index (top table) (granted frame rights) free' link tree n ∙ prepared.larges n
 
   pub mapped_tree : IsTreeIn area new root free'
-  mapped_tree = tree_link mid new root 3 (prefix_of page 3) index (top table) (granted frame rights) free' link tree free' (λ l n b le whole. fresh l n b le (whole refl))
+  mapped_tree = tree_link mid new root 3 (prefix_of page 3) index (top table) (granted frame rights) free' link tree free' (λ l n b le whole. kept_unmet area old mid free free' root page frame used prepared unmet l n b le (whole refl))
       (λ lt. absurd (omega arith)) (λ lt. absurd (omega arith)) (prepared.fewer frame used) (λ f e. e)
 
   low : (l : ℕ) (n : ℕ) → l < 4 → reach new root l n ≡ reach mid root l n

@@ -13,6 +13,7 @@ pub mod Plain
 pub mod Link
 pub mod Slot
 pub mod Made
+pub mod Moments
 pub mod Prepare
 pub mod Counts
 pub mod LastEntry
@@ -28,9 +29,15 @@ pub mod NewPage
 pub mod RangeAdded
 pub mod LargeAdded
 pub mod LargeGone
+pub mod SlotTable
 pub mod LargeCut
+pub mod LargeSplit
+pub mod LargeGranted
 pub mod RunTaken
 pub mod LargeMissing
+pub mod PageMissing
+pub mod EntryAt
+pub mod WalkEnds
 pub mod Roots
 pub mod FreshFrame
 pub mod Ahead

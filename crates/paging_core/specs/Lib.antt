@@ -2,6 +2,7 @@ pub mod Address
 pub mod Align
 pub mod Field
 pub mod Memory
+pub mod Moments
 pub mod Area
 pub mod Entry
 pub mod PageTableFlags
@@ -19,5 +20,7 @@ pub mod Tables
 pub mod Missing
 pub mod Mapping
 pub mod PageChanges
+pub mod WalkEnd
 pub mod Large
+pub mod LargeChanges
 pub mod Laws

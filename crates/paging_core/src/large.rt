@@ -9,6 +9,7 @@ ghost use Rattle.paging_core.specs.Pool.{is_free, free_count, FreeBelow, FreeIn,
 ghost use Rattle.paging_core.specs.Runs.{IsRunFree};
 ghost use Rattle.paging_core.specs.Tree.{IsTree, IsTreeIn, IsRunUnmet};
 ghost use Rattle.paging_core.specs.Missing.{missing_of};
+ghost use Rattle.paging_core.specs.Moments.{IsChangedIn, IsStill};
 ghost use Rattle.paging_core.specs.Large.{slot_of, missing_above, IsSlotEmpty, IsLargeAdded, AreFramesCleared, IsSlotAdded, IsLargeEntry, IsLargeCleared, IsLargeRemoved, IsLargeCut};
 
 use crate::frame_allocator::{FrameAllocator, FrameDeallocator};
@@ -59,6 +60,8 @@ pub fn map_large<M: PhysicalMemory, P: TableFrames>(
     requires used { (k : ℕ) → k < 512 → is_free (P.free pool.old) (512 * frame + k) ≡ false }
     requires unmet { IsRunUnmet (M.area frames.old) (M.words frames.old) root (512 * frame) }
     requires room { missing_above (M.words frames.old) root page ≤ free_count (P.free pool.old) }
+    requires before { (now : List ℕ) → IsStill (M.area frames.old) (M.words frames.old) root now → M.allows now }
+    requires seen { (now : List ℕ) (free : List Bool) → IsLargeAdded (M.words frames.old) now (P.free pool.old) free root page frame rights → M.allows now }
     ensures tree { IsTreeIn (M.area frames.new) (M.words frames.new) root (P.free pool.new) }
     ensures known { FreeIn (M.area frames.new) (P.free pool.new) (frame_count (M.words frames.new)) }
     ensures area { M.area frames.new ≡ M.area frames.old }
@@ -151,14 +154,18 @@ pub fn has_table<M: PhysicalMemory>(frames: &M, root: PhysFrame, page: Page<Size
 
 /// The entry that maps a slot: its table, its index there, and the large page.
 #[derive(Clone, Copy)]
-struct LargeEntry {
-    table: PhysFrame,
-    index: u16,
-    large: Mapped,
+pub(crate) struct LargeEntry {
+    pub(crate) table: PhysFrame,
+    pub(crate) index: u16,
+    pub(crate) large: Mapped,
 }
 
 /// The entry of the slot, which is mapped by one.
-fn large_entry<M: PhysicalMemory>(frames: &M, root: PhysFrame, page: Page<Size2MiB>) -> LargeEntry
+pub(crate) fn large_entry<M: PhysicalMemory>(
+    frames: &M,
+    root: PhysFrame,
+    page: Page<Size2MiB>,
+) -> LargeEntry
     requires root { root < frame_count (M.words frames.now) }
     requires large { IsSome (large_of (M.words frames.now) root (slot_of page)) }
     ensures entry { IsLargeEntry (M.words frames.now) root page result.table result.index (place_of result.large) }
@@ -195,6 +202,7 @@ pub fn unmap_large<M: PhysicalMemory>(
 ) -> PhysFrame<Size2MiB>
     requires root { root < frame_count (M.words frames.old) }
     requires large { IsSome (large_of (M.words frames.old) root (slot_of page)) }
+    requires seen { (now : List ℕ) → IsLargeCleared (M.words frames.old) now root page → M.allows now }
     ensures frame { IfSome (large_of (M.words frames.old) root (slot_of page)) (λ large. 512 * result ≡ large.frame) }
     ensures below { 512 * result + 511 < frame_count (M.words frames.new) }
     ensures cleared { IsLargeCleared (M.words frames.old) (M.words frames.new) root page }
@@ -215,14 +223,23 @@ pub fn unmap_large<M: PhysicalMemory>(
     PhysFrame::containing_address(large.frame.start_address())
 }
 
-/// Writes the entries of a table that map its first pages to frames in a row.
-fn fill_table(frames: &mut Frames, table: PhysFrame, first: PhysFrame, count: u16, rights: Rights)
-    requires table { table < frame_count frames.old }
-    requires count { count < 512 }
+/// Writes the entries of a table that map its first pages to frames in a row, in ascending order.
+pub(crate) fn fill_table<M: PhysicalMemory>(
+    frames: &mut M,
+    table: PhysFrame,
+    first: PhysFrame,
+    count: u16,
+    rights: Rights,
+)
+    requires inside { in_area (M.area frames.old) table ≡ true }
+    requires table { table < frame_count (M.words frames.old) }
+    requires count { count ≤ 512 }
     requires first { first + 512 < 2 ^ 40 }
-    ensures size { length frames.new ≡ length frames.old }
-    ensures filled { (k : ℕ) → k < count → word_at frames.new table k ≡ page_entry (first + k) rights }
-    ensures others { (f i : ℕ) → i < 512 → (f ≡ table → i < count → ⊥) → word_at frames.new f i ≡ word_at frames.old f i }
+    requires seen { (now : List ℕ) → IsChangedIn (M.words frames.old) now table → M.allows now }
+    ensures size { length (M.words frames.new) ≡ length (M.words frames.old) }
+    ensures area { M.area frames.new ≡ M.area frames.old }
+    ensures filled { (k : ℕ) → k < count → word_at (M.words frames.new) table k ≡ page_entry (first + k) rights }
+    ensures others { (f i : ℕ) → i < 512 → (f ≡ table → i < count → ⊥) → word_at (M.words frames.new) f i ≡ word_at (M.words frames.old) f i }
 {
     for index in 0..count {
         let entry = PageTableEntry::to_page(first.after(u64::from(index)), rights);

@@ -1,11 +1,15 @@
-ghost use Rattle.std.specs.Prelude.{◌≡◌, ℕ, ◌+◌, ◌*◌, ◌/◌, ◌%◌, ◌^◌, ◌<◌, ◌≤◌, None, Some, false, IsTrue};
-ghost use Rattle.paging_core.specs.Address.{is_canonical};
+ghost use Rattle.std.specs.Prelude.{◌≡◌, ℕ, ◌+◌, ◌*◌, ◌/◌, ◌%◌, ◌^◌, ◌<◌, ◌≤◌, None, Some, List, Bool, true, false, IsTrue, set};
+ghost use Rattle.paging_core.specs.Address.{is_canonical, IsCanonicalRange};
+ghost use Rattle.paging_core.specs.Area.{in_area};
+ghost use Rattle.paging_core.specs.Entry.{page_entry};
 ghost use Rattle.paging_core.specs.Memory.{frame_count};
 ghost use Rattle.paging_core.specs.Walk.{walk_of};
 ghost use Rattle.paging_core.specs.Pool.{is_free, free_count, FreeIn};
 ghost use Rattle.paging_core.specs.Tree.{IsTreeIn, IsUnmet};
 ghost use Rattle.paging_core.specs.Missing.{missing_of};
+ghost use Rattle.paging_core.specs.Moments.{IsStill};
 ghost use Rattle.paging_core.specs.Mapping.{IsPageAdded};
+ghost use Rattle.paging_core.specs.WalkEnd.{IsEntryOf};
 
 use crate::page_table::{PageTableEntry, Rights};
 use crate::pages::{Page, index_after};
@@ -13,6 +17,48 @@ use crate::phys_frames::PhysFrame;
 use crate::physical_memory::PhysicalMemory;
 use crate::table_frames::TableFrames;
 use crate::tables::ensure_tables;
+
+/// Maps the page to the frame with the rights by its entry, `index` of the table, where its walk ends. No other word is
+/// changed.
+///
+/// The page is not mapped, and the frame is no table's. In a whole memory no other page leads to it; where the tables lie
+/// in an area two pages may lead to one frame.
+#[inline(always)]
+pub fn map_at<M: PhysicalMemory>(
+    frames: &mut M,
+    root: PhysFrame,
+    page: Page,
+    table: PhysFrame,
+    index: u16,
+    frame: PhysFrame,
+    rights: Rights,
+)
+    requires root { root < frame_count (M.words frames.old) }
+    requires entry { IsEntryOf (M.words frames.old) root page table index }
+    requires inside { in_area (M.area frames.old) table ≡ true }
+    requires table { table < frame_count (M.words frames.old) }
+    requires index { index < 512 }
+    requires unmapped { walk_of (M.words frames.old) root page ≡ None }
+    requires frame { frame < frame_count (M.words frames.old) }
+    requires unmet { IsUnmet (M.area frames.old) (M.words frames.old) root frame }
+    requires seen { frame < 2 ^ 40 → M.allows (set (M.words frames.old) (512 * table + index) (page_entry frame rights)) }
+    ensures fits { frame < 2 ^ 40 }
+    ensures words { M.words frames.new ≡ set (M.words frames.old) (512 * table + index) (page_entry frame rights) }
+    ensures area { M.area frames.new ≡ M.area frames.old }
+    ensures known { (free : List Bool) → FreeIn (M.area frames.old) free (frame_count (M.words frames.old)) → FreeIn (M.area frames.new) free (frame_count (M.words frames.new)) }
+
+    // Where the tables are a tree beside some free frames, of which the frame is none, they stay one.
+    ensures tree { (free : List Bool) → IsTreeIn (M.area frames.old) (M.words frames.old) root free → is_free free frame ≡ false → IsTreeIn (M.area frames.new) (M.words frames.new) root free }
+    ensures elsewhere { (free : List Bool) → IsTreeIn (M.area frames.old) (M.words frames.old) root free → is_free free frame ≡ false →
+        (other : ℕ) → IsTrue (is_canonical (other * 4096)) → (other ≡ page → ⊥) → walk_of (M.words frames.new) root other ≡ walk_of (M.words frames.old) root other }
+    ensures added { (free : List Bool) → IsTreeIn (M.area frames.old) (M.words frames.old) root free → is_free free frame ≡ false → IsPageAdded (M.words frames.old) (M.words frames.new) free free root page frame rights }
+    ensures missing { (free : List Bool) → IsTreeIn (M.area frames.old) (M.words frames.old) root free → is_free free frame ≡ false →
+        (first pages : ℕ) → IsCanonicalRange first pages → first ≤ page → page < first + pages → missing_of (M.words frames.new) root first pages ≡ missing_of (M.words frames.old) root first pages }
+{
+    let _canonical = page.number();
+    let entry = PageTableEntry::to_page(frame, rights);
+    frames.set_word(table, index, entry.bits());
+}
 
 /// Maps the page to the frame with the rights. The tables that are missing for it are made, each in a
 /// frame from the pool.
@@ -35,13 +81,19 @@ pub fn map_page<M: PhysicalMemory, P: TableFrames>(
     requires used { is_free (P.free pool.old) frame ≡ false }
     requires unmet { IsUnmet (M.area frames.old) (M.words frames.old) root frame }
     requires room { missing_of (M.words frames.old) root page 1 ≤ free_count (P.free pool.old) }
+    requires before { (now : List ℕ) → IsStill (M.area frames.old) (M.words frames.old) root now → M.allows now }
+    requires seen { (now : List ℕ) (free : List Bool) → IsPageAdded (M.words frames.old) now (P.free pool.old) free root page frame rights → M.allows now }
     ensures tree { IsTreeIn (M.area frames.new) (M.words frames.new) root (P.free pool.new) }
     ensures known { FreeIn (M.area frames.new) (P.free pool.new) (frame_count (M.words frames.new)) }
     ensures area { M.area frames.new ≡ M.area frames.old }
     ensures elsewhere { (other : ℕ) → IsTrue (is_canonical (other * 4096)) → (other ≡ page → ⊥) → walk_of (M.words frames.new) root other ≡ walk_of (M.words frames.old) root other }
     ensures added { IsPageAdded (M.words frames.old) (M.words frames.new) (P.free pool.old) (P.free pool.new) root page frame rights }
+
+    // A range of pages with the page misses its tables no more.
+    ensures missing { (first pages : ℕ) → IsCanonicalRange first pages → first ≤ page → page < first + pages →
+        missing_of (M.words frames.new) root first pages + missing_of (M.words frames.old) root page 1 ≡ missing_of (M.words frames.old) root first pages }
 {
     let table = ensure_tables(frames, pool, root, page, 3);
-    let entry = PageTableEntry::to_page(frame, rights);
-    frames.set_word(table, index_after(page, 3), entry.bits());
+    let index = index_after(page, 3);
+    map_at(frames, root, page, table, index, frame, rights);
 }

@@ -3,7 +3,7 @@ ghost use Rattle.std.specs.Option.{option_map};
 ghost use Rattle.paging_core.specs.Area.{in_area};
 ghost use Rattle.paging_core.specs.Memory.{frame_count};
 ghost use Rattle.paging_core.specs.Prefix.{prefix_of};
-ghost use Rattle.paging_core.specs.Walk.{is_present, is_run, named, step, next_from, large_step, page_in, page_or, reach, walk_of, place_of};
+ghost use Rattle.paging_core.specs.Walk.{is_present, is_run, named, step, large_step, page_in, reach, walk_of, place_of};
 ghost use Rattle.paging_core.specs.Address.{is_canonical};
 ghost use Rattle.paging_core.specs.PageChanges.{IsFrameOf, IsLastEntry};
 
@@ -12,6 +12,7 @@ use crate::page_table::{PageTableEntry, Rights};
 use crate::pages::{Page, index_after};
 use crate::phys_frames::PhysFrame;
 use crate::physical_memory::PhysicalMemory;
+use crate::walk_end::{WalkEnd, end_of_walk};
 
 /// Where a walk arrives, with the rights that all entries on the way grant.
 #[derive(Clone, Copy, PartialEq, Eq, Debug)]
@@ -64,7 +65,12 @@ pub(crate) fn led(from: Mapped, entry: PageTableEntry) -> Mapped
 }
 
 /// Where the entry leads, from a place.
-fn follow<M: PhysicalMemory>(frames: &M, from: Mapped, entry: PageTableEntry) -> Option<Mapped>
+#[inline(always)]
+pub(crate) fn follow<M: PhysicalMemory>(
+    frames: &M,
+    from: Mapped,
+    entry: PageTableEntry,
+) -> Option<Mapped>
     ensures led { option_map place_of result ≡ (if is_present (M.words frames.now) entry then Some (named (place_of from) entry) else None) }
     ensures below { IfSome result (λ to. to.frame < frame_count (M.words frames.now)) }
 {
@@ -80,6 +86,7 @@ fn follow<M: PhysicalMemory>(frames: &M, from: Mapped, entry: PageTableEntry) ->
 
 /// One step of the walk to a table or, from the last one, to a page's frame: from a table that was met after
 /// `level` steps. None also where the entry maps a large page.
+#[inline(always)]
 #[tactic(auto, unfolding(crate::specs::Walk::step))]
 pub(crate) fn next<M: PhysicalMemory>(
     frames: &M,
@@ -129,7 +136,7 @@ pub(crate) fn large_at<M: PhysicalMemory>(frames: &M, at: Mapped, index: u16) ->
 
 /// The page with this index in a large page that begins at the place. None where the frames of the large page
 /// do not all exist, or the first is no multiple of 512.
-fn in_run<M: PhysicalMemory>(frames: &M, large: Mapped, index: u16) -> Option<Mapped>
+pub(crate) fn in_run<M: PhysicalMemory>(frames: &M, large: Mapped, index: u16) -> Option<Mapped>
     requires index { index < 512 }
     requires below { large.frame < frame_count (M.words frames.now) }
     ensures page { option_map place_of result ≡ (if is_run (M.words frames.now) large.frame then Some (page_in index (place_of large)) else None) }
@@ -142,25 +149,6 @@ fn in_run<M: PhysicalMemory>(frames: &M, large: Mapped, index: u16) -> Option<Ma
         frame: large.frame.after(u64::from(index)),
         ..large
     })
-}
-
-/// Where a walk ends that is at a table of the third step: by that entry of it, in a large page, or by the last
-/// entry.
-#[tactic(auto, unfolding(crate::specs::Walk::step, crate::specs::Walk::large_step))]
-fn last_steps<M: PhysicalMemory>(frames: &M, at: Mapped, index: u16, last: u16) -> Option<Mapped>
-    requires frame { at.frame < frame_count (M.words frames.now) }
-    requires index { index < 512 }
-    requires last { last < 512 }
-    ensures page { option_map place_of result ≡ page_or (large_step (M.words frames.now) (place_of at) index) last (next_from (M.words frames.now) 3 (step (M.words frames.now) 2 (place_of at) index) last) }
-    ensures below { IfSome result (λ page. page.frame < frame_count (M.words frames.now)) }
-{
-    let entry = PageTableEntry::from_bits(frames.word(at.frame, index));
-    let to = follow(frames, at, entry)?;
-    if entry.is_huge() {
-        in_run(frames, to, last)
-    } else {
-        next(frames, 3, to, last)
-    }
 }
 
 /// The table at which the first steps of the page's walk arrive.
@@ -189,8 +177,11 @@ pub fn walk<M: PhysicalMemory>(frames: &M, root: PhysFrame, page: Page) -> Optio
     ensures found { option_map place_of result ≡ walk_of (M.words frames.now) root page }
     ensures below { IfSome result (λ mapped. mapped.frame < frame_count (M.words frames.now)) }
 {
-    let at = descend(frames, root, page, 2)?;
-    last_steps(frames, at, index_after(page, 2), index_after(page, 3))
+    match end_of_walk(frames, root, page) {
+        WalkEnd::Entry { page, .. } => page,
+        WalkEnd::Large(page) => Some(page),
+        WalkEnd::Missing(_) => None,
+    }
 }
 
 /// The frame of the page, which is mapped.

@@ -1,4 +1,4 @@
-ghost use Rattle.std.specs.Prelude.{◌≡◌, ℕ, ◌+◌, ◌*◌, ◌<◌, ◌≤◌, ◌^◌, true, set};
+ghost use Rattle.std.specs.Prelude.{◌≡◌, ℕ, ◌+◌, ◌*◌, ◌<◌, ◌≤◌, ◌^◌, true, set, ⊤};
 ghost use Rattle.paging_core.specs.Area.{in_area, Whole};
 ghost use Rattle.paging_core.specs.Memory.{word_at, frame_count, cleared};
 
@@ -8,7 +8,8 @@ use crate::phys_frames::PhysFrame;
 /// The physical memory as page tables need it: the words of an area of frames, in which the tables lie, and a limit below
 /// which the frames of pages lie. Frame f has the physical address 4096 * f.
 pub trait PhysicalMemory: Drop {
-    ghost use Rattle.std.specs.Prelude.{◌≡◌, ℕ, ◌+◌, ◌*◌, ◌<◌, ◌≤◌, ◌^◌, ◌≢◌, true, set, List};
+    ghost use Rattle.std.specs.Prelude.{◌≡◌, ℕ, ◌+◌, ◌*◌, ◌<◌, ◌≤◌, ◌^◌, ◌≢◌, true, set, List, ⊤};
+    ghost use Rattle.paging_core.specs.Moments.{IsChangedIn};
     ghost use Rattle.paging_core.specs.Area.{Area, in_area};
     ghost use Rattle.paging_core.specs.Memory.{word_at, frame_count, cleared};
 
@@ -17,6 +18,11 @@ pub trait PhysicalMemory: Drop {
 
     /// Where the tables lie.
     ghost area: { Self → Area };
+
+    /// Which words the memory may hold at a moment: each store leaves some that it allows. It allows all, unless somebody reads
+    /// it between two stores of a call, as a processor that walks the tables. The clauses `seen` of the calls say for which
+    /// words they ask this, and so what he may find: they are proved for every memory, however little it allows.
+    ghost allows: { List ℕ → Type 0 } = { λ words. ⊤ };
 
     /// How many frames are below the limit.
     fn limit(&self) -> u64
@@ -35,13 +41,15 @@ pub trait PhysicalMemory: Drop {
         requires inside { in_area (area self.old) frame ≡ true }
         requires frame { frame < frame_count (words self.old) }
         requires index { index < 512 }
+        requires seen { allows (set (words self.old) (512 * frame + index) value) }
         ensures words { words self.new ≡ set (words self.old) (512 * frame + index) value }
         ensures area { area self.new ≡ area self.old };
 
-    /// Makes each word of the frame 0. The frame lies in the area.
+    /// Makes each word of the frame 0, in any order. The frame lies in the area.
     fn clear_frame(&mut self, frame: PhysFrame)
         requires inside { in_area (area self.old) frame ≡ true }
         requires frame { frame < frame_count (words self.old) }
+        requires seen { (now : List ℕ) → IsChangedIn (words self.old) now frame → allows now }
         ensures words { words self.new ≡ cleared (words self.old) frame }
         ensures area { area self.new ≡ area self.old };
 }

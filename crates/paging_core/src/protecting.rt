@@ -1,16 +1,55 @@
-ghost use Rattle.std.specs.Prelude.{◌≡◌, ℕ, ◌+◌, ◌*◌, ◌/◌, ◌%◌, ◌^◌, ◌<◌, ◌≤◌, IsSome, IfSome, IsTrue, List, Bool, Some};
+ghost use Rattle.std.specs.Prelude.{◌≡◌, ℕ, ◌+◌, ◌*◌, ◌/◌, ◌%◌, ◌^◌, ◌<◌, ◌≤◌, IsSome, IfSome, IsTrue, List, Bool, true, set, Some};
 ghost use Rattle.paging_core.specs.Address.{is_canonical, IsCanonicalRange};
+ghost use Rattle.paging_core.specs.Area.{in_area};
+ghost use Rattle.paging_core.specs.Entry.{page_entry};
 ghost use Rattle.paging_core.specs.Memory.{frame_count};
 ghost use Rattle.paging_core.specs.Prefix.{prefix_of};
 ghost use Rattle.paging_core.specs.Walk.{reach, walk_of, reached, granted};
 ghost use Rattle.paging_core.specs.Tree.{IsTreeIn, HasTreeIn};
-ghost use Rattle.paging_core.specs.PageChanges.{regrant, IsPageChanged, ArePagesChanged, only, among};
+ghost use Rattle.paging_core.specs.PageChanges.{regrant, IsFrameOf, IsPageChanged, ArePagesChanged, only, among};
+ghost use Rattle.paging_core.specs.WalkEnd.{IsEntryOf};
 
 use crate::page_table::{PageTableEntry, Rights};
 use crate::page_walk::{LastEntry, last_entry};
 use crate::pages::Page;
 use crate::phys_frames::PhysFrame;
 use crate::physical_memory::PhysicalMemory;
+
+/// Gives the page these rights: its entry, `index` of the table, where its walk ends, becomes the one that maps its frame
+/// with them, and no other word is changed.
+///
+/// The page leads to the frame.
+#[inline(always)]
+pub fn protect_at<M: PhysicalMemory>(
+    frames: &mut M,
+    root: PhysFrame,
+    page: Page,
+    table: PhysFrame,
+    index: u16,
+    frame: PhysFrame,
+    rights: Rights,
+)
+    requires root { root < frame_count (M.words frames.old) }
+    requires entry { IsEntryOf (M.words frames.old) root page table index }
+    requires inside { in_area (M.area frames.old) table ≡ true }
+    requires table { table < frame_count (M.words frames.old) }
+    requires index { index < 512 }
+    requires frame { IsFrameOf (M.words frames.old) root page frame }
+    requires seen { M.allows (set (M.words frames.old) (512 * table + index) (page_entry frame rights)) }
+    ensures changed { IsPageChanged (M.words frames.old) (M.words frames.new) root page (regrant rights) }
+    ensures area { M.area frames.new ≡ M.area frames.old }
+
+    // Where the tables are a tree they stay one; no other page's walk is changed, and no byte of any page.
+    ensures tree { (free : List Bool) → IsTreeIn (M.area frames.old) (M.words frames.old) root free → IsTreeIn (M.area frames.new) (M.words frames.new) root free }
+    ensures pages { (free : List Bool) → IsTreeIn (M.area frames.old) (M.words frames.old) root free → ArePagesChanged (M.words frames.old) (M.words frames.new) root (regrant rights) (only page) }
+    ensures granted { (free : List Bool) → IsTreeIn (M.area frames.old) (M.words frames.old) root free → IfSome (walk_of (M.words frames.old) root page) (λ place. walk_of (M.words frames.new) root page ≡ Some (granted place.frame rights)) }
+    ensures elsewhere { (free : List Bool) → IsTreeIn (M.area frames.old) (M.words frames.old) root free → (other : ℕ) → IsTrue (is_canonical (other * 4096)) → (other ≡ page → ⊥) → walk_of (M.words frames.new) root other ≡ walk_of (M.words frames.old) root other }
+    ensures bytes { (free : List Bool) → IsTreeIn (M.area frames.old) (M.words frames.old) root free → (address : ℕ) → reached (M.words frames.new) root address ≡ reached (M.words frames.old) root address }
+{
+    let _canonical = page.number();
+    let entry = PageTableEntry::to_page(frame, rights);
+    frames.set_word(table, index, entry.bits());
+}
 
 /// Gives the page these rights: its last entry becomes the one that maps its frame with them, and no other
 /// word is changed.
@@ -20,6 +59,7 @@ pub fn protect_page<M: PhysicalMemory>(frames: &mut M, root: PhysFrame, page: Pa
     requires root { root < frame_count (M.words frames.old) }
     requires mapped { IsSome (walk_of (M.words frames.old) root page) }
     requires small { IsSome (reach (M.words frames.old) root 3 (prefix_of page 3)) }
+    requires seen { (now : List ℕ) → IsPageChanged (M.words frames.old) now root page (regrant rights) → M.allows now }
     ensures changed { IsPageChanged (M.words frames.old) (M.words frames.new) root page (regrant rights) }
     ensures area { M.area frames.new ≡ M.area frames.old }
 
@@ -35,8 +75,7 @@ pub fn protect_page<M: PhysicalMemory>(frames: &mut M, root: PhysFrame, page: Pa
         index,
         frame,
     } = last_entry(frames, root, page);
-    let entry = PageTableEntry::to_page(frame, rights);
-    frames.set_word(table, index, entry.bits());
+    protect_at(frames, root, page, table, index, frame, rights);
 }
 
 /// Gives the pages from `first` on these rights. Each keeps its frame.
@@ -54,6 +93,8 @@ pub fn protect_range<M: PhysicalMemory>(
     requires range { IsCanonicalRange first pages }
     requires mapped { (k : ℕ) → k < pages → IsSome (walk_of (M.words frames.old) root (first + k)) }
     requires small { (k : ℕ) → k < pages → IsSome (reach (M.words frames.old) root 3 (prefix_of (first + k) 3)) }
+    requires seen { (before now : List ℕ) (done : ℕ) → done < pages → ArePagesChanged (M.words frames.old) before root (regrant rights) (among first done) →
+        IsPageChanged before now root (first + done) (regrant rights) → M.allows now }
     ensures changed { ArePagesChanged (M.words frames.old) (M.words frames.new) root (regrant rights) (among first pages) }
     ensures area { M.area frames.new ≡ M.area frames.old }
     ensures tree { (free : List Bool) → IsTreeIn (M.area frames.old) (M.words frames.old) root free → IsTreeIn (M.area frames.new) (M.words frames.new) root free }

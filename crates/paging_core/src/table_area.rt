@@ -78,6 +78,7 @@ impl<'a> PhysicalMemory for TableArea<'a> {
         self.limit
     }
 
+    #[inline(always)]
     fn word(&self, frame: PhysFrame, index: u16) -> u64 {
         let number = frame.number();
         if number < self.first || number >= self.end {

@@ -1,9 +1,10 @@
-ghost use Rattle.std.specs.Prelude.{◌≡◌, ℕ, ◌+◌, ◌*◌, ◌/◌, ◌%◌, ◌^◌, ◌<◌, ◌≤◌, None, Some, IfSome, MatchOption, length, true, false};
+ghost use Rattle.std.specs.Prelude.{◌≡◌, ℕ, ◌+◌, ◌*◌, ◌/◌, ◌%◌, ◌^◌, ◌<◌, ◌≤◌, None, Some, IfSome, MatchOption, length, true, false, List, Bool};
 ghost use Rattle.paging_core.specs.Area.{in_area};
 ghost use Rattle.paging_core.specs.Memory.{frame_count, cleared};
 ghost use Rattle.paging_core.specs.Prefix.{prefix_of};
 ghost use Rattle.paging_core.specs.Walk.{step, large_of, reach, walk_of, top};
 ghost use Rattle.paging_core.specs.Pool.{is_free, free_count, FreeIn, IsFrameTaken};
+ghost use Rattle.paging_core.specs.Moments.{IsChangedIn, IsStill};
 ghost use Rattle.paging_core.specs.Tree.{IsTreeIn};
 ghost use Rattle.paging_core.specs.Tables.{IsTableMade, IsEnsured, IsPrepared, missing_past};
 
@@ -20,7 +21,8 @@ pub fn make_root<M: PhysicalMemory, P: TableFrames>(
     frames: &mut M,
     pool: &mut P,
 ) -> Option<PhysFrame>
-    requires { FreeIn (M.area frames.old) (P.free pool.old) (frame_count (M.words frames.old)) }
+    requires known { FreeIn (M.area frames.old) (P.free pool.old) (frame_count (M.words frames.old)) }
+    requires seen { (now : List ℕ) (frame : ℕ) → is_free (P.free pool.old) frame ≡ true → IsChangedIn (M.words frames.old) now frame → M.allows now }
     ensures taken { IsFrameTaken (P.free pool.old) (P.free pool.new) result }
     ensures flags { length (P.free pool.new) ≡ length (P.free pool.old) }
     ensures lowest { IfSome result (λ root. (lower : ℕ) → lower < root → is_free (P.free pool.old) lower ≡ false) }
@@ -40,7 +42,7 @@ pub fn make_root<M: PhysicalMemory, P: TableFrames>(
     Some(root)
 }
 
-/// Takes a free frame for a table, clears it, and names it at the entry.
+/// Takes a free frame for a table, clears it, and names it at the entry: in this order, so that nobody finds what it held.
 fn make_table<M: PhysicalMemory, P: TableFrames>(
     frames: &mut M,
     pool: &mut P,
@@ -52,6 +54,8 @@ fn make_table<M: PhysicalMemory, P: TableFrames>(
     requires table { table < frame_count (M.words frames.old) }
     requires known { FreeIn (M.area frames.old) (P.free pool.old) (frame_count (M.words frames.old)) }
     requires room { 0 < free_count (P.free pool.old) }
+    requires before { (now : List ℕ) (frame : ℕ) → is_free (P.free pool.old) frame ≡ true → IsChangedIn (M.words frames.old) now frame → M.allows now }
+    requires seen { (now : List ℕ) (free : List Bool) (made : ℕ) → IsTableMade (M.words frames.old) now (P.free pool.old) free table index made → M.allows now }
     ensures area { M.area frames.new ≡ M.area frames.old }
     ensures made { IsTableMade (M.words frames.old) (M.words frames.new) (P.free pool.old) (P.free pool.new) table index result }
 {
@@ -77,6 +81,8 @@ fn ensure_table<M: PhysicalMemory, P: TableFrames>(
     requires table { table < frame_count (M.words frames.old) }
     requires known { FreeIn (M.area frames.old) (P.free pool.old) (frame_count (M.words frames.old)) }
     requires room { step (M.words frames.old) level (top table) index ≡ None → 0 < free_count (P.free pool.old) }
+    requires before { (now : List ℕ) (frame : ℕ) → is_free (P.free pool.old) frame ≡ true → IsChangedIn (M.words frames.old) now frame → M.allows now }
+    requires seen { step (M.words frames.old) level (top table) index ≡ None → (now : List ℕ) (free : List Bool) (made : ℕ) → IsTableMade (M.words frames.old) now (P.free pool.old) free table index made → M.allows now }
     ensures area { M.area frames.new ≡ M.area frames.old }
     ensures ensured { IsEnsured (step (M.words frames.old) level (top table) index) (M.words frames.old) (M.words frames.new) (P.free pool.old) (P.free pool.new) table index result }
 {
@@ -100,6 +106,7 @@ pub(crate) fn ensure_tables<M: PhysicalMemory, P: TableFrames>(
     requires levels { levels ≤ 3 }
     requires small { levels ≡ 3 → large_of (M.words frames.old) root (prefix_of page 3) ≡ None }
     requires room { missing_past (M.words frames.old) root page 0 ≤ free_count (P.free pool.old) + missing_past (M.words frames.old) root page levels }
+    requires seen { (now : List ℕ) → IsStill (M.area frames.old) (M.words frames.old) root now → M.allows now }
     ensures tree { IsTreeIn (M.area frames.new) (M.words frames.new) root (P.free pool.new) }
     ensures met { reach (M.words frames.new) root levels (prefix_of page levels) ≡ Some (top result) }
     ensures area { M.area frames.new ≡ M.area frames.old }

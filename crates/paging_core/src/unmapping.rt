@@ -1,11 +1,13 @@
-ghost use Rattle.std.specs.Prelude.{◌≡◌, ℕ, ◌+◌, ◌*◌, ◌/◌, ◌%◌, ◌^◌, ◌<◌, ◌≤◌, IsSome, IfSome, IsTrue, List, Bool, None, length};
+ghost use Rattle.std.specs.Prelude.{◌≡◌, ℕ, ◌+◌, ◌*◌, ◌/◌, ◌%◌, ◌^◌, ◌<◌, ◌≤◌, IsSome, IfSome, IsTrue, List, Bool, true, None, length, set};
 ghost use Rattle.paging_core.specs.Address.{is_canonical, IsCanonicalRange};
+ghost use Rattle.paging_core.specs.Area.{in_area};
 ghost use Rattle.paging_core.specs.Memory.{frame_count};
 ghost use Rattle.paging_core.specs.Prefix.{prefix_of};
 ghost use Rattle.paging_core.specs.Walk.{reach, walk_of, reached};
 ghost use Rattle.paging_core.specs.Pool.{free_count, FreeBelow};
 ghost use Rattle.paging_core.specs.Tree.{IsTree, IsTreeIn};
 ghost use Rattle.paging_core.specs.PageChanges.{removal, IsPageChanged, ArePagesChanged, ArePagesFreed, only, among};
+ghost use Rattle.paging_core.specs.WalkEnd.{IsEntryOf};
 
 use crate::frame_allocator::FrameDeallocator;
 use crate::memory::Frames;
@@ -14,6 +16,37 @@ use crate::pages::Page;
 use crate::phys_frames::PhysFrame;
 use crate::physical_memory::PhysicalMemory;
 use crate::pool::FramePool;
+
+/// Unmaps the page: its entry, `index` of the table, where its walk ends, becomes 0, and no other word is changed.
+///
+/// The page is mapped. Its tables stay, and its frame is still out.
+#[inline(always)]
+pub fn clear_at<M: PhysicalMemory>(
+    frames: &mut M,
+    root: PhysFrame,
+    page: Page,
+    table: PhysFrame,
+    index: u16,
+)
+    requires root { root < frame_count (M.words frames.old) }
+    requires entry { IsEntryOf (M.words frames.old) root page table index }
+    requires inside { in_area (M.area frames.old) table ≡ true }
+    requires table { table < frame_count (M.words frames.old) }
+    requires index { index < 512 }
+    requires mapped { IsSome (walk_of (M.words frames.old) root page) }
+    requires seen { M.allows (set (M.words frames.old) (512 * table + index) 0) }
+    ensures removed { IsPageChanged (M.words frames.old) (M.words frames.new) root page removal }
+    ensures area { M.area frames.new ≡ M.area frames.old }
+
+    // Where the tables are a tree they stay one, and no other page's walk is changed.
+    ensures tree { (free : List Bool) → IsTreeIn (M.area frames.old) (M.words frames.old) root free → IsTreeIn (M.area frames.new) (M.words frames.new) root free }
+    ensures pages { (free : List Bool) → IsTreeIn (M.area frames.old) (M.words frames.old) root free → ArePagesChanged (M.words frames.old) (M.words frames.new) root removal (only page) }
+    ensures unmapped { (free : List Bool) → IsTreeIn (M.area frames.old) (M.words frames.old) root free → walk_of (M.words frames.new) root page ≡ None }
+    ensures elsewhere { (free : List Bool) → IsTreeIn (M.area frames.old) (M.words frames.old) root free → (other : ℕ) → IsTrue (is_canonical (other * 4096)) → (other ≡ page → ⊥) → walk_of (M.words frames.new) root other ≡ walk_of (M.words frames.old) root other }
+{
+    let _canonical = page.number();
+    frames.set_word(table, index, 0);
+}
 
 /// Unmaps the page: its last entry becomes 0, and no other word is changed. The answer is the frame to
 /// which the page led.
@@ -24,6 +57,7 @@ pub fn unmap_page<M: PhysicalMemory>(frames: &mut M, root: PhysFrame, page: Page
     requires root { root < frame_count (M.words frames.old) }
     requires mapped { IsSome (walk_of (M.words frames.old) root page) }
     requires small { IsSome (reach (M.words frames.old) root 3 (prefix_of page 3)) }
+    requires seen { (now : List ℕ) → IsPageChanged (M.words frames.old) now root page removal → M.allows now }
     ensures frame { IfSome (walk_of (M.words frames.old) root page) (λ place. result ≡ place.frame) }
     ensures below { result < frame_count (M.words frames.new) }
     ensures removed { IsPageChanged (M.words frames.old) (M.words frames.new) root page removal }
@@ -40,7 +74,7 @@ pub fn unmap_page<M: PhysicalMemory>(frames: &mut M, root: PhysFrame, page: Page
         index,
         frame,
     } = last_entry(frames, root, page);
-    frames.set_word(table, index, 0);
+    clear_at(frames, root, page, table, index);
     frame
 }
 

@@ -83,3 +83,15 @@ returns-clause-known g c =
 pub set_word-requires-clause-inside : goal.set_word-requires-clause-inside
 set_word-requires-clause-inside g c =
     c.ensure_tables-table.ensures.tree.inside 2 (prefix_of c.first_page-first.result 2) (top c.ensure_tables-table.result) (omega arith) c.ensure_tables-table.ensures.met
+
+pub set_word-requires-clause-seen : goal.set_word-requires-clause-seen
+set_word-requires-clause-seen g c =
+    c.requires.seen (set (g.M.PhysicalMemory.words c.ensure_tables-table.new.frames) (512 * c.ensure_tables-table.result + c.index_after.result) c.bits.result) (g.P.TableFrames.free c.ensure_tables-table.new.pool)
+    (large_added (g.M.PhysicalMemory.words c.args.frames.now) (g.M.PhysicalMemory.words c.ensure_tables-table.new.frames) (set (g.M.PhysicalMemory.words c.ensure_tables-table.new.frames) (512 * c.ensure_tables-table.result + c.index_after.result) c.bits.result) (g.P.TableFrames.free c.args.pool.now) (g.P.TableFrames.free c.ensure_tables-table.new.pool) c.args.root c.args.page
+    c.ensure_tables-table.result c.index_after.result c.args.frame c.args.rights
+    c.requires.root c.requires.empty (rw c.first_frame.ensures.first at c.to_large-entry.ensures.fits) c.requires.frame c.requires.used
+    (run_unmet_at (g.M.PhysicalMemory.area c.args.frames.now) (g.M.PhysicalMemory.words c.args.frames.now) c.args.root (512 * c.args.frame) c.requires.unmet) (rw c.first_page-first.ensures at c.index_after.ensures.value)
+    (tree_moved (g.M.PhysicalMemory.area c.ensure_tables-table.new.frames) (g.M.PhysicalMemory.area c.args.frames.now) (g.M.PhysicalMemory.words c.ensure_tables-table.new.frames) c.args.root (g.P.TableFrames.free c.ensure_tables-table.new.pool) (sym c.ensure_tables-table.ensures.area) c.ensure_tables-table.ensures.tree)
+    (rw c.first_page-first.ensures at c.ensure_tables-table.ensures.met) (rw c.first_page-first.ensures at c.ensure_tables-table.ensures.prepared)
+    (ap (set (g.M.PhysicalMemory.words c.ensure_tables-table.new.frames) (512 * c.ensure_tables-table.result + c.index_after.result))
+    (c.bits.ensures ∙ (c.to_large-entry.ensures.value ∙ ap (λ f. large_entry f c.args.rights) c.first_frame.ensures.first))))

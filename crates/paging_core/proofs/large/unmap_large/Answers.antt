@@ -1,4 +1,4 @@
-use Rattle.std.proofs.Common.{◌≡◌, ◌∙◌, ◌+◌, ◌*◌, ◌/◌, ◌%◌, ◌^◌, ℕ, length, arith, length-set, ap}
+use Rattle.std.proofs.Common.{◌≡◌, ◌∙◌, ◌+◌, ◌*◌, ◌/◌, ◌%◌, ◌^◌, ℕ, length, arith, length-set, ap, set, refl}
 use Rattle.paging_core.specs.Walk.{place_of}
 use Rattle.paging_core.specs.Large.{slot_of, IsLargeCleared}
 use Rattle.paging_core.proofs.Areas.{tree_moved}
@@ -48,3 +48,9 @@ returns-clause-elsewhere g c = λ free tree other canonical ne.
 
 pub returns-clause-bytes : goal.returns-clause-bytes
 returns-clause-bytes g c = λ free tree. gone_bytes (g.M.PhysicalMemory.words c.args.frames.now) (g.M.PhysicalMemory.words c.set_word.new.self) c.args.root c.args.page c.requires.root (cleared g c) free tree
+
+pub set_word-requires-clause-seen : goal.set_word-requires-clause-seen
+set_word-requires-clause-seen g c =
+    c.requires.seen (set (g.M.PhysicalMemory.words c.args.frames.now) (512 * c.large_entry-table.result.table + c.large_entry-table.result.index) 0)
+    (large_cleared (g.M.PhysicalMemory.words c.args.frames.now) (set (g.M.PhysicalMemory.words c.args.frames.now) (512 * c.large_entry-table.result.table + c.large_entry-table.result.index) 0) c.args.root c.args.page
+    c.large_entry-table.result.table c.large_entry-table.result.index (place_of c.large_entry-table.result.large) c.large_entry-table.ensures.entry refl)

@@ -1,46 +1,22 @@
-use Rattle.std.proofs.Common.{◌≡◌, ◌∙◌, ℕ, ◌+◌, ◌*◌, ◌<◌, ◌^◌, ap, sym, set, subst, Some}
+use Rattle.paging_core.proofs.EntryAt.{as_entry, as_frame}
+use Rattle.std.proofs.Common.{◌+◌, ◌*◌, ap, sym, set}
 use Rattle.paging_core.specs.Entry.{page_entry}
-use Rattle.paging_core.specs.PageChanges.{regrant, only}
-use Rattle.paging_core.proofs.Areas.{tree_moved}
-use Rattle.paging_core.proofs.Ranges.{same_number}
-use Rattle.paging_core.proofs.PageChanged.{regrant_keeps, page_regranted, changed_tree, page_leads, other_walk, entry_written, regranted_bytes}
+use Rattle.paging_core.specs.PageChanges.{regrant}
+use Rattle.paging_core.proofs.PageChanged.{entry_written}
 use Rattle.paging_core.proofs.protecting.protect_page.Goals as goal
 
-pub returns-clause-changed : goal.returns-clause-changed
-returns-clause-changed g c =
+pub protect_at-requires-clause-entry : goal.protect_at-requires-clause-entry
+protect_at-requires-clause-entry g c =
+    as_entry (g.M.PhysicalMemory.words c.args.frames.now) c.args.root c.args.page c.last_entry-table.result.table c.last_entry-table.result.index c.last_entry-table.result.frame c.last_entry-table.ensures.entry
+
+pub protect_at-requires-clause-frame : goal.protect_at-requires-clause-frame
+protect_at-requires-clause-frame g c =
+    as_frame (g.M.PhysicalMemory.words c.args.frames.now) c.args.root c.args.page c.last_entry-table.result.table c.last_entry-table.result.index c.last_entry-table.result.frame c.last_entry-table.ensures.entry
+
+pub protect_at-requires-clause-seen : goal.protect_at-requires-clause-seen
+protect_at-requires-clause-seen g c =
     let e = c.last_entry-table.ensures.entry in
-    entry_written (g.M.PhysicalMemory.words c.args.frames.now) (g.M.PhysicalMemory.words c.set_word.new.self) c.args.root c.args.page (regrant c.args.rights)
-    c.last_entry-table.result.table c.last_entry-table.result.index c.last_entry-table.result.frame e
-    (c.set_word.ensures.words
-    ∙ ap (set (g.M.PhysicalMemory.words c.args.frames.now) (512 * c.last_entry-table.result.table + c.last_entry-table.result.index))
-    (c.bits.ensures ∙ (c.to_page-entry.ensures.value ∙ ap (λ f. page_entry f c.args.rights) (sym e.to_frame))))
-
-pub returns-clause-pages : goal.returns-clause-pages
-returns-clause-pages g c = λ free tree.
-    let e = c.last_entry-table.ensures.entry in
-    let r = returns-clause-changed g c in
-    let q : Some r.place ≡ Some e.place = sym r.was ∙ e.found in
-    let p : r.place ≡ e.place = cc in
-    let P : ℕ → Type 0 = λ f. f < 2 ^ 40 in
-    page_regranted (g.M.PhysicalMemory.words c.args.frames.now) (g.M.PhysicalMemory.words c.set_word.new.self) c.args.root c.args.page c.args.rights free c.requires.root r
-    (subst P (sym (ap (λ p. p.frame) p ∙ e.to_frame)) c.to_page-entry.ensures.fits) tree
-
-pub returns-clause-tree : goal.returns-clause-tree
-returns-clause-tree g c = λ free tree.
-    tree_moved (g.M.PhysicalMemory.area c.args.frames.now) (g.M.PhysicalMemory.area c.set_word.new.self) (g.M.PhysicalMemory.words c.set_word.new.self) c.args.root free c.set_word.ensures.area
-    (changed_tree (g.M.PhysicalMemory.words c.args.frames.now) (g.M.PhysicalMemory.words c.set_word.new.self) c.args.root (regrant c.args.rights) (only c.args.page) (returns-clause-pages g c free tree)
-    (regrant_keeps c.args.rights) free tree)
-
-pub returns-clause-granted : goal.returns-clause-granted
-returns-clause-granted g c = λ free tree.
-    let r = returns-clause-changed g c in
-    rw r.was (page_leads (g.M.PhysicalMemory.words c.args.frames.now) (g.M.PhysicalMemory.words c.set_word.new.self) c.args.root c.args.page (regrant c.args.rights) (returns-clause-pages g c free tree) r.place r.was)
-
-pub returns-clause-elsewhere : goal.returns-clause-elsewhere
-returns-clause-elsewhere g c = λ free tree other canonical ne.
-    other_walk (g.M.PhysicalMemory.words c.args.frames.now) (g.M.PhysicalMemory.words c.set_word.new.self) c.args.root c.args.page (regrant c.args.rights) (returns-clause-pages g c free tree) other
-    (λ e. ne (same_number other c.args.page canonical c.last_entry-table.ensures.canonical e))
-
-pub returns-clause-bytes : goal.returns-clause-bytes
-returns-clause-bytes g c = λ free tree.
-    regranted_bytes (g.M.PhysicalMemory.words c.args.frames.now) (g.M.PhysicalMemory.words c.set_word.new.self) c.args.root c.args.rights (only c.args.page) free (returns-clause-pages g c free tree) tree
+    let now = set (g.M.PhysicalMemory.words c.args.frames.now) (512 * c.last_entry-table.result.table + c.last_entry-table.result.index) (page_entry c.last_entry-table.result.frame c.args.rights) in
+    c.requires.seen now
+    (entry_written (g.M.PhysicalMemory.words c.args.frames.now) now c.args.root c.args.page (regrant c.args.rights) c.last_entry-table.result.table c.last_entry-table.result.index c.last_entry-table.result.frame e
+    (ap (λ f. set (g.M.PhysicalMemory.words c.args.frames.now) (512 * c.last_entry-table.result.table + c.last_entry-table.result.index) (page_entry f c.args.rights)) (sym e.to_frame)))

@@ -67,3 +67,7 @@ pub returns-clause-bytes : goal.returns-clause-bytes
 returns-clause-bytes g c =
     regranted_bytes (g.M.PhysicalMemory.words c.args.frames.now) (g.M.PhysicalMemory.words c.loop-step.frames) c.args.root c.args.rights (among c.args.first c.loop-step.step) c.requires.tree.0
     c.loop-step.invariant.changed c.requires.tree.1
+
+pub protect_page-requires-clause-seen : goal.protect_page-requires-clause-seen
+protect_page-requires-clause-seen g c = λ now changed.
+    c.requires.seen (g.M.PhysicalMemory.words c.loop-step.frames) now c.loop-step.step c.loop-step-test.true c.loop-step.invariant.changed (rw c.after.ensures at changed)

@@ -1,10 +1,11 @@
-use Rattle.std.proofs.Common.{◌≡◌, ◌∙◌, arith, refl, ap}
+use Rattle.std.proofs.Common.{◌≡◌, ◌∙◌, ◌+◌, arith, refl, ap, None}
 use Rattle.paging_core.specs.Area.{in_area}
 use Rattle.paging_core.specs.Memory.{frame_count}
 use Rattle.paging_core.specs.Walk.{step, top}
 use Rattle.paging_core.proofs.Areas.{tree_moved, known_moved}
 use Rattle.paging_core.proofs.Prefixes.{reach_root}
 use Rattle.paging_core.proofs.Prepare.{prepared_start, table_below, table_inside, known_mid, room_for, ensured_more}
+use Rattle.paging_core.proofs.Moments.{still_then, still_prepared, still_free}
 use Rattle.paging_core.proofs.tables.ensure_tables.Goals as goal
 
 pub loop-level-init : goal.loop-level-init
@@ -54,3 +55,18 @@ ensure_table-table-requires-clause-inside g c =
 pub returns-clause-tree : goal.returns-clause-tree
 returns-clause-tree g c =
     tree_moved (g.M.PhysicalMemory.area c.args.frames.now) (g.M.PhysicalMemory.area c.loop-level.frames) (g.M.PhysicalMemory.words c.loop-level.frames) c.args.root (g.P.TableFrames.free c.loop-level.pool) c.loop-level.invariant.area c.loop-level.invariant.tree
+
+pub ensure_table-table-requires-clause-before : goal.ensure_table-table-requires-clause-before
+ensure_table-table-requires-clause-before g c = λ now frame was_free only.
+    c.requires.seen now
+    (still_then (g.M.PhysicalMemory.words c.args.frames.now) (g.M.PhysicalMemory.words c.loop-level.frames) now c.args.root
+    (still_prepared (g.M.PhysicalMemory.words c.args.frames.now) (g.M.PhysicalMemory.words c.loop-level.frames) c.args.root c.args.page c.loop-level.level (g.P.TableFrames.free c.args.pool.now) (g.P.TableFrames.free c.loop-level.pool) (omega (arith, c.requires.levels)) c.loop-level.invariant.tree c.loop-level.invariant.prepared)
+    (still_free (g.M.PhysicalMemory.words c.loop-level.frames) now c.args.root (g.P.TableFrames.free c.loop-level.pool) frame c.loop-level.invariant.tree was_free only))
+
+pub ensure_table-table-requires-clause-seen : goal.ensure_table-table-requires-clause-seen
+ensure_table-table-requires-clause-seen g c = λ absent now free made is.
+    let s = ensured_more (g.M.PhysicalMemory.words c.args.frames.now) (g.M.PhysicalMemory.words c.loop-level.frames) (g.P.TableFrames.free c.args.pool.now) (g.P.TableFrames.free c.loop-level.pool) c.args.root c.args.page c.loop-level.level c.loop-level.table c.index_after.result
+    c.requires.root c.requires.known (omega arith) c.index_after.ensures.value c.loop-level.invariant.tree c.loop-level.invariant.met c.loop-level.invariant.prepared (λ e. c.requires.small (omega arith))
+    now free made None absent is in
+    c.requires.seen now
+    (still_prepared (g.M.PhysicalMemory.words c.args.frames.now) now c.args.root c.args.page (c.loop-level.level + 1) (g.P.TableFrames.free c.args.pool.now) free (omega (arith, c.requires.levels)) s.tree_on s.prepared_on)

@@ -1,0 +1,86 @@
+ghost use Rattle.std.specs.Prelude.{◌≡◌, ℕ, ◌+◌, ◌*◌, ◌/◌, ◌%◌, ◌^◌, ◌<◌, ◌≤◌, IsSome, IsTrue, List, Bool};
+ghost use Rattle.paging_core.specs.Address.{is_canonical};
+ghost use Rattle.paging_core.specs.Memory.{frame_count};
+ghost use Rattle.paging_core.specs.Walk.{large_of, walk_of, reached};
+ghost use Rattle.paging_core.specs.Pool.{free_count, FreeIn};
+ghost use Rattle.paging_core.specs.Moments.{IsStill};
+ghost use Rattle.paging_core.specs.Tree.{IsTreeIn};
+ghost use Rattle.paging_core.specs.Large.{slot_of};
+ghost use Rattle.paging_core.specs.LargeChanges.{IsLargeSplit, IsLargeRegranted, AreLargeGranted};
+
+use crate::large::{LargeEntry, fill_table, large_entry};
+use crate::page_table::{PageTableEntry, Rights};
+use crate::pages::{Page, Size2MiB};
+use crate::phys_frames::PhysFrame;
+use crate::physical_memory::PhysicalMemory;
+use crate::table_frames::TableFrames;
+
+/// Splits the large page of the slot: a table of 512 single entries maps the same frames with the same rights. The table
+/// lies in the lowest free frame of the pool.
+///
+/// The slot is mapped by one entry, and the pool has a frame. Every page leads where it led at each moment, so that another
+/// processor may walk meanwhile: all entries of the table are written while nothing leads to it, and the entry that leads
+/// to it is written last, by one store. What a processor kept of the old entry stays right, as it says the same.
+pub fn split_large<M: PhysicalMemory, P: TableFrames>(
+    frames: &mut M,
+    pool: &mut P,
+    root: PhysFrame,
+    page: Page<Size2MiB>,
+)
+    requires root { root < frame_count (M.words frames.old) }
+    requires known { FreeIn (M.area frames.old) (P.free pool.old) (frame_count (M.words frames.old)) }
+    requires tree { IsTreeIn (M.area frames.old) (M.words frames.old) root (P.free pool.old) }
+    requires large { IsSome (large_of (M.words frames.old) root (slot_of page)) }
+    requires room { 0 < free_count (P.free pool.old) }
+    requires seen { (now : List ℕ) → IsStill (M.area frames.old) (M.words frames.old) root now → M.allows now }
+    ensures tree { IsTreeIn (M.area frames.new) (M.words frames.new) root (P.free pool.new) }
+    ensures known { FreeIn (M.area frames.new) (P.free pool.new) (frame_count (M.words frames.new)) }
+    ensures area { M.area frames.new ≡ M.area frames.old }
+    ensures split { IsLargeSplit (M.words frames.old) (M.words frames.new) (P.free pool.old) (P.free pool.new) root page }
+
+    // No page's walk is changed, those of the slot not either, and no byte of any page.
+    ensures walks { (other : ℕ) → walk_of (M.words frames.new) root other ≡ walk_of (M.words frames.old) root other }
+    ensures bytes { (address : ℕ) → reached (M.words frames.new) root address ≡ reached (M.words frames.old) root address }
+{
+    let LargeEntry {
+        table,
+        index,
+        large,
+    } = large_entry(frames, root, page);
+    let Some(made) = pool.take_frame() else {
+        unreachable!()
+    };
+    fill_table(frames, made, large.frame, 512, large.rights());
+    frames.set_word(table, index, PageTableEntry::to_table(made).bits());
+}
+
+/// Gives the pages of the slot these rights: its entry becomes the one that maps the same frames with them, and no other
+/// word is changed.
+///
+/// The slot is mapped by one entry.
+pub fn protect_large<M: PhysicalMemory>(
+    frames: &mut M,
+    root: PhysFrame,
+    page: Page<Size2MiB>,
+    rights: Rights,
+)
+    requires root { root < frame_count (M.words frames.old) }
+    requires large { IsSome (large_of (M.words frames.old) root (slot_of page)) }
+    requires seen { (now : List ℕ) → IsLargeRegranted (M.words frames.old) now root page rights → M.allows now }
+    ensures regranted { IsLargeRegranted (M.words frames.old) (M.words frames.new) root page rights }
+    ensures area { M.area frames.new ≡ M.area frames.old }
+
+    // Where the tables are a tree they stay one; no other page's walk is changed, and no byte of any page.
+    ensures tree { (free : List Bool) → IsTreeIn (M.area frames.old) (M.words frames.old) root free → IsTreeIn (M.area frames.new) (M.words frames.new) root free }
+    ensures granted { (free : List Bool) → IsTreeIn (M.area frames.old) (M.words frames.old) root free → AreLargeGranted (M.words frames.old) (M.words frames.new) root page rights }
+    ensures elsewhere { (free : List Bool) → IsTreeIn (M.area frames.old) (M.words frames.old) root free → (other : ℕ) → IsTrue (is_canonical (other * 4096)) → (other / 512 ≡ page → ⊥) → walk_of (M.words frames.new) root other ≡ walk_of (M.words frames.old) root other }
+    ensures bytes { (free : List Bool) → IsTreeIn (M.area frames.old) (M.words frames.old) root free → (address : ℕ) → reached (M.words frames.new) root address ≡ reached (M.words frames.old) root address }
+{
+    let LargeEntry {
+        table,
+        index,
+        large,
+    } = large_entry(frames, root, page);
+    let entry = PageTableEntry::to_large(large.frame, rights);
+    frames.set_word(table, index, entry.bits());
+}
