@@ -1,5 +1,5 @@
 -- Large pages of tables in an area.
-use Rattle.std.proofs.Common.{◌≡◌, ℕ, ◌+◌, ◌*◌, ◌/◌, ◌%◌, ◌^◌, ◌<◌, ◌≤◌, Bool, true, false, not, cond, ltb, List, Option, Some, None, refl, sym, ap, ◌∙◌, ◌⊎◌, inl, inr, arith}
+use Rattle.std.proofs.Common.{◌≡◌, ℕ, ◌+◌, ◌-◌, ◌*◌, ◌/◌, ◌%◌, ◌^◌, ◌<◌, ◌≤◌, Bool, true, false, not, cond, ltb, List, Option, Some, None, refl, sym, ap, ◌∙◌, ◌⊎◌, inl, inr, arith}
 use Rattle.std.proofs.lemmas.Bool.{cases_eq}
 use Rattle.std.proofs.lemmas.Bool.Decides.{nat_tests}
 use Rattle.std.specs.Prelude.{is_some, IsSome, IsTrue}
@@ -110,7 +110,7 @@ no_large_fault state page frame none =
     }
   where
     go : (large table past meets few : Bool) →
-        cond large (Some IsMapped) (cond table (Some HasTable) (cond past (Some PastLimit) (cond meets (Some InArea) (cond few (Some NoFrames) None)))) ≡ None →
+        cond large (Some IsMapped) (cond table (Some HasTable) (cond past (Some PastLimit) (cond meets (Some InArea) (cond few (Some (NoFrames (missing_above state.words state.root page - free_count state.free))) None)))) ≡ None →
         (large ≡ false) × (table ≡ false) × (past ≡ false) × (meets ≡ false) × (few ≡ false)
     go true table past meets few e = absurd (cc)
     go false true past meets few e = absurd (cc)
@@ -122,3 +122,8 @@ no_large_fault state page frame none =
 pub none_unless : (b : Bool) (o : Option Place) → b ≡ false → (IsSome o → IsTrue b) → o ≡ None
 none_unless b None e f = refl
 none_unless b (Some p) e f = let t : b ≡ true = f refl in absurd (cc)
+
+-- a part of a row of frames that does not meet the area
+pub row_part : (area : Area) (from count a m : ℕ) → area_meets area from count ≡ false → from ≤ a → a + m ≤ from + count → area_meets area a m ≡ false
+row_part Whole from count a m out lo hi = grind (arith, nat_tests)
+row_part (Part first end) from count a m out lo hi = grind (arith, nat_tests)

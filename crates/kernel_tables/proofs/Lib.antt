@@ -1,3 +1,9 @@
 pub mod Sound
 pub mod LargePages
 mod Flushed
+pub mod RangeTests
+pub mod RangeCounts
+pub mod RangeMapped
+pub mod RangeFaults
+pub mod RangeChanged
+pub mod Ends

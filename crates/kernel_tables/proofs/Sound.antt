@@ -1,5 +1,5 @@
 -- What stays true of tables in an area.
-use Rattle.std.proofs.Common.{◌≡◌, ℕ, ◌+◌, ◌*◌, ◌%◌, ◌^◌, ◌<◌, ◌≤◌, Bool, true, false, not, cond, ltb, List, length, Some, None, refl, sym, ap, ◌∙◌, ◌⊎◌, inl, inr, arith}
+use Rattle.std.proofs.Common.{◌≡◌, ℕ, ◌+◌, ◌-◌, ◌*◌, ◌%◌, ◌^◌, ◌<◌, ◌≤◌, Bool, true, false, not, cond, ltb, List, length, Some, None, refl, sym, ap, ◌∙◌, ◌⊎◌, inl, inr, arith}
 use Rattle.std.proofs.lemmas.Bool.{cases_Bool, cases_eq, cases_lt}
 use Rattle.std.proofs.lemmas.Bool.Decides.{nat_tests}
 use Rattle.std.specs.Prelude.{is_some}
@@ -78,7 +78,7 @@ no_fault state page frame none =
     go (is_some (leads state page)) (not (ltb frame (limit_of state))) (in_area state.area frame) (ltb (free_count state.free) (missing_of state.words state.root page 1)) none
   where
     go : (mapped past inside few : Bool) →
-        cond mapped (Some IsMapped) (cond past (Some PastLimit) (cond inside (Some InArea) (cond few (Some NoFrames) None))) ≡ None → inside ≡ false
+        cond mapped (Some IsMapped) (cond past (Some PastLimit) (cond inside (Some InArea) (cond few (Some (NoFrames (missing_of state.words state.root page 1 - free_count state.free))) None))) ≡ None → inside ≡ false
     go true past inside few e = absurd (cc)
     go false true inside few e = absurd (cc)
     go false false true few e = absurd (cc)

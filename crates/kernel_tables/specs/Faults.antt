@@ -1,41 +1,46 @@
 -- Why a page is not mapped, or not changed: the first of the causes that holds.
-use Rattle.std.specs.Prelude.{ℕ, ◌+◌, ◌*◌, not, nat_lt, is_some, is_none, if◌then◌else◌, Option, Some, None}
+use Rattle.std.specs.Prelude.{ℕ, ◌+◌, ◌-◌, ◌*◌, ◌/◌, not, nat_lt, is_some, is_none, if◌then◌else◌, Option, Some, None}
 use Rattle.paging_core.specs.Area.{in_area, area_meets}
 use Rattle.paging_core.specs.Large.{slot_of, missing_above}
 use Rattle.paging_core.specs.Missing.{missing_of}
 use Rattle.paging_core.specs.Pool.{free_count}
-use Rattle.paging_core.specs.Prefix.{prefix_of}
 use Rattle.paging_core.specs.Walk.{large_of, reach}
 use Rattle.kernel_tables.specs.TableState.{TableState, leads, limit_of}
 use Rattle.kernel_tables.specs.declared.faults.MapFault.{MapFault}
 use Rattle.kernel_tables.specs.declared.faults.MapFault.TheVariants.{IsMapped, HasTable, PastLimit, InArea, NoFrames}
 use Rattle.kernel_tables.specs.declared.faults.EntryFault.{EntryFault}
-use Rattle.kernel_tables.specs.declared.faults.EntryFault.TheVariants.{NotMapped, InLargePage}
+use Rattle.kernel_tables.specs.declared.faults.EntryFault.TheVariants as Entry
 
 -- the page is mapped; the frame is not below the limit, or is one of the area; the free frames are too few for the tables
--- that the page misses
+-- that the page misses: so many are wanting
 abbrev pub map_fault : TableState → ℕ → ℕ → Option MapFault
 map_fault state page frame =
     (if is_some (leads state page) then Some IsMapped
     else if not (nat_lt frame (limit_of state)) then Some PastLimit
     else if in_area state.area frame then Some InArea
-    else if nat_lt (free_count state.free) (missing_of state.words state.root page 1) then Some NoFrames
+    else if nat_lt (free_count state.free) (missing_of state.words state.root page 1)
+    then Some (NoFrames (missing_of state.words state.root page 1 - free_count state.free))
     else None)
 
 -- the slot is mapped by one entry, or has a table; one of the 512 frames is not below the limit, or is one of the area; the
--- free frames are too few for the tables that the slot misses above it
+-- free frames are too few for the tables that the slot misses above it: so many are wanting
 abbrev pub map_large_fault : TableState → ℕ → ℕ → Option MapFault
 map_large_fault state page frame =
     (if is_some (large_of state.words state.root (slot_of page)) then Some IsMapped
     else if is_some (reach state.words state.root 3 (slot_of page)) then Some HasTable
     else if not (nat_lt (512 * frame + 511) (limit_of state)) then Some PastLimit
     else if area_meets state.area (512 * frame) 512 then Some InArea
-    else if nat_lt (free_count state.free) (missing_above state.words state.root page) then Some NoFrames
+    else if nat_lt (free_count state.free) (missing_above state.words state.root page)
+    then Some (NoFrames (missing_above state.words state.root page - free_count state.free))
     else None)
 
--- the page has no entry of its own in a last table
+-- how many frames it takes to give the page an entry of its own: one if it is part of a large page
+abbrev pub split_of : TableState → ℕ → ℕ
+split_of state page = (if is_some (large_of state.words state.root (slot_of (page / 512))) then 1 else 0)
+
+-- the page is not mapped; it is part of a large page, and no frame is free for the table that splits it
 abbrev pub entry_fault : TableState → ℕ → Option EntryFault
 entry_fault state page =
-    (if is_none (leads state page) then Some NotMapped
-    else if is_none (reach state.words state.root 3 (prefix_of page 3)) then Some InLargePage
+    (if is_none (leads state page) then Some Entry.NotMapped
+    else if nat_lt (free_count state.free) (split_of state page) then Some Entry.NoFrames
     else None)

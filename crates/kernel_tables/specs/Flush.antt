@@ -1,10 +1,10 @@
 -- What a processor's translation cache may keep (AMD64 volume 2, "Translation-Lookaside Buffer"), own.
-use Rattle.std.specs.Prelude.{◌≡◌, ℕ, ◌*◌, ◌/◌, Bool, false, ◌==◌, IsTrue, if◌then◌else◌, Option, Some, None}
+use Rattle.std.specs.Prelude.{◌≡◌, ℕ, ◌+◌, ◌*◌, ◌/◌, Bool, false, ◌==◌, ◌&&◌, nat_le, nat_lt, IsTrue, if◌then◌else◌, Option, Some, None}
 use Rattle.paging_core.specs.Address.{is_canonical}
 use Rattle.paging_core.specs.Walk.{Place}
 use Rattle.kernel_tables.specs.TableState.{TableState, leads}
 
--- no page; the page alone; the pages of the slot
+-- no page; the page alone; the pages of the slot; so many pages from one on
 abbrev pub no_page : ℕ → Bool
 no_page other = false
 
@@ -13,6 +13,9 @@ page_alone page other = other == page
 
 abbrev pub pages_of_slot : ℕ → ℕ → Bool
 pages_of_slot page other = other / 512 == page
+
+abbrev pub pages_of_range : ℕ → ℕ → ℕ → Bool
+pages_of_range page pages other = nat_le page other && nat_lt other (page + pages)
 
 -- After these pages were flushed, whatever is kept of a page is what a walk finds: each other page that was mapped leads where it led.
 abbrev pub IsFlushEnough : TableState → TableState → (ℕ → Bool) → Type 0

@@ -1,3 +1,4 @@
 pub mod TableState
 pub mod Faults
 pub mod Flush
+pub mod Ranges

@@ -5,7 +5,7 @@ use Rattle.paging_core.specs.Memory.{word_at, frame_count}
 use Rattle.paging_core.specs.Pool.{FreeIn}
 use Rattle.paging_core.specs.ProcessorWalk.{processor_walk, page_of, is_refused}
 use Rattle.paging_core.specs.Tree.{IsTreeIn}
-use Rattle.paging_core.specs.Walk.{Place, walk_of}
+use Rattle.paging_core.specs.Walk.{Place, reach, walk_of}
 
 pub record TableState : Type 0 where
   -- the words of all frames below the limit; those outside the area are 0 here
@@ -47,3 +47,8 @@ pub record IsSamePlace (old new : TableState) : Type 0 where
   pub root : new.root ≡ old.root
   pub area : new.area ≡ old.area
   pub size : length new.words ≡ length old.words
+
+-- each table that was met is met where it was
+abbrev pub DoTablesStay : TableState → TableState → Type 0
+DoTablesStay old new =
+    (level number : ℕ) (met : Place) → level < 4 → reach old.words old.root level number ≡ Some met → reach new.words new.root level number ≡ Some met

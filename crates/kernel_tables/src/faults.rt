@@ -16,8 +16,11 @@ pub enum MapFault {
     #[error("the frame lies in the area of the tables")]
     InArea,
     /// The frames of the area that are free are too few for the tables that the page misses.
-    #[error("no frames for the missing tables")]
-    NoFrames,
+    #[error("no frames for {wanting} of the missing tables")]
+    NoFrames {
+        /// How many frames are wanting: for so many tables there is none.
+        wanting: u64,
+    },
 }
 
 /// Why the entry of a page is not changed.
@@ -26,7 +29,7 @@ pub enum EntryFault {
     /// The page is not mapped.
     #[error("the page is not mapped")]
     NotMapped,
-    /// The page is part of a large one, and has no entry of its own.
-    #[error("the page is part of a large page")]
-    InLargePage,
+    /// The page is part of a large one, and no frame of the area is free for the table that splits it.
+    #[error("no frame for the table that splits the large page")]
+    NoFrames,
 }

@@ -51,8 +51,12 @@ impl<'a> Tables<'a> {
         if self.memory.meets(first, 512) {
             return Some(MapFault::InArea);
         }
-        if self.missing_above(page) > self.free.left() {
-            return Some(MapFault::NoFrames);
+        let missing = self.missing_above(page);
+        let left = self.free.left();
+        if missing > left {
+            return Some(MapFault::NoFrames {
+                wanting: missing - left,
+            });
         }
         None
     }

@@ -7,9 +7,15 @@
 mod faults;
 mod large_pages;
 pub mod laws;
+mod range_changes;
+mod range_checks;
+mod range_ends;
+mod range_fault;
+mod ranges;
 mod tables;
 
 pub use faults::{EntryFault, MapFault};
+pub use range_fault::RangeFault;
 pub use tables::Tables;
 
 #[cfg(test)]

@@ -3,17 +3,19 @@ ghost use Rattle.std.specs.Option.{option_map};
 ghost use Rattle.paging_core.specs.Address.{is_canonical};
 ghost use Rattle.paging_core.specs.Area.{Part};
 ghost use Rattle.paging_core.specs.Mapping.{IsPageAdded};
+ghost use Rattle.paging_core.specs.Missing.{missing_of};
 ghost use Rattle.paging_core.specs.PageChanges.{removal, regrant, IsPageChanged};
 ghost use Rattle.paging_core.specs.Pool.{free_count};
 ghost use Rattle.paging_core.specs.Walk.{place_of, granted};
-ghost use Rattle.kernel_tables.specs.Faults.{map_fault, entry_fault};
+ghost use Rattle.kernel_tables.specs.Faults.{map_fault, entry_fault, split_of};
 ghost use Rattle.kernel_tables.specs.Flush.{no_page, page_alone, IsFlushEnough};
-ghost use Rattle.kernel_tables.specs.TableState.{leads, limit_of, IsSamePlace, IsWalkedAlike};
+ghost use Rattle.kernel_tables.specs.TableState.{leads, limit_of, IsSamePlace, DoTablesStay, IsWalkedAlike};
 
 use crate::faults::{EntryFault, MapFault};
+use crate::range_checks::slot_at;
 use paging_core::{
-    FramesAhead, Mapped, Page, PhysFrame, PhysicalMemory, Rights, Size2MiB, TableArea, has_table,
-    make_root, map_page, missing_tables, protect_page, unmap_page, walk,
+    FramesAhead, Mapped, Page, PhysFrame, PhysicalMemory, Rights, TableArea, WalkEnd, clear_at,
+    end_of_walk, make_root, map_at, map_page, protect_at, walk,
 };
 use std::marker::Model;
 
@@ -82,23 +84,26 @@ impl<'a> Tables<'a> {
         walk(&self.memory, self.root, page)
     }
 
-    /// Why the page is not mapped to the frame, if it is not.
-    fn map_fault(&self, page: Page, frame: PhysFrame) -> Option<MapFault>
+    /// Why a page that is not mapped, and misses so many tables, is not mapped to the frame, if it is not.
+    #[inline(always)]
+    fn map_fault(&self, page: Page, missing: u64, frame: PhysFrame) -> Option<MapFault>
+        requires unmapped { leads self.now page ≡ None }
+        requires missing { missing ≡ missing_of self.now.words self.now.root page 1 }
         ensures fault { result ≡ map_fault self.now page frame }
         ensures canonical { IsTrue (is_canonical (page * 4096)) }
     {
-        let number = page.number();
-        if walk(&self.memory, self.root, page).is_some() {
-            return Some(MapFault::IsMapped);
-        }
+        let _canonical = page.number();
         if frame.number() >= self.memory.limit() {
             return Some(MapFault::PastLimit);
         }
         if self.memory.contains(frame) {
             return Some(MapFault::InArea);
         }
-        if missing_tables(&self.memory, self.root, number, 1) > self.free.left() {
-            return Some(MapFault::NoFrames);
+        let left = self.free.left();
+        if missing > left {
+            return Some(MapFault::NoFrames {
+                wanting: missing - left,
+            });
         }
         None
     }
@@ -115,74 +120,166 @@ impl<'a> Tables<'a> {
         ensures flush { IsFlushEnough self.old self.new no_page }
         ensures added { OnOk result (IsPageAdded self.old.words self.new.words self.old.free self.new.free self.old.root page frame rights) }
     {
-        match self.map_fault(page, frame) {
-            Some(fault) => Err(fault),
-            None => {
-                map_page(
-                    &mut self.memory,
-                    &mut self.free,
-                    self.root,
-                    page,
-                    frame,
-                    rights,
-                );
-                Ok(())
-            }
+        match end_of_walk(&self.memory, self.root, page) {
+            WalkEnd::Entry { entry, page: None } => match self.map_fault(page, 0, frame) {
+                Some(fault) => Err(fault),
+                None => {
+                    map_at(
+                        &mut self.memory,
+                        self.root,
+                        page,
+                        entry.table,
+                        entry.index,
+                        frame,
+                        rights,
+                    );
+                    Ok(())
+                }
+            },
+            WalkEnd::Missing(tables) => match self.map_fault(page, tables, frame) {
+                Some(fault) => Err(fault),
+                None => {
+                    map_page(
+                        &mut self.memory,
+                        &mut self.free,
+                        self.root,
+                        page,
+                        frame,
+                        rights,
+                    );
+                    Ok(())
+                }
+            },
+            _ => Err(MapFault::IsMapped),
         }
     }
 
-    /// Why the page has no entry of its own, if it has none.
+    /// How many frames it takes to give the page an entry of its own.
+    fn split_of(&self, page: Page) -> u64
+        ensures { result ≡ split_of self.now page }
+    {
+        if self.large_page(slot_at(page)).is_some() {
+            1
+        } else {
+            0
+        }
+    }
+
+    /// Why the page's entry is not changed, if it is not.
     fn entry_fault(&self, page: Page) -> Option<EntryFault>
         ensures { result ≡ entry_fault self.now page }
     {
         if walk(&self.memory, self.root, page).is_none() {
             return Some(EntryFault::NotMapped);
         }
-        let slot: Page<Size2MiB> = Page::containing_address(page.start_address());
-        if !has_table(&self.memory, self.root, slot) {
-            return Some(EntryFault::InLargePage);
+        if self.free.left() < self.split_of(page) {
+            return Some(EntryFault::NoFrames);
         }
         None
     }
 
-    /// Ends the mapping of the page, and answers the frame to which it led. The tables stay. The page is to be flushed before
-    /// its frame has another use.
+    /// Does what `unmap` does, for any page.
+    fn unmap_any(&mut self, page: Page) -> Result<PhysFrame, EntryFault>
+        ensures ok { OnOk result (entry_fault self.old page ≡ None) }
+        ensures err { IfErr result (λ fault. entry_fault self.old page ≡ Some fault) }
+        ensures same { OnErr result (self.new ≡ self.old) }
+        ensures place { IsSamePlace self.old self.new }
+        ensures tables { DoTablesStay self.old self.new }
+        ensures free { OnOk result (free_count self.new.free + split_of self.old page ≡ free_count self.old.free) }
+        ensures frame { IfOk result (λ frame. IfSome (leads self.old page) (λ place. frame ≡ place.frame)) }
+        ensures unmapped { OnOk result (leads self.new page ≡ None) }
+        ensures elsewhere { (other : ℕ) → IsTrue (is_canonical (other * 4096)) → (other ≡ page → ⊥) → leads self.new other ≡ leads self.old other }
+        ensures flush { IsFlushEnough self.old self.new (page_alone page) }
+        ensures removed { OnOk result (split_of self.old page ≡ 0 → IsPageChanged self.old.words self.new.words self.old.root page removal) }
+    {
+        match self.entry_fault(page) {
+            Some(fault) => Err(fault),
+            None => {
+                self.own_entry(page);
+                Ok(self.clear_page(page))
+            }
+        }
+    }
+
+    /// Ends the mapping of the page, and answers the frame to which it led. A large page of which it is part is split in a frame
+    /// of the area. The other tables stay. The page is to be flushed before its frame has another use.
     pub fn unmap(&mut self, page: Page) -> Result<PhysFrame, EntryFault>
         ensures ok { OnOk result (entry_fault self.old page ≡ None) }
         ensures err { IfErr result (λ fault. entry_fault self.old page ≡ Some fault) }
         ensures same { OnErr result (self.new ≡ self.old) }
         ensures place { IsSamePlace self.old self.new }
-        ensures free { self.new.free ≡ self.old.free }
+        ensures tables { DoTablesStay self.old self.new }
+        ensures free { OnOk result (free_count self.new.free + split_of self.old page ≡ free_count self.old.free) }
         ensures frame { IfOk result (λ frame. IfSome (leads self.old page) (λ place. frame ≡ place.frame)) }
         ensures unmapped { OnOk result (leads self.new page ≡ None) }
         ensures elsewhere { (other : ℕ) → IsTrue (is_canonical (other * 4096)) → (other ≡ page → ⊥) → leads self.new other ≡ leads self.old other }
         ensures flush { IsFlushEnough self.old self.new (page_alone page) }
-        ensures removed { OnOk result (IsPageChanged self.old.words self.new.words self.old.root page removal) }
+        ensures removed { OnOk result (split_of self.old page ≡ 0 → IsPageChanged self.old.words self.new.words self.old.root page removal) }
+    {
+        if let WalkEnd::Entry {
+            entry,
+            page: Some(met),
+        } = end_of_walk(&self.memory, self.root, page)
+        {
+            clear_at(&mut self.memory, self.root, page, entry.table, entry.index);
+            return Ok(met.frame);
+        }
+        self.unmap_any(page)
+    }
+
+    /// Does what `protect` does, for any page.
+    fn protect_any(&mut self, page: Page, rights: Rights) -> Result<(), EntryFault>
+        ensures ok { OnOk result (entry_fault self.old page ≡ None) }
+        ensures err { IfErr result (λ fault. entry_fault self.old page ≡ Some fault) }
+        ensures same { OnErr result (self.new ≡ self.old) }
+        ensures place { IsSamePlace self.old self.new }
+        ensures tables { DoTablesStay self.old self.new }
+        ensures free { OnOk result (free_count self.new.free + split_of self.old page ≡ free_count self.old.free) }
+        ensures granted { OnOk result (IfSome (leads self.old page) (λ place. leads self.new page ≡ Some (granted place.frame rights))) }
+        ensures elsewhere { (other : ℕ) → IsTrue (is_canonical (other * 4096)) → (other ≡ page → ⊥) → leads self.new other ≡ leads self.old other }
+        ensures flush { IsFlushEnough self.old self.new (page_alone page) }
+        ensures changed { OnOk result (split_of self.old page ≡ 0 → IsPageChanged self.old.words self.new.words self.old.root page (regrant rights)) }
     {
         match self.entry_fault(page) {
             Some(fault) => Err(fault),
-            None => Ok(unmap_page(&mut self.memory, self.root, page)),
+            None => {
+                self.own_entry(page);
+                self.grant_page(page, rights);
+                Ok(())
+            }
         }
     }
 
-    /// Gives the page these rights. It keeps its frame. The page is to be flushed.
+    /// Gives the page these rights. It keeps its frame. A large page of which it is part is split in a frame of the area. The page
+    /// is to be flushed.
     pub fn protect(&mut self, page: Page, rights: Rights) -> Result<(), EntryFault>
         ensures ok { OnOk result (entry_fault self.old page ≡ None) }
         ensures err { IfErr result (λ fault. entry_fault self.old page ≡ Some fault) }
         ensures same { OnErr result (self.new ≡ self.old) }
         ensures place { IsSamePlace self.old self.new }
-        ensures free { self.new.free ≡ self.old.free }
+        ensures tables { DoTablesStay self.old self.new }
+        ensures free { OnOk result (free_count self.new.free + split_of self.old page ≡ free_count self.old.free) }
         ensures granted { OnOk result (IfSome (leads self.old page) (λ place. leads self.new page ≡ Some (granted place.frame rights))) }
         ensures elsewhere { (other : ℕ) → IsTrue (is_canonical (other * 4096)) → (other ≡ page → ⊥) → leads self.new other ≡ leads self.old other }
         ensures flush { IsFlushEnough self.old self.new (page_alone page) }
-        ensures changed { OnOk result (IsPageChanged self.old.words self.new.words self.old.root page (regrant rights)) }
+        ensures changed { OnOk result (split_of self.old page ≡ 0 → IsPageChanged self.old.words self.new.words self.old.root page (regrant rights)) }
     {
-        match self.entry_fault(page) {
-            Some(fault) => Err(fault),
-            None => {
-                protect_page(&mut self.memory, self.root, page, rights);
-                Ok(())
-            }
+        if let WalkEnd::Entry {
+            entry,
+            page: Some(met),
+        } = end_of_walk(&self.memory, self.root, page)
+        {
+            protect_at(
+                &mut self.memory,
+                self.root,
+                page,
+                entry.table,
+                entry.index,
+                met.frame,
+                rights,
+            );
+            return Ok(());
         }
+        self.protect_any(page, rights)
     }
 }

@@ -1,15 +1,49 @@
-use Rattle.std.proofs.Common.{◌≡◌, false, ap, sym, ◌∙◌, arith}
+use Rattle.std.proofs.Common.{◌≡◌, false, ap, sym, subst, ◌∙◌, arith}
+use Rattle.paging_core.specs.Mapping.{IsPageAdded}
+use Rattle.paging_core.specs.WalkEnd.{IsEntryOf}
+use Rattle.kernel_tables.proofs.Ends.{nothing_missing}
 use Rattle.paging_core.specs.Area.{in_area}
+use Rattle.paging_core.specs.Memory.{frame_count}
 use Rattle.kernel_tables.specs.TableState.{TableState}
-use Rattle.kernel_tables.proofs.Sound.{added_outside, no_fault}
+use Rattle.kernel_tables.proofs.Sound.{outside_used, added_outside, no_fault}
 use Rattle.kernel_tables.proofs.tables.Tables.map.Goals as goal
 
 pub invariant_of-self : goal.invariant_of-self
 invariant_of-self c =
-    let added = c.map_page.ensures.added in
-    let size = added.size in
     let out : in_area c.self.inside.memory.area c.args.frame ≡ false =
     ap (λ (s : TableState). in_area s.area c.args.frame) c.self.view_is ∙ no_fault c.args.self.now c.args.page c.args.frame (sym c.in-None.ensures.fault) in
+    let used = outside_used c.self.inside.memory.area c.self.inside.free (frame_count c.self.inside.memory.words) c.args.frame c.self.invariant.known out in
+    let added = c.map_at.ensures.added c.self.inside.free c.self.invariant.tree used in
+    let size = added.size in
+    record {
+      root_in = omega (arith, c.self.invariant.root_in, size);
+      tree = c.map_at.ensures.tree c.self.inside.free c.self.invariant.tree used;
+      known = c.map_at.ensures.known c.self.inside.free c.self.invariant.known;
+      apart = λ page place is.
+          ap (λ a. in_area a place.frame) c.map_at.ensures.area
+          ∙ added_outside c.self.inside.memory.area c.self.inside.memory.words c.map_at.new.frames.words c.self.inside.free c.self.inside.free c.self.inside.root c.args.page c.args.frame c.args.rights
+          added out c.self.invariant.apart page place is;
+    }
+
+pub map_fault-requires-clause-missing : goal.map_fault-requires-clause-missing
+map_fault-requires-clause-missing c =
+    nothing_missing c.args.self.now c.args.page c.in-Entry-default-None.entry.table c.in-Entry-default-None.entry.index
+    (subst (λ (s : TableState). IsEntryOf s.words s.root c.args.page c.in-Entry-default-None.entry.table c.in-Entry-default-None.entry.index) c.self.view_is c.in-Entry-default-None.ensures.end.0)
+
+pub returns-in-None-clause-added : goal.returns-in-None-clause-added
+returns-in-None-clause-added c =
+    let out : in_area c.self.inside.memory.area c.args.frame ≡ false =
+    ap (λ (s : TableState). in_area s.area c.args.frame) c.self.view_is ∙ no_fault c.args.self.now c.args.page c.args.frame (sym c.in-None.ensures.fault) in
+    subst (λ (s : TableState). IsPageAdded s.words c.map_at.new.frames.words s.free c.self.inside.free s.root c.args.page c.args.frame c.args.rights) c.self.view_is
+    (c.map_at.ensures.added c.self.inside.free c.self.invariant.tree
+    (outside_used c.self.inside.memory.area c.self.inside.free (frame_count c.self.inside.memory.words) c.args.frame c.self.invariant.known out))
+
+pub invariant_of-self-in-None-map_fault : goal.invariant_of-self-in-None-map_fault
+invariant_of-self-in-None-map_fault c =
+    let out : in_area c.self.inside.memory.area c.args.frame ≡ false =
+    ap (λ (s : TableState). in_area s.area c.args.frame) c.self.view_is ∙ no_fault c.args.self.now c.args.page c.args.frame (sym c.in-None-map_fault.ensures.fault) in
+    let added = c.map_page.ensures.added in
+    let size = added.size in
     record {
       root_in = omega (arith, c.self.invariant.root_in, size);
       tree = c.map_page.ensures.tree;

@@ -6,8 +6,8 @@ use Rattle.paging_core.proofs.Padded.{count_padded}
 use Rattle.kernel_tables.proofs.Sound.{start_known, start_some, start_root}
 use Rattle.kernel_tables.proofs.tables.Tables.new.Goals as goal
 
-pub make_root-requires : goal.make_root-requires
-make_root-requires c =
+pub make_root-requires-clause-known : goal.make_root-requires-clause-known
+make_root-requires-clause-known c =
     let k = c.in_ok-memory.ensures.some.0 refl in
     start_known c.in_ok-memory.memory.area c.in_ok-memory.memory.words c.args.words.now c.new-free.result c.args.first c.args.limit (c.args.first + length c.args.words.now / 512)
     (ap (λ (m : AreaWords). m.area) c.in_ok-memory.ensures.value) (ap (λ (m : AreaWords). m.words) c.in_ok-memory.ensures.value) c.new-free.ensures

@@ -1,0 +1,93 @@
+-- Ranges of pages: so many from `page` on. Those that are mapped lead to frames in a row, from `frame` on.
+use Rattle.std.specs.Prelude.{◌≡◌, ℕ, zero, suc, ◌+◌, ◌-◌, ◌*◌, ◌/◌, ◌%◌, ◌^◌, ◌<◌, ◌≤◌, Bool, ◌==◌, ◌&&◌, not, nat_le, nat_lt, is_some, is_none, IsTrue, IsSome, if◌then◌else◌, count_by, Option, Some, None}
+use Rattle.std.specs.Option.{option_or, option_map}
+use Rattle.paging_core.specs.Address.{is_canonical}
+use Rattle.paging_core.specs.Area.{area_meets}
+use Rattle.paging_core.specs.Large.{slot_of}
+use Rattle.paging_core.specs.Missing.{is_missing, missing_of}
+use Rattle.paging_core.specs.Pool.{free_count}
+use Rattle.paging_core.specs.Prefix.{prefixes_from}
+use Rattle.paging_core.specs.Walk.{large_of, reach, granted}
+use Rattle.paging_core.specs.declared.page_table.Rights.{Rights}
+use Rattle.kernel_tables.specs.TableState.{TableState, leads, limit_of}
+use Rattle.kernel_tables.specs.declared.range_fault.RangeFault.{RangeFault}
+use Rattle.kernel_tables.specs.declared.range_fault.RangeFault.TheVariants.{NotCanonical, IsMapped, NotMapped, PastLimit, InArea, NoFrames}
+
+-- the pages lie in one canonical half
+abbrev pub lies_in_half : ℕ → ℕ → Bool
+lies_in_half page pages = (page + pages - 1) / 2 ^ 35 == page / 2 ^ 35
+
+-- the lowest of so many numbers from one on for which the test holds
+unfoldable pub lowest : (ℕ → Bool) → ℕ → ℕ → Option ℕ
+lowest test from zero = None
+lowest test from (suc count) = (if test from then Some from else lowest test (from + 1) count)
+
+-- the lowest page of the range that is mapped
+abbrev pub lowest_mapped : TableState → ℕ → ℕ → Option ℕ
+lowest_mapped state page pages = lowest (λ at. is_some (leads state at)) page pages
+
+-- A slot becomes large if it lies whole in the range, its frames begin at a multiple of 512 as its pages do, and it has no table.
+abbrev pub becomes_large : TableState → ℕ → ℕ → ℕ → ℕ → Bool
+becomes_large state page pages frame slot =
+    nat_le page (512 * slot) && (nat_le (512 * slot + 512) (page + pages) && (page % 512 == frame % 512 && is_none (reach state.words state.root 3 (slot_of slot))))
+
+-- how many do: those that have no table, of the slots that lie whole in the range
+abbrev pub large_count : TableState → ℕ → ℕ → ℕ → ℕ
+large_count state page pages frame =
+    let first = (page + 511) / 512 in
+    (if page % 512 == frame % 512 then count_by (is_missing state.words state.root) (prefixes_from 3 (slot_of first) ((page + pages) / 512 - first)) else 0)
+
+-- how many tables are made: those that the range misses, but for one of each slot that becomes large
+abbrev pub tables_wanted : TableState → ℕ → ℕ → ℕ → ℕ
+tables_wanted state page pages frame = missing_of state.words state.root page pages - large_count state page pages frame
+
+-- The first of the causes that holds: the range leaves its canonical half; a page is mapped; a frame is not below the limit, or
+-- is one of the area; the free frames are too few. A range of no pages is never refused.
+abbrev pub map_range_fault : TableState → ℕ → ℕ → ℕ → Option RangeFault
+map_range_fault state page pages frame =
+    (if pages == 0 then None
+    else if not (lies_in_half page pages) then Some NotCanonical
+    else option_or (option_map IsMapped (lowest_mapped state page pages))
+    (if nat_lt (limit_of state) (frame + pages) then Some PastLimit
+    else if area_meets state.area frame pages then Some InArea
+    else if nat_lt (free_count state.free) (tables_wanted state page pages frame) then Some (NoFrames (tables_wanted state page pages frame - free_count state.free))
+    else None))
+
+-- After the range was mapped exactly the slots that became large are large beside those that were.
+abbrev pub AreSlotsLarge : TableState → TableState → ℕ → ℕ → ℕ → Rights → Type 0
+AreSlotsLarge old new page pages frame rights =
+    (slot : ℕ) → IsTrue (is_canonical (512 * slot * 4096)) →
+    large_of new.words new.root (slot_of slot)
+    ≡ (if becomes_large old page pages frame slot then Some (granted (frame + (512 * slot - page)) rights) else large_of old.words old.root (slot_of slot))
+
+-- the lowest page of the range that is not mapped
+abbrev pub lowest_unmapped : TableState → ℕ → ℕ → Option ℕ
+lowest_unmapped state page pages = lowest (λ at. is_none (leads state at)) page pages
+
+-- a large page maps the slot, and the slot does not lie whole in the range
+abbrev pub is_split : TableState → ℕ → ℕ → ℕ → Bool
+is_split state page pages slot =
+    is_some (large_of state.words state.root (slot_of slot)) && not (nat_le page (512 * slot) && nat_le (512 * slot + 512) (page + pages))
+
+-- how many large pages are split: the one in which the range begins and the one in which it ends, where they reach over it
+abbrev pub splits : TableState → ℕ → ℕ → ℕ
+splits state page pages =
+    (if pages == 0 then 0
+    else
+    (if is_split state page pages (page / 512) then 1 else 0)
+    + (if not ((page + (pages - 1)) / 512 == page / 512) && is_split state page pages ((page + (pages - 1)) / 512) then 1 else 0))
+
+-- The first of the causes that holds: the range leaves its canonical half; a page is not mapped; the free frames are too few for the
+-- large pages that are split. A range of no pages is never refused.
+abbrev pub change_range_fault : TableState → ℕ → ℕ → Option RangeFault
+change_range_fault state page pages =
+    (if pages == 0 then None
+    else if not (lies_in_half page pages) then Some NotCanonical
+    else option_or (option_map NotMapped (lowest_unmapped state page pages))
+    (if nat_lt (free_count state.free) (splits state page pages) then Some (NoFrames (splits state page pages - free_count state.free)) else None))
+
+-- Each large page that maps a page of the range lies whole in it.
+abbrev pub AreWithin : TableState → ℕ → ℕ → Type 0
+AreWithin state page pages =
+    (slot : ℕ) → page < 512 * slot + 512 → 512 * slot < page + pages → IsSome (large_of state.words state.root (slot_of slot)) →
+    (page ≤ 512 * slot) × (512 * slot + 512 ≤ page + pages)

@@ -1,0 +1,251 @@
+//! The calls that change ranges of pages that are mapped.
+ghost use Rattle.std.specs.Prelude.{◌≡◌, ℕ, ◌+◌, ◌-◌, ◌*◌, ◌/◌, ◌%◌, ◌^◌, ◌<◌, ◌≤◌, true, false, None, Some, IsTrue, IsSome, IfSome, OnOk, OnErr, IfErr, if◌then◌else◌};
+ghost use Rattle.paging_core.specs.Address.{is_canonical, IsCanonicalRange};
+ghost use Rattle.paging_core.specs.Large.{slot_of};
+ghost use Rattle.paging_core.specs.LargeChanges.{IsLargeSplit};
+ghost use Rattle.paging_core.specs.PageChanges.{removal, regrant, IsPageChanged};
+ghost use Rattle.paging_core.specs.Pool.{free_count};
+ghost use Rattle.paging_core.specs.Prefix.{prefix_of};
+ghost use Rattle.paging_core.specs.Walk.{reach, large_of, granted};
+ghost use Rattle.kernel_tables.specs.Faults.{entry_fault, split_of};
+ghost use Rattle.kernel_tables.specs.Flush.{pages_of_range, IsFlushEnough};
+ghost use Rattle.kernel_tables.specs.Ranges.{is_split, splits, change_range_fault, AreWithin};
+ghost use Rattle.kernel_tables.specs.TableState.{leads, IsSamePlace, DoTablesStay};
+
+use crate::range_checks::slot_at;
+use crate::range_fault::RangeFault;
+use crate::tables::Tables;
+use paging_core::{
+    Page, PhysFrame, Rights, Size2MiB, protect_large, protect_page, split_large, unmap_large,
+    unmap_page,
+};
+
+impl<'a> Tables<'a> {
+    /// Splits the large page in a frame of the area. Each page leads where it led.
+    fn split_slot(&mut self, slot: Page<Size2MiB>)
+        requires large { IsSome (large_of self.old.words self.old.root (slot_of slot)) }
+        requires room { 0 < free_count self.old.free }
+        ensures place { IsSamePlace self.old self.new }
+        ensures tables { DoTablesStay self.old self.new }
+        ensures walks { (other : ℕ) → leads self.new other ≡ leads self.old other }
+        ensures split { IsLargeSplit self.old.words self.new.words self.old.free self.new.free self.old.root slot }
+    {
+        split_large(&mut self.memory, &mut self.free, self.root, slot);
+    }
+
+    /// Splits the large page of this page's slot in a frame of the area, if it reaches over an end of the range. Each page leads
+    /// where it led.
+    fn split_beside(&mut self, at: Page, page: Page, pages: u64)
+        requires range { IsCanonicalRange page pages }
+        requires room { is_split self.old page pages (at / 512) ≡ true → 0 < free_count self.old.free }
+        ensures place { IsSamePlace self.old self.new }
+        ensures tables { DoTablesStay self.old self.new }
+        ensures walks { (other : ℕ) → leads self.new other ≡ leads self.old other }
+        ensures free { free_count self.new.free + (if is_split self.old page pages (at / 512) then 1 else 0) ≡ free_count self.old.free }
+        ensures larges { (n : ℕ) → (n ≡ slot_of (at / 512) → ⊥) → large_of self.new.words self.new.root n ≡ large_of self.old.words self.old.root n }
+        ensures whole { is_split self.new page pages (at / 512) ≡ false }
+    {
+        if !self.is_split(at, page, pages) {
+            return;
+        }
+        self.split_slot(slot_at(at));
+    }
+
+    /// Splits the large pages that reach over the ends of the range. Each page leads where it led.
+    fn split_ends(&mut self, page: Page, pages: u64)
+        requires range { IsCanonicalRange page pages }
+        requires room { splits self.old page pages ≤ free_count self.old.free }
+        ensures place { IsSamePlace self.old self.new }
+        ensures tables { DoTablesStay self.old self.new }
+        ensures walks { (other : ℕ) → leads self.new other ≡ leads self.old other }
+        ensures free { free_count self.new.free + splits self.old page pages ≡ free_count self.old.free }
+        ensures within { AreWithin self.new page pages }
+    {
+        let last = page.after(pages - 1);
+        self.split_beside(page, page, pages);
+        self.split_beside(last, page, pages);
+    }
+
+    /// Gives the page, which is mapped, an entry of its own: splits the large page of which it is part. Each page leads where it led.
+    pub(crate) fn own_entry(&mut self, page: Page)
+        requires { entry_fault self.old page ≡ None }
+        ensures place { IsSamePlace self.old self.new }
+        ensures tables { DoTablesStay self.old self.new }
+        ensures walks { (other : ℕ) → leads self.new other ≡ leads self.old other }
+        ensures free { free_count self.new.free + split_of self.old page ≡ free_count self.old.free }
+        ensures small { IsSome (reach self.new.words self.new.root 3 (prefix_of page 3)) }
+        ensures same { split_of self.old page ≡ 0 → self.new ≡ self.old }
+    {
+        let slot = slot_at(page);
+        if self.large_page(slot).is_none() {
+            return;
+        }
+        self.split_slot(slot);
+    }
+
+    /// Unmaps the page, which has an entry of its own, and answers its frame.
+    pub(crate) fn clear_page(&mut self, page: Page) -> PhysFrame
+        requires mapped { IsSome (leads self.old page) }
+        requires small { IsSome (reach self.old.words self.old.root 3 (prefix_of page 3)) }
+        ensures place { IsSamePlace self.old self.new }
+        ensures tables { DoTablesStay self.old self.new }
+        ensures free { self.new.free ≡ self.old.free }
+        ensures elsewhere { (other : ℕ) → IsTrue (is_canonical (other * 4096)) → (other ≡ page → ⊥) → leads self.new other ≡ leads self.old other }
+        ensures unmapped { leads self.new page ≡ None }
+        ensures frame { IfSome (leads self.old page) (λ was. result ≡ was.frame) }
+        ensures removed { IsPageChanged self.old.words self.new.words self.old.root page removal }
+        ensures larges { (n : ℕ) → large_of self.new.words self.new.root n ≡ large_of self.old.words self.old.root n }
+    {
+        unmap_page(&mut self.memory, self.root, page)
+    }
+
+    /// Unmaps the large page.
+    fn clear_slot(&mut self, slot: Page<Size2MiB>)
+        requires { IsSome (large_of self.old.words self.old.root (slot_of slot)) }
+        ensures place { IsSamePlace self.old self.new }
+        ensures tables { DoTablesStay self.old self.new }
+        ensures free { self.new.free ≡ self.old.free }
+        ensures elsewhere { (other : ℕ) → IsTrue (is_canonical (other * 4096)) → (other / 512 ≡ slot → ⊥) → leads self.new other ≡ leads self.old other }
+        ensures unmapped { (k : ℕ) → k < 512 → leads self.new (512 * slot + k) ≡ None }
+        ensures larges { (n : ℕ) → (n ≡ slot_of slot → ⊥) → large_of self.new.words self.new.root n ≡ large_of self.old.words self.old.root n }
+    {
+        unmap_large(&mut self.memory, self.root, slot);
+    }
+
+    /// Gives the page, which has an entry of its own, these rights.
+    pub(crate) fn grant_page(&mut self, page: Page, rights: Rights)
+        requires mapped { IsSome (leads self.old page) }
+        requires small { IsSome (reach self.old.words self.old.root 3 (prefix_of page 3)) }
+        ensures place { IsSamePlace self.old self.new }
+        ensures tables { DoTablesStay self.old self.new }
+        ensures free { self.new.free ≡ self.old.free }
+        ensures elsewhere { (other : ℕ) → IsTrue (is_canonical (other * 4096)) → (other ≡ page → ⊥) → leads self.new other ≡ leads self.old other }
+        ensures granted { IfSome (leads self.old page) (λ was. leads self.new page ≡ Some (granted was.frame rights)) }
+        ensures changed { IsPageChanged self.old.words self.new.words self.old.root page (regrant rights) }
+        ensures larges { (n : ℕ) → large_of self.new.words self.new.root n ≡ large_of self.old.words self.old.root n }
+    {
+        protect_page(&mut self.memory, self.root, page, rights);
+    }
+
+    /// Gives the pages of the large page these rights.
+    fn grant_slot(&mut self, slot: Page<Size2MiB>, rights: Rights)
+        requires { IsSome (large_of self.old.words self.old.root (slot_of slot)) }
+        ensures place { IsSamePlace self.old self.new }
+        ensures tables { DoTablesStay self.old self.new }
+        ensures free { self.new.free ≡ self.old.free }
+        ensures elsewhere { (other : ℕ) → IsTrue (is_canonical (other * 4096)) → (other / 512 ≡ slot → ⊥) → leads self.new other ≡ leads self.old other }
+        ensures granted { (k : ℕ) → k < 512 → IfSome (leads self.old (512 * slot + k)) (λ was. leads self.new (512 * slot + k) ≡ Some (granted was.frame rights)) }
+        ensures larges { (n : ℕ) → (n ≡ slot_of slot → ⊥) → large_of self.new.words self.new.root n ≡ large_of self.old.words self.old.root n }
+    {
+        protect_large(&mut self.memory, self.root, slot, rights);
+    }
+
+    /// Unmaps the range, which is mapped; its large pages lie whole in it.
+    fn clear_all(&mut self, page: Page, pages: u64)
+        requires range { IsCanonicalRange page pages }
+        requires mapped { (k : ℕ) → k < pages → IsSome (leads self.old (page + k)) }
+        requires within { AreWithin self.old page pages }
+        ensures place { IsSamePlace self.old self.new }
+        ensures tables { DoTablesStay self.old self.new }
+        ensures free { self.new.free ≡ self.old.free }
+        ensures elsewhere { (other : ℕ) → IsTrue (is_canonical (other * 4096)) → ((k : ℕ) → k < pages → other ≡ page + k → ⊥) → leads self.new other ≡ leads self.old other }
+        ensures unmapped { (k : ℕ) → k < pages → leads self.new (page + k) ≡ None }
+    {
+        let mut done = 0;
+        while done < pages {
+            let at = page.after(done);
+            let slot = slot_at(at);
+            if self.large_page(slot).is_some() {
+                self.clear_slot(slot);
+                done += 512;
+            } else {
+                self.clear_page(at);
+                done += 1;
+            }
+        }
+    }
+
+    /// Gives the range, which is mapped, these rights; its large pages lie whole in it.
+    fn grant_all(&mut self, page: Page, pages: u64, rights: Rights)
+        requires range { IsCanonicalRange page pages }
+        requires mapped { (k : ℕ) → k < pages → IsSome (leads self.old (page + k)) }
+        requires within { AreWithin self.old page pages }
+        ensures place { IsSamePlace self.old self.new }
+        ensures tables { DoTablesStay self.old self.new }
+        ensures free { self.new.free ≡ self.old.free }
+        ensures elsewhere { (other : ℕ) → IsTrue (is_canonical (other * 4096)) → ((k : ℕ) → k < pages → other ≡ page + k → ⊥) → leads self.new other ≡ leads self.old other }
+        ensures granted { (k : ℕ) → k < pages → IfSome (leads self.old (page + k)) (λ was. leads self.new (page + k) ≡ Some (granted was.frame rights)) }
+    {
+        let mut done = 0;
+        while done < pages {
+            let at = page.after(done);
+            let slot = slot_at(at);
+            if self.large_page(slot).is_some() {
+                self.grant_slot(slot, rights);
+                done += 512;
+            } else {
+                self.grant_page(at, rights);
+                done += 1;
+            }
+        }
+    }
+
+    /// Ends the mapping of so many pages from this one on. A large page that lies whole in the range leaves by its one entry; one
+    /// that reaches over an end of the range is split in a frame of the area. The other tables stay. The pages of the range are to
+    /// be flushed before their frames have another use.
+    pub fn unmap_range(&mut self, page: Page, pages: u64) -> Result<(), RangeFault>
+        ensures ok { OnOk result (change_range_fault self.old page pages ≡ None) }
+        ensures err { IfErr result (λ fault. change_range_fault self.old page pages ≡ Some fault) }
+        ensures same { OnErr result (self.new ≡ self.old) }
+        ensures place { IsSamePlace self.old self.new }
+        ensures tables { DoTablesStay self.old self.new }
+        ensures unmapped { OnOk result ((k : ℕ) → k < pages → leads self.new (page + k) ≡ None) }
+        ensures elsewhere { (other : ℕ) → IsTrue (is_canonical (other * 4096)) → ((k : ℕ) → k < pages → other ≡ page + k → ⊥) → leads self.new other ≡ leads self.old other }
+        ensures flush { IsFlushEnough self.old self.new (pages_of_range page pages) }
+        ensures free { OnOk result (free_count self.new.free + splits self.old page pages ≡ free_count self.old.free) }
+    {
+        if pages == 0 {
+            return Ok(());
+        }
+        match self.change_range_fault(page, pages) {
+            Some(fault) => Err(fault),
+            None => {
+                self.split_ends(page, pages);
+                self.clear_all(page, pages);
+                Ok(())
+            }
+        }
+    }
+
+    /// Gives so many pages from this one on these rights. Each keeps its frame. A large page that lies whole in the range is
+    /// given them by its one entry; one that reaches over an end of the range is split in a frame of the area. The pages of the
+    /// range are to be flushed.
+    pub fn protect_range(
+        &mut self,
+        page: Page,
+        pages: u64,
+        rights: Rights,
+    ) -> Result<(), RangeFault>
+        ensures ok { OnOk result (change_range_fault self.old page pages ≡ None) }
+        ensures err { IfErr result (λ fault. change_range_fault self.old page pages ≡ Some fault) }
+        ensures same { OnErr result (self.new ≡ self.old) }
+        ensures place { IsSamePlace self.old self.new }
+        ensures tables { DoTablesStay self.old self.new }
+        ensures granted { OnOk result ((k : ℕ) → k < pages → IfSome (leads self.old (page + k)) (λ was. leads self.new (page + k) ≡ Some (granted was.frame rights))) }
+        ensures elsewhere { (other : ℕ) → IsTrue (is_canonical (other * 4096)) → ((k : ℕ) → k < pages → other ≡ page + k → ⊥) → leads self.new other ≡ leads self.old other }
+        ensures flush { IsFlushEnough self.old self.new (pages_of_range page pages) }
+        ensures free { OnOk result (free_count self.new.free + splits self.old page pages ≡ free_count self.old.free) }
+    {
+        if pages == 0 {
+            return Ok(());
+        }
+        match self.change_range_fault(page, pages) {
+            Some(fault) => Err(fault),
+            None => {
+                self.split_ends(page, pages);
+                self.grant_all(page, pages, rights);
+                Ok(())
+            }
+        }
+    }
+}
