@@ -9,19 +9,23 @@
  *     by these calls. A processor may walk them at any time: each entry has its accessed bit, and each entry of a page its
  *     dirty bit, so no walk writes to them.
  *   - A handle leads to one set of tables, and each has one handle. No two calls run at the same time. There is no lock:
- *     the caller has it.
+ *     the caller has it, and with it may call from any thread.
  *
  * What the tables mean is where each page leads. A processor whose CR3 has the root's address finds just that, whatever
  * else its memory holds: that is proved over the words of the entries, for a processor's own walk with its reserved bits.
  *
- * What has to be flushed (INVLPG, on each processor that uses the tables): nothing after limzhur_map
- * and limzhur_map_large; the one page after
- * limzhur_unmap, before its frame has another use, and after limzhur_protect; the 2 MiB after limzhur_unmap_large. Every other
- * page leads where it led.
+ * What has to be flushed (INVLPG, on each processor that uses the tables): nothing after limzhur_map, limzhur_map_large and
+ * limzhur_map_range; the page after limzhur_unmap and limzhur_protect; the 2 MiB after limzhur_unmap_large; the pages of the range
+ * after limzhur_unmap_range and limzhur_protect_range. A frame has another use only after that. Every other page leads where it led.
+ *
+ * A large page maps 2 MiB by one entry. Where a call changes a part of it, it is split first: a table in one of the area's frames
+ * maps its 512 pages as they were. Tables stay for good, also those of no page.
  *
  * What the processor needs: EFER.NXE (bit 11), since a page without the right to fetch has bit 63 in its entry; and CR0.WP
  * (bit 16), if the right to write is to mean something to the kernel itself. While a call runs the words of the area have to
  * be mapped, which the tables themselves never do: a kernel that runs on them changes to other tables for the call.
+ *
+ * A call takes at most 200 bytes of stack, and calls memset alone.
  *
  * A frame is given by its number: its physical address divided by 4096. An address names its whole page.
  */
@@ -55,7 +59,7 @@ struct limzhur_place {
 /* What calls answer. Of several reasons the first in this order is told, and then nothing is changed. */
 enum limzhur_tables_answer {
     LIMZHUR_DONE = 0,
-    /* Bits 47 to 63 of the address differ. */
+    /* Bits 47 to 63 of the address differ, or the range ends in another half than it begins. */
     LIMZHUR_NOT_CANONICAL = 1,
     /* The page to be mapped is mapped. */
     LIMZHUR_IS_MAPPED = 2,
@@ -63,16 +67,14 @@ enum limzhur_tables_answer {
     LIMZHUR_PAST_LIMIT = 3,
     /* The frame is one of the area. */
     LIMZHUR_IN_AREA = 4,
-    /* Fewer frames are left than the page needs tables. */
+    /* Fewer frames are left than tables are missing. */
     LIMZHUR_NO_FRAMES = 5,
     /* The page to be changed is not mapped. */
     LIMZHUR_NOT_MAPPED = 6,
-    /* The page to be changed lies in a large page. */
-    LIMZHUR_IN_LARGE_PAGE = 7,
     /* The 2 MiB to be mapped by one entry have a table: a page of them was mapped before. */
-    LIMZHUR_HAS_TABLE = 8,
+    LIMZHUR_HAS_TABLE = 7,
     /* The address is no multiple of 2 MiB, or the frame none of 512. This is told after LIMZHUR_NOT_CANONICAL. */
-    LIMZHUR_MISALIGNED = 9,
+    LIMZHUR_MISALIGNED = 8,
 };
 
 /* How many bytes of room the state takes: at most LIMZHUR_TABLES_ROOM. */
@@ -101,10 +103,16 @@ bool limzhur_lookup(struct limzhur_tables *tables, uint64_t address, struct limz
 /* Maps the page of an address to a frame, with the tables that it misses. Nothing is to be flushed. */
 uint32_t limzhur_map(struct limzhur_tables *tables, uint64_t address, uint64_t frame, bool write, bool user, bool fetch);
 
-/* Ends the mapping of the page of an address, and tells its frame. Its tables stay. The page is to be flushed. */
+/*
+ * Ends the mapping of the page of an address, and tells its frame. The page is to be flushed. LIMZHUR_NO_FRAMES: it lies in a large
+ * page, and no frame is left for the table of that.
+ */
 uint32_t limzhur_unmap(struct limzhur_tables *tables, uint64_t address, uint64_t *frame);
 
-/* Gives the page of an address other rights; it keeps its frame. The page is to be flushed. */
+/*
+ * Gives the page of an address other rights; it keeps its frame. The page is to be flushed. LIMZHUR_NO_FRAMES: as for
+ * limzhur_unmap.
+ */
 uint32_t limzhur_protect(struct limzhur_tables *tables, uint64_t address, bool write, bool user, bool fetch);
 
 /*
@@ -116,6 +124,25 @@ uint32_t limzhur_map_large(struct limzhur_tables *tables, uint64_t address, uint
 /* Ends the mapping of the 2 MiB from an address on, which one entry maps, and tells the first of their frames. They are to be
  * flushed. */
 uint32_t limzhur_unmap_large(struct limzhur_tables *tables, uint64_t address, uint64_t *frame);
+
+/*
+ * Ranges: `pages` pages, from that of an address on. What is refused changes nothing, whichever page it is refused for. A range
+ * of no pages is refused for its address or its frame alone. `told` has, after LIMZHUR_IS_MAPPED and LIMZHUR_NOT_MAPPED, the address of
+ * the lowest such page; after LIMZHUR_NO_FRAMES how many frames are wanting; and else what it had.
+ */
+
+/*
+ * Maps the pages to the frames from `frame` on. 2 MiB that lie whole in the range, have no table, and whose frames begin at a
+ * multiple of 512, are mapped by one entry. Nothing is to be flushed.
+ */
+uint32_t limzhur_map_range(struct limzhur_tables *tables, uint64_t address, uint64_t pages, uint64_t frame, bool write, bool user, bool fetch, uint64_t *told);
+
+/* Ends the mapping of the pages, which are to be flushed. A large page that lies in part in the range is split first. */
+uint32_t limzhur_unmap_range(struct limzhur_tables *tables, uint64_t address, uint64_t pages, uint64_t *told);
+
+/* Gives the pages other rights; each keeps its frame. They are to be flushed. A large page that lies in part in the range is split
+ * first. */
+uint32_t limzhur_protect_range(struct limzhur_tables *tables, uint64_t address, uint64_t pages, bool write, bool user, bool fetch, uint64_t *told);
 
 #ifdef __cplusplus
 }

@@ -114,7 +114,7 @@ static void use_a_large_page(struct limzhur_tables *tables) {
     wants(limzhur_map_large(tables, address, run, true, false, true) == LIMZHUR_DONE, "a large page");
     wants(limzhur_map_large(tables, address, run, true, false, true) == LIMZHUR_IS_MAPPED, "a large page that is there");
     wants(limzhur_lookup(tables, address + 0x1ff123, &place) && is_same(place, (struct limzhur_place){run + 511, true, false, true}), "its last page");
-    wants(limzhur_protect(tables, address, false, false, false) == LIMZHUR_IN_LARGE_PAGE, "a page of it");
+    wants(limzhur_protect(tables, address, false, false, false) == LIMZHUR_NO_FRAMES, "a page of it, with no frame for a table");
     wants(limzhur_unmap_large(tables, address, &told) == LIMZHUR_DONE && told == run, "its end");
     wants(!limzhur_lookup(tables, address, &place), "after its end");
     wants(limzhur_map(tables, address, run, true, false, false) == LIMZHUR_NO_FRAMES, "a page there");

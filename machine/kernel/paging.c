@@ -7,6 +7,11 @@
 #define SHARED 0xffffa00000000000ull            /* two pages that lead to one frame */
 #define LARGE 0xffffb00000000000ull             /* a large page, */
 #define LARGE_FRAME 0x8000                      /* to 2 MiB of memory that nothing else uses: from 128 MiB on */
+#define RANGE 0xffffc00000001000ull             /* a range of pages that has a large page in it, */
+#define RANGE_PAGES 1200                        /* to the same 2 MiB and those after them */
+#define DEVICES 0xffffd00000000000ull           /* a page of a device: */
+#define DEVICE 0xfee00000ull                    /* the interrupt controller of the processor, */
+#define DEVICE_VERSION 12                       /* whose word at 48 has its version: 0x14 and above */
 
 extern char load_start[], kernel_end[];
 
@@ -31,6 +36,30 @@ static uint32_t map(uint64_t address, uint64_t frame, bool write, bool fetch) {
     uint32_t answer = limzhur_map(&tables, address, frame, write, false, fetch);
     set_cr3(own_tables);
     pages += answer == LIMZHUR_DONE;
+    return answer;
+}
+
+static uint32_t map_range(uint64_t address, uint64_t count, uint64_t frame, bool write, bool fetch) {
+    uint64_t told;
+    set_cr3(first_tables);
+    uint32_t answer = limzhur_map_range(&tables, address, count, frame, write, false, fetch, &told);
+    set_cr3(own_tables);
+    if (answer == LIMZHUR_DONE) pages += count;
+    return answer;
+}
+
+static uint32_t unmap_range(uint64_t address, uint64_t count, uint64_t *told) {
+    set_cr3(first_tables);
+    uint32_t answer = limzhur_unmap_range(&tables, address, count, told);
+    set_cr3(own_tables);
+    if (answer == LIMZHUR_DONE) pages -= count;
+    return answer;
+}
+
+static uint32_t protect_range(uint64_t address, uint64_t count, bool write, uint64_t *told) {
+    set_cr3(first_tables);
+    uint32_t answer = limzhur_protect_range(&tables, address, count, write, false, false, told);
+    set_cr3(own_tables);
     return answer;
 }
 
@@ -77,10 +106,10 @@ void begin_paging(struct memory memory) {
     if (next_frame >= end_frame || limzhur_tables_room() > sizeof room) leave(3);
     limzhur_tables_init(room, (uint64_t *)words, 512 * TABLE_FRAMES, first_frame, LIMIT);
     first_tables = own_tables = get_cr3();
-    for (uint64_t at = (uint64_t)load_start; at < (uint64_t)kernel_end - KERNEL; at += 4096) {
-        /* The first: the processor finds its segments there. */
-        if (map(at, at / 4096, false, false) || map(KERNEL + at, at / 4096, true, true)) leave(3);
-    }
+    uint64_t at = (uint64_t)load_start, count = ((uint64_t)kernel_end - KERNEL - at + 4095) / 4096;
+    /* The first: the processor finds its segments there. */
+    if (map_range(at, count, at / 4096, false, false) || map_range(KERNEL + at, count, at / 4096, true, true)) leave(3);
+    if (map_range(DEVICES, 1, DEVICE / 4096, true, false)) leave(3);
     own_tables = 4096 * limzhur_tables_root(&tables);
     page_fault_is_met = map_on_demand;
     set_cr3(own_tables);
@@ -139,11 +168,49 @@ static void use_a_large_page(void) {
     wants(map(SHARED + 8192, LARGE_FRAME + 511, false, false) == LIMZHUR_DONE);
     *last = 54321;
     wants(*same == 54321);
-    wants(protect(LARGE, false) == LIMZHUR_IN_LARGE_PAGE);
     wants(unmap_large(LARGE, &gone) == LIMZHUR_DONE && gone == LARGE_FRAME);
     wants(faults(LARGE + (511 << 12), CAUSED_BY_WRITE));
     wants(map_large(LARGE, LARGE_FRAME) == LIMZHUR_DONE && *last == 54321);
 }
+
+static uint64_t tables_left(void) {
+    set_cr3(first_tables);
+    uint64_t left = limzhur_tables_left(&tables);
+    set_cr3(own_tables);
+    return left;
+}
+
+/* One page of a large one is changed. It takes a frame for the table of its 512 pages, and the others stay. */
+static void split_a_large_page(void) {
+    volatile uint64_t *last = (uint64_t *)(LARGE + (511 << 12));
+    uint64_t left = tables_left(), gone = 0;
+    wants(protect(LARGE, false) == LIMZHUR_DONE && tables_left() == left - 1);
+    wants(faults(LARGE, PROTECTION_VIOLATION | CAUSED_BY_WRITE) && *last == 54321);
+    *last = 12345;
+    wants(unmap(LARGE + 4096, &gone) == LIMZHUR_DONE && gone == LARGE_FRAME + 1 && tables_left() == left - 1);
+    wants(faults(LARGE + 4096, CAUSED_BY_WRITE) && !faults(LARGE + 8192, 0) && *last == 12345);
+}
+
+/* A range with a page before and after its large page, which leads to the same frames as other pages. */
+static void use_a_range(void) {
+    const uint64_t from = LARGE_FRAME + 1, count = RANGE_PAGES, left = tables_left();
+    uint64_t told = 0;
+    wants(map_range(RANGE, count, from, true, false) == LIMZHUR_DONE);
+    wants(left - tables_left() == 4);           /* the upper two, and two of three slots: the middle one is large */
+    for (uint64_t n = 0; n < count; n++) *(volatile uint64_t *)(RANGE + 4096 * n) = n;
+    for (uint64_t n = 0; n < count; n++) wants(*(volatile uint64_t *)(RANGE + 4096 * n) == n);
+    wants(*(volatile uint64_t *)(LARGE + (511 << 12)) == 510);
+    wants(protect_range(RANGE + 4096 * 100, 600, false, &told) == LIMZHUR_DONE);
+    wants(!faults(RANGE + 4096 * 99, 0) && faults(RANGE + 4096 * 100, PROTECTION_VIOLATION | CAUSED_BY_WRITE));
+    wants(faults(RANGE + 4096 * 699, PROTECTION_VIOLATION | CAUSED_BY_WRITE) && !faults(RANGE + 4096 * 700, 0));
+    wants(map_range(RANGE - 4096, 2, from, true, false) == LIMZHUR_IS_MAPPED && faults(RANGE - 4096, CAUSED_BY_WRITE));
+    wants(unmap_range(RANGE, count + 1, &told) == LIMZHUR_NOT_MAPPED && told == RANGE + 4096 * count);
+    wants(unmap_range(RANGE + 4096, count - 2, &told) == LIMZHUR_DONE);
+    wants(faults(RANGE + 4096, CAUSED_BY_WRITE) && faults(RANGE + 4096 * (count - 2), CAUSED_BY_WRITE));
+    wants(!faults(RANGE, 0) && !faults(RANGE + 4096 * (count - 1), 0));
+}
+
+static void use_a_device(void) { wants((((volatile uint32_t *)DEVICES)[DEVICE_VERSION] & 0xff) >= 0x14); }
 
 static void be_refused(void) {
     uint64_t gone;
@@ -162,6 +229,34 @@ static bool is_told(uint64_t address, uint64_t entry, uint64_t index) {
         && place.user == (entry >> 2 & 1) && place.fetch == !(entry >> 63);
 }
 
+/* A line for a page: its address, where it leads, and what the library says that it grants besides reads. */
+static void say_page(uint64_t address) {
+    struct limzhur_place place = {0};
+    wants(limzhur_lookup(&tables, address, &place));
+    say("page ");
+    say_number(address, 16);
+    say(" ");
+    say_number(4096 * place.frame, 16);
+    say(place.write ? " w" : " -");
+    say(place.user ? "u" : "-");
+    say(place.fetch ? "x\n" : "-\n");
+}
+
+/* A line for each word of the tables that is not 0, by its address. */
+static void say_words(void) {
+    for (uint64_t n = 0; n < 512 * TABLE_FRAMES; n++) {
+        if (!words[n]) continue;
+        say("word ");
+        say_number(4096 * first_frame + 8 * n, 16);
+        say(" ");
+        say_number(words[n], 16);
+        say("\n");
+    }
+    say("root ");
+    say_number(own_tables, 16);
+    say("\n");
+}
+
 /* The pages of a table, each beside what the library says. A processor that used the tables has changed no entry: each has its
  * accessed bit, and that of a page its dirty bit, since they were written. */
 static uint64_t walk(uint64_t frame, uint64_t address, int shift) {
@@ -175,7 +270,10 @@ static uint64_t walk(uint64_t frame, uint64_t address, int shift) {
             continue;
         }
         wants(shift <= 21 && (entry & 0x60) == 0x60);
-        for (uint64_t part = 0; part < 1ull << (shift - 12); part++, found++) wants(is_told(page + (part << 12), entry, part));
+        for (uint64_t part = 0; part < 1ull << (shift - 12); part++, found++) {
+            wants(is_told(page + (part << 12), entry, part));
+            say_page(page + (part << 12));
+        }
     }
     return found;
 }
@@ -184,8 +282,12 @@ uint64_t look_at_paging(void) {
     take_rights();
     share_a_frame();
     use_a_large_page();
+    split_a_large_page();
+    use_a_range();
+    use_a_device();
     be_refused();
     set_cr3(first_tables);
+    say_words();
     wants(walk(limzhur_tables_root(&tables), 0, 39) == pages);
     set_cr3(own_tables);
     return wrong;
@@ -193,9 +295,4 @@ uint64_t look_at_paging(void) {
 
 uint64_t mapped_pages(void) { return pages; }
 
-uint64_t made_tables(void) {
-    set_cr3(first_tables);
-    uint64_t left = limzhur_tables_left(&tables);
-    set_cr3(own_tables);
-    return TABLE_FRAMES - left;
-}
+uint64_t made_tables(void) { return TABLE_FRAMES - tables_left(); }

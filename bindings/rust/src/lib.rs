@@ -4,6 +4,8 @@
 //! in memory that the program finds as it runs (`Limzhur::init`). One lock goes around each call: `Spin`, which needs no
 //! system, or `Owner`, which knows the thread that holds it, or the program's own (`Lock`).
 //!
+//! `Tables` are page tables for a kernel, in frames that it lends.
+//!
 //! A program that forks while threads allocate calls `watch_forks!(HEAP)` first. Without it a child may find the lock held
 //! by a thread that it does not have, and waits for ever.
 #![no_std]
@@ -13,11 +15,13 @@ mod library;
 mod lock;
 #[cfg(unix)]
 mod owner;
+mod tables;
 
 pub use heap::Limzhur;
 pub use lock::{Entry, Lock, Spin};
 #[cfg(unix)]
 pub use owner::Owner;
+pub use tables::{Fault, Place, Rights, Tables};
 
 /// Has the system take the lock of a heap around each fork, so that each child finds the heap at rest: `watch_forks!(HEAP)`,
 /// once, before the first fork. False where the system has no room to note it.

@@ -1,4 +1,4 @@
-//! The functions of the static library: `limzhur.h` says what each of them does, and what its caller keeps.
+//! The functions of the static library: `limzhur.h` and `limzhur_tables.h` say what each of them does, and what its caller keeps.
 use core::ffi::c_void;
 
 /// The bytes of room for a heap's state.
@@ -15,6 +15,22 @@ pub struct Stats {
     pub blocks: u64,
 }
 
+/// The bytes of room for the state of page tables.
+pub const TABLES_ROOM: usize = 128;
+
+#[repr(C)]
+pub struct TablesHandle {
+    pub room: *mut c_void,
+}
+
+#[repr(C)]
+pub struct PlaceOfPage {
+    pub frame: u64,
+    pub write: bool,
+    pub user: bool,
+    pub fetch: bool,
+}
+
 #[link(name = "limzhur_c", kind = "static")]
 extern "C" {
     pub fn limzhur_room() -> usize;
@@ -27,4 +43,35 @@ extern "C" {
     pub fn limzhur_trim(heap: *mut Handle, pad: u64) -> bool;
     pub fn limzhur_usable_size(heap: *mut Handle, address: u64) -> u64;
     pub fn limzhur_stats(heap: *mut Handle, stats: *mut Stats);
+
+    pub fn limzhur_tables_room() -> usize;
+    pub fn limzhur_tables_init(room: *mut c_void, words: *mut u64, count: usize, first: u64, limit: u64);
+    pub fn limzhur_tables_root(tables: *mut TablesHandle) -> u64;
+    pub fn limzhur_tables_left(tables: *mut TablesHandle) -> u64;
+    pub fn limzhur_lookup(tables: *mut TablesHandle, address: u64, place: *mut PlaceOfPage) -> bool;
+    pub fn limzhur_map(tables: *mut TablesHandle, address: u64, frame: u64, write: bool, user: bool, fetch: bool) -> u32;
+    pub fn limzhur_unmap(tables: *mut TablesHandle, address: u64, frame: *mut u64) -> u32;
+    pub fn limzhur_protect(tables: *mut TablesHandle, address: u64, write: bool, user: bool, fetch: bool) -> u32;
+    pub fn limzhur_map_large(tables: *mut TablesHandle, address: u64, frame: u64, write: bool, user: bool, fetch: bool) -> u32;
+    pub fn limzhur_unmap_large(tables: *mut TablesHandle, address: u64, frame: *mut u64) -> u32;
+    pub fn limzhur_map_range(
+        tables: *mut TablesHandle,
+        address: u64,
+        pages: u64,
+        frame: u64,
+        write: bool,
+        user: bool,
+        fetch: bool,
+        told: *mut u64,
+    ) -> u32;
+    pub fn limzhur_unmap_range(tables: *mut TablesHandle, address: u64, pages: u64, told: *mut u64) -> u32;
+    pub fn limzhur_protect_range(
+        tables: *mut TablesHandle,
+        address: u64,
+        pages: u64,
+        write: bool,
+        user: bool,
+        fetch: bool,
+        told: *mut u64,
+    ) -> u32;
 }

@@ -1,13 +1,16 @@
 -- What the calls of page tables answer to C: a number for each refusal, and 0 for success. The names are those of limzhur_tables.h.
-use Rattle.std.specs.Prelude.{ℕ, ◌/◌, ◌%◌, ◌^◌, ◌==◌, ◌&&◌, is_some, nat_lt, if◌then◌else◌, Option, Some, None}
+use Rattle.std.specs.Prelude.{ℕ, ◌*◌, ◌/◌, ◌%◌, ◌^◌, ◌==◌, ◌&&◌, is_some, nat_lt, if◌then◌else◌, Option, Some, None}
 use Rattle.paging_core.specs.Address.{is_canonical}
 use Rattle.paging_core.specs.Walk.{Place, large_of}
 use Rattle.kernel_tables.specs.declared.faults.MapFault.{MapFault}
 use Rattle.kernel_tables.specs.declared.faults.MapFault.TheVariants.{IsMapped, HasTable, PastLimit, InArea, NoFrames}
 use Rattle.kernel_tables.specs.declared.faults.EntryFault.{EntryFault}
-use Rattle.kernel_tables.specs.declared.faults.EntryFault.TheVariants.{NotMapped, InLargePage}
+use Rattle.kernel_tables.specs.declared.faults.EntryFault.TheVariants as entry
 use Rattle.paging_core.specs.Large.{slot_of}
+use Rattle.kernel_tables.specs.declared.range_fault.RangeFault.{RangeFault}
+use Rattle.kernel_tables.specs.declared.range_fault.RangeFault.TheVariants as range
 use Rattle.kernel_tables.specs.Faults.{map_fault, map_large_fault, entry_fault}
+use Rattle.kernel_tables.specs.Ranges.{map_range_fault, change_range_fault}
 use Rattle.kernel_tables.specs.TableState.{TableState}
 use Rattle.limzhur_c.specs.declared.tables_exports.PlaceOfPage.{PlaceOfPage}
 
@@ -16,13 +19,13 @@ map_code None = 0
 map_code (Some IsMapped) = 2
 map_code (Some PastLimit) = 3
 map_code (Some InArea) = 4
-map_code (Some NoFrames) = 5
-map_code (Some HasTable) = 8
+map_code (Some (NoFrames wanting)) = 5
+map_code (Some HasTable) = 7
 
 abbrev pub entry_code : Option EntryFault → ℕ
 entry_code None = 0
-entry_code (Some NotMapped) = 6
-entry_code (Some InLargePage) = 7
+entry_code (Some entry.NotMapped) = 6
+entry_code (Some entry.NoFrames) = 5
 
 -- the answer to a request that the page of an address be mapped to a frame
 abbrev pub map_answer : TableState → ℕ → ℕ → ℕ
@@ -35,19 +38,50 @@ map_large_answer tables address frame =
     (if is_canonical address
     then (if address % 2 ^ 21 == 0 && frame % 512 == 0
     then (if nat_lt frame (2 ^ 40) then map_code (map_large_fault tables (address / 2 ^ 21) (frame / 512)) else 3)
-    else 9)
+    else 8)
     else 1)
 
 -- the answer to a request that the entry of the 2 MiB from an address on be taken away
 abbrev pub unmap_large_answer : TableState → ℕ → ℕ
 unmap_large_answer tables address =
     (if is_canonical address
-    then (if address % 2 ^ 21 == 0 then (if is_some (large_of tables.words tables.root (slot_of (address / 2 ^ 21))) then 0 else 6) else 9)
+    then (if address % 2 ^ 21 == 0 then (if is_some (large_of tables.words tables.root (slot_of (address / 2 ^ 21))) then 0 else 6) else 8)
     else 1)
 
 -- the answer to a request that the entry of the page of an address be changed
 abbrev pub entry_answer : TableState → ℕ → ℕ
 entry_answer tables address = (if is_canonical address then entry_code (entry_fault tables (address / 4096)) else 1)
+
+abbrev pub range_code : Option RangeFault → ℕ
+range_code None = 0
+range_code (Some range.NotCanonical) = 1
+range_code (Some (range.IsMapped page)) = 2
+range_code (Some range.PastLimit) = 3
+range_code (Some range.InArea) = 4
+range_code (Some (range.NoFrames wanting)) = 5
+range_code (Some (range.NotMapped page)) = 6
+
+-- what C is told of a refused range, over what was there: the address of a page, or how many frames are wanting
+abbrev pub told_of : Option RangeFault → ℕ → ℕ
+told_of None was = was
+told_of (Some range.NotCanonical) was = was
+told_of (Some (range.IsMapped page)) was = page * 4096
+told_of (Some range.PastLimit) was = was
+told_of (Some range.InArea) was = was
+told_of (Some (range.NoFrames wanting)) was = wanting
+told_of (Some (range.NotMapped page)) was = page * 4096
+
+-- the cause for which the pages from that of an address on are not mapped to the frames from `frame` on
+abbrev pub map_range_cause : TableState → ℕ → ℕ → ℕ → Option RangeFault
+map_range_cause tables address pages frame =
+    (if is_canonical address
+    then (if nat_lt frame (2 ^ 40) then map_range_fault tables (address / 4096) pages frame else Some range.PastLimit)
+    else Some range.NotCanonical)
+
+-- the cause for which the pages from that of an address on are not changed
+abbrev pub change_range_cause : TableState → ℕ → ℕ → Option RangeFault
+change_range_cause tables address pages =
+    (if is_canonical address then change_range_fault tables (address / 4096) pages else Some range.NotCanonical)
 
 -- the place that C is told
 abbrev pub place_told : PlaceOfPage → Place

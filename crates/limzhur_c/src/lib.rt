@@ -12,3 +12,4 @@ mod init;
 mod tables_exports;
 mod tables_handle;
 mod tables_init;
+mod tables_ranges;

@@ -2,9 +2,12 @@
 ghost use Rattle.std.specs.Prelude.{◌≡◌, ◌≢◌, ◌⊎◌, ◌↔◌, ℕ, ◌+◌, ◌*◌, ◌/◌, ◌^◌, ◌<◌, true, false, IsTrue, IfSome, Some, None};
 ghost use Rattle.paging_core.specs.Address.{is_canonical};
 ghost use Rattle.paging_core.specs.Pool.{free_count};
-ghost use Rattle.paging_core.specs.Large.{slot_of};
+ghost use Rattle.paging_core.specs.Large.{slot_of, IsLargeAdded, IsLargeCleared};
+ghost use Rattle.paging_core.specs.Mapping.{IsPageAdded};
+ghost use Rattle.paging_core.specs.PageChanges.{removal, regrant, IsPageChanged};
 ghost use Rattle.paging_core.specs.Walk.{granted, large_of};
-ghost use Rattle.kernel_tables.specs.TableState.{leads, IsSamePlace, IsWalkedAlike};
+ghost use Rattle.kernel_tables.specs.Faults.{split_of};
+ghost use Rattle.kernel_tables.specs.TableState.{leads, IsSamePlace, DoTablesStay, IsWalkedAlike};
 ghost use Rattle.limzhur_c.specs.TablesCodes.{map_code, entry_code, map_answer, map_large_answer, unmap_large_answer, entry_answer, place_told};
 
 use crate::tables_handle::TablesHandle;
@@ -81,8 +84,8 @@ fn map_code(fault: MapFault) -> u32
         MapFault::IsMapped => 2,
         MapFault::PastLimit => 3,
         MapFault::InArea => 4,
-        MapFault::NoFrames => 5,
-        MapFault::HasTable => 8,
+        MapFault::NoFrames { .. } => 5,
+        MapFault::HasTable => 7,
     }
 }
 
@@ -92,7 +95,7 @@ fn entry_code(fault: EntryFault) -> u32
 {
     match fault {
         EntryFault::NotMapped => 6,
-        EntryFault::InLargePage => 7,
+        EntryFault::NoFrames => 5,
     }
 }
 
@@ -109,6 +112,7 @@ pub extern "C" fn limzhur_map(
     ensures answer { result ≡ map_answer handle.old.tables address frame }
     ensures mapped { result ≡ 0 → leads handle.new.tables (address / 4096) ≡ Some (granted frame (record { write = write; user = user; fetch = fetch })) }
     ensures elsewhere { (other : ℕ) → IsTrue (is_canonical (other * 4096)) → (other ≡ address / 4096 → ⊥) → leads handle.new.tables other ≡ leads handle.old.tables other }
+    ensures added { result ≡ 0 → IsPageAdded handle.old.tables.words handle.new.tables.words handle.old.tables.free handle.new.tables.free handle.old.tables.root (address / 4096) frame (record { write = write; user = user; fetch = fetch }) }
     ensures place { IsSamePlace handle.old.tables handle.new.tables }
     ensures same { result ≢ 0 → handle.new.tables ≡ handle.old.tables }
 {
@@ -129,15 +133,18 @@ pub extern "C" fn limzhur_map(
     }
 }
 
-/// Ends the mapping of the page of an address, and tells its frame. 0 if it did, and else why it did not: then nothing is
-/// changed, and nothing told.
+/// Ends the mapping of the page of an address, and tells its frame. A large page of which it is part is split first. 0 if it did,
+/// and else why it did not: then nothing is changed, and nothing told.
 #[unsafe(no_mangle)]
 pub extern "C" fn limzhur_unmap(handle: &mut TablesHandle, address: u64, frame: &mut u64) -> u32
     ensures answer { result ≡ entry_answer handle.old.tables address }
     ensures frame { result ≡ 0 → IfSome (leads handle.old.tables (address / 4096)) (λ place. frame.new ≡ place.frame) }
     ensures unmapped { result ≡ 0 → leads handle.new.tables (address / 4096) ≡ None }
     ensures elsewhere { (other : ℕ) → IsTrue (is_canonical (other * 4096)) → (other ≡ address / 4096 → ⊥) → leads handle.new.tables other ≡ leads handle.old.tables other }
+    ensures removed { result ≡ 0 → split_of handle.old.tables (address / 4096) ≡ 0 → IsPageChanged handle.old.tables.words handle.new.tables.words handle.old.tables.root (address / 4096) removal }
+    ensures free { result ≡ 0 → free_count handle.new.tables.free + split_of handle.old.tables (address / 4096) ≡ free_count handle.old.tables.free }
     ensures place { IsSamePlace handle.old.tables handle.new.tables }
+    ensures tables { DoTablesStay handle.old.tables handle.new.tables }
     ensures same { result ≢ 0 → (handle.new.tables ≡ handle.old.tables) × (frame.new ≡ frame.old) }
 {
     let Ok(address) = VirtAddr::try_new(address) else {
@@ -152,7 +159,8 @@ pub extern "C" fn limzhur_unmap(handle: &mut TablesHandle, address: u64, frame: 
     }
 }
 
-/// Gives the page of an address these rights. 0 if it did, and else why it did not: then nothing is changed.
+/// Gives the page of an address these rights. A large page of which it is part is split first. 0 if it did, and else why it did
+/// not: then nothing is changed.
 #[unsafe(no_mangle)]
 pub extern "C" fn limzhur_protect(
     handle: &mut TablesHandle,
@@ -164,7 +172,10 @@ pub extern "C" fn limzhur_protect(
     ensures answer { result ≡ entry_answer handle.old.tables address }
     ensures granted { result ≡ 0 → IfSome (leads handle.old.tables (address / 4096)) (λ place. leads handle.new.tables (address / 4096) ≡ Some (granted place.frame (record { write = write; user = user; fetch = fetch }))) }
     ensures elsewhere { (other : ℕ) → IsTrue (is_canonical (other * 4096)) → (other ≡ address / 4096 → ⊥) → leads handle.new.tables other ≡ leads handle.old.tables other }
+    ensures changed { result ≡ 0 → split_of handle.old.tables (address / 4096) ≡ 0 → IsPageChanged handle.old.tables.words handle.new.tables.words handle.old.tables.root (address / 4096) (regrant (record { write = write; user = user; fetch = fetch })) }
+    ensures free { result ≡ 0 → free_count handle.new.tables.free + split_of handle.old.tables (address / 4096) ≡ free_count handle.old.tables.free }
     ensures place { IsSamePlace handle.old.tables handle.new.tables }
+    ensures tables { DoTablesStay handle.old.tables handle.new.tables }
     ensures same { result ≢ 0 → handle.new.tables ≡ handle.old.tables }
 {
     let Ok(address) = VirtAddr::try_new(address) else {
@@ -194,6 +205,7 @@ pub extern "C" fn limzhur_map_large(
     ensures answer { result ≡ map_large_answer handle.old.tables address frame }
     ensures mapped { result ≡ 0 → (k : ℕ) → k < 512 → leads handle.new.tables (512 * (address / 2 ^ 21) + k) ≡ Some (granted (512 * (frame / 512) + k) (record { write = write; user = user; fetch = fetch })) }
     ensures elsewhere { (other : ℕ) → IsTrue (is_canonical (other * 4096)) → (other / 512 ≡ address / 2 ^ 21 → ⊥) → leads handle.new.tables other ≡ leads handle.old.tables other }
+    ensures added { result ≡ 0 → IsLargeAdded handle.old.tables.words handle.new.tables.words handle.old.tables.free handle.new.tables.free handle.old.tables.root (address / 2 ^ 21) (frame / 512) (record { write = write; user = user; fetch = fetch }) }
     ensures place { IsSamePlace handle.old.tables handle.new.tables }
     ensures same { result ≢ 0 → handle.new.tables ≡ handle.old.tables }
 {
@@ -202,10 +214,10 @@ pub extern "C" fn limzhur_map_large(
     };
     let page: Result<Page<Size2MiB>, _> = Page::from_start_address(address);
     let Ok(page) = page else {
-        return 9;
+        return 8;
     };
     if frame % 512 != 0 {
-        return 9;
+        return 8;
     }
     if frame >= 1 << 40 {
         return 3;
@@ -230,6 +242,8 @@ pub extern "C" fn limzhur_unmap_large(
     ensures frame { result ≡ 0 → IfSome (large_of handle.old.tables.words handle.old.tables.root (slot_of (address / 2 ^ 21))) (λ large. frame.new ≡ large.frame) }
     ensures unmapped { result ≡ 0 → (k : ℕ) → k < 512 → leads handle.new.tables (512 * (address / 2 ^ 21) + k) ≡ None }
     ensures elsewhere { (other : ℕ) → IsTrue (is_canonical (other * 4096)) → (other / 512 ≡ address / 2 ^ 21 → ⊥) → leads handle.new.tables other ≡ leads handle.old.tables other }
+    ensures cleared { result ≡ 0 → IsLargeCleared handle.old.tables.words handle.new.tables.words handle.old.tables.root (address / 2 ^ 21) }
+    ensures free { handle.new.tables.free ≡ handle.old.tables.free }
     ensures place { IsSamePlace handle.old.tables handle.new.tables }
     ensures same { result ≢ 0 → (handle.new.tables ≡ handle.old.tables) × (frame.new ≡ frame.old) }
 {
@@ -237,7 +251,7 @@ pub extern "C" fn limzhur_unmap_large(
         return 1;
     };
     let Ok(page) = Page::from_start_address(address) else {
-        return 9;
+        return 8;
     };
     match handle.open().unmap_large(page) {
         Some(run) => {

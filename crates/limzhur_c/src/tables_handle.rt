@@ -21,6 +21,9 @@ impl Model for TablesHandle {
     ghost also_owns = { λ h. lies_at (tables_row static_lft) full_share h.room h.tables };
 }
 
+// What it owns, the tables with the words of their area, is no thread's own.
+unsafe impl Send for TablesHandle {}
+
 impl TablesHandle {
     ghost use Rattle.limzhur_c.specs.contracts.tables_handle.TablesHandle.{the_row};
 

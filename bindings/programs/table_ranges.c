@@ -1,0 +1,154 @@
+/* Ranges of pages beside a plain list of pages: random calls on eight times 2 MiB, with every answer compared, in an area that
+ * is too small for all their tables. The area begins at the frame that is given, and pages lie before and after it. */
+#include <limzhur_tables.h>
+#include <stdio.h>
+#include <stdlib.h>
+
+#define FRAMES 9                                /* the root, two upper tables, and six for eight slots */
+#define SLOTS 8
+#define PAGES (512 * SLOTS)
+#define CALLS 20000
+#define BASE 0xffffa00040000000ull
+
+static _Alignas(4096) uint64_t words[512 * FRAMES];
+static _Alignas(8) unsigned char room[LIMZHUR_TABLES_ROOM];
+static struct limzhur_tables tables = {room};
+
+static struct page { bool mapped; struct limzhur_place place; } pages[PAGES];
+static bool has_table[SLOTS], is_large[SLOTS], has_upper;
+static uint64_t first, limit;
+static int wrong, refused;
+
+static uint64_t drawn = 88172645463325252ull;
+
+static uint64_t draw(uint64_t below) {
+    drawn ^= drawn << 13;
+    drawn ^= drawn >> 7;
+    drawn ^= drawn << 17;
+    return drawn % below;
+}
+
+static void wants(bool good, const char *what) {
+    if (!good && wrong++ < 10) fprintf(stderr, "wrong: %s\n", what);
+}
+
+/* The lowest page of the range that is mapped or is not; its end if there is none. */
+static uint64_t lowest(uint64_t page, uint64_t count, bool mapped) {
+    uint64_t at = page;
+    while (at < page + count && pages[at].mapped != mapped) at++;
+    return at;
+}
+
+static bool is_whole(uint64_t slot, uint64_t page, uint64_t count) { return page <= 512 * slot && 512 * slot + 512 <= page + count; }
+
+static bool becomes_large(uint64_t slot, uint64_t page, uint64_t count, uint64_t frame) {
+    return is_whole(slot, page, count) && page % 512 == frame % 512 && !has_table[slot];
+}
+
+static bool is_same(struct limzhur_place a, struct limzhur_place b) {
+    return a.frame == b.frame && a.write == b.write && a.user == b.user && a.fetch == b.fetch;
+}
+
+static void look(uint64_t page) {
+    struct limzhur_place told = {0};
+    bool is_told = limzhur_lookup(&tables, BASE + 4096 * page + draw(4096), &told);
+    wants(is_told == pages[page].mapped && (!is_told || is_same(told, pages[page].place)), "lookup");
+}
+
+static void map(uint64_t page, uint64_t count, struct limzhur_place place) {
+    uint64_t wanted = has_upper ? 0 : 2, left = limzhur_tables_left(&tables), told = 77, found = lowest(page, count, true);
+    for (uint64_t slot = page / 512; slot <= (page + count - 1) / 512; slot++) wanted += !has_table[slot] && !becomes_large(slot, page, count, place.frame);
+    bool meets = place.frame < first + FRAMES && first < place.frame + count;
+    uint32_t right = found < page + count ? LIMZHUR_IS_MAPPED : place.frame + count > limit ? LIMZHUR_PAST_LIMIT : meets ? LIMZHUR_IN_AREA
+        : left < wanted ? LIMZHUR_NO_FRAMES : LIMZHUR_DONE;
+    uint32_t answer = limzhur_map_range(&tables, BASE + 4096 * page, count, place.frame, place.write, place.user, place.fetch, &told);
+    wants(answer == right, "map_range");
+    wants(told == (right == LIMZHUR_IS_MAPPED ? BASE + 4096 * found : right == LIMZHUR_NO_FRAMES ? wanted - left : 77), "what map_range tells");
+    refused += answer == LIMZHUR_NO_FRAMES;
+    wants(limzhur_tables_left(&tables) == left - (right == LIMZHUR_DONE ? wanted : 0), "left after map_range");
+    if (right != LIMZHUR_DONE) return;
+    has_upper = true;
+    for (uint64_t slot = page / 512; slot <= (page + count - 1) / 512; slot++) {
+        if (becomes_large(slot, page, count, place.frame)) is_large[slot] = true;
+        else has_table[slot] = true;
+    }
+    for (uint64_t n = 0; n < count; n++) pages[page + n] = (struct page){true, {place.frame + n, place.write, place.user, place.fetch}};
+}
+
+/* Unmaps the range, or gives it the place's rights. */
+static void change(uint64_t page, uint64_t count, bool unmaps, struct limzhur_place place) {
+    uint64_t wanted = 0, left = limzhur_tables_left(&tables), told = 77, found = lowest(page, count, false);
+    for (uint64_t slot = page / 512; slot <= (page + count - 1) / 512; slot++) wanted += is_large[slot] && !is_whole(slot, page, count);
+    uint32_t right = found < page + count ? LIMZHUR_NOT_MAPPED : left < wanted ? LIMZHUR_NO_FRAMES : LIMZHUR_DONE;
+    uint32_t answer = unmaps ? limzhur_unmap_range(&tables, BASE + 4096 * page, count, &told)
+        : limzhur_protect_range(&tables, BASE + 4096 * page, count, place.write, place.user, place.fetch, &told);
+    wants(answer == right, unmaps ? "unmap_range" : "protect_range");
+    wants(told == (right == LIMZHUR_NOT_MAPPED ? BASE + 4096 * found : right == LIMZHUR_NO_FRAMES ? wanted - left : 77), "what it tells");
+    refused += answer == LIMZHUR_NO_FRAMES;
+    wants(limzhur_tables_left(&tables) == left - (right == LIMZHUR_DONE ? wanted : 0), "left after it");
+    if (right != LIMZHUR_DONE) return;
+    for (uint64_t slot = page / 512; slot <= (page + count - 1) / 512; slot++) {
+        if (is_large[slot] && !is_whole(slot, page, count)) {
+            is_large[slot] = false;
+            has_table[slot] = true;
+        } else if (unmaps) is_large[slot] = false;
+    }
+    for (uint64_t n = page; n < page + count; n++) {
+        pages[n].mapped = !unmaps;
+        pages[n].place = (struct limzhur_place){pages[n].place.frame, place.write, place.user, place.fetch};
+    }
+}
+
+/* A page alone, which may lie in a large one. */
+static void change_one(uint64_t page, bool unmaps, struct limzhur_place place) {
+    uint64_t left = limzhur_tables_left(&tables), told = 77, wanted = is_large[page / 512];
+    uint32_t right = !pages[page].mapped ? LIMZHUR_NOT_MAPPED : left < wanted ? LIMZHUR_NO_FRAMES : LIMZHUR_DONE;
+    uint32_t answer = unmaps ? limzhur_unmap(&tables, BASE + 4096 * page, &told)
+        : limzhur_protect(&tables, BASE + 4096 * page, place.write, place.user, place.fetch);
+    wants(answer == right && (!unmaps || told == (right == LIMZHUR_DONE ? pages[page].place.frame : 77)), unmaps ? "unmap" : "protect");
+    wants(limzhur_tables_left(&tables) == left - (right == LIMZHUR_DONE ? wanted : 0), "left after one page");
+    if (right != LIMZHUR_DONE) return;
+    if (wanted) is_large[page / 512] = false, has_table[page / 512] = true;
+    pages[page].mapped = !unmaps;
+    pages[page].place = (struct limzhur_place){pages[page].place.frame, place.write, place.user, place.fetch};
+}
+
+static void call(void) {
+    uint64_t page = draw(PAGES), count = 1 + draw(draw(4) ? 700 : 2000);
+    if (!draw(3)) page = page / 512 * 512;
+    if (page + count > PAGES) count = PAGES - page;
+    struct limzhur_place place = {draw(limit + 2), draw(2), draw(2), draw(2)};
+    if (draw(4)) place.frame = place.frame / 512 * 512 + page % 512;
+    switch (draw(8)) {
+    case 0: case 1: case 2: map(page, count, place); break;
+    case 3: case 4: change(page, count, true, place); break;
+    case 5: change(page, count, false, place); break;
+    default: change_one(page, draw(2), place);
+    }
+    look(page);
+    look(page + count - 1);
+    look(draw(PAGES));
+}
+
+/* When all has been unmapped, each slot has a table, and an end of the address space is refused. */
+static void end(void) {
+    uint64_t told = 77;
+    for (uint64_t page = 0; page < PAGES; page++) {
+        if (pages[page].mapped) change(page, 1, true, pages[page].place);
+    }
+    wants(limzhur_map_range(&tables, 0x7ffffffff000, 2, 5000, true, true, true, &told) == LIMZHUR_NOT_CANONICAL && told == 77, "over the end of a half");
+    wants(limzhur_unmap_range(&tables, 1ull << 47, 1, &told) == LIMZHUR_NOT_CANONICAL && told == 77, "in the gap");
+    wants(limzhur_map_range(&tables, BASE, 1, 1ull << 40, true, true, true, &told) == LIMZHUR_PAST_LIMIT && told == 77, "a frame of 41 bits");
+    wants(limzhur_map_range(&tables, BASE, 0, 0, true, true, true, &told) == LIMZHUR_DONE, "no page");
+    wants(limzhur_map_range(&tables, BASE, UINT64_MAX, 0, true, true, true, &told) == LIMZHUR_NOT_CANONICAL, "all pages");
+}
+
+int main(int count, char **given) {
+    first = count > 1 ? strtoull(given[1], NULL, 0) : 0;
+    limit = first + FRAMES + 10000;
+    limzhur_tables_init(room, words, 512 * FRAMES, first, limit);
+    for (int n = 0; n < CALLS; n++) call();
+    end();
+    printf("%d calls, wrong %d, too few frames %s\n", CALLS, wrong, refused ? "at times" : "never");
+    return wrong != 0;
+}
