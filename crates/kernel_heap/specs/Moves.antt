@@ -8,8 +8,9 @@ use Rattle.dlmalloc.specs.Order.{KeepsIndex}
 use Rattle.dlmalloc.specs.Served.{IsRefusedWith, IsListed}
 use Rattle.dlmalloc.specs.declared.heap.Dlmalloc.{Dlmalloc}
 use Rattle.heap_model.specs.Slots.{listed_slots}
+use Rattle.heap_model.specs.Machine.{Paged, AreLargeSlots}
 use Rattle.heap_model.specs.declared.call.Call.{Call}
-use Rattle.heap_model.specs.declared.call.Call.TheVariants.{Malloc, Calloc, Realloc, CRealloc, Free, Trim, SetRate, SetGranularity, Reset, Extents}
+use Rattle.heap_model.specs.declared.call.Call.TheVariants.{Malloc, Calloc, Realloc, CRealloc, Free, Map, Trim, SetRate, SetGranularity, Reset, Extents}
 use Rattle.heap_model.specs.declared.answer.Reply.{Reply}
 use Rattle.heap_model.specs.declared.answer.Reply.TheVariants.{Block as Placed, Done, Trimmed, Accepted, Released, Extents as Listed, Refused}
 use Rattle.heap_model.specs.declared.answer.Refusal.{Refusal}
@@ -33,6 +34,13 @@ pub record AreSlotsTold (old new : Dlmalloc PagedSystem) (large : Option (List �
   pub none : (paged new.system).joins ≡ (paged old.system).joins → large ≡ None
   pub joined : ((paged new.system).joins ≡ (paged old.system).joins → ⊥) → large ≡ listed_slots (paged new.system).slots
 
+-- The slots that a map tells: exactly those among its pages that one entry maps now, by ascending address, or none if there are
+-- none. No page of them was mapped before, so this call made each of them large.
+pub record AreMapSlotsTold (p : Paged) (start pages : ℕ) (large : Option (List ℕ)) : Type 0 where
+  pub slots : List ℕ
+  pub exactly : AreLargeSlots p.words p.root start pages slots
+  pub listed : large ≡ listed_slots slots
+
 -- A heap stays in its state, and each size of its bins keeps its chunks, in their order.
 abbrev pub IsStill : Dlmalloc PagedSystem → Dlmalloc PagedSystem → Type 0
 IsStill old new = (heap_state new ≡ heap_state old) × KeepsIndex regions word old new
@@ -43,8 +51,8 @@ IsLeft old size why new = MatchOption (error_of why) (new ≡ old) (λ error. Is
 
 -- How the heap moves in a step, as the heap itself tells it: a block is handed out, gets another size or is freed, memory that
 -- none needs goes back, a setting is another, the heap is a new one with the settings in force, and nothing else changes its state.
--- A binned chunk for a block is the one that the bins' order names. Slots are told where a block is. Room is wanting only if the
--- heap itself has none. The extents that are listed are the heap's.
+-- A binned chunk for a block is the one that the bins' order names. Slots are told if a block is handed out, and by a map. Room is
+-- wanting only if the heap itself has none. The extents that are listed are the heap's.
 abbrev pub HeapMoves : NumberedHeap → Call → Reply → Option (List ℕ) → NumberedHeap → Type 0
 HeapMoves old (Malloc size align) (Placed number address) large new =
     (heap : Dlmalloc PagedSystem) × IsServedFor false old.heap size align address heap × IsToldFrom heap new.heap × AreSlotsTold old.heap heap large × IsMemberServed regions word old.heap size align address
@@ -64,6 +72,7 @@ HeapMoves old (CRealloc number size) (Refused why) large new =
     MatchOption (live_at old.blocks.items number) (new.heap ≡ old.heap) (λ live. IsLeft old.heap size why new.heap × HasNoneBeside (heap_of old) live.address size 16 why)
 HeapMoves old (Free number) Done large new = MatchOption (live_at old.blocks.items number) ⊥ (λ live. IsFreed regions word follows true true 4096 old.heap live.address new.heap)
 HeapMoves old (Free number) (Refused why) large new = new.heap ≡ old.heap
+HeapMoves old (Map start pages rights) Done large new = IsStill old.heap new.heap × AreMapSlotsTold (paged new.heap.system) start pages large
 HeapMoves old (Trim pad) (Trimmed released) large new = (gave : Bool) × IsTrimmed regions word follows true true 4096 old.heap pad gave new.heap
 HeapMoves old (SetRate rate) Done large new = (heap_of new ≡ record (heap_of old) { rate = rate; countdown = countdown_from rate }) × KeepsIndex regions word old.heap new.heap
 HeapMoves old (SetGranularity granularity) (Accepted accepted) large new =

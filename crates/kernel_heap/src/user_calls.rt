@@ -8,7 +8,7 @@ ghost use Rattle.kernel_heap.specs.Machine.{seen_with, system_of};
 ghost use Rattle.kernel_heap.specs.LaidOut.{IsSound};
 ghost use Rattle.kernel_heap.specs.Refusing.{map_refusal, unmap_refusal, IsRefusal};
 ghost use Rattle.kernel_heap.specs.Kept.{lasting_pages, AreRunsUsedFor, IsSeenAsBefore};
-ghost use Rattle.kernel_heap.specs.Moves.{IsStill};
+ghost use Rattle.kernel_heap.specs.Moves.{HeapMoves, IsStill};
 
 use crate::numbered_heap::{NumberedHeap, refused};
 use heap_model::{Answer, Call, Refusal, Reply, Rights};
@@ -53,7 +53,8 @@ impl NumberedHeap {
         ensures ok { (top : ℕ) (s : State) → IsGood s → Stands (seen_with top self.old) s → IfOk result (λ answer. IsStep s (Call.Map start pages rights) answer (seen_with top self.new)) }
         ensures runs { (top : ℕ) (s : State) → IsGood s → Stands (seen_with top self.old) s → IfOk result (λ answer. AreRunsUsedFor (paged (system_of self.old)) (paged (system_of self.new)) (lasting_pages s (Call.Map start pages rights) answer)) }
         ensures err { (top : ℕ) → OnErr result (seen_with top self.new ≡ seen_with top self.old) }
-        ensures heap { IsStill self.old.heap self.new.heap }
+        ensures heap { IfOk result (λ answer. HeapMoves self.old (Call.Map start pages rights) answer.reply answer.large self.new) }
+        ensures heap_err { OnErr result (IsStill self.old.heap self.new.heap) }
         ensures kept { IfOk result (λ answer. IsSeenAsBefore answer.reply self.old self.new) }
     {
         self.heap.rests_outside();

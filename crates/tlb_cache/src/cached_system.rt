@@ -1,4 +1,4 @@
-ghost use Rattle.std.specs.Prelude.{◌≡◌, ◌+◌, ◌*◌, ◌/◌, ◌%◌, ◌<◌, ◌≤◌, ◌++◌, true, [], IsTrue, IsFalse, IfOk, IfErr, OnOk, OnErr};
+ghost use Rattle.std.specs.Prelude.{◌≡◌, ◌+◌, ◌*◌, ◌/◌, ◌%◌, ◌^◌, ◌<◌, ◌≤◌, ◌++◌, true, [], IsTrue, IsFalse, IfOk, IfErr, OnOk, OnErr};
 ghost use Rattle.paging_core.specs.Address.{is_canonical};
 ghost use Rattle.mapped_regions.specs.Mapped.{IsPageRange, CanMap, IsRegionJoined, IsLeft};
 ghost use Rattle.mapped_regions.specs.UserRegions.{user_region, IsMapRefused, CanUnmap};
@@ -51,7 +51,7 @@ impl CachedSystem {
 
     /// A system with a window of `pages` pages from the address `base` on, and with `frames` frames, of which one holds
     /// the root table; a cache with room for `capacity` translations; and a processor whose `INVLPGB` takes at most
-    /// `count_max` pages. Nothing is mapped, and nothing kept (own).
+    /// `count_max` pages. Nothing is mapped, and nothing kept (own). From 2^31 translations on it answers want of memory.
     pub fn new(
         alloc: Global,
         base: u64,
@@ -65,6 +65,7 @@ impl CachedSystem {
         requires capacity { 0 < capacity }
         ensures system { IfOk result (λ cached. IsNew (paged cached.system) base pages frames) }
         ensures tlb { IfOk result (λ cached. cached.tlb ≡ record { entries = []; capacity = capacity }) }
+        ensures few { OnOk result (capacity < 2 ^ 31) }
         ensures cpu { IfOk result (λ cached. cached.cpu ≡ cached_cpu new_cpu count_max) }
         ensures agrees { IfOk result (λ cached. Agrees (paged cached.system).words (paged cached.system).root cached.tlb.entries) }
     {

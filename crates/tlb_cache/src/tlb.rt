@@ -1,4 +1,4 @@
-ghost use Rattle.std.specs.Prelude.{◌≡◌, ℕ, ◌+◌, ◌-◌, ◌*◌, ◌^◌, ◌<◌, ◌≤◌, ◌≢◌, ◌↔◌, Bool, not, [], ◌∷◌, ◌++◌, List, length, take, drop, slice_get, slice_index, filter, Contains, Some, IsTrue, IsFalse, IsSome, is_some, IfOk, IfSome, OnSome, MatchOption, option_map};
+ghost use Rattle.std.specs.Prelude.{◌≡◌, ℕ, ◌+◌, ◌-◌, ◌*◌, ◌^◌, ◌<◌, ◌≤◌, ◌≢◌, ◌↔◌, Bool, not, [], ◌∷◌, ◌++◌, List, length, take, drop, slice_get, slice_index, filter, Contains, Some, IsTrue, IsFalse, IsSome, is_some, IfOk, OnOk, IfSome, OnSome, MatchOption, option_map};
 ghost use Rattle.circular_buffer.specs.Buffer.{keep_last};
 ghost use Rattle.paging_core.specs.Address.{is_canonical};
 ghost use Rattle.paging_core.specs.Memory.{frame_count};
@@ -69,7 +69,8 @@ impl Tlb {
     /// answers want of memory.
     pub fn new(alloc: Global, capacity: u64) -> Result<Tlb, AllocError>
         requires { 0 < capacity }
-        ensures { IfOk result (λ tlb. tlb ≡ record { entries = []; capacity = capacity }) }
+        ensures empty { IfOk result (λ tlb. tlb ≡ record { entries = []; capacity = capacity }) }
+        ensures few { OnOk result (capacity < 2 ^ 31) }
     {
         if capacity > MOST {
             return Err(AllocError);

@@ -1,15 +1,17 @@
 use Rattle.std.proofs.Common.{◌≡◌, ℕ, ap, ◌∙◌, subst, sym, arith, List, Option, Some, None}
 use Rattle.std.proofs.lemmas.Result.{IfOk-weaker, on_err_weaker}
 use Rattle.heap_model.specs.declared.call.Call.TheVariants.{Map}
+use Rattle.heap_model.specs.declared.answer.Answer.{Answer}
 use Rattle.heap_model.specs.declared.answer.Reply.TheVariants.{Done}
 use Rattle.heap_model.specs.declared.region.Region.{Region}
 use Rattle.heap_model.specs.Room.{user_region}
-use Rattle.heap_model.specs.Machine.{Paged, IsStep}
+use Rattle.heap_model.specs.Machine.{Paged, AreLargeSlots, IsStep}
 use Rattle.mapped_regions.specs.Mapped.{CanMap, IsRegionJoined}
 use Rattle.mapped_regions.specs.UserRegions.{IsMapRefused}
 use Rattle.kernel_heap.specs.Beside.{IsBeside}
 use Rattle.kernel_heap.specs.System.{paged}
 use Rattle.kernel_heap.specs.Machine.{system_of, seen_with}
+use Rattle.kernel_heap.specs.Moves.{HeapMoves}
 use Rattle.kernel_heap.specs.declared.numbered_heap.NumberedHeap.{NumberedHeap}
 use Rattle.kernel_heap.specs.declared.paged_system.PagedSystem.{PagedSystem}
 use Rattle.kernel_heap.proofs.LastingPages.{runs_refused}
@@ -67,10 +69,22 @@ returns-in-Ok-clause-runs c = λ top s good stands.
 
 pub returns-in-Ok-clause-heap : goal.returns-in-Ok-clause-heap
 returns-in-Ok-clause-heap c =
-    still_on c.args.self.now.heap (record c.args.self.now.heap { system = c.map.new.self }) c.new_slots.new.self.heap
+    let same_system = c.allocator_mut.ensures.value in
+    let still = still_on c.args.self.now.heap (record c.args.self.now.heap { system = c.map.new.self }) c.new_slots.new.self.heap
     (still_beside c.args.self.now.heap c.requires.sound.heap_sound c.map.new.self
-    (subst (λ system. IsBeside (paged system) (paged c.map.new.self)) c.allocator_mut.ensures.value c.map.ensures.beside) c.rests_outside.ensures c.order_rests_outside.ensures)
-    c.new_slots.ensures.heap
+    (subst (λ system. IsBeside (paged system) (paged c.map.new.self)) same_system c.map.ensures.beside) c.rests_outside.ensures c.order_rests_outside.ensures)
+    c.new_slots.ensures.heap in
+    let joined = subst (λ system. IsRegionJoined (paged system) (paged c.map.new.self) (user_region c.args.start c.args.pages c.args.rights)) same_system c.in-Ok.ensures.ok in
+    let since = joined_since (paged (system_of c.args.self.now)) (paged c.map.new.self) (user_region c.args.start c.args.pages c.args.rights) c.marks-before.result.joins joined c.marks-before.ensures.joins in
+    let slots = (paged c.map.new.self).slots in
+    let large = subst (λ root. AreLargeSlots (paged c.map.new.self).words root c.args.start c.args.pages slots) (sym joined.added.root) joined.added.slots in (
+      still,
+      record {
+        slots = slots;
+        exactly = subst (λ (p : Paged). AreLargeSlots p.words p.root c.args.start c.args.pages slots) (sym (c.new_slots.ensures.paged since)) large;
+        listed = c.new_slots.ensures.slots since;
+      },
+    )
 
 pub returns-in-Err-clause-sound : goal.returns-in-Err-clause-sound
 returns-in-Err-clause-sound c =
@@ -93,8 +107,17 @@ returns-in-Err-clause-err c = λ top.
 
 pub returns-in-Err-clause-heap : goal.returns-in-Err-clause-heap
 returns-in-Err-clause-heap c =
+    let still = still_beside c.args.self.now.heap c.requires.sound.heap_sound c.map.new.self
+    (subst (λ system. IsBeside (paged system) (paged c.map.new.self)) c.allocator_mut.ensures.value c.map.ensures.beside) c.rests_outside.ensures c.order_rests_outside.ensures in
+    IfOk-weaker c.refused_map.result _ _ (λ answer given.
+    subst (λ (a : Answer). HeapMoves c.args.self.now (Map c.args.start c.args.pages c.args.rights) a.reply a.large (with_system c.args.self.now c.map.new.self)) (sym given.2) still)
+    c.refused_map.ensures.ok
+
+pub returns-in-Err-clause-heap_err : goal.returns-in-Err-clause-heap_err
+returns-in-Err-clause-heap_err c = on_err_weaker c.refused_map.result (λ none.
     still_beside c.args.self.now.heap c.requires.sound.heap_sound c.map.new.self
-    (subst (λ system. IsBeside (paged system) (paged c.map.new.self)) c.allocator_mut.ensures.value c.map.ensures.beside) c.rests_outside.ensures c.order_rests_outside.ensures
+    (subst (λ system. IsBeside (paged system) (paged c.map.new.self)) c.allocator_mut.ensures.value c.map.ensures.beside) c.rests_outside.ensures c.order_rests_outside.ensures)
+    c.refused_map.ensures.err
 
 pub returns-in-Err-clause-runs : goal.returns-in-Err-clause-runs
 returns-in-Err-clause-runs c = λ top s good stands.
