@@ -1,3 +1,4 @@
+pub mod Drawing
 pub mod Joins
 pub mod Larges
 pub mod Slots

@@ -97,11 +97,11 @@ regions_whole machine s y system list lines frames tables old one new at is list
     ∙ ap (λ (n : ℕ). old ++ (heading_text y (free_frames s) n ++ list_text s.large (y + 26) (region_lines (all_regions s)))) count
 
 -- the head, the map, the regions, and the end of the document
-pub picture_whole : (style : List ℕ) (s : State) (live peak : ℕ) (extents : List Extent) (lines : ℕ) (old one two three new : List ℕ) → lines ≡ lines_number extents →
+pub picture_whole : (style : List ℕ) (machine : Machine) (s : State) (live peak : ℕ) (extents : List Extent) (lines : ℕ) (old one two three new : List ℕ) → lines ≡ lines_number extents →
     one ≡ old ++ head_text style (194 + 23 * lines + 210) → two ≡ one ++ map_text live peak extents → three ≡ two ++ regions_text (194 + 23 * lines) s → new ≡ three ++ codes "</svg>\n" →
-    new ≡ old ++ picture_of style s live peak extents
+    new ≡ old ++ picture_of style machine s live peak extents
 unfolding picture_of
-picture_whole style s live peak extents lines old one two three new are first second third last =
+picture_whole style machine s live peak extents lines old one two three new are first second third last =
     let head = head_text style (194 + 23 * lines + 210) in
     let map = map_text live peak extents in
     let regions = regions_text (194 + 23 * lines) s in

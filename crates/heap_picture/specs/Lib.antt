@@ -4,3 +4,4 @@ pub mod Lines
 pub mod Picture
 pub mod Regions
 pub mod Style
+pub mod Tables

@@ -5,12 +5,13 @@ ghost use Rattle.dlmalloc_chunks.specs.Tiling.{AreInSegments};
 ghost use Rattle.heap_model.specs.State.{State};
 ghost use Rattle.heap_program.specs.Progress.{IsAt};
 ghost use Rattle.heap_report.specs.Telling.{Tells};
-ghost use Rattle.heap_picture.specs.Drawn.{HasDrawn, run_words};
+ghost use Rattle.heap_picture.specs.Drawn.{HasDrawn, run_words, drawing_for};
 ghost use Rattle.heap_picture.specs.Picture.{picture_of, svg_text, head_text};
 ghost use Rattle.heap_picture.specs.Style.{style};
 
 use crate::regions::push_regions;
 use crate::style::style;
+use crate::tables::Tables;
 use command_line::Command;
 use heap_map::{lines_number, push_map};
 use heap_program::{Sink, Source};
@@ -28,8 +29,9 @@ fn push_svg(out: &mut String, height: u128) -> Result<(), AllocError>
     )
 }
 
+/// Puts the head of a document of this height at the end.
 #[tactic(auto, unfolding(crate::specs::Picture::head_text))]
-fn push_head(out: &mut String, height: u128) -> Result<(), AllocError>
+pub fn push_head(out: &mut String, height: u128) -> Result<(), AllocError>
     ensures { OnOk result (string_bytes out.new ≡ string_bytes out.old ++ head_text style height) }
 {
     push_svg(out, height)?;
@@ -66,15 +68,23 @@ fn is_map(word: &str) -> bool
     word.as_bytes() == b"map".as_slice()
 }
 
-/// Replays the calls of the source, asks for the extents, and writes a picture of the heap at the end of that run, one SVG
-/// document. The words are those of [`tell_main`], and `map` may stand before them; lines and statuses are its own.
+// Whether a word asks for the page tables.
+fn is_tables(word: &str) -> bool
+    ensures { result ≡ bytes_eq word.now (codes "tables") }
+{
+    word.as_bytes() == b"tables".as_slice()
+}
+
+/// Replays the calls of the source, asks for the extents, and writes a drawing of the end of that run, one SVG document. The
+/// words are those of [`tell_main`]. `map` or `tables` may stand before them, for the heap or its page tables; the heap is
+/// drawn if neither does. Lines and statuses are its own.
 pub fn picture_main<S: Source, K: Sink>(
     alloc: Global,
     words: &[String],
     source: &mut S,
     sink: &mut K,
 ) -> Reported
-    ensures tells { Tells (picture_of style) (run_words (map string_bytes words.now)) (S.left source.old) (S.left source.new) (K.taken sink.old) (K.taken sink.new) (K.flushed sink.new)
+    ensures tells { Tells (drawing_for style (map string_bytes words.now)) (run_words (map string_bytes words.now)) (S.left source.old) (S.left source.new) (K.taken sink.old) (K.taken sink.new) (K.flushed sink.new)
         (S.faults source.old) (S.faults source.new) (K.faults sink.old) (K.faults sink.new) result }
     ensures untouched { 1 ≤ result.status → result.status ≤ 4 → (source.new ≡ source.old) × (sink.new ≡ sink.old) }
 {
@@ -82,6 +92,8 @@ pub fn picture_main<S: Source, K: Sink>(
         Some((word, others)) => {
             if is_map(word.as_str()) {
                 tell_main::<Picture, S, K>(alloc, others, source, sink)
+            } else if is_tables(word.as_str()) {
+                tell_main::<Tables, S, K>(alloc, others, source, sink)
             } else {
                 tell_main::<Picture, S, K>(alloc, words, source, sink)
             }
@@ -91,7 +103,7 @@ pub fn picture_main<S: Source, K: Sink>(
 }
 
 impl Command for Picture {
-    ghost comes = { λ S K. HasDrawn (picture_of style) };
+    ghost comes = { λ S K. HasDrawn (drawing_for style) };
 
     fn run<S: Source, K: Sink>(
         alloc: Global,

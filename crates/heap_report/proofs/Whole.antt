@@ -28,7 +28,7 @@ use Rattle.heap_report.specs.Reported.{IsReplayOf, IsTold, IsToldInPart, text_of
 use Rattle.heap_report.proofs.Serving.{begun_follows, none_live}
 
 abbrev Text : Type 0
-Text = State → ℕ → ℕ → List Extent → List ℕ
+Text = Machine → State → ℕ → ℕ → List Extent → List ℕ
 
 -- all calls of the input were served, the last line's too
 pub served_input : (first last end : Replay) (line : List ℕ) (l l1 t t1 : Option (List ℕ)) (n : ℕ) (before after : List ℕ) (h : HasRead IsReplaying first last line l l1 t t1 n) → HasResponded IsReplaying last (items_of line) before after end
@@ -78,14 +78,14 @@ whole s machine first end listed input at none begun served lists =
     }
 
 -- the text of the run is the one pushed
-pub text_is : (text : Text) (s : State) (input : List ℕ) (listed : Listed) (extents : List Extent) (output before : List ℕ) (w : IsWhole s input listed) → extents ≡ listed.extents → ((e : State) → IsAt listed.machine e → output ≡ before ++ text e listed.live listed.peak extents) → before ≡ []
-    → output ≡ text_of_run text s input listed.answers w.state listed.extents
+pub text_is : (text : Text) (s : State) (input : List ℕ) (listed : Listed) (extents : List Extent) (output before : List ℕ) (w : IsWhole s input listed) → extents ≡ listed.extents → ((e : State) → IsAt listed.machine e → output ≡ before ++ text listed.machine e listed.live listed.peak extents) → before ≡ []
+    → output ≡ text_of_run text listed.machine s input listed.answers w.state listed.extents
 text_is text s input listed extents output before w same pushed empty =
     pushed w.state w.at
-    ∙ ap (λ (l : List ℕ). l ++ text w.state listed.live listed.peak extents) empty
-    ∙ ap (λ (l : List Extent). text w.state listed.live listed.peak l) same
-    ∙ ap (λ (n : ℕ). text w.state n listed.peak listed.extents) w.live_is
-    ∙ ap (λ (n : ℕ). text w.state (live w.state) n listed.extents) w.peak_is
+    ∙ ap (λ (l : List ℕ). l ++ text listed.machine w.state listed.live listed.peak extents) empty
+    ∙ ap (λ (l : List Extent). text listed.machine w.state listed.live listed.peak l) same
+    ∙ ap (λ (n : ℕ). text listed.machine w.state n listed.peak listed.extents) w.live_is
+    ∙ ap (λ (n : ℕ). text listed.machine w.state (live w.state) n listed.extents) w.peak_is
 
 read_whole : (l l1 : Option (List ℕ)) (bytes : List ℕ) → Consumes l l1 bytes → IsAtEnd l1 → IsReadWhole l l1 bytes
 read_whole None l1 bytes consumed end = tt
@@ -122,7 +122,7 @@ part_read text s first last line l l1 t t1 n h short =
 
 -- one that stopped as it wrote
 pub part_written : (text : Text) (s : State) (first last : Replay) (listed : Listed) (line output : List ℕ) (l l1 t t1 t2 : Option (List ℕ)) (n k : ℕ) (h : HasRead IsReplaying first last line l l1 t t1 n) → n ≤ 2 ^ 30 → IsAtEnd l1 → (w : IsWhole s h.bytes listed)
-    → output ≡ text_of_run text s h.bytes listed.answers w.state listed.extents → Appends t1 t2 (take k output) → IsToldInPart text s l l1 t t2
+    → output ≡ text_of_run text listed.machine s h.bytes listed.answers w.state listed.extents → Appends t1 t2 (take k output) → IsToldInPart text s l l1 t t2
 part_written text s first last listed line output l l1 t t1 t2 n k h short done w is written = record {
   taken = h.bytes;
   read = h.consumed;
@@ -136,6 +136,8 @@ part_written text s first last listed line output l l1 t t1 t2 n k h short done 
     state = w.state;
     extents = listed.extents;
     replay = w.replay;
+    machine = listed.machine;
+    stands = w.at.stands;
     more = drop k output;
     is = take-append-drop k output ∙ is;
   });
@@ -143,7 +145,7 @@ part_written text s first last listed line output l l1 t t1 t2 n k h short done 
 
 -- one that ended well
 pub told : (text : Text) (s : State) (first last : Replay) (listed : Listed) (line output : List ℕ) (l l1 t t1 t2 : Option (List ℕ)) (flushed : Option ℕ) (n : ℕ) (h : HasRead IsReplaying first last line l l1 t t1 n) → IsAtEnd l1 → (w : IsWhole s h.bytes listed)
-    → output ≡ text_of_run text s h.bytes listed.answers w.state listed.extents → Appends t1 t2 output → IsAllFlushed t2 flushed → IsTold text s l l1 t t2 flushed listed.machine listed.answers listed.extents
+    → output ≡ text_of_run text listed.machine s h.bytes listed.answers w.state listed.extents → Appends t1 t2 output → IsAllFlushed t2 flushed → IsTold text s l l1 t t2 flushed listed.machine listed.answers listed.extents
 told text s first last listed line output l l1 t t1 t2 flushed n h done w is written all = record {
   input = h.bytes;
   read = read_whole l l1 h.bytes h.consumed done;

@@ -5,10 +5,11 @@ use Rattle.dlmalloc_chunks.specs.declared.extent.Extent.{Extent}
 use Rattle.heap_model.specs.State.{State}
 use Rattle.command_line.specs.Streams.{Streams}
 use Rattle.heap_report.specs.declared.reported.Reported.{Reported}
+use Rattle.heap_report.specs.Reported.{EndText}
 use Rattle.heap_report.specs.Telling.{Tells}
 
 -- A run was told of, over a source and a sink, each as it was and as it then is. So ended the command.
-abbrev pub HasRun : {S K : Type 0} → (State → ℕ → ℕ → List Extent → List ℕ) → Streams S K → List (String Global) → S → S → K → K → ℕ → Type 0
+abbrev pub HasRun : {S K : Type 0} → EndText → Streams S K → List (String Global) → S → S → K → K → ℕ → Type 0
 HasRun text streams words source source' sink sink' status =
     (reported : Reported)
     × (status ≡ reported.status)

@@ -2,8 +2,9 @@
 use Rattle.std.specs.Prelude.{ℕ, List, [], codes}
 use Rattle.dlmalloc_chunks.specs.declared.extent.Extent.{Extent}
 use Rattle.heap_model.specs.State.{State}
+use Rattle.kernel_heap.specs.declared.machine.Machine.{Machine}
 use Rattle.heap_figures.specs.Text.{figures_text}
 
 -- the figures, each a line
-abbrev pub report_of : State → ℕ → ℕ → List Extent → List ℕ
-report_of state live peak extents = figures_text [] (codes "\n") live peak extents
+abbrev pub report_of : Machine → State → ℕ → ℕ → List Extent → List ℕ
+report_of machine state live peak extents = figures_text [] (codes "\n") live peak extents

@@ -23,13 +23,17 @@ pub record IsReplayOf (s : State) (input : List ℕ) (answers : List Answer) (st
   pub tiles : IsTiling state extents
   pub good : IsGood state
 
--- the text of such a run: of the state at its end, the bytes that are live there and were at most, and the extents
-abbrev pub text_of_run : (State → ℕ → ℕ → List Extent → List ℕ) → State → List ℕ → List Answer → State → List Extent → List ℕ
-text_of_run text s input answers state extents = text state (live state) (peak s (calls_of input) answers) extents
+-- a text of the end of a run: of the machine, the state for which it stands, the bytes that are live and were at most, and the extents
+abbrev pub EndText : Type 0
+EndText = Machine → State → ℕ → ℕ → List Extent → List ℕ
+
+-- the text of such a run: of the machine and the state at its end, the bytes that are live there and were at most, and the extents
+abbrev pub text_of_run : EndText → Machine → State → List ℕ → List Answer → State → List Extent → List ℕ
+text_of_run text machine s input answers state extents = text machine state (live state) (peak s (calls_of input) answers) extents
 
 -- A run that ended well. The source had the input and, after it, has `left`; the sink had taken `before`, and then `after`, of
 -- which `flushed` is flushed.
-pub record IsTold (text : State → ℕ → ℕ → List Extent → List ℕ) (s : State) (had left before after : Option (List ℕ)) (flushed : Option ℕ) (machine : Machine) (answers : List Answer) (extents : List Extent) : Type 0 where
+pub record IsTold (text : EndText) (s : State) (had left before after : Option (List ℕ)) (flushed : Option ℕ) (machine : Machine) (answers : List Answer) (extents : List Extent) : Type 0 where
   -- the source is read to its end
   pub input : List ℕ
   pub read : IsReadWhole had left input
@@ -37,13 +41,13 @@ pub record IsTold (text : State → ℕ → ℕ → List Extent → List ℕ) (s
   pub state : State
   pub replay : IsReplayOf s input answers state extents
   -- the text is written, and flushed
-  pub written : Appends before after (text_of_run text s input answers state extents)
+  pub written : Appends before after (text_of_run text machine s input answers state extents)
   pub flushed_all : IsAllFlushed after flushed
   -- the machine stands for the last state
   pub stands : Stands (seen machine) state
 
 -- a front of the text of a run over an input that was read whole
-pub record IsFrontOfText (text : State → ℕ → ℕ → List Extent → List ℕ) (s : State) (had left : Option (List ℕ)) (front : List ℕ) : Type 0 where
+pub record IsFrontOfText (text : EndText) (s : State) (had left : Option (List ℕ)) (front : List ℕ) : Type 0 where
   pub input : List ℕ
   pub read : IsReadWhole had left input
   pub answers : List Answer
@@ -51,11 +55,13 @@ pub record IsFrontOfText (text : State → ℕ → ℕ → List Extent → List 
   pub extents : List Extent
   pub replay : IsReplayOf s input answers state extents
   pub more : List ℕ
-  pub is : front ++ more ≡ text_of_run text s input answers state extents
+  pub machine : Machine
+  pub stands : Stands (seen machine) state
+  pub is : front ++ more ≡ text_of_run text machine s input answers state extents
 
 -- A run that stopped before its end: nothing is written, or a front of its text. It took at most one piece of 4096 bytes more than
 -- 2 ^ 30 bytes.
-pub record IsToldInPart (text : State → ℕ → ℕ → List Extent → List ℕ) (s : State) (had left before after : Option (List ℕ)) : Type 0 where
+pub record IsToldInPart (text : EndText) (s : State) (had left before after : Option (List ℕ)) : Type 0 where
   pub taken : List ℕ
   pub read : Consumes had left taken
   pub short : length taken ≤ 2 ^ 30 + 4096

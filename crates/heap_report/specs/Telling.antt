@@ -9,11 +9,11 @@ use Rattle.heap_program.specs.Command.{config_of}
 use Rattle.heap_program.specs.Faults.{HasRisen}
 use Rattle.heap_program.specs.Status.{TellsRefusal}
 use Rattle.heap_report.specs.declared.reported.Reported.{Reported}
-use Rattle.heap_report.specs.Reported.{IsTold, IsToldInPart}
+use Rattle.heap_report.specs.Reported.{EndText, IsTold, IsToldInPart}
 
 -- Under a configuration. The source had the input, and `left` after it; the sink had taken `before`, and then `after`, of which
 -- `flushed` is flushed. The counts are those of the faults, of the source and of the sink, before and after.
-pub record TellsOf (text : State → ℕ → ℕ → List Extent → List ℕ) (config : Config) (had left before after : Option (List ℕ)) (flushed : Option ℕ) (reads reads' writes writes' : ℕ) (reported : Reported) : Type 0 where
+pub record TellsOf (text : EndText) (config : Config) (had left before after : Option (List ℕ)) (flushed : Option ℕ) (reads reads' writes writes' : ℕ) (reported : Reported) : Type 0 where
   -- at status 0 the machine, the answers and the extents are handed on; the source is read to its end, and the text is written
   pub machine : IsSome reported.machine ↔ (reported.status ≡ 0)
   pub answers : IsSome reported.answers ↔ (reported.status ≡ 0)
@@ -35,7 +35,7 @@ pub record TellsOf (text : State → ℕ → ℕ → List Extent → List ℕ) (
       (reported.status ≡ 0) ⊎ (reported.status ≡ 5) ⊎ (reported.status ≡ 8)
 
 -- With these words, each by its bytes.
-pub record Tells (text : State → ℕ → ℕ → List Extent → List ℕ) (words : List (List ℕ)) (had left before after : Option (List ℕ)) (flushed : Option ℕ) (reads reads' writes writes' : ℕ) (reported : Reported) : Type 0 where
+pub record Tells (text : EndText) (words : List (List ℕ)) (had left before after : Option (List ℕ)) (flushed : Option ℕ) (reads reads' writes writes' : ℕ) (reported : Reported) : Type 0 where
   pub statuses : reported.status ≤ 8
   -- status 1 comes exactly if the words are no configuration, and then nothing is handed on
   pub usage : (reported.status ≡ 1) ↔ (config_of words ≡ None)

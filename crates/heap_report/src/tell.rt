@@ -4,6 +4,7 @@ ghost use Rattle.std.specs.Io.KnownBytes.{Appends};
 ghost use Rattle.dlmalloc_chunks.specs.declared.extent.Extent.{Extent};
 ghost use Rattle.dlmalloc_chunks.specs.Tiling.{AreInSegments};
 ghost use Rattle.heap_model.specs.State.{State};
+ghost use Rattle.kernel_heap.specs.declared.machine.Machine.{Machine};
 ghost use Rattle.heap_program.specs.Faults.{HasRisen};
 ghost use Rattle.heap_program.specs.Progress.{IsAt};
 ghost use Rattle.heap_program.specs.declared.run.Stop.TheVariants.{ReadFault, WriteFault, TooLong};
@@ -21,8 +22,8 @@ use std::alloc::{AllocError, Global};
 
 /// A text of the end of a run.
 pub trait Tell {
-    /// The text of the last state, of the bytes that are live in it and were at most, and of its extents.
-    ghost text: { State → ℕ → ℕ → List Extent → List ℕ };
+    /// The text of the last machine and the state for which it stands, of the bytes that are live in it and were at most, and of its extents.
+    ghost text: { Machine → State → ℕ → ℕ → List Extent → List ℕ };
 
     /// Puts the text at the end of the output.
     fn push(
@@ -34,7 +35,7 @@ pub trait Tell {
         extents: &[Extent],
     ) -> Result<(), AllocError>
         requires { AreInSegments extents.now }
-        ensures { OnOk result ((s : State) → IsAt machine.now s → string_bytes output.new ≡ string_bytes output.old ++ text s live peak extents.now) };
+        ensures { OnOk result ((s : State) → IsAt machine.now s → string_bytes output.new ≡ string_bytes output.old ++ text machine.now s live peak extents.now) };
 }
 
 // Replays the source on a machine to which no call came yet, and tells of it.

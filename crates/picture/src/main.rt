@@ -1,4 +1,4 @@
-//! The program `heap_picture`: a picture of the heap that a recorded run leaves.
+//! The program `heap_picture`: drawings of the heap and the page tables that a recorded run leaves.
 #![tactic(auto)]
 
 use command_line::{Pages, program, program_arguments};
@@ -12,20 +12,27 @@ heap_picture 0.1.0
 ";
 
 const HELP: &str = "\
-heap_picture 0.1.0: a picture of the heap that a recorded run leaves
+heap_picture 0.1.0: drawings of what a recorded run leaves
 
-Usage: heap_picture [map] [BASE PAGES GRANULARITY FRAMES RATE]
+Usage: heap_picture [map|tables] [BASE PAGES GRANULARITY FRAMES RATE]
 
 Replays the calls of standard input, which are lines as `heap --help lines` has
-them, and then prints a picture of the heap, as an SVG document.
+them, and then prints a drawing of the heap (`map`, or neither word) or of its
+page tables (`tables`), as an SVG document.
 
-Each row has a power of two of addresses, 512 bytes at least, and as few as it
+The heap: each row has a power of two of addresses, 512 bytes at least, and as few as it
 takes for the map to have at most 20 lines. Rows that lie wholly in one extent
 are one thin line. A row has 512 cells: a cell is blue from the ground up as far
 as its bytes are in blocks, and above that it has the colour of most of its
 other bytes. Above the rows are the figures of the heap; below them is what it
 consists of, its free chunks by size, and the regions of the heap and the user
 with their large pages. A browser shows at each extent what it is.
+
+The page tables: a line for the root, for each table, and below it for what its
+entries map, which is the greatest run of pages with frames one after the other
+and equal rights. At the right of a line is its part of the 512 entries of its
+table. Below are the frames of the memory by their use: a square has the colour
+of the first that it has of a table, a large page and a page.
 
 A line that is no call is passed over, and a refused call changes nothing. The
 words are those of `heap run`; the default is 0x400000 1024 65536 1024 4095.

@@ -1,0 +1,22 @@
+-- The drawing of the page tables that a run leaves.
+use Rattle.std.specs.Prelude.{ℕ, List, ◌++◌, length, codes}
+use Rattle.dlmalloc_chunks.specs.declared.extent.Extent.{Extent}
+use Rattle.paging_core.specs.Memory.{frame_count}
+use Rattle.heap_model.specs.Machine.{Paged}
+use Rattle.heap_model.specs.State.{State}
+use Rattle.kernel_heap.specs.declared.machine.Machine.{Machine}
+use Rattle.kernel_heap.specs.Machine.{system_of}
+use Rattle.kernel_heap.specs.System.{paged}
+use Rattle.heap_tables.specs.Joining.{lines_of}
+use Rattle.heap_tables.specs.Tables.{tables_text, tables_height}
+use Rattle.heap_picture.specs.Picture.{head_text}
+
+-- the drawing of a memory and its root
+unfoldable pub drawing_of : List ℕ → Paged → List ℕ
+drawing_of style p =
+    head_text style (tables_height (length (lines_of p.words p.root)))
+    ++ (tables_text (lines_of p.words p.root) (frame_count p.words) ++ codes "</svg>\n")
+
+-- The drawing of the last machine of a run: of its memory, from the root on that its processor has.
+abbrev pub tables_of : List ℕ → Machine → State → ℕ → ℕ → List Extent → List ℕ
+tables_of style machine s live peak extents = drawing_of style (paged (system_of machine.heap))

@@ -1,0 +1,41 @@
+// The page tables that a run leaves.
+ghost use Rattle.std.specs.Prelude.{◌≡◌, ◌++◌, OnOk, string_bytes};
+ghost use Rattle.kernel_heap.specs.System.{paged};
+ghost use Rattle.heap_model.specs.State.{State};
+ghost use Rattle.heap_picture.specs.Style.{style};
+ghost use Rattle.heap_picture.specs.Tables.{drawing_of, tables_of};
+
+use crate::picture::push_head;
+use heap_report::Tell;
+use heap_tables::{push_tables, table_lines, tables_height};
+use kernel_heap::{Extent, Machine, PagedSystem};
+use std::alloc::{AllocError, Global};
+
+// Puts the drawing of the tables of a system at the end.
+fn push_drawing(alloc: Global, out: &mut String, system: &PagedSystem) -> Result<(), AllocError>
+    ensures { OnOk result (string_bytes out.new ≡ string_bytes out.old ++ drawing_of style (paged system.now)) }
+{
+    let frames = system.frames();
+    let lines = table_lines(alloc, frames, system.root())?;
+    push_head(out, tables_height(lines.len()))?;
+    push_tables(alloc, out, &lines, frames.count())?;
+    out.push_str("</svg>\n")
+}
+
+/// The page tables of a run's last machine as its text.
+pub struct Tables;
+
+impl Tell for Tables {
+    ghost text = { tables_of style };
+
+    fn push(
+        alloc: Global,
+        output: &mut String,
+        machine: &Machine,
+        _live: u128,
+        _peak: u128,
+        _extents: &[Extent],
+    ) -> Result<(), AllocError> {
+        push_drawing(alloc, output, machine.system())
+    }
+}

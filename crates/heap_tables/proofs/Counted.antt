@@ -1,0 +1,32 @@
+-- Each frame is counted once.
+use Rattle.std.proofs.Common.{◌≡◌, ℕ, zero, suc, ◌+◌, Bool, true, false, List, [], ◌∷◌, ◌++◌, cond, refl, sym, ◌∙◌, ap, arith}
+use Rattle.std.specs.Prelude.{count_by}
+use Rattle.std.proofs.lemmas.List.Sums.{sum_by-append}
+use Rattle.heap_tables.specs.declared.lines.Line.{Line}
+use Rattle.heap_tables.specs.declared.uses.Use.{Use}
+use Rattle.heap_tables.specs.declared.uses.Use.TheVariants.{Table, Large, Page, Free}
+use Rattle.heap_tables.specs.Uses.{use_of, uses_of, same_use, number_of, EachFrameIsCountedOnce}
+
+-- one frame more
+more : (kind : Use) (uses : List Use) (one : Use) → number_of kind (uses ++ one ∷ []) ≡ number_of kind uses + number_of kind (one ∷ [])
+more kind uses one = sum_by-append (λ x. cond (same_use kind x) 1 0) uses (one ∷ [])
+
+-- is counted for one use
+one_use : (one : Use) → number_of Table (one ∷ []) + number_of Large (one ∷ []) + number_of Page (one ∷ []) + number_of Free (one ∷ []) ≡ 1
+one_use Table = refl
+one_use Large = refl
+one_use Page = refl
+one_use Free = refl
+
+pub counted_once : EachFrameIsCountedOnce
+counted_once lines zero = refl
+counted_once lines (suc frames) =
+    let uses = uses_of lines frames in
+    let one = use_of frames lines in
+    let before = counted_once lines frames in
+    let t = more Table uses one in
+    let l = more Large uses one in
+    let p = more Page uses one in
+    let f = more Free uses one in
+    let this = one_use one in
+    omega (arith, before, t, l, p, f, this)

@@ -1,0 +1,10 @@
+pub mod Counted
+pub mod Drawn
+pub mod EachPage
+pub mod Joins
+pub mod Numbers
+pub mod Squares
+pub mod Steps
+pub mod Under
+pub mod Unsaid
+pub mod Walks

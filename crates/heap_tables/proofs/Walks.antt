@@ -1,0 +1,130 @@
+-- What lines say is what walks find.
+use Rattle.std.proofs.Common.{◌≡◌, ◌<◌, ◌≤◌, ℕ, zero, suc, ◌+◌, ◌-◌, ◌*◌, ◌/◌, ◌%◌, ◌^◌, Bool, true, false, ◌||◌, List, [], ◌∷◌, ◌++◌, Option, Some, None, nat_eq, nat_le, nat_lt, refl, sym, ◌∙◌, ap, subst, arith}
+use Rattle.std.specs.List.{list_any, AllByRecursion}
+use Rattle.std.proofs.lemmas.Bool.Decides.{nat_tests}
+use Rattle.std.proofs.lemmas.List.Folds.{list_any-append}
+use Rattle.paging_core.specs.Prefix.{prefix_of}
+use Rattle.paging_core.specs.Walk.{Place, step, large_step, large_from, large_of, next_from, page_in, reach, walk_of, top}
+use Rattle.paging_core.proofs.Reach.{reach_suc, reach_last, reach_in, reach_none, large_is}
+use Rattle.paging_core.proofs.Prefixes.{prefix_parent, prefix_more, walk_reach, walk_stops, none_more, reach_root}
+use Rattle.heap_tables.specs.declared.lines.Line.{Line}
+use Rattle.heap_tables.specs.Lines.{line_of, large_lines, lines_below, large_entry_of, entry_lines, entries_lines, first_page, lines_under, entry_lines_of}
+use Rattle.heap_tables.specs.Walked.{place_in, IsWalked, has_page}
+
+-- an entry of a table that is met leads where the walk goes on
+pub step_met : (words : List ℕ) (root l number index : ℕ) (table : Place) → l ≤ 3 → index < 512 → reach words root (3 - l) number ≡ Some table →
+    reach words root (4 - l) (512 * number + index) ≡ step words (3 - l) table index
+step_met words root zero number index table low within met =
+    let q : (512 * number + index) / 512 ≡ number = omega arith in
+    let r : (512 * number + index) % 512 ≡ index = omega arith in
+    reach_last words root (512 * number + index) table (ap (reach words root 3) q ∙ met) ∙ ap (step words 3 table) r
+step_met words root (suc zero) number index table low within met =
+    let q : (512 * number + index) / 512 ≡ number = omega arith in
+    let r : (512 * number + index) % 512 ≡ index = omega arith in
+    reach_suc words root 2 (512 * number + index) (omega arith)
+    ∙ ap (λ (o : Option Place). next_from words 2 o ((512 * number + index) % 512)) (ap (reach words root 2) q ∙ met)
+    ∙ ap (step words 2 table) r
+step_met words root (suc (suc zero)) number index table low within met =
+    let q : (512 * number + index) / 512 ≡ number = omega arith in
+    let r : (512 * number + index) % 512 ≡ index = omega arith in
+    reach_suc words root 1 (512 * number + index) (omega arith)
+    ∙ ap (λ (o : Option Place). next_from words 1 o ((512 * number + index) % 512)) (ap (reach words root 1) q ∙ met)
+    ∙ ap (step words 1 table) r
+step_met words root (suc (suc (suc zero))) number index table low within met =
+    let q : (512 * number + index) / 512 ≡ number = omega arith in
+    let r : (512 * number + index) % 512 ≡ index = omega arith in
+    reach_suc words root 0 (512 * number + index) (omega arith)
+    ∙ ap (λ (o : Option Place). next_from words 0 o ((512 * number + index) % 512)) (ap (reach words root 0) q ∙ met)
+    ∙ ap (step words 0 table) r
+step_met words root (suc (suc (suc (suc l)))) number index table low within met = absurd (omega arith)
+
+-- and one of the third table maps the large page that the walk finds
+pub large_met : (words : List ℕ) (root number index : ℕ) (table : Place) → index < 512 → reach words root 2 number ≡ Some table →
+    large_of words root (512 * number + index) ≡ large_step words table index
+large_met words root number index table within met =
+    let q : (512 * number + index) / 512 ≡ number = omega arith in
+    let r : (512 * number + index) % 512 ≡ index = omega arith in
+    large_is words root (512 * number + index)
+    ∙ ap (λ (o : Option Place). large_from words o ((512 * number + index) % 512)) (ap (reach words root 2) q ∙ met)
+    ∙ ap (large_step words table) r
+
+pub all_both : {X : Type 0} (P : X → Type 0) (xs ys : List X) → AllByRecursion P xs → AllByRecursion P ys → AllByRecursion P (xs ++ ys)
+all_both P [] ys front back = back
+all_both P (x ∷ xs) ys front back = (front.0, all_both P xs ys front.1 back)
+
+-- what holds of what each entry leads to holds of all
+pub entries_all : (P : Line → Type 0) (words : List ℕ) (below : ℕ → Place → List Line) (level number : ℕ) (table : Place) (count : ℕ) →
+    ((index : ℕ) → index < count → AllByRecursion P (entry_lines words below level number table index)) → AllByRecursion P (entries_lines words below level number table count)
+entries_all P words below level number table zero each = tt
+entries_all P words below level number table (suc count) each =
+    all_both P (entries_lines words below level number table count) (entry_lines words below level number table count)
+    (entries_all P words below level number table count (λ index less. each index (omega (arith, less)))) (each count (omega arith))
+
+-- the walk of a page, by its low 36 bits
+pub walk_low : (words : List ℕ) (root page : ℕ) → page < 2 ^ 36 → walk_of words root page ≡ reach words root 4 page
+unfolding walk_of
+walk_low words root page low = ap (reach words root 4) (let e : page % 2 ^ 36 ≡ page = omega (arith, low) in e)
+
+-- a page that is met is where its line says
+page_walked : (words : List ℕ) (root number : ℕ) (place : Place) → number < 2 ^ 36 → reach words root 4 number ≡ Some place → IsWalked words root (line_of 4 (number % 512) number (number + 1) place)
+page_walked words root number place low met page from to =
+    let same : page ≡ number = omega (arith, from, to) in
+    let here : place.frame ≡ place.frame + (page - number) = omega (arith, from, to) in
+    walk_low words root page (omega (arith, same, low))
+    ∙ ap (reach words root 4) same
+    ∙ met
+    ∙ ap (λ (f : ℕ). Some (record { frame = f; write = place.write; user = place.user; fetch = place.fetch })) here
+
+-- and so is each page of a large page
+large_walked : (words : List ℕ) (root number : ℕ) (large : Place) → number < 2 ^ 27 → large_of words root number ≡ Some large →
+    IsWalked words root (line_of 3 (number % 512) (512 * number) (512 * number + 512) large)
+large_walked words root number large low met page from to =
+    let q : page / 512 ≡ number = omega (arith, from, to) in
+    let r : page % 512 ≡ page - 512 * number = omega (arith, from, to) in
+    walk_low words root page (omega (arith, to, low))
+    ∙ reach_in words root page large (ap (large_of words root) q ∙ met)
+    ∙ ap (λ (k : ℕ). Some (record { frame = large.frame + k; write = large.write; user = large.user; fetch = large.fetch })) r
+
+larges_walked : (words : List ℕ) (root number : ℕ) (o : Option Place) → number < 2 ^ 27 → large_of words root number ≡ o → AllByRecursion (IsWalked words root) (large_lines number o)
+larges_walked words root number None low met = tt
+larges_walked words root number (Some large) low met = (large_walked words root number large low met, tt)
+
+-- the large page that an entry maps, if its table is one of the third step
+entry_large : (words : List ℕ) (root l number index : ℕ) (table : Place) → l ≤ 3 → index < 512 → number < 512 ^ (3 - l) → reach words root (3 - l) number ≡ Some table →
+    AllByRecursion (IsWalked words root) (large_lines (512 * number + index) (large_entry_of words (3 - l) table index))
+entry_large words root zero number index table low within few met = tt
+entry_large words root (suc zero) number index table low within few met =
+    larges_walked words root (512 * number + index) (large_step words table index) (omega (arith, within, few)) (large_met words root number index table within met)
+entry_large words root (suc (suc zero)) number index table low within few met = tt
+entry_large words root (suc (suc (suc zero))) number index table low within few met = tt
+entry_large words root (suc (suc (suc (suc l)))) number index table low within few met = absurd (omega arith)
+
+pub few_more : (l number index : ℕ) → l ≤ 3 → index < 512 → number < 512 ^ (3 - l) → 512 * number + index < 512 ^ (4 - l)
+few_more zero number index low within few = omega (arith, within, few)
+few_more (suc zero) number index low within few = omega (arith, within, few)
+few_more (suc (suc zero)) number index low within few = omega (arith, within, few)
+few_more (suc (suc (suc zero))) number index low within few = omega (arith, within, few)
+few_more (suc (suc (suc (suc l)))) number index low within few = absurd (omega (arith, low))
+
+below_walked : (words : List ℕ) (root l number : ℕ) (o : Option Place) → reach words root (4 - l) number ≡ o →
+    ((place : Place) → reach words root (4 - l) number ≡ Some place → AllByRecursion (IsWalked words root) (lines_under words l number place)) →
+    AllByRecursion (IsWalked words root) (lines_below (lines_under words l) number o)
+below_walked words root l number None met each = tt
+below_walked words root l number (Some place) met each = each place met
+
+-- what is below a place that is met is walked
+pub under_walked : (words : List ℕ) (root left number : ℕ) (place : Place) → left ≤ 4 → number < 512 ^ (4 - left) → reach words root (4 - left) number ≡ Some place →
+    AllByRecursion (IsWalked words root) (lines_under words left number place)
+unfolding lines_under
+under_walked words root zero number place low few met = (page_walked words root number place (omega (arith, few)) met, tt)
+under_walked words root (suc left) number place low few met =
+    let e : 4 - suc left ≡ 3 - left = omega arith in
+    let few' = subst (λ (n : ℕ). number < 512 ^ n) e few in
+    let met' = subst (λ (n : ℕ). reach words root n number ≡ Some place) e met in (
+      (λ page from to. absurd (omega (arith, from, to))),
+      entries_all (IsWalked words root) words (lines_under words left) (3 - left) number place 512 (λ index within.
+          all_both (IsWalked words root) (large_lines (512 * number + index) (large_entry_of words (3 - left) place index)) (lines_below (lines_under words left) (512 * number + index) (step words (3 - left) place index))
+          (entry_large words root left number index place (omega (arith, low)) within few' met')
+          (below_walked words root left (512 * number + index) (step words (3 - left) place index) (step_met words root left number index place (omega (arith, low)) within met')
+          (λ next arrived. under_walked words root left (512 * number + index) next (omega (arith, low)) (few_more left number index (omega (arith, low)) within few') arrived))),
+    )

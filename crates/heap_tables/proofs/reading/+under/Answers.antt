@@ -1,0 +1,20 @@
+use Rattle.std.proofs.Common.{◌≡◌, ◌≤◌, ℕ, ◌-◌, ◌%◌, List, [], ◌∷◌, ◌++◌, sym, ◌∙◌, ap, arith}
+use Rattle.paging_core.specs.Walk.{place_of}
+use Rattle.heap_tables.specs.declared.lines.Line.{Line}
+use Rattle.heap_tables.specs.Lines.{line_of, first_page, entries_lines, lines_under}
+use Rattle.heap_tables.proofs.Under.{under_table}
+use Rattle.heap_tables.proofs.reading.+under.Goals as goal
+
+-- a table, and what its 512 entries lead to
+pub push_under-returns : goal.push_under-returns
+push_under-returns t c =
+    let frames = c.args.frames.now in
+    let left = c.args.left in
+    let number = c.args.number in
+    let place = place_of c.args.place.now in
+    let old = c.args.lines.now.items in
+    let all : c.loop-index.index ≡ 512 = omega (arith, c.loop-index-test.false, c.loop-index.auto.index-end) in
+    let some : 1 ≤ left = omega (arith, c.if-left-eq0.false) in
+    c.loop-index.invariant
+    ∙ ap (λ (n : ℕ). old ++ (line_of (4 - left) (number % 512) (first_page left number) (first_page left number) place ∷ entries_lines frames (lines_under frames (left - 1)) (4 - left) number place n)) all
+    ∙ ap (λ (ls : List Line). old ++ ls) (sym (under_table frames left number place some))

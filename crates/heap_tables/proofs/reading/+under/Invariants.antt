@@ -1,0 +1,13 @@
+use Rattle.std.proofs.Common.{◌≡◌, ◌+◌, ◌*◌, ◌-◌, ◌%◌, ◌++◌, ◌∷◌, []}
+use Rattle.paging_core.specs.Walk.{place_of}
+use Rattle.heap_tables.specs.Lines.{line_of, first_page, entries_lines, lines_under}
+use Rattle.heap_tables.proofs.reading.+under.Given as goal
+
+abbrev pub decreases-push_entry : goal.decreases-push_entry
+decreases-push_entry l = 2 * l.left
+
+abbrev pub decreases-push_under : goal.decreases-push_under
+decreases-push_under l = 2 * l.left + 1
+
+abbrev pub invariant-push_under-loop-index : goal.invariant-push_under-loop-index
+invariant-push_under-loop-index l = l.lines.items ≡ l.fn.lines.items ++ (line_of (4 - l.left) (l.number % 512) (first_page l.left l.number) (first_page l.left l.number) (place_of l.place) ∷ [] ++ entries_lines l.frames (lines_under l.frames (l.left - 1)) (4 - l.left) l.number (place_of l.place) l.index)

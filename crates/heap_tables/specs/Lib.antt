@@ -1,0 +1,6 @@
+pub mod Joining
+pub mod Lines
+pub mod Rows
+pub mod Tables
+pub mod Uses
+pub mod Walked

@@ -1,0 +1,37 @@
+-- What the lines of page tables say is what walks find.
+use Rattle.std.specs.Prelude.{◌≡◌, ◌<◌, ◌≤◌, ℕ, ◌+◌, ◌-◌, ◌^◌, Bool, false, ◌&&◌, nat_le, nat_lt, List, [], ◌∷◌, Some, None, ⊤}
+use Rattle.std.specs.List.{list_any, AllByRecursion}
+use Rattle.paging_core.specs.Walk.{Place, walk_of}
+use Rattle.heap_tables.specs.declared.lines.Line.{Line}
+use Rattle.heap_tables.specs.Joining.{goes_on, lines_of}
+
+-- where a line says that a page is
+abbrev pub place_in : Line → ℕ → Place
+place_in line page = record { frame = line.frame + (page - line.page); write = line.rights.write; user = line.rights.user; fetch = line.rights.fetch }
+
+-- the walk of each page of a line ends where the line says, with these rights
+abbrev pub IsWalked : List ℕ → ℕ → Line → Type 0
+IsWalked words root line = (page : ℕ) → line.page ≤ page → page < line.end → walk_of words root page ≡ Some (place_in line page)
+
+-- whether a page is one of a line
+abbrev pub has_page : ℕ → Line → Bool
+has_page page line = nat_le line.page page && nat_lt page line.end
+
+-- Each page is in its line: what a line says of its pages the walk finds, and a page that is in no line is not mapped.
+pub record AreWalked (words : List ℕ) (root : ℕ) (lines : List Line) : Type 0 where
+  pub said : AllByRecursion (IsWalked words root) lines
+  pub unsaid : (page : ℕ) → page < 2 ^ 36 → list_any (has_page page) lines ≡ false → walk_of words root page ≡ None
+
+-- no line goes on where the one before it ends: the lines are as great as can be
+abbrev pub AreGreatest : List Line → Type 0
+AreGreatest [] = ⊤
+AreGreatest (line ∷ []) = ⊤
+AreGreatest (line ∷ next ∷ lines) = (goes_on line next ≡ false) × AreGreatest (next ∷ lines)
+
+-- so are the lines of page tables, whatever words they have
+pub record AreLines (words : List ℕ) (root : ℕ) : Type 0 where
+  pub walked : AreWalked words root (lines_of words root)
+  pub greatest : AreGreatest (lines_of words root)
+
+abbrev pub EachPageIsInItsLine : Type 0
+EachPageIsInItsLine = (words : List ℕ) (root : ℕ) → AreLines words root

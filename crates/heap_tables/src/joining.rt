@@ -1,0 +1,69 @@
+// Lines that go on, as one.
+ghost use Rattle.std.specs.Prelude.{◌≡◌, IfOk};
+ghost use Rattle.heap_tables.specs.Joining.{same, same_rights, goes_on, with_next, joined};
+
+use crate::lines::Line;
+use paging_core::Rights;
+use std::alloc::{AllocError, Global};
+
+fn same(one: bool, other: bool) -> bool
+    ensures { result ≡ same one other }
+{
+    if one { other } else { !other }
+}
+
+/// Whether two rights are equal.
+pub fn same_rights(one: Rights, other: Rights) -> bool
+    ensures { result ≡ same_rights one other }
+{
+    same(one.write, other.write) && (same(one.user, other.user) && same(one.fetch, other.fetch))
+}
+
+// Whether pages go on where those of a line end.
+fn goes_on(line: Line, next: Line) -> bool
+    ensures { result ≡ goes_on line next }
+{
+    line.page < line.end
+        && (next.page < next.end
+            && (line.end == next.page
+                && (u128::from(line.frame) + u128::from(line.end - line.page)
+                    == u128::from(next.frame)
+                    && (line.steps == next.steps && same_rights(line.rights, next.rights)))))
+}
+
+// A line with the pages of the next one.
+fn with_next(line: Line, next: Line) -> Line
+    ensures { result ≡ with_next line next }
+{
+    Line {
+        steps: line.steps,
+        index: line.index,
+        page: line.page,
+        end: next.end,
+        frame: line.frame,
+        rights: line.rights,
+    }
+}
+
+/// The lines, where those that go on are one.
+#[tactic(auto, using(crate::proofs::Joins::lines_step, crate::proofs::Joins::lines_last, crate::proofs::Joins::lines_first, std::proofs::lemmas::Grind::common_steps))]
+pub fn joined(alloc: Global, lines: &[Line]) -> Result<Vec<Line>, AllocError>
+    ensures { IfOk result (λ all. all.items ≡ joined lines.now) }
+{
+    let mut all = Vec::new(alloc);
+    if lines.is_empty() {
+        return Ok(all);
+    }
+    let mut line = lines[0];
+    for place in 1..lines.len() {
+        let next = lines[place];
+        if goes_on(line, next) {
+            line = with_next(line, next);
+        } else {
+            all.push(line)?;
+            line = next;
+        }
+    }
+    all.push(line)?;
+    Ok(all)
+}

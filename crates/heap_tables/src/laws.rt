@@ -1,0 +1,15 @@
+// What the definitions of the lines come to.
+ghost use Rattle.heap_tables.specs.Uses.{EachFrameIsCountedOnce};
+ghost use Rattle.heap_tables.specs.Walked.{EachPageIsInItsLine};
+
+/// Each page is in its line: what a line says of its pages is what walks find, and a page in no line is not mapped. The
+/// lines are as great as can be.
+pub fn each_page_is_in_its_line()
+    ensures { EachPageIsInItsLine }
+{}
+
+/// Each frame is counted for one use: the counts of tables, of large pages, of pages and of free frames are together as many
+/// as there are frames.
+pub fn each_frame_is_counted_once()
+    ensures { EachFrameIsCountedOnce }
+{}

@@ -1,0 +1,159 @@
+// The lines of page tables, read from their words.
+ghost use Rattle.std.specs.Prelude.{◌≡◌, ◌+◌, ◌-◌, ◌*◌, ◌<◌, ◌≤◌, ◌^◌, ◌++◌, ◌∷◌, [], IfOk, OnOk};
+ghost use Rattle.std.specs.Option.{option_map};
+ghost use Rattle.paging_core.specs.Memory.{frame_count};
+ghost use Rattle.paging_core.specs.Walk.{place_of, step, top};
+ghost use Rattle.heap_tables.specs.Lines.{line_of, large_lines, large_entry_of, first_page, entry_lines, entries_lines, lines_under, entry_lines_of};
+ghost use Rattle.heap_tables.specs.Joining.{lines_of};
+ghost use Rattle.heap_tables.specs.Walked.{AreWalked, AreLines};
+
+use crate::entries::{large_entry_of, next};
+use crate::joining::joined;
+use crate::lines::Line;
+use paging_core::{Frames, Mapped, PhysFrame, Rights};
+use std::alloc::{AllocError, Global};
+
+// A frame with all rights, as each table is met.
+fn top(frame: PhysFrame) -> Mapped
+    ensures { place_of result ≡ top frame }
+{
+    Mapped {
+        frame,
+        write: true,
+        user: true,
+        fetch: true,
+    }
+}
+
+// Puts the line of a place at the end, at which a walk arrives.
+fn push_line(
+    lines: &mut Vec<Line>,
+    steps: u32,
+    index: u64,
+    page: u64,
+    end: u64,
+    place: &Mapped,
+) -> Result<(), AllocError>
+    ensures { OnOk result (lines.new.items ≡ lines.old.items ++ line_of steps index page end (place_of place.now) ∷ []) }
+{
+    lines.push(Line {
+        steps,
+        index,
+        page,
+        end,
+        frame: place.frame.number(),
+        rights: Rights {
+            write: place.write,
+            user: place.user,
+            fetch: place.fetch,
+        },
+    })?;
+    Ok(())
+}
+
+// The first page below a place at which so many entries more lead to pages.
+fn first_page(left: u32, number: u64) -> u64
+    requires left { left ≤ 4 }
+    requires number { number < 512 ^ (4 - left) }
+    ensures { result ≡ first_page left number }
+{
+    match left {
+        0 => number,
+        1 => 512 * number,
+        2 => 262_144 * number,
+        3 => 134_217_728 * number,
+        _ => 0,
+    }
+}
+
+// Puts the line of a large page at the end, if there is one.
+fn push_large(lines: &mut Vec<Line>, number: u64, large: Option<Mapped>) -> Result<(), AllocError>
+    requires { number < 2 ^ 36 }
+    ensures { OnOk result (lines.new.items ≡ lines.old.items ++ large_lines number (option_map place_of large)) }
+{
+    match large {
+        Some(place) => {
+            let page = 512 * number;
+            push_line(lines, 3, number % 512, page, page + 512, &place)
+        }
+        None => Ok(()),
+    }
+}
+
+// The indices of a table and of an entry of it, as a number in base 512; from the table so many entries lead to pages.
+fn below_of(left: u32, number: u64, index: u64) -> u64
+    requires left { (1 ≤ left) × (left ≤ 4) }
+    requires number { number < 512 ^ (4 - left) }
+    requires index { index < 512 }
+    ensures value { result ≡ 512 * number + index }
+    ensures few { result < 512 ^ (4 - (left - 1)) }
+    ensures low { result < 2 ^ 36 }
+{
+    let below = 512 * number + index;
+    below
+}
+
+// Puts what an entry leads to at the end, of a table from which so many entries lead to pages.
+#[cycle(under)]
+fn push_entry(
+    lines: &mut Vec<Line>,
+    frames: &Frames,
+    left: u32,
+    number: u64,
+    table: &Mapped,
+    index: u64,
+) -> Result<(), AllocError>
+    requires left { (1 ≤ left) × (left ≤ 4) }
+    requires number { number < 512 ^ (4 - left) }
+    requires table { table.now.frame < frame_count frames.now }
+    requires index { index < 512 }
+    ensures { OnOk result (lines.new.items ≡ lines.old.items ++ entry_lines frames.now (lines_under frames.now (left - 1)) (4 - left) number (place_of table.now) index) }
+{
+    let level = 4 - left;
+    let below = below_of(left, number, index);
+    let large = large_entry_of(frames, level, table, index as u16);
+    push_large(lines, below, large)?;
+    match next(frames, level, table, index as u16) {
+        Some(place) => push_under(lines, frames, left - 1, below, &place),
+        None => Ok(()),
+    }
+}
+
+// Puts a place at the end, and what is below it.
+#[cycle(under)]
+#[tactic(auto, using(crate::proofs::Numbers::few_pages, crate::proofs::Under::under_page, crate::proofs::Under::under_table, crate::proofs::Steps::entries_step, std::proofs::lemmas::Grind::common_steps))]
+fn push_under(
+    lines: &mut Vec<Line>,
+    frames: &Frames,
+    left: u32,
+    number: u64,
+    place: &Mapped,
+) -> Result<(), AllocError>
+    requires left { left ≤ 4 }
+    requires number { number < 512 ^ (4 - left) }
+    requires place { place.now.frame < frame_count frames.now }
+    ensures { OnOk result (lines.new.items ≡ lines.old.items ++ lines_under frames.now left number (place_of place.now)) }
+{
+    if left == 0 {
+        return push_line(lines, 4, number % 512, number, number + 1, place);
+    }
+    let page = first_page(left, number);
+    push_line(lines, 4 - left, number % 512, page, page, place)?;
+    for index in 0..512 {
+        push_entry(lines, frames, left, number, place, index)?;
+    }
+    Ok(())
+}
+
+/// The lines of page tables: the root and each table, and below it what its entries lead to, in order. What a line says of
+/// its pages is what [`paging_core::walk`] finds, and a page in no line is not mapped.
+pub fn table_lines(alloc: Global, frames: &Frames, root: PhysFrame) -> Result<Vec<Line>, AllocError>
+    requires { root < frame_count frames.now }
+    ensures lines { IfOk result (λ lines. lines.items ≡ lines_of frames.now root) }
+    ensures walked { IfOk result (λ lines. AreWalked frames.now root lines.items) }
+{
+    let mut lines = Vec::new(alloc);
+    push_under(&mut lines, frames, 4, 0, &top(root))?;
+    let all = joined(alloc, &lines)?;
+    Ok(all)
+}

@@ -1,0 +1,262 @@
+// Lines of page tables as rows of a drawing.
+ghost use Rattle.std.specs.Prelude.{◌≡◌, ◌<◌, ◌+◌, ◌-◌, ◌^◌, ◌++◌, OnOk, string_bytes};
+ghost use Rattle.heap_tables.specs.Rows.{pages_of, is_table, is_large, entries_of, frames_of, address_of, line_class, pages_words, line_words, right_words, rights_words, frames_words, entries_words, line_title, guides_text, left_of, words_text, strip_text, row_text};
+
+use crate::lines::Line;
+use heap_map::{Area, push_address, push_commas, push_rect, push_text, push_titled};
+use paging_core::Rights;
+use std::alloc::{AllocError, Global};
+
+/// How many pages a line maps.
+pub fn pages_of(line: Line) -> u64
+    ensures { result ≡ pages_of line }
+{
+    line.end.saturating_sub(line.page)
+}
+
+/// Whether a line is that of a table.
+pub fn is_table(line: Line) -> bool
+    ensures { result ≡ is_table line }
+{
+    pages_of(line) == 0
+}
+
+/// Whether a line of pages is one of large pages.
+pub fn is_large(line: Line) -> bool
+    ensures { result ≡ is_large line }
+{
+    line.steps == 3
+}
+
+// How many entries lead to a line.
+fn entries_of(line: Line) -> u64
+    ensures { result ≡ entries_of line }
+{
+    if is_table(line) {
+        1
+    } else if is_large(line) {
+        pages_of(line) / 512
+    } else {
+        pages_of(line)
+    }
+}
+
+/// How many frames a line has.
+pub fn frames_of(line: Line) -> u64
+    ensures { result ≡ frames_of line }
+{
+    pages_of(line).max(1)
+}
+
+// The address of a page.
+fn address_of(page: u64) -> u64
+    ensures { result ≡ address_of page }
+{
+    let low = page % 0x10_0000_0000;
+    if low < 0x8_0000_0000 {
+        low * 4096
+    } else {
+        low * 4096 + 0xffff_0000_0000_0000
+    }
+}
+
+/// The colour of a line.
+pub fn line_class(line: Line) -> &'static str
+    ensures { result.now ≡ line_class line }
+{
+    if is_table(line) {
+        "o"
+    } else if is_large(line) {
+        "l"
+    } else {
+        "u"
+    }
+}
+
+#[tactic(auto, unfolding(crate::specs::Rows::pages_words))]
+fn push_pages_words(out: &mut String, line: Line) -> Result<(), AllocError>
+    ensures { OnOk result (string_bytes out.new ≡ string_bytes out.old ++ pages_words line) }
+{
+    let entries = entries_of(line);
+    push_commas(out, u128::from(entries))?;
+    if is_large(line) {
+        return out.push_str(if entries == 1 {
+            " large page"
+        } else {
+            " large pages"
+        });
+    }
+    out.push_str(if entries == 1 { " page" } else { " pages" })
+}
+
+#[tactic(auto, unfolding(crate::specs::Rows::line_words))]
+fn push_line_words(out: &mut String, line: Line) -> Result<(), AllocError>
+    ensures { OnOk result (string_bytes out.new ≡ string_bytes out.old ++ line_words line) }
+{
+    if is_table(line) {
+        if line.steps == 0 {
+            return out.push_str("root table");
+        }
+        out.push_str("table from ")?;
+        return push_address(out, address_of(line.page));
+    }
+    push_address(out, address_of(line.page))?;
+    out.push_str(" + ")?;
+    push_pages_words(out, line)
+}
+
+// The letter of a right, if it is granted.
+fn right_words(granted: bool, letter: &'static str) -> &'static str
+    ensures { result.now ≡ right_words granted letter.now }
+{
+    if granted { letter } else { "-" }
+}
+
+#[tactic(auto, unfolding(crate::specs::Rows::rights_words))]
+fn push_rights(out: &mut String, rights: Rights) -> Result<(), AllocError>
+    ensures { OnOk result (string_bytes out.new ≡ string_bytes out.old ++ rights_words rights) }
+{
+    let write = right_words(rights.write, "w");
+    let user = right_words(rights.user, "u");
+    let fetch = right_words(rights.fetch, "x");
+    write!(out, "r{write}{user}{fetch}")
+}
+
+// The last of so many numbers from one on.
+fn last_of(first: u64, count: u64) -> u128
+    ensures { result ≡ first + count - 1 }
+{
+    (u128::from(first) + u128::from(count)).saturating_sub(1)
+}
+
+#[tactic(auto, unfolding(crate::specs::Rows::frames_words))]
+fn push_frames(out: &mut String, line: Line) -> Result<(), AllocError>
+    ensures { OnOk result (string_bytes out.new ≡ string_bytes out.old ++ frames_words line) }
+{
+    let frames = frames_of(line);
+    if frames == 1 {
+        out.push_str("frame ")?;
+        return push_commas(out, u128::from(line.frame));
+    }
+    out.push_str("frames ")?;
+    push_commas(out, u128::from(line.frame))?;
+    out.push_str(" to ")?;
+    push_commas(out, last_of(line.frame, frames))
+}
+
+#[tactic(auto, unfolding(crate::specs::Rows::entries_words))]
+fn push_entries(out: &mut String, line: Line) -> Result<(), AllocError>
+    ensures { OnOk result (string_bytes out.new ≡ string_bytes out.old ++ entries_words line) }
+{
+    let entries = entries_of(line);
+    if entries == 1 {
+        out.push_str("entry ")?;
+        return push_commas(out, u128::from(line.index));
+    }
+    out.push_str("entries ")?;
+    push_commas(out, u128::from(line.index))?;
+    out.push_str(" to ")?;
+    push_commas(out, last_of(line.index, entries))
+}
+
+#[tactic(auto, unfolding(crate::specs::Rows::line_title))]
+fn push_title(out: &mut String, line: Line) -> Result<(), AllocError>
+    ensures { OnOk result (string_bytes out.new ≡ string_bytes out.old ++ line_title line) }
+{
+    push_line_words(out, line)?;
+    out.push_str(", ")?;
+    push_rights(out, line.rights)?;
+    out.push_str(", ")?;
+    push_frames(out, line)
+}
+
+// Puts a thin line below each of so many tables at the end.
+#[tactic(auto, using(crate::proofs::Steps::guides_step, std::proofs::lemmas::Grind::common_steps))]
+fn push_guides(out: &mut String, y: u128, steps: u32) -> Result<(), AllocError>
+    ensures { OnOk result (string_bytes out.new ≡ string_bytes out.old ++ guides_text y steps) }
+{
+    for step in 0..steps {
+        let area = Area {
+            x: 30 + 24 * u128::from(step),
+            y,
+            width: 1,
+            height: 22,
+        };
+        push_rect(out, "line", area)?;
+    }
+    Ok(())
+}
+
+// The place of a line.
+fn left_of(line: Line) -> u128
+    ensures value { result ≡ left_of line }
+    ensures few { result < 2 ^ 40 }
+{
+    24 + 24 * u128::from(line.steps)
+}
+
+// Puts what stands in a row at the end.
+#[tactic(auto, unfolding(crate::specs::Rows::words_text))]
+fn push_words(alloc: Global, out: &mut String, y: u128, line: Line) -> Result<(), AllocError>
+    requires { y < 2 ^ 100 }
+    ensures { OnOk result (string_bytes out.new ≡ string_bytes out.old ++ words_text y line) }
+{
+    let left = left_of(line);
+    let area = Area {
+        x: left,
+        y: y + 4,
+        width: 12,
+        height: 14,
+    };
+    let mut title = String::new(alloc);
+    push_title(&mut title, line)?;
+    push_titled(out, line_class(line), area, title.as_str())?;
+    let mut words = String::new(alloc);
+    push_line_words(&mut words, line)?;
+    push_text(out, "m", left + 20, y + 15, words.as_str())?;
+    let mut rights = String::new(alloc);
+    push_rights(&mut rights, line.rights)?;
+    push_text(out, "m faint", 372, y + 15, rights.as_str())?;
+    let mut frames = String::new(alloc);
+    push_frames(&mut frames, line)?;
+    push_text(out, "m faint", 412, y + 15, frames.as_str())
+}
+
+// Puts the entries of a line at the end, as a part of their table.
+#[tactic(auto, unfolding(crate::specs::Rows::strip_text))]
+fn push_strip(alloc: Global, out: &mut String, y: u128, line: Line) -> Result<(), AllocError>
+    requires { y < 2 ^ 100 }
+    ensures { OnOk result (string_bytes out.new ≡ string_bytes out.old ++ strip_text y line) }
+{
+    if line.steps == 0 {
+        return Ok(());
+    }
+    let mut entries = String::new(alloc);
+    push_entries(&mut entries, line)?;
+    push_text(out, "m e faint", 756, y + 15, entries.as_str())?;
+    let ground = Area {
+        x: 768,
+        y: y + 8,
+        width: 512,
+        height: 6,
+    };
+    push_rect(out, "line", ground)?;
+    let area = Area {
+        x: 768 + u128::from(line.index),
+        y: y + 5,
+        width: u128::from(entries_of(line)),
+        height: 12,
+    };
+    push_titled(out, line_class(line), area, entries.as_str())
+}
+
+/// Puts a row at the end.
+#[tactic(auto, unfolding(crate::specs::Rows::row_text))]
+pub fn push_row(alloc: Global, out: &mut String, y: u128, line: Line) -> Result<(), AllocError>
+    requires { y < 2 ^ 100 }
+    ensures { OnOk result (string_bytes out.new ≡ string_bytes out.old ++ row_text y line) }
+{
+    push_guides(out, y, line.steps)?;
+    push_words(alloc, out, y, line)?;
+    push_strip(alloc, out, y, line)
+}
