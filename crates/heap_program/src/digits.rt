@@ -97,7 +97,7 @@ fn digits_of(bytes: &[u8; 32]) -> [u8; 64]
     digits
 }
 
-// These bytes, and zeros behind them.
+// These bytes, and zeros after them.
 fn padded(bytes: &[u8]) -> [u8; 32]
     requires { length bytes.now ≤ 32 }
     ensures { take (length bytes.now) result ≡ bytes.now }
