@@ -2,8 +2,8 @@
 
 from xml.sax.saxutils import escape
 
-# Of a letter of the two faces, in pixels.
-MONO, SANS = 7.8, 6.6
+# Of a letter of a fixed width, in pixels.
+MONO = 7.8
 STYLE = """\
     text { font: 13px ui-monospace, Menlo, Consolas, monospace; fill: #1f2328; }
     .say { font-family: system-ui, "Segoe UI", Helvetica, Arial, sans-serif; }
@@ -47,6 +47,10 @@ def text(x, y, words, kind="", end=False):
 
 def box(x, y, width, height, kind="group", radius=6):
     return f'  <rect class="{kind}" x="{x:g}" y="{y:g}" width="{width:g}" height="{height:g}" rx="{radius}"/>'
+
+
+def line(x, y, to_x, to_y, kind):
+    return f'  <path class="{kind}" d="M {x:g} {y:g} L {to_x:g} {to_y:g}"/>'
 
 
 def arrow(x, y, to_x, to_y):
