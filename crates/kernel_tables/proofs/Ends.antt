@@ -1,6 +1,7 @@
 -- What the end of a page's walk tells of the causes.
 use Rattle.std.proofs.Common.{◌/◌, ◌≡◌, ℕ, Bool, true, List, Option, Some, None, refl, sym, ap, ◌∙◌, arith, ltb, false}
 use Rattle.std.proofs.lemmas.Bool.Decides.{nat_tests}
+use Rattle.std.specs.Prelude.{IsSome}
 use Rattle.paging_core.specs.Area.{Area, in_area}
 use Rattle.paging_core.specs.Missing.{missing_of}
 use Rattle.paging_core.specs.Pool.{free_count}
@@ -16,6 +17,7 @@ use Rattle.paging_core.proofs.Reach.{table_none}
 use Rattle.kernel_tables.specs.Faults.{map_fault, entry_fault, split_of}
 use Rattle.kernel_tables.specs.TableState.{TableState, leads}
 use Rattle.kernel_tables.proofs.RangeChanged.{not_split}
+use Rattle.kernel_tables.proofs.RangeTests.{some_is}
 use Rattle.kernel_tables.specs.declared.faults.MapFault.TheVariants.{IsMapped}
 
 -- where the page leads whose walk ends so
@@ -32,13 +34,17 @@ leads_at state page (Large met) is = is.1
 leads_at state page (Missing tables) is = is.1
 
 -- a page with an entry is part of no large page
-pub entry_whole : (state : TableState) (page table index : ℕ) → IsEntryOf state.words state.root page table index → split_of state page ≡ 0
-entry_whole state page table index entry =
+pub entry_alone : (state : TableState) (page table index : ℕ) → IsEntryOf state.words state.root page table index → large_of state.words state.root (slot_of (page / 512)) ≡ None
+entry_alone state page table index entry =
     let e : slot_of (page / 512) ≡ prefix_of page 3 = omega arith in
-    not_split state page (ap (large_of state.words state.root) e ∙ table_none state.words state.root (prefix_of page 3) entry.met entry.reached)
+    ap (large_of state.words state.root) e ∙ table_none state.words state.root (prefix_of page 3) entry.met entry.reached
 
-pub entry_open : (state : TableState) (page : ℕ) (place : Place) → leads state page ≡ Some place → split_of state page ≡ 0 → entry_fault state page ≡ None
-entry_open state page place is whole = rw (is, none (free_count state.free) (split_of state page) whole) refl
+pub end_leads : (state : TableState) (page : ℕ) (end : WalkEnd) → IsWalkEnd state.words state.root page end → IsSome (place_at end) → IsSome (leads state page)
+end_leads state page end is some = rw (leads_at state page end is) some
+
+-- so nothing hinders its change
+pub alone_open : (state : TableState) (page : ℕ) → IsSome (leads state page) → large_of state.words state.root (slot_of (page / 512)) ≡ None → entry_fault state page ≡ None
+alone_open state page some alone = rw (some_is (leads state page) some, none (free_count state.free) (split_of state page) (not_split state page alone)) refl
   where
     none : (a b : ℕ) → b ≡ 0 → ltb a b ≡ false
     none a b e = grind (arith, nat_tests)

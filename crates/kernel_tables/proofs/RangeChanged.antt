@@ -282,6 +282,19 @@ table_there words root page some small = go (some_or_none (reach words root 3 (p
         let w : walk_of words root page ≡ None = walk_reach words root page ∙ reach_none words root (prefix_of page 4) (rw up none) (rw up l) in
         absurd (is_hole (walk_of words root page) w some)
 
+-- a page that is mapped, and whose slot has no table, is part of a large page
+pub large_there : (words : List ℕ) (root page : ℕ) → IsSome (walk_of words root page) → reach words root 3 (prefix_of page 3) ≡ None →
+    IsSome (large_of words root (slot_of (page / 512)))
+large_there words root page some none = go (some_or_none (large_of words root (slot_of (page / 512))))
+  where
+    go : ((x : Place) × (large_of words root (slot_of (page / 512)) ≡ Some x)) ⊎ (large_of words root (slot_of (page / 512)) ≡ None) → IsSome (large_of words root (slot_of (page / 512)))
+    go (inl x) = rw x.1 refl
+    go (inr l) =
+        let up : prefix_of page 4 / 512 ≡ prefix_of page 3 = omega arith in
+        let at : slot_of (page / 512) ≡ prefix_of page 3 = omega arith in
+        let w : walk_of words root page ≡ None = walk_reach words root page ∙ reach_none words root (prefix_of page 4) (rw up none) (rw (up, sym at) l) in
+        absurd (is_hole (walk_of words root page) w some)
+
 -- each page of a large page that got rights has them
 pub slot_granted : (old new : List ℕ) (root page : ℕ) (rights : Rights) → AreLargeGranted old new root page rights → (k : ℕ) → k < 512 →
     IfSome (walk_of old root (512 * page + k)) (λ was. walk_of new root (512 * page + k) ≡ Some (granted was.frame rights))

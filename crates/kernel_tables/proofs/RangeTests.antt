@@ -60,6 +60,18 @@ pub found_there : (o : Option Mapped) (p : Option Place) → option_map place_of
 found_there None p e t = absurd (cc)
 found_there (Some x) p e t = rw (← e) (let h : IsSome (Some (place_of x)) = refl in h)
 
+pub is_there : {A : Type 0} (o : Option A) → is_some o ≡ true → IsSome o
+is_there None e = absurd (cc)
+is_there (Some x) e = refl
+
+pub is_nothing : {A : Type 0} (o : Option A) → is_some o ≡ false → o ≡ None
+is_nothing None e = refl
+is_nothing (Some x) e = absurd (cc)
+
+pub there_is : (o : Option Place) → IsSome o → is_some o ≡ true
+there_is None h = absurd (cc)
+there_is (Some x) h = refl
+
 pub none_is : (o : Option Place) → o ≡ None → is_none o ≡ true
 none_is o e = rw e refl
 
@@ -88,6 +100,22 @@ missing_here words root page level e = rw e refl
 
 present_here : (words : List ℕ) (root page level : ℕ) (met : Place) → reach words root level (prefix_of page level) ≡ Some met → missing_at words root page level ≡ 0
 present_here words root page level met e = rw e refl
+
+-- a page misses at most three tables
+one_at_most : (words : List ℕ) (root page level : ℕ) → missing_at words root page level ≤ 1
+one_at_most words root page level = go (some_or_none (reach words root level (prefix_of page level)))
+  where
+    go : ((x : Place) × (reach words root level (prefix_of page level) ≡ Some x)) ⊎ (reach words root level (prefix_of page level) ≡ None) → missing_at words root page level ≤ 1
+    go (inl x) = let e = present_here words root page level x.0 x.1 in omega (arith, e)
+    go (inr none) = let e = missing_here words root page level none in omega (arith, e)
+
+pub few_missing : (words : List ℕ) (root page missing : ℕ) → missing ≡ missing_of words root page 1 → missing ≤ 3
+few_missing words root page missing is =
+    let c = missing_one words root page in
+    let one = one_at_most words root page 1 in
+    let two = one_at_most words root page 2 in
+    let three = one_at_most words root page 3 in
+    omega arith
 
 -- Two pages below the same missing table: what the walks of both meet.
 abbrev Alike : List ℕ → ℕ → ℕ → ℕ → Type 0

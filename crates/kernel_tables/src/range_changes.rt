@@ -1,5 +1,5 @@
 //! The calls that change ranges of pages that are mapped.
-ghost use Rattle.std.specs.Prelude.{◌≡◌, ℕ, ◌+◌, ◌-◌, ◌*◌, ◌/◌, ◌%◌, ◌^◌, ◌<◌, ◌≤◌, true, false, None, Some, IsTrue, IsSome, IfSome, OnOk, OnErr, IfErr, if◌then◌else◌};
+ghost use Rattle.std.specs.Prelude.{◌≡◌, ℕ, ◌+◌, ◌-◌, ◌*◌, ◌/◌, ◌%◌, ◌^◌, ◌<◌, ◌≤◌, true, false, None, Some, IsTrue, IsFalse, IsSome, IfSome, OnOk, OnErr, IfErr, if◌then◌else◌};
 ghost use Rattle.paging_core.specs.Address.{is_canonical, IsCanonicalRange};
 ghost use Rattle.paging_core.specs.Large.{slot_of};
 ghost use Rattle.paging_core.specs.LargeChanges.{IsLargeSplit};
@@ -16,8 +16,8 @@ use crate::range_checks::slot_at;
 use crate::range_fault::RangeFault;
 use crate::tables::Tables;
 use paging_core::{
-    Page, PhysFrame, Rights, Size2MiB, protect_large, protect_page, split_large, unmap_large,
-    unmap_page,
+    Page, PhysFrame, Rights, Size2MiB, WalkEnd, clear_at, end_of_walk, protect_at, protect_large,
+    protect_page, split_large, unmap_large, unmap_page,
 };
 
 impl<'a> Tables<'a> {
@@ -99,6 +99,71 @@ impl<'a> Tables<'a> {
         unmap_page(&mut self.memory, self.root, page)
     }
 
+    /// Unmaps the page if it has an entry of its own, and answers its frame. None exactly if it has none: it is not mapped, or
+    /// it is part of a large page.
+    #[inline(always)]
+    pub(crate) fn clear_entry(&mut self, page: Page) -> Option<PhysFrame>
+        ensures some { IsSome result → IsSome (leads self.old page) × (large_of self.old.words self.old.root (slot_of (page / 512)) ≡ None) }
+        ensures none { result ≡ None → IsSome (leads self.old page) → IsSome (large_of self.old.words self.old.root (slot_of (page / 512))) }
+        ensures same { result ≡ None → self.new ≡ self.old }
+        ensures place { IsSamePlace self.old self.new }
+        ensures tables { DoTablesStay self.old self.new }
+        ensures free { self.new.free ≡ self.old.free }
+        ensures elsewhere { (other : ℕ) → IsTrue (is_canonical (other * 4096)) → (other ≡ page → ⊥) → leads self.new other ≡ leads self.old other }
+        ensures unmapped { IsSome result → leads self.new page ≡ None }
+        ensures frame { IfSome result (λ frame. IfSome (leads self.old page) (λ was. frame ≡ was.frame)) }
+        ensures removed { IsSome result → IsPageChanged self.old.words self.new.words self.old.root page removal }
+        ensures larges { (n : ℕ) → large_of self.new.words self.new.root n ≡ large_of self.old.words self.old.root n }
+    {
+        match end_of_walk(&self.memory, self.root, page) {
+            WalkEnd::Entry {
+                entry,
+                page: Some(met),
+            } => {
+                clear_at(&mut self.memory, self.root, page, entry.table, entry.index);
+                Some(met.frame)
+            }
+            WalkEnd::Large(_) => None,
+            _ => None,
+        }
+    }
+
+    /// Gives the page these rights if it has an entry of its own. False exactly if it has none: it is not mapped, or it is part
+    /// of a large page.
+    #[inline(always)]
+    pub(crate) fn grant_entry(&mut self, page: Page, rights: Rights) -> bool
+        ensures some { IsTrue result → IsSome (leads self.old page) × (large_of self.old.words self.old.root (slot_of (page / 512)) ≡ None) }
+        ensures none { IsFalse result → IsSome (leads self.old page) → IsSome (large_of self.old.words self.old.root (slot_of (page / 512))) }
+        ensures same { IsFalse result → self.new ≡ self.old }
+        ensures place { IsSamePlace self.old self.new }
+        ensures tables { DoTablesStay self.old self.new }
+        ensures free { self.new.free ≡ self.old.free }
+        ensures elsewhere { (other : ℕ) → IsTrue (is_canonical (other * 4096)) → (other ≡ page → ⊥) → leads self.new other ≡ leads self.old other }
+        ensures granted { IsTrue result → IfSome (leads self.old page) (λ was. leads self.new page ≡ Some (granted was.frame rights)) }
+        ensures changed { IsTrue result → IsPageChanged self.old.words self.new.words self.old.root page (regrant rights) }
+        ensures larges { (n : ℕ) → large_of self.new.words self.new.root n ≡ large_of self.old.words self.old.root n }
+    {
+        match end_of_walk(&self.memory, self.root, page) {
+            WalkEnd::Entry {
+                entry,
+                page: Some(met),
+            } => {
+                protect_at(
+                    &mut self.memory,
+                    self.root,
+                    page,
+                    entry.table,
+                    entry.index,
+                    met.frame,
+                    rights,
+                );
+                true
+            }
+            WalkEnd::Large(_) => false,
+            _ => false,
+        }
+    }
+
     /// Unmaps the large page.
     fn clear_slot(&mut self, slot: Page<Size2MiB>)
         requires { IsSome (large_of self.old.words self.old.root (slot_of slot)) }
@@ -154,13 +219,11 @@ impl<'a> Tables<'a> {
         let mut done = 0;
         while done < pages {
             let at = page.after(done);
-            let slot = slot_at(at);
-            if self.large_page(slot).is_some() {
-                self.clear_slot(slot);
-                done += 512;
-            } else {
-                self.clear_page(at);
+            if self.clear_entry(at).is_some() {
                 done += 1;
+            } else {
+                self.clear_slot(slot_at(at));
+                done += 512;
             }
         }
     }
@@ -179,13 +242,11 @@ impl<'a> Tables<'a> {
         let mut done = 0;
         while done < pages {
             let at = page.after(done);
-            let slot = slot_at(at);
-            if self.large_page(slot).is_some() {
-                self.grant_slot(slot, rights);
-                done += 512;
-            } else {
-                self.grant_page(at, rights);
+            if self.grant_entry(at, rights) {
                 done += 1;
+            } else {
+                self.grant_slot(slot_at(at), rights);
+                done += 512;
             }
         }
     }

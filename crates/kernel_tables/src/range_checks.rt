@@ -1,5 +1,5 @@
 //! What a range of pages meets: its lowest page that is mapped, and the tables that it wants.
-ghost use Rattle.std.specs.Prelude.{◌≡◌, ℕ, ◌+◌, ◌-◌, ◌*◌, ◌/◌, ◌%◌, ◌^◌, ◌<◌, ◌≤◌, None, IsTrue};
+ghost use Rattle.std.specs.Prelude.{◌≡◌, ℕ, ◌+◌, ◌-◌, ◌*◌, ◌/◌, ◌%◌, ◌^◌, ◌<◌, ◌≤◌, None, IsTrue, IsSome};
 ghost use Rattle.paging_core.specs.Address.{is_canonical, IsCanonicalRange};
 ghost use Rattle.paging_core.specs.Missing.{missing_of};
 ghost use Rattle.paging_core.specs.Prefix.{prefix_of};
@@ -9,7 +9,9 @@ ghost use Rattle.kernel_tables.specs.TableState.{leads};
 
 use crate::range_fault::RangeFault;
 use crate::tables::Tables;
-use paging_core::{Page, PhysFrame, PhysicalMemory, Size2MiB, has_table, missing_tables, walk};
+use paging_core::{
+    Page, PhysFrame, PhysicalMemory, Size2MiB, WalkEnd, end_of_walk, has_table, missing_tables,
+};
 
 /// Whether the pages, of which there are some, lie in one canonical half.
 pub(crate) fn lies_in_half(page: Page, pages: u64) -> bool
@@ -44,18 +46,32 @@ impl<'a> Tables<'a> {
         missing
     }
 
-    /// The end of a run of pages from this one on: if it is not mapped, none of them is, and if its slot has no table, none of
-    /// theirs has.
-    fn alike_until(&self, page: Page) -> u64
+    /// The end of a run of pages from this one on, which misses so many tables: if it is not mapped, none of them is, and if its
+    /// slot has no table, none of theirs has.
+    fn alike_until(&self, page: Page, missing: u64) -> u64
+        requires missing { missing ≡ missing_of self.now.words self.now.root page 1 }
         ensures more { page < result }
+        ensures bounded { result ≤ page + 2 ^ 27 }
         ensures unmapped { leads self.now page ≡ None → (other : ℕ) → page ≤ other → other < result → leads self.now other ≡ None }
         ensures no_table { reach self.now.words self.now.root 3 (prefix_of page 3) ≡ None →
             (result % 512 ≡ 0) × ((other : ℕ) → page ≤ other → other < result → reach self.now.words self.now.root 3 (prefix_of other 3) ≡ None) }
     {
         let number = page.number();
-        let missing = missing_tables(&self.memory, self.root, number, 1);
         let block = 1u64 << (9 * missing);
         number - number % block + block
+    }
+
+    /// How many pages from this one on are seen to be unmapped: none if the page is mapped.
+    fn pages_unmapped(&self, page: Page) -> u64
+        ensures none { result ≡ 0 → IsSome (leads self.now page) }
+        ensures bounded { result ≤ 2 ^ 27 }
+        ensures unmapped { (k : ℕ) → k < result → leads self.now (page + k) ≡ None }
+    {
+        match end_of_walk(&self.memory, self.root, page) {
+            WalkEnd::Entry { page: None, .. } => 1,
+            WalkEnd::Missing(tables) => self.alike_until(page, tables) - page.number(),
+            _ => 0,
+        }
     }
 
     /// The lowest page of the range that is mapped.
@@ -66,10 +82,11 @@ impl<'a> Tables<'a> {
         let mut done = 0;
         while done < pages {
             let at = page.after(done);
-            if walk(&self.memory, self.root, at).is_some() {
+            let unmapped = self.pages_unmapped(at);
+            if unmapped == 0 {
                 return Some(at);
             }
-            done = self.alike_until(at) - page.number();
+            done += unmapped;
         }
         None
     }
@@ -90,7 +107,8 @@ impl<'a> Tables<'a> {
             if has_table(&self.memory, self.root, slot_at(at)) {
                 slot += 1;
             } else {
-                let next = (self.alike_until(at) / 512).min(end);
+                let missing = missing_tables(&self.memory, self.root, at.number(), 1);
+                let next = (self.alike_until(at, missing) / 512).min(end);
                 count += next - slot;
                 slot = next;
             }

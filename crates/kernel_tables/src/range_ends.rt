@@ -7,19 +7,20 @@ ghost use Rattle.kernel_tables.specs.TableState.{leads};
 use crate::range_checks::{lies_in_half, slot_at};
 use crate::range_fault::RangeFault;
 use crate::tables::Tables;
-use paging_core::{Page, large_page, walk};
+use paging_core::{Page, WalkEnd, end_of_walk, large_page};
 
 impl<'a> Tables<'a> {
-    /// How many pages from this one on are mapped by its entry, if it is mapped.
+    /// How many pages from this one on its entry maps: none if the page is not mapped.
     fn pages_of_entry(&self, page: Page) -> u64
-        ensures some { 0 < result }
+        ensures none { result ≡ 0 → leads self.now page ≡ None }
         ensures bounded { result ≤ 512 }
-        ensures mapped { IsSome (leads self.now page) → (k : ℕ) → k < result → IsSome (leads self.now (page + k)) }
+        ensures mapped { (k : ℕ) → k < result → IsSome (leads self.now (page + k)) }
     {
-        if large_page(&self.memory, self.root, slot_at(page)).is_none() {
-            return 1;
+        match end_of_walk(&self.memory, self.root, page) {
+            WalkEnd::Entry { page: Some(_), .. } => 1,
+            WalkEnd::Large(_) => 512 - page.number() % 512,
+            _ => 0,
         }
-        512 - page.number() % 512
     }
 
     /// The lowest page of the range that is not mapped.
@@ -30,10 +31,11 @@ impl<'a> Tables<'a> {
         let mut done = 0;
         while done < pages {
             let at = page.after(done);
-            if walk(&self.memory, self.root, at).is_none() {
+            let mapped = self.pages_of_entry(at);
+            if mapped == 0 {
                 return Some(at);
             }
-            done += self.pages_of_entry(at);
+            done += mapped;
         }
         None
     }

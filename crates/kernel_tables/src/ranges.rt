@@ -14,7 +14,9 @@ ghost use Rattle.kernel_tables.specs.TableState.{leads, limit_of, IsSamePlace, D
 use crate::range_checks::slot_at;
 use crate::range_fault::RangeFault;
 use crate::tables::Tables;
-use paging_core::{Page, PhysFrame, Rights, Size2MiB, has_table, map_large, map_page};
+use paging_core::{
+    Page, PhysFrame, Rights, Size2MiB, WalkEnd, end_of_walk, has_table, map_at, map_large, map_page,
+};
 
 impl<'a> Tables<'a> {
     /// Maps the page, which nothing hinders.
@@ -30,14 +32,29 @@ impl<'a> Tables<'a> {
         ensures missing { (first pages : ℕ) → IsCanonicalRange first pages → first ≤ page → page < first + pages →
             missing_of self.new.words self.new.root first pages + missing_of self.old.words self.old.root page 1 ≡ missing_of self.old.words self.old.root first pages }
     {
-        map_page(
-            &mut self.memory,
-            &mut self.free,
-            self.root,
-            page,
-            frame,
-            rights,
-        );
+        match end_of_walk(&self.memory, self.root, page) {
+            WalkEnd::Entry { entry, .. } => {
+                map_at(
+                    &mut self.memory,
+                    self.root,
+                    page,
+                    entry.table,
+                    entry.index,
+                    frame,
+                    rights,
+                );
+            }
+            _ => {
+                map_page(
+                    &mut self.memory,
+                    &mut self.free,
+                    self.root,
+                    page,
+                    frame,
+                    rights,
+                );
+            }
+        }
     }
 
     /// Maps the large page, which nothing hinders.

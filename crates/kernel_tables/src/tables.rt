@@ -216,15 +216,10 @@ impl<'a> Tables<'a> {
         ensures flush { IsFlushEnough self.old self.new (page_alone page) }
         ensures removed { OnOk result (split_of self.old page ≡ 0 → IsPageChanged self.old.words self.new.words self.old.root page removal) }
     {
-        if let WalkEnd::Entry {
-            entry,
-            page: Some(met),
-        } = end_of_walk(&self.memory, self.root, page)
-        {
-            clear_at(&mut self.memory, self.root, page, entry.table, entry.index);
-            return Ok(met.frame);
+        match self.clear_entry(page) {
+            Some(frame) => Ok(frame),
+            None => self.unmap_any(page),
         }
-        self.unmap_any(page)
     }
 
     /// Does what `protect` does, for any page.
@@ -264,20 +259,7 @@ impl<'a> Tables<'a> {
         ensures flush { IsFlushEnough self.old self.new (page_alone page) }
         ensures changed { OnOk result (split_of self.old page ≡ 0 → IsPageChanged self.old.words self.new.words self.old.root page (regrant rights)) }
     {
-        if let WalkEnd::Entry {
-            entry,
-            page: Some(met),
-        } = end_of_walk(&self.memory, self.root, page)
-        {
-            protect_at(
-                &mut self.memory,
-                self.root,
-                page,
-                entry.table,
-                entry.index,
-                met.frame,
-                rights,
-            );
+        if self.grant_entry(page, rights) {
             return Ok(());
         }
         self.protect_any(page, rights)

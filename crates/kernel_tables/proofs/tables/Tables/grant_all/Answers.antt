@@ -1,56 +1,45 @@
-use Rattle.std.proofs.Common.{◌≡◌, ◌+◌, ◌*◌, ◌/◌, Some, sym, ap, ◌∙◌, arith}
+use Rattle.std.proofs.Common.{◌≡◌, ◌+◌, ◌*◌, ◌/◌, Some, ap, ◌∙◌, arith}
 use Rattle.paging_core.specs.Large.{slot_of}
 use Rattle.paging_core.specs.Walk.{large_of, granted}
 use Rattle.kernel_tables.specs.TableState.{leads}
-use Rattle.kernel_tables.proofs.RangeTests.{found_there, found_none}
-use Rattle.kernel_tables.proofs.RangeChanged.{IsChangedTo, changed_start, still, page_changed, slot_changed, granted_all, told, table_there, is_hole}
+use Rattle.std.specs.Prelude.{IsSome}
+use Rattle.kernel_tables.proofs.RangeChanged.{IsChangedTo, changed_start, still, page_changed, slot_changed, granted_all, told, is_hole}
 use Rattle.kernel_tables.proofs.tables.Tables.grant_all.Goals as goal
+use Rattle.kernel_tables.proofs.tables.Tables.grant_all.Goals.{After-slot_at}
 
 pub loop-done-init : goal.loop-done-init
 loop-done-init c = changed_start c.args.self.now c.args.page c.args.pages (λ was. Some (granted was.frame c.args.rights)) c.requires.within
 
+-- the large page of the next page, which has no entry of its own
+large : (c : goal.After-slot_at) → IsSome (large_of c.loop-done.self.words c.loop-done.self.root (slot_of ((c.args.page + c.loop-done.done) / 512)))
+large c =
+    rw c.after-at.ensures at (c.grant_entry.ensures.none c.if-grant_entry.false (rw (
+      c.after-at.ensures,
+      still c.args.self.now c.loop-done.self c.args.page c.args.pages c.loop-done.done (λ was. Some (granted was.frame c.args.rights))
+          c.requires.range c.loop-done.invariant c.loop-done-test.true c.loop-done.done (omega arith) c.loop-done-test.true,
+    ) (c.requires.mapped c.loop-done.done c.loop-done-test.true)))
+
 pub grant_slot-requires : goal.grant_slot-requires
-grant_slot-requires c =
-    found_there c.large_page.result (large_of c.loop-done.self.words c.loop-done.self.root (slot_of c.slot_at-slot.result)) c.large_page.ensures (sym c.is_some.ensures ∙ c.if-is_some.true)
+grant_slot-requires c = rw (c.grant_entry.ensures.same c.if-grant_entry.false, c.slot_at.ensures, c.after-at.ensures) (large c)
 
-pub grant_page-requires-clause-mapped : goal.grant_page-requires-clause-mapped
-grant_page-requires-clause-mapped c =
-    rw (
-      c.after-at.ensures,
-      still c.args.self.now c.loop-done.self c.args.page c.args.pages c.loop-done.done (λ was. Some (granted was.frame c.args.rights))
-          c.requires.range c.loop-done.invariant c.loop-done-test.true c.loop-done.done (omega arith) c.loop-done-test.true,
-    ) (c.requires.mapped c.loop-done.done c.loop-done-test.true)
-
-pub grant_page-requires-clause-small : goal.grant_page-requires-clause-small
-grant_page-requires-clause-small c =
-    let none = found_none c.large_page.result (large_of c.loop-done.self.words c.loop-done.self.root (slot_of c.slot_at-slot.result)) c.large_page.ensures (sym c.is_some.ensures ∙ c.if-is_some.false) in
-    table_there c.loop-done.self.words c.loop-done.self.root c.after-at.result
-    (rw (
-      c.after-at.ensures,
-      still c.args.self.now c.loop-done.self c.args.page c.args.pages c.loop-done.done (λ was. Some (granted was.frame c.args.rights))
-          c.requires.range c.loop-done.invariant c.loop-done-test.true c.loop-done.done (omega arith) c.loop-done-test.true,
-    ) (c.requires.mapped c.loop-done.done c.loop-done-test.true))
-    (λ some. is_hole (large_of c.loop-done.self.words c.loop-done.self.root (slot_of (c.after-at.result / 512))) (rw c.slot_at-slot.ensures at none) some)
-
-pub loop-done-preserved-then-is_some : goal.loop-done-preserved-then-is_some
-loop-done-preserved-then-is_some c =
-    let e : c.slot_at-slot.result ≡ (c.args.page + c.loop-done.done) / 512 = c.slot_at-slot.ensures ∙ ap (λ n. n / 512) c.after-at.ensures in
-    let some = found_there c.large_page.result (large_of c.loop-done.self.words c.loop-done.self.root (slot_of c.slot_at-slot.result)) c.large_page.ensures (sym c.is_some.ensures ∙ c.if-is_some.true) in
-    slot_changed c.args.self.now c.loop-done.self c.args.page c.args.pages c.loop-done.done (λ was. Some (granted was.frame c.args.rights)) c.requires.range c.loop-done.invariant c.loop-done-test.true
-    c.grant_slot.new.self c.grant_slot.ensures.place c.grant_slot.ensures.free c.grant_slot.ensures.tables (rw e at some) (rw e at c.grant_slot.ensures.elsewhere)
-    (λ k was lt is. rw e at (told (leads c.loop-done.self (512 * c.slot_at-slot.result + k)) (λ was. leads c.grant_slot.new.self (512 * c.slot_at-slot.result + k) ≡ Some (granted was.frame c.args.rights))
-    was (c.grant_slot.ensures.granted k lt) (rw e is))) (rw e at c.grant_slot.ensures.larges)
+pub loop-done-preserved-then-grant_entry : goal.loop-done-preserved-then-grant_entry
+loop-done-preserved-then-grant_entry c =
+    let a = c.after-at.ensures in
+    let alone = (c.grant_entry.ensures.some c.if-grant_entry.true).1 in
+    page_changed c.args.self.now c.loop-done.self c.args.page c.args.pages c.loop-done.done (λ was. Some (granted was.frame c.args.rights)) c.requires.range c.loop-done.invariant c.loop-done-test.true
+    c.grant_entry.new.self c.grant_entry.ensures.place c.grant_entry.ensures.free c.grant_entry.ensures.tables
+    (λ some. is_hole (large_of c.loop-done.self.words c.loop-done.self.root (slot_of ((c.args.page + c.loop-done.done) / 512))) (rw a at alone) some)
+    (rw a at c.grant_entry.ensures.elsewhere) (λ was is. rw a at (told (leads c.loop-done.self c.after-at.result) (λ was. leads c.grant_entry.new.self c.after-at.result ≡ Some (granted was.frame c.args.rights))
+    was (c.grant_entry.ensures.granted c.if-grant_entry.true) (rw a is))) c.grant_entry.ensures.larges
 
 pub loop-done-preserved : goal.loop-done-preserved
 loop-done-preserved c =
-    let a = c.after-at.ensures in
-    let e : c.slot_at-slot.result ≡ (c.args.page + c.loop-done.done) / 512 = c.slot_at-slot.ensures ∙ ap (λ n. n / 512) c.after-at.ensures in
-    let none = found_none c.large_page.result (large_of c.loop-done.self.words c.loop-done.self.root (slot_of c.slot_at-slot.result)) c.large_page.ensures (sym c.is_some.ensures ∙ c.if-is_some.false) in
-    page_changed c.args.self.now c.loop-done.self c.args.page c.args.pages c.loop-done.done (λ was. Some (granted was.frame c.args.rights)) c.requires.range c.loop-done.invariant c.loop-done-test.true
-    c.grant_page.new.self c.grant_page.ensures.place c.grant_page.ensures.free c.grant_page.ensures.tables
-    (λ some. is_hole (large_of c.loop-done.self.words c.loop-done.self.root (slot_of ((c.args.page + c.loop-done.done) / 512))) (rw e at none) some)
-    (rw a at c.grant_page.ensures.elsewhere) (λ was is. rw a at (told (leads c.loop-done.self c.after-at.result) (λ was. leads c.grant_page.new.self c.after-at.result ≡ Some (granted was.frame c.args.rights))
-    was c.grant_page.ensures.granted (rw a is))) c.grant_page.ensures.larges
+    let e : c.slot_at.result ≡ (c.args.page + c.loop-done.done) / 512 = c.slot_at.ensures ∙ ap (λ n. n / 512) c.after-at.ensures in
+    let s = c.grant_entry.ensures.same c.if-grant_entry.false in
+    slot_changed c.args.self.now c.loop-done.self c.args.page c.args.pages c.loop-done.done (λ was. Some (granted was.frame c.args.rights)) c.requires.range c.loop-done.invariant c.loop-done-test.true
+    c.grant_slot.new.self (rw s at c.grant_slot.ensures.place) (rw s at c.grant_slot.ensures.free) (rw s at c.grant_slot.ensures.tables) (large (goal.at.loop-done-preserved c).After-slot_at) (rw (s, e) at c.grant_slot.ensures.elsewhere)
+    (λ k was lt is. rw e at (told (leads c.loop-done.self (512 * c.slot_at.result + k)) (λ was. leads c.grant_slot.new.self (512 * c.slot_at.result + k) ≡ Some (granted was.frame c.args.rights))
+    was (rw s at (c.grant_slot.ensures.granted k lt)) (rw e is))) (rw (s, e) at c.grant_slot.ensures.larges)
 
 pub returns-clause-elsewhere : goal.returns-clause-elsewhere
 returns-clause-elsewhere c =
