@@ -1,6 +1,6 @@
 -- The steps of a walk that finds a page, one by one, and what stays of slots that walks met.
-use Rattle.std.proofs.Common.{◌≡◌, ℕ, suc, ◌+◌, ◌*◌, ◌/◌, ◌%◌, ◌^◌, ◌<◌, ◌⊎◌, inl, inr, cond, eqb, Bool, true, false, not, ◌&&◌, List, set, Option, Some, None, refl, sym, ap, subst, ◌∙◌, get_or, unwrap_or, arith}
-use Rattle.std.specs.Prelude.{IsTrue, IsSome}
+use Rattle.std.proofs.Common.{◌≡◌, ℕ, suc, ◌+◌, ◌*◌, ◌/◌, ◌%◌, ◌^◌, ◌<◌, ◌≤◌, ◌⊎◌, inl, inr, cond, eqb, Bool, true, false, not, ◌&&◌, List, set, Option, Some, None, refl, sym, ap, subst, ◌∙◌, get_or, unwrap_or, arith}
+use Rattle.std.specs.Prelude.{IsTrue, IsSome, IfSome}
 use Rattle.std.specs.Option.{option_map}
 use Rattle.paging_core.specs.Address.{is_canonical}
 use Rattle.paging_core.specs.Entry.{frame_of, has_bit}
@@ -8,12 +8,13 @@ use Rattle.paging_core.specs.Prefix.{prefix_of}
 use Rattle.paging_core.specs.Memory.{word_at, frame_count, AreWordsWritten}
 use Rattle.paging_core.specs.Walk.{Place, is_present, ends_walk, is_run, named, top, step, large_step, large_from, large_of, reach, next_from, walk_of}
 use Rattle.paging_core.proofs.Made.{reach_below, large_below}
+use Rattle.paging_core.proofs.Prefixes.{walk_reach}
 use Rattle.paging_core.proofs.Reach.{reach_zero, reach_suc, large_is, large_none, either_way}
 use Rattle.page_ranges.specs.RangeUnmapping.{is_cut}
 use Rattle.page_ranges.proofs.Unmapped.{cut_or_not}
-use Rattle.mapped_regions.specs.declared.met_slots.MetSlot.{MetSlot}
+use Rattle.mapped_regions.specs.declared.met_slots.Met.{Met}
 use Rattle.mapped_regions.specs.declared.met_slots.MetSlots.{MetSlots}
-use Rattle.mapped_regions.specs.MetSlots.{IsTable, IsLargePage, AreTablesMet, AreLargePagesMet, AreMet, IsFrameOf}
+use Rattle.mapped_regions.specs.MetSlots.{IsPage, IsTable, IsLargePage, ArePagesMet, AreTablesMet, AreLargePagesMet, AreMet, IsFrameOf}
 
 -- the frame of a place that is found
 found_frame : (o : Option Place) (to : Place) → o ≡ Some to → unwrap_or (option_map (λ (place : Place). place.frame) o) 0 ≡ to.frame
@@ -246,25 +247,46 @@ some_stays None new frame stay is = absurd (let no : None ≡ Some frame = is in
 some_stays (Some place) new frame stay is = ap (option_map (λ (place : Place). place.frame)) (stay place refl) ∙ is
 
 -- tables stay kept where tables stay
-pub tables_stay : (old new : List ℕ) (root : ℕ) (slots : List MetSlot) →
+pub tables_stay : (old new : List ℕ) (root : ℕ) (slots : List Met) →
     ((number : ℕ) (met : Place) → reach old root 3 number ≡ Some met → reach new root 3 number ≡ Some met) → AreTablesMet old root slots → AreTablesMet new root slots
 tables_stay old new root slots tables are = λ k d less some.
     let met = get_or slots k d in
     some_stays (reach old root 3 met.number) (reach new root 3 met.number) met.frame (tables met.number) (are k d less some)
 
--- and what is kept of large pages too, where these stay
+-- and what is kept of pages and of large pages too, if these stay
 pub met_stay : (old new : List ℕ) (root : ℕ) (slots : MetSlots) →
-    ((number : ℕ) (met : Place) → reach old root 3 number ≡ Some met → reach new root 3 number ≡ Some met) →
+    ((l number : ℕ) (met : Place) → l ≤ 4 → reach old root l number ≡ Some met → reach new root l number ≡ Some met) →
     ((number : ℕ) (large : Place) → large_of old root number ≡ Some large → large_of new root number ≡ Some large) → AreMet old root slots → AreMet new root slots
-met_stay old new root slots tables larges are = (tables_stay old new root slots.tables tables are.0, larges_stay)
+met_stay old new root slots steps larges are = (tables_stay old new root slots.tables (λ number met is. steps 3 number met (omega arith) is) are.0, larges_stay, pages_stay)
   where
     larges_stay : AreLargePagesMet new root slots.large_pages
     larges_stay = λ k d less some.
         let met = get_or slots.large_pages k d in
         some_stays (large_of old root met.number) (large_of new root met.number) met.frame (larges met.number) (are.1 k d less some)
 
+    pages_stay : ArePagesMet new root slots.pages
+    pages_stay = λ k d less some.
+        let met = get_or slots.pages k d in
+        some_stays (walk_of old root met.number) (walk_of new root met.number) met.frame
+        (λ place is. walk_reach new root met.number ∙ steps 4 (prefix_of met.number 4) place (omega arith) (sym (walk_reach old root met.number) ∙ is)) (are.2 k d less some)
+
+-- a page that is kept: the walk to it finds its frame
+pub kept_frame : (words : List ℕ) (root page frame : ℕ) → root < frame_count words → IsSome (walk_of words root page) → IsPage words root page frame → IsFrameOf words root page frame
+kept_frame words root page frame within some is =
+    let w = passed words root page within some in
+    let same : Some w.place.frame ≡ Some frame = sym (ap (option_map (λ (place : Place). place.frame)) w.found) ∙ is in
+    let to : w.place.frame ≡ frame = ap (λ o. unwrap_or o 0) same in
+    record { place = w.place; found = w.found; to_frame = to; below = subst (λ f. f < frame_count words) to w.place_below }
+
+pub found_frame_kept : (words : List ℕ) (root page number frame : ℕ) (o : Option ℕ) → root < frame_count words → IsSome (walk_of words root page) → number ≡ page →
+    IfSome o (IsPage words root number) → o ≡ Some frame → IsFrameOf words root page frame
+found_frame_kept words root page number frame None within some same is e = absurd (cc)
+found_frame_kept words root page number frame (Some x) within some same is e =
+    let to : x ≡ frame = ap (λ o. unwrap_or o 0) e in
+    kept_frame words root page frame within some (subst (λ f. IsPage words root page f) to (subst (λ n. IsPage words root n x) same is))
+
 -- where pages are cut tables stay: a large page that leaves its slot to a table had none before
-pub cut_stay : (old new : List ℕ) (root first : ℕ) (slots : List MetSlot) →
+pub cut_stay : (old new : List ℕ) (root first : ℕ) (slots : List Met) →
     ((l number : ℕ) → l ≡ 3 → (l ≡ 3 → number ≡ prefix_of first 3 → is_cut old root first ≡ false) → reach new root l number ≡ reach old root l number) →
     AreTablesMet old root slots → AreTablesMet new root slots
 cut_stay old new root first slots same = tables_stay old new root slots (λ number met is. same 3 number refl (λ e at. not_cut number met is at) ∙ is)

@@ -1,5 +1,5 @@
--- What maps the pages of slots, and of which slots it is kept: a slot goes by the first three indices of its pages, as one
--- number in base 512 (own).
+-- What maps pages, and the pages of slots, and of which of them it is kept: a slot goes by the first three indices of its
+-- pages, as one number in base 512 (own).
 use Rattle.std.specs.Prelude.{◌≡◌, ℕ, ◌^◌, ◌<◌, List, Some}
 use Rattle.std.specs.Option.{option_map}
 use Rattle.std.specs.List.{All}
@@ -8,8 +8,12 @@ use Rattle.paging_core.specs.Memory.{frame_count}
 use Rattle.paging_core.specs.Walk.{Place, reach, large_of, walk_of}
 use Rattle.mapped_regions.specs.declared.met_slots.SlotMap.{SlotMap}
 use Rattle.mapped_regions.specs.declared.met_slots.SlotMap.TheVariants as Map
-use Rattle.mapped_regions.specs.declared.met_slots.MetSlot.{MetSlot}
+use Rattle.mapped_regions.specs.declared.met_slots.Met.{Met}
 use Rattle.mapped_regions.specs.declared.met_slots.MetSlots.{MetSlots}
+
+-- the walk to the page arrives at the frame
+abbrev pub IsPage : List ℕ → ℕ → ℕ → ℕ → Type 0
+IsPage words root page frame = option_map (λ (place : Place). place.frame) (walk_of words root page) ≡ Some frame
 
 -- three steps of the walk arrive at the table
 abbrev pub IsTable : List ℕ → ℕ → ℕ → ℕ → Type 0
@@ -24,17 +28,21 @@ abbrev pub IsMapOf : List ℕ → ℕ → ℕ → SlotMap → Type 0
 IsMapOf words root number (Map.Table table) = IsTable words root number table
 IsMapOf words root number (Map.LargePage first) = IsLargePage words root number first
 
--- each slot that is kept has this table, or this large page; 27 bits have the numbers of slots
-abbrev pub AreTablesMet : List ℕ → ℕ → List MetSlot → Type 0
-AreTablesMet words root slots = All (λ (met : MetSlot). met.number < 2 ^ 27 → IsTable words root met.number met.frame) slots
+-- each page that is kept has this frame; 52 bits have the numbers of pages
+abbrev pub ArePagesMet : List ℕ → ℕ → List Met → Type 0
+ArePagesMet words root pages = All (λ (met : Met). met.number < 2 ^ 52 → IsPage words root met.number met.frame) pages
 
-abbrev pub AreLargePagesMet : List ℕ → ℕ → List MetSlot → Type 0
-AreLargePagesMet words root slots = All (λ (met : MetSlot). met.number < 2 ^ 27 → IsLargePage words root met.number met.frame) slots
+-- each slot that is kept has this table, or this large page; 27 bits have the numbers of slots
+abbrev pub AreTablesMet : List ℕ → ℕ → List Met → Type 0
+AreTablesMet words root slots = All (λ (met : Met). met.number < 2 ^ 27 → IsTable words root met.number met.frame) slots
+
+abbrev pub AreLargePagesMet : List ℕ → ℕ → List Met → Type 0
+AreLargePagesMet words root slots = All (λ (met : Met). met.number < 2 ^ 27 → IsLargePage words root met.number met.frame) slots
 
 abbrev pub AreMet : List ℕ → ℕ → MetSlots → Type 0
-AreMet words root slots = AreTablesMet words root slots.tables × AreLargePagesMet words root slots.large_pages
+AreMet words root slots = AreTablesMet words root slots.tables × AreLargePagesMet words root slots.large_pages × ArePagesMet words root slots.pages
 
--- the walk to the page arrives at the frame
+-- the same, with the place, which is one of the memory
 pub record IsFrameOf (words : List ℕ) (root page frame : ℕ) : Type 0 where
   pub place : Place
   pub found : walk_of words root page ≡ Some place

@@ -1,17 +1,17 @@
-// Walks that begin at the table or at the large page of a slot, where an earlier one met it.
+// Walks that begin where an earlier one ended: at the page's frame, or at the table or the large page of its slot.
 ghost use Rattle.std.specs.Prelude.{◌≡◌, ℕ, ◌+◌, ◌*◌, ◌/◌, ◌%◌, ◌^◌, ◌<◌, IfSome, IsSome, List};
 ghost use Rattle.paging_core.specs.Memory.{frame_count, word_at};
 ghost use Rattle.paging_core.specs.Prefix.{prefix_of};
 ghost use Rattle.paging_core.specs.Walk.{walk_of};
-ghost use Rattle.mapped_regions.specs.MetSlots.{IsTable, IsLargePage, IsMapOf, IsFrameOf, AreTablesMet, AreLargePagesMet};
+ghost use Rattle.mapped_regions.specs.MetSlots.{IsPage, IsTable, IsLargePage, IsMapOf, IsFrameOf, ArePagesMet, AreTablesMet, AreLargePagesMet};
 
 use paging_core::{Frames, Page, PageTableEntry, PageTableIndex, PhysFrame, walk};
 
-/// A number that no slot has.
-const NO_SLOT: u64 = 1 << 27;
+/// A number that no page and no slot has.
+const NO_NUMBER: u64 = 1 << 52;
 
-/// How many slots are kept at most.
-const PLACES: usize = 16;
+/// How many are kept at most of each kind.
+const PLACES: usize = 64;
 
 /// The number that a page's first three indices make: pages that agree in them are of one slot.
 fn slot_number(page: Page) -> u64
@@ -84,32 +84,35 @@ fn frame_by_walk(frames: &Frames, root: PhysFrame, page: Page) -> PhysFrame
     mapped.frame
 }
 
-/// A slot that a walk met: its number, and the frame of its table, or the first frame of its large page.
+/// What a walk met: a page by its number and its frame, or a slot by its number and the frame of its table, or the first
+/// frame of its large page.
 #[derive(Clone, Copy)]
-pub(crate) struct MetSlot {
+pub(crate) struct Met {
     number: u64,
     frame: PhysFrame,
 }
 
-/// Where no slot is kept.
-fn none_met(frame: PhysFrame) -> [MetSlot; PLACES]
+/// Where none is kept.
+fn none_met(frame: PhysFrame) -> [Met; PLACES]
+    ensures pages { (words : List ℕ) (root : ℕ) → ArePagesMet words root result }
     ensures tables { (words : List ℕ) (root : ℕ) → AreTablesMet words root result }
     ensures large_pages { (words : List ℕ) (root : ℕ) → AreLargePagesMet words root result }
 {
-    let none = MetSlot {
-        number: NO_SLOT,
+    let none = Met {
+        number: NO_NUMBER,
         frame,
     };
     [none; PLACES]
 }
 
-/// The frame that is kept for the slot with a number, if one is.
-fn find(slots: &[MetSlot; PLACES], number: u64) -> Option<PhysFrame>
-    requires { number < 2 ^ 27 }
-    ensures tables { (words : List ℕ) (root : ℕ) → AreTablesMet words root slots.now → IfSome result (IsTable words root number) }
-    ensures large_pages { (words : List ℕ) (root : ℕ) → AreLargePagesMet words root slots.now → IfSome result (IsLargePage words root number) }
+/// The frame that is kept for a number, if one is.
+fn find(kept: &[Met; PLACES], number: u64) -> Option<PhysFrame>
+    requires { number < 2 ^ 52 }
+    ensures pages { (words : List ℕ) (root : ℕ) → ArePagesMet words root kept.now → IfSome result (IsPage words root number) }
+    ensures tables { number < 2 ^ 27 → (words : List ℕ) (root : ℕ) → AreTablesMet words root kept.now → IfSome result (IsTable words root number) }
+    ensures large_pages { number < 2 ^ 27 → (words : List ℕ) (root : ℕ) → AreLargePagesMet words root kept.now → IfSome result (IsLargePage words root number) }
 {
-    let met = slots[number as usize % PLACES];
+    let met = kept[number as usize % PLACES];
     if met.number == number {
         Some(met.frame)
     } else {
@@ -117,21 +120,24 @@ fn find(slots: &[MetSlot; PLACES], number: u64) -> Option<PhysFrame>
     }
 }
 
-/// Keeps a frame for the slot with a number, and forgets the one at its place.
-fn put(slots: &mut [MetSlot; PLACES], number: u64, frame: PhysFrame)
-    ensures tables { (words : List ℕ) (root : ℕ) → IsTable words root number frame → AreTablesMet words root slots.old → AreTablesMet words root slots.new }
-    ensures large_pages { (words : List ℕ) (root : ℕ) → IsLargePage words root number frame → AreLargePagesMet words root slots.old → AreLargePagesMet words root slots.new }
+/// Keeps a frame for a number, and forgets the one at its place.
+fn put(kept: &mut [Met; PLACES], number: u64, frame: PhysFrame)
+    ensures pages { (words : List ℕ) (root : ℕ) → IsPage words root number frame → ArePagesMet words root kept.old → ArePagesMet words root kept.new }
+    ensures tables { (words : List ℕ) (root : ℕ) → IsTable words root number frame → AreTablesMet words root kept.old → AreTablesMet words root kept.new }
+    ensures large_pages { (words : List ℕ) (root : ℕ) → IsLargePage words root number frame → AreLargePagesMet words root kept.old → AreLargePagesMet words root kept.new }
 {
-    slots[number as usize % PLACES] = MetSlot { number, frame };
+    kept[number as usize % PLACES] = Met { number, frame };
 }
 
-/// Slots that walks met, those with a table apart from those of large pages, and of each at most one for each remainder of
-/// their numbers. So a walk to a page of a slot with a table reads its last entry alone, and one into a large page none.
-/// Tables stay where they are; what is kept of large pages is forgotten when pages leave.
+/// Pages that walks met, and slots, those with a table apart from those of large pages; of each at most one for each
+/// remainder of their numbers. So a walk to a page that is kept reads no entry, nor does one into a large page that is kept,
+/// and one to another page of a slot with a table reads its last entry alone. Tables stay where they are; what is kept of
+/// pages is forgotten when pages leave.
 #[derive(Drop)]
 pub(crate) struct MetSlots {
-    tables: [MetSlot; PLACES],
-    large_pages: [MetSlot; PLACES],
+    pages: [Met; PLACES],
+    tables: [Met; PLACES],
+    large_pages: [Met; PLACES],
 }
 
 impl MetSlots {
@@ -142,6 +148,7 @@ impl MetSlots {
         ensures { (words : List ℕ) (root : ℕ) → AreMet words root result }
     {
         MetSlots {
+            pages: none_met(root),
             tables: none_met(root),
             large_pages: none_met(root),
         }
@@ -157,21 +164,26 @@ impl MetSlots {
         }
     }
 
-    /// Forgets what is kept of large pages.
-    pub(crate) fn forget_large_pages(&mut self, root: PhysFrame)
+    /// Forgets what is kept of pages and of large pages.
+    pub(crate) fn forget_pages(&mut self, root: PhysFrame)
         ensures { (words : List ℕ) (root : ℕ) → AreTablesMet words root self.old.tables → AreMet words root self.new }
     {
+        self.pages = none_met(root);
         self.large_pages = none_met(root);
     }
 
-    /// The frame of a page that is mapped, of whose slot no table is kept.
-    fn frame_elsewhere(&self, frames: &Frames, root: PhysFrame, page: Page) -> PhysFrame
+    /// The frame of a page that is mapped, by what is kept of its slot.
+    fn frame_by_slot(&self, frames: &Frames, root: PhysFrame, page: Page) -> PhysFrame
         requires root { root < frame_count frames.now }
         requires met { AreMet frames.now root self.now }
         requires mapped { IsSome (walk_of frames.now root page) }
         ensures { IsFrameOf frames.now root page result }
     {
-        match find(&self.large_pages, slot_number(page)) {
+        let number = slot_number(page);
+        if let Some(table) = find(&self.tables, number) {
+            return frame_in_table(frames, root, table, page);
+        }
+        match find(&self.large_pages, number) {
             Some(first) => frame_in_large_page(frames, root, first, page),
             None => frame_by_walk(frames, root, page),
         }
@@ -184,9 +196,9 @@ impl MetSlots {
         requires mapped { IsSome (walk_of frames.now root page) }
         ensures { IsFrameOf frames.now root page result }
     {
-        match find(&self.tables, slot_number(page)) {
-            Some(table) => frame_in_table(frames, root, table, page),
-            None => self.frame_elsewhere(frames, root, page),
+        match find(&self.pages, page.number()) {
+            Some(frame) => frame,
+            None => self.frame_by_slot(frames, root, page),
         }
     }
 
@@ -214,7 +226,7 @@ impl MetSlots {
         }
     }
 
-    /// The frame of a page that is mapped, whose slot is kept from now on.
+    /// The frame of a page that is mapped. The page and its slot are kept from now on.
     pub(crate) fn meet(&mut self, frames: &Frames, root: PhysFrame, page: Page) -> PhysFrame
         requires root { root < frame_count frames.now }
         requires met { AreMet frames.now root self.old }
@@ -223,10 +235,12 @@ impl MetSlots {
         ensures met { AreMet frames.now root self.new }
     {
         self.keep_new_slot(frames, root, page);
-        self.frame(frames, root, page)
+        let frame = self.frame_by_slot(frames, root, page);
+        put(&mut self.pages, page.number(), frame);
+        frame
     }
 
-    /// The same as `meet`. It looks for a table first, and is so short that it is compiled into whoever stores a word.
+    /// The same as `meet`. It looks for the page first, and is so short that it is compiled into whoever stores a word.
     pub(crate) fn frame_kept(&mut self, frames: &Frames, root: PhysFrame, page: Page) -> PhysFrame
         requires root { root < frame_count frames.now }
         requires met { AreMet frames.now root self.old }
@@ -234,8 +248,8 @@ impl MetSlots {
         ensures frame { IsFrameOf frames.now root page result }
         ensures met { AreMet frames.now root self.new }
     {
-        match find(&self.tables, slot_number(page)) {
-            Some(table) => frame_in_table(frames, root, table, page),
+        match find(&self.pages, page.number()) {
+            Some(frame) => frame,
             None => self.meet(frames, root, page),
         }
     }

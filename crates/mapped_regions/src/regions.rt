@@ -47,7 +47,7 @@ pub struct MappedRegions {
     tables: u64,
     /// How often a region joined. It begins anew behind the greatest number, and tells no more than whether one did of late.
     joins: u64,
-    /// The tables and large pages of slots that stores met: a word of one of their pages takes one step of the walk at most.
+    /// The pages that stores met, and their slots: a word of one of these takes one step of the walk at most.
     met_slots: MetSlots,
     /// The first addresses of the slots that the region which joined last has in large pages, until they are asked for.
     slots: Vec<u64>,
@@ -240,7 +240,7 @@ impl MappedRegions {
             Page::containing_address(VirtAddr::new(region.start)),
             region.pages,
         );
-        self.met_slots.forget_large_pages(self.root);
+        self.met_slots.forget_pages(self.root);
     }
 
     /// What may be done at an address: the rights of the region that has it, if there is one, by a walk.
@@ -292,7 +292,7 @@ impl MappedRegions {
             pages,
         );
         self.tables += free + pages - self.pool.free_count();
-        self.met_slots.forget_large_pages(self.root);
+        self.met_slots.forget_pages(self.root);
     }
 
     /// The word at a multiple of 8 in a page that is mapped, by a walk.

@@ -14,7 +14,7 @@ use Rattle.mapped_regions.proofs.Ends.{none_over, whole_cut}
 use Rattle.mapped_regions.proofs.Mapped.{held_mapped, pages_gone, fewer_mapped, range_canonical, range_ends}
 use Rattle.mapped_regions.proofs.CutPages.{cut_count, regions_cut}
 use Rattle.mapped_regions.proofs.regions.MappedRegions.cut.Goals as goal
-use Rattle.mapped_regions.proofs.regions.MappedRegions.cut.Goals.{After-forget_large_pages}
+use Rattle.mapped_regions.proofs.regions.MappedRegions.cut.Goals.{After-forget_pages}
 
 pub cut-requires : goal.cut-requires
 cut-requires c = record { within = range_ends c.args.start c.args.pages c.requires.range }
@@ -40,7 +40,7 @@ unmap_pages-requires-clause-ends c =
     (none_over (shown c.args.self.now) c.args.start c.args.pages c.args.self.now.mapped c.requires.range c.requires.ends)
 
 -- what is seen after the pages left
-abbrev after : After-forget_large_pages → Paged
+abbrev after : After-forget_pages → Paged
 after c = record (shown c.args.self.now) {
   words = c.unmap_pages.new.frames;
   free = c.unmap_pages.new.pool;
@@ -55,7 +55,7 @@ page_is start whole = omega arith
 end_is : (start pages : ℕ) → start % 4096 ≡ 0 → 4096 * (start / 4096 + pages) ≡ start + 4096 * pages
 end_is start pages whole = omega arith
 
-gone : (c : After-forget_large_pages) → AreGone (shown c.args.self.now) (after c) c.args.start c.args.pages
+gone : (c : After-forget_pages) → AreGone (shown c.args.self.now) (after c) c.args.start c.args.pages
 gone c =
     let first : c.containing_address.result ≡ c.args.start / 4096 = c.containing_address.ensures ∙ ap (λ a. a / 4096) c.new.ensures in
     let count = c.unmap_pages.ensures.unmapped.count in
@@ -69,7 +69,7 @@ gone c =
           c.unmap_pages.ensures.unmapped c.unmap_pages.ensures.tree c.unmap_pages.ensures.gone c.unmap_pages.ensures.elsewhere c.unmap_pages.ensures.bytes (omega arith);
     }
 
-taken : (c : After-forget_large_pages) → AreTakenOut c.args.start (c.args.start + 4096 * c.args.pages) (shown c.args.self.now).regions c.cut.new.self
+taken : (c : After-forget_pages) → AreTakenOut c.args.start (c.args.start + 4096 * c.args.pages) (shown c.args.self.now).regions c.cut.new.self
 taken c =
     let whole = c.requires.range.0 in
     subst (λ a. AreTakenOut a (c.args.start + 4096 * c.args.pages) (shown c.args.self.now).regions c.cut.new.self) (page_is c.args.start whole)
@@ -82,7 +82,7 @@ invariant_of-self c =
     let g = gone c in
     let range = c.requires.range in
     record {
-      met = c.forget_large_pages.ensures c.unmap_pages.new.frames c.args.self.now.root
+      met = c.forget_pages.ensures c.unmap_pages.new.frames c.args.self.now.root
           (cut_stay c.args.self.now.frames c.unmap_pages.new.frames c.args.self.now.root (c.args.start / 4096) c.args.self.now.met_slots.tables
           (λ l number is apart. g.gone.gone.tables_stay l number (omega (arith, is)) apart) c.args.self.now.met.0);
       mapped = fewer_mapped (shown c.args.self.now) (after c) c.args.start c.args.pages m range
@@ -96,4 +96,4 @@ invariant_of-self c =
     }
 
 pub returns : goal.returns
-returns c = gone (goal.at.returns c).After-forget_large_pages
+returns c = gone (goal.at.returns c).After-forget_pages

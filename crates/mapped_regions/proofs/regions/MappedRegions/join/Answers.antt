@@ -79,7 +79,7 @@ invariant_of-self-2 c =
     let first : c.containing_address.result ≡ c.args.region.start / 4096 = c.containing_address.ensures ∙ ap (λ a. a / 4096) c.new.ensures in
     let pages = c.map_pages-stop.ensures.mapped.pages_added in
     record {
-      met = met_stay c.args.self.now.frames c.map_pages-stop.new.frames c.args.self.now.root c.args.self.now.met_slots (λ number at is. pages.stayed 3 number at (omega arith) is)
+      met = met_stay c.args.self.now.frames c.map_pages-stop.new.frames c.args.self.now.root c.args.self.now.met_slots (λ l number at le is. pages.stayed l number at le is)
           pages.large_stayed c.args.self.now.met;
       mapped = joined_mapped (shown c.args.self.now) (after c) c.args.region c.args.self.now.mapped c.requires.region c.requires.can (joined c) c.in_ok-add.ensures.put
           (λ other canonical apart. c.map_pages-stop.ensures.elsewhere other canonical (λ k less e. apart k less (e ∙ ap (λ f. f + k) first)));

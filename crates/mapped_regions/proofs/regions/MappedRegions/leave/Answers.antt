@@ -14,7 +14,7 @@ use Rattle.mapped_regions.proofs.MetSlots.{tables_stay}
 use Rattle.mapped_regions.proofs.Ends.{listed_ends, listed_starts, none_over, no_cut, whole_without}
 use Rattle.mapped_regions.proofs.Mapped.{mapped, pages_gone, fewer_mapped, listed_range, range_canonical, range_ends_at}
 use Rattle.mapped_regions.proofs.regions.MappedRegions.leave.Goals as goal
-use Rattle.mapped_regions.proofs.regions.MappedRegions.leave.Goals.{After-forget_large_pages}
+use Rattle.mapped_regions.proofs.regions.MappedRegions.leave.Goals.{After-forget_pages}
 
 pub remove-requires-clause-at_page : goal.remove-requires-clause-at_page
 remove-requires-clause-at_page c = (listed_range (shown c.args.self.now) c.args.region.now.start c.args.region.now.pages c.args.self.now.mapped c.requires.there).0
@@ -48,10 +48,10 @@ unmap_pages-requires-clause-ends c =
     (listed_ends c.args.region.now.start c.args.region.now.pages 0 (2 ^ 64) (shown c.args.self.now).regions c.count.ensures.laid c.requires.there))
 
 -- what is seen after the region left
-abbrev after : After-forget_large_pages → Paged
+abbrev after : After-forget_pages → Paged
 after c = record (shown c.args.self.now) { words = c.unmap_pages.new.frames; free = c.unmap_pages.new.pool; regions = c.remove.new.self }
 
-left : (c : After-forget_large_pages) → IsLeft (shown c.args.self.now) (after c) c.args.region.now.start c.args.region.now.pages
+left : (c : After-forget_pages) → IsLeft (shown c.args.self.now) (after c) c.args.region.now.start c.args.region.now.pages
 left c =
     let first : c.containing_address.result ≡ c.args.region.now.start / 4096 = c.containing_address.ensures ∙ ap (λ a. a / 4096) c.new.ensures in
     let range = listed_range (shown c.args.self.now) c.args.region.now.start c.args.region.now.pages c.args.self.now.mapped c.requires.there in
@@ -71,7 +71,7 @@ invariant_of-self c =
     let m = c.args.self.now.mapped in
     let range = listed_range (shown c.args.self.now) c.args.region.now.start c.args.region.now.pages m c.requires.there in
     record {
-      met = c.forget_large_pages.ensures c.unmap_pages.new.frames c.args.self.now.root
+      met = c.forget_pages.ensures c.unmap_pages.new.frames c.args.self.now.root
           (tables_stay c.args.self.now.frames c.unmap_pages.new.frames c.args.self.now.root c.args.self.now.met_slots.tables
           (λ number at is. l.gone.gone.tables_stay 3 number (omega arith) (λ e same. l.whole) ∙ is) c.args.self.now.met.0);
       mapped = fewer_mapped (shown c.args.self.now) (after c) c.args.region.now.start c.args.region.now.pages m range
@@ -83,4 +83,4 @@ invariant_of-self c =
     }
 
 pub returns : goal.returns
-returns c = left (goal.at.returns c).After-forget_large_pages
+returns c = left (goal.at.returns c).After-forget_pages

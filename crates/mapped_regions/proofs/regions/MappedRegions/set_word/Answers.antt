@@ -1,4 +1,4 @@
-use Rattle.std.proofs.Common.{◌≡◌, ℕ, ◌+◌, ◌*◌, ◌/◌, ◌%◌, Option, Some, None, refl, ap, length, length-set, ◌∙◌, arith}
+use Rattle.std.proofs.Common.{◌≡◌, ℕ, ◌+◌, ◌*◌, ◌/◌, ◌%◌, Option, Some, None, refl, ap, length, length-set, ◌∙◌}
 use Rattle.std.specs.Prelude.{IfSome}
 use Rattle.paging_core.specs.Memory.{word_at}
 use Rattle.paging_core.specs.Walk.{Place, walk_of}
@@ -18,7 +18,7 @@ invariant_of-self c =
     let larges = stored_larges c.args.self.now.frames c.set_word.new.self c.args.self.now.root c.args.at c.args.value f.place free c.args.self.now.mapped.root_in c.requires.word.aligned c.requires.word.canonical f.found put tree in
     let size = ap length put ∙ length-set c.args.self.now.frames (512 * f.place.frame + c.args.at % 4096 / 8) c.args.value in
     record {
-      met = met_stay c.args.self.now.frames c.set_word.new.self c.args.self.now.root c.frame_kept-frame.new.self (λ number met is. walks 3 number (omega arith) ∙ is) (λ number large is. larges number ∙ is) c.frame_kept-frame.ensures.met;
+      met = met_stay c.args.self.now.frames c.set_word.new.self c.args.self.now.root c.frame_kept-frame.new.self (λ l number met le is. walks l number le ∙ is) (λ number large is. larges number ∙ is) c.frame_kept-frame.ensures.met;
       mapped = stored_mapped (shown c.args.self.now) c.set_word.new.self c.args.self.now.mapped size (stored_tree c.args.self.now.frames c.set_word.new.self c.args.self.now.root c.args.at c.args.value f.place free c.args.self.now.mapped.root_in c.requires.word.aligned c.requires.word.canonical f.found put tree) walks larges;
     }
 

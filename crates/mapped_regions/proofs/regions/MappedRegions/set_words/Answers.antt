@@ -15,7 +15,7 @@ invariant_of-self c =
     let walks = written_walks c.args.self.now.frames c.write_words.new.self c.args.self.now.root (c.args.at / 4096) f.place free f.found put.size (run_elsewhere c.args.self.now.frames c.write_words.new.self c.args.self.now.root (c.args.at / 4096) (c.args.at % 4096 / 8) c.args.words.now f.place free f.found c.requires.fits put tree) tree in
     let larges = written_larges c.args.self.now.frames c.write_words.new.self c.args.self.now.root (c.args.at / 4096) f.place free f.found put.size (run_elsewhere c.args.self.now.frames c.write_words.new.self c.args.self.now.root (c.args.at / 4096) (c.args.at % 4096 / 8) c.args.words.now f.place free f.found c.requires.fits put tree) tree in
     record {
-      met = met_stay c.args.self.now.frames c.write_words.new.self c.args.self.now.root c.meet-frame.new.self (λ number met is. walks 3 number (omega arith) ∙ is) (λ number large is. larges number ∙ is) c.meet-frame.ensures.met;
+      met = met_stay c.args.self.now.frames c.write_words.new.self c.args.self.now.root c.meet-frame.new.self (λ l number met le is. walks l number le ∙ is) (λ number large is. larges number ∙ is) c.meet-frame.ensures.met;
       mapped = stored_mapped (shown c.args.self.now) c.write_words.new.self c.args.self.now.mapped put.size (written_tree c.args.self.now.frames c.write_words.new.self c.args.self.now.root (c.args.at / 4096) f.place free f.found put.size (run_elsewhere c.args.self.now.frames c.write_words.new.self c.args.self.now.root (c.args.at / 4096) (c.args.at % 4096 / 8) c.args.words.now f.place free f.found c.requires.fits put tree) tree) walks larges;
     }
 

@@ -1,4 +1,0 @@
-use Rattle.mapped_regions.proofs.met_slots.MetSlots.forget_large_pages.Goals as goal
-
-pub returns : goal.returns
-returns c = λ words root tables. (tables, c.none_met-self.ensures.large_pages words root)
