@@ -1,0 +1,9 @@
+pub mod Columns
+pub mod Drawn
+pub mod Near
+pub mod Numbers
+pub mod Runs
+pub mod Shares
+pub mod Steps
+pub mod Tiling
+pub mod Totals

@@ -1,0 +1,39 @@
+-- The shades of a row of cells.
+use Rattle.std.specs.Prelude.{◌≤◌, ◌<◌, ℕ, zero, suc, ◌+◌, ◌-◌, ◌*◌, ◌/◌, min, List, [], ◌∷◌, ◌++◌}
+use Rattle.heap_cells.specs.declared.spans.Span.{Span}
+use Rattle.heap_cells.specs.declared.scale.Scale.{Scale}
+use Rattle.heap_cells.specs.declared.scale.Row.{Row}
+use Rattle.heap_cells.specs.Spans.{used_in}
+
+-- the columns of all cells: they are 1024 pixels wide together
+abbrev pub columns_of : Scale → ℕ
+columns_of scale = 1024 / scale.side
+
+-- The calls after which a column shows the heap: that is the state after the last call of those that lie in it or left of it, and no mean.
+abbrev pub calls_at : Scale → ℕ → ℕ
+calls_at scale column = (column + 1) * scale.calls / columns_of scale
+
+-- Of so many shades the one of a cell with `used` of its bytes: their part of the cell, rounded up.
+abbrev pub shade_of : ℕ → ℕ → ℕ → ℕ
+shade_of shades used bytes = (shades * min used bytes + (bytes - 1)) / bytes
+
+-- the shade of a row's cell in a column
+abbrev pub cell_shade : Scale → ℕ → Row → List Span → ℕ → ℕ
+cell_shade scale shades row spans column = shade_of shades (used_in row.low row.high (calls_at scale column) spans) (row.high - row.low)
+
+-- the shades of the first so many cells of a row
+abbrev pub first_shades : Scale → ℕ → Row → List Span → ℕ → List ℕ
+first_shades scale shades row spans zero = []
+first_shades scale shades row spans (suc column) = first_shades scale shades row spans column ++ cell_shade scale shades row spans column ∷ []
+
+-- the shades of all cells of a row
+unfoldable pub row_shades : Scale → ℕ → Row → List Span → List ℕ
+row_shades scale shades row spans = first_shades scale shades row spans (columns_of scale)
+
+-- a shade of so many is the share of used bytes, rounded up: the least one that is no less
+pub record IsShare (shades used bytes : ℕ) : Type 0 where
+  pub enough : shades * used ≤ shade_of shades used bytes * bytes
+  pub least : (shade : ℕ) → shades * used ≤ shade * bytes → shade_of shades used bytes ≤ shade
+
+abbrev pub ShadesAreShares : Type 0
+ShadesAreShares = (shades used bytes : ℕ) → 0 < bytes → used ≤ bytes → IsShare shades used bytes

@@ -1,0 +1,6 @@
+pub mod Counted
+pub mod Greatest
+pub mod Loops
+pub mod Meets
+pub mod Numbers
+pub mod Starts

@@ -1,0 +1,108 @@
+-- The user's regions over a run: a lane for each of the six lowest addresses at which there are some.
+use Rattle.std.specs.Prelude.{ℕ, zero, suc, ◌+◌, ◌-◌, ◌*◌, ◌^◌, max, Bool, ◌&&◌, nat_eq, nat_le, List, [], ◌∷◌, ◌++◌, length, codes, if◌then◌else◌}
+use Rattle.heap_history.specs.declared.history.Mapping.{Mapping}
+use Rattle.heap_history.specs.Columns.{x_of}
+use Rattle.heap_map.specs.Words.{hexadecimal, commas}
+use Rattle.heap_map.specs.Shapes.{text_at, rect, titled}
+use Rattle.heap_curves.specs.Addresses.{least_start, all_addresses}
+use Rattle.paging_core.specs.declared.page_table.Rights.{Rights}
+
+-- a right that is granted by its letter, else a dash
+abbrev pub right_word : Bool → List ℕ → List ℕ
+right_word granted letter = if granted then letter else codes "-"
+
+-- what may be done with the pages of a region
+unfoldable pub rights_words : Rights → List ℕ
+rights_words rights = codes "r" ++ (right_word rights.write (codes "w") ++ (right_word rights.user (codes "u") ++ right_word rights.fetch (codes "x")))
+
+-- so many pages, with their rights
+unfoldable pub pages_words : Mapping → List ℕ
+pages_words user = commas user.region.pages ++ ((if nat_eq user.region.pages 1 then codes " page " else codes " pages ") ++ rights_words user.region.rights)
+
+-- the label of a region
+unfoldable pub label_words : Mapping → List ℕ
+label_words user = pages_words user ++ (if nat_eq user.large 0 then [] else codes ", " ++ (commas user.large ++ codes " large"))
+
+-- when a region was there; calls are counted from 1
+unfoldable pub when_words : Mapping → List ℕ
+when_words user = codes ", from call " ++ (commas (user.born + 1) ++ (codes " to call " ++ commas user.end))
+
+-- what is said of a region
+unfoldable pub region_title : Mapping → List ℕ
+region_title user = hexadecimal user.region.start ++ (codes " + " ++ (label_words user ++ when_words user))
+
+-- from where to where a region is drawn: three pixels at least
+abbrev pub region_left : ℕ → Mapping → ℕ
+region_left calls user = x_of user.born calls
+
+abbrev pub region_right : ℕ → Mapping → ℕ
+region_right calls user = max (x_of user.end calls) (x_of user.born calls + 3)
+
+abbrev pub region_width : ℕ → Mapping → ℕ
+region_width calls user = region_right calls user - region_left calls user
+
+-- the label in a region, if it has room
+unfoldable pub label_text : ℕ → ℕ → Mapping → List ℕ
+label_text calls y user =
+    if nat_le (8 * length (label_words user) + 8) (region_width calls user) then text_at (codes "m in") (region_left calls user + 5) (y + 13) (label_words user) else []
+
+-- the mark of a region that has large pages
+unfoldable pub large_text : ℕ → ℕ → Mapping → List ℕ
+large_text calls y user = if nat_eq user.large 0 then [] else rect (codes "l") (region_left calls user) y (region_width calls user) 3
+
+-- a region in its lane
+unfoldable pub region_text : ℕ → ℕ → Mapping → List ℕ
+region_text calls y user =
+    titled (codes "w") (region_left calls user) y (region_width calls user) 16 (region_title user)
+    ++ (large_text calls y user ++ label_text calls y user)
+
+-- Whether a region is drawn in the lane of an address that is drawn up to a pixel: if three of its pixels are not drawn yet. So a lane has
+-- few rectangles, however many short regions it has.
+abbrev pub is_drawn : ℕ → ℕ → ℕ → Mapping → Bool
+is_drawn calls start drawn user = nat_eq user.region.start start && nat_le (drawn + 3) (region_right calls user)
+
+-- the regions of a lane that is drawn up to a pixel
+abbrev pub regions_text : ℕ → ℕ → ℕ → ℕ → List Mapping → List ℕ
+regions_text calls y start drawn [] = []
+regions_text calls y start drawn (user ∷ users) =
+    if is_drawn calls start drawn user then region_text calls y user ++ regions_text calls y start (region_right calls user) users
+    else regions_text calls y start drawn users
+
+-- the ground of a lane, with its address
+unfoldable pub ground_text : ℕ → ℕ → List ℕ
+ground_text y start = text_at (codes "m e faint") 134 (y + 12) (hexadecimal start) ++ rect (codes "panel") 144 y 1024 16
+
+-- a lane
+unfoldable pub lane_text : ℕ → ℕ → ℕ → List Mapping → List ℕ
+lane_text calls y start users = ground_text y start ++ regions_text calls y start 0 users
+
+-- the addresses that have no lane
+unfoldable pub addresses_word : ℕ → List ℕ
+addresses_word more = if nat_eq more 1 then codes " more address" else codes " more addresses"
+
+unfoldable pub more_words : ℕ → List ℕ
+more_words more = codes "and " ++ (commas more ++ addresses_word more)
+
+-- those from one on, if there are some
+unfoldable pub more_text : ℕ → ℕ → List Mapping → List ℕ
+more_text y low users = if nat_eq (least_start low users) (2 ^ 64) then [] else text_at (codes "faint") 149 (y + 12) (more_words (all_addresses low users))
+
+-- so many lanes at most, one below the other, and then what has none
+abbrev pub lanes_from : ℕ → ℕ → ℕ → ℕ → List Mapping → List ℕ
+lanes_from zero calls y low users = more_text y low users
+lanes_from (suc lanes) calls y low users =
+    if nat_eq (least_start low users) (2 ^ 64) then []
+    else lane_text calls y (least_start low users) users ++ lanes_from lanes calls (y + 19) (least_start low users + 1) users
+
+-- all lanes
+unfoldable pub lanes_text : ℕ → ℕ → List Mapping → List ℕ
+lanes_text y calls users = lanes_from 6 calls y 0 users
+
+-- their height: 19 for each line
+abbrev pub height_from : ℕ → ℕ → List Mapping → ℕ
+height_from zero low users = if nat_eq (least_start low users) (2 ^ 64) then 0 else 19
+height_from (suc lanes) low users =
+    if nat_eq (least_start low users) (2 ^ 64) then 0 else 19 + height_from lanes (least_start low users + 1) users
+
+unfoldable pub lanes_height : List Mapping → ℕ
+lanes_height users = height_from 6 0 users

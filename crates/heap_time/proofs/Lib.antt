@@ -1,0 +1,4 @@
+pub mod Ascending
+pub mod Numbers
+pub mod Steps
+pub mod Tiles

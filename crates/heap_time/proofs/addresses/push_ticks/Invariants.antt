@@ -1,0 +1,6 @@
+use Rattle.std.proofs.Common.{◌≡◌, ◌++◌, string_bytes}
+use Rattle.heap_time.specs.Addresses.{ticks_text}
+use Rattle.heap_time.proofs.addresses.push_ticks.Given as goal
+
+abbrev pub invariant-loop-tick : goal.invariant-loop-tick
+invariant-loop-tick l = string_bytes l.out ≡ string_bytes l.fn.out ++ ticks_text l.band l.step l.tick

@@ -1,0 +1,13 @@
+pub mod Addresses
+pub mod Axis
+pub mod Bands
+pub mod Blocks
+pub mod Columns
+pub mod Covers
+pub mod Labels
+pub mod Large
+pub mod Moves
+pub mod Legend
+pub mod Shapes
+pub mod Time
+pub mod Tiling
