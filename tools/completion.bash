@@ -10,8 +10,8 @@ _limzhur_heap() {
         'heap 2 --help') offered=lines ;;
         'heap '[2-6]' run') offered="${configuration[place - 2]}" ;;
         'heap '[4-8]' gen') offered="${configuration[place - 4]}" ;;
-        'heap_picture 1 '*) offered="map ${configuration[0]} --help --version" ;;
-        'heap_picture '[2-6]' map') offered="${configuration[place - 2]}" ;;
+        'heap_picture 1 '*) offered="map tables time ${configuration[0]} --help --version" ;;
+        'heap_picture '[2-6]' map' | 'heap_picture '[2-6]' tables' | 'heap_picture '[2-6]' time') offered="${configuration[place - 2]}" ;;
         heap_*' 1 '*) offered="${configuration[0]} --help --version" ;;
         heap_*' '[2-5]' 0x'* | heap_*' '[2-5]' '[0-9]*) offered="${configuration[place - 1]}" ;;
     esac

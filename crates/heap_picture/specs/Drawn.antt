@@ -10,16 +10,20 @@ use Rattle.heap_report.specs.Reported.{EndText}
 use Rattle.heap_report.specs.Telling.{Tells}
 use Rattle.heap_picture.specs.Picture.{picture_of}
 use Rattle.heap_picture.specs.Tables.{tables_of}
+use Rattle.heap_picture.specs.Timing.{run_of}
 
--- the words of the run: those behind `map` or `tables`, where one of them is the first word
+-- the words of the run: those after `map`, `tables` or `time`, if one of them is the first word
 abbrev pub run_words : List (List ℕ) → List (List ℕ)
 run_words [] = []
-run_words (word ∷ words) = if bytes_eq word (codes "map") then words else if bytes_eq word (codes "tables") then words else word ∷ words
+run_words (word ∷ words) =
+    if bytes_eq word (codes "map") then words else if bytes_eq word (codes "tables") then words else if bytes_eq word (codes "time") then words else word ∷ words
 
--- the drawing for which the words ask: the page tables, where the first is `tables`, and else the map of the heap
+-- the drawing for which the words ask: the page tables if the first is `tables`, the heap over the run if it is `time`, and else
+-- the map of the heap
 abbrev pub drawing_for : List ℕ → List (List ℕ) → EndText
 drawing_for style [] = picture_of style
-drawing_for style (word ∷ words) = if bytes_eq word (codes "map") then picture_of style else if bytes_eq word (codes "tables") then tables_of style else picture_of style
+drawing_for style (word ∷ words) =
+    if bytes_eq word (codes "map") then picture_of style else if bytes_eq word (codes "tables") then tables_of style else if bytes_eq word (codes "time") then run_of style else picture_of style
 
 -- The run that the words name was told of, over a source and a sink, each as it was and as it then is. So ended the command.
 abbrev pub HasDrawn : {S K : Type 0} → (List (List ℕ) → EndText) → Streams S K → List (String Global) → S → S → K → K → ℕ → Type 0

@@ -5,3 +5,4 @@ pub mod Picture
 pub mod Regions
 pub mod Style
 pub mod Tables
+pub mod Timing

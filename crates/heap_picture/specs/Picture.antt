@@ -1,6 +1,8 @@
 -- The picture of a run.
 use Rattle.std.specs.Prelude.{ℕ, ◌+◌, List, ◌++◌, codes, decimal}
 use Rattle.dlmalloc_chunks.specs.declared.extent.Extent.{Extent}
+use Rattle.heap_model.specs.declared.answer.Answer.{Answer}
+use Rattle.heap_model.specs.declared.call.Call.{Call}
 use Rattle.heap_model.specs.State.{State}
 use Rattle.kernel_heap.specs.declared.machine.Machine.{Machine}
 use Rattle.heap_map.specs.Map.{map_text, lines_number, below_lines}
@@ -16,7 +18,7 @@ unfoldable pub head_text : List ℕ → ℕ → List ℕ
 head_text style height = svg_text height ++ style
 
 -- The picture of the last state of a run, of the bytes that are live in it and were at most, and of its extents.
-unfoldable pub picture_of : List ℕ → Machine → State → ℕ → ℕ → List Extent → List ℕ
-picture_of style machine s live peak extents =
+unfoldable pub picture_of : List ℕ → Machine → State → ℕ → ℕ → List Extent → List Call → List Answer → List ℕ
+picture_of style machine s live peak extents calls answers =
     head_text style (below_lines (lines_number extents) + 210)
     ++ (map_text live peak extents ++ (regions_text (below_lines (lines_number extents)) s ++ codes "</svg>\n"))

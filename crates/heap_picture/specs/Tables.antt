@@ -3,6 +3,8 @@ use Rattle.std.specs.Prelude.{ℕ, List, ◌++◌, length, codes}
 use Rattle.dlmalloc_chunks.specs.declared.extent.Extent.{Extent}
 use Rattle.paging_core.specs.Memory.{frame_count}
 use Rattle.heap_model.specs.Machine.{Paged}
+use Rattle.heap_model.specs.declared.answer.Answer.{Answer}
+use Rattle.heap_model.specs.declared.call.Call.{Call}
 use Rattle.heap_model.specs.State.{State}
 use Rattle.kernel_heap.specs.declared.machine.Machine.{Machine}
 use Rattle.kernel_heap.specs.Machine.{system_of}
@@ -18,5 +20,5 @@ drawing_of style p =
     ++ (tables_text (lines_of p.words p.root) (frame_count p.words) ++ codes "</svg>\n")
 
 -- The drawing of the last machine of a run: of its memory, from the root on that its processor has.
-abbrev pub tables_of : List ℕ → Machine → State → ℕ → ℕ → List Extent → List ℕ
-tables_of style machine s live peak extents = drawing_of style (paged (system_of machine.heap))
+abbrev pub tables_of : List ℕ → Machine → State → ℕ → ℕ → List Extent → List Call → List Answer → List ℕ
+tables_of style machine s live peak extents calls answers = drawing_of style (paged (system_of machine.heap))

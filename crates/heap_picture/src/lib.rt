@@ -1,6 +1,6 @@
-//! Drawings of what a recorded run leaves, each one SVG document: the map of the heap ([`heap_map`]), and beside what the
-//! heap consists of the regions of the heap and the user, with their pages, their owners and their large pages; or the page
-//! tables ([`heap_tables`]).
+//! Drawings of a recorded run, each one SVG document: the map of the heap that it leaves ([`heap_map`]), and beside what the
+//! heap consists of the regions of the heap and the user, with their pages, their owners and their large pages; the page
+//! tables ([`heap_tables`]); or the heap over the whole run ([`heap_time`]).
 #![tactic(auto)]
 
 mod large;
@@ -10,6 +10,7 @@ mod picture;
 mod regions;
 mod style;
 mod tables;
+mod timing;
 
 pub use laws::each_region_is_in_one_line;
 pub use picture::{Picture, picture_main};

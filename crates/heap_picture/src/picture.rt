@@ -1,5 +1,5 @@
 // The picture of a run.
-ghost use Rattle.std.specs.Prelude.{◌≡◌, ◌≤◌, ◌^◌, ◌<◌, ◌++◌, codes, map, string_bytes, OnOk};
+ghost use Rattle.std.specs.Prelude.{◌≡◌, ◌≤◌, ◌^◌, ◌<◌, ◌++◌, ⊤, codes, map, string_bytes, OnOk};
 ghost use Rattle.std.specs.Str.{bytes_eq};
 ghost use Rattle.dlmalloc_chunks.specs.Tiling.{AreInSegments};
 ghost use Rattle.heap_model.specs.State.{State};
@@ -12,11 +12,12 @@ ghost use Rattle.heap_picture.specs.Style.{style};
 use crate::regions::push_regions;
 use crate::style::style;
 use crate::tables::Tables;
+use crate::timing::Timing;
 use command_line::Command;
 use heap_map::{lines_number, push_map};
 use heap_program::{Sink, Source};
 use heap_report::{Reported, Tell, tell_main};
-use kernel_heap::{Extent, Machine};
+use kernel_heap::{Answer, Call, Extent, Machine};
 use std::alloc::{AllocError, Global};
 
 #[tactic(auto, unfolding(crate::specs::Picture::svg_text))]
@@ -39,12 +40,24 @@ pub fn push_head(out: &mut String, height: u128) -> Result<(), AllocError>
 }
 
 /// The picture of a run as its text.
+#[derive(Drop)]
 pub struct Picture;
 
 impl Tell for Picture {
+    ghost keeps = { λ picture calls answers. ⊤ };
+
     ghost text = { picture_of style };
 
+    fn new(_alloc: Global) -> Picture {
+        Picture
+    }
+
+    fn note(&mut self, _call: &Call, _answer: &Answer) -> Result<(), AllocError> {
+        Ok(())
+    }
+
     fn push(
+        self,
         alloc: Global,
         output: &mut String,
         machine: &Machine,
@@ -75,9 +88,16 @@ fn is_tables(word: &str) -> bool
     word.as_bytes() == b"tables".as_slice()
 }
 
-/// Replays the calls of the source, asks for the extents, and writes a drawing of the end of that run, one SVG document. The
-/// words are those of [`tell_main`]. `map` or `tables` may stand before them, for the heap or its page tables; the heap is
-/// drawn if neither does. Lines and statuses are its own.
+// Whether a word asks for the heap over the run.
+fn is_time(word: &str) -> bool
+    ensures { result ≡ bytes_eq word.now (codes "time") }
+{
+    word.as_bytes() == b"time".as_slice()
+}
+
+/// Replays the calls of the source, asks for the extents, and writes a drawing of that run, one SVG document. The words are
+/// those of [`tell_main`]. `map`, `tables` or `time` may stand before them, for the heap at the end, its page tables then, or
+/// the heap over the whole run; the heap at the end is drawn if none does. Lines and statuses are its own.
 pub fn picture_main<S: Source, K: Sink>(
     alloc: Global,
     words: &[String],
@@ -94,6 +114,8 @@ pub fn picture_main<S: Source, K: Sink>(
                 tell_main::<Picture, S, K>(alloc, others, source, sink)
             } else if is_tables(word.as_str()) {
                 tell_main::<Tables, S, K>(alloc, others, source, sink)
+            } else if is_time(word.as_str()) {
+                tell_main::<Timing, S, K>(alloc, others, source, sink)
             } else {
                 tell_main::<Picture, S, K>(alloc, words, source, sink)
             }

@@ -1,5 +1,5 @@
 // The page tables that a run leaves.
-ghost use Rattle.std.specs.Prelude.{◌≡◌, ◌++◌, OnOk, string_bytes};
+ghost use Rattle.std.specs.Prelude.{◌≡◌, ◌++◌, ⊤, OnOk, string_bytes};
 ghost use Rattle.kernel_heap.specs.System.{paged};
 ghost use Rattle.heap_model.specs.State.{State};
 ghost use Rattle.heap_picture.specs.Style.{style};
@@ -8,7 +8,7 @@ ghost use Rattle.heap_picture.specs.Tables.{drawing_of, tables_of};
 use crate::picture::push_head;
 use heap_report::Tell;
 use heap_tables::{push_tables, table_lines, tables_height};
-use kernel_heap::{Extent, Machine, PagedSystem};
+use kernel_heap::{Answer, Call, Extent, Machine, PagedSystem};
 use std::alloc::{AllocError, Global};
 
 // Puts the drawing of the tables of a system at the end.
@@ -23,12 +23,24 @@ fn push_drawing(alloc: Global, out: &mut String, system: &PagedSystem) -> Result
 }
 
 /// The page tables of a run's last machine as its text.
+#[derive(Drop)]
 pub struct Tables;
 
 impl Tell for Tables {
+    ghost keeps = { λ tables calls answers. ⊤ };
+
     ghost text = { tables_of style };
 
+    fn new(_alloc: Global) -> Tables {
+        Tables
+    }
+
+    fn note(&mut self, _call: &Call, _answer: &Answer) -> Result<(), AllocError> {
+        Ok(())
+    }
+
     fn push(
+        self,
         alloc: Global,
         output: &mut String,
         machine: &Machine,

@@ -14,7 +14,7 @@ use Rattle.heap_model.specs.Refusal.{own_align, least_align}
 use Rattle.dlmalloc_chunks.specs.Request.{wanted}
 use Rattle.heap_model.specs.Answer.{IsReply, IsAllowed, IsResizing, NewPages, after, all_ended, changed, known_block, new_block, new_pages, resized_block, seen_block, slots_of, with_block, with_regions}
 use Rattle.heap_report.specs.Live.{block_size, sizes_of}
-use Rattle.heap_report.specs.Sizes.{sizes_after}
+use Rattle.heap_recorder.specs.Sizes.{sizes_after}
 
 -- a live block with another size
 resized : (s : State) (number size address : ℕ) (n : Block → ℕ) (align : Block → ℕ) (regions : Option (List Region)) (found : Option Block) → MatchOption found ⊥ (λ block. IsResizing s block (n block) address regions)

@@ -1,3 +1,4 @@
+pub mod KeptMoments
 pub mod KeptSizes
 pub mod Lengths
 pub mod Listing

@@ -18,52 +18,56 @@ use Rattle.heap_program.specs.Responses.{HasResponded}
 use Rattle.heap_program.specs.Stop.{HasRead, HasStopped}
 use Rattle.heap_program.proofs.Known.{appends_nothing, consumes_nothing}
 use Rattle.heap_report.specs.declared.listed.Listed.{Listed}
-use Rattle.heap_report.specs.declared.replay.Replay.{Replay}
+use Rattle.heap_report.specs.declared.noted.Noted.{Noted}
 use Rattle.heap_report.specs.Calls.{calls_in, calls_of}
 use Rattle.heap_report.specs.Listed.{IsListed}
 use Rattle.heap_report.specs.Live.{live, peak}
-use Rattle.heap_report.specs.Replaying.{IsBegun, IsReplayed, IsReplaying}
-use Rattle.heap_report.specs.ReplayingLaws.{calls_on, peak-append, peak_end, replaying_on}
+use Rattle.heap_report.specs.Noting.{IsBegunWith, IsNoted, IsReplaying}
+use Rattle.heap_report.specs.NotingLaws.{replaying_on}
+use Rattle.heap_report.specs.ReplayingLaws.{calls_on, peak-append, peak_end}
 use Rattle.heap_report.specs.Reported.{IsReplayOf, IsTold, IsToldInPart, text_of_run}
 use Rattle.heap_report.proofs.Serving.{begun_follows, none_live}
 
 abbrev Text : Type 0
-Text = Machine → State → ℕ → ℕ → List Extent → List ℕ
+Text = Machine → State → ℕ → ℕ → List Extent → List Call → List Answer → List ℕ
 
 -- all calls of the input were served, the last line's too
-pub served_input : (first last end : Replay) (line : List ℕ) (l l1 t t1 : Option (List ℕ)) (n : ℕ) (before after : List ℕ) (h : HasRead IsReplaying first last line l l1 t t1 n) → HasResponded IsReplaying last (items_of line) before after end
-    → IsReplayed first (calls_in (items_of h.bytes)) end
-served_input first last end line l l1 t t1 n before after h k =
+pub served_input : {T : Type 0} (keeps : T → List Call → List Answer → Type 0) (first last end : Noted T) (line : List ℕ) (l l1 t t1 : Option (List ℕ)) (n : ℕ) (before after : List ℕ) (h : HasRead (IsReplaying keeps) first last line l l1 t t1 n) → HasResponded (IsReplaying keeps) last (items_of line) before after end
+    → IsNoted keeps first (calls_in (items_of h.bytes)) end
+served_input keeps first last end line l l1 t t1 n before after h k =
     let a = h.responded in
     let items : items_of h.bytes ≡ a.items ++ items_of line =
     ap items_of (sym (append-nil h.bytes)) ∙ a.read [] ∙ ap (λ (rest : List ℕ). a.items ++ items_of rest) (append-nil line) in
-    let both = replaying_on first last end a.items (items_of line) h.told k.told a.responses k.responses in
-    subst (λ (l : List (Option Call)). IsReplayed first (calls_in l) end) (sym items) both.replayed
+    let both = replaying_on keeps first last end a.items (items_of line) h.told k.told a.responses k.responses in
+    subst (λ (l : List (Option Call)). IsNoted keeps first (calls_in l) end) (sym items) both.replayed
 
 -- and then the extents were asked for
-pub record IsWhole (s : State) (input : List ℕ) (listed : Listed) : Type 0 where
+pub record IsWhole {T : Type 0} (keeps : T → List Call → List Answer → Type 0) (s : State) (input : List ℕ) (kept : T) (listed : Listed) : Type 0 where
   pub state : State
   pub replay : IsReplayOf s input listed.answers state listed.extents
   pub at : IsAt listed.machine state
   pub live_is : listed.live ≡ live state
   pub peak_is : listed.peak ≡ peak s (calls_of input) listed.answers
+  pub keeping : keeps kept (calls_in (items_of input)) replay.last.earlier
 
 -- the greatest over a run that begins at 0 and one behind it
 joined_peak : (before first last both middle now : ℕ) → now ≡ max middle last → middle ≡ max before first → before ≡ 0 → both ≡ max first last → now ≡ both
 joined_peak before first last both middle now top up none joined = omega (arith, top, up, none, joined)
 
-pub whole : (s : State) (machine : Machine) (first end : Replay) (listed : Listed) (input : List ℕ) → IsAt machine s → s.blocks ≡ [] → IsBegun machine first → IsReplayed first (calls_in (items_of input)) end → IsListed end listed → IsWhole s input listed
-whole s machine first end listed input at none begun served lists =
+pub whole : {T : Type 0} (keeps : T → List Call → List Answer → Type 0) (s : State) (machine : Machine) (first end : Noted T) (listed : Listed) (input : List ℕ) → IsAt machine s → s.blocks ≡ [] → IsBegunWith keeps machine first → IsNoted keeps first (calls_in (items_of input)) end → IsListed end.replay listed → IsWhole keeps s input end.kept listed
+whole keeps s machine first end listed input at none begins served lists =
+    let begun = begins.begun in
     let calls = calls_in (items_of input) in
     let nothing : live s ≡ 0 = none_live s none in
-    let k = served s (begun_follows s machine first begun at none) (omega (arith, nothing)) in
+    let all_served = served s (begun_follows s machine first.replay begun at none) (omega (arith, nothing)) in
+    let k = all_served.served in
     let up = peak_end s k.state calls k.answers k.run in
     let e = lists k.state k.follows (omega (arith, up, k.peak_is)) in
     let answers : listed.answers ≡ k.answers ++ e.answer ∷ [] = e.kept ∙ ap (λ (l : List Answer). l ++ e.answer ∷ []) (k.kept ∙ ap (λ (l : List Answer). l ++ k.answers) begun.answers) in
     let all : RunsTo s (map Some (calls_of input)) (map Some (k.answers ++ e.answer ∷ [])) e.state =
     calls_on s k.state e.state calls (Extents ∷ []) k.answers (e.answer ∷ []) k.run e.run in
     let joined = peak-append s k.state calls (Extents ∷ []) k.answers (e.answer ∷ []) k.run in
-    let top : listed.peak ≡ peak s (calls_of input) (k.answers ++ e.answer ∷ []) = joined_peak first.peak (peak s calls k.answers) (peak k.state (Extents ∷ []) (e.answer ∷ [])) (peak s (calls_of input) (k.answers ++ e.answer ∷ [])) end.peak listed.peak e.peak_is k.peak_is begun.peak_is joined in
+    let top : listed.peak ≡ peak s (calls_of input) (k.answers ++ e.answer ∷ []) = joined_peak first.replay.peak (peak s calls k.answers) (peak k.state (Extents ∷ []) (e.answer ∷ [])) (peak s (calls_of input) (k.answers ++ e.answer ∷ [])) end.replay.peak listed.peak e.peak_is k.peak_is begun.peak_is joined in
     record {
       state = e.state;
       replay = record {
@@ -75,17 +79,21 @@ whole s machine first end listed input at none begun served lists =
       at = e.at;
       live_is = e.live_is;
       peak_is = top ∙ ap (λ (l : List Answer). peak s (calls_of input) l) (sym answers);
+      keeping = all_served.noted [] [] begins.kept;
     }
 
 -- the text of the run is the one pushed
-pub text_is : (text : Text) (s : State) (input : List ℕ) (listed : Listed) (extents : List Extent) (output before : List ℕ) (w : IsWhole s input listed) → extents ≡ listed.extents → ((e : State) → IsAt listed.machine e → output ≡ before ++ text listed.machine e listed.live listed.peak extents) → before ≡ []
-    → output ≡ text_of_run text listed.machine s input listed.answers w.state listed.extents
-text_is text s input listed extents output before w same pushed empty =
-    pushed w.state w.at
-    ∙ ap (λ (l : List ℕ). l ++ text listed.machine w.state listed.live listed.peak extents) empty
-    ∙ ap (λ (l : List Extent). text listed.machine w.state listed.live listed.peak l) same
-    ∙ ap (λ (n : ℕ). text listed.machine w.state n listed.peak listed.extents) w.live_is
-    ∙ ap (λ (n : ℕ). text listed.machine w.state (live w.state) n listed.extents) w.peak_is
+pub text_is : {T : Type 0} (keeps : T → List Call → List Answer → Type 0) (text : Text) (s : State) (input : List ℕ) (kept : T) (listed : Listed) (extents : List Extent) (output before : List ℕ) (w : IsWhole keeps s input kept listed) → extents ≡ listed.extents →
+    ((e : State) (calls : List Call) (answers : List Answer) → IsAt listed.machine e → keeps kept calls answers → output ≡ before ++ text listed.machine e listed.live listed.peak extents calls answers) → before ≡ []
+    → output ≡ text_of_run text listed.machine s input listed.answers w.state listed.extents w.replay.last.earlier
+text_is keeps text s input kept listed extents output before w same pushed empty =
+    let calls = calls_in (items_of input) in
+    let earlier = w.replay.last.earlier in
+    pushed w.state calls earlier w.at w.keeping
+    ∙ ap (λ (l : List ℕ). l ++ text listed.machine w.state listed.live listed.peak extents calls earlier) empty
+    ∙ ap (λ (l : List Extent). text listed.machine w.state listed.live listed.peak l calls earlier) same
+    ∙ ap (λ (n : ℕ). text listed.machine w.state n listed.peak listed.extents calls earlier) w.live_is
+    ∙ ap (λ (n : ℕ). text listed.machine w.state (live w.state) n listed.extents calls earlier) w.peak_is
 
 read_whole : (l l1 : Option (List ℕ)) (bytes : List ℕ) → Consumes l l1 bytes → IsAtEnd l1 → IsReadWhole l l1 bytes
 read_whole None l1 bytes consumed end = tt
@@ -101,34 +109,34 @@ appends_behind (Some us) (Some bs) None ys h k = absurd k
 appends_behind (Some us) (Some bs) (Some cs) ys h k = k ∙ ap (λ (l : List ℕ). l ++ ys) (h ∙ append-nil us)
 
 -- nothing went out while the input was read
-pub silent_read : (first last : Replay) (line : List ℕ) (l l1 t t1 : Option (List ℕ)) (n : ℕ) → HasRead IsReplaying first last line l l1 t t1 n → Appends t t1 []
-silent_read first last line l l1 t t1 n h = subst (λ (out : List ℕ). Appends t t1 out) h.responded.responses.silent h.appended
+pub silent_read : {T : Type 0} (keeps : T → List Call → List Answer → Type 0) (first last : Noted T) (line : List ℕ) (l l1 t t1 : Option (List ℕ)) (n : ℕ) → HasRead (IsReplaying keeps) first last line l l1 t t1 n → Appends t t1 []
+silent_read keeps first last line l l1 t t1 n h = subst (λ (out : List ℕ). Appends t t1 out) h.responded.responses.silent h.appended
 
 front_nothing : (told more whole : List ℕ) → told ++ more ≡ whole → whole ≡ [] → told ≡ []
 front_nothing [] more whole split none = refl
 front_nothing (x ∷ told) more whole split none = absurd (cc (split ∙ none))
 
-pub silent_stop : (first : Replay) (stop : Stop) (l l1 t t1 : Option (List ℕ)) → HasStopped IsReplaying first stop l l1 t t1 → Appends t t1 []
-silent_stop first stop l l1 t t1 h = subst (λ (out : List ℕ). Appends t t1 out) (front_nothing h.told h.front.more h.front.whole h.front.front h.front.responses.silent) h.appended
+pub silent_stop : {T : Type 0} (keeps : T → List Call → List Answer → Type 0) (first : Noted T) (stop : Stop) (l l1 t t1 : Option (List ℕ)) → HasStopped (IsReplaying keeps) first stop l l1 t t1 → Appends t t1 []
+silent_stop keeps first stop l l1 t t1 h = subst (λ (out : List ℕ). Appends t t1 out) (front_nothing h.told h.front.more h.front.whole h.front.front h.front.responses.silent) h.appended
 
 -- a run that stopped as it read
-pub part_stopped : (text : Text) (s : State) (first : Replay) (stop : Stop) (l l1 t t1 : Option (List ℕ)) → HasStopped IsReplaying first stop l l1 t t1 → IsToldInPart text s l l1 t t1
-part_stopped text s first stop l l1 t t1 h = record { taken = h.bytes; read = h.consumed; short = h.short; front = []; written = silent_stop first stop l l1 t t1 h; is = inl refl }
+pub part_stopped : {T : Type 0} (keeps : T → List Call → List Answer → Type 0) (text : Text) (s : State) (first : Noted T) (stop : Stop) (l l1 t t1 : Option (List ℕ)) → HasStopped (IsReplaying keeps) first stop l l1 t t1 → IsToldInPart text s l l1 t t1
+part_stopped keeps text s first stop l l1 t t1 h = record { taken = h.bytes; read = h.consumed; short = h.short; front = []; written = silent_stop keeps first stop l l1 t t1 h; is = inl refl }
 
 -- one that stopped after that, before it wrote
-pub part_read : (text : Text) (s : State) (first last : Replay) (line : List ℕ) (l l1 t t1 : Option (List ℕ)) (n : ℕ) → HasRead IsReplaying first last line l l1 t t1 n → n ≤ 2 ^ 30 → IsToldInPart text s l l1 t t1
-part_read text s first last line l l1 t t1 n h short =
-    record { taken = h.bytes; read = h.consumed; short = omega (arith, h.counted, short); front = []; written = silent_read first last line l l1 t t1 n h; is = inl refl }
+pub part_read : {T : Type 0} (keeps : T → List Call → List Answer → Type 0) (text : Text) (s : State) (first last : Noted T) (line : List ℕ) (l l1 t t1 : Option (List ℕ)) (n : ℕ) → HasRead (IsReplaying keeps) first last line l l1 t t1 n → n ≤ 2 ^ 30 → IsToldInPart text s l l1 t t1
+part_read keeps text s first last line l l1 t t1 n h short =
+    record { taken = h.bytes; read = h.consumed; short = omega (arith, h.counted, short); front = []; written = silent_read keeps first last line l l1 t t1 n h; is = inl refl }
 
 -- one that stopped as it wrote
-pub part_written : (text : Text) (s : State) (first last : Replay) (listed : Listed) (line output : List ℕ) (l l1 t t1 t2 : Option (List ℕ)) (n k : ℕ) (h : HasRead IsReplaying first last line l l1 t t1 n) → n ≤ 2 ^ 30 → IsAtEnd l1 → (w : IsWhole s h.bytes listed)
-    → output ≡ text_of_run text listed.machine s h.bytes listed.answers w.state listed.extents → Appends t1 t2 (take k output) → IsToldInPart text s l l1 t t2
-part_written text s first last listed line output l l1 t t1 t2 n k h short done w is written = record {
+pub part_written : {T : Type 0} (keeps : T → List Call → List Answer → Type 0) (text : Text) (s : State) (first last : Noted T) (kept : T) (listed : Listed) (line output : List ℕ) (l l1 t t1 t2 : Option (List ℕ)) (n k : ℕ) (h : HasRead (IsReplaying keeps) first last line l l1 t t1 n) → n ≤ 2 ^ 30 → IsAtEnd l1 → (w : IsWhole keeps s h.bytes kept listed)
+    → output ≡ text_of_run text listed.machine s h.bytes listed.answers w.state listed.extents w.replay.last.earlier → Appends t1 t2 (take k output) → IsToldInPart text s l l1 t t2
+part_written keeps text s first last kept listed line output l l1 t t1 t2 n k h short done w is written = record {
   taken = h.bytes;
   read = h.consumed;
   short = omega (arith, h.counted, short);
   front = take k output;
-  written = appends_behind t t1 t2 (take k output) (silent_read first last line l l1 t t1 n h) written;
+  written = appends_behind t t1 t2 (take k output) (silent_read keeps first last line l l1 t t1 n h) written;
   is = inr (record {
     input = h.bytes;
     read = read_whole l l1 h.bytes h.consumed done;
@@ -144,14 +152,14 @@ part_written text s first last listed line output l l1 t t1 t2 n k h short done 
 }
 
 -- one that ended well
-pub told : (text : Text) (s : State) (first last : Replay) (listed : Listed) (line output : List ℕ) (l l1 t t1 t2 : Option (List ℕ)) (flushed : Option ℕ) (n : ℕ) (h : HasRead IsReplaying first last line l l1 t t1 n) → IsAtEnd l1 → (w : IsWhole s h.bytes listed)
-    → output ≡ text_of_run text listed.machine s h.bytes listed.answers w.state listed.extents → Appends t1 t2 output → IsAllFlushed t2 flushed → IsTold text s l l1 t t2 flushed listed.machine listed.answers listed.extents
-told text s first last listed line output l l1 t t1 t2 flushed n h done w is written all = record {
+pub told : {T : Type 0} (keeps : T → List Call → List Answer → Type 0) (text : Text) (s : State) (first last : Noted T) (kept : T) (listed : Listed) (line output : List ℕ) (l l1 t t1 t2 : Option (List ℕ)) (flushed : Option ℕ) (n : ℕ) (h : HasRead (IsReplaying keeps) first last line l l1 t t1 n) → IsAtEnd l1 → (w : IsWhole keeps s h.bytes kept listed)
+    → output ≡ text_of_run text listed.machine s h.bytes listed.answers w.state listed.extents w.replay.last.earlier → Appends t1 t2 output → IsAllFlushed t2 flushed → IsTold text s l l1 t t2 flushed listed.machine listed.answers listed.extents
+told keeps text s first last kept listed line output l l1 t t1 t2 flushed n h done w is written all = record {
   input = h.bytes;
   read = read_whole l l1 h.bytes h.consumed done;
   state = w.state;
   replay = w.replay;
-  written = subst (Appends t t2) is (appends_behind t t1 t2 output (silent_read first last line l l1 t t1 n h) written);
+  written = subst (Appends t t2) is (appends_behind t t1 t2 output (silent_read keeps first last line l l1 t t1 n h) written);
   flushed_all = all;
   stands = w.at.stands;
 }

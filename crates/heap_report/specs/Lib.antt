@@ -1,10 +1,12 @@
 pub mod Calls
 pub mod Listed
 pub mod Live
+pub mod Moments
+pub mod Noting
+pub mod NotingLaws
 pub mod Ran
 pub mod Replaying
 pub mod ReplayingLaws
 pub mod Report
 pub mod Reported
-pub mod Sizes
 pub mod Telling

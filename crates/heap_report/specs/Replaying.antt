@@ -1,13 +1,15 @@
 -- How a replay goes on.
-use Rattle.std.specs.Prelude.{◌≡◌, ◌≤◌, ℕ, max, List, [], ◌++◌, map, Option, Some}
+use Rattle.std.specs.Prelude.{◌≡◌, ◌≤◌, max, sum, List, [], ◌++◌, map, Some}
 use Rattle.heap_model.specs.declared.answer.Answer.{Answer}
 use Rattle.heap_model.specs.declared.call.Call.{Call}
 use Rattle.heap_model.specs.State.{State}
+use Rattle.heap_model.specs.Machine.{IsStep}
 use Rattle.heap_model.specs.Run.{RunsTo}
 use Rattle.kernel_heap.specs.declared.machine.Machine.{Machine}
+use Rattle.kernel_heap.specs.Machine.{seen}
 use Rattle.heap_program.specs.Progress.{IsAt}
+use Rattle.heap_recorder.specs.Sizes.{sizes_after}
 use Rattle.heap_report.specs.declared.replay.Replay.{Replay}
-use Rattle.heap_report.specs.Calls.{calls_in}
 use Rattle.heap_report.specs.Live.{sizes_of, live, peak}
 
 -- the replay's machine stands for the state, and its sizes are those of the live blocks
@@ -28,10 +30,12 @@ pub record IsServedFrom (s : State) (old : Replay) (calls : List Call) (new : Re
 abbrev pub IsReplayed : Replay → List Call → Replay → Type 0
 IsReplayed old calls new = (s : State) → Follows s old → live s ≤ old.peak → IsServedFrom s old calls new
 
--- bad lines are passed over, and nothing is told
-pub record IsReplaying (old : Replay) (items : List (Option Call)) (told : List ℕ) (new : Replay) : Type 0 where
-  pub silent : told ≡ []
-  pub replayed : IsReplayed old (calls_in items) new
+-- The replay answered a call: as is allowed from each state for which its machine stood. The sizes and the peak are kept.
+pub record IsAnswered (old : Replay) (call : Call) (answer : Answer) (new : Replay) : Type 0 where
+  pub step : (s : State) → IsAt old.machine s → IsStep s call answer (seen new.machine)
+  pub answers : new.answers ≡ old.answers
+  pub sizes : new.sizes ≡ sizes_after old.sizes call answer.reply
+  pub peak_is : new.peak ≡ max old.peak (sum new.sizes)
 
 -- no call came yet
 pub record IsBegun (machine : Machine) (replay : Replay) : Type 0 where

@@ -3,6 +3,7 @@ use Rattle.std.specs.Prelude.{◌≡◌, ◌≤◌, ◌^◌, ◌+◌, ◌⊎◌,
 use Rattle.std.specs.Io.KnownBytes.{Appends, Consumes}
 use Rattle.dlmalloc_chunks.specs.declared.extent.Extent.{Extent}
 use Rattle.heap_model.specs.declared.answer.Answer.{Answer}
+use Rattle.heap_model.specs.declared.call.Call.{Call}
 use Rattle.heap_model.specs.Extents.{IsTiling}
 use Rattle.heap_model.specs.State.{State}
 use Rattle.heap_model.specs.Run.{IsGood, RunsTo}
@@ -11,7 +12,8 @@ use Rattle.kernel_heap.specs.declared.machine.Machine.{Machine}
 use Rattle.kernel_heap.specs.Machine.{seen}
 use Rattle.heap_program.specs.Flushed.{IsAllFlushed}
 use Rattle.heap_program.specs.Headline.{IsReadWhole}
-use Rattle.heap_report.specs.Calls.{calls_of}
+use Rattle.heap_program.specs.Lines.{items_of}
+use Rattle.heap_report.specs.Calls.{calls_in, calls_of}
 use Rattle.heap_report.specs.Listed.{EndsWith}
 use Rattle.heap_report.specs.Live.{live, peak}
 
@@ -23,13 +25,16 @@ pub record IsReplayOf (s : State) (input : List ℕ) (answers : List Answer) (st
   pub tiles : IsTiling state extents
   pub good : IsGood state
 
--- a text of the end of a run: of the machine, the state for which it stands, the bytes that are live and were at most, and the extents
+-- a text of a run: of the machine, the state for which it stands, the bytes that are live and were at most, the extents, and
+-- the calls and answers before those were asked for
 abbrev pub EndText : Type 0
-EndText = Machine → State → ℕ → ℕ → List Extent → List ℕ
+EndText = Machine → State → ℕ → ℕ → List Extent → List Call → List Answer → List ℕ
 
--- the text of such a run: of the machine and the state at its end, the bytes that are live there and were at most, and the extents
-abbrev pub text_of_run : EndText → Machine → State → List ℕ → List Answer → State → List Extent → List ℕ
-text_of_run text machine s input answers state extents = text machine state (live state) (peak s (calls_of input) answers) extents
+-- the text of such a run: of the machine and the state at its end, the bytes that are live there and were at most, the extents,
+-- and the calls of the input with the answers to them
+abbrev pub text_of_run : EndText → Machine → State → List ℕ → List Answer → State → List Extent → List Answer → List ℕ
+text_of_run text machine s input answers state extents earlier =
+    text machine state (live state) (peak s (calls_of input) answers) extents (calls_in (items_of input)) earlier
 
 -- A run that ended well. The source had the input and, after it, has `left`; the sink had taken `before`, and then `after`, of
 -- which `flushed` is flushed.
@@ -41,7 +46,7 @@ pub record IsTold (text : EndText) (s : State) (had left before after : Option (
   pub state : State
   pub replay : IsReplayOf s input answers state extents
   -- the text is written, and flushed
-  pub written : Appends before after (text_of_run text machine s input answers state extents)
+  pub written : Appends before after (text_of_run text machine s input answers state extents replay.last.earlier)
   pub flushed_all : IsAllFlushed after flushed
   -- the machine stands for the last state
   pub stands : Stands (seen machine) state
@@ -57,7 +62,7 @@ pub record IsFrontOfText (text : EndText) (s : State) (had left : Option (List �
   pub more : List ℕ
   pub machine : Machine
   pub stands : Stands (seen machine) state
-  pub is : front ++ more ≡ text_of_run text machine s input answers state extents
+  pub is : front ++ more ≡ text_of_run text machine s input answers state extents replay.last.earlier
 
 -- A run that stopped before its end: nothing is written, or a front of its text. It took at most one piece of 4096 bytes more than
 -- 2 ^ 30 bytes.

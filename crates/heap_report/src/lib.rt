@@ -6,14 +6,17 @@
 //! `tell_main` is the same for any such text (`Tell`).
 #![tactic(auto)]
 
+mod laws;
 mod listed;
-mod note;
+mod noted;
 mod replay;
 mod report;
 mod reported;
 mod tell;
 
+pub use laws::each_moment_is_of_its_state;
 pub use listed::Listed;
+pub use noted::Noted;
 pub use replay::Replay;
 pub use report::{Figures, report_main};
 pub use reported::Reported;

@@ -1,12 +1,10 @@
 // A run that is replayed.
-ghost use Rattle.std.specs.Prelude.{◌∷◌, [], OnOk};
-ghost use Rattle.heap_report.specs.Replaying.{IsReplaying, IsReplayed, IsBegun};
-ghost use Rattle.heap_report.specs.ReplayingLaws.{replaying_none, replaying_on};
+ghost use Rattle.std.specs.Prelude.{◌∷◌, [], IfOk, OnOk};
+ghost use Rattle.heap_report.specs.Replaying.{IsAnswered, IsReplayed, IsBegun};
 
-use crate::note::note_answer;
 use heap_figures::BlockSizes;
-use heap_program::Respond;
-use kernel_heap::{AnswerList, Call, Machine};
+use heap_recorder::note_answer;
+use kernel_heap::{Answer, AnswerList, Call, Machine};
 use std::alloc::{AllocError, Global};
 
 /// A machine, with the answers that it gave and the sizes of its live blocks, whose sum and greatest sum are kept.
@@ -32,29 +30,21 @@ impl Replay {
         }
     }
 
-    /// Serves a call, and keeps the answer.
-    pub fn serve(&mut self, call: &Call) -> Result<(), AllocError>
-        ensures { OnOk result (IsReplayed self.old (call.now ∷ []) self.new) }
+    /// Answers a call, and does not keep the answer.
+    pub fn answer(&mut self, call: &Call) -> Result<Answer, AllocError>
+        ensures { IfOk result (λ answer. IsAnswered self.old call.now answer self.new) }
     {
         let answer = self.machine.step(call)?;
         note_answer(&mut self.sizes, call, &answer.reply)?;
         self.peak = self.peak.max(self.sizes.sum());
-        self.answers.push(answer)
+        Ok(answer)
     }
-}
 
-impl Respond for Replay {
-    ghost responds = { IsReplaying };
-
-    ghost responds_none = { replaying_none };
-
-    ghost responds_on = { replaying_on };
-
-    // A line that is no call is passed over.
-    fn respond(&mut self, item: Option<Call>, _output: &mut String) -> Result<(), AllocError> {
-        match item {
-            Some(call) => self.serve(&call),
-            None => Ok(()),
-        }
+    /// Serves a call, and keeps the answer.
+    pub fn serve(&mut self, call: &Call) -> Result<(), AllocError>
+        ensures { OnOk result (IsReplayed self.old (call.now ∷ []) self.new) }
+    {
+        let answer = self.answer(call)?;
+        self.answers.push(answer)
     }
 }

@@ -1,5 +1,5 @@
 // The report: the figures of a run.
-ghost use Rattle.std.specs.Prelude.{◌≡◌, ◌≤◌, map, string_bytes};
+ghost use Rattle.std.specs.Prelude.{◌≡◌, ◌≤◌, ⊤, map, string_bytes};
 ghost use Rattle.heap_report.specs.Ran.{HasRun};
 ghost use Rattle.heap_report.specs.Report.{report_of};
 ghost use Rattle.heap_report.specs.Telling.{Tells};
@@ -9,16 +9,28 @@ use crate::tell::{Tell, tell_main};
 use command_line::Command;
 use heap_figures::push_figures;
 use heap_program::{Sink, Source};
-use kernel_heap::{Extent, Machine};
+use kernel_heap::{Answer, Call, Extent, Machine};
 use std::alloc::{AllocError, Global};
 
 /// The figures of a run as its text, a line each.
+#[derive(Drop)]
 pub struct Figures;
 
 impl Tell for Figures {
+    ghost keeps = { λ figures calls answers. ⊤ };
+
     ghost text = { report_of };
 
+    fn new(_alloc: Global) -> Figures {
+        Figures
+    }
+
+    fn note(&mut self, _call: &Call, _answer: &Answer) -> Result<(), AllocError> {
+        Ok(())
+    }
+
     fn push(
+        self,
         _alloc: Global,
         output: &mut String,
         _machine: &Machine,

@@ -1,8 +1,10 @@
 // A whole run that is replayed and told of.
-ghost use Rattle.std.specs.Prelude.{◌≡◌, ◌≢◌, ◌≤◌, ◌<◌, ◌+◌, ◌^◌, ◌⊎◌, ◌↔◌, ◌++◌, ℕ, List, [], length, unwrap_or, map, string_bytes, IfSome, IfOk, OnErr, IsErrOf, OnOk};
+ghost use Rattle.std.specs.Prelude.{◌≡◌, ◌≢◌, ◌≤◌, ◌<◌, ◌+◌, ◌^◌, ◌⊎◌, ◌↔◌, ◌++◌, ℕ, List, [], ◌∷◌, length, unwrap_or, map, string_bytes, IfSome, IfOk, OnErr, IsErrOf, OnOk};
 ghost use Rattle.std.specs.Io.KnownBytes.{Appends};
 ghost use Rattle.dlmalloc_chunks.specs.declared.extent.Extent.{Extent};
 ghost use Rattle.dlmalloc_chunks.specs.Tiling.{AreInSegments};
+ghost use Rattle.heap_model.specs.declared.answer.Answer.{Answer};
+ghost use Rattle.heap_model.specs.declared.call.Call.{Call};
 ghost use Rattle.heap_model.specs.State.{State};
 ghost use Rattle.kernel_heap.specs.declared.machine.Machine.{Machine};
 ghost use Rattle.heap_program.specs.Faults.{HasRisen};
@@ -12,21 +14,34 @@ ghost use Rattle.heap_report.specs.Reported.{IsTold, IsToldInPart};
 ghost use Rattle.heap_report.specs.Telling.{Tells, TellsOf};
 
 use crate::listed::{Listed, list_extents};
-use crate::replay::Replay;
+use crate::noted::Noted;
 use crate::reported::{Reported, ended_early};
 use heap_program::{
     Session, Sink, Source, Stop, config_of, read_all, refusal_status, status_of, write_out,
 };
-use kernel_heap::{Config, Extent, Machine};
+use kernel_heap::{Answer, Call, Config, Extent, Machine};
 use std::alloc::{AllocError, Global};
 
-/// A text of the end of a run.
-pub trait Tell {
-    /// The text of the last machine and the state for which it stands, of the bytes that are live in it and were at most, and of its extents.
-    ghost text: { Machine → State → ℕ → ℕ → List Extent → List ℕ };
+/// A text of a run, and what is kept for it while the run is replayed.
+pub trait Tell: Drop {
+    /// It is kept after these calls and their answers.
+    ghost keeps: { Self → List Call → List Answer → Type 0 };
+
+    /// The text of the last machine and the state for which it stands, of the bytes that are live in it and were at most, of its
+    /// extents, and of the calls and answers before those were asked for.
+    ghost text: { Machine → State → ℕ → ℕ → List Extent → List Call → List Answer → List ℕ };
+
+    /// What is kept before the first call.
+    fn new(alloc: Global) -> Self
+        ensures { keeps result [] [] };
+
+    /// Keeps what the text needs of the next call and its answer.
+    fn note(&mut self, call: &Call, answer: &Answer) -> Result<(), AllocError>
+        ensures { OnOk result ((calls : List Call) (answers : List Answer) → keeps self.old calls answers → keeps self.new (calls ++ call.now ∷ []) (answers ++ answer.now ∷ [])) };
 
     /// Puts the text at the end of the output.
     fn push(
+        self,
         alloc: Global,
         output: &mut String,
         machine: &Machine,
@@ -35,7 +50,8 @@ pub trait Tell {
         extents: &[Extent],
     ) -> Result<(), AllocError>
         requires { AreInSegments extents.now }
-        ensures { OnOk result ((s : State) → IsAt machine.now s → string_bytes output.new ≡ string_bytes output.old ++ text machine.now s live peak extents.now) };
+        ensures { OnOk result ((s : State) (calls : List Call) (answers : List Answer) → IsAt machine.now s → keeps self calls answers →
+            string_bytes output.new ≡ string_bytes output.old ++ text machine.now s live peak extents.now calls answers) };
 }
 
 // Replays the source on a machine to which no call came yet, and tells of it.
@@ -56,13 +72,14 @@ fn tell_run<T: Tell, S: Source, K: Sink>(
     ensures read_cause { IsErrOf result ReadFault → HasRisen (S.faults source.old) (S.faults source.new) }
     ensures write_cause { IsErrOf result WriteFault → HasRisen (K.faults sink.old) (K.faults sink.new) }
 {
-    let mut session = Session::new(alloc, Replay::new(alloc, machine));
+    let mut session = Session::new(alloc, Noted::<T>::new(alloc, machine));
     read_all(&mut session, source, sink)?;
     session.end()?;
     let Session { responder, .. } = session;
-    let listed = list_extents(alloc, responder)?;
+    let Noted { replay, kept } = responder;
+    let listed = list_extents(alloc, replay)?;
     let mut output = String::new(alloc);
-    T::push(
+    kept.push(
         alloc,
         &mut output,
         &listed.machine,

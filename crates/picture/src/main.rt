@@ -1,4 +1,4 @@
-//! The program `heap_picture`: drawings of the heap and the page tables that a recorded run leaves.
+//! The program `heap_picture`: drawings of a recorded run, of the heap and the page tables that it leaves.
 #![tactic(auto)]
 
 use command_line::{Pages, program, program_arguments};
@@ -12,13 +12,14 @@ heap_picture 0.1.0
 ";
 
 const HELP: &str = "\
-heap_picture 0.1.0: drawings of what a recorded run leaves
+heap_picture 0.1.0: drawings of a recorded run and of what it leaves
 
-Usage: heap_picture [map|tables] [BASE PAGES GRANULARITY FRAMES RATE]
+Usage: heap_picture [map|tables|time] [BASE PAGES GRANULARITY FRAMES RATE]
 
 Replays the calls of standard input, which are lines as `heap --help lines` has
-them, and then prints a drawing of the heap (`map`, or neither word) or of its
-page tables (`tables`), as an SVG document.
+them, and then prints a drawing of the heap (`map`, or none of the words), of its
+page tables (`tables`), or of the heap over the whole run (`time`), as an SVG
+document.
 
 The heap: each row has a power of two of addresses, 512 bytes at least, and as few as it
 takes for the map to have at most 20 lines. Rows that lie wholly in one extent
@@ -33,6 +34,12 @@ entries map, which is the greatest run of pages with frames one after the other
 and equal rights. At the right of a line is its part of the 512 entries of its
 table. Below are the frames of the memory by their use: a square has the colour
 of the first that it has of a table, a large page and a page.
+
+The heap over the run: calls go from left to right, addresses upwards. A block is
+drawn from the call that gave it to the call that ended it, over the regions
+that the heap had then. Wide ranges in which nothing begins or ends in the whole
+run are folded. Below are the regions of the user, the bytes that were live and
+those of the heap, and the refused calls.
 
 A line that is no call is passed over, and a refused call changes nothing. The
 words are those of `heap run`; the default is 0x400000 1024 65536 1024 4095.

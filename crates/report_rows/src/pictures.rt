@@ -10,11 +10,19 @@ use std::alloc::{AllocError, Global};
 use std::process::Abort;
 use std::test::Fail;
 
-fn outcome(alloc: Global, input: &[u8]) -> Result<(Reported, SureSink), AllocError> {
+fn outcome_of(
+    alloc: Global,
+    words: &[String],
+    input: &[u8],
+) -> Result<(Reported, SureSink), AllocError> {
     let mut source = SureSource::new(input.to_vec(alloc)?);
     let mut sink = SureSink::new(alloc);
-    let reported = picture_main(alloc, &[], &mut source, &mut sink);
+    let reported = picture_main(alloc, words, &mut source, &mut sink);
     Ok((reported, sink))
+}
+
+fn outcome(alloc: Global, input: &[u8]) -> Result<(Reported, SureSink), AllocError> {
+    outcome_of(alloc, &[], input)
 }
 
 // Where the text stands first from a place on.
@@ -95,9 +103,15 @@ fn each_extent_is_drawn_in_order(rt: HostRuntime) -> Result<(), Fail> {
     Ok(())
 }
 
-/// Looks that the parts stand in the picture of a run.
-fn expect_parts(rt: &impl Abort, alloc: Global, calls: &[u8], parts: &[&str]) -> Result<(), Fail> {
-    let (reported, sink) = outcome(alloc, calls)?;
+/// Looks that the parts stand in the picture of a run, which the words ask for.
+fn expect_parts_of(
+    rt: &impl Abort,
+    alloc: Global,
+    words: &[String],
+    calls: &[u8],
+    parts: &[&str],
+) -> Result<(), Fail> {
+    let (reported, sink) = outcome_of(alloc, words, calls)?;
     same(rt, reported.status, 0);
     for part in parts {
         assert!(rt;
@@ -107,6 +121,31 @@ fn expect_parts(rt: &impl Abort, alloc: Global, calls: &[u8], parts: &[&str]) ->
         );
     }
     Ok(())
+}
+
+fn expect_parts(rt: &impl Abort, alloc: Global, calls: &[u8], parts: &[&str]) -> Result<(), Fail> {
+    expect_parts_of(rt, alloc, &[], calls, parts)
+}
+
+/// The lines of a drawing by hand, of ten calls.
+#[test]
+fn a_run_is_drawn_over_its_calls(rt: HostRuntime) -> Result<(), Fail> {
+    let mut word = String::new(rt.alloc());
+    word.push_str("time")?;
+    let words = vec![in rt.alloc(); word]?;
+    expect_parts_of(
+        &rt,
+        rt.alloc(),
+        words.as_slice(),
+        b"malloc 1000\nmalloc 24\nmalloc 200\nfree 0\nmalloc 24\ncalloc 300\nrealloc 1 120\nmalloc 64 64\nfree 2\nmalloc 400\n".as_slice(),
+        &[
+            "<text class=\"h\" x=\"24\" y=\"40\">The heap over 10 calls</text>\n",
+            "<svg x=\"144\" y=\"103\" width=\"1024\" height=\"336\" viewBox=\"0 0 10 1256\" preserveAspectRatio=\"none\">\n<rect class=\"heap\" x=\"0\" y=\"0\" width=\"10\" height=\"1256\"><title>heap region 0x400000 + 16 pages</title></rect>\n<rect class=\"gone\" x=\"0\" y=\"240\" width=\"3\" height=\"1000\"><title>block 0: 1,000 bytes at 0x400010, call 1 to 4 (freed)</title></rect>\n<rect class=\"gone\" x=\"1\" y=\"208\" width=\"5\" height=\"24\"><title>block 1: 24 bytes at 0x400400, call 2 to 7 (moved)</title></rect>\n",
+            "<text class=\"m in\" x=\"1070\" y=\"210\">6: 400 B</text>\n",
+            "<path class=\"mark\" d=\"M758 162V325m-4 -5l4 5l4 -5\" stroke-width=\"1.5\"/>\n",
+            "<path class=\"su\" d=\"M144 477H246V475H348V456H451V548H553V546H656V518H758V510H860V504H963V522H1065V485H1168\" stroke-width=\"2\"/>\n",
+        ],
+    )
 }
 
 #[test]

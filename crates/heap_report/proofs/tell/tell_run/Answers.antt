@@ -4,8 +4,7 @@ use Rattle.dlmalloc_chunks.specs.declared.extent.Extent.{Extent}
 use Rattle.dlmalloc_chunks.specs.Tiling.{AreInSegments}
 use Rattle.heap_program.specs.declared.run.Stop.TheVariants.{Memory}
 use Rattle.heap_program.proofs.Errors.{on_err}
-use Rattle.heap_report.specs.declared.replay.Replay.{Replay}
-use Rattle.heap_report.specs.Replaying.{IsBegun}
+use Rattle.heap_report.specs.Noting.{IsBegunWith}
 use Rattle.heap_report.proofs.Lengths.{stopped_long, read_long, not_long, not_read}
 use Rattle.heap_report.proofs.Whole.{served_input, silent_read, silent_stop, part_stopped, part_read, part_written, told, whole, text_is}
 use Rattle.heap_report.proofs.tell.tell_run.Goals as goal
@@ -15,13 +14,13 @@ pub returns-in_err-read_all-clause-part : goal.returns-in_err-read_all-clause-pa
 returns-in_err-read_all-clause-part g c = on_err c.from_residual.result (λ s at none.
     let left = g.S.Source.left in
     let taken = g.K.Sink.taken in
-    part_stopped g.T.Tell.text s c.new-session.result.responder c.in_err-read_all.field-0.0 (left c.args.source.now) (left c.read_all.new.source) (taken c.args.sink.now) (taken c.read_all.new.sink) c.in_err-read_all.ensures.err)
+    part_stopped g.T.Tell.keeps g.T.Tell.text s c.new-session.result.responder c.in_err-read_all.field-0.0 (left c.args.source.now) (left c.read_all.new.source) (taken c.args.sink.now) (taken c.read_all.new.sink) c.in_err-read_all.ensures.err)
 
 pub returns-in_err-read_all-clause-silent : goal.returns-in_err-read_all-clause-silent
 returns-in_err-read_all-clause-silent g c which =
     let left = g.S.Source.left in
     let taken = g.K.Sink.taken in
-    silent_stop c.new-session.result.responder c.in_err-read_all.field-0.0 (left c.args.source.now) (left c.read_all.new.source) (taken c.args.sink.now) (taken c.read_all.new.sink) c.in_err-read_all.ensures.err
+    silent_stop g.T.Tell.keeps c.new-session.result.responder c.in_err-read_all.field-0.0 (left c.args.source.now) (left c.read_all.new.source) (taken c.args.sink.now) (taken c.read_all.new.sink) c.in_err-read_all.ensures.err
 
 pub returns-in_err-read_all-clause-too_long : goal.returns-in_err-read_all-clause-too_long
 returns-in_err-read_all-clause-too_long g c =
@@ -34,13 +33,13 @@ pub returns-in_err-end-clause-part : goal.returns-in_err-end-clause-part
 returns-in_err-end-clause-part g c = on_err c.from_residual-in_err-end.result (λ s at none.
     let left = g.S.Source.left in
     let taken = g.K.Sink.taken in
-    part_read g.T.Tell.text s c.new-session.result.responder c.read_all.new.session.responder c.read_all.new.session.line (left c.args.source.now) (left c.read_all.new.source) (taken c.args.sink.now) (taken c.read_all.new.sink) c.in_ok-read_all.field-0 c.in_ok-read_all.ensures.ok c.in_ok-read_all.ensures.short)
+    part_read g.T.Tell.keeps g.T.Tell.text s c.new-session.result.responder c.read_all.new.session.responder c.read_all.new.session.line (left c.args.source.now) (left c.read_all.new.source) (taken c.args.sink.now) (taken c.read_all.new.sink) c.in_ok-read_all.field-0 c.in_ok-read_all.ensures.ok c.in_ok-read_all.ensures.short)
 
 pub returns-in_err-end-clause-silent : goal.returns-in_err-end-clause-silent
 returns-in_err-end-clause-silent g c which =
     let left = g.S.Source.left in
     let taken = g.K.Sink.taken in
-    silent_read c.new-session.result.responder c.read_all.new.session.responder c.read_all.new.session.line (left c.args.source.now) (left c.read_all.new.source) (taken c.args.sink.now) (taken c.read_all.new.sink) c.in_ok-read_all.field-0 c.in_ok-read_all.ensures.ok
+    silent_read g.T.Tell.keeps c.new-session.result.responder c.read_all.new.session.responder c.read_all.new.session.line (left c.args.source.now) (left c.read_all.new.source) (taken c.args.sink.now) (taken c.read_all.new.sink) c.in_ok-read_all.field-0 c.in_ok-read_all.ensures.ok
 
 pub returns-in_err-end-clause-too_long : goal.returns-in_err-end-clause-too_long
 returns-in_err-end-clause-too_long g c =
@@ -57,13 +56,13 @@ pub returns-in_err-listed-clause-part : goal.returns-in_err-listed-clause-part
 returns-in_err-listed-clause-part g c = on_err c.from_residual-in_err-listed.result (λ s at none.
     let left = g.S.Source.left in
     let taken = g.K.Sink.taken in
-    part_read g.T.Tell.text s c.new-session.result.responder c.read_all.new.session.responder c.read_all.new.session.line (left c.args.source.now) (left c.read_all.new.source) (taken c.args.sink.now) (taken c.read_all.new.sink) c.in_ok-read_all.field-0 c.in_ok-read_all.ensures.ok c.in_ok-read_all.ensures.short)
+    part_read g.T.Tell.keeps g.T.Tell.text s c.new-session.result.responder c.read_all.new.session.responder c.read_all.new.session.line (left c.args.source.now) (left c.read_all.new.source) (taken c.args.sink.now) (taken c.read_all.new.sink) c.in_ok-read_all.field-0 c.in_ok-read_all.ensures.ok c.in_ok-read_all.ensures.short)
 
 pub returns-in_err-listed-clause-silent : goal.returns-in_err-listed-clause-silent
 returns-in_err-listed-clause-silent g c which =
     let left = g.S.Source.left in
     let taken = g.K.Sink.taken in
-    silent_read c.new-session.result.responder c.read_all.new.session.responder c.read_all.new.session.line (left c.args.source.now) (left c.read_all.new.source) (taken c.args.sink.now) (taken c.read_all.new.sink) c.in_ok-read_all.field-0 c.in_ok-read_all.ensures.ok
+    silent_read g.T.Tell.keeps c.new-session.result.responder c.read_all.new.session.responder c.read_all.new.session.line (left c.args.source.now) (left c.read_all.new.source) (taken c.args.sink.now) (taken c.read_all.new.sink) c.in_ok-read_all.field-0 c.in_ok-read_all.ensures.ok
 
 pub returns-in_err-listed-clause-too_long : goal.returns-in_err-listed-clause-too_long
 returns-in_err-listed-clause-too_long g c =
@@ -80,13 +79,13 @@ pub returns-in_err-push-clause-part : goal.returns-in_err-push-clause-part
 returns-in_err-push-clause-part g c = on_err c.from_residual-in_err-push.result (λ s at none.
     let left = g.S.Source.left in
     let taken = g.K.Sink.taken in
-    part_read g.T.Tell.text s c.new-session.result.responder c.read_all.new.session.responder c.read_all.new.session.line (left c.args.source.now) (left c.read_all.new.source) (taken c.args.sink.now) (taken c.read_all.new.sink) c.in_ok-read_all.field-0 c.in_ok-read_all.ensures.ok c.in_ok-read_all.ensures.short)
+    part_read g.T.Tell.keeps g.T.Tell.text s c.new-session.result.responder c.read_all.new.session.responder c.read_all.new.session.line (left c.args.source.now) (left c.read_all.new.source) (taken c.args.sink.now) (taken c.read_all.new.sink) c.in_ok-read_all.field-0 c.in_ok-read_all.ensures.ok c.in_ok-read_all.ensures.short)
 
 pub returns-in_err-push-clause-silent : goal.returns-in_err-push-clause-silent
 returns-in_err-push-clause-silent g c which =
     let left = g.S.Source.left in
     let taken = g.K.Sink.taken in
-    silent_read c.new-session.result.responder c.read_all.new.session.responder c.read_all.new.session.line (left c.args.source.now) (left c.read_all.new.source) (taken c.args.sink.now) (taken c.read_all.new.sink) c.in_ok-read_all.field-0 c.in_ok-read_all.ensures.ok
+    silent_read g.T.Tell.keeps c.new-session.result.responder c.read_all.new.session.responder c.read_all.new.session.line (left c.args.source.now) (left c.read_all.new.source) (taken c.args.sink.now) (taken c.read_all.new.sink) c.in_ok-read_all.field-0 c.in_ok-read_all.ensures.ok
 
 pub returns-in_err-push-clause-too_long : goal.returns-in_err-push-clause-too_long
 returns-in_err-push-clause-too_long g c =
@@ -108,12 +107,12 @@ returns-in_err-write_out-clause-part g c = on_err c.from_residual-in_err-write_o
     let end = c.end.new.self.responder in
     let listed = c.in_ok-listed.listed in
     let h = c.in_ok-read_all.ensures.ok in
-    let begun = subst (λ (replay : Replay). IsBegun c.args.machine replay) (sym c.new-session.ensures.responder) c.new.ensures in
-    let served = served_input first last.responder end last.line (left c.args.source.now) (left c.read_all.new.source) (taken c.args.sink.now) (taken c.read_all.new.sink) c.in_ok-read_all.field-0 (string_bytes last.output) (string_bytes c.end.new.self.output) h c.in_ok-end.ensures in
-    let w = whole s c.args.machine first end listed h.bytes at none begun served c.in_ok-listed.ensures in
+    let begun = subst (λ noted. IsBegunWith g.T.Tell.keeps c.args.machine noted) (sym c.new-session.ensures.responder) c.new.ensures in
+    let served = served_input g.T.Tell.keeps first last.responder end last.line (left c.args.source.now) (left c.read_all.new.source) (taken c.args.sink.now) (taken c.read_all.new.sink) c.in_ok-read_all.field-0 (string_bytes last.output) (string_bytes c.end.new.self.output) h c.in_ok-end.ensures in
+    let w = whole g.T.Tell.keeps s c.args.machine first end listed h.bytes at none begun served c.in_ok-listed.ensures in
     let part = c.in_err-write_out.ensures.err in
-    part_written g.T.Tell.text s first last.responder listed last.line (string_bytes c.push.new.output) (left c.args.source.now) (left c.read_all.new.source) (taken c.args.sink.now) (taken c.read_all.new.sink) (taken c.write_out.new.sink) c.in_ok-read_all.field-0 part.0
-    h c.in_ok-read_all.ensures.short c.in_ok-read_all.ensures.end w (text_is g.T.Tell.text s h.bytes listed c.as_slice.result.now (string_bytes c.push.new.output) (string_bytes c.new-output.result) w c.as_slice.ensures c.in_ok-push.ensures (search rules)) part.1)
+    part_written g.T.Tell.keeps g.T.Tell.text s first last.responder end.kept listed last.line (string_bytes c.push.new.output) (left c.args.source.now) (left c.read_all.new.source) (taken c.args.sink.now) (taken c.read_all.new.sink) (taken c.write_out.new.sink) c.in_ok-read_all.field-0 part.0
+    h c.in_ok-read_all.ensures.short c.in_ok-read_all.ensures.end w (text_is g.T.Tell.keeps g.T.Tell.text s h.bytes end.kept listed c.as_slice.result.now (string_bytes c.push.new.output) (string_bytes c.new-output.result) w c.as_slice.ensures c.in_ok-push.ensures (search rules)) part.1)
 
 pub returns-in_err-write_out-clause-silent : goal.returns-in_err-write_out-clause-silent
 returns-in_err-write_out-clause-silent g c which =
@@ -145,11 +144,11 @@ returns-clause-told g c s at none =
     let end = c.end.new.self.responder in
     let listed = c.in_ok-listed.listed in
     let h = c.in_ok-read_all.ensures.ok in
-    let begun = subst (λ (replay : Replay). IsBegun c.args.machine replay) (sym c.new-session.ensures.responder) c.new.ensures in
-    let served = served_input first last.responder end last.line (left c.args.source.now) (left c.read_all.new.source) (taken c.args.sink.now) (taken c.read_all.new.sink) c.in_ok-read_all.field-0 (string_bytes last.output) (string_bytes c.end.new.self.output) h c.in_ok-end.ensures in
-    let w = whole s c.args.machine first end listed h.bytes at none begun served c.in_ok-listed.ensures in
-    told g.T.Tell.text s first last.responder listed last.line (string_bytes c.push.new.output) (left c.args.source.now) (left c.read_all.new.source) (taken c.args.sink.now) (taken c.read_all.new.sink) (taken c.write_out.new.sink) (g.K.Sink.flushed c.write_out.new.sink) c.in_ok-read_all.field-0
-    h c.in_ok-read_all.ensures.end w (text_is g.T.Tell.text s h.bytes listed c.as_slice.result.now (string_bytes c.push.new.output) (string_bytes c.new-output.result) w c.as_slice.ensures c.in_ok-push.ensures (search rules)) c.in_ok-write_out.ensures.ok c.in_ok-write_out.ensures.flushed
+    let begun = subst (λ noted. IsBegunWith g.T.Tell.keeps c.args.machine noted) (sym c.new-session.ensures.responder) c.new.ensures in
+    let served = served_input g.T.Tell.keeps first last.responder end last.line (left c.args.source.now) (left c.read_all.new.source) (taken c.args.sink.now) (taken c.read_all.new.sink) c.in_ok-read_all.field-0 (string_bytes last.output) (string_bytes c.end.new.self.output) h c.in_ok-end.ensures in
+    let w = whole g.T.Tell.keeps s c.args.machine first end listed h.bytes at none begun served c.in_ok-listed.ensures in
+    told g.T.Tell.keeps g.T.Tell.text s first last.responder end.kept listed last.line (string_bytes c.push.new.output) (left c.args.source.now) (left c.read_all.new.source) (taken c.args.sink.now) (taken c.read_all.new.sink) (taken c.write_out.new.sink) (g.K.Sink.flushed c.write_out.new.sink) c.in_ok-read_all.field-0
+    h c.in_ok-read_all.ensures.end w (text_is g.T.Tell.keeps g.T.Tell.text s h.bytes end.kept listed c.as_slice.result.now (string_bytes c.push.new.output) (string_bytes c.new-output.result) w c.as_slice.ensures c.in_ok-push.ensures (search rules)) c.in_ok-write_out.ensures.ok c.in_ok-write_out.ensures.flushed
 
 pub returns-clause-too_long : goal.returns-clause-too_long
 returns-clause-too_long g c =
@@ -167,7 +166,7 @@ push-requires g c =
     let end = c.end.new.self.responder in
     let listed = c.in_ok-listed.listed in
     let h = c.in_ok-read_all.ensures.ok in
-    let begun = subst (λ (replay : Replay). IsBegun c.args.machine replay) (sym c.new-session.ensures.responder) c.new.ensures in
-    let served = served_input first last.responder end last.line (left c.args.source.now) (left c.read_all.new.source) (taken c.args.sink.now) (taken c.read_all.new.sink) c.in_ok-read_all.field-0 (string_bytes last.output) (string_bytes c.end.new.self.output) h c.in_ok-end.ensures in
-    let w = whole c.requires.0 c.args.machine first end listed h.bytes c.requires.1 c.requires.2 begun served c.in_ok-listed.ensures in
+    let begun = subst (λ noted. IsBegunWith g.T.Tell.keeps c.args.machine noted) (sym c.new-session.ensures.responder) c.new.ensures in
+    let served = served_input g.T.Tell.keeps first last.responder end last.line (left c.args.source.now) (left c.read_all.new.source) (taken c.args.sink.now) (taken c.read_all.new.sink) c.in_ok-read_all.field-0 (string_bytes last.output) (string_bytes c.end.new.self.output) h c.in_ok-end.ensures in
+    let w = whole g.T.Tell.keeps c.requires.0 c.args.machine first end listed h.bytes c.requires.1 c.requires.2 begun served c.in_ok-listed.ensures in
     subst (λ (l : List Extent). AreInSegments l) (sym c.as_slice.ensures) w.replay.tiles.extents_are.segments

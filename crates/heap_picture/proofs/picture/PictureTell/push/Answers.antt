@@ -5,7 +5,7 @@ use Rattle.heap_picture.proofs.Pictures.{pushed, picture_whole}
 use Rattle.heap_picture.proofs.picture.PictureTell.push.Goals as goal
 
 pub returns : goal.returns
-returns c = on_ok_weaker c.push_str.result (λ last. λ s at.
-    picture_whole style c.args.machine.now s c.args.live c.args.peak c.args.extents.now c.from.result (string_bytes c.args.output.now) (string_bytes c.push_head.new.out) (string_bytes c.push_map.new.out)
+returns c = on_ok_weaker c.push_str.result (λ last. λ s calls answers at kept.
+    picture_whole style c.args.machine.now s c.args.live c.args.peak c.args.extents.now calls answers c.from.result (string_bytes c.args.output.now) (string_bytes c.push_head.new.out) (string_bytes c.push_map.new.out)
     (string_bytes c.push_regions.new.out) (string_bytes c.push_str.new.self) (c.from.ensures ∙ c.in_ok-lines.ensures) c.in_ok-push_head.ensures c.in_ok-push_map.ensures (c.in_ok-push_regions.ensures s at) last)
     (pushed c.push_str.result (string_bytes c.push_str.new.self) (string_bytes c.push_regions.new.out ++ codes "</svg>\n") (string_bytes c.push_regions.new.out) c.push_str.ensures.bytes)

@@ -1,9 +1,9 @@
 // What an answer changes of the sizes of blocks.
 ghost use Rattle.std.specs.Prelude.{◌≡◌, OnOk};
-ghost use Rattle.heap_report.specs.Sizes.{sizes_after};
+ghost use Rattle.heap_recorder.specs.Sizes.{sizes_after};
 
 use heap_figures::BlockSizes;
-use kernel_heap::{Call, Reply};
+use heap_model::{Call, Reply};
 use std::alloc::AllocError;
 
 /// Notes the answer to a call: a block that began, has another size or ended.

@@ -1,0 +1,10 @@
+use Rattle.std.proofs.Common.{◌++◌, ◌∙◌, ap, string_bytes}
+use Rattle.std.proofs.lemmas.Result.{on_ok_weaker}
+use Rattle.heap_history.specs.declared.history.History.{History}
+use Rattle.heap_picture.specs.Style.{style}
+use Rattle.heap_picture.specs.Timing.{timing_of}
+use Rattle.heap_picture.proofs.timing.TimingTell.push.Goals as goal
+
+pub returns : goal.returns
+returns c = on_ok_weaker c.push_timing.result (λ put. λ s calls answers at kept.
+    put ∙ ap (λ (h : History). string_bytes c.args.output.now ++ timing_of style h) (c.in_ok-history.ensures.records calls answers kept)) c.push_timing.ensures

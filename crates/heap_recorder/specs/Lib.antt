@@ -1,0 +1,7 @@
+pub mod Mappings
+pub mod Places
+pub mod Regions
+pub mod Run
+pub mod Shown
+pub mod Sizes
+pub mod Stays

@@ -1,0 +1,49 @@
+-- The stays of a run are its live blocks.
+use Rattle.std.specs.Prelude.{◌≡◌, ◌<◌, ℕ, zero, suc, ◌+◌, Bool, false, ◌&&◌, nat_eq, nat_le, nat_lt, if◌then◌else◌, List, [], ◌∷◌, length, map, Option, Some, None}
+use Rattle.heap_history.specs.declared.history.Stay.{Stay}
+use Rattle.heap_model.specs.declared.answer.Answer.{Answer}
+use Rattle.heap_model.specs.declared.call.Call.{Call}
+use Rattle.heap_model.specs.declared.config.Config.{Config}
+use Rattle.heap_model.specs.Answer.{after}
+use Rattle.heap_model.specs.Run.{IsAllowedRun}
+use Rattle.heap_model.specs.State.{State, Block, block_at, start}
+use Rattle.heap_recorder.specs.Run.{history_of}
+
+-- whether a stay is the block's, at the address and with the size
+abbrev pub is_spot : ℕ → ℕ → ℕ → Stay → Bool
+is_spot number address size stay = nat_eq stay.block number && (nat_eq stay.address address && nat_eq stay.size size)
+
+-- whether it is so after a call: the stay began with it or before, and ends later
+abbrev pub shows : ℕ → ℕ → ℕ → ℕ → Stay → Bool
+shows call number address size stay = nat_le stay.born call && (nat_lt call stay.end && is_spot number address size stay)
+
+-- how many stays show so
+abbrev pub shown : (Stay → Bool) → List Stay → ℕ
+shown test [] = 0
+shown test (stay ∷ stays) = (if test stay then 1 else 0) + shown test stays
+
+-- whether a block is live, and at the address with the size
+abbrev pub lies : ℕ → ℕ → Option Block → Bool
+lies address size None = false
+lies address size (Some block) = nat_eq block.address address && nat_eq block.size size
+
+abbrev pub has_block : State → ℕ → ℕ → ℕ → Bool
+has_block s number address size = lies address size (block_at s.blocks number)
+
+-- the state after so many calls
+abbrev pub state_after : State → List Call → List Answer → ℕ → State
+state_after s calls answers zero = s
+state_after s [] answers (suc count) = s
+state_after s (call ∷ calls) [] (suc count) = s
+state_after s (call ∷ calls) (answer ∷ answers) (suc count) = state_after (after s call answer) calls answers count
+
+-- After each call, a block that is live is one stay's that shows, and each stay that shows is a live block's.
+abbrev pub AreStays : State → List Call → List Answer → List Stay → Type 0
+AreStays s calls answers stays =
+    (call number address size : ℕ) → call < length calls →
+    shown (shows call number address size) stays ≡ (if has_block (state_after s calls answers (suc call)) number address size then 1 else 0)
+
+-- So are the stays of each run from the start.
+abbrev pub EachBlockIsDrawnOnce : Type 0
+EachBlockIsDrawnOnce =
+    (config : Config) (calls : List Call) (answers : List Answer) → IsAllowedRun (start config) (map Some calls) (map Some answers) → AreStays (start config) calls answers (history_of calls answers).stays
