@@ -9,7 +9,7 @@ use Rattle.address_space.specs.Changing.{IsStored}
 use Rattle.address_space.specs.Space.{Tables, map_of}
 use Rattle.address_space.proofs.Cutting.{side_of, else_out}
 
--- where an access is granted the page is mapped
+-- if an access is granted, the page is mapped
 pub granted_mapped : (rights : ℕ → Option Rights) (write user : Bool) (at count any : ℕ) → IsGranted rights write user at count → at ≤ any → any < at + count → IsSome (rights (any / 4096))
 granted_mapped rights write user at count any g h k = go (rights (any / 4096)) (g any h k) where
   go : (o : Option Rights) → denies write user o ≡ false → IsSome o

@@ -22,7 +22,7 @@ equal_itself i = grind (arith, nat_tests)
 
 -- ---- the pairs after a change
 
--- one more, between those that begin before it and those that begin behind it
+-- one more, between those that begin before it and those that begin after it
 pub entry_between : (x : Interval ℕ × Rights) (from : ℕ) (front back : List (Interval ℕ × Rights)) (next to : ℕ) → Follow from front x.0.start → x.0.start < next → Follow next back to →
     with_entry (by_ends nat_cmp) x (front ++ back) ≡ front ++ x ∷ back
 entry_between x from [] [] next to f h g = refl
@@ -40,7 +40,7 @@ without_between e from (x ∷ front) back f =
     let order = greater e.0 x.0 (omega (arith, i, f.1)) in
     rw order (ap (λ ys. x ∷ ys) (without_between e x.0.end front back f.2))
 
--- no pair behind is changed
+-- no pair after is changed
 end_behind : (i : Interval ℕ) (end next : ℕ) (back : List (Interval ℕ × Rights)) (to : ℕ) → i.start < next → Follow next back to → map (with_end nat_cmp i end) back ≡ back
 end_behind i end next [] to h g = refl
 end_behind i end next (e ∷ back) to h g =
@@ -99,7 +99,7 @@ holds_not_above page e h = grind (arith, nat_tests)
 pub holds_inside : (page : ℕ) (e : Interval ℕ × Rights) → e.0.start ≤ page → page < e.0.end → holds page e ≡ true
 holds_inside page e h k = grind (arith, nat_tests)
 
--- no page before the runs or behind them
+-- no page before the runs or after them
 pub none_below : (from : ℕ) (es : List (Interval ℕ × Rights)) (to page : ℕ) → Follow from es to → page < from → rights_in es page ≡ None
 none_below from [] to page f h = refl
 none_below from (e ∷ es) to page f h =
@@ -111,7 +111,7 @@ none_above from (e ∷ es) to page f h =
     let i = follow_to e.0.end es to f.2 in
     let t = holds_not_above page e (omega (arith, i, h)) in rw t (none_above e.0.end es to page f.2 h)
 
--- no run begins before the runs, or behind them
+-- no run begins before the runs, or after them
 pub none_begins_below : (from : ℕ) (es : List (Interval ℕ × Rights)) (to page : ℕ) → Follow from es to → page < from → begins_at es page ≡ false
 none_begins_below from [] to page f h = refl
 none_begins_below from (e ∷ es) to page f h =

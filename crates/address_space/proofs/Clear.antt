@@ -31,7 +31,7 @@ split_clear first end es to s page h k =
     ap (λ (x : List (Interval ℕ × Rights)). rights_in x page) s.whole
     ∙ (rights_append s.front s.back page ∙ or_none (rights_in s.front page) (rights_in s.back page) (none_above 0 s.front first page s.before h) (none_below end s.back to page s.behind k))
 
--- where the last run that begins before the end reaches no further than the first page
+-- if the last run that begins before the end reaches no further than the first page
 pub split_last : (first end : ℕ) (es : List (Interval ℕ × Rights)) (to : ℕ) (e : Interval ℕ × Rights) → IsLast end 0 es to e → e.0.end ≤ first → IsSplit first end es to
 split_last first end es to e i h = record {
   front = i.front ++ e ∷ [];

@@ -218,7 +218,7 @@ run_set old new start end rights new_rights h is = record {
   };
 }
 
--- runs behind free pages
+-- runs after free pages
 pub follow_up : (from at : ℕ) (es : List (Interval ℕ × Rights)) (to : ℕ) → Follow from es to → at ≤ to → ((page : ℕ) → from ≤ page → page < at → rights_in es page ≡ None) → Follow at es to
 follow_up from at [] to f le free = le
 follow_up from at (e ∷ es) to f le free = go (cases_lt e.0.start at) where

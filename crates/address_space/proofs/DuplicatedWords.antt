@@ -39,7 +39,7 @@ module _ (old new : Tables) (one : List ℕ) (from pages to : ℕ) (rights : Rig
   step_same : (l n : ℕ) → l < 3 → reach new.words old.root (l + 1) n ≡ reach one old.root (l + 1) n
   step_same l n less = m.copied.tables (l + 1) n (omega (arith, less))
 
-  -- no word of a table is changed where no target page is at its entry
+  -- no word of a table is changed if no target page is at its entry
   word_same : (l n f i : ℕ) → l < 4 → i < 512 → reach one old.root l n ≡ Some (top f) → (l ≡ 3 → among to pages (512 * n + i) ≡ false) → word_at new.words f i ≡ word_at one f i
   word_same l n f i less small table out = m.copied.others f i small
       (λ k p few at same. no_table one old.root new.free l n (prefix_of (to + k) 4) f p m.added.tree less table (sym (walk_reach one old.root (to + k)) ∙ at) same)

@@ -77,7 +77,7 @@ joined runs new start page end m is =
           let no : false ≡ true = sym none ∙ h in absurd (cc));
     })
 
--- ---- where no two runs meet
+-- ---- if no two runs meet
 
 pub longest_first : (runs : List (Interval ℕ × Rights)) (page : ℕ) → Follow 0 runs (2 ^ 52) → Follow page runs (2 ^ 52) → IsMeeting runs page None
 longest_first runs page f g before at h same =
@@ -89,7 +89,7 @@ longest_none runs page none before at h same =
     let n : begins_at runs (before + 1) ≡ false = subst (λ p. begins_at runs p ≡ false) (sym at) none in
     let no : true ≡ false = sym h ∙ n in absurd (cc)
 
--- no run begins at the page behind the last one before it
+-- no run begins at the page after the last one before it
 pub none_at : (page : ℕ) (runs : List (Interval ℕ × Rights)) (e : Interval ℕ × Rights) (i : IsLast page 0 runs (2 ^ 52) e) → begins_at i.back page ≡ false → begins_at runs page ≡ false
 none_at page runs e i none =
     ap (λ (es : List (Interval ℕ × Rights)). begins_at es page) i.whole
@@ -99,7 +99,7 @@ all_with : (at : ℕ) (front : List (Interval ℕ × Rights)) (e : Interval ℕ 
 all_with at [] e h k = (k, tt)
 all_with at (x ∷ front) e h k = (h.0, all_with at front e h.1 k)
 
--- the first run from the page on, behind the last one before it
+-- the first run from the page on, after the last one before it
 pub next_is : (page : ℕ) (runs : List (Interval ℕ × Rights)) (e : Interval ℕ × Rights) (i : IsLast page 0 runs (2 ^ 52) e) → first (starts_from nat_cmp page) runs ≡ first (starts_from nat_cmp page) i.back
 next_is page runs e i =
     ap (first (starts_from nat_cmp page)) (i.whole ∙ sym (append_assoc i.front (e ∷ []) i.back))
@@ -109,7 +109,7 @@ pub none_next : (page : ℕ) (runs : List (Interval ℕ × Rights)) (e : Interva
 none_next page runs e i h =
     none_at page runs e i (ap (λ (es : List (Interval ℕ × Rights)). begins_at es page) (none_is page i.back (2 ^ 52) i.behind (sym (next_is page runs e i) ∙ h)))
 
--- the last run before the page goes on behind it
+-- the last run before the page goes on after it
 pub none_over : (page : ℕ) (runs : List (Interval ℕ × Rights)) (e : Interval ℕ × Rights) (i : IsLast page 0 runs (2 ^ 52) e) → page < e.0.end → begins_at runs page ≡ false
 none_over page runs e i h = none_at page runs e i (none_begins_below e.0.end i.back (2 ^ 52) page i.next h)
 
@@ -122,7 +122,7 @@ longest_gap page runs e f i h before at begins same =
     ∙ (rights_append (i.front ++ e ∷ []) i.back before ∙ or_none (rights_in (i.front ++ e ∷ []) before) (rights_in i.back before) (none_above 0 (i.front ++ e ∷ []) e.0.end before follow (omega (arith, h, at))) (none_below page i.back (2 ^ 52) before i.behind (omega (arith, at)))) in
     begins_mapped 0 runs (2 ^ 52) (before + 1) f begins (sym same ∙ gone)
 
--- the next run begins behind it
+-- the next run begins after it
 pub none_later : (page : ℕ) (runs : List (Interval ℕ × Rights)) (e next : Interval ℕ × Rights) (i : IsLast page 0 runs (2 ^ 52) e) → first (starts_from nat_cmp page) runs ≡ Some next → (next.0.start ≡ page → ⊥) → begins_at runs page ≡ false
 none_later page runs e next i h other =
     let head = head_is page i.back (2 ^ 52) next i.behind (sym (next_is page runs e i) ∙ h) in
@@ -131,7 +131,7 @@ none_later page runs e next i h other =
     let g : Follow next.0.start (next ∷ head.0) (2 ^ 52) = (omega arith, f.1, f.2) in
     none_at page runs e i (ap (λ (es : List (Interval ℕ × Rights)). begins_at es page) head.1 ∙ none_begins_below next.0.start (next ∷ head.0) (2 ^ 52) page g above)
 
--- where both meet at the page
+-- if both meet at the page
 pub record AreBeside (page : ℕ) (runs : List (Interval ℕ × Rights)) (e next : Interval ℕ × Rights) : Type 0 where
   pub rest : List (Interval ℕ × Rights)
   pub front : List (Interval ℕ × Rights)

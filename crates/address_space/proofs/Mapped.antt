@@ -50,7 +50,7 @@ is_some_of {A} o a h = rw h refl
 pub walks : (t : Tables) (page : ℕ) (rights : Rights) → AreTablesKept t → rights_in t.runs page ≡ Some rights → IsSome (walk_of t.words t.root page)
 walks t page rights kept is = some_of rights_of_place (walk_of t.words t.root page) rights (kept.found page (kept.canonical page (is_some_of (rights_in t.runs page) rights is)) ∙ is)
 
--- a page that is mapped has an entry in the table of its slot, where there are no large pages
+-- a page that is mapped has an entry in the table of its slot, if there are no large pages
 pub by_table : (words : List ℕ) (root page : ℕ) → ((slot : ℕ) → large_of words root slot ≡ None) → IsSome (walk_of words root page) → IsSome (reach words root 3 (prefix_of page 3))
 by_table words root page no_large some = go (walk_of words root page) refl some
   where

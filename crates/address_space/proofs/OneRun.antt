@@ -90,7 +90,7 @@ run_begins es start end rights h =
     let here : begins_at (x ∷ h.back) start ≡ true = rw t refl in
     ap (λ (xs : List (Interval ℕ × Rights)). begins_at xs start) h.whole ∙ (begins_append h.front (x ∷ h.back) start ∙ right_true (begins_at h.front start) (begins_at (x ∷ h.back) start) here)
 
--- runs before a page or behind it do not go on over it
+-- runs before a page or after it do not go on over it
 pub apart_above : (from : ℕ) (es : List (Interval ℕ × Rights)) (to page : ℕ) → Follow from es to → to ≤ page → crosses es page ≡ false
 apart_above from [] to page f h = refl
 apart_above from (e ∷ es) to page f h =
@@ -114,7 +114,7 @@ start_apart es start end rights h =
 
 -- ---- others in the place of a run
 
--- the runs of `middle` in the place of a run, up to a page at which or behind which the next one begins
+-- the runs of `middle` in the place of a run, up to a page at which or after which the next one begins
 pub record IsReplaced (old new : List (Interval ℕ × Rights)) (start end to : ℕ) (rights : Rights) (middle : List (Interval ℕ × Rights)) : Type 0 where
   pub run : HasRun old start end rights
   pub whole : new ≡ run.front ++ (middle ++ run.back)
@@ -218,7 +218,7 @@ entry_behind x e from (y ∷ front) back next to f le order h g =
     let above = greater x.0 y.0 (omega (arith, i, le, f.1)) in
     rw above (ap (λ ys. y ∷ ys) (entry_behind x e y.0.end front back next to f.2 le order h g))
 
--- a run before others, which begin at a page or behind it
+-- a run before others, which begin at a page or after it
 pub record IsAmong (es : List (Interval ℕ × Rights)) (start end next : ℕ) (rights : Rights) : Type 0 where
   pub front : List (Interval ℕ × Rights)
   pub back : List (Interval ℕ × Rights)

@@ -8,7 +8,7 @@ use Rattle.address_space.specs.PageMap.{IsPagePlace, HasNoPagePlace}
 use Rattle.address_space.proofs.Splits.{IsLast}
 use Rattle.address_space.proofs.Clear.{AreClear, last_holds}
 
--- no page from `base` on and below `at` begins so many clear pages
+-- no page from `base` on and below `at` begins `pages` clear pages
 pub record Passed (es : List (Interval ℕ × Rights)) (base pages at : ℕ) : Type 0 where
   pub from : base ≤ at
   pub met : (page : ℕ) → base ≤ page → page < at → AreClear es page (page + pages) → ⊥

@@ -38,7 +38,7 @@ run_kept old new start end to rights h order first last c =
       by_run : IsRunFrom 0 new (2 ^ 52) start end rights → HasRun new start end rights
       by_run r = record { front = r.front; back = r.back; whole = r.whole; before = r.before; some = h.some; behind = r.behind }
 
--- behind a run, the pages are those of the runs behind it
+-- after a run, the pages are those of the runs after it
 back_rights : (es : List (Interval ℕ × Rights)) (start end : ℕ) (rights : Rights) (page : ℕ) (h : HasRun es start end rights) → end ≤ page → rights_in es page ≡ rights_in h.back page
 back_rights es start end rights page h k =
     let skip : rights_in (run_of start end rights ∷ h.back) page ≡ rights_in h.back page = (let t = test_above start end page k in rw t refl) in

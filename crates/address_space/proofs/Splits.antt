@@ -1,4 +1,4 @@
--- Runs as those before a page and those behind it.
+-- Runs as those before a page and those after it.
 use Rattle.std.proofs.Common.{◌≡◌, ◌∙◌, ap, sym, refl, ℕ, ◌+◌, ◌<◌, ◌≤◌, Bool, true, false, subst, Option, Some, None, List, [], ◌∷◌, ◌++◌, length, arith}
 use Rattle.std.proofs.lemmas.Bool.Decides.{nat_tests}
 use Rattle.std.specs.Prelude.{nat_lt}
@@ -96,7 +96,7 @@ last_is at from (x ∷ es) to e f k l = by_rest (last (starts_below nat_cmp at) 
       })
   by_rest None false is q rest = let no : or_else None None ≡ Some e = rw q at (rw is at l) in absurd (cc)
 
--- behind a front of earlier starts the first from a page on is the first of the back
+-- after a front of earlier starts the first from a page on is the first of the back
 pub past_front : (at : ℕ) (front back : List (Interval ℕ × Rights)) → AllItems (λ e. e.0.start < at) front → first (starts_from nat_cmp at) (front ++ back) ≡ first (starts_from nat_cmp at) back
 past_front at [] back h = refl
 past_front at (e ∷ front) back h = let t = lt_test at e h.0 in rw t (past_front at front back h.1)

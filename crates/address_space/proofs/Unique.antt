@@ -15,7 +15,7 @@ clash {A} o a h k = let no : None ≡ Some a = sym h ∙ k in absurd (cc)
 missed : (page : ℕ) (e : Interval ℕ × Rights) → e.0.end ≤ page → holds page e ≡ false
 missed page e h = grind (arith, nat_tests)
 
--- a page that a run holds no more is in the runs behind it
+-- a page that a run no longer holds is in the runs after it
 behind : (page : ℕ) (e : Interval ℕ × Rights) (es : List (Interval ℕ × Rights)) → e.0.end ≤ page → rights_in (e ∷ es) page ≡ rights_in es page
 behind page e es h = let t = missed page e h in rw t refl
 
@@ -28,7 +28,7 @@ begins_later page e es h = go (e.0.start == page) refl where
   go true is = rw is refl
   go false is = rw is h
 
--- where runs begin at a page or behind it, and that page is in one, one begins there
+-- if runs begin at a page or after it, and that page is in one, one begins there
 pub mapped_begins : (at : ℕ) (es : List (Interval ℕ × Rights)) (to : ℕ) (r : Rights) → Follow at es to → rights_in es at ≡ Some r → begins_at es at ≡ true
 mapped_begins at [] to r f h = absurd (cc)
 mapped_begins at (e ∷ es) to r f h = go (cases_lt at e.0.start) where
@@ -89,7 +89,7 @@ runs_same from (e ∷ es) (f ∷ fs) to g l h m same =
         go (inl k) = none_below e.0.end es to page g.2 k ∙ sym (none_below f.0.end fs to page h.2 (omega (arith, k, end)))
         go (inr k) = sym (behind page e es k) ∙ (same page ∙ behind page f fs (omega (arith, k, end)))
 
--- ---- a run that the pages tell
+-- ---- a run that the pages determine
 
 pub record IsRunFrom (from : ℕ) (es : List (Interval ℕ × Rights)) (to start end : ℕ) (rights : Rights) : Type 0 where
   pub front : List (Interval ℕ × Rights)

@@ -394,7 +394,7 @@ unmapped_step old one new first top at count from more tree range u v low less f
       next = inr (v.map.rights from ∙ then_in from (from + (at - from)) from None (rights_in one.runs from) (omega arith) (omega (arith, less)));
     }
 
--- where the page behind is mapped, nothing has left
+-- if the page after it is mapped, nothing has left
 pub untouched : (old new : Tables) (first top at count : ℕ) → AreUnmappedTo old new first top at count → IsSome (rights_in new.runs at) → new ≡ old
 untouched old new first top at count u some = go u.next where
   go : ((at ≡ top) × (new ≡ old)) ⊎ (rights_in new.runs at ≡ None) → new ≡ old

@@ -20,11 +20,11 @@ abbrev pub denies : Bool → Bool → Option Rights → Bool
 denies write user None = true
 denies write user (Some rights) = (write && not rights.write) || (user && not rights.user)
 
--- the page fault's code (AMD64 volume 2, section 8.4.2): 1 where the page is mapped, 2 for a write, 4 for the user
+-- the page fault's code (AMD64 volume 2, section 8.4.2): 1 if the page is mapped, 2 for a write, 4 for the user
 abbrev pub fault_code : Bool → Bool → Option Rights → ℕ
 fault_code write user rights = (if is_some rights then 1 else 0) + (if write then 2 else 0) + (if user then 4 else 0)
 
--- the access is granted at each of so many bytes from an address on
+-- the access is granted at each of `length` bytes from an address on
 abbrev pub IsGranted : (ℕ → Option Rights) → Bool → Bool → ℕ → ℕ → Type 0
 IsGranted rights write user at length = (any : ℕ) → at ≤ any → any < at + length → denies write user (rights (any / 4096)) ≡ false
 
@@ -51,7 +51,7 @@ pub record AreBytesPut (old new : List ℕ) (offset count : ℕ) (bytes : List �
       (place : ℕ) → place < 8 * length old →
       byte_at new place ≡ (if nat_le offset place && nat_lt place (offset + count) then slice_index bytes (place - offset) else byte_at old place)
 
--- so many of these bytes were written from an address on, and every other byte is as it was
+-- `count` of these bytes were written from an address on, and every other byte is as it was
 pub record AreWritten (old new : ℕ → Option ℕ) (at count : ℕ) (bytes : List ℕ) : Type 0 where
   pub each :
       (address : ℕ) → IsTrue (is_canonical address) →
@@ -64,13 +64,13 @@ pub record LiesIn (words : List ℕ) (root address frame index : ℕ) : Type 0 w
   pub in_frame : place.frame ≡ frame
   pub at_index : address % 4096 / 8 ≡ index
 
--- a word of memory is as it was where none of so many bytes from an address on lies in it
+-- a word of memory is as it was if none of `count` bytes from an address on lies in it
 pub record AreOtherWordsKept (old new : List ℕ) (root at count : ℕ) : Type 0 where
   pub kept :
       (frame index : ℕ) → index < 512 → ((address : ℕ) → at ≤ address → address < at + count → LiesIn old root address frame index → ⊥) →
       word_at new frame index ≡ word_at old frame index
 
--- When each answer comes of an access to so many bytes. One to no bytes is always served.
+-- When an access to `length` bytes gets each answer. An access to no bytes is always served.
 abbrev pub IsAccessAnswer : {A : Type 0} → PageMap → Bool → Bool → ℕ → ℕ → Result A SpaceFault → Type 0
 IsAccessAnswer {A} map write user at length (Ok done) = 0 < length → IsGoodSpan at length × IsGranted map.rights write user at length
 IsAccessAnswer {A} map write user at length (Err BadRange) = (0 < length) × (IsGoodSpan at length → ⊥)

@@ -43,7 +43,8 @@ pub record AreWordsCopied (old new : Tables) (from pages to : ℕ) : Type 0 wher
   pub copied :
       (k i : ℕ) (source target : Place) → k < pages → i < 512 → walk_of old.words old.root (from + k) ≡ Some source →
       walk_of new.words old.root (to + k) ≡ Some target → word_at new.words target.frame i ≡ word_at old.words source.frame i
-  -- a word of a table that was there is changed only where it leads elsewhere now, and a new table is 0 where it leads nowhere
+  -- a word of a table that was there is changed only if it leads elsewhere now, and a new table is 0 if it leads
+  -- nowhere
   pub old_words :
       (l n f i : ℕ) → l < 4 → i < 512 → reach old.words old.root l n ≡ Some (top f) →
       reach new.words old.root (l + 1) (512 * n + i) ≡ reach old.words old.root (l + 1) (512 * n + i) → word_at new.words f i ≡ word_at old.words f i
@@ -88,7 +89,7 @@ pub record IsStored (old new : Tables) (at : ℕ) (bytes : List ℕ) : Type 0 wh
   pub met : (level number : ℕ) → level ≤ 4 → reach new.words old.root level number ≡ reach old.words old.root level number
   pub words : AreOtherWordsKept old.words new.words old.root at (length bytes)
 
--- ---- when each answer comes; want of memory is free where no other cause is
+-- ---- when each answer is given; want of memory is free if there is no other cause
 
 abbrev pub IsUnmapAnswer : ℕ → ℕ → Result ℕ SpaceFault → Type 0
 IsUnmapAnswer start pages (Ok count) = IsGoodRange start pages

@@ -4,7 +4,7 @@ use Rattle.paging_core.specs.declared.page_table.Rights.{Rights}
 use Rattle.meminterval.specs.declared.interval.Interval.{Interval}
 use Rattle.address_space.specs.Runs.{Follow, AreLongest, rights_in, begins_at}
 
--- the run that begins behind a page, if one does, could not begin at that page
+-- the run that begins right after a page, if one does, could not begin at that page
 abbrev pub IsLongestAfter : List (Interval ℕ × Rights) → ℕ → Type 0
 IsLongestAfter runs before = IsTrue (begins_at runs (before + 1)) → rights_in runs before ≡ rights_in runs (before + 1) → ⊥
 

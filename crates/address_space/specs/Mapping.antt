@@ -9,7 +9,7 @@ use Rattle.address_space.specs.declared.space_fault.SpaceFault.TheVariants.{BadR
 use Rattle.address_space.specs.PageMap.{IsMap, mapped, IsGoodRange, IsGoodWindow, IsClear, IsPagePlace, HasNoPagePlace}
 use Rattle.address_space.specs.Space.{Tables, map_of}
 
--- there are frames for so many pages from the page `first` on, and for the tables that they miss
+-- there are frames for `pages` pages from the page `first` on, and for the tables that they miss
 abbrev pub HasFrames : Tables → ℕ → ℕ → Type 0
 HasFrames t first pages = pages + missing_of t.words t.root first pages ≤ free_count t.free
 
@@ -20,7 +20,7 @@ pub record IsMapped (old new : Tables) (first pages : ℕ) (rights : Rights) : T
   pub root : new.root ≡ old.root
   pub added : IsRangeAdded old.words new.words old.free new.free old.root first pages rights
 
--- When each answer comes. Want of memory is free where no other cause is.
+-- When each answer is given. Want of memory is free if there is no other cause.
 abbrev pub IsMapAnswer : Tables → ℕ → ℕ → Result (Unit {0}) SpaceFault → Type 0
 IsMapAnswer t start pages (Ok done) = IsGoodRange start pages × IsClear (map_of t) (start / 4096) pages × HasFrames t (start / 4096) pages
 IsMapAnswer t start pages (Err BadRange) = IsGoodRange start pages → ⊥
@@ -29,7 +29,7 @@ IsMapAnswer t start pages (Err NoFrames) = IsGoodRange start pages × IsClear (m
 IsMapAnswer t start pages (Err OutOfMemory) = IsGoodRange start pages × IsClear (map_of t) (start / 4096) pages × HasFrames t (start / 4096) pages
 IsMapAnswer t start pages (Err fault) = ⊥
 
--- When each answer of a call comes that maps pages at their lowest place in a window.
+-- When a call that maps pages at their lowest place in a window gets each answer.
 abbrev pub IsPlaceAnswer : Tables → ℕ → ℕ → ℕ → Result ℕ SpaceFault → Type 0
 IsPlaceAnswer t low high pages (Ok at) =
     IsGoodWindow low high × (0 < pages) × ((page : ℕ) × (at ≡ 4096 * page) × IsPagePlace (map_of t).rights (low / 4096) (high / 4096) pages page × HasFrames t page pages)

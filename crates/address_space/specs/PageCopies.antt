@@ -9,7 +9,7 @@ use Rattle.paging_core.specs.Tree.{IsTree}
 use Rattle.paging_core.specs.Walk.{Place, reach, large_of, walk_of, reached, top}
 use Rattle.address_space.specs.Space.{rights_of_place}
 
--- so many pages from `to` on got the rights and the bytes of those from `from` on, each in its own frame
+-- `pages` pages from `to` on got the rights and the bytes of those from `from` on, each in its own frame
 pub record ArePagesCopied (old new : List ℕ) (root from pages to : ℕ) : Type 0 where
   pub size : length new ≡ length old
   pub tree : (free : List Bool) → IsTree old root free → IsTree new root free

@@ -4,7 +4,7 @@ use Rattle.paging_core.specs.Address.{IsCanonicalRange}
 use Rattle.paging_core.specs.declared.page_table.Rights.{Rights}
 use Rattle.address_space.specs.Runs.{is_among}
 
--- the rights of a page, None where it is not mapped, and the byte at an address, None where its page is not mapped
+-- the rights of a page, None if it is not mapped, and the byte at an address, None if its page is not mapped
 pub record PageMap : Type 0 where
   pub rights : ℕ → Option Rights
   pub byte : ℕ → Option ℕ
@@ -16,7 +16,7 @@ pub record IsMap (left right : PageMap) : Type 0 where
 
 -- ---- the steps
 
--- so many pages from the page `first` on get the rights, and bytes that are 0
+-- `pages` pages from the page `first` on get the rights, and bytes that are 0
 abbrev pub mapped : ℕ → ℕ → Rights → PageMap → PageMap
 mapped first pages rights map = record {
   rights = λ page. (if is_among first pages page then Some rights else map.rights page);
@@ -80,7 +80,7 @@ mapped_count rights first (suc pages) = (if is_some (rights first) then 1 else 0
 
 -- ---- places
 
--- so many pages from a page lie between two others, and none of them is mapped
+-- `pages` pages from a page lie between two others, and none of them is mapped
 pub record IsPageFit (rights : ℕ → Option Rights) (base end pages page : ℕ) : Type 0 where
   pub from : base ≤ page
   pub within : page + pages ≤ end

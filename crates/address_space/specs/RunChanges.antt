@@ -34,7 +34,7 @@ pub record IsParted (old new : List (Interval ℕ × Rights)) (page : ℕ) : Typ
   pub begins : (any : ℕ) → begins_at new any ≡ true → (any ≡ page) ⊎ (begins_at old any ≡ true)
   pub apart : crosses new page ≡ false
 
--- so many pages from `to` on got the rights of those from `from` on
+-- `pages` pages from `to` on got the rights of those from `from` on
 pub record AreCopied (old new : List (Interval ℕ × Rights)) (from pages to : ℕ) : Type 0 where
   pub follow : Follow 0 new (2 ^ 52)
   pub longest : AreLongest new

@@ -5,7 +5,7 @@ use Rattle.paging_core.specs.declared.page_table.Rights.{Rights}
 use Rattle.meminterval.specs.declared.interval.Interval.{Interval}
 use Rattle.address_space.specs.declared.area.Area.{Area}
 
--- whether a page is one of so many from the page `first` on
+-- whether a page is one of `pages` pages from the page `first` on
 abbrev pub is_among : ℕ → ℕ → ℕ → Bool
 is_among first pages page = nat_le first page && nat_lt page (first + pages)
 
@@ -23,12 +23,12 @@ abbrev pub begins_at : List (Interval ℕ × Rights) → ℕ → Bool
 begins_at [] page = false
 begins_at (run ∷ runs) page = (if run.0.start == page then true else begins_at runs page)
 
--- whether a run begins before a page and goes on behind it
+-- whether a run begins before a page and goes on after it
 abbrev pub crosses : List (Interval ℕ × Rights) → ℕ → Bool
 crosses [] page = false
 crosses (run ∷ runs) page = (if nat_lt run.0.start page && nat_lt page run.0.end then true else crosses runs page)
 
--- runs one behind the other between two pages, each of some pages
+-- runs one after the other between two pages, each of at least one page
 abbrev pub Follow : ℕ → List (Interval ℕ × Rights) → ℕ → Type 0
 Follow from [] to = from ≤ to
 Follow from (run ∷ runs) to = (from ≤ run.0.start) × (run.0.start < run.0.end) × Follow run.0.end runs to

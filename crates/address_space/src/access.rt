@@ -22,7 +22,7 @@ use x86_flags::PageFaultErrorCode;
 /// Bytes, as a list.
 pub type Bytes = PublicList<u8>;
 
-/// What an access asks for beside reading.
+/// What an access asks for besides reading.
 #[derive(Clone, Copy)]
 struct Access {
     write: bool,
@@ -67,7 +67,7 @@ fn first_byte(at: u64, page: u64) -> u64
     if at / 4096 < page { page * 4096 } else { at }
 }
 
-/// The first of so many bytes at which an access is denied.
+/// The first of `count` bytes at which an access is denied.
 fn first_denied(
     runs: &IntervalTree<u64, Rights>,
     at: u64,

@@ -8,7 +8,7 @@ pub struct Area {
     pub start: u64,
     /// The number of pages.
     pub pages: u64,
-    /// What may be done with the pages, beside reading them.
+    /// What may be done with the pages, besides reading them.
     pub rights: Rights,
 }
 

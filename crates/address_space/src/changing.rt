@@ -13,7 +13,7 @@ use crate::{run_changes, runs};
 use paging_core::{Page, Rights, protect_range, unmap_range};
 use std::alloc::AllocError;
 
-/// The end of a range, where no page is mapped any more.
+/// The end of a range, in which no page is mapped any longer.
 #[derive(Clone, Copy)]
 struct Part {
     /// Its first page.
@@ -42,7 +42,7 @@ impl Space {
                     end = part.first;
                     count += part.count;
                 }
-                // Memory is wanted only where a run goes on behind the range, so before any page has left.
+                // Memory is needed only if a run goes on after the range, so before any page has left.
                 Err(_) => return Err(SpaceFault::OutOfMemory),
             }
         }
@@ -50,7 +50,7 @@ impl Space {
     }
 
     /// Unmaps the last run of the pages from `first` up to `end`, as far as it lies among them. An `Err` changes
-    /// nothing, and comes only where the page `end` is mapped.
+    /// nothing, and is possible only if the page `end` is mapped.
     fn unmap_last(&mut self, first: u64, end: u64) -> Result<Part, AllocError>
         requires some { first < end }
         requires within { end ≤ 2 ^ 52 }

@@ -46,7 +46,7 @@ fn copy_to(frames: &mut Frames, root: PhysFrame, source: Page, target: Page)
     protect_page(frames, root, target, rights);
 }
 
-/// Gives so many mapped pages from `to` on the rights and the bytes of those from `from` on, none of which is among
+/// Gives `pages` mapped pages from `to` on the rights and the bytes of those from `from` on, none of which is among
 /// them. No page is in a large page.
 fn copy_pages(frames: &mut Frames, root: PhysFrame, from: u64, pages: u64, to: u64)
     requires root { root < frame_count frames.old }
@@ -65,8 +65,7 @@ fn copy_pages(frames: &mut Frames, root: PhysFrame, from: u64, pages: u64, to: u
 }
 
 impl Space {
-    /// Maps as many pages at `to` as asked, each with the rights and the bytes of its page at `from`. An `Err` changes
-    /// nothing.
+    /// Maps `pages` pages at `to`, each with the rights and the bytes of its page at `from`. An `Err` changes nothing.
     pub fn duplicate(&mut self, from: u64, pages: u64, to: u64) -> Result<(), SpaceFault>
         ensures ok { OnOk result (IsDuplicated (tables_of self.old) (tables_of self.new) (from / 4096) pages (to / 4096)) }
         ensures err { OnErr result (tables_of self.new ≡ tables_of self.old) }

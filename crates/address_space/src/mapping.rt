@@ -15,7 +15,7 @@ use crate::space_fault::SpaceFault;
 use paging_core::{Page, Rights};
 
 impl Space {
-    /// Maps so many pages from the address on, with the rights and bytes that are 0. An `Err` changes nothing.
+    /// Maps `pages` pages from the address on, with the rights and bytes that are 0. An `Err` changes nothing.
     pub fn map_at(&mut self, start: u64, pages: u64, rights: Rights) -> Result<(), SpaceFault>
         ensures ok { OnOk result (IsMapped (tables_of self.old) (tables_of self.new) (start / 4096) pages rights) }
         ensures err { OnErr result (tables_of self.new ≡ tables_of self.old) }
@@ -36,8 +36,8 @@ impl Space {
         }
     }
 
-    /// Maps so many pages, with the rights and bytes that are 0, at the lowest address from which as many pages lie
-    /// between two addresses and are not mapped, and answers it. An `Err` changes nothing.
+    /// Maps `pages` pages, with the rights and bytes that are 0, at the lowest address from which that many pages lie
+    /// between two addresses and are not mapped, and answers that address. An `Err` changes nothing.
     pub fn place(
         &mut self,
         low: u64,

@@ -54,7 +54,7 @@ pub(crate) fn page_at(number: u64) -> Page
 /// How many bytes a canonical half has.
 const HALF: u64 = 1 << 47;
 
-/// Whether so many bytes from the address on lie in one canonical half.
+/// Whether `count` bytes from the address on lie in one canonical half.
 pub(crate) fn is_good_span(at: u64, count: u64) -> bool
     requires { 0 < count }
     ensures good { IsTrue result ↔ IsGoodSpan at count }

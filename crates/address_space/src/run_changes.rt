@@ -10,10 +10,10 @@ use meminterval::{Interval, IntervalTree};
 use paging_core::Rights;
 use std::alloc::{AllocError, Global};
 
-/// A page behind every other.
+/// A page after every other.
 const BEYOND: u64 = 1 << 53;
 
-/// Lets a run end at a page of it, or takes it out where it begins there.
+/// Lets a run end at a page of it, or takes it out if it begins there.
 fn cut(runs: &mut IntervalTree<u64, Rights>, run: Run, from: u64)
     requires run { HasRun (entries runs.old) run.start run.end run.rights }
     requires from { run.start ≤ from }
@@ -93,7 +93,7 @@ fn set_from(
     Ok(run.end)
 }
 
-/// Lets a run begin at a page where one goes on over it. An `Err` changes nothing, and comes only there.
+/// Lets a run begin at a page if one goes on over it. An `Err` changes nothing, and is possible only then.
 fn part(runs: &mut IntervalTree<u64, Rights>, alloc: Global, page: u64) -> Result<(), AllocError>
     requires follow { Follow 0 (entries runs.old) (2 ^ 52) }
     requires within { page ≤ 2 ^ 52 }
@@ -130,7 +130,7 @@ fn take_out(runs: &mut IntervalTree<u64, Rights>, first: u64, end: u64)
     }
 }
 
-/// Takes the pages from `first` up to `end` out of all runs. An `Err` changes nothing, and comes only where the page
+/// Takes the pages from `first` up to `end` out of all runs. An `Err` changes nothing, and is possible only if the page
 /// `end` is in one.
 pub(crate) fn take(
     runs: &mut IntervalTree<u64, Rights>,
@@ -151,7 +151,7 @@ pub(crate) fn take(
     Ok(())
 }
 
-/// Lets a run go on up to a page, in the place of the runs behind it, none of which goes on over that page.
+/// Lets a run go on up to a page, in the place of the runs after it, none of which goes on over that page.
 fn spread(runs: &mut IntervalTree<u64, Rights>, run: Run, end: u64)
     requires run { HasRun (entries runs.old) run.start run.end run.rights }
     requires order { run.end ≤ end }
@@ -200,8 +200,8 @@ pub(crate) fn set_rights(
     }
 }
 
-/// Gives so many pages from `to` on the rights of those from `from` on: each of these is in a run, and none of those.
-/// An `Err` changes nothing.
+/// Gives `pages` pages from `to` on the rights of those from `from` on. Each page from `from` on is in a run, and no
+/// page from `to` on is. An `Err` changes nothing.
 pub(crate) fn copy(
     runs: &mut IntervalTree<u64, Rights>,
     alloc: Global,

@@ -88,7 +88,7 @@ fn around(runs: &IntervalTree<u64, Rights>, page: u64) -> Option<(u64, u64)>
     Some((left.interval.start, right.interval.end))
 }
 
-/// Puts a run in where no page is in one, and joins it with those beside it. An `Err` changes nothing.
+/// Puts in a run of pages that are in none, and joins it with those beside it. An `Err` changes nothing.
 pub(crate) fn add(
     runs: &mut IntervalTree<u64, Rights>,
     alloc: Global,
@@ -110,7 +110,7 @@ pub(crate) fn add(
     Ok(())
 }
 
-/// The lowest page from `base` on, from which so many pages up to `end` are in no run.
+/// The lowest page from `base` on, from which `pages` pages up to `end` are in no run.
 pub(crate) fn lowest_place(
     runs: &IntervalTree<u64, Rights>,
     base: u64,

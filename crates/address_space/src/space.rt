@@ -32,7 +32,7 @@ pub struct Space {
 impl Space {
     ghost use Rattle.address_space.specs.Seen.{tables_of};
 
-    /// A space with so many frames, of which one holds the root table. No page is mapped.
+    /// A space with `frames` frames, of which one holds the root table. No page is mapped.
     pub fn new(alloc: Global, frames: u32) -> Result<Self, AllocError>
         requires { 0 < frames }
         ensures runs { IfOk result (λ space. (tables_of space).runs ≡ []) }
@@ -84,7 +84,7 @@ impl Space {
         runs::list(&self.runs, alloc)
     }
 
-    /// Whether none of so many pages is mapped.
+    /// Whether none of the `pages` pages from `first` on is mapped.
     pub(crate) fn is_clear(&self, first: Page, pages: u64) -> bool
         requires some { 0 < pages }
         requires within { first + pages ≤ 2 ^ 52 }
@@ -93,7 +93,7 @@ impl Space {
         runs::is_clear(&self.runs, first.number(), first.number() + pages)
     }
 
-    /// The lowest page of a window in one canonical half, from which so many pages up to `end` are not mapped.
+    /// The lowest page of a window in one canonical half, from which `pages` pages up to `end` are not mapped.
     pub(crate) fn lowest_place(&self, base: Page, end: u64, pages: u64) -> Option<Page>
         requires some { 0 < pages }
         requires window { end ≤ 2 ^ 52 }
@@ -108,7 +108,7 @@ impl Space {
         Some(Page::containing_address(VirtAddr::new(number * 4096)))
     }
 
-    /// Whether there are frames for so many pages, and for the tables that they miss.
+    /// Whether there are frames for the `pages` pages from `first` on, and for the tables that they miss.
     pub(crate) fn has_frames(&self, first: Page, pages: u64) -> bool
         requires { IsCanonicalRange first pages }
         ensures { IsTrue result ↔ HasFrames (tables_of self.now) first pages }

@@ -21,14 +21,14 @@ fn page(address: u64) -> Page {
     Page::containing_address(VirtAddr::new_truncate(address))
 }
 
-/// A system with so many frames, whose window is at 0x400000.
+/// A system with `frames` frames, whose window is at 0x400000.
 fn system(alloc: Global, frames: u32) -> Result<PagedSystem, AllocError>
     requires { 0 < frames }
 {
     PagedSystem::new(alloc, 0x40_0000, 16, frames)
 }
 
-/// A system with a cache of so many translations, and `INVLPGB` of at most 7 pages.
+/// A system with a cache of `capacity` translations, and `INVLPGB` of at most 7 pages.
 fn cached(alloc: Global, frames: u32, capacity: u64) -> Result<CachedSystem, AllocError>
     requires frames { 0 < frames }
     requires capacity { 0 < capacity }
@@ -42,7 +42,7 @@ fn look(tlb: &mut Tlb, system: &PagedSystem, address: u64) -> bool {
     translated.hit
 }
 
-/// Sees that these pages have entries, and no others.
+/// Checks that these pages have entries, and no others.
 fn expect_pages<R: Abort>(rt: &R, tlb: &Tlb, pages: &[u64]) {
     same(rt, tlb.len(), pages.len() as u64);
     for address in pages {
@@ -62,7 +62,7 @@ fn the_oldest_leaves_first(rt: HostRuntime) -> Result<(), Fail> {
         );
     }
     expect_pages(&rt, cached.tlb(), &[0x1_1000, 0x1_2000]);
-    // A hit leaves the order, so that its entry is the next to leave.
+    // A hit leaves the order, so its entry is the next to leave.
     same(
         &rt,
         cached.probe(0x1_1000, Access::Read, false),
@@ -135,7 +135,7 @@ fn invpcid(kind: u64, address: u64) -> FlushCommand {
     }
 }
 
-/// Sees what each command leaves of three entries.
+/// Checks what each command leaves of three entries.
 fn expect_left<R: Abort>(rt: &R, system: &PagedSystem, tlb: &mut Tlb, rows: &[Row]) {
     for row in rows {
         for address in [0x5000, 0x6000, 0x7000] {

@@ -86,7 +86,7 @@ fn plain_probe(system: &PagedSystem, at: u64, access: Access, user: bool) -> Pro
     Probed::Byte((word >> 8 * (at % 8) & 0xff) as u8)
 }
 
-/// Sees that a map, an unmap or a probe answers alike with a cache and without.
+/// Checks that a map, an unmap or a probe answers alike with a cache and without.
 fn expect_alike<R: Abort>(
     rt: &R,
     numbers: &mut Numbers,

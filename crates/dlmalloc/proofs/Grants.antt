@@ -1,4 +1,4 @@
--- A grant of the system joins the heap: behind the head segment, before a segment, or as a new head.
+-- A grant of the system joins the heap: after the head segment, before a segment, or as a new head.
 pub mod NewRegion
 pub mod BehindHead
 pub mod NewHead

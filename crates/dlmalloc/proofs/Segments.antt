@@ -1,4 +1,4 @@
--- Segments, the records that tell them, and the regions that they lie in.
+-- Segments, the records that describe them, and the regions that they lie in.
 pub mod Among
 pub mod WordsKept
 pub mod OneReplaced

@@ -42,13 +42,14 @@ regions_after frees parts unit heap at regions =
 abbrev pub index_after : Bool → Bool → HeapState → ℕ → (ℕ → List ℕ) → ℕ → List ℕ
 index_after frees parts heap at index = if is_above_check heap at then after_trim frees parts 0 heap index else after_count frees parts heap at index
 
--- The bins keep their order as a block's chunk is freed, and then what a free does further is done of them.
+-- The bins keep their order as a block's chunk is freed, and then change by what a free does further.
 abbrev pub FreesInOrder : {A : Type 0} → (A → List Grant) → (A → ℕ → ℕ) → Bool → Bool → Dlmalloc A → ℕ → Dlmalloc A → Type 0
 FreesInOrder regions word frees parts old address new = (before : IsBinned regions word old) →
     (middle : ℕ → List ℕ) × HoldsBinned (freed (state_of word old) (address - 16)) middle × AreInOrder before.index middle
     × ((after : IsBinned regions word new) × ((n : ℕ) → after.index n ≡ index_after frees parts (freed (state_of word old) (address - 16)) (address - 16) middle n))
 
--- A free did what it does further, of the chunk at an address. The extents in use are the same, and blocks have their bytes.
+-- A free did what it does further, with the chunk at an address. The extents in use are the same, and blocks have their
+-- bytes.
 pub record IsSettled {A : Type 0} (regions : A → List Grant) (word : A → ℕ → ℕ) (follows : A → List Event → A → Type 0) (frees parts : Bool) (unit : ℕ) (old : Dlmalloc A) (at : ℕ) (new : Dlmalloc A) : Type 0 where
   pub state : state_of word new ≡ after_free frees parts unit (state_of word old) at
   pub sound : IsSound regions word new
@@ -59,14 +60,14 @@ pub record IsSettled {A : Type 0} (regions : A → List Grant) (word : A → ℕ
   pub followed : follows old.system (free_releases frees parts unit (state_of word old) at) new.system
   pub index : IsReindexed regions word (index_after frees parts (state_of word old) at) old new
 
--- An address is in the head segment, and of the extents that are in use there none is behind it.
+-- An address is in the head segment, and of the extents that are in use there none is after it.
 pub record IsBehindUsed {A : Type 0} (heap : Dlmalloc A) (left : HeapState) (at : ℕ) : Type 0 where
   pub within : at < heap.base + heap.size
   pub behind : (used : Extent) → used.kind ≡ Used → extent_at used.at (extents_in left) ≡ Some used → (used.at + used.size ≤ at) ⊎ (heap.base + heap.size ≤ used.at)
 
--- The block at an address was freed: its chunk became one with the free ones beside it, and what a free does further was done of
--- it. Of the words that are granted still those that were in free extents, own ones before or after that, and those of records
--- alone changed.
+-- The block at an address was freed: its chunk became one with the free ones beside it, and what a free does further
+-- was done with it. Of the words that are still granted only those changed that were in free extents, own ones before
+-- or after that, and those of records.
 pub record IsFreed {A : Type 0} (regions : A → List Grant) (word : A → ℕ → ℕ) (follows : A → List Event → A → Type 0) (frees parts : Bool) (unit : ℕ) (old : Dlmalloc A) (address : ℕ) (new : Dlmalloc A) : Type 0 where
   pub state : state_of word new ≡ after_free frees parts unit (freed (state_of word old) (address - 16)) (address - 16)
   pub less : HasOneMore (state_of word new) (state_of word old) (address - 16)

@@ -9,8 +9,8 @@ use Rattle.dlmalloc.specs.Blocks.{KeepsBlocks}
 use Rattle.dlmalloc.specs.Freed.{freed}
 use Rattle.dlmalloc.specs.Resized.{exchanged, halves, tail_freed}
 
--- Where a chunk begins whose block is at a multiple of an alignment, in a chunk at an address: there, where that one's block
--- is; else before the first such place that leaves more than 32 bytes before it.
+-- Where a chunk whose block is at a multiple of an alignment begins, in a chunk at an address: there, if that one's
+-- block is at one; else before the first such place that leaves more than 32 bytes before it.
 abbrev pub aligned_place : ℕ → ℕ → ℕ
 aligned_place at align =
     if (at + 16) % align == 0 then at else
@@ -20,12 +20,12 @@ aligned_place at align =
 abbrev pub lead_freed : HeapState → ℕ → ℕ → HeapState
 lead_freed heap at place = if place == at then heap else freed (exchanged heap at (halves (place - at))) at
 
--- a rest of more than 32 bytes behind n bytes of the extent at an address is freed
+-- a rest of more than 32 bytes after n bytes of the extent at an address is freed
 abbrev pub tail_cut : HeapState → ℕ → ℕ → HeapState
 tail_cut heap at n = if nat_lt (n + 32) (size_where (λ extent. extent.at == at) (extents_in heap)) then tail_freed heap at n else heap
 
--- of the extent in use at an address, n bytes at the aligned place stay in use: what is before them is freed, and then what
--- is behind them
+-- of the extent in use at an address, n bytes at the aligned place stay in use: what is before them is freed, and then
+-- what is after them
 abbrev pub aligned : HeapState → ℕ → ℕ → ℕ → HeapState
 aligned heap at align n = tail_cut (lead_freed heap at (aligned_place at align)) (aligned_place at align) n
 

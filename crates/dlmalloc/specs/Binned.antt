@@ -37,16 +37,16 @@ pub record IsBinnedBut {A : Type 0} (loose : List ℕ) (regions : A → List Gra
 abbrev pub IsBinned : {A : Type 0} → (A → List Grant) → (A → ℕ → ℕ) → Dlmalloc A → Type 0
 IsBinned regions word heap = IsBinnedBut [] regions word heap
 
--- what begins at an address is the top, or else a free extent of so many bytes
+-- what begins at an address is the top, or else a free extent of the given size
 abbrev pub IsJoint : HeapState → ℕ → ℕ → ℕ → Type 0
 IsJoint heap top at size = ((at ≡ top) × ((n : ℕ) → IsFreeAt heap at n → ⊥)) ⊎ ((at ≢ top) × IsFreeAt heap at size)
 
--- A chunk is the one that each index names which is linked in the heap's memory: of the least size that is n bytes at least, the
--- newest below 256, and the oldest from 256 on.
+-- A chunk is the one that is named by each index that is linked in the heap's memory: of the least size that is at
+-- least n bytes, the newest below 256, and the oldest from 256 on.
 abbrev pub IsMember : {A : Type 0} → (A → List Grant) → (A → ℕ → ℕ) → Dlmalloc A → ℕ → ℕ → Type 0
 IsMember regions word heap n at = (index : ℕ → List ℕ) → IsLinked (regions heap.system) (word heap.system) heap.bins index → IsLeastFit index n at
 
--- where a binned extent is chosen for n bytes, it is that one
+-- if a binned extent is chosen for n bytes, it is that one
 abbrev pub IsMemberChosen : {A : Type 0} → (A → List Grant) → (A → ℕ → ℕ) → Dlmalloc A → ℕ → ℕ → Type 0
 IsMemberChosen regions word heap n at = (size : ℕ) → chosen (state_of word heap) n ≡ Some (OfBins size) → IsMember regions word heap n at
 
@@ -57,7 +57,7 @@ pub record IsSameBins {A : Type 0} (old new : Dlmalloc A) : Type 0 where
 
 -- ---- what changes
 
--- Of the granted words those in free extents alone change, from 16 bytes behind where they begin on.
+-- Of the granted words only those in free extents change, from 16 bytes after the extent's beginning on.
 abbrev pub OnlyFreeChange : List Grant → HeapState → (ℕ → ℕ) → (ℕ → ℕ) → Type 0
 OnlyFreeChange regions heap old new = (k : ℕ) → IsWordOf regions k → ((at size : ℕ) → IsFreeAt heap at size → (k < at + 16) ⊎ (at + size ≤ k)) → new k ≡ old k
 

@@ -8,7 +8,8 @@ use Rattle.dlmalloc_chunks.specs.declared.extent.Kind.TheVariants.{Used}
 use Rattle.dlmalloc.specs.Extents.{extent_at}
 use Rattle.dlmalloc.specs.State.{HeapState, extents_in}
 
--- a block of so many bytes begins at an address: its chunk has room for them and for its head, and little more
+-- a block of the given size begins at an address: its chunk has room for that many bytes and for its head, and little
+-- more
 pub record IsBlock (heap : HeapState) (address size : ℕ) : Type 0 where
   pub extent : Extent
   pub there : extent_at (address - 16) (extents_in heap) ≡ Some extent
@@ -17,14 +18,15 @@ pub record IsBlock (heap : HeapState) (address size : ℕ) : Type 0 where
   pub holds : size + 8 ≤ extent.size
   pub little : extent.size ≤ size + 79
 
--- One heap has an extent in use more than another: the one at an address. Every other extent in use is the same in both.
+-- One heap has one more extent in use than another: the one at an address. Every other extent in use is the same in
+-- both.
 pub record HasOneMore (less more : HeapState) (at : ℕ) : Type 0 where
   pub kept : (used : Extent) → used.kind ≡ Used → extent_at used.at (extents_in less) ≡ Some used → extent_at used.at (extents_in more) ≡ Some used
   pub only : (used : Extent) → used.kind ≡ Used → extent_at used.at (extents_in more) ≡ Some used → used.at ≢ at → extent_at used.at (extents_in less) ≡ Some used
   pub new : (used : Extent) → used.kind ≡ Used → extent_at used.at (extents_in less) ≡ Some used → used.at ≢ at
 
--- A run of bytes, up to another address, meets the block of some extent in use, whatever the block's size: it has a byte
--- at least, and its extent is at most 79 bytes longer.
+-- A run of bytes, up to another address, meets the block of some extent in use, whatever the block's size: the block
+-- has at least one byte, and its extent is at most 79 bytes longer.
 pub record IsMet (heap : HeapState) (from to : ℕ) : Type 0 where
   pub used : Extent
   pub there : extent_at used.at (extents_in heap) ≡ Some used
@@ -32,11 +34,11 @@ pub record IsMet (heap : HeapState) (from to : ℕ) : Type 0 where
   pub begins : used.at + 16 < to
   pub ends : from < used.at + max 17 (used.size - 63)
 
--- each run of so many bytes of a segment meets a block
+-- each run of `bytes` bytes of a segment meets a block
 abbrev pub IsFull : HeapState → ℕ → Type 0
 IsFull heap bytes = AllByRecursion (λ segment. (from : ℕ) → segment.base ≤ from → from + bytes ≤ segment.base + segment.size → IsMet heap from (from + bytes)) heap.segments
 
--- Bytes of a block are at a multiple of 16, and they are granted, one where it has none.
+-- The bytes of a block begin at a multiple of 16 and are granted. If it has no byte, one is granted there.
 pub record IsPlaced (regions : List Grant) (address size : ℕ) : Type 0 where
   pub aligned : address % 16 ≡ 0
   pub granted : (k : ℕ) → address ≤ k → k < address + max size 1 → IsTrue (is_granted regions k)
@@ -46,20 +48,20 @@ pub record IsPlaced (regions : List Grant) (address size : ℕ) : Type 0 where
 abbrev pub ArePlaced : List Grant → HeapState → Type 0
 ArePlaced regions heap = (address size : ℕ) → IsBlock heap address size → IsPlaced regions address size
 
--- Two blocks of a heap have no byte in common, one where they have none, and behind each there are 8 bytes before the next
--- block's head ends.
+-- Two blocks of a heap have no byte in common, with one byte for a block that has none, and after each there are 8
+-- bytes before the next block's head ends.
 abbrev pub BlocksAreApart : HeapState → Type 0
 BlocksAreApart heap = (first first_size second second_size : ℕ) → IsBlock heap first first_size → IsBlock heap second second_size → first ≢ second →
     (first + max first_size 1 + 8 ≤ second) ⊎ (second + max second_size 1 + 8 ≤ first)
 
--- The blocks of these extents keep their words: those behind the head, and the first word of the extent behind. Of the
--- head bit 0 alone may change, which says what stands before it.
+-- The blocks of these extents keep their words: those after the head, and the first word of the extent after it. Of the
+-- head only bit 0 may change, which says what stands before it.
 pub record KeepsBlocks (extents : List Extent) (old new : ℕ → ℕ) : Type 0 where
   pub words : (block : Extent) → extent_at block.at extents ≡ Some block → block.kind ≡ Used →
       (k : ℕ) → block.at + 16 ≤ k → k < block.at + block.size + 8 → k % 8 ≡ 0 → new k ≡ old k
   pub heads : (block : Extent) → extent_at block.at extents ≡ Some block → block.kind ≡ Used → new (block.at + 8) / 2 ≡ old (block.at + 8) / 2
 
--- An extent stands in granted bytes, with the first two words of the extent behind it, in whole units of 16 bytes.
+-- An extent stands in granted bytes, with the first two words of the extent after it, in whole units of 16 bytes.
 pub record IsInside (regions : List Grant) (used : Extent) : Type 0 where
   pub granted : (k : ℕ) → used.at ≤ k → k < used.at + used.size + 16 → IsTrue (is_granted regions k)
   pub low : 4096 ≤ used.at

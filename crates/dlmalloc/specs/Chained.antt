@@ -15,7 +15,7 @@ use Rattle.dlmalloc.specs.Heap.{segments_of, state_of, IsSound}
 use Rattle.dlmalloc.specs.declared.heap.Dlmalloc.{Dlmalloc}
 use Rattle.dlmalloc.specs.declared.record.SegmentRecord.{SegmentRecord}
 
--- the last of some segments, whose record's payload begins at an address and tells the next one
+-- the last of some segments, whose record's payload begins at an address and names the next one
 pub record IsToldByLast (words : ℕ → ℕ) (next before payload : ℕ) (front : List Segment) : Type 0 where
   pub first : List Segment
   pub last : Segment
@@ -24,12 +24,12 @@ pub record IsToldByLast (words : ℕ → ℕ) (next before payload : ℕ) (front
   pub some : before ≢ 0
   pub tells : payload ≡ words (before + 16)
 
--- What tells the record behind those of some segments: the field of the heap where there are none; else the record of the
+-- What names the record after those of some segments: the field of the heap if there are none; else the record of the
 -- last, whose payload is not at 0.
 abbrev pub IsLinked : (ℕ → ℕ) → ℕ → ℕ → ℕ → List Segment → Type 0
 IsLinked words next before payload front = ((front ≡ []) × (before ≡ 0) × (payload ≡ next)) ⊎ IsToldByLast words next before payload front
 
--- a segment behind the head, whose record tells this
+-- a segment after the head, and what its record says
 pub record IsChained {A : Type 0} (word : A → ℕ → ℕ) (heap : Dlmalloc A) (before : ℕ) (told : SegmentRecord) : Type 0 where
   pub head : Segment
   pub front : List Segment
@@ -41,8 +41,8 @@ pub record IsChained {A : Type 0} (word : A → ℕ → ℕ) (heap : Dlmalloc A)
   pub linked : IsLinked (word heap.system) heap.next before payload front
   pub read : told ≡ record { base = word heap.system payload; size = word heap.system (payload + 8); next = word heap.system (payload + 16); flags = word heap.system (payload + 24) % 2 ^ 32 }
 
--- Some segments left a heap, and had no extent in use. What is found still was found, and of the words that are granted
--- still those in free extents and of records alone changed.
+-- Some segments left a heap, and had no extent in use. What is still found was found before, and of the words that are
+-- still granted only those in free extents and of records changed.
 pub record HaveLeft {A : Type 0} (regions : A → List Grant) (word : A → ℕ → ℕ) (follows : A → List Event → A → Type 0) (segments : List Segment) (old new : Dlmalloc A) : Type 0 where
   pub sound : IsSound regions word new
   pub used : HasSameUsed (state_of word old) (state_of word new)
@@ -51,7 +51,7 @@ pub record HaveLeft {A : Type 0} (regions : A → List Grant) (word : A → ℕ 
   pub regions_are : regions new.system ≡ regions_without segments (regions old.system)
   pub followed : follows old.system (releases segments) new.system
 
--- A segment was visited. It left or it stayed, and where it was handed out, it is not the victim's.
+-- A segment was visited. It left or it stayed, and if it was handed out, the victim does not lie in it.
 pub record IsVisited {A : Type 0} (regions : A → List Grant) (word : A → ℕ → ℕ) (follows : A → List Event → A → Type 0) (handed leaves : Bool) (old : Dlmalloc A) (before : ℕ) (told : SegmentRecord) (chained : IsChained word old before told) (new : Dlmalloc A) : Type 0 where
   pub segments : segments_of word new ≡ chained.head ∷ (chained.front ++ (if leaves then chained.back else chained.segment ∷ chained.back))
   pub records : AreRecords (word new.system) told.next chained.back

@@ -21,8 +21,8 @@ least_from n (size ∷ sizes) =
 abbrev pub least_fit : HeapState → ℕ → Option ℕ
 least_fit heap n = least_from n (map (λ extent. extent.size) (filter (is_binned heap) (extents_in heap)))
 
--- Whether a binned extent of a size goes before a victim of another: where the victim is too small for n; else a small
--- chunk by an exact fit alone, and a large one where it is the smaller of the two.
+-- Whether a binned extent of a size goes before a victim of another: if the victim is too small for n; else a small
+-- chunk only by an exact fit, and a large one if it is the smaller of the two.
 abbrev pub goes_first : ℕ → ℕ → ℕ → Bool
 goes_first n victim size = nat_lt victim n || (if nat_lt n 256 then size == n else nat_lt size victim)
 

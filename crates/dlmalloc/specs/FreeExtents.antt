@@ -7,7 +7,7 @@ use Rattle.dlmalloc_chunks.specs.declared.extent.Kind.TheVariants.{Used, Free, T
 use Rattle.dlmalloc.specs.Extents.{extent_at, is_free}
 use Rattle.dlmalloc.specs.State.{HeapState, Segment, extents_in}
 
--- a free extent of so many bytes begins at an address, and is not the top
+-- a free extent of the given size begins at an address, and is not the top
 abbrev pub IsFreeAt : HeapState → ℕ → ℕ → Type 0
 IsFreeAt heap at size = extent_at at (extents_in heap) ≡ Some (record { at = at; size = size; kind = Free })
 

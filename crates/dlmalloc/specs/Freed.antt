@@ -6,7 +6,7 @@ use Rattle.dlmalloc.specs.Extents.{is_free}
 use Rattle.dlmalloc.specs.State.{HeapState, extents_in, is_free_below_top}
 use Rattle.dlmalloc.specs.Taken.{in_segments}
 
--- an extent before others, as one with the first of them where both are free; it is the top where that is
+-- an extent before others, as one with the first of them if both are free; it is the top if the first is
 abbrev pub before : Extent → List Extent → List Extent
 before extent [] = extent ∷ []
 before extent (next ∷ extents) =
@@ -14,7 +14,7 @@ before extent (next ∷ extents) =
     then (record { at = extent.at; size = extent.size + next.size; kind = next.kind }) ∷ extents
     else extent ∷ next ∷ extents
 
--- the extents, where free ones that touch are one
+-- the extents, with free ones that touch made one
 abbrev pub merged : List Extent → List Extent
 merged [] = []
 merged (extent ∷ extents) = before extent (merged extents)

@@ -13,8 +13,8 @@ use Rattle.dlmalloc.specs.Heap.{segments_of, state_of, IsSound}
 use Rattle.dlmalloc.specs.declared.heap.Dlmalloc.{Dlmalloc}
 use Rattle.dlmalloc.specs.declared.record.SegmentRecord.{SegmentRecord}
 
--- A release pass was made, in which so many bytes went back. Of the words that are granted still those in free extents
--- and of records alone changed, and the extents in use are the same.
+-- A release pass was made, in which `bytes` bytes went back. Of the words that are still granted only those in free
+-- extents and of records changed, and the extents in use are the same.
 pub record IsPassed {A : Type 0} (regions : A → List Grant) (word : A → ℕ → ℕ) (follows : A → List Event → A → Type 0) (frees parts : Bool) (old : Dlmalloc A) (bytes : ℕ) (new : Dlmalloc A) : Type 0 where
   pub state : state_of word new ≡ passed frees parts (state_of word old)
   pub bytes_are : bytes ≡ bytes_of (taken_back frees (handed_out parts (segments_of word old)))
@@ -26,7 +26,7 @@ pub record IsPassed {A : Type 0} (regions : A → List Grant) (word : A → ℕ 
   pub followed : follows old.system (releases (taken_back frees (handed_out parts (segments_of word old)))) new.system
   pub index : IsReindexed regions word (after_pass frees parts (segments_of word old)) old new
 
--- A freed chunk was counted, and where the countdown ended, a release pass was made.
+-- A freed chunk was counted, and if the countdown ended, a release pass was made.
 pub record IsCounted {A : Type 0} (regions : A → List Grant) (word : A → ℕ → ℕ) (follows : A → List Event → A → Type 0) (frees parts : Bool) (old : Dlmalloc A) (at : ℕ) (new : Dlmalloc A) : Type 0 where
   pub state : state_of word new ≡ counted frees parts (state_of word old) at
   pub sound : IsSound regions word new
@@ -37,13 +37,13 @@ pub record IsCounted {A : Type 0} (regions : A → List Grant) (word : A → ℕ
   pub followed : follows old.system (releases (left_by_count frees parts (state_of word old) at)) new.system
   pub index : IsReindexed regions word (after_count frees parts (state_of word old) at) old new
 
--- Segments went back to the system, so many bytes in all. All words that are granted still are as they were.
+-- Segments went back to the system, `bytes` bytes in all. All words that are still granted are as they were.
 pub record AreGivenBack {A : Type 0} (regions : A → List Grant) (word : A → ℕ → ℕ) (follows : A → List Event → A → Type 0) (segments : List Segment) (old : A) (bytes : ℕ) (new : A) : Type 0 where
   pub bytes_are : bytes ≡ bytes_of segments
   pub words : (k : ℕ) → IsWordOf (regions new) k → word new k ≡ word old k
   pub regions_are : regions new ≡ regions_without segments (regions old)
   pub followed : follows old (releases segments) new
 
--- what the words of a record tell of a segment
+-- what the words of a record say of a segment
 abbrev pub told_of : SegmentRecord → Segment
 told_of told = record { base = told.base; size = told.size; flags = told.flags; extents = [] }

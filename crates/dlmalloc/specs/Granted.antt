@@ -8,7 +8,7 @@ use Rattle.dlmalloc_chunks.specs.declared.extent.Kind.TheVariants.{Used, Free, T
 use Rattle.dlmalloc.specs.State.{HeapState, Segment, countdown_from, trim_threshold}
 use Rattle.dlmalloc.specs.Freed.{freed}
 
--- the top up to 80 bytes before an address, and the foot behind it
+-- the top up to 80 bytes before an address, and the foot after it
 abbrev pub top_and_foot : ℕ → ℕ → List Extent
 top_and_foot top end = (record { at = top; size = end - 80 - top; kind = Top }) ∷ (record { at = end - 80; size = 80; kind = Foot }) ∷ []
 
@@ -18,7 +18,7 @@ opened grant = record { base = grant.base; size = grant.size; flags = grant.flag
 
 -- ---- a grant becomes part of a segment
 
--- A grant may become part of a segment where neither is extern, as bit 0 of the flags says, and where their flags are equal.
+-- A grant may become part of a segment if neither is extern, as bit 0 of the flags says, and if their flags are equal.
 abbrev pub may_join : Grant → Segment → Bool
 may_join grant segment = grant.flags % 2 == 0 && grant.flags == segment.flags
 
@@ -29,7 +29,7 @@ is_behind grant segment = grant.base == segment.base + segment.size && may_join 
 abbrev pub is_before : Grant → Segment → Bool
 is_before grant segment = segment.base == grant.base + grant.size && may_join grant segment
 
--- the extents of the head segment, when more bytes come behind it: the top grows, and its foot moves
+-- the extents of the head segment, when more bytes are added after it: the top grows, and its foot moves
 abbrev pub grown : ℕ → Extent → Extent
 grown more extent = grown_as more extent extent.kind
   where
@@ -49,7 +49,7 @@ put_before grant n segment = record segment {
   extents = (record { at = grant.base; size = n; kind = Used }) ∷ (record { at = grant.base + n; size = grant.size - n; kind = Used }) ∷ segment.extents;
 }
 
--- so it does before the one of the segments that it may join there
+-- the same before the one of the segments that it may join there
 abbrev pub joined : Grant → ℕ → Segment → Segment
 joined grant n segment = if is_before grant segment then put_before grant n segment else segment
 
@@ -58,8 +58,8 @@ prepended grant n heap = record heap { segments = map {B = Segment} (joined gran
 
 -- ---- a grant becomes the head segment
 
--- What was the top is a free extent with a record of 80 bytes behind it, and where it has 16 bytes alone, part of a record
--- of 96.
+-- What was the top is a free extent with a record of 80 bytes after it, or if it has only 16 bytes, part of a record of
+-- 96.
 abbrev pub closed : Extent → List Extent
 closed extent = closed_as extent extent.kind
   where
@@ -77,7 +77,7 @@ without_top segment = record segment { extents = flat_map closed segment.extents
 
 -- ---- where a grant goes
 
--- whether it is behind the head segment
+-- whether it is after the head segment
 abbrev pub is_behind_head : Grant → List Segment → Bool
 is_behind_head grant [] = false
 is_behind_head grant (head ∷ rest) = is_behind grant head
@@ -87,10 +87,10 @@ abbrev pub is_put_before : Grant → List Segment → Bool
 is_put_before grant [] = false
 is_put_before grant (head ∷ rest) = not (is_behind grant head) && list_any (is_before grant) (head ∷ rest)
 
--- The heap with a grant, from which a chunk of n bytes is to be cut. The first grant is the head segment, and begins the
--- countdown. A grant at the end of the head segment makes its top longer. Else one before a segment becomes part of it: the
--- chunk is cut from its start, and what is left of it is freed. Any other is the new head segment. The trim check is set
--- where the top is another or longer, but not where the grant is put before a segment.
+-- The heap with a grant, from which a chunk of n bytes is to be cut. The first grant is the head segment, and begins
+-- the countdown. A grant at the end of the head segment makes its top longer. Else one before a segment becomes part of
+-- it: the chunk is cut from its start, and what is left of it is freed. Any other is the new head segment. The trim
+-- check is set if the top is another or longer, but not if the grant is put before a segment.
 abbrev pub granted : Grant → ℕ → HeapState → HeapState
 granted grant n heap = granted_to heap.segments
   where

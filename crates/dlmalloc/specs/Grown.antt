@@ -33,7 +33,7 @@ pub record HasSameUsed (old new : HeapState) : Type 0 where
   pub still : (used : Extent) → used.kind ≡ Used → extent_at used.at (extents_in old) ≡ Some used → extent_at used.at (extents_in new) ≡ Some used
   pub before : (used : Extent) → used.kind ≡ Used → extent_at used.at (extents_in new) ≡ Some used → extent_at used.at (extents_in old) ≡ Some used
 
--- A top that a grant makes begins with it; or the grant is behind the head segment, and it begins where the top did.
+-- A top that a grant makes begins with it; or the grant is after the head segment, and it begins where the top did.
 abbrev pub BeginsTop : {A : Type 0} → Dlmalloc A → Grant → ℕ → Type 0
 BeginsTop old grant top =
     (top ≡ grant.base) ⊎ ((0 < old.size) × (is_behind grant (record { base = old.base; size = old.size; flags = old.flags; extents = [] }) ≡ true) × (top ≡ old.top))
@@ -49,10 +49,10 @@ pub record IsGrantJoined {A : Type 0} (regions : A → List Grant) (word : A →
   pub followed : follows old.system [] new.system
   pub used : HasSameUsed (state_of word old) (state_of word new)
   pub words : OnlyOwnOrTagsChange (regions old.system) (state_of word old) (state_of word new) (word old.system) (word new.system)
-  -- of the grant the heads of the top and of its foot alone are written
+  -- of the grant only the heads of the top and of its foot are written
   pub new_words : (k : ℕ) → IsWordOf (regions old.system) k → grant.base ≤ k → k < grant.base + grant.size → k ≢ new.top + 8 → k ≢ new.top + new.top_size + 8 → word new.system k ≡ word old.system k
 
--- So it did, with no change of bins: words at boundaries and of records alone changed.
+-- The same, with no change of bins: only words at boundaries and of records changed.
 pub record IsAdmitted {A : Type 0} (regions : A → List Grant) (word : A → ℕ → ℕ) (follows : A → List Event → A → Type 0) (old : Dlmalloc A) (grant : Grant) (new : Dlmalloc A) : Type 0 where
   pub state : (n : ℕ) → state_of word new ≡ granted grant n (state_of word old)
   pub sound : IsSound regions word new
@@ -63,7 +63,7 @@ pub record IsAdmitted {A : Type 0} (regions : A → List Grant) (word : A → �
   pub followed : follows old.system [] new.system
   pub used : HasSameUsed (state_of word old) (state_of word new)
   pub words : OnlyTagsChange (regions old.system) (state_of word new) (word old.system) (word new.system)
-  -- of the grant the heads of the top and of its foot alone are written
+  -- of the grant only the heads of the top and of its foot are written
   pub new_words : (k : ℕ) → IsWordOf (regions old.system) k → grant.base ≤ k → k < grant.base + grant.size → k ≢ new.top + 8 → k ≢ new.top + new.top_size + 8 → word new.system k ≡ word old.system k
 
 -- A grant stands before a segment of a heap, in two parts that are in use.
@@ -107,7 +107,7 @@ pub record IsGrown {A : Type 0} (regions : A → List Grant) (word : A → ℕ �
   pub fresh : AllByRecursion (IsApart grant.base (grant.base + grant.size)) (regions old.system)
   pub used : HasSameUsed (state_of word old) (state_of word new)
   pub words : OnlyOwnOrTagsChange (regions old.system) (state_of word old) (state_of word new) (word old.system) (word new.system)
-  -- of the grant the heads of the top and of its foot alone are written
+  -- of the grant only the heads of the top and of its foot are written
   pub new_words : zeros old.system ≡ true → (k : ℕ) → grant.base ≤ k → k < grant.base + grant.size → k % 8 ≡ 0 → k ≢ new.top + 8 → k ≢ new.top + new.top_size + 8 → word new.system k ≡ 0
 
 -- After some events nothing was granted, and all is as it was.

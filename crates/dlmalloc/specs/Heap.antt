@@ -9,7 +9,8 @@ use Rattle.dlmalloc.specs.Granted.{top_and_foot}
 use Rattle.dlmalloc.specs.Segments.{AreSegments, AreApart, records_from, AreRecords}
 use Rattle.dlmalloc.specs.declared.heap.Dlmalloc.{Dlmalloc}
 
--- the head segment, as the fields tell it, and those that the records tell: there are fewer of them than addresses
+-- the head segment, as the fields describe it, and those that the records describe: there are fewer of them than
+-- addresses
 abbrev pub segments_of : {A : Type 0} → (A → ℕ → ℕ) → Dlmalloc A → List Segment
 segments_of word heap =
     if heap.size == 0 then [] else
@@ -24,15 +25,15 @@ state_of word heap = record { segments = segments_of word heap; victim = heap.vi
 abbrev pub IsGranularity : ℕ → Type 0
 IsGranularity granularity = IsPowerOfTwo granularity × (16 ≤ granularity)
 
--- the head segment is told by the fields, and every other one by its record
+-- the fields describe the head segment, and each other one is described by its record
 abbrev pub AreTold : {A : Type 0} → (ℕ → ℕ) → Dlmalloc A → List Segment → Type 0
 AreTold words heap [] = heap.size ≡ 0
 AreTold words heap (segment ∷ segments) =
     (0 < heap.size) × (heap.base ≡ segment.base) × (heap.size ≡ segment.size) × (heap.flags ≡ segment.flags)
     × (extent_at heap.top segment.extents ≡ Some (record { at = heap.top; size = heap.top_size; kind = Top })) × AreRecords words heap.next segments
 
--- The heap keeps to its rules: each of its segments is one, they are apart and told by the fields and the records, and the
--- victim is one of the free extents.
+-- The heap keeps to its rules: each of its segments is one, they are apart and described by the fields and the records,
+-- and the victim is one of the free extents.
 pub record IsSound {A : Type 0} (regions : A → List Grant) (word : A → ℕ → ℕ) (heap : Dlmalloc A) : Type 0 where
   pub granularity : IsGranularity heap.granularity
   pub segments : AreSegments (regions heap.system) (word heap.system) (segments_of word heap)

@@ -22,7 +22,7 @@ use Rattle.dlmalloc.specs.declared.heap.Dlmalloc.{Dlmalloc}
 abbrev pub others_at : ℕ → List Extent → List Extent
 others_at at extents = filter (λ extent. not (extent.at == at)) extents
 
--- A block was resized where it stands: it has its bytes still, as many as are asked for, and nothing else changed but
+-- A block was resized where it stands: it still has its bytes, as many as are asked for, and nothing else changed but
 -- own words.
 pub record IsInPlace {A : Type 0} (regions : A → List Grant) (word : A → ℕ → ℕ) (follows : A → List Event → A → Type 0) (old : Dlmalloc A) (address old_size size : ℕ) (new : Dlmalloc A) : Type 0 where
   pub small : size < limit old.granularity
@@ -48,8 +48,8 @@ pub record IsElsewhere {A : Type 0} (regions : A → List Grant) (word : A → �
   pub contents : (k : ℕ) → k < min held size → k % 8 ≡ 0 → word new.system (address + k) ≡ word old.system (from + k)
   pub kept : KeepsBlocks (others_at (from - 16) (extents_in (state_of word old))) (word old.system) (word new.system)
 
--- A block of so many bytes, of which some are held, got another size at an alignment: where it stands if that can be, and
--- never so above 16.
+-- A block of which `held` bytes are held got another size at an alignment: where it stands if that can be, and never
+-- there above alignment 16.
 abbrev pub IsResized : {A : Type 0} → (A → List Grant) → (A → ℕ → ℕ) → (A → Bool) → (A → List Event → A → Type 0) → Bool → Bool → ℕ → Dlmalloc A → ℕ → ℕ → ℕ → ℕ → ℕ → Dlmalloc A → Type 0
 IsResized regions word zeros follows frees parts unit old from held align size address new =
     ((align ≤ 16) × (address ≡ from) × IsInPlace regions word follows old from held size new)
@@ -59,13 +59,13 @@ IsResized regions word zeros follows frees parts unit old from held align size a
 abbrev pub HasByteOf : Grant → List Grant → Type 0
 HasByteOf grant regions = (byte : ℕ) × (grant.base ≤ byte) × (byte < grant.base + grant.size) × IsTrue (is_granted regions byte)
 
--- What holds of each block that gets another size, wherever it is then. `from` was its place, and of its bytes so many were
--- held. Where it moved, the old one was freed behind the moment at which there was room for the new one.
+-- What holds of each block that gets another size, wherever it is then. `from` was its place, and `held` of its bytes
+-- were held. If it moved, the old one was freed after the moment at which there was room for the new one.
 pub record IsGivenSize {A : Type 0} (regions : A → List Grant) (word : A → ℕ → ℕ) (follows : A → List Event → A → Type 0) (frees parts : Bool) (unit : ℕ) (old : Dlmalloc A) (from held align size address : ℕ) (new : Dlmalloc A) : Type 0 where
   pub middle : Dlmalloc A
   pub found : IsFound follows regions old.system (state_of word old) (padded (asked size align)) middle.system (state_of word middle)
   pub between : IsSound regions word middle
-  -- of a region that was granted for it, some byte is granted still
+  -- of a region that was granted for it, some byte is still granted
   pub still : (grant : Grant) → regions middle.system ≡ with_grant grant (regions old.system) → HasByteOf grant (regions new.system)
   pub here : address ≡ from → (new ≡ middle) × follows old.system [] new.system
   pub elsewhere : address ≢ from → IsFreed regions word follows frees parts unit middle from new

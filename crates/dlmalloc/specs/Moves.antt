@@ -8,7 +8,7 @@ use Rattle.dlmalloc_chunks.specs.declared.extent.Kind.TheVariants.{Used, Free, V
 use Rattle.dlmalloc.specs.Extents.{is_used, Tiles, last_kind}
 use Rattle.dlmalloc.specs.State.{Segment}
 
--- A word is at no boundary of an extent: not its head, and not the word behind a free one, since its size stands there.
+-- A word is at no boundary of an extent: not its head, and not the word after a free one, since its size stands there.
 abbrev pub IsSpared : ℕ → Kind → ℕ → ℕ → Type 0
 IsSpared k Used at size = k ≢ at + 8
 IsSpared k Free at size = (k ≢ at + 8) × (k ≢ at + size)
@@ -21,18 +21,18 @@ abbrev pub AllSpare : List Extent → ℕ → Type 0
 AllSpare [] k = ⊤
 AllSpare (extent ∷ extents) k = IsSpared k extent.kind extent.at extent.size × AllSpare extents k
 
--- A run of extents gives way to others, from the same address on and behind the same kind, and the words are as these say.
--- All granted words stay but those at boundaries of the others.
+-- A run of extents gives way to others, from the same address on and after the same kind, and the words are as these
+-- say. All granted words stay but those at boundaries of the others.
 pub record IsMove (regions : List Grant) (old new : ℕ → ℕ) (before : Kind) (from to to' : ℕ) (less more : List Extent) : Type 0 where
   pub less_stand : Tiles old before from less to
   pub more_stand : Tiles new before from more to'
   pub kept : (k : ℕ) → IsWordOf regions k → AllSpare more k → new k ≡ old k
 
--- the extents in use of some
+-- those of some extents that are in use
 abbrev pub used_of : List Extent → List Extent
 used_of extents = filter (λ extent. is_used extent.kind) extents
 
--- of two lists one has an extent in use more
+-- of two lists, one has one more extent in use
 pub record HasMore (less more : List Extent) (one : Extent) : Type 0 where
   pub front : List Extent
   pub back : List Extent

@@ -8,13 +8,13 @@ use Rattle.dlmalloc.specs.Trimmed.{is_trimmed}
 use Rattle.dlmalloc.specs.Binned.{HoldsBinned, IsBinned}
 use Rattle.dlmalloc.specs.declared.heap.Dlmalloc.{Dlmalloc}
 
--- chunks are some of others, and stand in the order in which they stand there
+-- chunks are some of others, in the order in which they stand there
 abbrev pub IsPart : List ℕ → List ℕ → Type 0
 IsPart part [] = part ≡ []
 IsPart part (chunk ∷ chunks) = IsPart part chunks ⊎ ((rest : List ℕ) × (part ≡ chunk ∷ rest) × IsPart rest chunks)
 
--- The chunks of a size that stay stand in the order in which they stood, and at most one came, which stands behind them as
--- the newest.
+-- The chunks of a size that stay keep their order, and at most one more is there, which stands after them as the
+-- newest.
 pub record IsInOrder (old new : List ℕ) : Type 0 where
   pub stayed : List ℕ
   pub came : List ℕ
@@ -23,29 +23,29 @@ pub record IsInOrder (old new : List ℕ) : Type 0 where
   pub others : (chunk : ℕ) → IsIn chunk came → IsIn chunk old → ⊥
   pub few : length came ≤ 1
 
--- so the chunks of each size
+-- the same for the chunks of each size
 abbrev pub AreInOrder : (ℕ → List ℕ) → (ℕ → List ℕ) → Type 0
 AreInOrder old new = (size : ℕ) → IsInOrder (old size) (new size)
 
--- Two lists that stand in order behind one, with the same chunks, are the same list. So a state and the index before a call
--- determine the index after it.
+-- Two lists that are both in order after one list, with the same chunks, are the same list. So a state and the index
+-- before a call determine the index after it.
 abbrev pub OneOrder : Type 0
 OneOrder = (old one two : List ℕ) → AreDistinct old → IsInOrder old one → IsInOrder old two →
     ((chunk : ℕ) → IsIn chunk one → IsIn chunk two) → ((chunk : ℕ) → IsIn chunk two → IsIn chunk one) → one ≡ two
 
--- A call keeps the order of the bins: behind each index that is linked before it, in this order, one is linked after it.
+-- A call keeps the order of the bins: for each index that is linked before it, one is linked after it that is in order.
 abbrev pub KeepsOrder : {A : Type 0} → (A → List Grant) → (A → ℕ → ℕ) → Dlmalloc A → Dlmalloc A → Type 0
 KeepsOrder regions word old new = (before : IsBinned regions word old) → (after : IsBinned regions word new) × AreInOrder before.index after.index
 
--- So a call does in two steps, between which the heap is in a state.
+-- The same of a call in two steps, between which the heap is in a state.
 abbrev pub KeepsOrderThrough : {A : Type 0} → (A → List Grant) → (A → ℕ → ℕ) → HeapState → Dlmalloc A → Dlmalloc A → Type 0
 KeepsOrderThrough regions word state old new = (before : IsBinned regions word old) →
     (middle : ℕ → List ℕ) × HoldsBinned state middle × AreInOrder before.index middle × ((after : IsBinned regions word new) × AreInOrder middle after.index)
 
 -- ---- a release pass
 
--- The index after a segment was visited: where it is handed out, its free chunk leaves, and where the system keeps it, that
--- goes into its bin as the newest.
+-- The index after a segment was visited: if it is handed out, its free chunk leaves, and if the system does not take
+-- it, the chunk goes into its bin as the newest.
 abbrev pub after_visit : Bool → Bool → Segment → (ℕ → List ℕ) → ℕ → List ℕ
 after_visit frees parts segment index =
     let left = without_chunk (segment.size - 80) segment.base index in
@@ -55,32 +55,32 @@ abbrev pub after_visits : Bool → Bool → List Segment → (ℕ → List ℕ) 
 after_visits frees parts [] index = index
 after_visits frees parts (segment ∷ segments) index = after_visits frees parts segments (after_visit frees parts segment index)
 
--- so each segment behind the head, one after the other
+-- the same for each segment after the head, one after the other
 abbrev pub after_pass : Bool → Bool → List Segment → (ℕ → List ℕ) → ℕ → List ℕ
 after_pass frees parts [] index = index
 after_pass frees parts (head ∷ segments) index = after_visits frees parts segments index
 
--- where a freed chunk was counted, and where a heap was trimmed
+-- the index if a freed chunk was counted, and if a heap was trimmed
 abbrev pub after_count : Bool → Bool → HeapState → ℕ → (ℕ → List ℕ) → ℕ → List ℕ
 after_count frees parts heap at index = if is_counted heap at && nat_le heap.countdown 1 then after_pass frees parts heap.segments index else index
 
 abbrev pub after_trim : Bool → Bool → ℕ → HeapState → (ℕ → List ℕ) → ℕ → List ℕ
 after_trim frees parts pad heap index = if is_trimmed pad heap then after_pass frees parts heap.segments index else index
 
--- behind each index that is linked before a call, the one that a rule makes of it is linked after it
+-- for each index that is linked before a call, the one that a rule makes of it is linked after the call
 abbrev pub IsReindexed : {A : Type 0} → (A → List Grant) → (A → ℕ → ℕ) → ((ℕ → List ℕ) → ℕ → List ℕ) → Dlmalloc A → Dlmalloc A → Type 0
 IsReindexed regions word rule old new = (before : IsBinned regions word old) → (after : IsBinned regions word new) × ((n : ℕ) → after.index n ≡ rule before.index n)
 
--- no chunk comes, and none leaves
+-- no chunk goes in, and none leaves
 abbrev pub KeepsIndex : {A : Type 0} → (A → List Grant) → (A → ℕ → ℕ) → Dlmalloc A → Dlmalloc A → Type 0
 KeepsIndex regions word old new = IsReindexed regions word (λ index. index) old new
 
 -- ---- one step
 
--- of an index some chunks left
+-- some chunks left an index
 abbrev pub IsLessened : (ℕ → List ℕ) → (ℕ → List ℕ) → Type 0
 IsLessened old new = (n : ℕ) → IsPart (new n) (old n)
 
--- to an index at most a chunk of a size came, as the newest
+-- at most one chunk of a size went into an index, as the newest
 abbrev pub IsAdded : ℕ → ℕ → (ℕ → List ℕ) → (ℕ → List ℕ) → Type 0
 IsAdded size at old new = (n : ℕ) → (new n ≡ old n) ⊎ ((n ≡ size) × (new n ≡ old n ++ at ∷ []))

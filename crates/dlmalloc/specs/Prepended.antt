@@ -9,7 +9,7 @@ use Rattle.dlmalloc.specs.declared.heap.Dlmalloc.{Dlmalloc}
 use Rattle.dlmalloc.specs.declared.prepend.Behind.{Behind}
 use Rattle.dlmalloc.specs.declared.prepend.Behind.TheVariants.{Head, Told}
 
--- the payload of the record that comes behind those of some segments
+-- the payload of the record that comes after those of some segments
 abbrev pub payload_behind : (ℕ → ℕ) → ℕ → List Segment → ℕ
 payload_behind words payload [] = payload
 payload_behind words payload (segment ∷ segments) = payload_behind words (words (payload + 16)) segments
@@ -21,7 +21,7 @@ pub record IsHeadBehind {A : Type 0} (word : A → ℕ → ℕ) (heap : Dlmalloc
   pub is : segments_of word heap ≡ segment ∷ back
   pub joins : is_before grant segment ≡ true
 
--- or one that a record tells
+-- or one that a record describes
 pub record IsToldBehind {A : Type 0} (word : A → ℕ → ℕ) (heap : Dlmalloc A) (grant : Grant) (payload : ℕ) : Type 0 where
   pub head : Segment
   pub front : List Segment

@@ -20,7 +20,7 @@ is_unused segment = begins_unused segment.extents
     begins_unused [] = false
     begins_unused (first ∷ extents) = is_free_below_top first.kind && first.size + 80 == segment.size
 
--- whether it is the heap's to give back: a segment is extern where bit 0 of its flags is set
+-- whether it is the heap's to give back: a segment is extern if bit 0 of its flags is set
 abbrev pub is_own : Segment → Bool
 is_own segment = segment.flags % 2 == 0
 
@@ -28,13 +28,14 @@ is_own segment = segment.flags % 2 == 0
 abbrev pub may_leave : Bool → Segment → Bool
 may_leave parts segment = is_own segment && (parts && is_unused segment)
 
--- In words: no extent of a segment is in use, and its record has 80 bytes. (Behind a rest of 16 bytes a record has 96.)
+-- In words: no extent of a segment is in use, and its record has 80 bytes. (After a rest of 16 bytes a record has 96.)
 pub record IsIdle (segment : Segment) : Type 0 where
   pub unused : (extent : Extent) → extent_at extent.at segment.extents ≡ Some extent → extent.kind ≢ Used
   pub record_at : ℕ
   pub short : extent_at record_at segment.extents ≡ Some (record { at = record_at; size = 80; kind = Record })
 
--- Of the segments behind the head a pass hands out those that are idle and the heap's to give back, where the system takes parts.
+-- Of the segments after the head, a pass hands out those that are idle and the heap's to give back, if the system takes
+-- parts.
 abbrev pub IdleAreHandedOut : Bool → List Segment → Type 0
 IdleAreHandedOut parts [] = ⊤
 IdleAreHandedOut parts (head ∷ segments) = AllByRecursion (λ segment. IsTrue (may_leave parts segment) ↔ (IsTrue parts × IsTrue (is_own segment) × IsIdle segment)) segments
@@ -73,8 +74,8 @@ taken_back frees segments = if frees then segments else []
 
 -- ---- the release pass
 
--- Those that are handed out leave where the system takes regions back. The victim is forgotten where it is the free extent
--- of one of them, whether that leaves or not. The countdown begins anew, and is at least the number of segments visited.
+-- Those that are handed out leave if the system takes regions back. The victim is forgotten if it is the free extent of
+-- one of them, whether that leaves or not. The countdown begins anew, and is at least the number of segments visited.
 abbrev pub passed : Bool → Bool → HeapState → HeapState
 passed frees parts heap = record heap {
   segments = if frees then staying parts heap.segments else heap.segments;

@@ -20,11 +20,12 @@ use Rattle.dlmalloc.specs.declared.heap.Dlmalloc.{Dlmalloc}
 abbrev pub asked : ℕ → ℕ → ℕ
 asked n align = if nat_le align 16 then n else enlarged n align
 
--- A word is not the own one of a heap as a greater block was cut from it, with the lead free, or as it is in the end.
+-- A word is none of a heap's own: neither after a greater block was cut from it, nor after the lead was freed, nor in
+-- the end.
 abbrev pub IsPassedOver : HeapState → HeapState → HeapState → ℕ → Type 0
 IsPassedOver cut lead end k = (IsOwn cut k → ⊥) × (IsOwn lead k → ⊥) × (IsOwn end k → ⊥)
 
--- A greater block was handed out, and of it a block of so many bytes at a multiple of an alignment above 16 is left.
+-- A greater block was handed out, and of it a block of `size` bytes at a multiple of an alignment above 16 is left.
 pub record IsServedAligned {A : Type 0} (regions : A → List Grant) (word : A → ℕ → ℕ) (zeros : A → Bool) (follows : A → List Event → A → Type 0) (old : Dlmalloc A) (size align address : ℕ) (new : Dlmalloc A) : Type 0 where
   pub middle : Dlmalloc A
   pub greater : ℕ
@@ -38,7 +39,7 @@ pub record IsServedAligned {A : Type 0} (regions : A → List Grant) (word : A �
   pub granted : (k : ℕ) → address ≤ k → k < address + max size 1 → IsTrue (is_granted (regions new.system) k)
   pub more : HasOneMore (state_of word old) (state_of word new) (address - 16)
   pub kept : KeepsBlocks (extents_in (state_of word old)) (word old.system) (word new.system)
-  -- of the granted words own ones alone changed
+  -- of the granted words only own ones changed
   pub words : (k : ℕ) → IsWordOf (regions middle.system) k → IsPassedOver (state_of word middle) (lead_freed (state_of word middle) (greater - 16) (address - 16)) (state_of word new) k → word new.system k ≡ word middle.system k
   pub new_words : zeros old.system ≡ true → (k : ℕ) → IsWordOf (regions new.system) k → (IsWordOf (regions old.system) k → ⊥) →
       IsPassedOver (state_of word middle) (lead_freed (state_of word middle) (greater - 16) (address - 16)) (state_of word new) k → word new.system k ≡ 0
@@ -47,13 +48,13 @@ pub record IsServedAligned {A : Type 0} (regions : A → List Grant) (word : A �
   pub followed : follows middle.system [] new.system
   pub order : KeepsOrderThrough regions word (lead_freed (state_of word middle) (greater - 16) (address - 16)) middle new
 
--- A block of so many bytes at a multiple of an alignment was handed out at an address.
+-- A block of `size` bytes at a multiple of an alignment was handed out at an address.
 abbrev pub IsServedAt : {A : Type 0} → (A → List Grant) → (A → ℕ → ℕ) → (A → Bool) → (A → List Event → A → Type 0) → Dlmalloc A → ℕ → ℕ → ℕ → Dlmalloc A → Type 0
 IsServedAt regions word zeros follows old size align address new =
     ((align ≤ 16) × IsServed regions word zeros follows old size address new)
     ⊎ ((16 < align) × IsServedAligned regions word zeros follows old size align address new)
 
--- Where a binned extent is chosen for a block, it is the one that each linked index names, and the block is in it: above
+-- If a binned extent is chosen for a block, it is the one that each linked index names, and the block is in it: above
 -- alignment 16 at the aligned place.
 abbrev pub IsMemberServed : {A : Type 0} → (A → List Grant) → (A → ℕ → ℕ) → Dlmalloc A → ℕ → ℕ → ℕ → Type 0
 IsMemberServed regions word old size align address =

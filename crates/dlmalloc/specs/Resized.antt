@@ -23,14 +23,14 @@ tail_freed heap at n = freed (exchanged heap at (halves n)) (at + n)
 abbrev pub shrunk : HeapState → Extent → ℕ → HeapState
 shrunk heap extent n = if nat_le (n + 32) extent.size then tail_freed heap extent.at n else heap
 
--- the extents, with others for the one at an address and the one behind it
+-- the extents, with others for the one at an address and the one after it
 abbrev pub replaced_both : ℕ → (Extent → Extent → List Extent) → List Extent → List Extent
 replaced_both at others [] = []
 replaced_both at others (extent ∷ []) = extent ∷ []
 replaced_both at others (extent ∷ next ∷ extents) =
     if extent.at == at then others extent next ++ extents else extent ∷ replaced_both at others (next ∷ extents)
 
--- an extent and the free one behind it, as one free extent
+-- an extent and the free one after it, as one free extent
 abbrev pub joined : Extent → Extent → Extent
 joined extent next = record { at = extent.at; size = extent.size + next.size; kind = next.kind }
 
@@ -38,16 +38,16 @@ joined extent next = record { at = extent.at; size = extent.size + next.size; ki
 abbrev pub has_room : ℕ → Extent → Bool
 has_room n extent = if is_top extent.kind then nat_lt n extent.size else is_free extent.kind && nat_le n extent.size
 
--- An extent in use takes n bytes, those of the free one behind it among them. A rest of less than 32 stays with it, but for
--- the top's; any other rest is what the free one was: the top, the victim or in a bin.
+-- An extent in use takes n bytes, those of the free one after it among them. A rest of less than 32 stays with it, but
+-- for the top's; any other rest is what the free one was: the top, the victim or in a bin.
 abbrev pub grown_into : HeapState → Extent → Extent → ℕ → HeapState
 grown_into heap extent next n = record heap {
   segments = in_segments (replaced_both extent.at (λ one behind. cut n (joined one behind))) heap.segments;
   victim = if is_victim heap next then (if leaves_rest n (joined extent next) then extent.at + n else 0) else heap.victim;
 }
 
--- The extent in use at an address takes n bytes where it stands: it keeps them where it has them; else it takes in the free
--- extent behind it, where both have room for them. None where neither fits.
+-- The extent in use at an address takes n bytes where it stands: it keeps them if it has them; else it takes in the
+-- free extent after it, if both have room for them. None if neither fits.
 abbrev pub in_place : HeapState → ℕ → ℕ → Option HeapState
 in_place heap at n = resized (extent_at at (extents_in heap))
   where

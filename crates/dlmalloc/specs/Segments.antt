@@ -1,4 +1,4 @@
--- The segments of a heap, and how words tell them.
+-- The segments of a heap, and how words describe them.
 use Rattle.std.specs.Prelude.{◌≡◌, ℕ, zero, suc, ◌+◌, ◌-◌, ◌/◌, ◌^◌, ◌<◌, ◌≤◌, ◌⊎◌, ⊤, Bool, true, ◌==◌, ◌&&◌, nat_le, nat_lt, if◌then◌else◌, List, [], ◌∷◌, ◌++◌, Some, IsTrue}
 use Rattle.std.specs.List.{AllByRecursion}
 use Rattle.heap_memory.specs.declared.grant.Grant.{Grant}
@@ -47,8 +47,8 @@ has_byte_in address segment = nat_le segment.base address && nat_lt address (seg
 abbrev pub record_of : ℕ → ℕ → Extent
 record_of at end = record { at = at; size = end - at; kind = Record }
 
--- The segments that records tell: a record's payload, 16 bytes behind its beginning, has the words base, size, payload of
--- the next record or 0, and flags (dlmalloc: `Segment`). So many at most.
+-- The segments that records describe: a record's payload, 16 bytes after its beginning, has the words base, size,
+-- payload of the next record or 0, and flags (dlmalloc: `Segment`). At most a given number of them.
 unfoldable pub records_from : (ℕ → ℕ) → ℕ → ℕ → List Segment
 records_from words zero payload = []
 records_from words (suc most) payload =
@@ -60,7 +60,7 @@ records_from words (suc most) payload =
       extents = chunks_from words (words (payload + 8) / 16) (words payload) (payload - 16) ++ record_of (payload - 16) (words payload + words (payload + 8)) ∷ [];
     }) ∷ records_from words most (words (payload + 16))
 
--- the records tell these segments, and no others
+-- the records describe these segments, and no others
 abbrev pub AreRecords : (ℕ → ℕ) → ℕ → List Segment → Type 0
 AreRecords words payload [] = payload ≡ 0
 AreRecords words payload (segment ∷ segments) =

@@ -42,18 +42,19 @@ pub record IsTopTaken (old : HeapState) (n at : ℕ) (new : HeapState) : Type 0 
   pub place : at ≡ top.at
   pub state : new ≡ taken old top n
 
--- a grant is behind the head segment, and the top begins at an address
+-- a grant is after the head segment, and the top begins at an address
 abbrev pub IsBehindTop : HeapState → Grant → ℕ → Type 0
 IsBehindTop heap grant at = (is_behind_head grant heap.segments ≡ true) × ((size : ℕ) × (extent_at at (extents_in heap) ≡ Some (record { at = at; size = size; kind = Top })))
 
--- None was chosen, and so blocks leave no run of n + 256 bytes: a region was granted. Where it is put before a segment, the
--- chunk is cut from its start, and else from the top that it makes.
+-- None was chosen, and so blocks leave no run of n + 256 bytes: a region was granted. If it is put before a segment,
+-- the chunk is cut from its start, and else from the top that it makes.
 pub record IsTakenFromGrant (old : HeapState) (n at : ℕ) (grant : Grant) (new : HeapState) : Type 0 where
   pub none_chosen : chosen old n ≡ None
   pub full : IsFull old (n + 256)
   pub of_grant : is_put_before grant old.segments ≡ true → (at ≡ grant.base) × (new ≡ granted grant n old)
   pub of_top : is_put_before grant old.segments ≡ false → IsTopTaken (granted grant n old) n at new
-  -- the region has room for the chunk, which begins with it; or it is behind the head segment, and the chunk begins where the top did
+  -- the region has room for the chunk, which begins with it; or it is after the head segment, and the chunk begins
+  -- where the top did
   pub room : n + 96 ≤ grant.size
   pub place : (at ≡ grant.base) ⊎ IsBehindTop old grant at
 
@@ -78,22 +79,23 @@ IsMallocRefused denies system old size (System fault) = (size < limit old.granul
 
 -- ---- what each call leaves
 
--- The heap moved with no region more: it is sound, and of the granted words those at boundaries of its extents alone changed.
+-- The heap moved with no further region: it is sound, and of the granted words only those at boundaries of its extents
+-- changed.
 pub record IsMoved {A : Type 0} (regions : A → List Grant) (word : A → ℕ → ℕ) (follows : A → List Event → A → Type 0) (old new : Dlmalloc A) : Type 0 where
   pub sound : IsSound regions word new
   pub words : OnlyBoundariesChange (regions old.system) (state_of word new) (word old.system) (word new.system)
   pub regions_same : regions new.system ≡ regions old.system
   pub followed : follows old.system [] new.system
 
--- So it did with its bins: of the granted words its own alone changed, those in free extents among them.
+-- The same with its bins: of the granted words only its own changed, those in free extents among them.
 pub record IsTurned {A : Type 0} (regions : A → List Grant) (word : A → ℕ → ℕ) (follows : A → List Event → A → Type 0) (old new : Dlmalloc A) : Type 0 where
   pub sound : IsSound regions word new
   pub words : OnlyOwnChange (regions old.system) (state_of word old) (state_of word new) (word old.system) (word new.system)
   pub regions_same : regions new.system ≡ regions old.system
   pub followed : follows old.system [] new.system
 
--- A chunk of n bytes was cut at an address: it holds each block whose padded size it is. Where no region was granted, own
--- words alone changed, and else words of records too.
+-- A chunk of n bytes was cut at an address: it holds each block whose padded size it is. If no region was granted, only
+-- own words changed, and else words of records too.
 pub record IsCutOut {A : Type 0} (regions : A → List Grant) (word : A → ℕ → ℕ) (zeros : A → Bool) (follows : A → List Event → A → Type 0) (old : Dlmalloc A) (n at : ℕ) (new : Dlmalloc A) : Type 0 where
   pub cut : IsObtained follows regions old.system (state_of word old) n at new.system (state_of word new)
   pub small : at + 16 < 2 ^ 64
@@ -105,7 +107,7 @@ pub record IsCutOut {A : Type 0} (regions : A → List Grant) (word : A → ℕ 
   pub new_words : zeros old.system ≡ true → NewWordsAreZero (regions old.system) (regions new.system) (state_of word new) (word new.system)
   pub sound : IsSound regions word new
 
--- A block of so many bytes was handed out at an address.
+-- A block of `size` bytes was handed out at an address.
 pub record IsServed {A : Type 0} (regions : A → List Grant) (word : A → ℕ → ℕ) (zeros : A → Bool) (follows : A → List Event → A → Type 0) (old : Dlmalloc A) (size address : ℕ) (new : Dlmalloc A) : Type 0 where
   pub cut : IsObtained follows regions old.system (state_of word old) (padded size) (address - 16) new.system (state_of word new)
   pub low : 16 ≤ address
@@ -121,12 +123,12 @@ pub record IsServed {A : Type 0} (regions : A → List Grant) (word : A → ℕ 
   pub sound : IsSound regions word new
   pub order : KeepsOrder regions word old new
 
--- what a refusal asked of the system: nothing where the size is too large, and else one region, which was refused
+-- what a refusal asked of the system: nothing if the size is too large, and else one region, which was refused
 abbrev pub refused_events : HeapState → ℕ → MallocError → List Event
 refused_events heap size TooLarge = []
 refused_events heap size (System fault) = Refused (round_up (padded size + 96) heap.granularity) fault ∷ []
 
--- A block of so many bytes was refused, and all is as it was.
+-- A block of `size` bytes was refused, and all is as it was.
 pub record IsRefusedWith {A : Type 0} (regions : A → List Grant) (word : A → ℕ → ℕ) (follows : A → List Event → A → Type 0) (refuses : A → A → Type 0) (denies : A → ℕ → GrantFault → Type 0) (old : Dlmalloc A) (size : ℕ) (error : MallocError) (new : Dlmalloc A) : Type 0 where
   pub refused : IsMallocRefused denies old.system (state_of word old) size error
   pub same : IsAsItWas regions word follows refuses (refused_events (state_of word old) size error) old new
@@ -142,8 +144,8 @@ pub record IsDisposed {A : Type 0} (regions : A → List Grant) (word : A → �
   pub followed : follows old.system [] new.system
   pub order : KeepsOrder regions word old new
 
--- Of some extents, one segment's behind another's, the first of each segment begins where a segment does, and the last ends
--- where one does. `begins` says whether the first of them is the first of a segment.
+-- Of some extents, one segment's after another's, the first of each segment begins where a segment does, and the last
+-- ends where one does. `begins` says whether the first of them is the first of a segment.
 abbrev pub AreSpans : List Segment → Bool → List Extent → Type 0
 AreSpans segments begins [] = ⊤
 AreSpans segments begins (extent ∷ extents) =
@@ -170,7 +172,7 @@ regions_in segment regions = filter (λ region. nat_lt region.base (segment.base
 abbrev pub KeepsRegions : List Segment → List Grant → List Grant → Type 0
 KeepsRegions segments old new = AllByRecursion (λ (segment : Segment). regions_in segment new ≡ regions_in segment old) segments
 
--- Of a heap's segments words of blocks alone changed: those behind a block's head, and the first word of the extent behind
+-- Of a heap's segments only words of blocks changed: those after a block's head, and the first word of the extent after
 -- it.
 abbrev pub OnlyBlocksChange : List Grant → HeapState → (ℕ → ℕ) → (ℕ → ℕ) → Type 0
 OnlyBlocksChange regions heap old new = (k : ℕ) → IsWordOf regions k → IsTrue (list_any (has_byte_in k) heap.segments) →
@@ -184,7 +186,7 @@ RestsOutside {A} regions word heap = IsSound regions word heap → (system : A) 
     IsSound regions word (record heap { system = system }) × (state_of word (record heap { system = system }) ≡ state_of word heap)
     × (IsBinned regions word heap → IsBinned regions word (record heap { system = system }))
 
--- And so does the order of the bins: with such a system they have the chunks that they had, each size in its order.
+-- And so does the order of the bins: with such a system they have the same chunks, each size in its order.
 abbrev pub OrderRestsOutside : {A : Type 0} → (A → List Grant) → (A → ℕ → ℕ) → Dlmalloc A → Type 0
 OrderRestsOutside {A} regions word heap = IsSound regions word heap → (system : A) → KeepsRegions (state_of word heap).segments (regions heap.system) (regions system) →
     OnlyBlocksChange (regions heap.system) (state_of word heap) (word heap.system) (word system) →

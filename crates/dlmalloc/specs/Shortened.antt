@@ -17,8 +17,9 @@ use Rattle.dlmalloc.specs.Binned.{FreeMoves}
 use Rattle.dlmalloc.specs.Heap.{state_of, IsSound}
 use Rattle.dlmalloc.specs.declared.heap.Dlmalloc.{Dlmalloc}
 
--- What stays of a heap whose top may be another: the extents in use, the bytes of their blocks, the other free extents with
--- their bins, and the records. Of the words that are granted still the heads of the top and of its foot alone changed.
+-- What stays of a heap whose top may be another: the extents in use, the bytes of their blocks, the other free extents
+-- with their bins, and the records. Of the words that are still granted only the heads of the top and of its foot
+-- changed.
 pub record KeepsAllButTop {A : Type 0} (regions : A → List Grant) (word : A → ℕ → ℕ) (old new : Dlmalloc A) : Type 0 where
   pub sound : IsSound regions word new
   pub used : HasSameUsed (state_of word old) (state_of word new)
@@ -29,7 +30,7 @@ pub record KeepsAllButTop {A : Type 0} (regions : A → List Grant) (word : A �
   pub records : (one : Extent) → one.kind ≡ Record → extent_at one.at (extents_in (state_of word new)) ≡ Some one → extent_at one.at (extents_in (state_of word old)) ≡ Some one
   pub words : (k : ℕ) → IsWordOf (regions new.system) k → k ≢ new.top + 8 → k ≢ new.top + new.top_size + 8 → word new.system k ≡ word old.system k
 
--- So many bytes at the end of the head segment went back, and are granted no longer.
+-- A number of bytes at the end of the head segment went back, and are granted no longer.
 pub record IsShortened {A : Type 0} (regions : A → List Grant) (word : A → ℕ → ℕ) (follows : A → List Event → A → Type 0) (old : Dlmalloc A) (less : ℕ) (new : Dlmalloc A) : Type 0 where
   pub state : state_of word new ≡ cut_top less (state_of word old)
   pub stays : KeepsAllButTop regions word old new
@@ -43,8 +44,8 @@ pub record IsCutBack {A : Type 0} (regions : A → List Grant) (word : A → ℕ
   pub regions_are : regions new.system ≡ regions_cut parts unit pad (state_of word old) (regions old.system)
   pub followed : follows old.system (cut_off parts unit pad (state_of word old)) new.system
 
--- The heap was trimmed, and it was answered whether bytes went back. The extents in use are the same, and blocks have their
--- bytes. Of the words that are granted still own ones and those of records alone changed.
+-- The heap was trimmed, and it was answered whether bytes went back. The extents in use are the same, and blocks have
+-- their bytes. Of the words that are still granted only own ones and those of records changed.
 pub record IsTrimmed {A : Type 0} (regions : A → List Grant) (word : A → ℕ → ℕ) (follows : A → List Event → A → Type 0) (frees parts : Bool) (unit : ℕ) (old : Dlmalloc A) (pad : ℕ) (answer : Bool) (new : Dlmalloc A) : Type 0 where
   pub answer_is : answer ≡ (is_trimmed pad (state_of word old) && gives_back frees parts unit pad (state_of word old))
   pub state : state_of word new ≡ trimmed frees parts unit pad (state_of word old)

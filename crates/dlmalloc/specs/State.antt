@@ -15,11 +15,11 @@ pub record Segment : Type 0 where
 pub record HeapState : Type 0 where
   -- the head first; it ends with the top and its foot
   pub segments : List Segment
-  -- where the free extent begins that is cut first for small requests, 0 where there is none
+  -- where the free extent that is cut first for small requests begins, 0 if there is none
   pub victim : ℕ
   -- regions are asked for in multiples of this number of bytes
   pub granularity : ℕ
-  -- how many large chunks are freed between two release passes, and how many are still to come
+  -- how many large chunks are freed between two release passes, and how many of them are left
   pub rate : ℕ
   pub countdown : ℕ
   -- a free that leaves the top longer than this many bytes gives some of it back
@@ -59,15 +59,15 @@ is_victim heap extent = is_free_below_top extent.kind && extent.at == heap.victi
 abbrev pub is_binned : HeapState → Extent → Bool
 is_binned heap extent = is_free_below_top extent.kind && not (extent.at == heap.victim)
 
--- an extent, where the victim is told from the other free ones
+-- an extent, with the victim distinguished from the other free ones
 abbrev pub shown : HeapState → Extent → Extent
 shown heap extent = if is_victim heap extent then record extent { kind = Victim } else extent
 
--- the size of the first extent that is of some sort, 0 where none is
+-- the size of the first extent that is of some sort, 0 if none is
 abbrev pub size_where : (Extent → Bool) → List Extent → ℕ
 size_where is extents = unwrap_or (option_map (λ extent. extent.size) (find is extents)) 0
 
--- a countdown that begins: a rate of 0 never comes to its end
+-- a countdown that begins: a rate of 0 stands for the greatest number
 abbrev pub countdown_from : ℕ → ℕ
 countdown_from rate = if rate == 0 then 2 ^ 64 - 1 else rate
 

@@ -10,11 +10,12 @@ use Rattle.dlmalloc_chunks.specs.declared.extent.Kind.TheVariants.{Top, Foot}
 use Rattle.dlmalloc.specs.State.{HeapState, Segment, extents_in, is_top, size_where, trim_threshold}
 use Rattle.dlmalloc.specs.Released.{handed_out, taken_back, bytes_of, releases, regions_without, passed}
 
--- the bytes of the top, 0 where there is none
+-- the bytes of the top, 0 if there is none
 abbrev pub top_bytes : HeapState → ℕ
 top_bytes heap = size_where (λ extent. is_top extent.kind) (extents_in heap)
 
--- What a trim cuts off the top: the most whole granularities that leave it more than `pad` bytes beside the 80 of a foot.
+-- What a trim cuts off the top: the most whole granularities that leave it more than `pad` bytes besides the 80 of a
+-- foot.
 abbrev pub cut_of : HeapState → ℕ → ℕ
 cut_of heap pad = if nat_lt (pad + 80) (top_bytes heap) then (top_bytes heap - pad - 80 - 1) / heap.granularity * heap.granularity else 0
 
@@ -32,7 +33,7 @@ shrunk less extent = shrunk_as extent.kind
 abbrev pub shortened : ℕ → Segment → Segment
 shortened less segment = record segment { size = segment.size - less; extents = map (shrunk less) segment.extents }
 
--- so the heap; its trim check begins anew
+-- the same of the heap; its trim check begins anew
 abbrev pub cut_top : ℕ → HeapState → HeapState
 cut_top less heap = cut_from heap.segments
   where
@@ -42,8 +43,8 @@ cut_top less heap = cut_from heap.segments
 
 -- ---- a trim
 
--- Whether a system may be asked for so many last bytes of a segment: there are some, the segment is not extern, as bit 0 of its
--- flags says, and the system takes parts.
+-- Whether a system may be asked for the last bytes of a segment, a given number of them: there are some, the segment is
+-- not extern, as bit 0 of its flags says, and the system takes parts.
 abbrev pub may_go : Bool → ℕ → Segment → Bool
 may_go parts less segment = nat_lt 0 less && segment.flags % 2 == 0 && parts
 
@@ -63,12 +64,12 @@ is_cut parts unit pad heap = is_cut_in heap.segments
 abbrev pub after_cut : Bool → ℕ → ℕ → HeapState → HeapState
 after_cut parts unit pad heap = if is_cut parts unit pad heap then cut_top (cut_of heap pad) heap else heap
 
--- Where a trim gave nothing back, though the top is above the trim check, no later one is tried: the trim check is the
+-- If a trim gave nothing back, though the top is above the trim check, no later one is tried: the trim check is the
 -- greatest of a u64, until the top is another, longer or cut.
 abbrev pub given_up : HeapState → HeapState
 given_up heap = if nat_lt heap.trim_check (top_bytes heap) then record heap { trim_check = 2 ^ 64 - 1 } else heap
 
--- A trim is made where there is a segment, and a request for `pad` bytes is not too large.
+-- A trim is made if there is a segment, and a request for `pad` bytes is not too large.
 abbrev pub is_trimmed : ℕ → HeapState → Bool
 is_trimmed pad heap = nat_lt pad (limit heap.granularity) && nat_lt 0 (length heap.segments)
 
@@ -76,7 +77,7 @@ is_trimmed pad heap = nat_lt pad (limit heap.granularity) && nat_lt 0 (length he
 abbrev pub gives_back : Bool → Bool → ℕ → ℕ → HeapState → Bool
 gives_back frees parts unit pad heap = is_cut parts unit pad heap || nat_lt 0 (bytes_of (taken_back frees (handed_out parts heap.segments)))
 
--- The heap after a trim: the top is cut, a release pass is made, and where neither gave bytes back, it may give up.
+-- The heap after a trim: the top is cut, a release pass is made, and if neither gave bytes back, it may give up.
 abbrev pub trimmed : Bool → Bool → ℕ → ℕ → HeapState → HeapState
 trimmed frees parts unit pad heap =
     let after = passed frees parts (after_cut parts unit pad heap) in

@@ -12,7 +12,7 @@ use Rattle.dlmalloc.specs.declared.walk.Span.{Span}
 use Rattle.dlmalloc.specs.declared.walk.Tail.{Tail}
 use Rattle.dlmalloc.specs.declared.walk.Tail.TheVariants.{TopAndFoot, OneRecord}
 
--- the chunk at an address, as its head tells it
+-- the chunk at an address, as its head describes it
 abbrev pub chunk_told : (ℕ → ℕ) → ℕ → Extent
 chunk_told words at = record { at = at; size = size_of (words (at + 8)); kind = kind_of (words (at + 8)) }
 
@@ -28,7 +28,7 @@ abbrev pub AreChunks : List Extent → Type 0
 AreChunks [] = ⊤
 AreChunks (extent ∷ extents) = IsChunkKind extent.kind × AreChunks extents
 
--- chunks tile a range of granted bytes, behind which an extent stands
+-- chunks tile a range of granted bytes, after which an extent stands
 pub record IsChunkRun (regions : List Grant) (words : ℕ → ℕ) (from to : ℕ) : Type 0 where
   pub chunks : List Extent
   pub stand : Tiles words Used from chunks to
@@ -47,22 +47,22 @@ binned_sizes heap extents = map (λ (extent : Extent). extent.size) (filter (is_
 
 -- ---- segments as spans
 
--- what stands behind the chunks of a segment, from an address on
+-- what stands after the chunks of a segment, from an address on
 abbrev pub tail_at : (top top_size at : ℕ) → Tail → List Extent
 tail_at top top_size at TopAndFoot = (record { at = top; size = top_size; kind = Top }) ∷ (record { at = top + top_size; size = 80; kind = Foot }) ∷ []
 tail_at top top_size at (OneRecord size) = (record { at = at; size = size; kind = Record }) ∷ []
 
--- the extents of a segment that a span tells
+-- the extents of a segment that a span describes
 abbrev pub span_extents : (words : ℕ → ℕ) (top top_size : ℕ) → Span → List Extent
 span_extents words top top_size span = chunks_between words span.from span.to ++ tail_at top top_size span.to span.tail
 
--- a span tells a segment
+-- a span describes a segment
 pub record IsSpan (regions : List Grant) (words : ℕ → ℕ) (top top_size : ℕ) (span : Span) (segment : Segment) : Type 0 where
   pub base : span.from ≡ segment.base
   pub run : IsChunkRun regions words span.from span.to
   pub extents : span_extents words top top_size span ≡ segment.extents
 
--- spans tell segments, one each
+-- spans describe segments, one each
 abbrev pub AreSpansOf : (regions : List Grant) (words : ℕ → ℕ) (top top_size : ℕ) → List Span → List Segment → Type 0
 AreSpansOf regions words top top_size [] [] = ⊤
 AreSpansOf regions words top top_size [] (segment ∷ segments) = ⊥

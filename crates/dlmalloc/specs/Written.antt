@@ -20,7 +20,8 @@ pub record IsSameHeap {A : Type 0} (regions : A → List Grant) (word : A → �
   pub regions_same : regions new.system ≡ regions old.system
   pub followed : follows old.system [] new.system
 
--- A block of so many bytes at a multiple of an alignment was handed out at an address, and then the words that hold them were cleared.
+-- A block of `size` bytes at a multiple of an alignment was handed out at an address, and then the words that hold them
+-- were cleared.
 pub record IsServedCleared {A : Type 0} (regions : A → List Grant) (word : A → ℕ → ℕ) (zeros : A → Bool) (follows : A → List Event → A → Type 0) (old : Dlmalloc A) (size align address : ℕ) (new : Dlmalloc A) : Type 0 where
   pub middle : Dlmalloc A
   pub served : IsServedAt regions word zeros follows old size align address middle

@@ -11,28 +11,28 @@ use bins::laws::index_stays;
 use heap_memory::Allocator;
 
 impl<A: Allocator> Dlmalloc<A> {
-    /// Each block is at a multiple of 16, and its bytes are granted, one where it has none (own).
+    /// Each block is at a multiple of 16, and its bytes are granted; if it has none, one is (own).
     pub fn blocks_are_placed(&self)
         requires { IsSound A.regions A.word self.now }
         ensures { ArePlaced (A.regions self.now.system) (state_of A.word self.now) }
     {}
 
-    /// Two blocks have no byte in common, one where they have none, and behind each there are 8 bytes before the next
-    /// block's head ends (own).
+    /// Two blocks have no byte in common, with one byte for a block that has none, and after each there are 8 bytes
+    /// before the next block's head ends (own).
     pub fn blocks_are_apart(&self)
         requires { IsSound A.regions A.word self.now }
         ensures { BlocksAreApart (state_of A.word self.now) }
     {}
 
     /// A sound heap rests on the regions of its segments, and on their words outside of blocks: what is done through
-    /// `allocator_mut` leaves it sound, in its state and with its bins linked where it leaves these (own).
+    /// `allocator_mut` leaves it sound, in its state and with its bins linked if it leaves these as they are (own).
     pub fn rests_outside(&self)
         ensures { RestsOutside A.regions A.word self.now }
     {
         index_stays();
     }
 
-    /// So the order of the bins rests on them: what leaves these leaves the chunks of each size as they are, in their
+    /// The order of the bins rests on them too: what leaves these as they are leaves the chunks of each size in their
     /// order (own).
     pub fn order_rests_outside(&self)
         ensures { OrderRestsOutside A.regions A.word self.now }
@@ -40,20 +40,20 @@ impl<A: Allocator> Dlmalloc<A> {
         index_stays();
     }
 
-    /// Between two free extents of a segment stands one in use (own).
+    /// Between two free extents of a segment there is one in use (own).
     pub fn free_extents_are_parted(&self)
         requires { IsSound A.regions A.word self.now }
         ensures { AllByRecursion (λ segment. AreParted segment.extents) (state_of A.word self.now).segments }
     {}
 
-    /// Where no extent is in use, each segment has one free extent, the head's being its top (own).
+    /// If no extent is in use, each segment has one free extent, the head's being its top (own).
     pub fn unused_segments_are_free(&self)
         requires sound { IsSound A.regions A.word self.now }
         requires unused { IsUnused (state_of A.word self.now) }
         ensures { EachHasOneFree (state_of A.word self.now).segments }
     {}
 
-    /// A release pass hands out a segment behind the head exactly where it is idle, is the heap's to give back, and the
+    /// A release pass hands out a segment after the head exactly if it is idle, is the heap's to give back, and the
     /// system takes parts: no extent of it is in use, and its record has 80 bytes (own).
     pub fn idle_segments_are_handed_out(&self)
         requires { IsSound A.regions A.word self.now }

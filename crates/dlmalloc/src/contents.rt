@@ -25,8 +25,8 @@ pub(crate) fn words_in(n: u64) -> u64
 
 impl<A: Allocator> Dlmalloc<A> {
     /// Asks for a block of `size` bytes at a multiple of `align`, clears it, and answers its address (dlmalloc:
-    /// `Dlmalloc::calloc`). The words that hold the bytes asked for are cleared, and no others. The clearing stores each once,
-    /// and beside that the words loaded or stored are at most as many as for `malloc`.
+    /// `Dlmalloc::calloc`). The words that hold the bytes asked for are cleared, and no others. The clearing stores
+    /// each once, and besides that the words loaded or stored are at most as many as for `malloc`.
     pub fn calloc<L: Ledger>(
         &mut self,
         size: u64,

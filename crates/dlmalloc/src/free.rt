@@ -25,10 +25,11 @@ use std::sync::ledger::Ledger;
 use step_count::Steps;
 
 impl<A: Allocator> Dlmalloc<A> {
-    /// Frees the block at an address, of the bytes that were asked for (dlmalloc: `Dlmalloc::free`). Its chunk joins the
-    /// free chunks beside it. Where they are the top then, and above the trim check, the heap is trimmed; any other chunk is
-    /// counted, and segments may go back to the system by it. The size and the alignment are not read: the chunk's head
-    /// tells its size. At most 1024 words are loaded or stored, and 512 more for each segment where a release pass is made.
+    /// Frees the block at an address, of the bytes that were asked for (dlmalloc: `Dlmalloc::free`). Its chunk joins
+    /// the free chunks beside it. If they are then the top, and above the trim check, the heap is trimmed; any other
+    /// chunk is counted, and segments may go back to the system by that. The size and the alignment are not read: the
+    /// chunk's head has its size. At most 1024 words are loaded or stored, and 512 more for each segment if a release
+    /// pass is made.
     pub fn free<L: Ledger>(&mut self, ptr: u64, size: u64, align: u64, steps: &mut Steps<L>)
         requires sound { IsSound A.regions A.word self.old }
         requires linked { IsBinned A.regions A.word self.old }
@@ -40,7 +41,7 @@ impl<A: Allocator> Dlmalloc<A> {
         self.free_and_settle(ptr, steps);
     }
 
-    /// Frees a block whose size is not told; nothing where there is none (dlmalloc: `c_free`).
+    /// Frees a block whose size is not given; does nothing if there is none (dlmalloc: `c_free`).
     pub fn c_free<L: Ledger>(&mut self, ptr: Option<u64>, steps: &mut Steps<L>)
         requires sound { IsSound A.regions A.word self.old }
         requires linked { IsBinned A.regions A.word self.old }
@@ -56,7 +57,7 @@ impl<A: Allocator> Dlmalloc<A> {
         }
     }
 
-    /// Frees the chunk of a block of some size, and answers where the free chunk begins that it is part of then.
+    /// Frees the chunk of a block of some size, and answers where the free chunk that it is then part of begins.
     pub(crate) fn free_block<L: Ledger>(&mut self, ptr: u64, steps: &mut Steps<L>) -> u64
         requires sound { IsSound A.regions A.word self.old }
         requires linked { IsBinned A.regions A.word self.old }
@@ -71,8 +72,8 @@ impl<A: Allocator> Dlmalloc<A> {
         self.dispose_chunk(at, size, steps)
     }
 
-    /// Frees a chunk in use, with the free chunks beside it: they become the top where it follows, else one free chunk,
-    /// which is the victim where one of them was, and else goes into its bin. Answers where that begins.
+    /// Frees a chunk in use, with the free chunks beside it: they become the top if it follows, else one free chunk,
+    /// which is the victim if one of them was, and else goes into its bin. Answers where that begins.
     #[inline(always)]
     pub(crate) fn dispose_chunk<L: Ledger>(
         &mut self,
@@ -102,8 +103,8 @@ impl<A: Allocator> Dlmalloc<A> {
         from
     }
 
-    /// Makes one free chunk of a chunk in use and of the free ones beside it, which reach from an address up to another: the
-    /// top where it follows; else one that is the victim where one of them was. None of them is in a bin.
+    /// Makes one free chunk of a chunk in use and of the free ones beside it, which reach from an address up to
+    /// another: the top if it follows; else one that is the victim if one of them was. None of them is in a bin.
     #[inline(always)]
     fn join_free<L: Ledger>(&mut self, at: u64, size: u64, from: u64, to: u64, steps: &mut Steps<L>)
         requires sound { IsSound A.regions A.word self.old }
@@ -159,7 +160,7 @@ impl<A: Allocator> Dlmalloc<A> {
         self.bin(from, to - from, steps);
     }
 
-    /// Where the free chunk before a chunk begins; the chunk's own address where none stands there.
+    /// Where the free chunk before a chunk begins; the chunk's own address if none stands there.
     fn free_begin<L: Ledger>(&self, at: u64, steps: &mut Steps<L>) -> u64
         requires head { HasHead (A.regions self.now.system) at }
         requires foot { HasFoot (A.regions self.now.system) at }
@@ -174,7 +175,7 @@ impl<A: Allocator> Dlmalloc<A> {
         }
     }
 
-    /// Where the free chunk at an address ends; the address where none stands there, and at the top.
+    /// Where the free chunk at an address ends; the address itself if none stands there, and at the top.
     fn free_end<L: Ledger>(&self, at: u64, steps: &mut Steps<L>) -> u64
         requires head { HasHead (A.regions self.now.system) at }
         requires fits { at ≢ self.now.top → free_of (A.word self.now.system (at + 8)) ≡ true → at + size_of (A.word self.now.system (at + 8)) < 2 ^ 64 }
@@ -190,7 +191,8 @@ impl<A: Allocator> Dlmalloc<A> {
     }
 }
 
-/// Makes a free chunk; the chunk before it is in use. The chunk behind it is told, where it does not say so already.
+/// Makes a free chunk; the chunk before it is in use. The head of the chunk after it is changed to say so, if it does
+/// not already.
 fn make_free<M: Links, L: Ledger>(
     memory: &mut M,
     chunk: u64,

@@ -24,7 +24,7 @@ use std::sync::ledger::Ledger;
 use step_count::Steps;
 
 impl<A: Allocator> Dlmalloc<A> {
-    /// The bytes that the system is asked for, so that a chunk of `n` bytes can be cut from the top that they make.
+    /// How many bytes the system is asked for, so that a chunk of `n` bytes can be cut from the top that they make.
     #[tactic(auto, using(crate::proofs::Requests::Granularity::asked_whole))]
     fn asked(&self, n: u64) -> u64
         requires granularity { IsGranularity self.now.granularity }
@@ -36,9 +36,9 @@ impl<A: Allocator> Dlmalloc<A> {
         (n + OVERHEAD + (self.granularity - 1)) / self.granularity * self.granularity
     }
 
-    /// Asks the system for a region with room for a chunk of `n` bytes. Where it is put before a segment, the chunk is cut
-    /// from its start, and that is answered; else it becomes part of the top or the new head segment. An `Err` leaves the
-    /// heap as it was.
+    /// Asks the system for a region with room for a chunk of `n` bytes. If it is put before a segment, the chunk is cut
+    /// from its start, and that is answered; else it becomes part of the top or the new head segment. An `Err` leaves
+    /// the heap as it was.
     pub(crate) fn grow<L: Ledger>(
         &mut self,
         n: u64,
@@ -102,7 +102,7 @@ impl<A: Allocator> Dlmalloc<A> {
             && may_join(u64::from(grant.flags), u64::from(self.flags))
     }
 
-    /// Makes the head segment of a grant, where there is no segment.
+    /// Makes a grant the head segment, if there is no segment.
     fn open<L: Ledger>(&mut self, grant: &Grant, steps: &mut Steps<L>)
         requires sound { IsSound A.regions A.word self.old }
         requires none { self.old.size ≡ 0 }
@@ -131,8 +131,8 @@ impl<A: Allocator> Dlmalloc<A> {
         self.close_top(steps);
     }
 
-    /// Makes a grant the head segment. What was the top is freed, and goes into its bin, and a record behind it tells the
-    /// segment that it is in.
+    /// Makes a grant the head segment. What was the top is freed, and goes into its bin, and a record after it
+    /// describes the segment that it is in.
     fn add_segment<L: Ledger>(&mut self, grant: &Grant, steps: &mut Steps<L>)
         requires sound { IsSound A.regions A.word self.old }
         requires linked { IsBinned A.regions A.word self.old }
@@ -154,7 +154,8 @@ impl<A: Allocator> Dlmalloc<A> {
         self.bin(top, top_size, steps);
     }
 
-    /// Makes a grant the head segment. What was the top is freed, and a record behind it tells the segment that it is in.
+    /// Makes a grant the head segment. What was the top is freed, and a record after it describes the segment that it
+    /// is in.
     fn change_head<L: Ledger>(&mut self, grant: &Grant, steps: &mut Steps<L>)
         requires sound { IsSound A.regions A.word self.old }
         requires there { 0 < self.old.size }
@@ -186,7 +187,7 @@ impl<A: Allocator> Dlmalloc<A> {
         self.make_head(grant, steps);
     }
 
-    /// Leaves the top as a free chunk, or to the record where it has 16 bytes alone, and answers where the record begins.
+    /// Leaves the top as a free chunk, or to the record if it has only 16 bytes, and answers where the record begins.
     fn leave_top<L: Ledger>(&mut self, steps: &mut Steps<L>) -> u64
         requires foot { HasFoot (A.regions self.old.system) (self.old.top + self.old.top_size) }
         ensures place { result ≡ (if nat_lt self.old.top_size 32 then self.old.top else self.old.top + self.old.top_size) }
@@ -204,7 +205,7 @@ impl<A: Allocator> Dlmalloc<A> {
         }
     }
 
-    /// Makes the head segment of a grant, and all of it the top.
+    /// Makes a grant the head segment, and all of it the top.
     fn make_head<L: Ledger>(&mut self, grant: &Grant, steps: &mut Steps<L>)
         requires high { grant.now.base + grant.now.size < 2 ^ 64 }
         requires long { 96 ≤ grant.now.size }
@@ -225,7 +226,7 @@ impl<A: Allocator> Dlmalloc<A> {
         self.close_top(steps);
     }
 
-    /// Writes the heads of the top and of its foot, where the top reaches up to the foot at the segment's end.
+    /// Writes the heads of the top and of its foot, if the top reaches up to the foot at the segment's end.
     pub(crate) fn close_top<L: Ledger>(&mut self, steps: &mut Steps<L>)
         requires low { self.old.base ≤ self.old.top }
         requires room { self.old.top + 96 ≤ self.old.base + self.old.size }

@@ -7,7 +7,7 @@ ghost use Rattle.dlmalloc.specs.Binned.{IsBinned};
 use bins::Bins;
 use heap_memory::Allocator;
 
-/// The size of the heap's requests of a new heap, in bytes.
+/// The granularity of a new heap, in bytes.
 const DEFAULT_GRANULARITY: u64 = 65536;
 
 /// The number of large chunks that a new heap frees between two release passes.
@@ -21,12 +21,12 @@ pub struct Dlmalloc<A: Allocator> {
     pub(crate) base: u64,
     pub(crate) size: u64,
     pub(crate) flags: u32,
-    /// Where the payload of the next segment's record begins, 0 where there is no other segment.
+    /// Where the payload of the next segment's record begins, 0 if there is no other segment.
     pub(crate) next: u64,
     /// The free chunk at the end of the head segment.
     pub(crate) top: u64,
     pub(crate) top_size: u64,
-    /// The free chunk that is cut first for small requests. It has no bytes where there is none.
+    /// The free chunk that is cut first for small requests. It has no bytes if there is none.
     pub(crate) victim: u64,
     pub(crate) victim_size: u64,
     /// The other free chunks but the top, by size.
@@ -81,8 +81,8 @@ impl<A: Allocator> Dlmalloc<A> {
         }
     }
 
-    /// Sets how many large chunks are freed between two release passes, and begins to count them anew. With 0 there is no
-    /// such pass.
+    /// Sets how many large chunks are freed between two release passes, and begins to count them anew. 0 stands for the
+    /// greatest number.
     pub fn set_max_release_check_rate(&mut self, rate: u64)
         ensures state { state_of A.word self.new ≡ record (state_of A.word self.old) { rate = rate; countdown = countdown_from rate } }
         ensures system { self.new.system ≡ self.old.system }
@@ -94,7 +94,7 @@ impl<A: Allocator> Dlmalloc<A> {
         self.countdown = countdown_from(rate);
     }
 
-    /// How many large chunks are freed between two release passes; 0 where there is no such pass (own).
+    /// How many large chunks are freed between two release passes; 0 stands for the greatest number (own).
     pub fn max_release_check_rate(&self) -> u64
         ensures { result ≡ (state_of A.word self.now).rate }
     {
@@ -132,8 +132,8 @@ impl<A: Allocator> Dlmalloc<A> {
         accepted
     }
 
-    /// The system, to be changed. The heap stays sound, and in its state, and its bins linked, where what is done leaves the
-    /// regions of its segments, and every word of the segments outside of blocks: `rests_outside`.
+    /// The system, to be changed. The heap stays sound, and in its state, and its bins linked, if what is done leaves
+    /// as they are the regions of its segments, and every word of the segments outside of blocks: `rests_outside`.
     pub fn allocator_mut(&mut self) -> &mut A
         ensures* lends { sem 𝓛 (Lends (the_row A.row) A.row self.entry result (λ w. record self.old { system = w })) }
         ensures value { result.now ≡ self.old.system }

@@ -12,18 +12,18 @@ pub(crate) const LEAST_CHUNK: u64 = 32;
 /// The sizes from here on are large.
 pub(crate) const LEAST_LARGE: u64 = 256;
 
-/// The size of the foot behind the top.
+/// The size of the foot after the top.
 pub(crate) const FOOT: u64 = 80;
 
-/// The size that the head of a record tells, and the place in a record where its fences begin.
+/// The size in the head of a record, and the place in a record where its fences begin.
 pub(crate) const RECORD_CHUNK: u64 = 48;
 
 pub(crate) const FENCES: u64 = 56;
 
-/// A word of a fence: the head of a chunk of 8 bytes in use, behind another.
+/// A word of a fence: the head of a chunk of 8 bytes in use, after another.
 pub(crate) const FENCE: u64 = 11;
 
-/// What a grant has beside the chunk that it is asked for: the foot, and a least rest of the top.
+/// What a grant has besides the chunk that it is asked for: the foot, and a least rest of the top.
 pub(crate) const OVERHEAD: u64 = 96;
 
 /// The bytes of the top above which a free is to give some of it back, once a region was granted.

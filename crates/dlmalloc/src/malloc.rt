@@ -23,9 +23,9 @@ use step_count::Steps;
 
 impl<A: Allocator> Dlmalloc<A> {
     /// Asks for a block of `size` bytes at a multiple of `align`, and answers its address (dlmalloc:
-    /// `Dlmalloc::malloc`). It writes words at boundaries of extents and in free ones alone, and so no byte of another block.
-    /// Where an extent is chosen, at most 8192 words are loaded or stored, however many extents there are, and for a refusal
-    /// at most 512. A request that is too large leaves the heap as it was.
+    /// `Dlmalloc::malloc`). It writes only words at boundaries of extents and in free ones, and so no byte of another
+    /// block. If an extent is chosen, at most 8192 words are loaded or stored, however many extents there are, and for
+    /// a refusal at most 512. A request that is too large leaves the heap as it was.
     #[inline(always)]
     pub fn malloc<L: Ledger>(
         &mut self,
@@ -76,9 +76,9 @@ impl<A: Allocator> Dlmalloc<A> {
         self.malloc(size, align, steps)
     }
 
-    /// Asks for a block of `size` bytes at a multiple of 16, and answers its address (dlmalloc: `c_malloc`). It writes words
-    /// at boundaries of extents and in free ones alone. Where an extent is chosen, at most 1024 words are loaded or stored,
-    /// and for a refusal at most 512.
+    /// Asks for a block of `size` bytes at a multiple of 16, and answers its address (dlmalloc: `c_malloc`). It writes
+    /// only words at boundaries of extents and in free ones. If an extent is chosen, at most 1024 words are loaded or
+    /// stored, and for a refusal at most 512.
     pub fn c_malloc<L: Ledger>(
         &mut self,
         size: u64,
@@ -105,7 +105,7 @@ impl<A: Allocator> Dlmalloc<A> {
         }
     }
 
-    /// Cuts a chunk of `n` bytes from a free extent, or from a new region where none serves, and answers where it begins.
+    /// Cuts a chunk of `n` bytes from a free extent, or from a new region if none serves, and answers where it begins.
     fn cut<L: Ledger>(&mut self, n: u64, steps: &mut Steps<L>) -> Result<u64, GrantFault>
         requires sound { IsSound A.regions A.word self.old }
         requires linked { IsBinned A.regions A.word self.old }

@@ -25,11 +25,11 @@ use heap_memory::Allocator;
 use std::sync::ledger::Ledger;
 use step_count::Steps;
 
-/// What is asked for beside the chunk and the alignment, so that an aligned place with no short lead is in it.
+/// What is asked for besides the chunk and the alignment, so that it has an aligned place with no short lead.
 const ALIGNED_OVERHEAD: u64 = 24;
 
-/// Where a chunk begins whose block is aligned, in a chunk at an address: there, where that one's block is; else before
-/// the first aligned place that leaves more than 32 bytes before it.
+/// Where a chunk whose block is aligned begins, in a chunk at an address: there, if that one's block is aligned; else
+/// before the first aligned place that leaves more than 32 bytes before it.
 fn aligned_place(at: u64, align: u64) -> u64
     requires align { IsPowerOfTwo align × (16 < align) }
     requires small { at + align + 64 < 2 ^ 64 }
@@ -50,7 +50,7 @@ fn aligned_place(at: u64, align: u64) -> u64
 
 impl<A: Allocator> Dlmalloc<A> {
     /// Asks for a block at a multiple of an alignment above 16 (dlmalloc: `memalign`): a greater one is found, and what
-    /// is before the aligned place in it, and behind the block there, is freed.
+    /// is before the aligned place in it, and after the block there, is freed.
     #[inline(never)]
     pub(crate) fn memalign<L: Ledger>(
         &mut self,
@@ -70,7 +70,7 @@ impl<A: Allocator> Dlmalloc<A> {
         ensures counted { chosen (state_of A.word self.old) (padded (enlarged size align)) ≢ None → steps.new ≤ steps.old + 8192 }
         ensures refused_counted { IfErr result (λ error. steps.new ≤ steps.old + 512) }
     {
-        // The sum is not formed where it would wrap: the enlarged form is greater still.
+        // The sum is not formed if it would wrap: the enlarged form is greater still.
         let limit = max_request(self.granularity);
         if size >= limit || align >= limit - size {
             return Err(MallocError::TooLarge);
@@ -82,7 +82,7 @@ impl<A: Allocator> Dlmalloc<A> {
         }
     }
 
-    /// Frees what is before the aligned place in the chunk of a block, and what is behind `n` bytes there, and answers
+    /// Frees what is before the aligned place in the chunk of a block, and what is after `n` bytes there, and answers
     /// where they begin.
     fn align_block<L: Ledger>(&mut self, ptr: u64, align: u64, n: u64, steps: &mut Steps<L>) -> u64
         requires sound { IsSound A.regions A.word self.old }
@@ -140,7 +140,7 @@ impl<A: Allocator> Dlmalloc<A> {
         self.free_lead(at, size, place - at, steps);
     }
 
-    /// Frees what is behind the first `n` bytes of a chunk in use, where it is more than 32 bytes.
+    /// Frees what is after the first `n` bytes of a chunk in use, if it is more than 32 bytes.
     fn free_behind<L: Ledger>(&mut self, at: u64, size: u64, n: u64, steps: &mut Steps<L>)
         requires sound { IsSound A.regions A.word self.old }
         requires linked { IsBinned A.regions A.word self.old }

@@ -2,7 +2,7 @@
 
 ghost use Rattle.dlmalloc.specs.Order.{OneOrder};
 
-/// The order that a call keeps says all: its chunks determine the list that stands in order behind another.
+/// The order that a call keeps says all: a list that is in order after another is determined by its chunks.
 pub fn one_order()
     ensures { OneOrder }
 {}

@@ -25,12 +25,13 @@ use step_count::Steps;
 pub(crate) enum Behind {
     /// The head segment.
     Head,
-    /// The one that a record tells whose payload begins at this address.
+    /// The one whose record has its payload at this address.
     Told(u64),
 }
 
 impl<A: Allocator> Dlmalloc<A> {
-    /// The segment, if there is one, that a grant is put before: it is not, where it makes the head segment longer.
+    /// The segment, if there is one, that a grant is put before; a grant that makes the head segment longer is put
+    /// before none.
     pub(crate) fn segment_behind<L: Ledger>(
         &self,
         grant: &Grant,
@@ -81,7 +82,7 @@ impl<A: Allocator> Dlmalloc<A> {
             && may_join(u64::from(grant.flags), u64::from(self.flags))
     }
 
-    /// Whether it does so at the segment that a record tells whose payload begins at an address.
+    /// The same for the segment whose record has its payload at an address.
     fn is_before_told<L: Ledger>(&self, payload: u64, grant: &Grant, steps: &mut Steps<L>) -> bool
         requires end { grant.now.base + grant.now.size < 2 ^ 64 }
         requires high { payload + 32 < 2 ^ 64 }
@@ -152,7 +153,7 @@ impl<A: Allocator> Dlmalloc<A> {
         put_two(&mut self.system, grant.base, n, grant.size - n, steps);
     }
 
-    /// Puts a grant before the segment that a record tells, in two chunks that are in use.
+    /// Puts a grant before the segment that a record describes, in two chunks that are in use.
     fn prepend_told<L: Ledger>(&mut self, payload: u64, grant: &Grant, n: u64, steps: &mut Steps<L>)
         requires sound { IsSound A.regions A.word self.old }
         requires fresh { IsFreshGrant (A.regions self.old.system) (segments_of A.word self.old) grant.now }
@@ -171,7 +172,7 @@ impl<A: Allocator> Dlmalloc<A> {
     }
 }
 
-/// Puts the heads of two chunks in use, one behind the other, at the beginning of a segment.
+/// Puts the heads of two chunks in use, one after the other, at the beginning of a segment.
 fn put_two<M: Links, L: Ledger>(
     memory: &mut M,
     at: u64,

@@ -26,11 +26,11 @@ use std::sync::ledger::Ledger;
 use step_count::Steps;
 
 impl<A: Allocator> Dlmalloc<A> {
-    /// Gives a block another size, and answers where it is then. It keeps its alignment, and as many of its bytes as both
-    /// sizes have. Up to alignment 16 it stays where it is, where that can be; else it is handed out anew as by `malloc`, its
-    /// words are copied, and the old one is freed (dlmalloc: `Dlmalloc::realloc`). At most 1024 words are loaded or stored
-    /// where it stays, and for a refusal; where it moves to an extent that is chosen, at most 10240, two for each word that
-    /// is copied, and 512 for each segment, where the free makes a release pass.
+    /// Gives a block another size, and answers where it is then. It keeps its alignment, and as many of its bytes as
+    /// both sizes have. Up to alignment 16 it stays where it is, if that can be; else it is handed out anew as by
+    /// `malloc`, its words are copied, and the old one is freed (dlmalloc: `Dlmalloc::realloc`). At most 1024 words are
+    /// loaded or stored if it stays, and for a refusal; if it moves to an extent that is chosen, at most 10240, two for
+    /// each word that is copied, and 512 for each segment, if the free makes a release pass.
     pub fn realloc<L: Ledger>(
         &mut self,
         ptr: u64,
@@ -62,7 +62,7 @@ impl<A: Allocator> Dlmalloc<A> {
         }
     }
 
-    /// Gives a block another size, whatever its alignment: where it is, where that can be; else at a multiple of 16, with
+    /// Gives a block another size, whatever its alignment: where it is, if that can be; else at a multiple of 16, with
     /// as many of its bytes as its chunk holds and the new size has. Without a block it is `c_malloc` (dlmalloc:
     /// `c_realloc`). The words loaded or stored are bounded as for `realloc`.
     pub fn c_realloc<L: Ledger>(
@@ -100,7 +100,7 @@ impl<A: Allocator> Dlmalloc<A> {
         }
     }
 
-    /// Gives a block another size where it stands, where that can be; else as `move_block`. The alignment is at most 16.
+    /// Gives a block another size where it stands, if that can be; else as `move_block`. The alignment is at most 16.
     fn resize_or_move<L: Ledger>(
         &mut self,
         ptr: u64,

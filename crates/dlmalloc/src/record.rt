@@ -10,14 +10,14 @@ use heap_memory::Links;
 use std::sync::ledger::Ledger;
 use step_count::Steps;
 
-/// What a record tells (dlmalloc: `Segment`).
+/// What a record says (dlmalloc: `Segment`).
 #[derive(Clone, Copy)]
 pub(crate) struct SegmentRecord {
     /// The first address of the segment.
     pub(crate) base: u64,
     /// The number of its bytes.
     pub(crate) size: u64,
-    /// Where the payload of the next record begins, 0 where there is none.
+    /// Where the payload of the next record begins, 0 if there is none.
     pub(crate) next: u64,
     /// The segment's flags.
     pub(crate) flags: u32,
@@ -30,7 +30,7 @@ fn record_head(is_behind_used: bool) -> u64
     RECORD_CHUNK + CINUSE + if is_behind_used { PINUSE } else { 0 }
 }
 
-/// Puts the record of a segment from an address up to the segment's end: its head, its payload, and fences behind it.
+/// Puts the record of a segment from an address up to the segment's end: its head, its payload, and fences after it.
 pub(crate) fn put_record<M: Links, L: Ledger>(
     memory: &mut M,
     at: u64,

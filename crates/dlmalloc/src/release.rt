@@ -26,7 +26,7 @@ use step_count::Steps;
 /// The flags of a segment are below this number.
 const FLAGS: u64 = 1 << 32;
 
-/// What the record tells whose payload begins at an address.
+/// What the record whose payload begins at an address says.
 fn record_at<M: Links, L: Ledger>(memory: &M, payload: u64, steps: &mut Steps<L>) -> SegmentRecord
     requires high { payload + 32 < 2 ^ 64 }
     requires base { IsWordOf (M.regions memory.now) payload }
@@ -78,7 +78,7 @@ impl<A: Allocator> Dlmalloc<A> {
         (released, system)
     }
 
-    /// Hands each segment behind the head to the system that is free up to its record, and is the heap's to give back. It
+    /// Hands to the system each segment after the head that is free up to its record and is the heap's to give back. It
     /// answers the bytes of those that the system took (dlmalloc: `release_unused_segments`).
     pub(crate) fn release_unused_segments<L: Ledger>(&mut self, steps: &mut Steps<L>) -> u64
         requires sound { IsSound A.regions A.word self.old }
@@ -106,8 +106,8 @@ impl<A: Allocator> Dlmalloc<A> {
         released
     }
 
-    /// Counts a freed chunk, by where the free chunk begins that it became part of: where that is large and in a bin, the
-    /// countdown falls by one, and at 0 a release pass is made (dlmalloc: `Dlmalloc::free`).
+    /// Counts a freed chunk, given the address of the free chunk that it became part of: if that is large and in a bin,
+    /// the countdown falls by one, and at 0 a release pass is made (dlmalloc: `Dlmalloc::free`).
     pub(crate) fn count_free<L: Ledger>(&mut self, chunk: u64, steps: &mut Steps<L>)
         requires sound { IsSound A.regions A.word self.old }
         requires linked { IsBinned A.regions A.word self.old }
@@ -142,16 +142,17 @@ impl<A: Allocator> Dlmalloc<A> {
         chunk::size(&self.system, chunk, steps) >= LEAST_LARGE
     }
 
-    /// Begins the countdown anew, once so many segments were visited.
+    /// Begins the countdown anew, once `visited` segments were visited.
     fn begin_countdown(&mut self, visited: u64)
         ensures { self.new ≡ record self.old { countdown = max visited (countdown_from self.old.rate) } }
     {
         self.countdown = visited.max(countdown_from(self.rate));
     }
 
-    /// Hands the segment that a record tells to the system, if it may leave. True where it left. The record before it is
-    /// that whose payload begins at `before`; with 0 there is none, and the head's field tells it. The segment's first chunk
-    /// leaves its bin for that, and where the system keeps the segment, goes into it as the newest.
+    /// Hands the segment that a record describes to the system, if it may leave. True if it left. The record before it
+    /// is that whose payload begins at `before`; with 0 there is none, and the head's field names it. The segment's
+    /// first chunk leaves its bin for that, and if the system does not take the segment, goes back into it as the
+    /// newest.
     fn release_segment<L: Ledger>(
         &mut self,
         before: u64,
@@ -181,8 +182,8 @@ impl<A: Allocator> Dlmalloc<A> {
         false
     }
 
-    /// Hands the segment that a record tells to the system. It may leave, and its first chunk is in no bin. True where it
-    /// left; where it was the victim's, that is forgotten in any case.
+    /// Hands the segment that a record describes to the system. It may leave, and its first chunk is in no bin. True if
+    /// it left; if the victim was in it, that is forgotten in any case.
     fn hand_out<L: Ledger>(
         &mut self,
         before: u64,
@@ -209,7 +210,7 @@ impl<A: Allocator> Dlmalloc<A> {
     }
 
     /// Whether a segment may be handed to the system: it is not extern, its first chunk is free, and that ends 80 bytes
-    /// before the segment.
+    /// before the segment does.
     fn may_leave<L: Ledger>(&self, told: &SegmentRecord, steps: &mut Steps<L>) -> bool
         requires head { HasHead (A.regions self.now.system) told.now.base }
         requires long { 96 < told.now.size }
@@ -223,7 +224,7 @@ impl<A: Allocator> Dlmalloc<A> {
             && chunk::size(&self.system, told.base, steps) == told.size - FOOT
     }
 
-    /// The victim is forgotten, where it begins at an address.
+    /// The victim is forgotten, if it begins at an address.
     fn forget(&mut self, at: u64)
         ensures { self.new ≡ record self.old { victim = if at == self.old.victim then 0 else self.old.victim; victim_size = if at == self.old.victim then 0 else self.old.victim_size } }
     {
@@ -233,7 +234,7 @@ impl<A: Allocator> Dlmalloc<A> {
         }
     }
 
-    /// Tells the next record: in the one whose payload begins at `before`, or with 0 in the head's field.
+    /// Names the next record: in the one whose payload begins at `before`, or with 0 in the head's field.
     fn set_next<L: Ledger>(&mut self, before: u64, next: u64, steps: &mut Steps<L>)
         requires high { before + 32 < 2 ^ 64 }
         requires word { before ≢ 0 → IsWordOf (A.regions self.old.system) (before + 16) }
@@ -251,7 +252,7 @@ impl<A: Allocator> Dlmalloc<A> {
         }
     }
 
-    /// What the fields tell of the head segment.
+    /// What the fields say of the head segment.
     fn head_record(&self) -> SegmentRecord
         ensures { result ≡ record { base = self.now.base; size = self.now.size; next = self.now.next; flags = self.now.flags } }
     {

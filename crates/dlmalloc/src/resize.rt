@@ -18,9 +18,9 @@ use std::sync::ledger::Ledger;
 use step_count::Steps;
 
 impl<A: Allocator> Dlmalloc<A> {
-    /// Gives a chunk in use a size of `n` bytes where it stands: it keeps them where it has them, and else takes in the
-    /// free chunk behind it, where both have room for them (dlmalloc: `try_realloc_chunk`). False, and nothing changed,
-    /// where neither fits.
+    /// Gives a chunk in use a size of `n` bytes where it stands: it keeps them if it has them, and else takes in the
+    /// free chunk after it, if both have room for them (dlmalloc: `try_realloc_chunk`). False if neither fits; then
+    /// nothing is changed.
     pub(crate) fn resize_chunk<L: Ledger>(&mut self, at: u64, n: u64, steps: &mut Steps<L>) -> bool
         requires sound { IsSound A.regions A.word self.old }
         requires linked { IsBinned A.regions A.word self.old }
@@ -89,8 +89,8 @@ impl<A: Allocator> Dlmalloc<A> {
             .store_counted(self.top + HEAD, self.top_size + PINUSE, steps);
     }
 
-    /// Takes bytes of a free chunk into the chunk before it. A rest of less than 32 bytes goes with them; any other stays
-    /// free: it is the victim where the free chunk was, and else goes into its bin.
+    /// Takes bytes of a free chunk into the chunk before it. A rest of less than 32 bytes goes with them; any other
+    /// stays free: it is the victim if the free chunk was, and else goes into its bin.
     fn grow_into_free<L: Ledger>(
         &mut self,
         at: u64,
@@ -128,8 +128,8 @@ impl<A: Allocator> Dlmalloc<A> {
         self.bin(at + n, rest, steps);
     }
 
-    /// Takes bytes of a free chunk that is in no bin into the chunk before it. A rest of less than 32 bytes goes with them;
-    /// any other stays free, and is the victim where the free chunk was.
+    /// Takes bytes of a free chunk that is in no bin into the chunk before it. A rest of less than 32 bytes goes with
+    /// them; any other stays free, and is the victim if the free chunk was.
     fn join_part<L: Ledger>(&mut self, at: u64, size: u64, free: u64, n: u64, steps: &mut Steps<L>)
         requires sound { IsSound A.regions A.word self.old }
         requires chunk { extent_at at (extents_in (state_of A.word self.old)) ≡ Some (record { at = at; size = size; kind = Used }) }

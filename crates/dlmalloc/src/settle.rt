@@ -27,8 +27,8 @@ impl<A: Allocator> Dlmalloc<A> {
         self.settle(chunk, steps);
     }
 
-    /// What a free does further, by where the free chunk begins that the freed one became part of: a top above the trim
-    /// check is trimmed, and any other chunk is counted (dlmalloc: `Dlmalloc::free`).
+    /// What a free does further, given the address of the free chunk that the freed one became part of: a top above the
+    /// trim check is trimmed, and any other chunk is counted (dlmalloc: `Dlmalloc::free`).
     fn settle<L: Ledger>(&mut self, chunk: u64, steps: &mut Steps<L>)
         requires sound { IsSound A.regions A.word self.old }
         requires linked { IsBinned A.regions A.word self.old }

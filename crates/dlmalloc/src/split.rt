@@ -42,7 +42,7 @@ impl<A: Allocator> Dlmalloc<A> {
         chunk::set_size_and_pinuse_of_inuse_chunk(&mut self.system, at + n, size - n, steps);
     }
 
-    /// Frees what is behind the first `n` bytes of a chunk in use.
+    /// Frees what is after the first `n` bytes of a chunk in use.
     pub(crate) fn free_tail<L: Ledger>(&mut self, at: u64, size: u64, n: u64, steps: &mut Steps<L>)
         requires sound { IsSound A.regions A.word self.old }
         requires linked { IsBinned A.regions A.word self.old }

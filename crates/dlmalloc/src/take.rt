@@ -45,7 +45,7 @@ impl<A: Allocator> Dlmalloc<A> {
         self.take_binned(at, size, n, steps);
     }
 
-    /// Cuts `n` bytes from the binned chunk that a search for so many names.
+    /// Cuts `n` bytes from the binned chunk that a search for that many names.
     fn take_binned<L: Ledger>(&mut self, at: u64, size: u64, n: u64, steps: &mut Steps<L>)
         requires sound { IsSound A.regions A.word self.old }
         requires linked { IsBinned A.regions A.word self.old }

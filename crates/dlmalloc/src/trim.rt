@@ -17,11 +17,11 @@ use std::sync::ledger::Ledger;
 use step_count::Steps;
 
 impl<A: Allocator> Dlmalloc<A> {
-    /// Gives memory back to the system that no block needs (dlmalloc: `Dlmalloc::trim`). As many granularities are cut off the
-    /// top as leave it more than `pad` bytes beside its foot, if the system takes them, and each other segment goes back that
-    /// is not in use. A segment whose record has 96 bytes stays. True exactly where bytes went back. Where `pad` is too large
-    /// for a request, and where there is no segment, nothing is done. At most 2 words are loaded or stored beside those of the
-    /// release pass, 512 for each segment.
+    /// Gives memory that no block needs back to the system (dlmalloc: `Dlmalloc::trim`). As many granularities are cut
+    /// off the top as leave it more than `pad` bytes besides its foot, if the system takes them, and each other segment
+    /// that is not in use goes back. A segment whose record has 96 bytes stays. True exactly if bytes went back. If
+    /// `pad` is too large for a request, or there is no segment, nothing is done. At most 2 words are loaded or stored
+    /// besides those of the release pass, 512 for each segment.
     pub fn trim<L: Ledger>(&mut self, pad: u64, steps: &mut Steps<L>) -> bool
         requires sound { IsSound A.regions A.word self.old }
         requires linked { IsBinned A.regions A.word self.old }
@@ -41,7 +41,7 @@ impl<A: Allocator> Dlmalloc<A> {
         false
     }
 
-    /// Sees to it that a top above the trim check is not tried again, until it is another, longer or cut.
+    /// Makes sure that a top above the trim check is not tried again until it is another, longer or cut.
     fn give_up(&mut self)
         ensures { self.new ≡ record self.old { trim_check = if nat_lt self.old.trim_check self.old.top_size then 2 ^ 64 - 1 else self.old.trim_check } }
     {
@@ -50,7 +50,7 @@ impl<A: Allocator> Dlmalloc<A> {
         }
     }
 
-    /// Cuts the top as a trim does. True exactly where bytes went back.
+    /// Cuts the top as a trim does. True exactly if bytes went back.
     fn trim_top<L: Ledger>(&mut self, pad: u64, steps: &mut Steps<L>) -> bool
         requires sound { IsSound A.regions A.word self.old }
         requires linked { IsBinned A.regions A.word self.old }
@@ -68,7 +68,7 @@ impl<A: Allocator> Dlmalloc<A> {
         self.may_cut(cut) && self.cut_top(cut, steps)
     }
 
-    /// The whole granularities at the end of the top without which it has more than `pad` bytes beside its foot.
+    /// The whole granularities at the end of the top without which it has more than `pad` bytes besides its foot.
     fn spare(&self, pad: u64) -> u64
         requires sound { IsSound A.regions A.word self.now }
         requires there { 0 < self.now.size }
@@ -87,7 +87,7 @@ impl<A: Allocator> Dlmalloc<A> {
         cut > 0 && self.flags % 2 == 0 && self.system.can_release_part(self.flags >> 1)
     }
 
-    /// Gives the last `cut` bytes of the head segment back, of which the top keeps more than 80. True exactly where the
+    /// Gives the last `cut` bytes of the head segment back, of which the top keeps more than 80. True exactly if the
     /// system takes them; false changes nothing.
     fn cut_top<L: Ledger>(&mut self, cut: u64, steps: &mut Steps<L>) -> bool
         requires sound { IsSound A.regions A.word self.old }

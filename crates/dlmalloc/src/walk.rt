@@ -30,25 +30,25 @@ pub(crate) struct Place {
     pub(crate) size: u64,
 }
 
-/// What stands behind the chunks of a segment.
+/// What stands after the chunks of a segment.
 #[derive(Clone, Copy)]
 pub(crate) enum Tail {
     /// The top and its foot.
     TopAndFoot,
-    /// A record of so many bytes.
+    /// A record of this many bytes.
     OneRecord(u64),
 }
 
-/// A segment, as its chunks and what stands behind them.
+/// A segment, as its chunks and what stands after them.
 #[derive(Clone, Copy)]
 pub(crate) struct Span {
     /// Where its chunks begin.
     pub(crate) from: u64,
     /// Where they end.
     pub(crate) to: u64,
-    /// What stands behind them.
+    /// What stands after them.
     pub(crate) tail: Tail,
-    /// The payload of the next segment's record, 0 where there is none.
+    /// The payload of the next segment's record, 0 if there is none.
     pub(crate) next: u64,
 }
 
@@ -61,7 +61,7 @@ pub(crate) enum Choice {
     Top,
 }
 
-/// What a chunk is that is in use, or is not.
+/// The kind of a chunk that is in use, or is not.
 fn kind_where(inuse: bool) -> Kind
     ensures { result ≡ (if inuse then Used else Free) }
 {
@@ -76,7 +76,7 @@ pub(crate) fn is_free_below_top(kind: Kind) -> bool
 }
 
 impl<A: Allocator> Dlmalloc<A> {
-    /// The chunk that begins at an address, as its head tells it.
+    /// The chunk that begins at an address, as its head describes it.
     pub(crate) fn chunk_at<L: Ledger>(&self, at: u64, steps: &mut Steps<L>) -> Extent
         requires { HasHead (A.regions self.now.system) at }
         ensures { result ≡ chunk_told (A.word self.now.system) at }
@@ -88,7 +88,7 @@ impl<A: Allocator> Dlmalloc<A> {
         }
     }
 
-    /// The segment that a record tells whose payload begins at an address.
+    /// The segment whose record has its payload at an address.
     pub(crate) fn span_at<L: Ledger>(&self, payload: u64, steps: &mut Steps<L>) -> Span
         requires low { 16 < payload }
         requires high { payload + 16 < 2 ^ 64 }
@@ -131,8 +131,8 @@ impl<A: Allocator> Dlmalloc<A> {
         }
     }
 
-    /// Whether a chunk in a bin that is the least for `n` bytes goes before the victim: where the victim is too small;
-    /// else where it fits exactly, and for a large request where it is smaller.
+    /// Whether a chunk in a bin that is the least for `n` bytes goes before the victim: if the victim is too small;
+    /// else if it fits exactly, and for a large request if it is smaller.
     fn goes_first(&self, n: u64, size: u64) -> bool
         ensures { result ≡ goes_first n self.now.victim_size size }
     {

@@ -12,7 +12,7 @@ extent kind at size = record { at = at; size = size; kind = kind }
 one_segment : AreExtents (extent Used 0x400000 32 ∷ extent Used 0x400020 32 ∷ extent Victim 0x400040 944 ∷ extent Used 0x4003f0 32 ∷ extent Top 0x400410 64416 ∷ extent Foot 0x40ffb0 80 ∷ [])
 one_segment = search rules
 
--- a segment that ends with a record, and the head segment right behind it
+-- a segment that ends with a record, and the head segment right after it
 two_segments : AreExtents (extent Used 0x400000 112 ∷ extent Free 0x400070 3904 ∷ extent Record 0x400fb0 80 ∷ extent Used 0x401000 3920 ∷ extent Free 0x401f50 176 ∷ extent Used 0x402000 5008 ∷ extent Top 0x403390 3104 ∷ extent Foot 0x403fb0 80 ∷ [])
 two_segments = search rules
 

@@ -13,7 +13,7 @@ pinuse_of head = head % 2 == 1
 abbrev pub cinuse_of : ℕ → Bool
 cinuse_of head = head / 2 % 2 == 1
 
--- a chunk is free where the chunk before is in use and it is not
+-- a chunk is free if the chunk before is in use and it is not
 abbrev pub free_of : ℕ → Bool
 free_of head = pinuse_of head && not (cinuse_of head)
 

@@ -9,7 +9,7 @@ round_up n unit = (n + (unit - 1)) / unit * unit
 unfoldable pub padded : ℕ → ℕ
 padded n = if nat_lt n 23 then 32 else round_up (n + 8) 16
 
--- what is asked for where an aligned place above 16 has to be found in it (dlmalloc: memalign)
+-- what is asked for if a place at an alignment above 16 has to be found in it (dlmalloc: memalign)
 unfoldable pub enlarged : ℕ → ℕ → ℕ
 enlarged n align = padded n + align + 24
 

@@ -1,4 +1,4 @@
--- The extents of a heap by address: its segments, one behind the other, and the extents that tile each of them.
+-- The extents of a heap by address: its segments, one after the other, and the extents that tile each of them.
 use Rattle.std.specs.Prelude.{◌≡◌, ℕ, ◌+◌, ◌%◌, ◌≤◌, ◌⊎◌, ⊤, Bool, ◌&&◌, ◌==◌, nat_le, nat_lt, List, [], ◌∷◌, find, count_by, Option, IsTrue, IsFalse}
 use Rattle.std.specs.List.{AllByRecursion}
 use Rattle.dlmalloc_chunks.specs.declared.extent.Extent.{Extent}
@@ -16,25 +16,25 @@ IsSize Record size = (size ≡ 80) ⊎ (size ≡ 96)
 IsSize Foot size = size ≡ 80
 
 -- The second is the next extent of a segment: it begins where the first ends, one of the two is in use, and it is the
--- foot where the first is the top, and there alone.
+-- foot exactly if the first is the top.
 pub record IsNext (first second : Extent) : Type 0 where
   pub place : second.at ≡ first.at + first.size
   pub apart : IsFalse (is_free first.kind && is_free second.kind)
   pub foot : is_foot second.kind ≡ is_top first.kind
 
--- behind the last extent of a segment begins another segment, and behind every other the next extent
+-- after the last extent of a segment begins another segment, and after every other extent is the next extent
 abbrev pub IsBehind : Extent → Extent → Type 0
 IsBehind first second =
     (IsTrue (ends_segment first.kind) × IsFalse (is_foot second.kind) × (first.at + first.size ≤ second.at))
     ⊎ (IsFalse (ends_segment first.kind) × IsNext first second)
 
--- each extent stands behind the one before it, and the last ends a segment
+-- each extent is after the one before it, and the last ends a segment
 abbrev pub AreInSegments : List Extent → Type 0
 AreInSegments [] = ⊤
 AreInSegments (extent ∷ []) = IsTrue (ends_segment extent.kind)
 AreInSegments (first ∷ second ∷ extents) = IsBehind first second × AreInSegments (second ∷ extents)
 
--- 1 where there is an extent
+-- 1 if there is an extent
 abbrev pub heads : List Extent → ℕ
 heads [] = 0
 heads (extent ∷ extents) = 1

@@ -35,7 +35,7 @@ pub fn next<M: Links, L: Ledger>(memory: &M, chunk: u64, steps: &mut Steps<L>) -
     chunk + size(memory, chunk, steps)
 }
 
-/// The chunk before it, where that is free: its size stands in the prev_foot.
+/// The chunk before it, if that is free: its size stands in the prev_foot.
 pub fn prev<M: Links, L: Ledger>(memory: &M, chunk: u64, steps: &mut Steps<L>) -> u64
     requires foot { HasFoot (M.regions memory.now) chunk }
     requires fits { M.word memory.now chunk ≤ chunk }
@@ -63,7 +63,7 @@ pub fn pinuse<M: Links, L: Ledger>(memory: &M, chunk: u64, steps: &mut Steps<L>)
     head::pinuse_of(memory.load_counted(chunk + HEAD, steps))
 }
 
-/// Whether the chunk is not free: it is free exactly where bit 0 of its head is set and bit 1 is clear.
+/// Whether the chunk is not free: it is free exactly if bit 0 of its head is set and bit 1 is clear.
 pub fn inuse<M: Links, L: Ledger>(memory: &M, chunk: u64, steps: &mut Steps<L>) -> bool
     requires head { HasHead (M.regions memory.now) chunk }
     ensures value { result ≡ not (free_of (M.word memory.now (chunk + 8))) }

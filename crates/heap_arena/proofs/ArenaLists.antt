@@ -17,7 +17,7 @@ use Rattle.heap_arena.proofs.GrantLemmas.{granted_between}
 use Rattle.heap_arena.specs.ArenaLaws.{after_other}
 use Rattle.heap_arena.specs.ArenasLaws.{inside, order_rest, rest_behind, all_after_refused}
 
--- ---- grants, and others behind them
+-- ---- grants, and others after them
 
 pub granted_append : (xs ys : List Grant) (at : ℕ) → is_granted (xs ++ ys) at ≡ (is_granted xs at || is_granted ys at)
 granted_append [] ys at = refl
@@ -33,7 +33,7 @@ with_front mid high grant (x ∷ xs) ys before rest = go (nat_lt grant.base x.ba
     go true same = refl
     go false same = ap (λ (gs : List Grant). x ∷ gs) same
 
--- a grant behind others
+-- a grant after others
 pub with_behind : (low mid : ℕ) (grant : Grant) (xs ys : List Grant) → mid ≤ grant.base → IsTrue (are_between low mid xs) → with_grant grant (xs ++ ys) ≡ xs ++ with_grant grant ys
 with_behind low mid grant [] ys behind front = refl
 with_behind low mid grant (x ∷ xs) ys behind front =
@@ -64,7 +64,7 @@ module _ (arena : Arena) (arenas : List Arena) (order : IsTrue (are_in_order (ar
     aligned = is.aligned;
   }
 
--- the order is told by where arenas begin, and how many words they have
+-- the order depends on where arenas begin, and how many words they have
 pub order_same : (olds news : List Arena) → AllZip (λ x y. IsSameArena x y) olds news → IsTrue (are_in_order olds) → IsTrue (are_in_order news)
 order_same [] [] same order = refl
 order_same [] (new ∷ news) same order = elim same [ ]
@@ -113,7 +113,7 @@ pub rest_less : (arenas : List Arena) → 0 < length arenas → length (rest_of 
 rest_less [] some = absurd (omega (arith, some))
 rest_less (arena ∷ arenas) some = rw (rest_is arena arenas) (omega arith)
 
--- the others, put back behind the first
+-- the others, put back after the first
 pub put_rest : (x : Arena) (xs ys : List Arena) → put_mid 1 (length (x ∷ xs) - 1) (x ∷ xs) ys ≡ x ∷ ys
 put_rest x xs ys = ap (λ (zs : List Arena). x ∷ (ys ++ zs)) (drop_of_length-le xs (omega arith)) ∙ ap (λ (zs : List Arena). x ∷ zs) (append-nil ys)
 
@@ -171,7 +171,7 @@ stored_rest (arena ∷ arenas) d news at value some order past given =
 
 -- ---- a grant
 
--- where it is, of arenas that begin behind an address
+-- where it is, of arenas that begin after an address
 pub placed_behind : (end size base : ℕ) (arenas : List Arena) → IsTrue (list_all (λ (later : Arena). nat_le end later.base) arenas) → place_for arenas size ≡ Some base → end ≤ base
 placed_behind end size base [] are is = absurd (cc)
 placed_behind end size base (arena ∷ arenas) are is = go (has_room arena size) is (placed_behind end size base arenas (grind (arith, nat_tests)))
@@ -274,7 +274,7 @@ all_insert test new zero arenas are is = grind (arith, are, is)
 all_insert test new (suc place) [] are is = grind (arith, is)
 all_insert test new (suc place) (arena ∷ arenas) are is = grind (arith, all_insert test new place arenas, are, is)
 
--- behind the first of others
+-- after the first of others
 pub order_insert : (new : Arena) (d : Arena) (place : ℕ) (arenas : List Arena) → 0 < length arenas → IsTrue (are_in_order arenas) → end_of (slice_index_or arenas 0 d) ≤ new.base → IsTrue (are_in_order (insert (rest_of arenas) place new)) →
     IsTrue (are_in_order (insert arenas (place + 1) new))
 order_insert new d place [] some order past rest = absurd (omega (arith, some))
@@ -294,7 +294,7 @@ order_first new d (arena ∷ arenas) order before = let all = later_all arenas (
     later_all [] are = refl
     later_all (x ∷ xs) are = grind (arith, nat_tests, later_all xs, are, before)
 
--- those behind an arena do not overlap it
+-- those after an arena do not overlap it
 pub none_behind : (new : Arena) (arenas : List Arena) → IsTrue (are_in_order (new ∷ arenas)) → list_any (λ (other : Arena). overlaps new other) arenas ≡ false
 none_behind new [] order = refl
 none_behind new (arena ∷ arenas) order = grind (arith, nat_tests, none_behind new arenas, order)

@@ -18,7 +18,7 @@ grants_same old new (suc count) same =
     ap (λ (rs : List Grant). rs ++ grant_at new count ∷ []) (grants_same old new count (λ k less. same k (omega arith)))
     ∙ ap (λ (g : Grant). grants old count ++ g ∷ []) (same count (omega arith))
 
--- a further one stands behind them
+-- a further one stands after them
 grants_suc : (words : List ℕ) (count : ℕ) → grants words (suc count) ≡ grants words count ++ grant_at words count ∷ []
 unfolding grants
 grants_suc words count = refl
@@ -72,7 +72,7 @@ pub granted_between : (low high : ℕ) (regions : List Grant) (at : ℕ) → IsT
 granted_between low high [] at between granted = cc
 granted_between low high (region ∷ regions) at between granted = grind (arith, nat_tests, granted_between low high regions at)
 
--- a grant behind all others is the last
+-- a grant after all others is the last
 pub with_last : (low top : ℕ) (grant : Grant) (regions : List Grant) → top ≤ grant.base → IsTrue (are_between low top regions) → with_grant grant regions ≡ regions ++ grant ∷ []
 with_last low top grant [] behind between = refl
 with_last low top grant (region ∷ regions) behind between = grind (arith, nat_tests, with_last low top grant regions)
@@ -113,7 +113,7 @@ top_of_run base top low high within some ends = grind (arith, nat_tests)
 pub run_below : (base top low high : ℕ) (regions : List Grant) → IsTrue (are_between base top regions) → IsRun regions low high → high ≤ top
 run_below base top low high regions between run = let last = (granted_between base top regions (high - 1) between (run.granted (high - 1) (let some = run.some in omega (arith, some)) (let some = run.some in omega (arith, some)))).1 in omega (arith, last)
 
--- there is a grant where there are some
+-- there is a grant if there are some
 pub grants_some : (words : List ℕ) (count : ℕ) → 0 < count → grants words count ≢ []
 grants_some words zero some = absurd (omega (arith, some))
 grants_some words (suc count) some = λ none. no (grants words count) (grant_at words count) (sym (grants_suc words count) ∙ none)

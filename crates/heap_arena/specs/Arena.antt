@@ -19,11 +19,11 @@ regions_of arena = grants arena.table.words.now arena.table.count
 abbrev pub word_of : Arena → ℕ → ℕ
 word_of arena at = slice_index arena.words.now ((at - arena.base) / 8)
 
--- the address behind its last word
+-- the address after its last word
 abbrev pub end_of : Arena → ℕ
 end_of arena = arena.base + 8 * length arena.words.now
 
--- whether so many bytes are left behind all grants, and a place in the table
+-- whether a number of bytes are left after all grants, and a place in the table
 abbrev pub has_room : Arena → ℕ → Bool
 has_room arena size = nat_le (arena.top + size) (end_of arena) && nat_lt (2 * arena.table.count + 1) (length arena.table.words.now)
 
@@ -33,8 +33,8 @@ pub record IsSameArena (old new : Arena) : Type 0 where
   pub len : length new.words.now ≡ length old.words.now
   pub table : length new.table.words.now ≡ length old.table.words.now
 
--- The top after the bytes from an address on and below another one, the end of a run, came back: where they reach it, it is
--- where they begin, or at the first word.
+-- The top after the bytes from an address on and below another one, the end of a run, were given back: if they reach
+-- it, it is where they begin, or at the first word.
 abbrev pub top_without : (base low high top : ℕ) → ℕ
 top_without base low high top = if nat_lt low top && nat_le top high then max low base else top
 
@@ -61,9 +61,9 @@ AreAtTop base end top (Granted size grant ∷ events) =
 AreAtTop base end top (Refused size fault ∷ events) = AreAtTop base end top events
 AreAtTop base end top (Released at old_size new_size ∷ events) = AreAtTop base end (top_without base (at + new_size) (at + old_size) top) events
 
--- What an arena says of two moments between which these events came. Grants were put at its top. Its top and its peak are where
--- they left them, so all that came back at the end can be granted again. The words behind the peak were never touched: they are
--- as they were.
+-- What an arena says of two moments between which these events happened. Grants were put at its top. Its top and its
+-- peak are where they left them, so all that was given back at the end can be granted again. The words after the peak
+-- were never touched: they are as they were.
 pub record IsArenaAfter (old : Arena) (events : List Event) (new : Arena) : Type 0 where
   pub same : IsSameArena old new
   pub placed : AreAtTop old.base (end_of old) old.top events
@@ -71,7 +71,7 @@ pub record IsArenaAfter (old : Arena) (events : List Event) (new : Arena) : Type
   pub peak : new.peak ≡ peak_after old.base (end_of old) old.peak events
   pub untouched : (i : ℕ) → new.peak ≤ new.base + 8 * i → slice_index new.words.now i ≡ slice_index old.words.now i
 
--- The bytes from an address on and below another one, the end of a run, came back.
+-- The bytes from an address on and below another one, the end of a run, were given back.
 pub record IsTakenBack (low high : ℕ) (old new : Arena) : Type 0 where
   pub regions : regions_of new ≡ without_run low high (regions_of old)
   pub words : new.words.now ≡ old.words.now
@@ -80,14 +80,14 @@ pub record IsTakenBack (low high : ℕ) (old new : Arena) : Type 0 where
   pub top : new.top ≡ top_without old.base low high old.top
   pub peak : new.peak ≡ old.peak
 
--- its words are as they were, granted or not, but for so many from an address on
+-- its words are as they were, granted or not, but for `count` of them from an address on
 abbrev pub KeepsOthers : (at count : ℕ) → Arena → Arena → Type 0
 KeepsOthers at count old new = (i : ℕ) → IsBeside at count (old.base + 8 * i) → slice_index new.words.now i ≡ slice_index old.words.now i
 
 pub same_fixed : (x y : Arena) → IsFixed (λ arena. false) (λ arena. true) (λ arena. true) (λ arena. 1) x y
 same_fixed x y = record { zeros_same = refl; frees_same = refl; parts_same = refl; unit_same = refl }
 
--- no granted byte is behind an address
+-- no byte from an address on is granted
 abbrev pub IsAbove : Arena → ℕ → Type 0
 IsAbove arena end = (at : ℕ) → IsTrue (is_granted (regions_of arena) at) → at < end
 
@@ -95,6 +95,6 @@ IsAbove arena end = (at : ℕ) → IsTrue (is_granted (regions_of arena) at) →
 abbrev pub AreInside : Arena → Type 0
 AreInside arena = (at : ℕ) → IsTrue (is_granted (regions_of arena) at) → (arena.base ≤ at) × (at < end_of arena)
 
--- a request is denied where the words behind all grants are too few for it, and where the table has no place for another grant
+-- a request is denied if the words after all grants are too few for it, or the table has no place for another grant
 abbrev pub IsDenied : Arena → ℕ → GrantFault → Type 0
 IsDenied arena size fault = (fault ≡ NoSpace) × (has_room arena size ≡ false)

@@ -48,7 +48,7 @@ after_none arena = record { same = same_none arena; placed = tt; top = refl; pea
 pub after_refused : (size : ℕ) (fault : GrantFault) (arena : Arena) → IsArenaAfter arena (Refused size fault ∷ []) arena
 after_refused size fault arena = record { same = same_none arena; placed = tt; top = refl; peak = refl; untouched = λ i behind. refl }
 
--- so it is where another one was granted something
+-- the same if another one was granted something
 pub after_other : (size : ℕ) (grant : Grant) (arena : Arena) → begins_in arena.base (end_of arena) grant ≡ false → IsArenaAfter arena (Granted size grant ∷ []) arena
 after_other size grant arena apart = record {
   same = same_none arena;

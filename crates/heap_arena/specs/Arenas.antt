@@ -21,17 +21,17 @@ abbrev pub regions_of_all : List Arena → List Grant
 regions_of_all [] = []
 regions_of_all (arena ∷ arenas) = regions_of arena ++ regions_of_all arenas
 
--- the word at an address: that of the first arena that ends behind it
+-- the word at an address: that of the first arena that ends after it
 abbrev pub word_among : List Arena → ℕ → ℕ
 word_among [] at = 0
 word_among (arena ∷ arenas) at = if nat_lt at (end_of arena) then word_of arena at else word_among arenas at
 
--- where so many bytes are granted: behind the grants of the first arena that has room for them
+-- where a number of bytes are granted: after the grants of the first arena that has room for them
 abbrev pub place_for : List Arena → ℕ → Option ℕ
 place_for [] size = None
 place_for (arena ∷ arenas) size = if has_room arena size then Some arena.top else place_for arenas size
 
--- what arenas say of two moments between which these events came: each says it of itself
+-- what arenas say of two moments between which these events happened: each says it of itself
 abbrev pub AreAfter : List Arena → List Event → List Arena → Type 0
 AreAfter old events new = AllZip (λ x y. IsArenaAfter x events y) old new
 
@@ -39,15 +39,16 @@ AreAfter old events new = AllZip (λ x y. IsArenaAfter x events y) old new
 abbrev pub AreUnwritten : List Arena → List Arena → Type 0
 AreUnwritten old new = AllZip (λ x y. y.words.now ≡ x.words.now) old new
 
--- One arena granted so many bytes from an address on, and all others are as they were.
+-- One arena granted a number of bytes from an address on, and all others are as they were.
 abbrev pub IsGrantedByOne : ℕ → ℕ → List Arena → List Arena → Type 0
 IsGrantedByOne address size old new = AllZip (λ x y. (y ≡ x) ⊎ ((x.top ≡ address) × (y.top ≡ address + size) × (y.peak ≡ max x.peak (address + size)))) old new
 
--- So many words from an address on were written, and no other, granted or not; nothing was granted, and nothing came back.
+-- `count` words from an address on were written, and no other, granted or not; nothing was granted, and nothing was
+-- given back.
 abbrev pub IsOnlyWritten : (at count : ℕ) → List Arena → List Arena → Type 0
 IsOnlyWritten at count old new = AllZip (λ x y. KeepsOthers at count x y × (y.top ≡ x.top) × (y.peak ≡ x.peak)) old new
 
--- a request is denied where no arena has room for it
+-- a request is denied if no arena has room for it
 abbrev pub IsDeniedByAll : List Arena → ℕ → GrantFault → Type 0
 IsDeniedByAll arenas size fault = (fault ≡ NoSpace) × (place_for arenas size ≡ None)
 
@@ -63,7 +64,8 @@ pub record IsAdded (old : List Arena) (arena : Arena) (new : List Arena) : Type 
 abbrev pub overlaps : Arena → Arena → Bool
 overlaps arena other = nat_lt other.base (end_of arena) && nat_lt arena.base (end_of other)
 
--- Why another arena is not taken among at most so many: it has grants; else it overlaps one of them; else there are so many.
+-- Why another arena is not taken among at most a given number: it has grants; else it overlaps one of them; else there
+-- are already that many.
 abbrev pub IsNotAdded : List Arena → ℕ → Arena → AddFault → Type 0
 IsNotAdded arenas most arena InUse = regions_of arena ≢ []
 IsNotAdded arenas most arena Overlaps = (regions_of arena ≡ []) × IsTrue (list_any (λ other. overlaps arena other) arenas)

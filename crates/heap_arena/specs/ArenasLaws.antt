@@ -13,7 +13,7 @@ use Rattle.heap_arena.specs.Arenas.{are_in_order, regions_of_all, AreAfter}
 use Rattle.heap_arena.specs.declared.arena.Arena.{Arena}
 use Rattle.heap_arena.specs.ArenaLaws.{after_none, after_refused, after_on}
 
--- ---- grants, and others behind them
+-- ---- grants, and others after them
 
 pub whole_append : (xs ys : List Grant) → IsTrue (are_whole xs) → IsTrue (are_whole ys) → IsTrue (are_whole (xs ++ ys))
 whole_append [] ys front rest = rest
@@ -46,7 +46,7 @@ ordered_append low mid high (x ∷ xs) ys front rest first second =
 pub inside : (arena : Arena) → IsTrue (are_between arena.base (end_of arena) (regions_of arena))
 inside arena = let risen = arena.risen in let ends = arena.ends in between_wider arena.base arena.top arena.base (end_of arena) (regions_of arena) (omega arith) (omega (arith, risen, ends)) arena.between
 
--- the grants of arenas that begin behind an address
+-- the grants of arenas that begin after an address
 pub behind : (end : ℕ) (arenas : List Arena) → IsTrue (list_all (λ (later : Arena). nat_le end later.base) arenas) → IsTrue (are_between end (2 ^ 64) (regions_of_all arenas))
 behind end [] are = refl
 behind end (arena ∷ arenas) are =

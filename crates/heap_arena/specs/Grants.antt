@@ -3,11 +3,11 @@ use Rattle.std.specs.Prelude.{ℕ, zero, suc, ◌+◌, ◌*◌, Bool, ◌&&◌, 
 use Rattle.std.specs.List.{list_all}
 use Rattle.heap_memory.specs.declared.grant.Grant.{Grant}
 
--- the grant at a place of a table: its base, and behind it its size
+-- the grant at a place of a table: its base, and after it its size
 abbrev pub grant_at : List ℕ → ℕ → Grant
 grant_at words place = record { base = slice_index words (2 * place); size = slice_index words (2 * place + 1); flags = 0 }
 
--- the first so many of them
+-- the first of them, a given number
 unfoldable pub grants : List ℕ → ℕ → List Grant
 grants words zero = []
 grants words (suc count) = grants words count ++ grant_at words count ∷ []

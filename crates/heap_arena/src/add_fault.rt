@@ -9,7 +9,7 @@ pub enum AddFault {
     /// It has words at addresses of another one.
     #[error("the arena overlaps another one")]
     Overlaps,
-    /// There are as many arenas as have a place.
+    /// There are already as many arenas as have a place.
     #[error("no place for a further arena")]
     NoPlace,
 }

@@ -48,7 +48,7 @@ pub(crate) fn store_among<'a>(arenas: &mut [Arena<'a>], at: u64, value: u64)
     }
 }
 
-/// Grants so many bytes, by the first arena that has room for them.
+/// Grants `size` bytes, by the first arena that has room for them.
 pub(crate) fn alloc_among<'a>(arenas: &mut [Arena<'a>], size: u64) -> Result<Grant, GrantFault>
     requires some { 0 < size }
     requires whole { size % 16 ≡ 0 }
@@ -85,7 +85,7 @@ pub(crate) fn take_back_among<'a>(arenas: &mut [Arena<'a>], low: u64, high: u64)
     }
 }
 
-/// The place among them of a further arena; None where it overlaps one of them.
+/// The place among them of a further arena; None if it overlaps one of them.
 pub(crate) fn gap_among<'a>(arenas: &[Arena<'a>], arena: &Arena<'a>) -> Option<usize>
     requires { IsTrue (are_in_order arenas.now) }
     ensures within { IfSome result (λ place. place ≤ length arenas.now) }

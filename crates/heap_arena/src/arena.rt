@@ -11,15 +11,15 @@ use step_count::Steps;
 
 /// Words that the caller gives, at addresses from `base` on.
 ///
-/// Each request is granted as many bytes as it asks for, behind all grants. Each grant is noted in a table, in two words
-/// that the caller gives too. Where the words end before a grant would, and where the table is full, it is denied as
-/// `NoSpace`. All that is given back is taken; what ends where the last grant does is granted anew.
+/// Each request is granted as many bytes as it asks for, after all grants. Each grant is noted in a table, in two words
+/// that the caller gives too. If the words end before a grant would, or the table is full, it is denied as `NoSpace`.
+/// All that is given back is taken; what ends where the last grant does is granted anew.
 #[derive(Drop)]
 pub struct Arena<'a> {
     pub(crate) words: &'a mut [u64],
     pub(crate) table: Table<'a>,
     pub(crate) base: u64,
-    /// The address behind the last grant, where the next one begins.
+    /// The address after the last grant, where the next one begins.
     pub(crate) top: u64,
     /// The highest address that the top ever was: the words from there on were never touched.
     pub(crate) peak: u64,
@@ -61,7 +61,7 @@ impl<'a> Arena<'a> {
         }
     }
 
-    /// How many words from the front are in use: each granted byte is in them, and the next grant begins behind them.
+    /// How many words from the front are in use: each granted byte is in them, and the next grant begins after them.
     #[tactic(auto, using(crate::proofs::GrantLemmas::granted_between))]
     pub fn used(&self) -> usize
         ensures top { self.now.base + 8 * result ≡ self.now.top }
@@ -70,7 +70,7 @@ impl<'a> Arena<'a> {
         ((self.top - self.base) / 8) as usize
     }
 
-    /// How many words from the front were ever in use: those behind them are as they were when the arena began.
+    /// How many words from the front were ever in use: those after them are as they were when the arena began.
     pub fn touched(&self) -> usize
         ensures { self.now.base + 8 * result ≡ self.now.peak }
     {
@@ -91,14 +91,14 @@ impl<'a> Arena<'a> {
         ensures aligned { self.now.base % 16 ≡ 0 }
     {}
 
-    /// The address behind the last word.
+    /// The address after the last word.
     pub fn end(&self) -> u64
         ensures { result ≡ end_of self.now }
     {
         self.base + 8 * self.words.len() as u64
     }
 
-    /// The bytes behind all grants.
+    /// The bytes after all grants.
     pub(crate) fn rest(&self) -> u64
         ensures { self.now.top + result ≡ end_of self.now }
     {
@@ -113,7 +113,7 @@ impl<'a> Arena<'a> {
         self.table.count > 0
     }
 
-    /// Whether a request for so many bytes is granted.
+    /// Whether a request for `size` bytes is granted.
     pub(crate) fn has_room(&self, size: u64) -> bool
         ensures { result ≡ has_room self.now size }
     {
@@ -121,7 +121,7 @@ impl<'a> Arena<'a> {
     }
 
     /// Takes the bytes from `low` on and below `high`, the end of a run, back: those that are its own. They are granted
-    /// anew where they reach the top.
+    /// anew if they reach the top.
     pub(crate) fn take_back(&mut self, low: u64, high: u64)
         requires { low % 16 ≡ 0 }
         ensures { IsTakenBack low high self.old self.new }

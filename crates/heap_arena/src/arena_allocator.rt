@@ -30,7 +30,7 @@ impl<'a> Allocator for Arena<'a> {
 
     ghost fixed = { λ x y events follows. same_fixed x y };
 
-    /// The bytes behind all grants, as many as are asked for. A denial changes nothing.
+    /// The bytes after all grants, as many as are asked for. A denial changes nothing.
     #[tactic(auto, using(crate::proofs::GrantLemmas::with_last, crate::proofs::GrantLemmas::apart_between))]
     fn alloc(&mut self, size: u64) -> Result<Grant, GrantFault>
         requires some { 0 < size }
@@ -65,7 +65,8 @@ impl<'a> Allocator for Arena<'a> {
         Ok(grant)
     }
 
-    /// Takes the end of a run back, whatever its size. Where the run ends at the top, the top is the end of what stays.
+    /// Takes the end of a run back, whatever its size. If the run ends at the top, the top is then the end of what
+    /// stays.
     fn free_part(&mut self, at: u64, old_size: u64, new_size: u64) -> bool
         requires run { IsRun (regions_of self.old) at (at + old_size) }
         requires some { 0 < new_size }
@@ -84,7 +85,7 @@ impl<'a> Allocator for Arena<'a> {
         true
     }
 
-    /// Takes a run back. Where it ends at the top, the top is where it began.
+    /// Takes a run back. If it ends at the top, the top is then where it began.
     fn free(&mut self, at: u64, size: u64) -> bool
         requires { IsRun (regions_of self.old) at (at + size) }
         ensures answer { result ≡ true }
@@ -108,7 +109,7 @@ impl<'a> Allocator for Arena<'a> {
         false
     }
 
-    /// No page is of a size of its own: what is granted is told by what is asked.
+    /// No page has a size of its own: what is asked for determines what is granted.
     fn page_size(&self) -> u64
         ensures page { result ≡ 4096 }
         ensures power { IsTrue (is_power_of_two result) }

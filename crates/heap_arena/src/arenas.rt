@@ -9,7 +9,7 @@ use arrayvec::ArrayVec;
 /// At most `N` arenas, by ascending address, as one system.
 ///
 /// A request is granted by the first of them that has room for it. Memory that is found later is a further arena
-/// (`add`). Where one arena ends at the address at which another one begins, a block may have bytes of both.
+/// (`add`). If one arena ends at the address at which another one begins, a block may have bytes of both.
 #[derive(Drop)]
 pub struct Arenas<'a, const N: usize> {
     pub(crate) arenas: ArrayVec<Arena<'a>, N>,
@@ -36,8 +36,8 @@ impl<'a, const N: usize> Arenas<'a, N> {
         self.arenas.len()
     }
 
-    /// The arena at a place, counted from 0 by ascending address: it tells of its own words. None where there are no more
-    /// arenas than that.
+    /// The arena at a place, counted from 0 by ascending address: it says how its own words are used. None if there are
+    /// no more arenas than that.
     pub fn get(&self, place: usize) -> Option<&Arena<'a>>
         ensures some { IfSome result (λ arena. slice_get self.now.arenas.items place ≡ Some arena.now) }
         ensures none { IfNone result (length self.now.arenas.items ≤ place) }

@@ -33,7 +33,7 @@ impl<'a, const N: usize> Allocator for Arenas<'a, N> {
 
     ghost fixed = { λ x y events follows. record { zeros_same = refl; frees_same = refl; parts_same = refl; unit_same = refl } };
 
-    /// As many bytes as are asked for, behind the grants of the first arena that has room for them. A denial changes
+    /// As many bytes as are asked for, after the grants of the first arena that has room for them. A denial changes
     /// nothing.
     fn alloc(&mut self, size: u64) -> Result<Grant, GrantFault>
         requires some { 0 < size }
@@ -94,7 +94,7 @@ impl<'a, const N: usize> Allocator for Arenas<'a, N> {
         false
     }
 
-    /// No page is of a size of its own: what is granted is told by what is asked.
+    /// No page has a size of its own: what is asked for determines what is granted.
     fn page_size(&self) -> u64
         ensures page { result ≡ 4096 }
         ensures power { IsTrue (is_power_of_two result) }

@@ -1,4 +1,4 @@
-//! A system over words that the caller gives: grants come from their front, and the memory behind them is not touched.
+//! A system over words that the caller gives: grants come from their front, and the memory after them is not touched.
 #![tactic(auto)]
 
 mod add_fault;

@@ -4,7 +4,7 @@ ghost use Rattle.heap_memory.specs.Runs.{begins_in, up_to};
 
 use heap_memory::Grant;
 
-/// Grants in the order in which they came. Each takes two words: its base, and its size.
+/// Grants in the order in which they were made. Each takes two words: its base, and its size.
 #[derive(Drop)]
 pub(crate) struct Table<'a> {
     pub(crate) words: &'a mut [u64],
@@ -58,7 +58,7 @@ impl<'a> Table<'a> {
         self.words[2 * place + 1] = grant.size;
     }
 
-    /// Puts a grant behind the others.
+    /// Puts a grant after the others.
     pub fn push(&mut self, grant: Grant)
         requires room { 2 * self.old.count + 1 < length self.old.words.now }
         requires flags { grant.flags ≡ 0 }

@@ -2,7 +2,7 @@ use super::*;
 use heap_memory::{Allocator, Grant, GrantFault};
 use std::test::Fail;
 
-/// The answer to a request, where it is granted.
+/// The answer to a request, if it is granted.
 fn granted(base: u64, size: u64) -> Result<Grant, GrantFault> {
     Ok(Grant {
         base,
@@ -40,7 +40,7 @@ fn words_behind_the_peak_were_never_touched(rt: HostRuntime) -> Result<(), Fail>
     assert_eq!(rt; arena.touched(), 0);
     assert!(rt; arena.alloc(256).is_ok());
     assert_eq!(rt; arena.touched(), 32);
-    // What came back was touched still.
+    // What was given back was still touched.
     assert!(rt; arena.free(0x10000, 256));
     assert_eq!(rt; (arena.used(), arena.touched()), (0, 32));
     assert!(rt; arena.alloc(128).is_ok());
@@ -86,7 +86,8 @@ fn several_arenas_are_one_system(rt: HostRuntime) -> Result<(), Fail> {
     for (rule, size, answer) in rows {
         assert_eq!(rt; arenas.alloc(size), answer, "{rule}");
     }
-    // Another arena is not taken: over the words of one, in use, or where there are two.
+    // Another arena is not taken if it is over the words of one, if it is in use, or if there are
+    // two.
     let overlapping = Arena::new(&mut over, &mut [], 0x10180);
     assert_eq!(rt; reason(&arenas.add(overlapping)), Some(AddFault::Overlaps));
     let mut in_use = Arena::new(&mut taken, &mut taken_table, 0x20000);

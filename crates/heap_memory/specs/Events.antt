@@ -1,4 +1,4 @@
--- What a system does beside loads and stores.
+-- What a system does besides loads and stores.
 use Rattle.std.specs.Prelude.{ℕ}
 use Rattle.heap_memory.specs.declared.grant.Grant.{Grant}
 use Rattle.heap_memory.specs.declared.grant.GrantFault.{GrantFault}
@@ -8,5 +8,5 @@ pub data Event : Type 0 where
   Granted : ℕ → Grant → Event
   -- a request of this size was refused with a fault
   Refused : ℕ → GrantFault → Event
-  -- of a run of bytes from a place on, of the old size, those behind the new size were given back
+  -- of a run of bytes of the old size from a place on, those after the new size were given back
   Released : ℕ → ℕ → ℕ → Event

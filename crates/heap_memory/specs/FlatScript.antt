@@ -29,11 +29,12 @@ is_in_bounds grant =
 abbrev pub has_place : List FlatStep → Grant → Bool
 has_place before grant = is_in_bounds grant && not (list_any (λ step. overlaps grant step) before)
 
--- whether a Give is granted for so many bytes, after these steps, whatever its flags
+-- whether a Give is granted to a request for a number of bytes, after these steps, whatever its flags
 abbrev pub is_given : List FlatStep → ℕ → Grant → Bool
 is_given before asked grant = nat_le asked grant.size && has_place before grant
 
--- what the next of the steps that are left answers to a request for so many bytes: past the end it is no space
+-- what the next of the steps that are left answers to a request for a number of bytes: past the end, that there is no
+-- space
 abbrev pub next_answer : List FlatStep → List FlatStep → ℕ → Result Grant GrantFault
 next_answer before [] asked = Err NoSpace
 next_answer before (Refuse fault ∷ left) asked = Err fault

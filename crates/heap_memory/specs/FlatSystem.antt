@@ -44,7 +44,7 @@ same_fixed x y same = record {
   unit_same = ap (λ (b : Bool). if b then 1 else 0) same.frees;
 }
 
--- what stays where a request was refused: all but the place in the script
+-- what stays if a request was refused: all but the place in the script
 pub record IsStepRefused (old new : FlatSystem) : Type 0 where
   pub regions : regions_of new ≡ regions_of old
   pub words : (at : ℕ) → word_of new at ≡ word_of old at
@@ -53,7 +53,7 @@ pub record IsStepRefused (old new : FlatSystem) : Type 0 where
 pub refused_none : (system : FlatSystem) → IsStepRefused system system
 refused_none system = record { regions = refl; words = λ at. refl; kind = same_none system }
 
--- a request for so many bytes is denied with the fault that the next step answers
+-- a request for a number of bytes is denied with the fault that the next step answers
 abbrev pub DeniesNext : FlatSystem → ℕ → GrantFault → Type 0
 DeniesNext system asked fault = next_answer (taken_of system.script) (left_of system.script) asked ≡ Err fault
 

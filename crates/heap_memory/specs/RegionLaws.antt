@@ -6,7 +6,7 @@ use Rattle.std.proofs.lemmas.Bool.Decides.{nat_tests}
 use Rattle.heap_memory.specs.declared.grant.Grant.{Grant}
 use Rattle.heap_memory.specs.Regions.{is_granted, IsApart, with_grant, are_ordered, IsWhole, is_whole, are_whole}
 
--- a byte is granted with a further grant where it is in the grant, or was granted
+-- a byte is granted with a further grant exactly if it is in the grant, or was granted
 pub granted_with : (grant : Grant) (regions : List Grant) (at : ℕ) →
     is_granted (with_grant grant regions) at ≡ (is_granted (grant ∷ []) at || is_granted regions at)
 granted_with grant [] at = grind (arith, nat_tests)
@@ -36,7 +36,7 @@ both_true false b h = absurd (cc)
 both : {a b : Bool} → IsTrue a → IsTrue b → IsTrue (a && b)
 both {a} {b} h k = subst (λ (c : Bool). IsTrue (c && b)) (sym h) k
 
--- what a test says of all regions it says of them with a further one of which it says so
+-- a test that all regions and a further one pass is passed by all of the regions with that one
 tests_with : (test : Grant → Bool) (grant : Grant) (regions : List Grant) → IsTrue (test grant) → IsTrue (list_all test regions) → IsTrue (list_all test (with_grant grant regions))
 tests_with test grant [] here all = both here refl
 tests_with test grant (region ∷ regions) here all =
@@ -47,7 +47,7 @@ tests_with test grant (region ∷ regions) here all =
     go true first others rest = both here (both first others)
     go false first others rest = both first rest
 
--- what begins behind one address begins behind each one before it
+-- regions that begin at an address or after it also begin at each lower one or after it
 begins_later : (low high : ℕ) (regions : List Grant) → low ≤ high → IsTrue (list_all (λ later. nat_le high later.base) regions) → IsTrue (list_all (λ later. nat_le low later.base) regions)
 begins_later low high [] below all = refl
 begins_later low high (region ∷ regions) below all =

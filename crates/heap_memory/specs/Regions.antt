@@ -7,7 +7,7 @@ use Rattle.heap_memory.specs.declared.grant.Grant.{Grant}
 abbrev pub is_granted : List Grant → ℕ → Bool
 is_granted regions at = list_any (λ region. nat_le region.base at && nat_lt at (region.base + region.size)) regions
 
--- a word stands at the address: bases and sizes are multiples of 8, so that a word is granted with its first byte
+-- a word stands at the address: bases and sizes are multiples of 8, so a word is granted with its first byte
 pub record IsWordOf (regions : List Grant) (at : ℕ) : Type 0 where
   pub granted : IsTrue (is_granted regions at)
   pub aligned : at % 8 ≡ 0
@@ -22,7 +22,7 @@ with_grant grant (region ∷ regions) =
 abbrev pub IsApart : ℕ → ℕ → Grant → Type 0
 IsApart low high region = (region.base + region.size ≤ low) ⊎ (high ≤ region.base)
 
--- what every grant for so many bytes is
+-- what every grant for a request of `asked` bytes is
 pub record IsGoodGrant (asked : ℕ) (grant : Grant) : Type 0 where
   pub long : asked ≤ grant.size
   pub base_aligned : grant.base % 16 ≡ 0
@@ -30,7 +30,7 @@ pub record IsGoodGrant (asked : ℕ) (grant : Grant) : Type 0 where
   pub low : 4096 ≤ grant.base
   pub high : grant.base + grant.size < 2 ^ 64
 
--- A region is made of units of 16 bytes, of which it has some, from 4096 on and below 2 ^ 64.
+-- A region is made of units of 16 bytes, at least one, from 4096 on and below 2 ^ 64.
 pub record IsWhole (region : Grant) : Type 0 where
   pub base_aligned : region.base % 16 ≡ 0
   pub size_aligned : region.size % 16 ≡ 0

@@ -28,6 +28,6 @@ up_to place region =
 abbrev pub without_run : ℕ → ℕ → List Grant → List Grant
 without_run low high regions = map (λ region. up_to low region) (filter (λ region. not (begins_in low high region)) regions)
 
--- whether a size is made of units of so many bytes; of units of 0 bytes nothing is
+-- whether a size is made of units of a number of bytes; nothing is made of units of 0 bytes
 abbrev pub is_in_units : ℕ → ℕ → Bool
 is_in_units unit size = nat_lt 0 unit && size % unit == 0

@@ -13,22 +13,22 @@ pub record IsStored (regions : List Grant) (old : ℕ → ℕ) (at value : ℕ) 
   pub here : new at ≡ value
   pub elsewhere : (other : ℕ) → IsWordOf regions other → other ≢ at → new other ≡ old other
 
--- so many words stand from an address on
+-- `count` words stand from an address on
 pub record AreWordsOf (regions : List Grant) (at count : ℕ) : Type 0 where
   pub granted : (k : ℕ) → at ≤ k → k < at + 8 * count → IsTrue (is_granted regions k)
   pub aligned : at % 8 ≡ 0
   pub small : at + 8 * count ≤ 2 ^ 64
 
--- an address is at none of so many words
+-- an address is at none of a number of words from another on
 abbrev pub IsBeside : ℕ → ℕ → ℕ → Type 0
 IsBeside at count other = (other < at) ⊎ (at + 8 * count ≤ other)
 
--- the granted words are as they were, but for so many from a place on, which have this value
+-- the granted words are as they were, but for `count` of them from a place on, which have this value
 pub record AreFilled (regions : List Grant) (old : ℕ → ℕ) (at count value : ℕ) (new : ℕ → ℕ) : Type 0 where
   pub here : (k : ℕ) → at ≤ k → k < at + 8 * count → k % 8 ≡ 0 → new k ≡ value
   pub elsewhere : (other : ℕ) → IsWordOf regions other → IsBeside at count other → new other ≡ old other
 
--- the granted words are as they were, but for so many at one place, which are those that stand at another
+-- the granted words are as they were, but for `count` of them at one place, which are those that stand at another
 pub record AreCopied (regions : List Grant) (old : ℕ → ℕ) (from to count : ℕ) (new : ℕ → ℕ) : Type 0 where
   pub here : (k : ℕ) → k < 8 * count → k % 8 ≡ 0 → new (to + k) ≡ old (from + k)
   pub elsewhere : (other : ℕ) → IsWordOf regions other → IsBeside to count other → new other ≡ old other

@@ -14,8 +14,8 @@ pub trait Allocator: Links {
     ghost use Rattle.heap_memory.specs.Events.{Event};
     ghost use Rattle.heap_memory.specs.Regions.{are_ordered};
 
-    /// Whether the system, as it stands, may deny a request for so many bytes with a fault. It need not: one that wants memory
-    /// of its host may deny with `OutOfMemory` whenever it is asked, and may as well grant.
+    /// Whether the system, as it stands, may deny a request for this many bytes with a fault. It need not: one that
+    /// needs memory of its host may deny with `OutOfMemory` whenever it is asked, and may as well grant.
     ghost denies: { Self → ℕ → GrantFault → Type 0 };
 
     /// Whether the words of a new grant are zero.
@@ -24,7 +24,7 @@ pub trait Allocator: Links {
     /// Whether the system takes runs of whole regions back.
     ghost frees: { Self → Bool };
 
-    /// The bytes of a unit in which it takes the end of a run back; 0 where it takes none back.
+    /// The bytes of a unit in which it takes the end of a run back; 0 if it takes none back.
     ghost unit: { Self → ℕ };
 
     /// Whether a part of a grant may be given back, whatever its flags.
@@ -50,7 +50,7 @@ pub trait Allocator: Links {
         ensures err_refuses { OnErr result (refuses self.old self.new) }
         ensures denied { IfErr result (λ fault. denies self.old size fault) };
 
-    /// Would give a run of whole regions another size, at another place where it may move. No system does, so the answer
+    /// Would give a run of whole regions another size, at another place if it may move. No system does, so the answer
     /// is None and nothing changes (dlmalloc: `remap`).
     fn remap(&mut self, at: u64, old_size: u64, new_size: u64, can_move: bool) -> Option<u64>
         ensures none { result ≡ None }
@@ -59,9 +59,9 @@ pub trait Allocator: Links {
         None
     }
 
-    /// Gives back what is behind the first `new_size` bytes of a run of whole regions, if the system takes parts of that
-    /// size. What is kept has some bytes, a multiple of 16 as each region does, so that what stays are whole regions. False
-    /// changes nothing.
+    /// Gives back what is after the first `new_size` bytes of a run of whole regions, if the system takes parts of that
+    /// size. What is kept is not empty, and a multiple of 16 bytes as each region is, so what stays are whole regions.
+    /// False changes nothing.
     fn free_part(&mut self, at: u64, old_size: u64, new_size: u64) -> bool
         requires run { IsRun (Self.regions self.old) at (at + old_size) }
         requires some { 0 < new_size }

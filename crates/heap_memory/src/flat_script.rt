@@ -67,7 +67,7 @@ impl Grant {
         self.is_in_bounds() && !self.is_overlapped(before)
     }
 
-    /// Whether it is granted for so many bytes, after these steps.
+    /// Whether it is granted to a request for `asked` bytes, after these steps.
     pub(crate) fn is_given(&self, before: &[FlatStep], asked: u64) -> bool
         ensures { result ≡ is_given before.now asked self.now }
     {
@@ -86,7 +86,7 @@ pub(crate) struct Script {
 impl Script {
     ghost use Rattle.heap_memory.specs.Script.{taken_of, left_of};
 
-    /// A script of which no step was taken.
+    /// A script of which no step has been taken.
     pub fn new(steps: Vec<FlatStep>) -> Script
         ensures taken { taken_of result ≡ [] }
         ensures left { left_of result ≡ steps.items }

@@ -17,10 +17,10 @@ use std::alloc::{AllocError, Global};
 use std::sync::ledger::Ledger;
 use step_count::Steps;
 
-/// A system whose grants stand in a script: each request takes its next step. Its words are zero until they are
-/// stored, and are made with the system, so that no request wants memory.
+/// A system whose grants stand in a script: each request takes its next step. Its words are zero until they are stored,
+/// and are made with the system, so no request needs memory.
 ///
-/// A Give is granted with its flags, whatever they are, where it is as long as asked, its base and size are multiples of
+/// A Give is granted with its flags, whatever they are, if it is as long as asked, its base and size are multiples of
 /// 16, its base is at least 4096 and its end below 2^64, and no byte of it is in a Give before it (granted or not). Any
 /// other Give is denied as `NoSpace`, and so is a request past the end of the script.
 #[derive(Drop)]

@@ -20,7 +20,7 @@ pub enum GrantFault {
     /// Too few free frames for the request.
     #[error("no frames")]
     NoFrames,
-    /// The host had too little memory for the system's own.
+    /// The host had too little memory for the system's own use.
     #[error("out of memory")]
     OutOfMemory,
 }

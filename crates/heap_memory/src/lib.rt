@@ -1,7 +1,7 @@
 //! Memory that is granted in regions, and read and written by words and bytes.
 //!
 //! A heap is generic over `Links` and `Allocator`: it sees the granted regions, a word at each multiple of 8 in them,
-//! and grants that come one after the other. `FlatSystem` is such a system over plain words, with its grants in a
+//! and grants that are made one after the other. `FlatSystem` is such a system over plain words, with its grants in a
 //! script.
 #![tactic(auto)]
 

@@ -18,17 +18,18 @@ pub trait Links {
     /// The word at each granted multiple of 8.
     ghost word: { Self → ℕ → ℕ };
 
-    /// What the system says of two moments between which these events came.
+    /// What the system says of two moments between which these events happened.
     ghost follows: { Self → List Event → Self → Type 0 };
 
-    /// Each region is made of units of 16 bytes, from 4096 on and below 2^64: where the place of a word is granted, so is
+    /// Each region is made of units of 16 bytes, from 4096 on and below 2^64: if the place of a word is granted, so is
     /// the word.
     ghost whole: { (x : Self) → IsTrue (are_whole (regions x)) };
 
     /// A system follows itself with no event.
     ghost follows_none: { (x : Self) → follows x [] x };
 
-    /// Of two times one after the other, the events come one after the other.
+    /// Over two times, the second right after the first, the events are those of the first and then those of the
+    /// second.
     ghost follows_on: { (x y z : Self) (a b c : List Event) → follows x a y → follows y b z → a ++ b ≡ c → follows x c z };
 
     /// The word at an address. It is one step.

@@ -37,7 +37,7 @@ is_met None false both = refl
 is_met (Some place) true both = refl
 is_met (Some place) false both = let e : false ≡ true = both.0 refl in absurd (cc)
 
--- where the tables of a list are those that are met
+-- if the tables of a list are those that are met
 missing_met : (words : List ℕ) (root : ℕ) (tables : List Prefix) (address pages : ℕ) → IsCanonicalRange (address / 4096) pages →
     ((level number : ℕ) → 0 < level → level < 4 → IsSome (reach words root level number) ↔ IsTrue (has_table tables (record { level = level; number = number }))) →
     missing tables address pages ≡ missing_of words root (address / 4096) pages
@@ -103,7 +103,7 @@ walk_beside old new address pages page rights added apart =
     ap (λ r. reach new.words r 4 (page % 2 ^ 36)) added.root
     ∙ added.added.pages_added.others 4 (page % 2 ^ 36) (omega arith) (λ k less same. apart k less (omega arith))
 
--- where nothing is met, nothing is listed
+-- if nothing is met, nothing is listed
 pub not_had : (o : Option Place) → o ≡ None → (b : Bool) → (IsSome o ↔ IsTrue b) → b ≡ false
 not_had None is false both = refl
 not_had None is true both = absurd (let no : false ≡ true = both.1 refl in cc)
@@ -143,7 +143,7 @@ module _ (old new : Paged) (address pages : ℕ) (rights : Rights) (range : IsCa
   new_slot : (count : ℕ) → IsOpenSlot old.words old.root (address / 4096) pages count → IsSlotOf address pages (count * 2 ^ 21)
   new_slot count slot = slot_among address pages count whole range slot.from slot.to
 
-  -- the slot of one of the pages, where one entry maps it, is listed
+  -- the slot of one of the pages, if one entry maps it, is listed
   slot_listed : (k : ℕ) → k < pages → IsSome (large_of new.words old.root (prefix_of (address / 4096 + k) 3)) →
       has_table (map slot_prefix new.slots) (record { level = 3; number = prefix_of (address / 4096 + k) 3 }) ≡ true
   slot_listed k less large = go (has_table (map slot_prefix new.slots) (record { level = 3; number = prefix_of (address / 4096 + k) 3 })) refl
@@ -188,7 +188,7 @@ module _ (old new : Paged) (address pages : ℕ) (rights : Rights) (range : IsCa
 
   -- ---- the tables and the large pages of the state
 
-  -- where there is a table of three indices of a page, and where its slot has none as it is a large page
+  -- if there is a table of three indices of a page, and if its slot has none since it is a large page
   last_met : (tables : List Prefix) → ((level number : ℕ) → 0 < level → level < 4 → IsSome (reach old.words old.root level number) ↔ IsTrue (has_table tables (record { level = level; number = number }))) →
       (k : ℕ) → k < pages → has_table (prefixes_of (address / 4096) pages) (record { level = 3; number = prefix_of (address / 4096 + k) 3 }) ≡ true →
       IsSome (reach new.words old.root 3 (prefix_of (address / 4096 + k) 3)) ↔ IsTrue (has_table (with_tables tables address pages new.slots) (record { level = 3; number = prefix_of (address / 4096 + k) 3 }))

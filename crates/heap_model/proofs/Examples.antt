@@ -176,7 +176,7 @@ no-runs-with-record runs = let inside : false ≡ true = runs.2.1 refl in cc
 no-tiling-with-record : IsTiling freed with-record → ⊥
 no-tiling-with-record tiling = no-runs-with-record tiling.runs
 
--- a gap of two pages between a heap region and a user region serves two pages, and three go behind the user region
+-- a gap of two pages between a heap region and a user region serves two pages, and three go after the user region
 
 between : List Region
 between =
@@ -249,7 +249,7 @@ last-canonical : must_refuse (start config) (Probe 0x7fffffffffff Reading false)
 unfolding config
 last-canonical = refl
 
--- a page of the user behind the heap's region, which `one` has
+-- a page of the user after the heap's region, which `one` has
 abbrev reading : Rights
 reading = record { write = false; user = true; fetch = false }
 
@@ -310,7 +310,7 @@ unmapped-regions : all_regions (after mapped (Unmap 0x410000 2) (record { reply 
 unfolding one config first
 unmapped-regions = refl
 
--- a trim may leave the first page of a region; where it says that bytes went back, it lists the regions
+-- a trim may leave the first page of a region; if it says that bytes went back, it lists the regions
 trim-front : IsAllowed one (Trim 0) (record { reply = Trimmed true; regions = Some (heap_region 0x400000 1 ∷ []); large = None })
 unfolding one first config
 trim-front = record {
@@ -395,7 +395,7 @@ slot-allowed = record {
   };
 }
 
--- where no run of frames was free, the slot has a table
+-- if no run of frames was free, the slot has a table
 slot-small : free_frames (after (start config) (Map 0x800000 512 writing) (record { reply = Done; regions = None; large = None })) ≡ 508
 unfolding config prefixes_of prefixes_from
 slot-small = refl

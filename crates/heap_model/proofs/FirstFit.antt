@@ -1,4 +1,4 @@
--- The function finds the place for pages, and nothing where they have none.
+-- The function finds the place for pages, and nothing if they have none.
 use Rattle.std.proofs.Common.{◌≡◌, ℕ, zero, suc, ◌+◌, ◌-◌, ◌*◌, ◌/◌, ◌%◌, ◌<◌, ◌≤◌, List, Bool, true, false, Some, None, IsTrue, IsFalse, if◌then◌else◌, refl, sym, subst, arith}
 use Rattle.heap_model.specs.declared.region.Region.{Region}
 use Rattle.heap_model.specs.Place.{meets_any, IsFit, IsPlace, HasNoPlace, first_fit, place}

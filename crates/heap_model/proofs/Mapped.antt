@@ -133,7 +133,7 @@ reached_walk words root address byte is = go (walk_of words root (address / 4096
     go (Some place) walk = refl
     go None walk = let none : reached words root address ≡ None = rw walk refl in absurd (cc)
 
--- the state with one region less of the user; the slots that it had whole are large no more
+-- the state with one region of the user less; the slots that it had whole are no longer large
 abbrev pub without_user : State → ℕ → ℕ → State
 without_user s start pages = settled (record s { users = without_region start pages s.users })
 

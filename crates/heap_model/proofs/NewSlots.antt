@@ -38,7 +38,7 @@ slots_bare m new s address pages rights stands range whole added = all_slots (λ
     not_had (reach m.paged.words m.paged.root 3 (slot_number slot)) (slot_was_bare m.paged new address pages rights range whole stands.tree added slot listed)
     (has_table s.tables (slot_prefix slot)) (stands.tables_met 3 (slot_number slot) (omega arith) (omega arith)))
 
--- a block is handed out: pages are new only where the heap regions are listed
+-- a block is handed out: pages are new only if the heap regions are listed
 pub placed_none : (s : State) (call : Call) (number address : ℕ) → new_pages s call (Placed number address) None ≡ None
 placed_none s (Malloc size align) number address = refl
 placed_none s (Calloc size align) number address = refl

@@ -61,7 +61,7 @@ known_alike zero k byte cell is = cc
 known_alike (suc n) zero byte cell is = (omega arith, is)
 known_alike (suc n) (suc k) byte cell is = let later = known_alike n k byte cell is in (omega (arith, later.0), later.1)
 
--- where a memory has what is known of a new block, it holds what is known of all
+-- if a memory has what is known of a new block, it holds what is known of all
 pub holds_pushed : (reached : ℕ → Option ℕ) (blocks : List (Option Block)) (new : Block) → HoldsBytes reached blocks
     → ((k byte : ℕ) → cell_at new.cells k ≡ Known byte → reached (new.address + k) ≡ Some byte) → HoldsBytes reached (blocks ++ Some new ∷ [])
 holds_pushed reached blocks new holds here = record {
@@ -79,7 +79,7 @@ turned a m b n apart = elim apart [ inl less ↦ inr less | inr more ↦ inl mor
 abbrev pub placed : State → Block → State
 placed s block = record s { blocks = s.blocks ++ Some block ∷ [] }
 
--- it is good where the block is good and lies beside all others
+-- it is good if the block is good and lies beside all others
 pub good_placed : (s : State) (block : Block) → IsGood s → IsGoodBlock s.heap block
     → ((number : ℕ) (old : Block) → block_at s.blocks number ≡ Some old → AreApart old.address (cover old) block.address (cover block)) → IsGood (placed s block)
 good_placed s block good here apart = record {

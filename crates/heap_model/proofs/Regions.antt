@@ -61,7 +61,7 @@ length_with region (first ∷ rest) = go (nat_lt region.start first.start) (leng
     go true later = omega arith
     go false later = omega arith
 
--- a test passes in the longer list where it passes at the new one or in the list
+-- a test passes in the longer list if it passes at the new one or in the list
 pub any_with : (test : Region → Bool) (region : Region) (list : List Region) → list_any test (with_region region list) ≡ (test region || list_any test list)
 any_with test region [] = refl
 any_with test region (first ∷ rest) = go (nat_lt region.start first.start) (any_with test region rest)
@@ -71,7 +71,7 @@ any_with test region (first ∷ rest) = go (nat_lt region.start first.start) (an
     go true later = refl
     go false later = rw later (or_swap (test first) (test region) (list_any test rest))
 
--- a test passes in the joined lists where it passes in one of them
+-- a test passes in the joined lists if it passes in one of them
 pub any_all : (test : Region → Bool) (heap users : List Region) →
     list_any test (fold (λ list region. with_region region list) heap users) ≡ (list_any test heap || list_any test users)
 any_all test heap [] = sym (or_false (list_any test heap))
@@ -113,7 +113,7 @@ pub later_starts : (end later_end : ℕ) (list : List Region) → end ≤ later_
 later_starts end later_end [] less all = tt
 later_starts end later_end (first ∷ rest) less all = (omega (arith, all.0), later_starts end later_end rest less all.1)
 
--- the list stays sorted where the region meets none of it
+-- the list stays sorted if the region meets none of it
 pub in_order_with : (region : Region) (list : List Region) → 0 < region.pages → AreInOrder list → meets_any region.start region.pages list ≡ false → AreInOrder (with_region region list)
 in_order_with region [] some order none_met = (tt, tt)
 in_order_with region (first ∷ rest) some order none_met = go (nat_lt region.start first.start) refl (in_order_with region rest some order.1 both.1)
@@ -139,7 +139,7 @@ none_within address pages at (first ∷ rest) above below none =
     let here : is_within at first ≡ false = elim (beside address pages first both.0) [ inl behind ↦ not_within at first (inr (omega arith)) | inr before ↦ not_within at first (inl (omega arith)) ] in
     rw here (none_within address pages at rest above below both.1)
 
--- ---- two lists, one behind the other
+-- ---- two lists, one after the other
 
 append_none : (xs : List Region) → xs ++ [] ≡ xs
 append_none [] = refl
@@ -154,7 +154,7 @@ pub find_past : (test : Region → Bool) (region : Region) (list : List Region) 
 find_past test region list fails =
     ap (find test) (sym (append_none (with_region region list))) ∙ (find_without test region list [] fails ∙ ap (find test) (append_none list))
 
--- where none of the first list passes, the second one is searched
+-- if none of the first list passes, the second one is searched
 pub find_behind : (test : Region → Bool) (first second : List Region) → list_any test first ≡ false → find test (first ++ second) ≡ find test second
 find_behind test [] second none = refl
 find_behind test (region ∷ rest) second none =
@@ -166,7 +166,7 @@ pub find_same : (test : Region → Bool) (first old new : List Region) → find 
 find_same test [] old new same = same
 find_same test (region ∷ rest) old new same = ap (λ later. cond (test region) (Some region) later) (find_same test rest old new same)
 
--- none is found where none passes
+-- none is found if none passes
 pub find_none : (test : Region → Bool) (list : List Region) → list_any test list ≡ false → find test list ≡ None
 find_none test [] none = refl
 find_none test (region ∷ rest) none =
@@ -226,7 +226,7 @@ any_left test start pages (region ∷ rest) is = go (is_at start pages region) i
       | inr there ↦ or_right (test region) (list_any test rest) (later there)
     ]
 
--- a listed one starts where all do, or behind
+-- a listed one starts where all do, or after that
 pub starts_behind : (start pages from : ℕ) (list : List Region) → AllByRecursion (λ later. from ≤ later.start) list → list_any (is_at start pages) list ≡ true → from ≤ start
 starts_behind start pages from [] all there = let no : false ≡ true = there in absurd (cc)
 starts_behind start pages from (region ∷ rest) all there = go (is_at start pages region) refl (starts_behind start pages from rest all.1)

@@ -59,7 +59,7 @@ outline_changed (first ∷ rest) (suc number) change block is = ap (λ xs. optio
 
 -- ---- the state
 
--- The state is good where it is so without the block, and that is good at its place and lies beside all others there.
+-- The state is good if it is so without the block, and that is good at its place and lies beside all others there.
 pub good_resized : (s : State) (number : ℕ) (change : Block → Block) (block : Block) → IsGood (record s { blocks = without_block s.blocks number }) → block_at s.blocks number ≡ Some block → IsGoodBlock s.heap (change block) →
     ((i : ℕ) (other : Block) → i ≢ number → block_at s.blocks i ≡ Some other → AreApart other.address (cover other) (change block).address (cover (change block))) →
     IsGood (record s { blocks = with_block s.blocks number change })
@@ -92,7 +92,8 @@ good_resized s number change block good is here apart = record {
   no_slot_twice = good.no_slot_twice;
 }
 
--- A memory holds what is known of all, where it has the bytes of the other blocks, and those of the block that both sizes have.
+-- A memory holds what is known of all, if it has the bytes of the other blocks, and those of the block that both sizes
+-- have.
 pub holds_resized : (reached : ℕ → Option ℕ) (blocks : List (Option Block)) (number address size : ℕ) (align : Block → ℕ) (block : Block) → block_at blocks number ≡ Some block →
     ((i k byte : ℕ) (other : Block) → i ≢ number → block_at blocks i ≡ Some other → cell_at other.cells k ≡ Known byte → reached (other.address + k) ≡ Some byte) →
     ((k byte : ℕ) → k < size → cell_at block.cells k ≡ Known byte → reached (address + k) ≡ Some byte) →

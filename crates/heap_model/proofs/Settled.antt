@@ -19,8 +19,9 @@ abbrev pub cut_slots : Option ℕ → List ℕ
 cut_slots None = []
 cut_slots (Some slot) = slot ∷ []
 
--- How tables and large pages are after regions were cut or left, of which `regions` are left: large pages are from before, a slot
--- is mapped by one entry still exactly where a region has it whole, and only the slot that was cut has got a table. A part of it is left.
+-- How tables and large pages are after regions were cut or left, of which `regions` are left: large pages are from
+-- before, a slot is still mapped by one entry exactly if a region has it whole, and only the slot that was cut has got
+-- a table. A part of it is left.
 pub record AreSettled (words words' : List ℕ) (root root' : ℕ) (regions : List Region) (cut : Option ℕ) : Type 0 where
   pub only : (slot : ℕ) → IsSlot slot → IsSome (large_of words' root' (slot_number slot)) → IsSome (large_of words root (slot_number slot))
   pub whole : (slot : ℕ) → IsSlot slot → IsSome (large_of words' root' (slot_number slot)) → IsTrue (is_whole_in regions slot)
@@ -32,7 +33,7 @@ pub record AreSettled (words words' : List ℕ) (root root' : ℕ) (regions : Li
 
 -- ---- lists
 
--- where a test passes at one listed slot alone, and none is listed twice, the slots that pass are that one
+-- if a test passes at only one listed slot, and none is listed twice, the slots that pass are that one
 filter_one : (test : ℕ → Bool) (slots : List ℕ) (slot : ℕ) → AreDistinct slots → has_slot slots slot ≡ true → test slot ≡ true →
     ((other : ℕ) → has_slot slots other ≡ true → test other ≡ true → other ≡ slot) → filter test slots ≡ slot ∷ []
 filter_one test [] slot distinct listed passes alone = absurd (let no : false ≡ true = listed in cc)
@@ -47,7 +48,7 @@ filter_one test (first ∷ rest) slot distinct listed passes alone =
     fails false is other = refl
     fails true is other = absurd (other (alone first (or_left (nat_eq first first) (has_slot rest first) here) is))
 
-    -- nor does any behind the one
+    -- nor does any after the one
     none : first ≡ slot → AllByRecursion (λ other. test other ≡ false) rest
     none same = behind rest (λ other is. is) (subst (λ one. has_slot rest one ≡ false) same distinct.0)
       where
@@ -172,7 +173,7 @@ module _ (words words' : List ℕ) (root root' : ℕ) (regions : List Region) (c
               cc))
               (ap (λ o. has_table (map slot_prefix (cut_slots o)) p) e ∙ rw other refl)
 
-  -- one table more where one was cut
+  -- one table more if one was cut
   pub settled_count : length (tables ++ map slot_prefix (filter (is_part_in regions) large)) ≡ length tables + length (cut_slots cut)
   settled_count = length-append tables (map slot_prefix (filter (is_part_in regions) large)) ∙ (ap (λ slots. length tables + length (map slot_prefix slots)) parts_are ∙ ap (λ n. length tables + n) (one cut))
     where

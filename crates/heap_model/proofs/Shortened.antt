@@ -47,7 +47,7 @@ length_cut (region ∷ rest) new (inr kept) =
     let later = length_cut rest kept.1 kept.4 in
     omega (arith, same, later)
 
--- where no page went, all are as they were
+-- if no page went, all are as they were
 pub none_gone : (old new : List Region) → AllByRecursion (λ region. 0 < region.pages) old → AreCut old new → total_pages old ≤ total_pages new → new ≡ old
 none_gone [] new all is many = is
 none_gone (region ∷ rest) new all (inl dropped) many = absurd (let later = pages_cut rest new dropped in let some = all.0 in omega (arith, later, some, many))
@@ -112,7 +112,7 @@ pub good_over : (s : State) (blocks : List (Option Block)) → IsGood (record s 
     ((i j : ℕ) (a b : Block) → block_at blocks i ≡ Some a → block_at blocks j ≡ Some b → i ≢ j → AreApart a.address (cover a) b.address (cover b)) → IsGood (record s { blocks = blocks })
 good_over s blocks bare each apart = record { each = each; apart = apart; heap_order = bare.heap_order; user_order = bare.user_order; heap = bare.heap; users = bare.users; frames = bare.frames; slots = bare.slots; are_slots = bare.are_slots; no_slot_twice = bare.no_slot_twice }
 
--- The state is good with regions that are cut, where they have the bytes of each block and the frames suffice.
+-- The state is good with regions that are cut, if they have the bytes of each block and the frames suffice.
 pub good_cut : (s : State) (list : List Region) → IsGood s → AreCut s.heap list →
     ((number : ℕ) (block : Block) → block_at s.blocks number ≡ Some block → (k : ℕ) → k < cover block → IsTrue (list_any (is_within (block.address + k)) list)) →
     used_frames (settled (record s { heap = list })) ≤ s.frames → IsGood (settled (record s { heap = list }))

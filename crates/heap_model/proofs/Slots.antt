@@ -101,7 +101,7 @@ pub filter_none : {X : Type 0} (test : X → Bool) (xs : List X) → AllByRecurs
 filter_none test [] all = refl
 filter_none test (first ∷ rest) all = let here = all.0 in rw here (filter_none test rest all.1)
 
--- what holds of both lists holds of the one behind the other
+-- what holds of both lists holds of the one after the other
 pub all_append : (P : ℕ → Type 0) (some more : List ℕ) → AllByRecursion P some → AllByRecursion P more → AllByRecursion P (some ++ more)
 all_append P [] more first second = second
 all_append P (slot ∷ rest) more first second = (first.0, all_append P rest more first.1 second)
@@ -174,7 +174,7 @@ whole_meets address pages slot (region ∷ rest) below above is = elim (or_cases
   | inr later ↦ or_right (meets address pages region) (meets_any address pages rest) (whole_meets address pages slot rest below above later)
 ]
 
--- a test passes with a region more where it passes at the region or passed before
+-- a test passes with one more region if it passes at the region or passed before
 pub any_heap_more : (test : Region → Bool) (region : Region) (heap users : List Region) →
     list_any test (fold (λ list one. with_region one list) (with_region region heap) users) ≡ (test region || list_any test (fold (λ list one. with_region one list) heap users))
 any_heap_more test region heap users =
@@ -232,7 +232,7 @@ pub slots_whole : (region : Region) (slots : List ℕ) → AllByRecursion (IsSlo
 slots_whole region [] within = tt
 slots_whole region (slot ∷ rest) within = (let from = within.0.from in let to = within.0.within in whole_true slot region from to, slots_whole region rest within.1)
 
--- each slot lies whole in a region still where one joins, and so does each of its own
+-- each slot still lies whole in a region if one joins, and so does each of its own
 pub whole_still : (region : Region) (old new : List Region) (large slots : List ℕ) → ((test : Region → Bool) → list_any test new ≡ (test region || list_any test old)) →
     AllByRecursion (λ slot. IsTrue (is_whole_in old slot)) large → AllByRecursion (λ slot. has_whole slot region ≡ true) slots → AllByRecursion (λ slot. IsTrue (is_whole_in new slot)) (large ++ slots)
 whole_still region old new [] [] joins whole here = tt
@@ -243,7 +243,7 @@ whole_still region old new (slot ∷ rest) slots joins whole here =
 
 -- ---- what is large settles
 
--- Where each slot lies whole in a region, all stay as they are.
+-- If each slot lies whole in a region, all stay as they are.
 pub settled_same : (s : State) → AllByRecursion (λ slot. IsTrue (is_whole_in (all_regions s) slot)) s.large → settled s ≡ s
 settled_same s whole =
     let large : filter (is_whole_in (all_regions s)) s.large ≡ s.large = filter_all (is_whole_in (all_regions s)) s.large whole in

@@ -60,7 +60,7 @@ joined_any tables never (first ∷ rest) p = go (has_table tables first) (has_ta
     go false true is is_out later = joined_one false true (has_table tables p) (is_same p first) (has_table rest p) (has_table never p) (has_table (joining tables never rest) p) (same false true is is_out) later
     go false false is is_out later = joined_one false false (has_table tables p) (is_same p first) (has_table rest p) (has_table never p) (has_table (joining tables never rest) p) (same false false is is_out) later
 
--- a table is there afterwards where it was, or is one of those of the pages, but for those of the slots
+-- a table is there afterwards if it was, or is one of those of the pages, but for those of the slots
 pub has_table-with_tables : (tables : List Prefix) (address pages : ℕ) (slots : List ℕ) (p : Prefix) →
     has_table (with_tables tables address pages slots) p ≡ (has_table tables p || (has_table (prefixes_of (address / 4096) pages) p && not (has_table (map slot_prefix slots) p)))
 has_table-with_tables tables address pages slots p =
@@ -93,7 +93,7 @@ both_counts f g (first ∷ rest) = go (f first) (g first) (both_counts f g rest)
     go true false later = omega (arith, later)
     go false b later = later
 
--- a prefix of the list is missing afterwards where it was and is left out
+-- a prefix of the list is missing afterwards if it was and is left out
 still_missing : (there out : Bool) → not (there || (true && not out)) ≡ (not there && out)
 still_missing true out = refl
 still_missing false true = refl

@@ -25,7 +25,7 @@ use Rattle.heap_model.specs.Refusal.{own_align, least_align, must_refuse, MayRef
 abbrev pub new_block : ℕ → ℕ → ℕ → Cell → Option Block
 new_block address size align cell = Some (record { address = address; size = size; align = align; cells = replicate size cell })
 
--- the blocks, with another one at this number where it is live
+-- the blocks, with another one at this number if it is live
 abbrev pub with_block : List (Option Block) → ℕ → (Block → Block) → List (Option Block)
 with_block blocks number change = slice_set blocks number (option_map change (block_at blocks number))
 
@@ -41,21 +41,22 @@ all_ended blocks = map (λ block. None) blocks
 abbrev pub known_block : ℕ → List ℕ → Block → Block
 known_block offset bytes block = record block { cells = with_bytes block.cells offset bytes }
 
--- so many cells: the first ones, and fresh ones behind them where there are more
+-- a given number of cells: the first ones, and fresh ones after them if there are fewer
 abbrev pub resized_cells : ℕ → List Cell → List Cell
 resized_cells zero cells = []
 resized_cells (suc n) [] = Fresh ∷ resized_cells n []
 resized_cells (suc n) (cell ∷ cells) = cell ∷ resized_cells n cells
 
--- the block with another size, where it is then, at the alignment that it has then
+-- the block with another size, at the place and the alignment that it then has
 abbrev pub resized_block : ℕ → ℕ → (Block → ℕ) → Block → Block
 resized_block address size align block = record { address = address; size = size; align = align block; cells = resized_cells size block.cells }
 
--- the block, with the byte at an address known, where it is one of the block's
+-- the block, with the byte at an address known, if it is one of the block's
 abbrev pub seen_block : ℕ → ℕ → Block → Block
 seen_block address byte block = if nat_le block.address address then known_block (address - block.address) (byte ∷ []) block else block
 
--- The slots that one region has whole stay. One of which regions have a part alone has a table from now on, and each other leaves.
+-- A slot that one region has whole stays. One of which regions have only a part has a table from now on, and each other
+-- leaves.
 abbrev pub settled : State → State
 settled s = record s { tables = s.tables ++ map slot_prefix (filter (is_part_in (all_regions s)) s.large); large = filter (is_whole_in (all_regions s)) s.large }
 
@@ -79,7 +80,7 @@ changed s call reply = s
 abbrev pub is_new : List Region → Region → Bool
 is_new regions region = not (list_any (λ old. old.start == region.start) regions)
 
--- pages that an answer maps: so many, from an address on
+-- pages that an answer maps: `pages` of them, from an address on
 pub record NewPages : Type 0 where
   pub start : ℕ
   pub pages : ℕ
@@ -153,19 +154,21 @@ IsServed s Reset (Released bytes) regions = (heap_after s regions ≡ []) × (by
 IsServed s Extents (Listed extents) regions = (regions ≡ None) × IsTiling s extents
 IsServed s call reply regions = ⊥
 
--- a refusal that must come comes; one that may come only where none must; and nothing else comes where one must
+-- a refusal is the one that must be given, or one that may be given if none must be; any other reply is given only if
+-- no refusal must be
 abbrev pub IsReply : State → Call → Reply → Option (List Region) → Type 0
 IsReply s call (Refused refusal) regions = (regions ≡ None) × ((must_refuse s call ≡ Some refusal) ⊎ ((must_refuse s call ≡ None) × MayRefuse s (wanted_by s call) refusal))
 IsReply s call reply regions = (must_refuse s call ≡ None) × IsServed s call reply regions
 
--- Slots that an answer lists lie whole in its new pages and had no table. They ascend, and there is one at least.
+-- Slots that an answer lists lie whole in its new pages and had no table. They ascend, and there is at least one.
 pub record AreNewSlots (s : State) (new : NewPages) (slots : List ℕ) : Type 0 where
   pub some : slots ≢ []
   pub ascending : AreAscending slots
   pub within : AllByRecursion (IsSlotOf new.start new.pages) slots
   pub no_table : AllByRecursion (λ slot. IsFalse (has_table s.tables (slot_prefix slot))) slots
 
--- the answer is one that the call may have; it lists the heap regions exactly where they changed, and slots of its new pages alone
+-- the answer is one that the call may have; it lists the heap regions exactly if they changed, and only slots of its
+-- new pages
 pub record IsAllowed (s : State) (call : Call) (answer : Answer) : Type 0 where
   pub reply : IsReply s call answer.reply answer.regions
   pub listed : MatchOption answer.regions ⊤ (λ list. list ≢ s.heap)

@@ -8,8 +8,8 @@ use Rattle.dlmalloc_chunks.specs.Tiling.{AreExtents, has_byte, extent_at}
 use Rattle.heap_model.specs.declared.region.Region.{Region}
 use Rattle.heap_model.specs.State.{State, Block, block_at, end_of, is_within}
 
--- A block's extent: the block begins 16 bytes behind it, and reaches into the 8 bytes behind its end at most. Of the
--- extent's bytes 79 at most are not the block's.
+-- A block's extent: the block begins 16 bytes after the extent's beginning, and reaches at most into the 8 bytes after
+-- its end. At most 79 of the extent's bytes are not the block's.
 pub record IsExtentOf (block : Block) (extent : Extent) : Type 0 where
   pub used : extent.kind ≡ Used
   pub place : block.address ≡ extent.at + 16

@@ -35,7 +35,7 @@ pub record Paged : Type 0 where
   -- physical memory, word by word, and the frame of the root table
   pub words : List ℕ
   pub root : ℕ
-  -- a flag for each frame, true where it is free
+  -- a flag for each frame, true if it is free
   pub free : List Bool
   -- the number of tables, with the root
   pub tables : ℕ
@@ -58,14 +58,14 @@ pub record ArePagesAdded (old new : Paged) (address pages : ℕ) (rights : Right
   pub base : new.base ≡ old.base
   pub pages_is : new.pages ≡ old.pages
   pub root : new.root ≡ old.root
-  -- the slot, in counts of 2 MiB, before which all that could be were mapped so
+  -- the slot, in counts of 2 MiB, before which all that could be were mapped like this
   pub stop : ℕ
   pub added : IsRangeMapped old.words new.words old.free new.free old.root (address / 4096) pages stop rights
   pub tables : new.tables + missing_of new.words old.root (address / 4096) pages ≡ old.tables + missing_of old.words old.root (address / 4096) pages
   pub slots : AreLargeSlots new.words old.root address pages new.slots
 
--- Pages left a system from an address on: they are mapped no more and their frames are free, but for that of a table for what is
--- left of a large page in which they begin. Every byte that is still mapped stays.
+-- Pages left a system from an address on: they are no longer mapped and their frames are free, but for that of a table
+-- for what is left of a large page in which they begin. Every byte that is still mapped stays.
 pub record ArePagesGone (old new : Paged) (address pages : ℕ) : Type 0 where
   pub base : new.base ≡ old.base
   pub pages_is : new.pages ≡ old.pages
@@ -80,7 +80,7 @@ pub record ArePagesGone (old new : Paged) (address pages : ℕ) : Type 0 where
       (page : ℕ) → IsTrue (is_canonical (page * 4096)) → ((k : ℕ) → k < pages → page ≡ address / 4096 + k → ⊥) → walk_of new.words old.root page ≡ walk_of old.words old.root page
   pub bytes : (at : ℕ) → IsSome (walk_of new.words old.root (at / 4096)) → reached new.words old.root at ≡ reached old.words old.root at
 
--- so pages of the heap are
+-- the same of pages of the heap
 abbrev pub IsPagedGrant : Paged → Paged → ℕ → ℕ → Type 0
 IsPagedGrant old new address pages = ArePagesAdded old new address pages heap_rights
 

@@ -8,7 +8,7 @@ use Rattle.heap_model.specs.declared.call.Access.{Access}
 use Rattle.heap_model.specs.declared.call.Access.TheVariants.{Read, Write, Fetch}
 use Rattle.heap_model.specs.State.{State, Known, Block, block_at, cell_at, is_within, region_at}
 
--- the rights of the page that has an address, where a region holds it
+-- the rights of the page that has an address, if a region holds it
 abbrev pub rights_at : State → ℕ → Option Rights
 rights_at s address = option_map (λ region. region.rights) (region_at s (4096 * (address / 4096)))
 
@@ -18,8 +18,8 @@ grants rights Read = true
 grants rights Write = rights.write
 grants rights Fetch = rights.fetch
 
--- whether an access is granted: its page is mapped, with rights that grant its kind, and the user's access too where it
--- is the user's
+-- whether an access is granted: its page is mapped, with rights that grant its kind, and the user's access too if it is
+-- the user's
 abbrev pub is_granted : Option Rights → Access → Bool → Bool
 is_granted None access user = false
 is_granted (Some rights) access user = grants rights access && (not user || rights.user)
@@ -30,7 +30,7 @@ access_bit Read = 0
 access_bit Write = 2
 access_bit Fetch = 16
 
--- the code of a page fault: 1 where the page is mapped, 2 for a write, 4 for the user, 16 for a fetch
+-- the code of a page fault: 1 if the page is mapped, 2 for a write, 4 for the user, 16 for a fetch
 abbrev pub fault_code : Bool → Access → Bool → ℕ
 fault_code mapped access user = (if mapped then 1 else 0) + access_bit access + (if user then 4 else 0)
 

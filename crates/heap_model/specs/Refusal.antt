@@ -63,7 +63,7 @@ refuse_map s start pages =
 abbrev pub refuse_unmap : State → ℕ → ℕ → Option Refusal
 refuse_unmap s start pages = if list_any (is_at start pages) s.users then None else Some UnknownRegion
 
--- the refusal that must come, if any: it depends on the call and the state alone
+-- the refusal that must come, if any: it depends only on the call and the state
 abbrev pub must_refuse : State → Call → Option Refusal
 must_refuse s (Malloc size align) = refuse_request s.granularity size align
 must_refuse s (Calloc size align) = refuse_request s.granularity size align
@@ -81,7 +81,7 @@ must_refuse s (SetGranularity granularity) = None
 must_refuse s Reset = None
 must_refuse s Extents = None
 
--- the chunk that a heap call wants, if it is one
+-- the chunk that a heap call needs, if it is one
 abbrev pub wanted_by : State → Call → Option ℕ
 wanted_by s (Malloc size align) = Some (wanted size align)
 wanted_by s (Calloc size align) = Some (wanted size align)
@@ -99,7 +99,7 @@ wanted_by s (SetGranularity granularity) = None
 wanted_by s Reset = None
 wanted_by s Extents = None
 
--- a heap call that has no room may be refused where its pages have no place, or where frames are lacking at their place
+-- a heap call that has no room may be refused if its pages have no place, or if frames are lacking at their place
 abbrev pub MayRefuse : State → Option ℕ → Refusal → Type 0
 MayRefuse s (Some n) NoSpace = (HasRoom s n → ⊥) × HasNoPlace s.base s.pages (all_regions s) (pages_for n s.granularity)
 MayRefuse s (Some n) NoFrames = (HasRoom s n → ⊥) × ((address : ℕ) × IsPlace s.base s.pages (all_regions s) (pages_for n s.granularity) address × (free_frames s < pages_for n s.granularity + missing s.tables address (pages_for n s.granularity)))

@@ -6,6 +6,6 @@ use Rattle.dlmalloc_chunks.specs.Request.{round_up}
 unfoldable pub pages_in : ℕ → ℕ
 pages_in n = round_up n 4096 / 4096
 
--- the pages that are granted for a chunk of n bytes, with the 96 bytes of the heap's own words beside it
+-- the pages that are granted for a chunk of n bytes, with the 96 bytes of the heap's own words besides it
 unfoldable pub pages_for : ℕ → ℕ → ℕ
 pages_for n granularity = pages_in (round_up (n + 96) granularity)

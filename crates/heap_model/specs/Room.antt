@@ -49,7 +49,8 @@ pub record IsGrant (s : State) (n : ℕ) (list : List Region) : Type 0 where
 abbrev pub IsGrowth : State → ℕ → List Region → Type 0
 IsGrowth s n list = (list ≡ s.heap) ⊎ IsGrant s n list
 
--- the heap regions where, once a request of n bytes was served, a block was freed: of those to which they grew, some may be cut
+-- the heap regions if, once a request of n bytes was served, a block was freed: of those to which they grew, some may
+-- be cut
 pub record IsGrowthCut (s : State) (n : ℕ) (list : List Region) : Type 0 where
   pub grown : List Region
   pub growth : IsGrowth s n grown

@@ -32,7 +32,7 @@ IsWhole region = (region.start % 4096 ≡ 0) × IsCanonicalRange (region.start /
 abbrev pub IsHeapRegion : State → Region → Type 0
 IsHeapRegion s region = IsWhole region × (s.base ≤ region.start) × (end_of region ≤ s.base + 4096 * s.pages) × (region ≡ heap_region region.start region.pages)
 
--- a user region lies beside each heap region
+-- a user region meets no heap region
 abbrev pub IsUserRegion : List Region → Region → Type 0
 IsUserRegion heap region = IsFalse region.heap × IsWhole region × IsFalse (meets_any region.start region.pages heap)
 
@@ -63,7 +63,7 @@ next s (Some call) (Some answer) = after s call answer
 next s (Some call) None = s
 next s None answer = s
 
--- one answer an item, each allowed in the state that the answers before it determine
+-- one answer for each item, each allowed in the state that the answers before it determine
 abbrev pub IsAllowedRun : State → List (Option Call) → List (Option Answer) → Type 0
 IsAllowedRun s [] [] = ⊤
 IsAllowedRun s (item ∷ items) (answer ∷ answers) = IsItem s item answer × IsAllowedRun (next s item answer) items answers

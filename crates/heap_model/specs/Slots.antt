@@ -35,7 +35,7 @@ is_part_in regions slot = not (is_whole_in regions slot) && meets_any slot 512 r
 abbrev pub has_slot : List ℕ → ℕ → Bool
 has_slot slots slot = list_any (λ one. one == slot) slots
 
--- slots as an answer lists them: where there are any
+-- slots as an answer lists them: only if there are any
 abbrev pub listed_slots : List ℕ → Option (List ℕ)
 listed_slots [] = None
 listed_slots (slot ∷ rest) = Some (slot ∷ rest)
@@ -50,7 +50,7 @@ abbrev pub AreAscending : List ℕ → Type 0
 AreAscending [] = ⊤
 AreAscending (slot ∷ rest) = AllByRecursion (λ later. slot < later) rest × AreAscending rest
 
--- The slot lies whole in so many pages from an address on.
+-- The slot lies whole in `pages` pages from an address on.
 pub record IsSlotOf (address pages slot : ℕ) : Type 0 where
   pub is_slot : IsSlot slot
   pub from : address ≤ slot

@@ -23,14 +23,14 @@ pub record State : Type 0 where
   pub granularity : ℕ
   -- the frames of physical memory
   pub frames : ℕ
-  -- by number, in the order given; None where the block has ended
+  -- by number, in the order given; None if the block has ended
   pub blocks : List (Option Block)
   -- the regions of the heap and of the user, by address
   pub heap : List Region
   pub users : List Region
-  -- the index prefixes that have a table below the root, in the order in which the tables came; a table stays
+  -- the index prefixes that have a table below the root, in the order in which the tables were made; a table stays
   pub tables : List Prefix
-  -- the slots of 2 MiB that are mapped by one entry, each by its first address, in the order in which they came
+  -- the slots of 2 MiB that are mapped by one entry, each by its first address, in the order in which they were mapped
   pub large : List ℕ
 
 -- the state of a new machine
@@ -45,14 +45,14 @@ block_at blocks number = slice_index_or blocks number None
 abbrev pub cell_at : List Cell → ℕ → Cell
 cell_at cells offset = slice_index_or cells offset Fresh
 
--- the cells, where these bytes are known from an offset on; bytes past the last cell are left out
+-- the cells, with these bytes known from an offset on; bytes past the last cell are left out
 abbrev pub with_bytes : List Cell → ℕ → List ℕ → List Cell
 with_bytes [] offset bytes = []
 with_bytes (cell ∷ cells) (suc offset) bytes = cell ∷ with_bytes cells offset bytes
 with_bytes (cell ∷ cells) zero (byte ∷ bytes) = Known byte ∷ with_bytes cells zero bytes
 with_bytes (cell ∷ cells) zero [] = cell ∷ cells
 
--- the bytes that a block has to itself: one where its size is 0
+-- the bytes that a block has to itself: one if its size is 0
 abbrev pub cover : Block → ℕ
 cover block = max block.size 1
 

@@ -12,7 +12,7 @@ is_same p q = p.level == q.level && p.number == q.number
 abbrev pub has_table : List Prefix → Prefix → Bool
 has_table tables prefix = list_any (is_same prefix) tables
 
--- how many tables so many pages from an address lack, as if none of them were in a large page
+-- how many tables `pages` pages from an address lack, as if none of them were in a large page
 abbrev pub missing : List Prefix → ℕ → ℕ → ℕ
 missing tables address pages = count_by (λ p. not (has_table tables p)) (prefixes_of (address / 4096) pages)
 

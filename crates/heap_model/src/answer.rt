@@ -48,7 +48,7 @@ pub enum Reply {
     Trimmed(bool),
     /// Whether the granularity was accepted.
     Accepted(bool),
-    /// A reset gave back so many bytes.
+    /// A reset gave back this many bytes.
     Released(u64),
     /// The extents of the heap, by ascending address.
     Extents(ExtentList),
@@ -59,8 +59,8 @@ pub enum Reply {
 /// The first addresses of slots: 2 MiB in a row that one entry maps, as a large page.
 pub type SlotList = PublicList<u64>;
 
-/// A reply, the heap regions after the call where the call changed them, and the slots that the call mapped by one
-/// entry each, by ascending address, where there are any.
+/// A reply, the heap regions after the call if the call changed them, and the slots that the call mapped by one entry
+/// each, by ascending address, if there are any.
 #[derive(Drop)]
 pub struct Answer {
     pub reply: Reply,
@@ -68,5 +68,5 @@ pub struct Answer {
     pub large: Option<SlotList>,
 }
 
-/// The answers to calls, one a call, in their order.
+/// The answers to calls, one for each call, in their order.
 pub type AnswerList = PublicList<Answer>;

@@ -70,7 +70,7 @@ pub enum Call {
         access: Access,
         user: bool,
     },
-    /// Gives memory back that no block needs. The heap keeps more than `pad` bytes free at its end, where it has them.
+    /// Gives back memory that no block needs. The heap keeps more than `pad` bytes free at its end, if it has them.
     Trim {
         pad: u64,
     },
@@ -78,7 +78,7 @@ pub enum Call {
     SetRate {
         rate: u64,
     },
-    /// Has the heap ask for multiples of so many bytes, where that is a power of two of at least 16.
+    /// Has the heap ask for multiples of this many bytes, if that is a power of two of at least 16.
     SetGranularity {
         granularity: u64,
     },

@@ -10,7 +10,7 @@ pub struct Region {
     pub pages: u64,
     /// Whether the pages were granted to the heap.
     pub heap: bool,
-    /// What may be done with the pages, beside reading them.
+    /// What may be done with the pages, besides reading them.
     pub rights: Rights,
 }
 

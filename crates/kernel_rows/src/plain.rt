@@ -1,9 +1,9 @@
-//! A plain map of pages, which tells what tables would answer.
+//! A plain map of pages, which says what tables would answer.
 use kernel_tables::{EntryFault, MapFault, RangeFault};
 use paging_core::{Page, Rights, VirtAddr};
 use std::alloc::{AllocError, Global};
 
-/// The first page of the window. Half of its pages lie below 2^18, so that they have two tables of two indices.
+/// The first page of the window. Half of its pages lie below 2^18, so they have two tables of two indices.
 pub(crate) const FIRST: u64 = (1 << 18) - 1024;
 
 /// How many pages the window has: those of four slots.
@@ -32,7 +32,7 @@ pub(crate) struct Pages {
 }
 
 impl Pages {
-    /// The place behind the last page.
+    /// The place after the last page.
     fn end(self) -> u64 {
         self.first.wrapping_add(self.count)
     }

@@ -140,7 +140,7 @@ fn map_large_both<R: Abort>(
     );
 }
 
-/// Looks that a page leads to the same place in both.
+/// Checks that a page leads to the same place in both.
 fn compare_page<R: Abort>(rt: &R, tables: &Tables<'_>, plain: &Plain, place: u64) {
     let found = tables.walk(page_at(place)).map(|mapped| Lead {
         frame: mapped.frame.number(),
@@ -153,7 +153,7 @@ fn compare_page<R: Abort>(rt: &R, tables: &Tables<'_>, plain: &Plain, place: u64
     same(rt, found, plain.lead(place));
 }
 
-/// Looks that both have the same large pages and free frames.
+/// Checks that both have the same large pages and free frames.
 fn compare<R: Abort>(rt: &R, tables: &Tables<'_>, plain: &Plain) {
     same(rt, tables.free_frames(), plain.free);
     for slot in 0..4 {

@@ -138,7 +138,7 @@ fn refuse<R: Abort>(rt: &R, tables: &mut Tables<'_>) {
     );
 }
 
-/// Two frames of the area are free. A slot of single pages wants one, and one behind 2^27 pages three.
+/// Two frames of the area are free. A slot of single pages needs one, and one after the first 2^27 pages needs three.
 fn run_out<R: Abort>(rt: &R, tables: &mut Tables<'_>) {
     same(rt, tables.free_frames(), 2);
     same(

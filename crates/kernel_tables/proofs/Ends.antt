@@ -1,4 +1,4 @@
--- What the end of a page's walk tells of the causes.
+-- What the end of a page's walk says of the causes.
 use Rattle.std.proofs.Common.{◌/◌, ◌≡◌, ℕ, Bool, true, List, Option, Some, None, refl, sym, ap, ◌∙◌, arith, ltb, false}
 use Rattle.std.proofs.lemmas.Bool.Decides.{nat_tests}
 use Rattle.std.specs.Prelude.{IsSome}
@@ -20,7 +20,7 @@ use Rattle.kernel_tables.proofs.RangeChanged.{not_split}
 use Rattle.kernel_tables.proofs.RangeTests.{some_is}
 use Rattle.kernel_tables.specs.declared.faults.MapFault.TheVariants.{IsMapped}
 
--- where the page leads whose walk ends so
+-- where a page leads if its walk ends like this
 abbrev pub place_at : WalkEnd → Option Place
 place_at (Entry entry None) = None
 place_at (Entry entry (Some met)) = Some (place_of met)

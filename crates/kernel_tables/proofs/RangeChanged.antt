@@ -52,7 +52,8 @@ split_stay old new free free' root page split l n met lt is = split.others l n (
         let none : reach old root l n ≡ None = ap (λ k. reach old root k n) e ∙ (ap (reach old root 3) s ∙ large_none old root (slot_of page) split.large split.was) in
         is_hole (reach old root l n) none (rw is refl)
 
--- so many pages of the range are changed; `change` tells what becomes of a page that led to a place
+-- the first `done` pages of the range are changed; `change` says what becomes of a page that led to
+-- a place
 pub record IsChangedTo (old now : TableState) (page pages done : ℕ) (change : Place → Option Place) : Type 0 where
   pub place : IsSamePlace old now
   pub free : now.free ≡ old.free
@@ -259,7 +260,7 @@ granted_all old now page pages rights mapped all k lk = go (some_or_none (leads 
     go (inl x) = rw x.1 (all.changed k x.0 lk x.1)
     go (inr none) = absurd (is_hole (leads old (page + k)) none (mapped k lk))
 
--- a change that is told where a page led
+-- a change that is given for where a page led
 pub told : (o : Option Place) (P : Place → Type 0) (was : Place) → IfSome o P → o ≡ Some was → P was
 told None P was h e = absurd (cc)
 told (Some x) P was h e = let s : x ≡ was = cc in subst P s h

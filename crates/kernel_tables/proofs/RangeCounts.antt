@@ -113,7 +113,7 @@ one_absent words root level n =
     let z = absent_none words root level (n + 1) in
     absent_suc words root level n 0 ∙ omega arith
 
--- counts agree where the same prefixes have no table
+-- counts agree if the same prefixes have no table
 pub absent_alike : (old new : List ℕ) (root level count from : ℕ) →
     ((n : ℕ) → from ≤ n → n < from + count → is_none (reach new root level n) ≡ is_none (reach old root level n)) →
     absent new root level from count ≡ absent old root level from count
@@ -144,7 +144,7 @@ absent_step words root level from count =
     ∙ ap (λ n. absent words root level from count + absent words root level (from + count) n) z)) in
     b ∙ ap (λ n. absent words root level from count + n) (one_absent words root level (from + count))
 
--- where none has a table, all are counted
+-- if none has a table, all are counted
 absent_more : (words : List ℕ) (root level from count more : ℕ) →
     ((n : ℕ) → from + count ≤ n → n < from + count + more → reach words root level n ≡ None) →
     absent words root level from (count + more) ≡ absent words root level from count + more

@@ -1,4 +1,4 @@
--- What follows where a range is not refused.
+-- What follows if a range is not refused.
 use Rattle.std.proofs.Common.{◌≡◌, ℕ, zero, suc, ◌+◌, ◌-◌, ◌*◌, ◌<◌, ◌≤◌, Bool, true, false, not, cond, ltb, Option, Some, None, refl, sym, ap, ◌∙◌, ◌⊎◌, inl, inr, arith}
 use Rattle.std.proofs.lemmas.Bool.{cases_Bool}
 use Rattle.std.proofs.lemmas.Bool.Decides.{nat_tests}
@@ -16,7 +16,7 @@ use Rattle.kernel_tables.specs.TableState.{TableState, leads, limit_of}
 use Rattle.kernel_tables.specs.declared.range_fault.RangeFault.TheVariants.{NotCanonical, IsMapped, PastLimit, InArea, NoFrames}
 use Rattle.kernel_tables.proofs.RangeMapped.{becomes}
 
--- where there is no lowest number, the test holds for none
+-- if there is no lowest number, the test holds for none
 pub none_of_all : (test : ℕ → Bool) (from count : ℕ) → lowest test from count ≡ None → (k : ℕ) → k < count → test (from + k) ≡ false
 unfolding lowest
 none_of_all test from zero e k lt = absurd (omega arith)

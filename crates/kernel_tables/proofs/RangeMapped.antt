@@ -61,7 +61,7 @@ becomes_is state page pages frame slot b =
     let z : (page % 512 == frame % 512) ≡ true = grind (arith, nat_tests) in
     rw (x, y, z, b.no_table) refl
 
--- so many pages of the range are mapped
+-- the first `done` pages of the range are mapped
 pub record IsMappedTo (old now : TableState) (page pages frame done : ℕ) (rights : Rights) : Type 0 where
   pub place : IsSamePlace old now
   pub within : done ≤ pages
@@ -104,7 +104,7 @@ module _ (old now : TableState) (page pages frame done : ℕ) (rights : Rights)
     (range : IsCanonicalRange page pages)
     (before : IsMappedTo old now page pages frame done rights)
     (more : done < pages) where
-  -- where the test for such a slot holds, it becomes large
+  -- if the test for such a slot holds, it becomes large
   pub begins : ((page + done) % 512 == 0 && ((frame + done) % 512 == 0 && (nat_le 512 (pages - done) && is_none (reach now.words now.root 3 (slot_of ((page + done) / 512)))))) ≡ true →
       Becomes old page pages frame ((page + done) / 512)
   begins e =
@@ -140,7 +140,7 @@ module _ (old now : TableState) (page pages frame done : ℕ) (rights : Rights)
       let fits : 512 ≤ pages - done = grind (arith, nat_tests) in
       (grind (arith, nat_tests), grind (arith, nat_tests), omega arith)
 
-  -- and where it fails, the page's slot does not
+  -- and if it fails, the page's slot does not
   pub single : ((page + done) % 512 == 0 && ((frame + done) % 512 == 0 && (nat_le 512 (pages - done) && is_none (reach now.words now.root 3 (slot_of ((page + done) / 512)))))) ≡ false →
       Becomes old page pages frame ((page + done) / 512) → ⊥
   single e b =

@@ -47,7 +47,7 @@ lowest_at test from (suc count) (suc k) lt h is =
     (lowest_at test (from + 1) count k (omega arith) (λ j lj. let t : from + 1 + j ≡ from + suc j = omega arith in ap test t ∙ h (suc j) (omega arith)) (ap test s ∙ is)
     ∙ ap (λ n. Some n) s)
 
--- what a walk finds is a place exactly where there is one
+-- what a walk finds is a place exactly if there is one
 pub found_some : (o : Option Mapped) (p : Option Place) → option_map place_of o ≡ p → is_some o ≡ true → is_some p ≡ true
 found_some None p e t = absurd (cc)
 found_some (Some x) p e t = rw (← e) refl
@@ -186,7 +186,7 @@ alike words root page other missing block m b lo hi =
         let same : other ≡ page = omega (arith, lo, near) in
         (λ none. ap (walk_of words root) same ∙ none, λ none. ap (λ n. reach words root 3 (prefix_of n 3)) same ∙ none)
 
--- where the last table is missing the run ends with a slot
+-- if the last table is missing, the run ends with a slot
 pub alike_end : (words : List ℕ) (root page missing block : ℕ) → missing_of words root page 1 ≡ missing → block ≡ 2 ^ (9 * missing) →
     reach words root 3 (prefix_of page 3) ≡ None → (page - page % block + block) % 512 ≡ 0
 alike_end words root page missing block m b three =

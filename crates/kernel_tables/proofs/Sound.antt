@@ -57,7 +57,7 @@ added_outside area old new free free' root page frame rights added out before ot
         ap (in_area area) (sym (ap (λ r. r.frame) q)) ∙ out
     go (inr ne) = before other place (sym (added.pages other ne) ∙ is)
 
--- where each page that is met was met before, at the same frame
+-- if each page that is met was met before, at the same frame
 outside_kept : (area : Area) (old new : List ℕ) (root : ℕ) → LeadsOutside area old root →
     ((n : ℕ) (b : Place) → reach new root 4 n ≡ Some b → (p : Place) × (reach old root 4 n ≡ Some p) × (p.frame ≡ b.frame)) → LeadsOutside area new root
 unfolding walk_of

@@ -11,8 +11,8 @@ use Rattle.kernel_tables.specs.declared.faults.MapFault.TheVariants.{IsMapped, H
 use Rattle.kernel_tables.specs.declared.faults.EntryFault.{EntryFault}
 use Rattle.kernel_tables.specs.declared.faults.EntryFault.TheVariants as Entry
 
--- the page is mapped; the frame is not below the limit, or is one of the area; the free frames are too few for the tables
--- that the page misses: so many are wanting
+-- the page is mapped; the frame is not below the limit, or is one of the area; the free frames are too few for the
+-- tables that the page misses: the fault says how many are wanting
 abbrev pub map_fault : TableState → ℕ → ℕ → Option MapFault
 map_fault state page frame =
     (if is_some (leads state page) then Some IsMapped
@@ -22,8 +22,8 @@ map_fault state page frame =
     then Some (NoFrames (missing_of state.words state.root page 1 - free_count state.free))
     else None)
 
--- the slot is mapped by one entry, or has a table; one of the 512 frames is not below the limit, or is one of the area; the
--- free frames are too few for the tables that the slot misses above it: so many are wanting
+-- the slot is mapped by one entry, or has a table; one of the 512 frames is not below the limit, or is one of the area;
+-- the free frames are too few for the tables that the slot misses above it: the fault says how many are wanting
 abbrev pub map_large_fault : TableState → ℕ → ℕ → Option MapFault
 map_large_fault state page frame =
     (if is_some (large_of state.words state.root (slot_of page)) then Some IsMapped

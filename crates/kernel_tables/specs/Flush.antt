@@ -4,7 +4,7 @@ use Rattle.paging_core.specs.Address.{is_canonical}
 use Rattle.paging_core.specs.Walk.{Place}
 use Rattle.kernel_tables.specs.TableState.{TableState, leads}
 
--- no page; the page alone; the pages of the slot; so many pages from one on
+-- no page; only the page; the pages of the slot; a number of pages from one on
 abbrev pub no_page : ℕ → Bool
 no_page other = false
 
@@ -17,7 +17,8 @@ pages_of_slot page other = other / 512 == page
 abbrev pub pages_of_range : ℕ → ℕ → ℕ → Bool
 pages_of_range page pages other = nat_le page other && nat_lt other (page + pages)
 
--- After these pages were flushed, whatever is kept of a page is what a walk finds: each other page that was mapped leads where it led.
+-- After a flush of these pages, whatever is kept of a page is what a walk finds: each other page that was mapped leads
+-- where it led.
 abbrev pub IsFlushEnough : TableState → TableState → (ℕ → Bool) → Type 0
 IsFlushEnough old new flushed =
     (page : ℕ) (place : Place) → IsTrue (is_canonical (page * 4096)) → flushed page ≡ false → leads old page ≡ Some place → leads new page ≡ Some place

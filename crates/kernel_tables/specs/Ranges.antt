@@ -1,4 +1,4 @@
--- Ranges of pages: so many from `page` on. Those that are mapped lead to frames in a row, from `frame` on.
+-- Ranges of pages: `pages` of them from `page` on. Those that are mapped lead to frames in a row, from `frame` on.
 use Rattle.std.specs.Prelude.{◌≡◌, ℕ, zero, suc, ◌+◌, ◌-◌, ◌*◌, ◌/◌, ◌%◌, ◌^◌, ◌<◌, ◌≤◌, Bool, ◌==◌, ◌&&◌, not, nat_le, nat_lt, is_some, is_none, IsTrue, IsSome, if◌then◌else◌, count_by, Option, Some, None}
 use Rattle.std.specs.Option.{option_or, option_map}
 use Rattle.paging_core.specs.Address.{is_canonical}
@@ -17,7 +17,7 @@ use Rattle.kernel_tables.specs.declared.range_fault.RangeFault.TheVariants.{NotC
 abbrev pub lies_in_half : ℕ → ℕ → Bool
 lies_in_half page pages = (page + pages - 1) / 2 ^ 35 == page / 2 ^ 35
 
--- the lowest of so many numbers from one on for which the test holds
+-- the lowest number for which the test holds, of the given number of them from one on
 unfoldable pub lowest : (ℕ → Bool) → ℕ → ℕ → Option ℕ
 lowest test from zero = None
 lowest test from (suc count) = (if test from then Some from else lowest test (from + 1) count)
@@ -31,7 +31,7 @@ abbrev pub becomes_large : TableState → ℕ → ℕ → ℕ → ℕ → Bool
 becomes_large state page pages frame slot =
     nat_le page (512 * slot) && (nat_le (512 * slot + 512) (page + pages) && (page % 512 == frame % 512 && is_none (reach state.words state.root 3 (slot_of slot))))
 
--- how many do: those that have no table, of the slots that lie whole in the range
+-- how many become large: those that have no table, of the slots that lie whole in the range
 abbrev pub large_count : TableState → ℕ → ℕ → ℕ → ℕ
 large_count state page pages frame =
     let first = (page + 511) / 512 in
@@ -53,7 +53,7 @@ map_range_fault state page pages frame =
     else if nat_lt (free_count state.free) (tables_wanted state page pages frame) then Some (NoFrames (tables_wanted state page pages frame - free_count state.free))
     else None))
 
--- After the range was mapped exactly the slots that became large are large beside those that were.
+-- After the range was mapped, exactly the slots that became large are large, besides those that were before.
 abbrev pub AreSlotsLarge : TableState → TableState → ℕ → ℕ → ℕ → Rights → Type 0
 AreSlotsLarge old new page pages frame rights =
     (slot : ℕ) → IsTrue (is_canonical (512 * slot * 4096)) →
@@ -69,7 +69,8 @@ abbrev pub is_split : TableState → ℕ → ℕ → ℕ → Bool
 is_split state page pages slot =
     is_some (large_of state.words state.root (slot_of slot)) && not (nat_le page (512 * slot) && nat_le (512 * slot + 512) (page + pages))
 
--- how many large pages are split: the one in which the range begins and the one in which it ends, where they reach over it
+-- how many large pages are split: the one in which the range begins and the one in which it ends, if they reach beyond
+-- the range
 abbrev pub splits : TableState → ℕ → ℕ → ℕ
 splits state page pages =
     (if pages == 0 then 0

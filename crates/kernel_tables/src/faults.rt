@@ -18,7 +18,7 @@ pub enum MapFault {
     /// The frames of the area that are free are too few for the tables that the page misses.
     #[error("no frames for {wanting} of the missing tables")]
     NoFrames {
-        /// How many frames are wanting: for so many tables there is none.
+        /// How many frames are wanting: for this many tables there is none.
         wanting: u64,
     },
 }

@@ -16,7 +16,7 @@ use paging_core::{
 };
 
 impl<'a> Tables<'a> {
-    /// The large page, by its first frame, and its rights. None exactly where it is not mapped by one entry.
+    /// The large page, by its first frame, and its rights. None exactly if it is not mapped by one entry.
     pub fn large_page(&self, page: Page<Size2MiB>) -> Option<Mapped>
         ensures { option_map place_of result ≡ large_of self.now.words self.now.root (slot_of page) }
     {
@@ -94,8 +94,8 @@ impl<'a> Tables<'a> {
         }
     }
 
-    /// Ends the mapping of the large page, and answers the frames to which it led. None exactly where it is not mapped by one
-    /// entry. The tables stay. Its pages are to be flushed before the frames have another use.
+    /// Ends the mapping of the large page, and answers the frames to which it led. None exactly if it is not mapped by
+    /// one entry. The tables stay. Its pages are to be flushed before the frames have another use.
     pub fn unmap_large(&mut self, page: Page<Size2MiB>) -> Option<PhysFrame<Size2MiB>>
         ensures some { IsSome result ↔ IsSome (large_of self.old.words self.old.root (slot_of page)) }
         ensures same { result ≡ None → self.new ≡ self.old }

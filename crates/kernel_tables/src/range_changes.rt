@@ -251,9 +251,9 @@ impl<'a> Tables<'a> {
         }
     }
 
-    /// Ends the mapping of so many pages from this one on. A large page that lies whole in the range leaves by its one entry; one
-    /// that reaches over an end of the range is split in a frame of the area. The other tables stay. The pages of the range are to
-    /// be flushed before their frames have another use.
+    /// Ends the mapping of `pages` pages from this one on. A large page that lies whole in the range leaves by its one
+    /// entry; one that reaches over an end of the range is split in a frame of the area. The other tables stay. The
+    /// pages of the range are to be flushed before their frames have another use.
     pub fn unmap_range(&mut self, page: Page, pages: u64) -> Result<(), RangeFault>
         ensures ok { OnOk result (change_range_fault self.old page pages ≡ None) }
         ensures err { IfErr result (λ fault. change_range_fault self.old page pages ≡ Some fault) }
@@ -278,9 +278,9 @@ impl<'a> Tables<'a> {
         }
     }
 
-    /// Gives so many pages from this one on these rights. Each keeps its frame. A large page that lies whole in the range is
-    /// given them by its one entry; one that reaches over an end of the range is split in a frame of the area. The pages of the
-    /// range are to be flushed.
+    /// Gives these rights to `pages` pages from this one on. Each keeps its frame. A large page that lies whole in the
+    /// range is given them by its one entry; one that reaches over an end of the range is split in a frame of the area.
+    /// The pages of the range are to be flushed.
     pub fn protect_range(
         &mut self,
         page: Page,

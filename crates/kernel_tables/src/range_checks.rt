@@ -1,4 +1,4 @@
-//! What a range of pages meets: its lowest page that is mapped, and the tables that it wants.
+//! What a range of pages meets: its lowest page that is mapped, and the tables that it needs.
 ghost use Rattle.std.specs.Prelude.{◌≡◌, ℕ, ◌+◌, ◌-◌, ◌*◌, ◌/◌, ◌%◌, ◌^◌, ◌<◌, ◌≤◌, None, IsTrue, IsSome};
 ghost use Rattle.paging_core.specs.Address.{is_canonical, IsCanonicalRange};
 ghost use Rattle.paging_core.specs.Missing.{missing_of};
@@ -13,7 +13,7 @@ use paging_core::{
     Page, PhysFrame, PhysicalMemory, Size2MiB, WalkEnd, end_of_walk, has_table, missing_tables,
 };
 
-/// Whether the pages, of which there are some, lie in one canonical half.
+/// Whether the pages, at least one, lie in one canonical half.
 pub(crate) fn lies_in_half(page: Page, pages: u64) -> bool
     requires { 0 < pages }
     ensures test { result ≡ lies_in_half page pages }
@@ -46,8 +46,8 @@ impl<'a> Tables<'a> {
         missing
     }
 
-    /// The end of a run of pages from this one on, which misses so many tables: if it is not mapped, none of them is, and if its
-    /// slot has no table, none of theirs has.
+    /// The end of a run of pages from this one on that are alike. The page misses `missing` tables. If it is not
+    /// mapped, none of the run is; and if its slot has no table, no slot of the run has one.
     fn alike_until(&self, page: Page, missing: u64) -> u64
         requires missing { missing ≡ missing_of self.now.words self.now.root page 1 }
         ensures more { page < result }
@@ -125,7 +125,7 @@ impl<'a> Tables<'a> {
             .saturating_sub(self.large_count(page, pages, frame))
     }
 
-    /// Why the pages, of which there are some, are not mapped to the frames, if they are not.
+    /// Why the pages, at least one, are not mapped to the frames, if they are not.
     pub(crate) fn map_range_fault(
         &self,
         page: Page,

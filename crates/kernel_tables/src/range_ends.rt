@@ -71,7 +71,7 @@ impl<'a> Tables<'a> {
         splits
     }
 
-    /// Why the pages, of which there are some, are not changed, if they are not.
+    /// Why the pages, at least one, are not changed, if they are not.
     pub(crate) fn change_range_fault(&self, page: Page, pages: u64) -> Option<RangeFault>
         requires some { 0 < pages }
         ensures fault { result ≡ change_range_fault self.now page pages }

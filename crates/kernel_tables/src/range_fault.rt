@@ -19,7 +19,7 @@ pub enum RangeFault {
     /// A frame is one of the tables' area.
     #[error("a frame lies in the area of the tables")]
     InArea,
-    /// So many frames of the area are wanting for the tables that the call makes.
+    /// This many frames of the area are wanting for the tables that the call makes.
     #[error("{wanting} frames are wanting for tables")]
     NoFrames { wanting: u64 },
 }

@@ -80,7 +80,8 @@ impl<'a> Tables<'a> {
         );
     }
 
-    /// Whether the pages from this one on, of which so many are left to be mapped, begin with a slot that becomes large.
+    /// Whether the pages from this one on, of which `left` are still to be mapped, begin with a slot that becomes
+    /// large.
     fn begins_large(&self, page: Page, left: u64, frame: PhysFrame) -> bool
         ensures { result ≡ (page % 512 == 0 && (frame % 512 == 0 && (nat_le 512 left && is_none (reach self.now.words self.now.root 3 (slot_of (page / 512)))))) }
     {
@@ -120,9 +121,9 @@ impl<'a> Tables<'a> {
         }
     }
 
-    /// Maps so many pages, from this one on, to frames in a row with the rights, and makes the tables that they miss. A slot that
-    /// lies whole in the range, has no table, and whose frames begin at a multiple of 512, is mapped by one entry. No entry that
-    /// was present changes, so no flush is needed.
+    /// Maps `pages` pages from this one on to frames in a row, with the rights, and makes the tables that they miss. A
+    /// slot is mapped by one entry if it lies whole in the range, has no table, and its frames begin at a multiple of
+    /// 512. No entry that was present changes, so no flush is needed.
     pub fn map_range(
         &mut self,
         page: Page,

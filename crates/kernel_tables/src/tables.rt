@@ -39,11 +39,11 @@ impl<'a> Model for Tables<'a> {
 }
 
 impl<'a> Tables<'a> {
-    /// Tables in the area of which these are the words, 512 a frame, from the first frame on. Pages lead to frames below the
-    /// limit. No page is mapped, and one frame is taken for the root.
+    /// Tables in the area of which these are the words, 512 per frame, from the first frame on. Pages lead to frames
+    /// below the limit. No page is mapped, and one frame is taken for the root.
     ///
-    /// None exactly where the words are not those of whole frames, or are none; where the area ends behind the limit; or
-    /// where the limit is not below 2^40, the number of frames that an entry can name.
+    /// None exactly if the words are not those of whole frames, or are none; if the area ends after the limit; or if
+    /// the limit is not below 2^40, the number of frames that an entry can name.
     pub fn new(words: &'a mut [u64], first: u64, limit: u64) -> Option<Tables<'a>>
         ensures some { IsSome result ↔ ((length words.entry.now % 512 ≡ 0) × (0 < length words.entry.now) × (first + length words.entry.now / 512 ≤ limit) × (limit < 2 ^ 40)) }
         ensures empty { IfSome result (λ tables. (page : ℕ) → leads tables page ≡ None) }
@@ -84,7 +84,7 @@ impl<'a> Tables<'a> {
         walk(&self.memory, self.root, page)
     }
 
-    /// Why a page that is not mapped, and misses so many tables, is not mapped to the frame, if it is not.
+    /// Why a page that is not mapped, and misses `missing` tables, is not mapped to the frame, if it is not.
     #[inline(always)]
     fn map_fault(&self, page: Page, missing: u64, frame: PhysFrame) -> Option<MapFault>
         requires unmapped { leads self.now page ≡ None }

@@ -28,7 +28,7 @@ const READ_WRITE: Rights = Rights {
 /// The last page of the address space.
 const LAST: u64 = 0xffff_ffff_ffff_f000;
 
-// A window of so many pages from 0x400000 on, and 1024 frames.
+// A window of `pages` pages from 0x400000 on, and 1024 frames.
 fn empty(alloc: Global, pages: u64) -> Result<PagedSystem, AllocError>
     requires some { 0 < pages }
     requires few { pages < 65536 }
@@ -36,7 +36,7 @@ fn empty(alloc: Global, pages: u64) -> Result<PagedSystem, AllocError>
     PagedSystem::new(alloc, 0x40_0000, pages, 1024)
 }
 
-// Where so many bytes were granted, if they were.
+// Where `size` bytes were granted, if they were.
 fn grant(system: &mut PagedSystem, size: u64) -> Option<u64>
     requires some { 0 < size }
     requires whole { size % 16 ≡ 0 }
@@ -47,7 +47,7 @@ fn grant(system: &mut PagedSystem, size: u64) -> Option<u64>
     }
 }
 
-// Sees that a map is answered so.
+// Checks that a map gets this answer.
 fn expect_map(
     rt: &impl Abort,
     system: &mut PagedSystem,
@@ -62,7 +62,7 @@ fn expect_map(
     );
 }
 
-// Sees that an unmap is answered so.
+// Checks that an unmap gets this answer.
 fn expect_unmap(
     rt: &impl Abort,
     system: &mut PagedSystem,
@@ -78,7 +78,7 @@ fn counts(system: &PagedSystem) -> (u64, u64) {
     (system.free_frames(), system.tables())
 }
 
-// Maps and unmaps where several causes could be told.
+// Maps and unmaps ranges for which several causes could be given.
 fn expect_causes(rt: &impl Abort, system: &mut PagedSystem) {
     same(rt, system.map(LAST, 1, READ), Ok(()));
     same(rt, grant(system, 65536), Some(0x40_0000));
@@ -111,7 +111,7 @@ fn causes_in_their_order(rt: HostRuntime) -> Result<(), Fail> {
     Ok(())
 }
 
-// Sees that a system has these regions, all of which may be written.
+// Checks that a system has these regions, all of which may be written.
 fn expect_regions(
     rt: &impl Abort,
     alloc: Global,
@@ -178,7 +178,7 @@ fn unmap_beside(heap: &mut Dlmalloc<PagedSystem>, start: u64, pages: u64) -> Res
     heap.allocator_mut().unmap(start, pages)
 }
 
-// The block of so many bytes that a heap hands out, if it does.
+// The block of `size` bytes that a heap hands out, if it does.
 fn block<L: Ledger>(
     heap: &mut Dlmalloc<PagedSystem>,
     size: u64,

@@ -23,7 +23,7 @@ fn beside_a_page_of_the_user(alloc: Global) -> Result<PagedSystem, AllocError>
     Ok(system)
 }
 
-// Grants 4 pages and 8 behind them, and gives all back but so many times 16 bytes. Answers whether they were taken.
+// Grants 4 pages and 8 after them, and gives all back but `left` times 16 bytes. Answers whether they were taken.
 fn given_back(system: &mut PagedSystem, left: u16) -> Option<bool>
     requires { grants_of (paged system.old) ≡ [] }
 {
@@ -47,7 +47,7 @@ fn given_back(system: &mut PagedSystem, left: u16) -> Option<bool>
     Some(system.free_part(first.base, size, left))
 }
 
-// The first page of a region and its pages, and zeros where there is none.
+// The first page of a region and its pages, and zeros if there is none.
 fn pages_at(system: &PagedSystem, alloc: Global, index: u64) -> Result<(u64, u64), AllocError> {
     let list = system.regions(alloc)?;
     Ok(
@@ -118,7 +118,7 @@ const ROWS: [Row; 7] = [
     },
 ];
 
-/// Sees that a row is so, over a system that has granted nothing.
+/// Checks that a row holds, over a system that has granted nothing.
 fn expect_row(
     rt: &impl Abort,
     alloc: Global,

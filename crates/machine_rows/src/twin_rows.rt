@@ -39,7 +39,7 @@ enum Call {
     Trim(u64, bool),
     /// Puts the first word of the block at an address.
     Store(u64, u64),
-    /// Sees that the first word of the block at an address has this value in the bits of a mask.
+    /// Checks that the first word of the block at an address has this value in the bits of a mask.
     Load(u64, u64, u64),
 }
 
@@ -170,7 +170,7 @@ pub(crate) fn word_of_both<R: Abort>(rt: &R, system: &TwinSystem, at: u64, rule:
     word
 }
 
-/// Sees that both memories have the same word at each place of a region.
+/// Checks that both memories have the same word at each place of a region.
 fn expect_same<R: Abort>(rt: &R, system: &TwinSystem, region: &Region, rule: &str) {
     assert!(rt; region.pages < 1 << 40);
     for index in 0..512 * region.pages {
@@ -179,7 +179,7 @@ fn expect_same<R: Abort>(rt: &R, system: &TwinSystem, region: &Region, rule: &st
     }
 }
 
-/// Sees that both memories have the same word at each granted place.
+/// Checks that both memories have the same word at each granted place.
 fn expect_twins<R: Abort>(
     rt: &R,
     alloc: Global,
@@ -203,7 +203,7 @@ fn chunk_at(extents: &[Extent], at: u64) -> Option<(Kind, u64)>
         .map(|extent| (extent.kind, extent.size))
 }
 
-/// The size of the chunk of the block at an address, where there has to be one.
+/// The size of the chunk of the block at an address, which has to be there.
 fn chunk_of<L: Ledger, R: Abort>(
     rt: &R,
     alloc: Global,

@@ -46,7 +46,7 @@ fn expect_words(rt: &impl Abort, system: &mut TwinSystem) -> Result<(), Fail>
     same(rt, system.flat_word(0x40_fff8), Some(0xaa22_3344_5566_7788));
     same(rt, system.flat_word(0x40_ffff), Some(0xaa22_3344_5566_7788));
     same(rt, system.flat_word(0x41_0000), None);
-    // The refusal leaves the words, so they can be loaded.
+    // The refusal leaves the words as they are, so they can be loaded.
     assert_eq!(rt; system.alloc(4096), Err(GrantFault::NoSpace));
     same(rt, system.load(0x40_fff8), 0xaa22_3344_5566_7788);
     Ok(())

@@ -6,7 +6,7 @@ use std::rt::Env;
 use std::time::{CpuClock, Duration};
 use std::{env, io};
 
-/// The numbers behind the program's own name. A word that is no number is an error.
+/// The numbers after the program's own name. A word that is no number is an error.
 pub fn numbers<R: Env + Alloc>(rt: &R, alloc: Global) -> io::Result<Vec<u32>> {
     let mut numbers = Vec::new(alloc);
     for word in env::args(rt)?.skip(1) {
@@ -31,7 +31,7 @@ impl Watch {
         })
     }
 
-    /// The processor time since then, for each of so many rounds.
+    /// The processor time since then, for each of `rounds` rounds.
     pub fn mean(self, rt: &impl CpuClock, rounds: u32) -> io::Result<Duration> {
         let taken = rt.process_cpu_time()?.saturating_sub(self.start);
         Ok(taken / rounds.max(1))

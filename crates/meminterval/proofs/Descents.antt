@@ -41,7 +41,7 @@ module _ {T V : Type 0} where
   pub after_left : (b : Box (Node T V) Global) (d k : ℕ) → length (visited (tree_of b.value.right)) ≤ k → left_after (suc d) (Fork b) (suc k) ≡ left_after d b.value.left (k - length (visited (tree_of b.value.right)))
   after_left b d k h = rw (lt_false k (length (visited (tree_of b.value.right))) h) refl
 
-  -- a way that ends within so many turns ends there within more
+  -- a way that ends within a number of turns ends there within more
   pub ends : (d m : ℕ) (t : Subtree T V) (k : ℕ) → d ≤ m → left_after d t k ≡ 0 → (reached m t k ≡ reached d t k) × ((w : Node T V) → put_reached m t k w ≡ put_reached d t k w)
   ends d m Empty k le h = (refl, λ w. refl)
   ends d m (Fork' p l i v g n s r) zero le h = (refl, λ w. refl)
@@ -58,7 +58,7 @@ module _ {T V : Type 0} where
         (rw b ih.0, λ w. rw b (ap (λ x. Fork' p x i v g n s r) (ih.1 w)))
   ]
 
-  -- where nothing was reached there is no pair
+  -- if nothing was reached there is no pair
   pub nothing : (d m : ℕ) (t : Subtree T V) (k : ℕ) → d ≤ m → reached d t k ≡ None → (reached m t k ≡ None) × ((w : Node T V) → put_reached m t k w ≡ put_reached d t k w)
   nothing d m Empty k le h = (refl, λ w. refl)
   nothing d m (Fork' p l i v g n s r) zero le h = cc
@@ -157,7 +157,7 @@ module _ {T V : Type 0} where
   size_of : (l r : Subtree T V) (e : Interval T × V) → length (visited (tree.Fork (tree_of l) e (tree_of r))) ≡ suc (length (visited (tree_of r)) + length (visited (tree_of l)))
   size_of l r e = omega (arith, length-append (visited (tree_of r)) (visited (tree_of l)))
 
-  -- a way of so many turns reaches each pair of a tree that has at most one level more
+  -- a way of some number of turns reaches each pair of a tree that has at most one level more
   pub value_reached : (d : ℕ) (t : Subtree T V) (k : ℕ) → levels (tree_of t) ≤ suc d → k < length (visited (tree_of t))
       → option_map (λ n. n.value) (reached d t k) ≡ option_map (λ e. e.1) (slice_get (visited (tree_of t)) k)
   value_reached d Empty k low lt = absurd (omega (arith, lt))

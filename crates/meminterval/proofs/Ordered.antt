@@ -72,7 +72,7 @@ pub is_some-map : {A B : Type 0} (f : A → B) (o : Option A) → is_some (optio
 is_some-map f None = refl
 is_some-map f (Some x) = refl
 
--- the order by start and then by end is total where that of the ends is
+-- the order by start and then by end is total if that of the ends is
 pub by_ends-total : {T : Type 0} {cmp : T → T → Ordering} → IsTotalOrder cmp → IsTotalOrder (by_ends cmp)
 by_ends-total o = then_total (on_total (λ i. i.start) o) (on_total (λ i. i.end) o)
 
@@ -191,7 +191,7 @@ module _ {K V : Type 0} (cmp : K → K → Ordering) where
     pub without_right : (k : K) → cmp k e.0 ≡ Greater → without_key cmp k (l ++ e ∷ r) ≡ l ++ e ∷ without_key cmp k r
     without_right k h = without_past k l (e ∷ r) (above_before o k l e r (ap is_lt h) s) ∙ ap (λ w. l ++ cond (is_eq w) r (e ∷ without_key cmp k r)) h
 
--- where a start is below a key, so are the starts before it
+-- if a start is below a key, so are the starts before it
 module _ {T : Type 0} (cmp : T → T → Ordering) (o : IsTotalOrder cmp) (key : T) where
   starts_by : (a b : Interval T) (r q : Ordering) → cmp a.start b.start ≡ r → ordering_then r q ≡ Less → is_lt (cmp b.start key) ≡ true → is_lt (cmp a.start key) ≡ true
   starts_by a b Less q p h k = lower (cmp b.start key) refl k where

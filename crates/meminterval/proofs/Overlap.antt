@@ -114,14 +114,14 @@ module _ {T V : Type 0} (cmp : T → T → Ordering) (o : IsTotalOrder cmp) wher
   filter_none p (e ∷ es) a = rw a.0 (filter_none p es a.1)
 
   module _ (i : Interval T) (l : Tree (Interval T × V)) (e : Interval T × V) (r : Tree (Interval T × V)) where
-    -- where nothing ends above the start
+    -- if nothing ends above the start
     pub nothing_overlaps : (g : T) → Some g ≡ greatest_end cmp (Fork l e r) → is_lt (cmp i.start g) ≡ false → AllItems (λ f. overlaps cmp f.0 i ≡ false) (visited (Fork l e r))
     nothing_overlaps g p h = visited_all (λ f. overlaps cmp f.0 i ≡ false) (Fork l e r)
         (all_map (λ f. UpToSome cmp f.0.end (greatest_end cmp (Fork l e r))) (λ f. overlaps cmp f.0 i ≡ false)
         (λ f q. let q' = subst (UpToSome cmp f.0.end) (sym p) q in ends_before cmp o f.0 i (chain cmp o f.0.end g i.start q' (up_to cmp o i.start g h)))
         (entries (Fork l e r)) (ends_within (Fork l e r)))
 
-    -- where the node starts at the end or above
+    -- if the node starts at the end or above
     pub right_overlaps : IsOrdered (by_ends cmp) (entries (Fork l e r)) → is_lt (cmp e.0.start i.end) ≡ false → AllItems (λ f. overlaps cmp f.0 i ≡ false) (visited r)
     right_overlaps s h =
         let far = up_to cmp o e.0.start i.end h in
@@ -147,7 +147,7 @@ module _ {T V : Type 0} (cmp : T → T → Ordering) (o : IsTotalOrder cmp) wher
     pub no_place : (g : T) → Some g ≡ greatest_end cmp (Fork l e r) → not (is_lt (cmp i.start g)) ≡ true → (k : ℕ) → place_from (λ f. overlaps cmp f.0 i) k (visited (Fork l e r)) ≡ None
     no_place g p h k = place_nowhere (λ f. overlaps cmp f.0 i) (visited (Fork l e r)) k (nothing_overlaps g p (not_true (is_lt (cmp i.start g)) h))
 
-    -- nor in the right subtree where the node starts at the end or above
+    -- nor in the right subtree if the node starts at the end or above
     pub no_place_right : IsOrdered (by_ends cmp) (entries (Fork l e r)) → is_lt (cmp e.0.start i.end) ≡ false → (n k : ℕ) → n ≡ length (entries r)
         → place_from (λ f. overlaps cmp f.0 i) n (visited r) ≡ place_from (λ f. overlaps cmp f.0 i) k (visited r)
     no_place_right s h n k q =

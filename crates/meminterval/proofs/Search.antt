@@ -94,7 +94,7 @@ module _ {E : Type 0} (p : E → Bool) where
   none_by true x xs h f = cc
   none_by false x xs h f = f (mapped_none (place_from p zero xs) h)
 
-  -- where no place is found, none of the items from there on passes
+  -- if no place is found, none of the items from there on passes
   pub rest_none : (xs : List E) (k : ℕ) → place_from p k xs ≡ None → filter p (drop k xs) ≡ []
   rest_none [] zero h = refl
   rest_none [] (suc k) h = refl
@@ -114,7 +114,7 @@ module _ {E : Type 0} (p : E → Bool) where
       let m = mapped (place_from p zero xs) j h in
       later (filter p xs) x xs m.0 j m.2 (f m.0 m.1)
 
-  -- where one is found, its item is the first of those from there on that pass
+  -- if one is found, its item is the first of those from there on that pass
   pub rest_some : (xs : List E) (k j : ℕ) → place_from p k xs ≡ Some j → IsRest (filter p (drop k xs)) xs j
   rest_some [] k j h = cc
   rest_some (x ∷ xs) zero j h = some_by (p x) x xs j h (rest_some xs zero)

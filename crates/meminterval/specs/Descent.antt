@@ -1,4 +1,4 @@
--- The way down a tree to a place, so many turns long at most.
+-- The way down a tree to a place, at most a given number of turns long.
 use Rattle.std.specs.Prelude.{ℕ, zero, suc, ◌-◌, cond, nat_lt, Option, Some, None, length}
 use Rattle.meminterval.specs.declared.node.Node.{Node}
 use Rattle.meminterval.specs.declared.node.Subtree.{Subtree}
@@ -7,7 +7,7 @@ use Rattle.meminterval.specs.Subtree.{tree_of}
 use Rattle.meminterval.specs.Tree.{visited}
 
 module _ {T V : Type 0} where
-  -- the subtree in which the k-th pair behind the node's own lies
+  -- the subtree in which the k-th pair after the node's own lies
   abbrev pub turn : Node T V → ℕ → Subtree T V
   turn n k = cond (nat_lt k (length (visited (tree_of n.right)))) n.right n.left
 
@@ -19,7 +19,7 @@ module _ {T V : Type 0} where
   abbrev pub put_turn : Node T V → ℕ → Subtree T V → Node T V
   put_turn n k w = cond (nat_lt k (length (visited (tree_of n.right)))) (record n { right = w }) (record n { left = w })
 
-  -- the node at a place, or the one on the way to it after so many turns
+  -- the node at a place, or the one on the way to it after this many turns
   abbrev pub reached : ℕ → Subtree T V → ℕ → Option (Node T V)
   reached d Empty k = None
   reached d (Fork' p l i v g n s r) zero = Some (record { left = l; interval = i; value = v; greatest = g; levels = n; size = s; right = r })

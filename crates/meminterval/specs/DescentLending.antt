@@ -1,4 +1,4 @@
--- What a tree ends as, once a node of it that was lent is no more used.
+-- What a tree ends as, once a node of it that was lent is no longer used.
 use Rattle.std.specs.Prelude.{ℕ, Option}
 use Rattle.std.specs.Borrow.{Fml, Lends, LendsIf, MutBor, RattleType}
 use Rattle.meminterval.specs.declared.node.Node.{Node}
@@ -9,7 +9,7 @@ use Rattle.meminterval.specs.Descent.{put_reached, put_turn}
 use Rattle.meminterval.specs.Place.{put_last, put_value}
 
 module _ (T V : RattleType) where
-  -- the node ends with the tree where the way goes on as it is left there
+  -- the node ends with the tree in which the way goes on as it is left there
   abbrev pub LendsTurn : MutBor (Node T.Denot V.Denot) → ℕ → MutBor (Subtree T.Denot V.Denot) → Fml
   LendsTurn n k r = Lends (node.the_row T V) (subtree.the_row T V) n r (put_turn n.now k)
 

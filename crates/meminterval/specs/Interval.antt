@@ -7,7 +7,7 @@ use Rattle.std.specs.declared.cmp.Ordering.TheVariants.{Equal}
 use Rattle.std.specs.Ordering.{is_eq, is_lt, ordering_then, ord_max, ord_min}
 use Rattle.meminterval.specs.declared.interval.Interval.{Interval}
 
--- a clone, where one is made, is the value itself
+-- if a clone is made, it is the value itself
 abbrev pub ClonesEqual : {V : Type 0} → (V → V → Type 0) → Type 0
 ClonesEqual {V} is_clone = (x y : V) → is_clone x y → y ≡ x
 
@@ -36,11 +36,11 @@ module _ {T : Type 0} (cmp : T → T → Ordering) where
   abbrev pub overlaps : Interval T → Interval T → Bool
   overlaps a b = has_items (common a b)
 
-  -- the common part, where it has items
+  -- the common part, if it has items
   abbrev pub intersection : Interval T → Interval T → Option (Interval T)
   intersection a b = cond (overlaps a b) (Some (common a b)) None
 
--- the texts of the two ends with two dots in between, where both have one
+-- the texts of the two ends with two dots in between, if both have one
 abbrev pub interval_text : {T : Type 0} → (T → Option (List ℕ)) → Interval T → Option (List ℕ)
 interval_text text i = option_and_then (λ start. option_map (λ end. start ++ (codes ".." ++ end)) (text i.end)) (text i.start)
 

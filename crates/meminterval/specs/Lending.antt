@@ -1,4 +1,4 @@
--- What a cursor ends as, once the pair that it answered is no more used.
+-- What a cursor ends as, once the pair that it answered is no longer used.
 use Rattle.std.specs.Prelude.{◌≡◌, ℕ, Bool, Option, [], ⊤}
 use Rattle.std.specs.Borrow.{Fml, LendsIf, MutBor, RattleType, follows_so}
 use mathlib.Core.Option.{none}
@@ -11,7 +11,7 @@ use Rattle.meminterval.specs.Tree.{Tree}
 use Rattle.meminterval.specs.contracts.tree.IntervalTree as tree
 use Rattle.meminterval.specs.contracts.iterators_mut.IntervalTreeIteratorMut as cursor
 
--- what an order and a clone are by
+-- the functions by which keys are compared and cloned
 abbrev pub KeyMembers : Type 0 → Type 1
 KeyMembers T = record { eq : T → T → Bool; partial_cmp : T → T → Option Ordering; cmp : T → T → Ordering; is_clone : T → T → Type 0; is_infallible : T → Type 0 }
 
@@ -20,7 +20,7 @@ module _ (T V : RattleType) (key : KeyMembers T.Denot) where
   abbrev pub cursor_row : RattleType
   cursor_row = cursor.the_row (record { mir = named 1; lft = [] }) T V (record { cmp = key.cmp }) (record { eq = key.eq }) (record { partial_cmp = key.partial_cmp }) (record { is_clone = key.is_clone; is_infallible = key.is_infallible })
 
-  -- the cursor is behind the next pair, if there is one
+  -- the cursor is after the next pair, if there is one
   abbrev pub ends_moved : MutBor (Cursor T.Denot V.Denot) → Fml
   ends_moved c = follows_so cursor_row cursor_row c.ghost_name none (λ _ _. ⊤) (λ n. n ≡ moved key.cmp c.now)
 

@@ -11,7 +11,7 @@ use Rattle.meminterval.specs.Subtree.{tree_of_node, IsRecordedNode}
 use Rattle.meminterval.specs.Tree.{Tree, entries, levels, visited}
 
 module _ {T V : Type 0} where
-  -- the pairs below nodes of which the last comes first
+  -- the pairs below nodes, those of the last node first
   abbrev pub to_visit : List (Bor (Node T V)) → List (Interval T × V)
   to_visit [] = []
   to_visit (n ∷ ns) = to_visit ns ++ visited (tree_of_node n.now)

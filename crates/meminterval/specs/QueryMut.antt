@@ -39,6 +39,6 @@ module _ {T V : Type 0} where
     abbrev pub left_of : Cursor T V → List (Interval T × V)
     left_of c = filter (λ e. overlaps cmp e.0 c.interval) (drop c.passed (visited c.tree.now))
 
-    -- the cursor behind the first pair that overlaps and was not passed, if there is one
+    -- the cursor after the first pair that overlaps and was not passed, if there is one
     abbrev pub moved : Cursor T V → Cursor T V
     moved c = moved_to c (place_from (λ e. overlaps cmp e.0 c.interval) c.passed (visited c.tree.now))

@@ -37,7 +37,7 @@ module _ {E : Type 0} where
   IsBalanced Leaf = Unit {0}
   IsBalanced (Fork l e r) = IsBalanced l × IsBalanced r × DifferByAtMost 1 (levels l) (levels r)
 
--- the number of edges on the longest path from the root, and -1 where there is no node
+-- the number of edges on the longest path from the root, and -1 if there is no node
 abbrev pub height : {E : Type 0} → Tree E → ℤ
 height Leaf = negsuc 0
 height (Fork l e r) = pos (max (levels l) (levels r))

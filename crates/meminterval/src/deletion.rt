@@ -1,5 +1,5 @@
-//! Pairs that leave. No call here needs memory: where a node has two subtrees, the least node of
-//! the right one takes its place.
+//! Pairs that leave. No call here needs memory: if a node has two subtrees, the least node of the
+//! right one takes its place.
 ghost use Rattle.std.specs.Prelude.{◌≡◌, ◌+◌, ◌<◌, ◌≤◌, ◌^◌, max, [], ◌∷◌, ◌++◌, length};
 ghost use Rattle.meminterval.specs.Entries.{IsOrdered, without_key};
 ghost use Rattle.meminterval.specs.Interval.{ClonesItself, by_ends};
@@ -41,7 +41,7 @@ pub(crate) fn delete_below<T: Ord + Clone, V: Drop>(
     }
 }
 
-/// One tree of the two subtrees that a node had.
+/// One tree of the two subtrees of a node.
 fn join<T: Ord + Clone, V: Drop>(left: Subtree<T, V>, right: Subtree<T, V>) -> Subtree<T, V>
     requires clones { ClonesItself T.is_clone T.is_infallible }
     requires left { IsRecorded T.cmp left × IsBalanced (tree_of left) }

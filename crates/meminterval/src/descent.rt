@@ -45,7 +45,7 @@ fn value_below<T: Ord, V>(tree: &mut Subtree<T, V>, place: usize) -> Option<&mut
     Some(&mut node.value)
 }
 
-/// A way down of so many turns.
+/// A way down with a fixed number of turns.
 trait Way {
     ghost turns: { ℕ };
 
@@ -106,7 +106,7 @@ impl<W: Way> Way for Twice<W> {
 /// The way of 127 turns: of 63, of 31, of 15, of 7, of 3 and of one, each twice with a turn between.
 type Longest = Twice<Twice<Twice<Twice<Twice<Twice<Twice<Here>>>>>>>;
 
-// The place that is left below the node that a way of so many turns reaches.
+// The place that is left below the node that a way of this many turns reaches.
 fn left_after<T: Ord, V>(tree: &Subtree<T, V>, place: usize, turns: u64) -> usize
     requires { IsRecorded T.cmp tree.now }
     ensures { result ≡ left_after turns tree.now place }
@@ -125,7 +125,7 @@ fn left_after<T: Ord, V>(tree: &Subtree<T, V>, place: usize, turns: u64) -> usiz
     }
 }
 
-// The subtree in which a pair lies, of those behind the node's own.
+// The subtree in which a pair lies, of those after the node's own.
 fn turn<T: Ord, V>(node: &mut Node<T, V>, place: usize) -> &mut Subtree<T, V>
     requires { IsRecorded T.cmp node.old.right }
     ensures* lends { sem 𝓛 (LendsTurn T.row V.row node.entry place result) }

@@ -25,7 +25,8 @@ pub(crate) enum Insertion<T: Ord, V> {
 }
 
 /// Puts a pair where the order leads, unless its interval is there, and restores the balance from
-/// there up. The node is made at the empty place, so that no memory is wanted where there is none.
+/// there up. The node is made at the empty place, so no memory is asked for if there is no such
+/// place.
 pub(crate) fn insert_below<T: Ord + Clone, V: Drop>(
     alloc: Global,
     tree: Subtree<T, V>,

@@ -39,7 +39,7 @@ impl<T: Ord> Interval<T> {
         }
     }
 
-    /// Makes the interval from `start` to `end`, both held. None exactly where one more than `end`
+    /// Makes the interval from `start` to `end`, both held. None exactly if one more than `end`
     /// does not fit its type.
     pub fn from_inclusive(start: T, end: T) -> Option<Self>
     where
@@ -60,8 +60,8 @@ impl<T: Ord> Interval<T> {
         self.start < self.end
     }
 
-    /// The part that both intervals hold: from the greater start to the lesser end. None exactly
-    /// where that is not valid.
+    /// The part that both intervals hold: from the greater start to the lesser end. None exactly if
+    /// that is not valid.
     ///
     /// An end's clone has to be that end, and may not fail.
     pub fn intersect(&self, other: &Self) -> Option<Self>
@@ -114,7 +114,7 @@ impl<T: Ord> Interval<T> {
     }
 }
 
-/// A value's clone, where that is the value itself and is always made.
+/// A value's clone, if that is the value itself and is always made.
 pub(crate) fn copied<T: Clone>(value: &T) -> T
     requires { ClonesItself T.is_clone T.is_infallible }
     ensures { result ≡ value.now }

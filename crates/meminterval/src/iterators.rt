@@ -41,7 +41,7 @@ impl<'a, T: Ord + Clone, V> Model for IntervalTreeIterator<'a, T, V> {
 
 impl<'a, T: Ord + Clone, V> IntervalTreeIterator<'a, T, V> {
     /// The pairs below `root` that overlap `interval`. As many places are reserved as the tree has
-    /// levels, so that no later call needs memory.
+    /// levels, so no later call needs memory.
     pub(crate) fn new(
         alloc: Global,
         root: &'a Subtree<T, V>,
@@ -93,8 +93,8 @@ fn next_node<'a, T: Ord, V>(
 }
 
 // Whether the node's own pair overlaps `interval`. Leaves the subtrees that may have a pair which
-// does: neither where nothing below the node ends above the start, and not the right one where the
-// node starts at the end or above.
+// does: neither if nothing below the node ends above the start, and not the right one if the node
+// starts at the end or above.
 fn look_at<'a, T: Ord, V>(
     nodes: &mut Vec<&'a Node<T, V>>,
     node: &'a Node<T, V>,

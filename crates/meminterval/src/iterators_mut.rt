@@ -53,7 +53,7 @@ impl<'a, T: Ord + Clone, V> IntervalTreeIteratorMut<'a, T, V> {
         }
     }
 
-    /// The next pair, and None where all were answered.
+    /// The next pair, and None if all were answered.
     pub fn next(&mut self) -> Option<Entry<'_, T, V>>
         ensures* cursor { sem 𝓛 (ends_moved T.row V.row (record { eq = T.eq; partial_cmp = T.partial_cmp; cmp = T.cmp; is_clone = T.is_clone; is_infallible = T.is_infallible }) self.entry) }
         ensures pairs { MatchOption result (left_of T.cmp self.old ≡ []) (λ e. left_of T.cmp self.old ≡ pair_of e ∷ left_of T.cmp (moved T.cmp self.old)) }
@@ -144,7 +144,7 @@ pub(crate) fn place_below<T: Ord, V>(
     moved_by(place, right_size + 1)
 }
 
-// A place so much further on.
+// A place further on by this number.
 fn moved_by(place: Option<usize>, by: usize) -> Option<usize>
     requires { IfSome place (λ n. n + by < 2 ^ 64) }
     ensures { result ≡ option_map (λ n. n + by) place }
@@ -152,7 +152,7 @@ fn moved_by(place: Option<usize>, by: usize) -> Option<usize>
     Some(place? + by)
 }
 
-// Whether the tree below a node is neither passed nor ends up to the start.
+// Whether the tree below a node is not passed, and does not end at the start or before it.
 fn may_have_place<T: Ord, V>(node: &Node<T, V>, passed: usize, interval: &Interval<T>) -> bool
     requires { IsSoundNode T.cmp node.now }
     ensures { result ≡ false → place_from (λ e. overlaps T.cmp e.0 interval.now) passed (visited (tree_of_node node.now)) ≡ None }
@@ -170,8 +170,8 @@ fn is_place<T: Ord, V>(node: &Node<T, V>, passed: usize, interval: &Interval<T>)
     passed == 0 && node.interval.overlaps(interval)
 }
 
-// How many places of the right subtree need no look, where so many are passed: all of them where
-// the node starts at the end or above.
+// How many places of the right subtree need no look, if `passed` are passed: all of them if the node starts at the end
+// or above.
 fn passed_on_the_right<T: Ord, V>(node: &Node<T, V>, passed: usize, interval: &Interval<T>) -> usize
     requires { IsSoundNode T.cmp node.now }
     ensures { place_from (λ e. overlaps T.cmp e.0 interval.now) result (visited (tree_of node.now.right)) ≡ place_from (λ e. overlaps T.cmp e.0 interval.now) passed (visited (tree_of node.now.right)) }

@@ -10,7 +10,7 @@ use crate::node::Subtree;
 use std::mem;
 
 /// Puts `value` in place of the one at a place, and answers that one. All else of the nodes stays.
-/// None where there is no such place: then `value` is dropped.
+/// None if there is no such place: then `value` is dropped.
 pub(crate) fn replace_below<T: Ord, V: Drop>(
     tree: &mut Subtree<T, V>,
     place: usize,

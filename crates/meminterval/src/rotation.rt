@@ -7,8 +7,8 @@ ghost use Rattle.meminterval.specs.Subtree.{tree_of, IsRecorded};
 use crate::node::{Node, Subtree, fork, split};
 
 #[tactic(auto, using(crate::proofs::Trees::levels_within))]
-/// Puts a node over two balanced subtrees whose heights differ by at most two, and rotates where
-/// they differ by two.
+/// Puts a node over two balanced subtrees whose heights differ by at most two, and rotates if they
+/// differ by two.
 pub(crate) fn balance<T: Ord + Clone, V: Drop>(
     left: Subtree<T, V>,
     node: Box<Node<T, V>>,

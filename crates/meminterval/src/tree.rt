@@ -84,8 +84,7 @@ impl<T: Ord + Clone, V> IntervalTree<T, V> {
         self.root.size()
     }
 
-    /// The number of edges on the longest path down from the root: -1 where the tree is empty, and
-    /// 0 for one node.
+    /// The number of edges on the longest path down from the root: -1 if the tree is empty, and 0 for one node.
     pub fn height(&self) -> i64
         ensures value { result ≡ height self.now }
 
@@ -221,8 +220,8 @@ impl<T: Ord + Clone, V> IntervalTree<T, V> {
         last_value_below(&mut self.root, passed)
     }
 
-    /// Puts `value` in place of the one at a place, in the order of a query, and answers that one.
-    /// None where there is no such place: then `value` is dropped.
+    /// Puts `value` in place of the one at a place, in the order of a query, and answers that one. None if there is no
+    /// such place: then `value` is dropped.
     pub(crate) fn replace_at(&mut self, place: usize, value: V) -> Option<V>
     where
         V: Drop,
@@ -232,8 +231,8 @@ impl<T: Ord + Clone, V> IntervalTree<T, V> {
         replace_below(&mut self.root, place, value)
     }
 
-    /// Puts a pair in. Where its interval is there already, the old value stays, the new one is
-    /// dropped, and no memory is needed. An `Err` leaves the tree as it was, and drops the pair.
+    /// Puts a pair in. If its interval is there already, the old value stays, the new one is dropped, and no memory is
+    /// needed. An `Err` leaves the tree as it was, and drops the pair.
     pub fn insert(
         &mut self,
         alloc: Global,

@@ -129,7 +129,7 @@ get_or-flags_of_any words bound n bitmap = go (cases_lt n bound)
     go (inr past) =
         get_or_past (flags_of words bound) n false (omega (arith, length-flags_of words bound)) ∙ sym (bitmap.clear n past)
 
--- where the summary has no flag, the word's flags are false
+-- if the summary has no flag, the word's flags are false
 pub flags_of-no_summary : (words : List ℕ) (bound n : ℕ) → IsBitmap words bound →
     get_or (summary_of words) (n / 64) false ≡ false →
     get_or (flags_of words bound) n false ≡ false

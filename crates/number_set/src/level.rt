@@ -7,8 +7,8 @@ use crate::bitmap::Bitmap;
 use std::alloc::{AllocError, Global};
 use std::marker::Model;
 
-/// Flags as the bits of words. Where they need more than one word, the level above has a flag for
-/// each word, that says whether the word has a bit.
+/// Flags as the bits of words. If they need more than one word, the level above has a flag for each
+/// word that says whether the word has a bit.
 #[derive(Drop)]
 pub struct Level {
     bits: Bitmap,

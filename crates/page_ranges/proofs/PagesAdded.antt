@@ -166,7 +166,7 @@ module _ (old mid new : List ℕ) (free free1 free' : List Bool) (root first pag
       let same : m ≡ top f = cc in
       was ∙ ap Some same
 
-  -- a word of it, where it led to a place already
+  -- a word of it, if it led to a place already
   word_between : (l n f i : ℕ) (p : Place) → l < 4 → i < 512 → reach mid root l n ≡ Some (top f) →
       reach mid root (l + 1) (512 * n + i) ≡ Some p → word_at new f i ≡ word_at mid f i
   word_between l n f i p ll li was on =

@@ -10,7 +10,7 @@ use Rattle.paging_core.proofs.Counts.{absent, absent_none, absent_suc, absent_ad
 use Rattle.paging_core.proofs.Ranges.{missing_none, page_in, page_canonical, prefix_le}
 use Rattle.paging_core.proofs.PrefixLists.{page_at}
 
--- the counts agree where the walk does
+-- the counts agree if the walks do
 absent_same_on : (old new : List ℕ) (root level count from : ℕ) →
     ((n : ℕ) → from ≤ n → n < from + count → reach new root level n ≡ reach old root level n) →
     absent new root level from count ≡ absent old root level from count
@@ -20,7 +20,7 @@ absent_same_on old new root level (suc count) from h =
     let k = absent_same_on old new root level count (from + 1) (λ n lo hi. h n (omega arith) (omega arith)) in
     rw (absent_suc new root level from count, absent_suc old root level from count, e, k) refl
 
--- where all are met, none is counted
+-- if all are met, none is counted
 pub absent_met : (words : List ℕ) (root level count from : ℕ) →
     ((n : ℕ) → from ≤ n → n < from + count → (m : Place) × (reach words root level n ≡ Some m)) → absent words root level from count ≡ 0
 absent_met words root level zero from h = absent_none words root level from
@@ -97,7 +97,7 @@ module _ (first pages p m : ℕ)
   of_four : (n : ℕ) → prefix_of p 4 ≤ n → n < prefix_of p 4 + m → n ≡ prefix_of (p + (n - prefix_of p 4)) 4
   of_four n from to = let h = place (n - prefix_of p 4) (omega arith) in omega arith
 
-  -- where no page of the piece is mapped, the range has as many
+  -- if no page of the piece is mapped, the range has as many
   pub unmapped_piece : (words : List ℕ) (root : ℕ) → ((k : ℕ) → k < m → reach words root 4 (prefix_of (p + k) 4) ≡ None) → m ≤ unmapped_of words root first pages
   unmapped_piece words root none =
       let w = absent_within words root 4 (prefix_of first 4) pages (prefix_of p 4) m from_four to_four in
@@ -159,7 +159,7 @@ module _ (first more p over : ℕ)
       one l lt = absent_within words root l (prefix_of first l) (prefix_of (first + more) l + 1 - prefix_of first l)
           (prefix_of p l) (prefix_of (p + over) l + 1 - prefix_of p l) (low l lt) (high l lt)
 
-  -- where its tables are made, the range misses as many fewer
+  -- if its tables are made, the range misses as many fewer
   pub missing_made : (old new : List ℕ) (root : ℕ) →
       ((l n : ℕ) → l < 4 → ((k : ℕ) → k < suc over → n ≡ prefix_of (p + k) l → ⊥) → reach new root l n ≡ reach old root l n) →
       ((l k : ℕ) → l < 4 → k < suc over → (t : Place) × (reach new root l (prefix_of (p + k) l) ≡ Some t)) →
@@ -206,7 +206,7 @@ module _ (first pages p m : ℕ) (range : IsCanonicalRange first pages) (lo : fi
       go (suc more) zero range hi same met some = absurd (omega arith)
       go (suc more) (suc over) range hi same met some = missing_made first more p over range lo hi old new root same met
 
--- where no page of the range is mapped, all are counted
+-- if no page of the range is mapped, all are counted
 pub unmapped_all : (words : List ℕ) (root first pages : ℕ) → IsCanonicalRange first pages →
     ((k : ℕ) → k < pages → reach words root 4 (prefix_of (first + k) 4) ≡ None) → unmapped_of words root first pages ≡ pages
 unmapped_all words root first pages range none =
@@ -215,7 +215,7 @@ unmapped_all words root first pages range none =
     numbered : (n : ℕ) → prefix_of first 4 ≤ n → n < prefix_of first 4 + pages → n ≡ prefix_of (first + (n - prefix_of first 4)) 4
     numbered n from to = let h = page_in first pages (n - prefix_of first 4) range (omega arith) in omega arith
 
--- where all are mapped, none is
+-- if all are mapped, none is
 pub unmapped_none : (words : List ℕ) (root first pages : ℕ) → IsCanonicalRange first pages →
     ((k : ℕ) → k < pages → (t : Place) × (reach words root 4 (prefix_of (first + k) 4) ≡ Some t)) → unmapped_of words root first pages ≡ 0
 unmapped_none words root first pages range met =

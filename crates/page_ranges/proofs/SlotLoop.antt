@@ -21,7 +21,7 @@ use Rattle.page_ranges.proofs.Pieces.{unmapped_all, unmapped_piece, missing_insi
 use Rattle.page_ranges.proofs.PagesAdded.{pages_start}
 use Rattle.page_ranges.proofs.RangeSteps.{none_some, slots_more}
 
--- where the test for a table is false there is none
+-- if the test for a table is false, there is none
 pub no_table : (o : Option Place) (b : Bool) → (IsSome o → IsTrue b) → b ≡ false → o ≡ None
 no_table None b h e = refl
 no_table (Some x) b h e = let s : IsSome (Some x) = cc in let t = h s in absurd (cc)
@@ -38,7 +38,7 @@ slots_start words free root first pages slot rights tree before = record {
   lowest_tables = λ l n table f ll none now left. absurd (cc);
 }
 
--- where one goes on to is told by the slots that lie whole in the range
+-- the slot to go on to depends only on the slots that lie whole in the range
 pub slots_to : (old mid : List ℕ) (free free1 : List Bool) (root first pages slot stop : ℕ) (rights : Rights) → AreSlotsAdded old mid free free1 root first pages slot rights →
     ((s : ℕ) → IsOpenSlot old root first pages s → s < slot → s < stop) → ((s : ℕ) → IsOpenSlot old root first pages s → s < stop → s < slot) →
     AreSlotsAdded old mid free free1 root first pages stop rights

@@ -66,7 +66,7 @@ module _ (first pages : ℕ)
       let w : reach words root 3 n ≡ None = ap (reach words root 3) e ∙ z in
       cc
 
-  -- each page has an entry in the slot's table, where it has no large page
+  -- each page has an entry in the slot's table, if it has no large page
   pub piece_small : (words : List ℕ) (root : ℕ) → large_of words root (slot_of (first / 512)) ≡ None →
       ((k : ℕ) → k < pages → IsSome (walk_of words root (first + k))) → (k : ℕ) → k < pages → IsSome (reach words root 3 (prefix_of (first + k) 3))
   piece_small words root small mapped k lt =

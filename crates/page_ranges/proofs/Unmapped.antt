@@ -61,11 +61,11 @@ cut_is words root first large it =
     let z : (first % 512 == 0) ≡ false = grind (arith, nat_tests) in
     rw (it.there, z) refl
 
--- there is none where the first page is mapped by a table
+-- there is none if the first page is mapped by a table
 pub no_cut_small : (words : List ℕ) (root first : ℕ) → large_of words root (prefix_of first 3) ≡ None → is_cut words root first ≡ false
 no_cut_small words root first e = rw e refl
 
--- and none where the range begins with a slot
+-- and none if the range begins with a slot
 pub no_cut_whole : (words : List ℕ) (root first : ℕ) → first % 512 ≡ 0 → is_cut words root first ≡ false
 no_cut_whole words root first e = rw e (go (is_some (large_of words root (prefix_of first 3))))
   where

@@ -1,5 +1,5 @@
--- What mapping a range does where slots that lie whole in it are mapped by one entry. `old` and `free` are the words and the
--- flags before, `new` and `free'` after. A slot goes by its number in counts of 2 MiB.
+-- What mapping a range does if slots that lie whole in it are mapped by one entry. `old` and `free` are the words and
+-- the flags before, `new` and `free'` after. A slot goes by its number in counts of 2 MiB.
 use Rattle.std.specs.Prelude.{◌≡◌, ℕ, ◌+◌, ◌*◌, ◌/◌, ◌<◌, ◌≤◌, Bool, true, false, List, length, count_by, Some, None, IsSome, ◌⊎◌}
 use Rattle.paging_core.specs.Memory.{word_at}
 use Rattle.paging_core.specs.Entry.{table_entry, page_entry, large_entry}
@@ -20,12 +20,12 @@ unmapped_of words root first pages = count_by (is_missing words root) (prefixes_
 -- The words of the tables after pages with these rights were added, some of them in large pages. Entry `i` of the table that
 -- is met at the prefix (l, n) leads on to the prefix (l + 1, 512 * n + i).
 pub record HasNewEntries (old new : List ℕ) (root : ℕ) (rights : Rights) : Type 0 where
-  -- a word of a table that was there is changed only where it leads elsewhere now
+  -- a word of a table that was there is changed only if it leads elsewhere now
   pub old_words :
       (l n f i : ℕ) → l < 4 → i < 512 → reach old root l n ≡ Some (top f) →
       reach new root (l + 1) (512 * n + i) ≡ reach old root (l + 1) (512 * n + i) →
       (l ≡ 2 → large_of new root (512 * n + i) ≡ large_of old root (512 * n + i)) → word_at new f i ≡ word_at old f i
-  -- a new table is 0 where it leads nowhere
+  -- a new table is 0 if it leads nowhere
   pub blank :
       (l n f i : ℕ) → l < 4 → i < 512 → reach old root l n ≡ None → reach new root l n ≡ Some (top f) →
       reach new root (l + 1) (512 * n + i) ≡ None → (l ≡ 2 → large_of new root (512 * n + i) ≡ None) → word_at new f i ≡ 0
@@ -73,11 +73,11 @@ pub record ArePagesAdded (old new : List ℕ) (free free' : List Bool) (root fir
       ≡ free_count free + (unmapped_of new root first pages + missing_of new root first pages)
   -- the words of a page that was mapped stay
   pub bytes_stay : (page : ℕ) (place : Place) (i : ℕ) → walk_of old root page ≡ Some place → i < 512 → word_at new place.frame i ≡ word_at old place.frame i
-  -- words are changed in frames that were free and in tables alone, and there no more than the new entries need
+  -- words are changed only in frames that were free and in tables, and there no more than the new entries need
   pub words :
       (f i : ℕ) → i < 512 → is_free free f ≡ false → ((l n : ℕ) → l < 4 → reach old root l n ≡ Some (top f) → ⊥) →
       word_at new f i ≡ word_at old f i
-  -- and what is free after has its words still
+  -- and what is free after still has its words
   pub free_words : (f i : ℕ) → i < 512 → is_free free' f ≡ true → word_at new f i ≡ word_at old f i
   pub entries : HasNewEntries old new root rights
 
@@ -115,7 +115,7 @@ pub record AreSlotsAdded (old new : List ℕ) (free free' : List Bool) (root fir
   pub spent :
       (f : ℕ) → is_free free f ≡ true → ((slot : ℕ) → IsOpenSlot old root first pages slot → slot < stop → ¬ (IsUsedFor new root slot f)) →
       is_free free' f ≡ true
-  -- each got the lowest run: of a lower one that was free a frame was used for a slot before it
+  -- each got the lowest run: of each lower one that was free, a frame was used for a slot before it
   pub lowest_runs :
       (slot run : ℕ) (large : Place) → IsOpenSlot old root first pages slot → slot < stop → large_of new root (slot_of slot) ≡ Some large →
       512 * run < large.frame → IsRunFree free run →
@@ -143,7 +143,7 @@ pub record IsRangeMapped (old new : List ℕ) (free free' : List Bool) (root fir
   pub slots : AreLargeBelow old new root first pages stop
   pub no_run : NoRunAt old free' root first pages stop
   pub mapped : (k : ℕ) → k < pages → IsNewPage new free free' root (first + k) rights
-  -- each page has its tables, but for that of three indices where its slot is large
+  -- each page has its tables, but for that of three indices if its slot is large
   pub tables : (l k : ℕ) → l < 3 → k < pages → (table : ℕ) × (reach new root l (prefix_of (first + k) l) ≡ Some (top table))
   pub last_tables : (k : ℕ) → k < pages →
       IsSome (large_of new root (prefix_of (first + k) 3)) ⊎ ((table : ℕ) × (reach new root 3 (prefix_of (first + k) 3) ≡ Some (top table)))

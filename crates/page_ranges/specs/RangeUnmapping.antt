@@ -1,6 +1,7 @@
--- What unmapping a range does where some of its pages are in large pages. A large page that lies whole in the range leaves by
--- its one entry. One in which the range begins is cut: the pages before the range stay, by a table in the frame of the first
--- page that leaves. None reaches over the end. `old` and `free` are the words and the flags before, `new` and `free'` after.
+-- What unmapping a range does if some of its pages are in large pages. A large page that lies whole in the range leaves
+-- by its one entry. One in which the range begins is cut: the pages before the range stay, by a table in the frame of
+-- the first page that leaves. None reaches over the end. `old` and `free` are the words and the flags before, `new` and
+-- `free'` after.
 use Rattle.std.specs.Prelude.{◌≡◌, ℕ, ◌+◌, ◌*◌, ◌/◌, ◌%◌, ◌<◌, ◌≤◌, Bool, true, false, ◌&&◌, not, ◌==◌, is_some, if◌then◌else◌, List, length, Some, None, IsSome}
 use Rattle.paging_core.specs.Memory.{word_at}
 use Rattle.paging_core.specs.Entry.{table_entry, page_entry}
@@ -14,7 +15,7 @@ abbrev pub NoLargePageReachesOver : List ℕ → ℕ → ℕ → ℕ → Type 0
 NoLargePageReachesOver words root first pages =
     (k : ℕ) → k < pages → IsSome (large_of words root (prefix_of (first + k) 3)) → 512 * ((first + k) / 512) + 512 ≤ first + pages
 
--- the range begins in a large page, behind its first page
+-- the range begins in a large page, after its first page
 abbrev pub is_cut : List ℕ → ℕ → ℕ → Bool
 is_cut words root first = is_some (large_of words root (prefix_of first 3)) && not (first % 512 == 0)
 
@@ -22,7 +23,7 @@ is_cut words root first = is_some (large_of words root (prefix_of first 3)) && n
 abbrev pub cut_tables : List ℕ → ℕ → ℕ → ℕ
 cut_tables words root first = if is_cut words root first then 1 else 0
 
--- The range begins behind the first page of this large page, whose table then is the frame of the range's first page.
+-- The range begins after the first page of this large page, whose table then is the frame of the range's first page.
 pub record IsCutPage (words : List ℕ) (root first : ℕ) (large : Place) : Type 0 where
   pub there : large_of words root (prefix_of first 3) ≡ Some large
   pub behind : 0 < first % 512

@@ -1,5 +1,5 @@
-//! Ranges of pages over page tables, with large pages: a slot that lies whole in a range is mapped by one entry where a run
-//! of frames is free, and the other pages by tables. A range that leaves may cut the large page in which it begins.
+//! Ranges of pages over page tables, with large pages: a slot that lies whole in a range is mapped by one entry if a
+//! run of frames is free, and the other pages by tables. A range that leaves may cut the large page in which it begins.
 #![tactic(auto)]
 
 mod mapping;

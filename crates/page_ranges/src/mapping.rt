@@ -13,8 +13,9 @@ use paging_core::{
     FramePool, Frames, Page, PhysFrame, Rights, has_table, large_page, map_range, map_slot,
 };
 
-/// Goes in ascending order through the slots that lie whole in the range and have no table, and maps each with the rights by
-/// one entry to the lowest run of frames that are all free, which is cleared. It stops where no such run is left.
+/// Goes in ascending order through the slots that lie whole in the range and have no table, and maps each with the
+/// rights by one entry to the lowest run of frames that are all free, which is cleared. It stops if no such run is
+/// left.
 ///
 /// The answer is the slot at which it stopped, or that after the last one: exactly the slots below it are mapped. The range lies
 /// in one canonical half, and none of its pages is mapped. The pool has the frames for the pages and for the missing tables.
@@ -52,8 +53,8 @@ pub fn map_slots(
 /// entry each, in ascending order, as long as a run of frames is free; then the other pages, by tables and single frames.
 /// All frames are cleared.
 ///
-/// The answer is as that of `map_slots`. The range lies in one canonical half, and none of its pages is mapped. The pool has
-/// the frames for the pages and for the missing tables, counted as if no large page were used.
+/// The answer is that of `map_slots`. The range lies in one canonical half, and none of its pages is mapped. The pool
+/// has the frames for the pages and for the missing tables, counted as if no large page were used.
 pub fn map_pages(
     frames: &mut Frames,
     pool: &mut FramePool,

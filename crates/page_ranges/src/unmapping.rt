@@ -58,7 +58,7 @@ pub fn unmap_pages(
     ensures tree { IsTree frames.new root pool.new }
     ensures known { FreeBelow pool.old (frame_count frames.old) → FreeBelow pool.new (frame_count frames.new) }
 
-    // The pages of the range are mapped no more. No other page's walk is changed, and no byte of it.
+    // The pages of the range are no longer mapped. No other page's walk is changed, and no byte of it.
     ensures gone { (k : ℕ) → k < pages → walk_of frames.new root (first + k) ≡ None }
     ensures elsewhere { (other : ℕ) → IsTrue (is_canonical (other * 4096)) → ((k : ℕ) → k < pages → other ≡ first + k → ⊥) → walk_of frames.new root other ≡ walk_of frames.old root other }
     ensures bytes { (address : ℕ) → IsSome (walk_of frames.new root (address / 4096)) → reached frames.new root address ≡ reached frames.old root address }

@@ -20,7 +20,7 @@ pub free_in : (area : Area) (free : List Bool) (count : ℕ) → FreeBelow free 
 free_in Whole free count below inside = below
 free_in (Part first end) free count below inside = λ f is. (inside f is, below f is)
 
--- as free frames were, where none was given back
+-- as free frames were, if none was given back
 pub free_stays : (area : Area) (free free' : List Bool) (count count' : ℕ) → FreeIn area free count → count' ≡ count →
     ((f : ℕ) → is_free free f ≡ false → is_free free' f ≡ false) → FreeIn area free' count'
 free_stays area free free' count count' known same fewer =

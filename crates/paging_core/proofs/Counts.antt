@@ -73,7 +73,7 @@ missing_one words root page =
         let z = absent_none words root level (prefix_of page level + 1) in
         ap (absent words root level (prefix_of page level)) e ∙ (absent_suc words root level (prefix_of page level) 0 ∙ omega arith)
 
--- where none has a table, all are counted
+-- if none has a table, all are counted
 pub absent_all : (words : List ℕ) (root level count from : ℕ) →
     ((n : ℕ) → from ≤ n → n < from + count → reach words root level n ≡ None) → absent words root level from count ≡ count
 absent_all words root level zero from h = absent_none words root level from
@@ -81,7 +81,7 @@ absent_all words root level (suc count) from h =
     let e : reach words root level from ≡ None = h from (omega arith) (omega arith) in
     rw (absent_suc words root level from count, e) (let k = absent_all words root level count (from + 1) (λ n lo hi. h n (omega arith) (omega arith)) in omega arith)
 
--- where each has one, none is
+-- if each has one, none is
 pub absent_one_present : (words : List ℕ) (root level from : ℕ) (m : Place) → reach words root level from ≡ Some m → absent words root level from 1 ≡ 0
 absent_one_present words root level from m e =
     absent_suc words root level from 0 ∙ rw (e, absent_none words root level (from + 1)) refl

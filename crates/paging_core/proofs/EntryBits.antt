@@ -25,7 +25,7 @@ low_word n low lt small = let e : n * 4096 % 2 ^ 64 ≡ n * 2 ^ 12 = omega arith
 pub table_word : (n : ℕ) → n < 2 ^ 40 → bit_or (n * 4096 % 2 ^ 64) 39 ≡ table_entry n
 table_word n lt = low_word n 39 lt (omega arith)
 
--- with bit 63 set where it is to be
+-- with bit 63 set if it is to be set
 with_high : (never : Bool) (x : ℕ) → x < 2 ^ 63 → bit_or (cond never 0x8000000000000000 0) x ≡ x + cond never (2 ^ 63) 0
 with_high true x lt = let h : bit_or (1 * 2 ^ 63) x ≡ 1 * 2 ^ 63 + x = or_shifted 1 63 x lt in h ∙ omega arith
 with_high false x lt = let h : bit_or (0 * 2 ^ 63) x ≡ 0 * 2 ^ 63 + x = or_shifted 0 63 x lt in h ∙ omega arith

@@ -6,7 +6,7 @@ use Rattle.paging_core.specs.Pool.{is_free, free_count, FreeBelow}
 use Rattle.paging_core.proofs.Words.{length_cleared, word_at_cleared_same, word_at_cleared_other}
 use Rattle.paging_core.proofs.Made.{taken_flag, fewer_flags, taken_count}
 
--- a frame that is free still was free before, where none was given back
+-- a frame that is free still was free before, if none was given back
 pub free_before : (free free' : List Bool) → ((f : ℕ) → is_free free f ≡ false → is_free free' f ≡ false) → (f : ℕ) → is_free free' f ≡ true → is_free free f ≡ true
 free_before free free' fewer f e = go (cases_Bool (is_free free f))
   where

@@ -406,7 +406,7 @@ module _ {area : Area} (old mid new : List ℕ) (free free' : List Bool) (root p
       (λ l lt here. let d = large_tree.distinct 4 (prefix_of (address / 4096) 4) l (above page l) p.0 (top p.0.frame) (omega arith) (omega arith) (λ x y. absurd (omega arith)) now here refl in
       absurd (omega (arith, d.0))))
 
--- a slot is told apart from others by its indices
+-- a slot is distinguished from others by its indices
 pub same_slot : (other page : ℕ) → IsTrue (is_canonical (other * 4096)) → IsTrue (is_canonical (512 * page * 4096)) →
     other / 512 % 2 ^ 27 ≡ slot_of page → other / 512 ≡ page
 same_slot other page co cp e =

@@ -28,7 +28,7 @@ slot_place page = let m = prefix_more (512 * page) 2 (omega arith) in omega arit
 pub slot_index : (page : ℕ) → above page 3 % 512 ≡ slot_of page % 512
 slot_index page = let e : above page 3 ≡ slot_of page = omega arith in ap (λ n. n % 512) e
 
--- no large page is met where no table of the third step is
+-- no large page is met if no table of the third step is
 pub large_stops : (words : List ℕ) (root page : ℕ) → reach words root 2 (above page 2) ≡ None → large_of words root (slot_of page) ≡ None
 large_stops words root page none =
     let e : slot_of page / 512 ≡ above page 2 = omega arith in

@@ -1,4 +1,4 @@
--- The tables that a range misses, where a slot of it is mapped by one entry.
+-- The tables that a range misses, if a slot of it is mapped by one entry.
 use Rattle.std.proofs.Common.{◌≡◌, ℕ, zero, suc, ◌+◌, ◌-◌, ◌*◌, ◌%◌, ◌^◌, ◌<◌, ◌≤◌, cond, Bool, List, Some, None, refl, sym, ap, ◌∙◌, ◌⊎◌, inl, inr, arith}
 use Rattle.std.specs.Prelude.{is_none}
 use Rattle.std.proofs.lemmas.Bool.{cases_eq}
@@ -21,7 +21,7 @@ absent_past old new root level (suc count) from h =
     let k = absent_past old new root level count (from + 1) (λ n le. h n (omega arith)) in
     rw (absent_suc new root level from count, absent_suc old root level from count, e, k) refl
 
--- where one prefix has a table now, and all else stays, one is missing fewer if it was missing
+-- if one prefix has a table now, and all else stays, one is missing fewer if it was missing
 pub absent_at : (old new : List ℕ) (root level p : ℕ) (m : Place) → ((n : ℕ) → (n ≡ p → ⊥) → reach new root level n ≡ reach old root level n) →
     reach new root level p ≡ Some m → (count from : ℕ) → from ≤ p → p < from + count →
     absent new root level from count + cond (is_none (reach old root level p)) 1 0 ≡ absent old root level from count

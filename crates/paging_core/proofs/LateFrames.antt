@@ -1,4 +1,4 @@
--- The words of the frames that are made, with zeros behind them for the frames that are not.
+-- The words of the frames that are made, with zeros after them for the frames that are not.
 use Rattle.std.proofs.Common.{◌≡◌, ℕ, ◌+◌, ◌-◌, ◌*◌, ◌<◌, ◌≤◌, List, length, get_or, take, drop, replicate, ◌++◌, refl, sym, ap, ◌∙◌, ◌⊎◌, inl, inr, arith, append_assoc, length-append}
 use Rattle.std.proofs.lemmas.List.{get_or-append_right, get_or_append_left, get_or-replicate, length-replicate, replicate-append-replicate, take-append-le, drop-append-le, ext_get_or}
 use Rattle.std.proofs.lemmas.Bool.{cases_lt}
@@ -76,7 +76,7 @@ copied_made words new zs from to source target it = record {
     go f i li ne (inr le) =
         get_or-append_right new zs (length words) (512 * f + i) 0 it.size le ∙ sym (get_or-append_right words zs (length words) (512 * f + i) 0 refl le)
 
--- The words that stand for a memory of `size` words, of which so many are made
+-- The words that stand for a memory of `size` words, of which `made` are made
 abbrev pub filled_up : List ℕ → ℕ → ℕ → List ℕ
 filled_up words made size = words ++ replicate (size - made) 0
 

@@ -157,7 +157,7 @@ pub none_free : (free : List Bool) → ((f : ℕ) → is_free free f ≡ false) 
 none_free [] h = refl
 none_free (x ∷ xs) h = let e : x ≡ false = h 0 in rw e (none_free xs (λ f. h (suc f)))
 
--- where frames are free, one is
+-- if frames are free, one is
 pub some_free : (free : List Bool) → 0 < free_count free → ((f : ℕ) → is_free free f ≡ false) → ⊥
 some_free free lt h = let z = none_free free h in omega arith
 
@@ -187,7 +187,7 @@ taken_count free f e =
     let k : cond {A = ℕ} (is_free free f) 1 0 ≡ 1 = rw e refl in
     omega arith
 
--- the tables stay a tree where their words stay
+-- the tables stay a tree if their words stay
 pub tree_same : {area : Area} (old new : List ℕ) (root : ℕ) (free : List Bool) → length new ≡ length old →
     ((l n : ℕ) (b : Place) (j : ℕ) → l < 4 → reach old root l n ≡ Some b → j < 512 → word_at new b.frame j ≡ word_at old b.frame j) →
     IsTreeIn area old root free → IsTreeIn area new root free

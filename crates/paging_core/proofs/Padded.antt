@@ -64,7 +64,7 @@ zeros_before words more base count le =
     ∙ (ap (λ xs. take base words ++ (replicate count 0 ++ xs)) (sym (drop-append-le (base + count) words more le))
     ∙ ap (λ xs. xs ++ (replicate count 0 ++ drop (base + count) (words ++ more))) (sym (take-append-le base words more (omega arith)))))
 
--- and behind others
+-- and after others
 zeros_behind : (words : List ℕ) (n base place count : ℕ) → n + base ≡ place →
     replicate n 0 ++ with_zeros words base count ≡ with_zeros (replicate n 0 ++ words) place count
 unfolding with_zeros

@@ -218,7 +218,7 @@ module _ (old new : List ℕ) (root : ℕ) (change : Change) (chosen : ℕ → B
       all.words place.frame i li (λ m here.
       let d : (3 ≡ 4) × (m ≡ n) = tree.distinct 3 m 4 n (top place.frame) place (omega arith) (omega arith) (λ x y. absurd (omega arith)) here at refl in absurd (omega (arith, d.0)))
 
-  -- and its bytes, where it is met still
+  -- and its bytes, if it is still met
   pub bytes_stay : {area : Area} → KeepsFrame change → (free : List Bool) → IsTreeIn area old root free → (address : ℕ) → (now : Place) → walk_of new root (address / 4096) ≡ Some now →
       reached new root address ≡ reached old root address
   bytes_stay keeps free tree address now is =
@@ -228,7 +228,7 @@ module _ (old new : List ℕ) (root : ℕ) (change : Change) (chosen : ℕ → B
       let w = words_stay free tree (prefix_of (address / 4096) 4) (address % 4096 / 8) p.0 (omega arith) p.1 in
       rw (is, was) (ap (λ f. Some (byte_of (word_at new f (address % 4096 / 8)) (address % 8))) (sym p.2) ∙ ap (λ v. Some (byte_of v (address % 8))) w)
 
--- where pages get rights, no byte is changed
+-- if pages get rights, no byte is changed
 pub regranted_bytes : {area : Area} (old new : List ℕ) (root : ℕ) (rights : Rights) (chosen : ℕ → Bool) (free : List Bool) →
     ArePagesChanged old new root (regrant rights) chosen → IsTreeIn area old root free → (address : ℕ) → reached new root address ≡ reached old root address
 regranted_bytes old new root rights chosen free all tree address = go (some_or_none (walk_of new root (address / 4096)))

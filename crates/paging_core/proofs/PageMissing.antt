@@ -1,4 +1,4 @@
--- The tables that a range misses, where a page of it is mapped.
+-- The tables that a range misses, if a page of it is mapped.
 use Rattle.std.proofs.Common.{◌≡◌, ℕ, zero, suc, ◌+◌, ◌-◌, ◌%◌, ◌^◌, ◌<◌, ◌≤◌, Bool, List, Some, None, sym, ap, ◌∙◌, ◌⊎◌, inl, inr, arith}
 use Rattle.paging_core.specs.Address.{IsCanonicalRange}
 use Rattle.paging_core.specs.Prefix.{prefix_of}

@@ -17,7 +17,7 @@ pub reached_at : (words : List ℕ) (root address : ℕ) (place : Place) → wal
     reached words root address ≡ Some (byte_of (word_at words place.frame (address % 4096 / 8)) (address % 8))
 reached_at words root address place at = rw at refl
 
--- a byte stays where its page keeps the frame, and the frame the word
+-- a byte stays if its page keeps the frame, and the frame the word
 pub same_byte : (old new : List ℕ) (root address : ℕ) (was now : Place) → walk_of old root (address / 4096) ≡ Some was →
     walk_of new root (address / 4096) ≡ Some now → now.frame ≡ was.frame →
     word_at new was.frame (address % 4096 / 8) ≡ word_at old was.frame (address % 4096 / 8) → reached new root address ≡ reached old root address
@@ -46,7 +46,7 @@ module _ (old new : List ℕ) (root page : ℕ) (place : Place) (free : List Boo
   pub written_walk : (other : ℕ) → walk_of new root other ≡ walk_of old root other
   written_walk other = walk_reach new root other ∙ (written_walks 4 (prefix_of other 4) (omega arith) ∙ sym (walk_reach old root other))
 
-  -- a byte stays where the word of the page at its place stays
+  -- a byte stays if the word of the page at its place stays
   pub written_others : IsTrue (is_canonical (page * 4096)) → (address : ℕ) → IsTrue (is_canonical address) →
       (address / 4096 ≡ page → word_at new place.frame (address % 4096 / 8) ≡ word_at old place.frame (address % 4096 / 8)) →
       reached new root address ≡ reached old root address

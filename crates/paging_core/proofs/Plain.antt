@@ -20,7 +20,7 @@ plain_size old new level entry size p = record {
   high = p.high;
 }
 
--- a word that stays is plain still, where the memory has as many words
+-- a word that stays is still plain, if the memory has as many words
 pub plain_kept : (old new : List ℕ) (level was now : ℕ) → length new ≡ length old → now ≡ was → (has_bit was 0 ≡ true → IsPlain old level was) →
     has_bit now 0 ≡ true → IsPlain new level now
 plain_kept old new level was now size e p = rw e (λ h. plain_size old new level was size (p h))

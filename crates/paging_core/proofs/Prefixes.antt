@@ -60,7 +60,7 @@ none_below words root page level (suc d) le e =
     let z : level + suc d ≡ (level + d) + 1 = omega arith in
     rw z (none_more words root page (level + d) (omega arith) (none_below words root page level d (omega arith) e))
 
--- where no table is met nothing is met past it
+-- if no table is met, nothing is met past it
 pub none_child : (words : List ℕ) (root level number index : ℕ) → level < 3 → index < 512 → reach words root level number ≡ None →
     reach words root (level + 1) (512 * number + index) ≡ None
 none_child words root level number index low lt none =

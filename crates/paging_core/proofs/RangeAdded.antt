@@ -219,7 +219,7 @@ module _ (old mid : List ℕ) (free free1 : List Bool) (root first pages k : ℕ
         between : reach mid root (l + 1) (512 * n + i) ≡ reach old root (l + 1) (512 * n + i)
         between = go (some_or_none (reach old root (l + 1) (512 * n + i)))
 
-    -- a word of a table that was there between, where it led to this place already
+    -- a word of a table that was there between, if it led to this place already
     word_between : (l n f i : ℕ) (m p : Place) → l < 4 → i < 512 → reach new root l n ≡ Some (top f) → reach mid root l n ≡ Some m →
         reach mid root (l + 1) (512 * n + i) ≡ Some p → (reach mid root l n ≡ Some (top f)) × (word_at new f i ≡ word_at mid f i)
     word_between l n f i m p ll li here was on =

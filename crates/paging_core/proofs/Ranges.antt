@@ -14,7 +14,7 @@ pub missing_none : (words : List ℕ) (root first : ℕ) → missing_of words ro
 unfolding missing_of prefixes_of
 missing_none words root first = refl
 
--- the counts agree where the walk does
+-- the counts agree if the walks do
 pub absent_same : (old new : List ℕ) (root level count from : ℕ) →
     ((n : ℕ) → reach new root level n ≡ reach old root level n) → absent new root level from count ≡ absent old root level from count
 absent_same old new root level zero from h = absent_none new root level from ∙ sym (absent_none old root level from)
@@ -168,6 +168,6 @@ module _ (old mid : List ℕ) (root first k : ℕ)
           let c = level_step m 3 e (omega arith) in
           rw s (omega arith)
 
--- canonical pages are told apart by the low 36 bits of their numbers
+-- canonical pages are distinguished by the low 36 bits of their numbers
 pub same_number : (a b : ℕ) → IsTrue (is_canonical (a * 4096)) → IsTrue (is_canonical (b * 4096)) → a % 2 ^ 36 ≡ b % 2 ^ 36 → a ≡ b
 same_number a b ca cb e = grind (arith, nat_tests)

@@ -176,7 +176,7 @@ large_next_same old new j (Some b) h = h b refl
 
 -- ---- entries alone
 
--- the walk stays where each step from a table that is met stays
+-- the walk stays if each step from a table that is met stays
 entries_same :
     (old new : List ℕ) (root : ℕ) →
     ((l n : ℕ) (b : Place) (j : ℕ) → l < 4 → by_entries old root l n ≡ Some b → j < 512 → step new l b j ≡ step old l b j) →
@@ -253,7 +253,7 @@ module _ (old new : List ℕ) (root L N i : ℕ) (at : Place)
 
 -- ---- the walk
 
--- the walk stays where the words of the tables that are met do
+-- the walk stays if the words of the tables that are met do
 module _ (old new : List ℕ) (root : ℕ)
     (size : length new ≡ length old)
     (same : (l n : ℕ) (b : Place) (j : ℕ) → l < 4 → reach old root l n ≡ Some b → j < 512 → word_at new b.frame j ≡ word_at old b.frame j) where

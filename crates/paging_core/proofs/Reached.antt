@@ -50,7 +50,7 @@ reached_word words root address k place aligned lt at =
     let byte : (address + k) % 8 ≡ k = omega arith in
     rw (page, index, byte, at) refl
 
--- canonical addresses are told apart by their low 48 bits
+-- canonical addresses are distinguished by their low 48 bits
 same_page : (a b : ℕ) → IsTrue (is_canonical a) → IsTrue (is_canonical b) → a / 4096 % 2 ^ 36 ≡ b / 4096 % 2 ^ 36 → a / 4096 ≡ b / 4096
 same_page a b ca cb e = grind (arith, nat_tests)
 

@@ -17,7 +17,7 @@ use Rattle.paging_core.proofs.Given.{out_below, given_count, out_of}
 eqb-lt : (a b : ℕ) → a < b → eqb a b ≡ false
 eqb-lt a b lt = ne_eqb a b (λ e. omega arith)
 
--- all of so many flags are free where so many are
+-- all of a number of flags are free if that many are
 pub all_of_count : (l : List Bool) (n : ℕ) → length l ≤ n → free_count l ≡ n → (k : ℕ) → k < n → get_or l k false ≡ true
 all_of_count [] n le e k lt = absurd (omega arith)
 all_of_count (true ∷ xs) n le e zero lt = refl
@@ -183,7 +183,7 @@ whole_is free run e = run_free free run (eqb-true (free_in free run) 512 (sym (g
 pub whole_of : (free : List Bool) (run : ℕ) → IsRunFree free run → get_or (whole_runs free) run false ≡ true
 whole_of free run all = get_or-whole_runs free run ∙ eq-eqb (free_in free run) 512 (free_run free run all)
 
--- the flags of the runs are these where each is
+-- the flags of the runs are these if each is
 pub whole_runs_are : (free flags : List Bool) → length flags ≡ (length free + 511) / 512 →
     ((run : ℕ) → run < length flags → get_or flags run false ≡ eqb (free_in free run) 512) → flags ≡ whole_runs free
 whole_runs_are free flags size each =
@@ -291,7 +291,7 @@ given_more free whole counts number count c was is =
 
 -- ---- a run is taken or given back
 
--- where a run's frames are all free or all out, its number is below that of the runs
+-- if a run's frames are all free or all out, its number is below that of the runs
 pub run_within : (free : List Bool) (run : ℕ) → 512 * run + 511 < length free → run < (length free + 511) / 512
 run_within free run lt = omega arith
 
@@ -350,7 +350,7 @@ free_in-new count run = (
   λ le. ap free_count ((part_of_replicate 512 (512 * run) count).1 le) ∙ count_replicate (count - 512 * run),
 )
 
--- where the frames are whole runs
+-- if the frames are whole runs
 pub new_whole : (count : ℕ) → count < 2 ^ 32 → count % 512 ≡ 0 →
     IsCounted (replicate count true) (replicate ((count + 511) / 512) true) (replicate ((count + 511) / 512) 512)
 new_whole count lt whole = record {
@@ -375,7 +375,7 @@ new_whole count lt whole = record {
         get_or_past (replicate ((count + 511) / 512) 512) run 0 (omega (arith, length-replicate {A = ℕ} ((count + 511) / 512) 512))
         ∙ sym (free_in-past (replicate count true) run (omega (arith, length-replicate count true)))
 
--- where the last run has fewer frames
+-- if the last run has fewer frames
 pub new_rest : (count : ℕ) → count < 2 ^ 32 → 0 < count % 512 →
     IsCounted (replicate count true) (set (replicate ((count + 511) / 512) true) (count / 512) false)
     (set (replicate ((count + 511) / 512) 512) (count / 512) (count % 512))

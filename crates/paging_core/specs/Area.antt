@@ -12,7 +12,7 @@ abbrev pub in_area : Area → ℕ → Bool
 in_area Whole frame = true
 in_area (Part first end) frame = nat_le first frame && nat_lt frame end
 
--- one of so many frames in a row is one of the area
+-- one of a number of frames in a row is one of the area
 abbrev pub area_meets : Area → ℕ → ℕ → Bool
 area_meets Whole from count = nat_lt 0 count
 area_meets (Part first end) from count = nat_lt first end && (nat_lt from end && nat_lt first (from + count))

@@ -10,14 +10,14 @@ abbrev pub frame_of : ℕ → ℕ
 frame_of entry = entry / 2 ^ 12 % 2 ^ 40
 
 -- A processor sets accessed (bit 5) in each entry by which it walks, and dirty (bit 6) in that of a page to which it
--- writes. Every entry has them from the start, so that it never writes to a table.
+-- writes. Every entry has them from the start, so a processor never writes to a table.
 
 -- the word that names a table: present (1), writable (2), user (4) and accessed (32)
 abbrev pub table_entry : ℕ → ℕ
 table_entry frame = frame * 2 ^ 12 + 39
 
--- the word that maps a page: present, accessed and dirty (1 + 32 + 64), writable (2) and user (4) where they are
--- granted, and no-execute (bit 63) where fetch is denied
+-- the word that maps a page: present, accessed and dirty (1 + 32 + 64), writable (2) and user (4) if they are granted,
+-- and no-execute (bit 63) if fetch is denied
 abbrev pub page_entry : ℕ → Rights → ℕ
 page_entry frame rights =
     frame * 2 ^ 12 + 97 + (if rights.write then 2 else 0) + (if rights.user then 4 else 0) + (if rights.fetch then 0 else 2 ^ 63)

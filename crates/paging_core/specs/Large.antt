@@ -16,7 +16,7 @@ use Rattle.paging_core.specs.declared.page_table.Rights.{Rights}
 abbrev pub slot_of : ℕ → ℕ
 slot_of page = page % 2 ^ 27
 
--- the prefix of so many indices that the pages of the slot have
+-- the prefix of this many indices that the pages of the slot have
 abbrev pub above : ℕ → ℕ → ℕ
 above page level = prefix_of (512 * page) level
 
@@ -32,11 +32,11 @@ pub record IsSlotEmpty (words : List ℕ) (root page : ℕ) : Type 0 where
 -- The words of the tables after a large page was mapped. Entry `i` of the table that is met at the prefix (l, n) leads
 -- on to the prefix (l + 1, 512 * n + i).
 pub record HasLargeEntries (old new : List ℕ) (root page frame : ℕ) (rights : Rights) : Type 0 where
-  -- a word of a table that was there is changed only where it leads elsewhere now
+  -- a word of a table that was there is changed only if it leads elsewhere now
   pub old_words :
       (l n f i : ℕ) → l < 4 → i < 512 → reach old root l n ≡ Some (top f) →
       reach new root (l + 1) (512 * n + i) ≡ reach old root (l + 1) (512 * n + i) → (l ≡ 2 → 512 * n + i ≡ slot_of page → ⊥) → word_at new f i ≡ word_at old f i
-  -- a new table is 0 where it leads nowhere
+  -- a new table is 0 if it leads nowhere
   pub blank :
       (l n f i : ℕ) → l < 4 → i < 512 → reach old root l n ≡ None → reach new root l n ≡ Some (top f) →
       reach new root (l + 1) (512 * n + i) ≡ None → (l ≡ 2 → 512 * n + i ≡ slot_of page → ⊥) → word_at new f i ≡ 0
@@ -112,7 +112,7 @@ pub record IsLargeRemoved (old new : List ℕ) (root page : ℕ) : Type 0 where
   pub larges : (n : ℕ) → (n ≡ slot_of page → ⊥) → large_of new root n ≡ large_of old root n
 
 -- The large page of the slot was cut: its first `keep` pages stay, now by a table in the frame after theirs, and the
--- frames behind that one are free.
+-- frames after that one are free.
 pub record IsLargeCut (old new : List ℕ) (free free' : List Bool) (root page keep : ℕ) : Type 0 where
   pub large : Place
   pub was : large_of old root (slot_of page) ≡ Some large

@@ -8,8 +8,8 @@ use Rattle.paging_core.specs.Walk.{Place, reach, large_of, walk_of, top, granted
 use Rattle.paging_core.specs.Large.{slot_of, above}
 use Rattle.paging_core.specs.declared.page_table.Rights.{Rights}
 
--- The large page of the slot was split: its 512 pages lead where they led, now by a table of single entries in the lowest
--- frame that was free.
+-- The large page of the slot was split: its 512 pages lead where they led, now by a table of single entries, which lies
+-- in the lowest frame that was free.
 pub record IsLargeSplit (old new : List ℕ) (free free' : List Bool) (root page : ℕ) : Type 0 where
   pub large : Place
   pub made : ℕ

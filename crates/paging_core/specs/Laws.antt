@@ -74,8 +74,9 @@ MappedInALargePage =
     (words : List ℕ) (root page : ℕ) (large : Place) → large_of words root (prefix_of page 3) ≡ Some large →
     (walk_of words root page ≡ Some (page_in (page % 512) large)) × (reach words root 3 (prefix_of page 3) ≡ None)
 
--- Over plain entries a processor's walk, whose physical addresses reach the whole memory, ends at a page exactly where
--- `walk_of` does, at the same frame with the same rights; the frame lies in the memory, and no reserved bit ends the walk.
+-- Over plain entries a processor's walk, whose physical addresses reach the whole memory, ends at a page exactly if
+-- `walk_of` does, at the same frame with the same rights; the frame lies in the memory, and no reserved bit ends the
+-- walk.
 abbrev pub ProcessorsWalkAlike : Type 0
 ProcessorsWalkAlike =
     (words : List ℕ) (root page width : ℕ) → ArePlain words root → 4096 * frame_count words ≤ 2 ^ width →
@@ -83,7 +84,7 @@ ProcessorsWalkAlike =
     × (is_refused (processor_walk width words root page) ≡ false)
     × ((place : Place) → processor_walk width words root page ≡ AtPage place → place.frame < frame_count words)
 
--- Tables in an area: whatever else the machine's memory holds, a processor's walk ends at a page exactly where `walk_of`
+-- Tables in an area: whatever else the machine's memory holds, a processor's walk ends at a page exactly if `walk_of`
 -- does over the words of the tables, at the same frame with the same rights, and no reserved bit ends it.
 abbrev pub AreaWalksAlike : Type 0
 AreaWalksAlike =

@@ -12,11 +12,11 @@ use Rattle.paging_core.specs.declared.page_table.Rights.{Rights}
 -- The words of the tables after pages with these rights were added. Entry `i` of the table that is met at
 -- the prefix (l, n) leads on to the prefix (l + 1, 512 * n + i).
 pub record HasExactEntries (old new : List ℕ) (root : ℕ) (rights : Rights) : Type 0 where
-  -- a word of a table that was there is changed only where it leads elsewhere now
+  -- a word of a table that was there is changed only if it leads elsewhere now
   pub old_words :
       (l n f i : ℕ) → l < 4 → i < 512 → reach old root l n ≡ Some (top f) →
       reach new root (l + 1) (512 * n + i) ≡ reach old root (l + 1) (512 * n + i) → word_at new f i ≡ word_at old f i
-  -- a new table is 0 where it leads nowhere
+  -- a new table is 0 if it leads nowhere
   pub blank :
       (l n f i : ℕ) → l < 4 → i < 512 → reach old root l n ≡ None → reach new root l n ≡ Some (top f) →
       reach new root (l + 1) (512 * n + i) ≡ None → word_at new f i ≡ 0
@@ -98,7 +98,7 @@ pub record IsRangeAdded (old new : List ℕ) (free free' : List Bool) (root firs
   pub pages_stay : (other : ℕ) (place : Place) → walk_of old root other ≡ Some place → walk_of new root other ≡ Some place
   pub bytes_stay :
       (other : ℕ) (place : Place) (i : ℕ) → walk_of old root other ≡ Some place → i < 512 → word_at new place.frame i ≡ word_at old place.frame i
-  -- words are changed in frames that were taken and in tables alone, and there no more than the new entries need
+  -- words are changed only in frames that were taken and in tables, and there no more than the new entries need
   pub words :
       (f i : ℕ) → i < 512 → is_free free f ≡ false → ((l n : ℕ) → l < 4 → reach old root l n ≡ Some (top f) → ⊥) →
       word_at new f i ≡ word_at old f i

@@ -1,4 +1,4 @@
--- Physical memory as the list of its words, 512 a frame.
+-- Physical memory as the list of its words, 512 per frame.
 use Rattle.std.specs.Prelude.{◌≡◌, ℕ, ◌+◌, ◌*◌, ◌/◌, ◌%◌, ◌^◌, ◌<◌, ◌≤◌, List, ◌++◌, length, slice_index, take, drop, replicate}
 
 abbrev pub word_at : List ℕ → ℕ → ℕ → ℕ

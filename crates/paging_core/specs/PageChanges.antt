@@ -60,7 +60,7 @@ pub record ArePagesChanged (old new : List ℕ) (root : ℕ) (change : Change) (
   pub words :
       (f i : ℕ) → i < 512 → ((n : ℕ) → reach old root 3 n ≡ Some (top f) → chosen (512 * n + i) ≡ false) → word_at new f i ≡ word_at old f i
 
--- the page alone
+-- only the page
 abbrev pub only : ℕ → ℕ → Bool
 only page n = n == prefix_of page 4
 

@@ -24,7 +24,7 @@ pub record IsPlain (words : List ℕ) (level entry : ℕ) : Type 0 where
   pub low : entry / 2 ^ 8 % 2 ^ 4 ≡ 0
   pub high : entry / 2 ^ 52 % 2 ^ 11 ≡ 0
 
--- the entry after a walk by it: a processor sets accessed, and dirty where it writes to the page that the entry maps
+-- the entry after a walk by it: a processor sets accessed, and dirty if it writes to the page that the entry maps
 -- (AMD64 volume 2, "Page-Translation-Table Entry Fields")
 abbrev pub marked : Bool → ℕ → ℕ → ℕ
 marked writes level entry =

@@ -1,4 +1,4 @@
--- A pool of frames: a flag for each frame, true where it is free. A frame past the flags is not free.
+-- A pool of frames: a flag for each frame, true if it is free. A frame past the flags is not free.
 use Rattle.std.specs.Prelude.{◌≡◌, ℕ, ◌<◌, Bool, true, false, List, set, count_by, slice_index_or, Option, Some, None}
 use Rattle.paging_core.specs.Area.{Area, in_area, Whole, Part}
 

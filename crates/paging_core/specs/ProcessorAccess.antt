@@ -29,8 +29,8 @@ abbrev pub fault_code : Bool → Bool → AccessKind → Bool → ℕ
 fault_code present reserved kind user =
     (if present then 2 ^ 0 else 0) + kind_bit kind + (if user then 2 ^ 2 else 0) + (if reserved then 2 ^ 3 else 0)
 
--- the answer to an access where the walk ended so: the physical address of the byte, which has this offset in its page, or
--- the fault's code
+-- the answer to an access if the walk ended like this: the physical address of the byte, which has this offset in its
+-- page, or the fault's code
 abbrev pub answer_of : Outcome → ℕ → AccessKind → Bool → Result ℕ ℕ
 answer_of (NotPresent step) offset kind user = Err (fault_code false false kind user)
 answer_of (Reserved step) offset kind user = Err (fault_code true true kind user)

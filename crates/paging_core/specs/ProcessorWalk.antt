@@ -17,10 +17,11 @@ pub data Outcome : Type 0 where
   -- at the frame of the page, with the rights that all entries on the way grant
   AtPage : Place → Outcome
 
--- What is reserved in an entry beside the address bits from the width on ("Page-Translation-Table Entry Fields"): bits 7 and
--- 8 in the first step; and where bit 7 makes the entry that of a page, the address bits below the page's size: bits 13 to 29
--- for 1 GiB, 13 to 20 for 2 MiB. Bit 12 is PAT there, and no address bit. AMD's manual has bit 8 reserved in the first step
--- alone, and ignored where the second or the third names a table; Intel's processors and QEMU ignore it in the first too.
+-- What is reserved in an entry besides the address bits from the width on ("Page-Translation-Table Entry Fields"): bits
+-- 7 and 8 in the first step; and if bit 7 makes the entry that of a page, the address bits below the page's size: bits
+-- 13 to 29 for 1 GiB, 13 to 20 for 2 MiB. Bit 12 is PAT there, and no address bit. AMD's manual has bit 8 reserved only
+-- in the first step, and ignored if the second or the third names a table; Intel's processors and QEMU ignore it in the
+-- first too.
 abbrev pub is_malformed : ℕ → ℕ → Bool
 is_malformed step entry =
     step == 0 && (has_bit entry 7 || has_bit entry 8)
@@ -36,7 +37,7 @@ abbrev pub past : ℕ → ℕ → ℕ → Outcome → Outcome
 past width step entry onward =
     (if not (has_bit entry 0) then NotPresent step else if has_reserved width step entry then Reserved step else onward)
 
--- the frame of a page in so many frames that are mapped as one: they begin at a multiple of their count
+-- the frame of a page in this many frames that are mapped as one: they begin at a multiple of their count
 abbrev pub within : ℕ → ℕ → Place → Place
 within frames page mapped =
     record { frame = mapped.frame / frames * frames + page % frames; write = mapped.write; user = mapped.user; fetch = mapped.fetch }

@@ -7,7 +7,7 @@ use Rattle.paging_core.specs.Pool.{is_free, free_count, IsOut}
 unfoldable pub free_in : List Bool → ℕ → ℕ
 free_in free run = free_count (take 512 (drop (512 * run) free))
 
--- a flag for each run that the flags of frames reach, true where its 512 frames are free
+-- a flag for each run that the flags of frames reach, true if its 512 frames are free
 unfoldable pub whole_runs : List Bool → List Bool
 whole_runs free = map (λ run. eqb (free_in free run) 512) (range_with_len 0 ((length free + 511) / 512))
 

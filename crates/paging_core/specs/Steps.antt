@@ -1,5 +1,5 @@
--- The pages of a size in the order of their addresses. The addresses between the canonical halves have
--- no page, so the first page of the high half comes next after the last one of the low half (own).
+-- The pages of a size in the order of their addresses. The addresses between the canonical halves have no page, so the
+-- first page of the high half follows the last one of the low half (own).
 use Rattle.std.specs.Prelude.{ℕ, zero, suc, ◌+◌, ◌-◌, ◌*◌, ◌/◌, ◌^◌, nat_lt, nat_le, if◌then◌else◌, Option, Some, None}
 use Rattle.paging_core.specs.Address.{is_canonical}
 
@@ -11,11 +11,11 @@ half_pages size = 2 ^ 47 / size
 abbrev pub gap_pages : ℕ → ℕ
 gap_pages size = (2 ^ 17 - 2) * half_pages size
 
--- how many pages come before the page with the number
+-- how many pages are before the page with this number
 abbrev pub position : ℕ → ℕ → ℕ
 position size number = (if nat_lt number (half_pages size) then number else number - gap_pages size)
 
--- the number of the page before which so many pages come
+-- the number of the page that has this many pages before it
 abbrev pub page_at : ℕ → ℕ → ℕ
 page_at size place = (if nat_lt place (half_pages size) then place else place + gap_pages size)
 

@@ -19,7 +19,7 @@ abbrev pub IsEnsured : Option Place → List ℕ → List ℕ → List Bool → 
 IsEnsured None old new free free' table index result = IsTableMade old new free free' table index result
 IsEnsured (Some met) old new free free' table index result = (met.frame ≡ result) × (new ≡ old) × (free' ≡ free)
 
--- 1 where the page's table of the level is missing
+-- 1 if the page's table of the level is missing
 abbrev pub missing_at : List ℕ → ℕ → ℕ → ℕ → ℕ
 missing_at words root page level = (if is_none (reach words root level (prefix_of page level)) then 1 else 0)
 
@@ -47,10 +47,10 @@ pub record IsPrepared (old new : List ℕ) (free free' : List Bool) (root page l
   pub kept :
       (f : ℕ) → is_free free f ≡ true → ((l : ℕ) → l ≤ level → reach new root l (prefix_of page l) ≡ Some (top f) → ⊥) → is_free free' f ≡ true
   pub count : free_count free' + missing_past old root page 0 ≡ free_count free + missing_past old root page level
-  -- words are changed in tables of the page alone
+  -- words are changed only in tables of the page
   pub words :
       (f i : ℕ) → i < 512 → ((l : ℕ) → l < 4 → reach new root l (prefix_of page l) ≡ Some (top f) → ⊥) → word_at new f i ≡ word_at old f i
-  -- in a table that was there, at most the page's entry, and not where it led on
+  -- in a table that was there, at most the page's entry, and not if it led on
   pub old_table :
       (l f i : ℕ) → l < 4 → reach old root l (prefix_of page l) ≡ Some (top f) → i < 512 →
       (l < level → i ≡ prefix_of page (l + 1) % 512 → ⊥) → word_at new f i ≡ word_at old f i

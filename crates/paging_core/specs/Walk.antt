@@ -13,7 +13,7 @@ pub record Place : Type 0 where
   pub user : Bool
   pub fetch : Bool
 
--- an entry is present where bit 0 is set and its frame exists
+-- an entry is present if bit 0 is set and its frame exists
 abbrev pub is_present : List ℕ → ℕ → Bool
 is_present words entry = has_bit entry 0 && nat_lt (frame_of entry) (frame_count words)
 
@@ -26,7 +26,7 @@ named from entry = record {
   fetch = from.fetch && not (has_bit entry 63);
 }
 
--- an entry of the third step ends the walk where it has bit 7: it maps a large page, which is 512 pages
+-- an entry of the third step ends the walk if it has bit 7: it maps a large page, which is 512 pages
 abbrev pub ends_walk : ℕ → ℕ → Bool
 ends_walk level entry = level == 2 && has_bit entry 7
 
@@ -62,7 +62,8 @@ page_in index large = record { frame = large.frame + index; write = large.write;
 abbrev pub top : ℕ → Place
 top frame = record { frame = frame; write = true; user = true; fetch = true }
 
--- where the walk along a prefix of `level` indices arrives with an entry for each index: at level 0 the root, at level 4 a page's frame
+-- where the walk along a prefix of `level` indices arrives if it takes one entry for each index: at level 0 the root,
+-- at level 4 a page's frame
 unfoldable pub by_entries : List ℕ → ℕ → ℕ → ℕ → Option Place
 by_entries words root zero number = (if number == 0 then Some (top root) else None)
 by_entries words root (suc level) number = next_from words level (by_entries words root level (number / 512)) (number % 512)
@@ -71,7 +72,7 @@ by_entries words root (suc level) number = next_from words level (by_entries wor
 unfoldable pub large_of : List ℕ → ℕ → ℕ → Option Place
 large_of words root slot = large_from words (by_entries words root 2 (slot / 512)) (slot % 512)
 
--- a page of the large page, where there is one
+-- a page of the large page, if there is one
 abbrev pub page_or : Option Place → ℕ → Option Place → Option Place
 page_or None index other = other
 page_or (Some large) index other = Some (page_in index large)

@@ -15,8 +15,8 @@ pub record IsEntryOf (words : List ℕ) (root page table index : ℕ) : Type 0 w
   pub in_table : met.frame ≡ table
   pub at_index : index ≡ prefix_of page 4 % 512
 
--- The walk to the page ends at its entry, and leads on as the page does; else the slot has no table: it ends in a large
--- page, or where so many tables are missing.
+-- The walk to the page ends at its entry, and leads on as the page does; else the slot has no table: the walk ends in a
+-- large page, or where a table is missing, and then this many are.
 abbrev pub IsWalkEnd : List ℕ → ℕ → ℕ → WalkEnd → Type 0
 IsWalkEnd words root page (Entry entry leads) = IsEntryOf words root page entry.table entry.index × (option_map place_of leads ≡ walk_of words root page)
 IsWalkEnd words root page (Large mapped) = (reach words root 3 (prefix_of page 3) ≡ None) × (walk_of words root page ≡ Some (place_of mapped))

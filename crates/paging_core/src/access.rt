@@ -61,7 +61,7 @@ pub fn store_word(frames: &mut Frames, root: PhysFrame, address: VirtAddr, value
 
 /// Reads the words of the page from `index` on, by one walk.
 ///
-/// The page is mapped, and has as many.
+/// The page is mapped, and has that many words from `index` on.
 pub fn load_words(frames: &Frames, root: PhysFrame, page: Page, index: u16, words: &mut [u64])
     requires root { root < frame_count frames.now }
     requires mapped { IsSome (walk_of frames.now root page) }
@@ -77,7 +77,7 @@ pub fn load_words(frames: &Frames, root: PhysFrame, page: Page, index: u16, word
 
 /// Writes the words to the page, from `index` on, by one walk.
 ///
-/// The page is mapped, and has as many.
+/// The page is mapped, and has that many words from `index` on.
 pub fn store_words(frames: &mut Frames, root: PhysFrame, page: Page, index: u16, words: &[u64])
     requires root { root < frame_count frames.old }
     requires mapped { IsSome (walk_of frames.old root page) }

@@ -7,7 +7,8 @@ use crate::phys_frames::PhysFrame;
 use crate::table_frames::TableFrames;
 use std::marker::Model;
 
-/// Frames in a row that are handed out in ascending order. None comes back, and no memory is needed to know which are free.
+/// Frames in a row that are handed out in ascending order. None is given back, and no memory is needed to know which
+/// are free.
 #[derive(Drop)]
 pub struct FramesAhead {
     next: u64,
@@ -26,7 +27,7 @@ impl Model for FramesAhead {
 }
 
 impl FramesAhead {
-    /// The frames from `next` on that come before `end`.
+    /// The frames from `next` up to `end`, `end` excluded.
     pub fn new(next: u64, end: u64) -> FramesAhead
         requires order { next ≤ end }
         requires fits { end < 2 ^ 40 }

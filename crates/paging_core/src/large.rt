@@ -42,8 +42,9 @@ fn first_frame(frame: PhysFrame<Size2MiB>) -> PhysFrame
 /// Maps the slot of the page to the run of frames with the rights, by one entry. The tables above it that are missing
 /// are made, each in a frame from the pool.
 ///
-/// No page of the slot is mapped, and it has no table. The frames are neither free nor those of tables. In a whole memory no
-/// page leads to them; where the tables lie in an area other pages may. The pool has the frames for the missing tables.
+/// No page of the slot is mapped, and it has no table. The frames are neither free nor those of tables. In a whole
+/// memory no page leads to them; if the tables lie in an area, other pages may. The pool has the frames for the missing
+/// tables.
 pub fn map_large<M: PhysicalMemory, P: TableFrames>(
     frames: &mut M,
     pool: &mut P,
@@ -69,7 +70,7 @@ pub fn map_large<M: PhysicalMemory, P: TableFrames>(
     ensures bytes { (address : ℕ) → IsSome (walk_of (M.words frames.old) root (address / 4096)) → reached (M.words frames.new) root address ≡ reached (M.words frames.old) root address }
     ensures added { IsLargeAdded (M.words frames.old) (M.words frames.new) (P.free pool.old) (P.free pool.new) root page frame rights }
 
-    // A range of pages with the slot misses the tables above it no more. The slot's own counts as missing still.
+    // A range of pages with the slot no longer misses the tables above it. The slot's own still counts as missing.
     ensures missing { (first pages : ℕ) → IsCanonicalRange first pages → first ≤ 512 * page → 512 * page + 512 ≤ first + pages →
         missing_of (M.words frames.new) root first pages + missing_above (M.words frames.old) root page ≡ missing_of (M.words frames.old) root first pages }
 {
@@ -90,7 +91,7 @@ fn clear_frames(frames: &mut Frames, first: PhysFrame, count: u64)
     }
 }
 
-/// Maps the slot with the rights to the lowest run of frames that are all free, which is cleared. False exactly where
+/// Maps the slot with the rights to the lowest run of frames that are all free, which is cleared. False exactly if
 /// there is none; then nothing is changed.
 ///
 /// No page of the slot is mapped, and it has no table. The pool has the frames of a run and for the missing tables.
@@ -111,7 +112,7 @@ pub fn map_slot(
     ensures full { IsFalse result → ((run : ℕ) → IsRunFree pool.old run → ⊥) × (frames.new ≡ frames.old) × (pool.new ≡ pool.old) }
     ensures added { IsTrue result → IsSlotAdded frames.old frames.new pool.old pool.new root page rights }
 
-    // A range of pages with the slot misses the tables above it no more. The slot's own counts as missing still.
+    // A range of pages with the slot no longer misses the tables above it. The slot's own still counts as missing.
     ensures missing { IsTrue result → (first pages : ℕ) → IsCanonicalRange first pages → first ≤ 512 * page → 512 * page + 512 ≤ first + pages →
         missing_of frames.new root first pages + missing_above frames.old root page ≡ missing_of frames.old root first pages }
     ensures count { IsTrue result → free_count pool.new + 512 + missing_above frames.old root page ≡ free_count pool.old }
@@ -130,7 +131,7 @@ pub fn map_slot(
     true
 }
 
-/// The large page of the slot, by its first frame. None exactly where the slot is not mapped by one entry.
+/// The large page of the slot, by its first frame. None exactly if the slot is not mapped by one entry.
 pub fn large_page<M: PhysicalMemory>(
     frames: &M,
     root: PhysFrame,
@@ -194,7 +195,7 @@ pub(crate) fn large_entry<M: PhysicalMemory>(
 /// Unmaps the slot of the page: its entry becomes 0, and no other word is changed. The answer is the run of frames to
 /// which the slot led.
 ///
-/// The slot is mapped by one entry. The tables stay, and the frames are still out.
+/// The slot is mapped by one entry. The tables stay, and the frames are still handed out.
 pub fn unmap_large<M: PhysicalMemory>(
     frames: &mut M,
     root: PhysFrame,
@@ -208,7 +209,7 @@ pub fn unmap_large<M: PhysicalMemory>(
     ensures cleared { IsLargeCleared (M.words frames.old) (M.words frames.new) root page }
     ensures area { M.area frames.new ≡ M.area frames.old }
 
-    // Where the tables are a tree they stay one, and no other page's walk is changed.
+    // If the tables are a tree, they stay one, and no other page's walk is changed.
     ensures tree { (free : List Bool) → IsTreeIn (M.area frames.old) (M.words frames.old) root free → IsTreeIn (M.area frames.new) (M.words frames.new) root free }
     ensures bytes { (free : List Bool) → IsTreeIn (M.area frames.old) (M.words frames.old) root free → (address : ℕ) → IsSome (walk_of (M.words frames.new) root (address / 4096)) → reached (M.words frames.new) root address ≡ reached (M.words frames.old) root address }
     ensures removed { (free : List Bool) → IsTreeIn (M.area frames.old) (M.words frames.old) root free → IsLargeRemoved (M.words frames.old) (M.words frames.new) root page }

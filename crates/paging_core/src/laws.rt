@@ -23,7 +23,7 @@ pub fn no_page_at_a_free_frame()
     ensures { NoPageAtAFreeFrame }
 {}
 
-/// Two pages may be mapped in either order: every page's walk comes out the same.
+/// Two pages may be mapped in either order: every page's walk is the same in the end.
 pub fn mapping_commutes()
     ensures { MappingCommutes }
 {}

@@ -21,8 +21,8 @@ use crate::tables::ensure_tables;
 /// Maps the page to the frame with the rights by its entry, `index` of the table, where its walk ends. No other word is
 /// changed.
 ///
-/// The page is not mapped, and the frame is no table's. In a whole memory no other page leads to it; where the tables lie
-/// in an area two pages may lead to one frame.
+/// The page is not mapped, and the frame is no table's. In a whole memory no other page leads to it; if the tables lie
+/// in an area, two pages may lead to one frame.
 #[inline(always)]
 pub fn map_at<M: PhysicalMemory>(
     frames: &mut M,
@@ -47,7 +47,7 @@ pub fn map_at<M: PhysicalMemory>(
     ensures area { M.area frames.new ≡ M.area frames.old }
     ensures known { (free : List Bool) → FreeIn (M.area frames.old) free (frame_count (M.words frames.old)) → FreeIn (M.area frames.new) free (frame_count (M.words frames.new)) }
 
-    // Where the tables are a tree beside some free frames, of which the frame is none, they stay one.
+    // If the tables are a tree beside some free frames, and the frame is none of these, they stay one.
     ensures tree { (free : List Bool) → IsTreeIn (M.area frames.old) (M.words frames.old) root free → is_free free frame ≡ false → IsTreeIn (M.area frames.new) (M.words frames.new) root free }
     ensures elsewhere { (free : List Bool) → IsTreeIn (M.area frames.old) (M.words frames.old) root free → is_free free frame ≡ false →
         (other : ℕ) → IsTrue (is_canonical (other * 4096)) → (other ≡ page → ⊥) → walk_of (M.words frames.new) root other ≡ walk_of (M.words frames.old) root other }
@@ -63,8 +63,8 @@ pub fn map_at<M: PhysicalMemory>(
 /// Maps the page to the frame with the rights. The tables that are missing for it are made, each in a
 /// frame from the pool.
 ///
-/// The page is not mapped, and the frame is neither free nor a table's. In a whole memory no other page leads to it;
-/// where the tables lie in an area two pages may lead to one frame. The pool has the frames for the missing tables.
+/// The page is not mapped, and the frame is neither free nor a table's. In a whole memory no other page leads to it; if
+/// the tables lie in an area, two pages may lead to one frame. The pool has the frames for the missing tables.
 pub fn map_page<M: PhysicalMemory, P: TableFrames>(
     frames: &mut M,
     pool: &mut P,
@@ -89,7 +89,7 @@ pub fn map_page<M: PhysicalMemory, P: TableFrames>(
     ensures elsewhere { (other : ℕ) → IsTrue (is_canonical (other * 4096)) → (other ≡ page → ⊥) → walk_of (M.words frames.new) root other ≡ walk_of (M.words frames.old) root other }
     ensures added { IsPageAdded (M.words frames.old) (M.words frames.new) (P.free pool.old) (P.free pool.new) root page frame rights }
 
-    // A range of pages with the page misses its tables no more.
+    // A range of pages with the page no longer misses its tables.
     ensures missing { (first pages : ℕ) → IsCanonicalRange first pages → first ≤ page → page < first + pages →
         missing_of (M.words frames.new) root first pages + missing_of (M.words frames.old) root page 1 ≡ missing_of (M.words frames.old) root first pages }
 {

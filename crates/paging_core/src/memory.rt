@@ -53,7 +53,7 @@ fn reach(words: &mut Vec<u64>, place: usize)
 }
 
 impl Frames {
-    /// A memory of so many frames, each word 0.
+    /// A memory of `count` frames, each word 0.
     ///
     /// `AllocError` if memory for them cannot be reserved.
     pub fn new(alloc: Global, count: u32) -> Result<Self, AllocError>
@@ -124,7 +124,7 @@ impl Frames {
 
     /// Reads the words of the frame from `index` on.
     ///
-    /// The frame has as many.
+    /// The frame has that many words from `index` on.
     pub fn read_words(&self, frame: PhysFrame, index: u16, words: &mut [u64])
         requires frame { frame < frame_count self.now }
         requires fits { index + length words.old ≤ 512 }
@@ -142,7 +142,7 @@ impl Frames {
 
     /// Writes the words to the frame, from `index` on.
     ///
-    /// The frame has as many.
+    /// The frame has that many words from `index` on.
     pub fn write_words(&mut self, frame: PhysFrame, index: u16, words: &[u64])
         requires frame { frame < frame_count self.old }
         requires fits { index + length words.now ≤ 512 }

@@ -36,7 +36,7 @@ struct Run {
     is_missing: bool,
 }
 
-/// The run that begins at the prefix: as far as one missing table above it tells.
+/// The run that begins at the prefix: as far as one missing table above it shows.
 fn run_from<M: PhysicalMemory>(frames: &M, root: PhysFrame, level: u32, from: u64, last: u64) -> Run
     requires root { root < frame_count (M.words frames.now) }
     requires level { level < 4 }

@@ -181,7 +181,7 @@ impl PageTableEntry {
     }
 }
 
-/// The bits of the flag where it is granted, else 0.
+/// The bits of the flag if it is granted, else 0.
 fn bits_where(granted: bool, flag: PageTableFlags) -> u64
     ensures { result ≡ (if granted then page_table_bits flag else 0) }
 {

@@ -76,16 +76,16 @@ impl PageTableFlags {
     /// Free for software.
     pub const BIT_58: Self = Self(1 << 58);
 
-    /// Free for software where protection keys are off.
+    /// Free for software if protection keys are off.
     pub const BIT_59: Self = Self(1 << 59);
 
-    /// Free for software where protection keys are off.
+    /// Free for software if protection keys are off.
     pub const BIT_60: Self = Self(1 << 60);
 
-    /// Free for software where protection keys are off.
+    /// Free for software if protection keys are off.
     pub const BIT_61: Self = Self(1 << 61);
 
-    /// Free for software where protection keys are off.
+    /// Free for software if protection keys are off.
     pub const BIT_62: Self = Self(1 << 62);
 
     /// Instruction fetches are denied.

@@ -84,8 +84,8 @@ pub(crate) fn follow<M: PhysicalMemory>(
     Some(to)
 }
 
-/// One step of the walk to a table or, from the last one, to a page's frame: from a table that was met after
-/// `level` steps. None also where the entry maps a large page.
+/// One step of the walk to a table or, from the last one, to a page's frame: from a table that was met after `level`
+/// steps. None also if the entry maps a large page.
 #[inline(always)]
 #[tactic(auto, unfolding(crate::specs::Walk::step))]
 pub(crate) fn next<M: PhysicalMemory>(
@@ -134,8 +134,8 @@ pub(crate) fn large_at<M: PhysicalMemory>(frames: &M, at: Mapped, index: u16) ->
     }
 }
 
-/// The page with this index in a large page that begins at the place. None where the frames of the large page
-/// do not all exist, or the first is no multiple of 512.
+/// The page with this index in a large page that begins at the place. None if the frames of the large page do not all
+/// exist, or the first is no multiple of 512.
 pub(crate) fn in_run<M: PhysicalMemory>(frames: &M, large: Mapped, index: u16) -> Option<Mapped>
     requires index { index < 512 }
     requires below { large.frame < frame_count (M.words frames.now) }
@@ -170,8 +170,8 @@ pub(crate) fn descend<M: PhysicalMemory>(
     Some(at)
 }
 
-/// Where the page is mapped. The walk reads three entries where the third maps a large page, and else four; None
-/// where one of them is not present, or the frames of the large page are not there.
+/// Where the page is mapped. The walk reads three entries if the third maps a large page, and else four. None if one of
+/// them is not present, or the frames of the large page are not there.
 pub fn walk<M: PhysicalMemory>(frames: &M, root: PhysFrame, page: Page) -> Option<Mapped>
     requires { root < frame_count (M.words frames.now) }
     ensures found { option_map place_of result ≡ walk_of (M.words frames.now) root page }

@@ -128,7 +128,7 @@ impl<S: PageSize> Model for Page<S> {
 }
 
 impl<S: PageSize> Page<S> {
-    /// The page that begins at the address. An error where the address is no multiple of the size.
+    /// The page that begins at the address. An error if the address is no multiple of the size.
     pub fn from_start_address(address: VirtAddr) -> Result<Self, AddressNotAligned>
         ensures aligned { IsOk result ↔ (address % S.SIZE ≡ 0) }
         ensures ok { IfOk result (λ page. page ≡ address / S.SIZE) }
@@ -181,7 +181,7 @@ impl<S: PageSize> Page<S> {
         ((1 << 17) - 2) * Self::half_pages()
     }
 
-    /// How many pages come before the page.
+    /// How many pages are before the page.
     fn position(self) -> u64
         ensures place { result ≡ position S.SIZE self }
         ensures bounded { result < 2 * half_pages S.SIZE }
@@ -193,7 +193,7 @@ impl<S: PageSize> Page<S> {
         }
     }
 
-    /// Whether the page comes before the other.
+    /// Whether the page is before the other.
     fn is_before(self, other: Self) -> bool
         ensures number { IsTrue result ↔ (self < other) }
         ensures place { IsTrue result ↔ (position S.SIZE self < position S.SIZE other) }
@@ -201,7 +201,7 @@ impl<S: PageSize> Page<S> {
         self.number() < other.number()
     }
 
-    /// The number of the page before which so many pages come.
+    /// The number of the page that has `place` pages before it.
     fn number_at(place: u64) -> u64
         requires { place < 2 * half_pages S.SIZE }
         ensures { result ≡ page_at S.SIZE place }
@@ -213,7 +213,7 @@ impl<S: PageSize> Page<S> {
         }
     }
 
-    /// The page before which so many pages come. None where there are no more than so many.
+    /// The page that has `place` pages before it. None if there are at most `place` pages.
     fn at(place: u64) -> Option<Self>
         ensures some { IsSome result ↔ (place < 2 * half_pages S.SIZE) }
         ensures page { IfSome result (λ page. page ≡ page_at S.SIZE place) }
@@ -229,8 +229,8 @@ impl<S: PageSize> Page<S> {
         }
     }
 
-    /// The page so many pages on; the first page of the high half comes after the last of the low half.
-    /// None exactly where it would be past the last page (Rust's `Step::forward_checked`).
+    /// The page `count` pages on; the first page of the high half follows the last of the low half. None exactly if it
+    /// would be past the last page (Rust's `Step::forward_checked`).
     pub fn forward_checked(start: Self, count: usize) -> Option<Self>
         ensures some { IsSome result ↔ (position S.SIZE start + count < 2 * half_pages S.SIZE) }
         ensures page { IfSome result (λ page. page ≡ page_at S.SIZE (position S.SIZE start + count)) }
@@ -239,8 +239,8 @@ impl<S: PageSize> Page<S> {
         Self::at(start.position().checked_add(count as u64)?)
     }
 
-    /// The page so many pages back; the last page of the low half comes before the first of the high
-    /// half. None exactly where it would be before the first page (Rust's `Step::backward_checked`).
+    /// The page `count` pages back; the last page of the low half is the one before the first of the high half. None
+    /// exactly if it would be before the first page (Rust's `Step::backward_checked`).
     pub fn backward_checked(start: Self, count: usize) -> Option<Self>
         ensures some { IsSome result ↔ (count ≤ position S.SIZE start) }
         ensures page { IfSome result (λ page. page ≡ page_at S.SIZE (position S.SIZE start - count)) }
@@ -249,8 +249,8 @@ impl<S: PageSize> Page<S> {
         Self::at(start.position().checked_sub(count as u64)?)
     }
 
-    /// How many steps lead from one page to the other: `(n, Some(n))`, and `(0, None)` where `end` comes
-    /// before `start` (Rust's `Step::steps_between`).
+    /// How many steps lead from one page to the other: `(n, Some(n))`, and `(0, None)` if `end` is before `start`
+    /// (Rust's `Step::steps_between`).
     pub fn steps_between(start: &Self, end: &Self) -> (usize, Option<usize>)
         ensures { result ≡ steps (position S.SIZE start.now) (position S.SIZE end.now) }
     {
@@ -309,7 +309,7 @@ impl<S: NotGiantPageSize> Page<S> {
 }
 
 impl Page<Size4KiB> {
-    /// The page so many pages on, in the same canonical half (own).
+    /// The page that is this many pages on, in the same canonical half (own).
     pub fn after(self, pages: u64) -> Self
         requires { IsTrue (is_canonical ((self + pages) * 4096)) }
         ensures { result ≡ self + pages }

@@ -22,7 +22,7 @@ impl<S: PageSize> Model for PhysFrame<S> {
 }
 
 impl<S: PageSize> PhysFrame<S> {
-    /// The frame that begins at the address. An error where the address is no multiple of the size.
+    /// The frame that begins at the address. An error if the address is no multiple of the size.
     pub fn from_start_address(address: PhysAddr) -> Result<Self, AddressNotAligned>
         ensures aligned { IsOk result ↔ (address % S.SIZE ≡ 0) }
         ensures ok { IfOk result (λ frame. frame ≡ address / S.SIZE) }
@@ -61,7 +61,7 @@ impl<S: PageSize> PhysFrame<S> {
 }
 
 impl PhysFrame {
-    /// The frame so many frames on.
+    /// The frame that is this many frames on.
     pub fn after(self, frames: u64) -> Self
         requires { self + frames < 2 ^ 40 }
         ensures { result ≡ self + frames }

@@ -13,15 +13,17 @@ pub trait PhysicalMemory: Drop {
     ghost use Rattle.paging_core.specs.Area.{Area, in_area};
     ghost use Rattle.paging_core.specs.Memory.{word_at, frame_count, cleared};
 
-    /// The words of all frames below the limit, 512 a frame. Those outside the area are 0 here, whatever the machine has there.
+    /// The words of all frames below the limit, 512 per frame. Those outside the area are 0 here, whatever the machine
+    /// has there.
     ghost words: { Self → List ℕ };
 
     /// Where the tables lie.
     ghost area: { Self → Area };
 
-    /// Which words the memory may hold at a moment: each store leaves some that it allows. It allows all, unless somebody reads
-    /// it between two stores of a call, as a processor that walks the tables. The clauses `seen` of the calls say for which
-    /// words they ask this, and so what he may find: they are proved for every memory, however little it allows.
+    /// Which words the memory may hold at a moment: each store leaves some that it allows. It allows all, unless
+    /// somebody reads it between two stores of a call, as a processor that walks the tables does. The clauses `seen` of
+    /// the calls say for which words they ask this, and so what that reader may find: they are proved for every memory,
+    /// however little it allows.
     ghost allows: { List ℕ → Type 0 } = { λ words. ⊤ };
 
     /// How many frames are below the limit.

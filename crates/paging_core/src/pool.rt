@@ -15,8 +15,8 @@ const RUN: u32 = 512;
 
 /// The frames that are free. A frame is free until it is handed out.
 ///
-/// A run is 512 frames, the first a multiple of 512: a frame of 2 MiB. Those that are wholly free are
-/// kept beside the frames, and how many frames of each run are free, so that no call looks at all frames.
+/// A run is 512 frames, the first a multiple of 512: a frame of 2 MiB. Those that are wholly free are kept beside the
+/// frames, and how many frames of each run are free, so no call looks at all frames.
 #[derive(Drop)]
 pub struct FramePool {
     free: NumberSet,
@@ -64,7 +64,7 @@ impl FramePool {
         u64::from(self.free.len())
     }
 
-    /// The frame is free no more.
+    /// The frame is no longer free.
     fn take(&mut self, number: u32)
         requires { is_free self.old number ≡ true }
         ensures { self.new ≡ set self.old number false }
@@ -154,7 +154,7 @@ impl FrameDeallocator<Size2MiB> for FramePool {
     }
 }
 
-/// No frame of the run is free any more.
+/// No frame of the run is free any longer.
 fn remove_run(free: &mut NumberSet, run: u32)
     requires bounded { length free.old < 2 ^ 32 }
     requires free { IsRunFree free.old run }

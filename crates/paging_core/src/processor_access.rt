@@ -64,8 +64,8 @@ fn fault_code(present: bool, reserved: bool, kind: AccessKind, user: bool) -> Pa
 /// EFER.NXE are on: a read-only page denies the supervisor's writes too, and no-execute denies fetches. SMEP and SMAP are
 /// off, and there are no protection keys.
 ///
-/// An error has the code of the page fault: bit 0 is clear where an entry is not present, and set where a right or a
-/// reserved bit denies the access; bit 1 says a write, bit 2 the user, bit 3 a reserved bit, bit 4 a fetch.
+/// An error has the code of the page fault: bit 0 is clear if an entry is not present, and set if a right or a reserved
+/// bit denies the access; bit 1 means a write, bit 2 the user, bit 3 a reserved bit, bit 4 a fetch.
 ///
 /// Source: AMD64 manual, volume 2, sections 5.6 and 8.4.2.
 pub fn access_byte(

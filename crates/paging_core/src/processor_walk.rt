@@ -23,7 +23,7 @@ pub enum Translated {
     Reserved(u8),
 }
 
-/// The entry of a table. It is 0 where the memory has no such frame.
+/// The entry of a table. It is 0 if the memory has no such frame.
 fn entry_at(frames: &Frames, table: PhysFrame, index: u16) -> PageTableEntry
     requires { index < 512 }
     ensures { result ≡ word_at frames.now table index }
@@ -42,7 +42,7 @@ fn is_beyond(width: u8, frame: PhysFrame) -> bool
     width < 52 && frame.start_address().as_u64() >> width != 0
 }
 
-/// Whether the entry has a bit that is reserved in the step, beside those of its address.
+/// Whether the entry has a bit that is reserved in the step, besides those of its address.
 fn is_malformed(step: u8, entry: PageTableEntry) -> bool
     ensures { result ≡ is_malformed step entry }
 {
@@ -54,7 +54,7 @@ fn is_malformed(step: u8, entry: PageTableEntry) -> bool
     }
 }
 
-/// How the walk ends at the entry. None where it goes on.
+/// How the walk ends at the entry. None if it goes on.
 fn ending(width: u8, step: u8, entry: PageTableEntry) -> Option<Translated>
     ensures ends { IfSome result (λ end. (onward : Outcome) → past width step entry onward ≡ outcome_of end) }
     ensures goes_on { IfNone result ((onward : Outcome) → past width step entry onward ≡ onward) }
@@ -81,7 +81,7 @@ fn within(count: u64, page: Page, mapped: Mapped) -> Mapped
     }
 }
 
-/// Where a processor's walk of the page ends. Any words serve: the entries may have any bits, and need not be a tree.
+/// Where a processor's walk of the page ends. Any words will do: the entries may have any bits, and need not be a tree.
 ///
 /// A physical address has `width` bits. The walk reads at most four words; what is past the memory reads as 0.
 ///

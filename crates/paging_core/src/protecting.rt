@@ -39,7 +39,7 @@ pub fn protect_at<M: PhysicalMemory>(
     ensures changed { IsPageChanged (M.words frames.old) (M.words frames.new) root page (regrant rights) }
     ensures area { M.area frames.new ≡ M.area frames.old }
 
-    // Where the tables are a tree they stay one; no other page's walk is changed, and no byte of any page.
+    // If the tables are a tree, they stay one; no other page's walk is changed, and no byte of any page.
     ensures tree { (free : List Bool) → IsTreeIn (M.area frames.old) (M.words frames.old) root free → IsTreeIn (M.area frames.new) (M.words frames.new) root free }
     ensures pages { (free : List Bool) → IsTreeIn (M.area frames.old) (M.words frames.old) root free → ArePagesChanged (M.words frames.old) (M.words frames.new) root (regrant rights) (only page) }
     ensures granted { (free : List Bool) → IsTreeIn (M.area frames.old) (M.words frames.old) root free → IfSome (walk_of (M.words frames.old) root page) (λ place. walk_of (M.words frames.new) root page ≡ Some (granted place.frame rights)) }
@@ -63,7 +63,7 @@ pub fn protect_page<M: PhysicalMemory>(frames: &mut M, root: PhysFrame, page: Pa
     ensures changed { IsPageChanged (M.words frames.old) (M.words frames.new) root page (regrant rights) }
     ensures area { M.area frames.new ≡ M.area frames.old }
 
-    // Where the tables are a tree they stay one; no other page's walk is changed, and no byte of any page.
+    // If the tables are a tree, they stay one; no other page's walk is changed, and no byte of any page.
     ensures tree { (free : List Bool) → IsTreeIn (M.area frames.old) (M.words frames.old) root free → IsTreeIn (M.area frames.new) (M.words frames.new) root free }
     ensures pages { (free : List Bool) → IsTreeIn (M.area frames.old) (M.words frames.old) root free → ArePagesChanged (M.words frames.old) (M.words frames.new) root (regrant rights) (only page) }
     ensures granted { (free : List Bool) → IsTreeIn (M.area frames.old) (M.words frames.old) root free → IfSome (walk_of (M.words frames.old) root page) (λ place. walk_of (M.words frames.new) root page ≡ Some (granted place.frame rights)) }

@@ -37,8 +37,8 @@ fn map_new_page(
     map_page(frames, pool, root, page, frame, rights);
 }
 
-/// Maps the pages from `first` on, in ascending order, with the rights. Each goes to the lowest free
-/// frame, which is cleared; the tables that are missing for it come after it.
+/// Maps the pages from `first` on, in ascending order, with the rights. Each goes to the lowest free frame, which is
+/// cleared; the frames of the tables that are missing for it are taken after it.
 ///
 /// The range lies in one canonical half, and none of its pages is mapped. The pool has the frames for
 /// the pages and for the missing tables.

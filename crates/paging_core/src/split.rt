@@ -18,9 +18,10 @@ use crate::table_frames::TableFrames;
 /// Splits the large page of the slot: a table of 512 single entries maps the same frames with the same rights. The table
 /// lies in the lowest free frame of the pool.
 ///
-/// The slot is mapped by one entry, and the pool has a frame. Every page leads where it led at each moment, so that another
-/// processor may walk meanwhile: all entries of the table are written while nothing leads to it, and the entry that leads
-/// to it is written last, by one store. What a processor kept of the old entry stays right, as it says the same.
+/// The slot is mapped by one entry, and the pool has a frame. Every page leads where it led at each moment, so another
+/// processor may walk meanwhile: all entries of the table are written while nothing leads to it, and the entry that
+/// leads to it is written last, by one store. What a processor kept of the old entry stays right, since it says the
+/// same.
 pub fn split_large<M: PhysicalMemory, P: TableFrames>(
     frames: &mut M,
     pool: &mut P,
@@ -38,7 +39,7 @@ pub fn split_large<M: PhysicalMemory, P: TableFrames>(
     ensures area { M.area frames.new ≡ M.area frames.old }
     ensures split { IsLargeSplit (M.words frames.old) (M.words frames.new) (P.free pool.old) (P.free pool.new) root page }
 
-    // No page's walk is changed, those of the slot not either, and no byte of any page.
+    // No page's walk is changed, not even those of the slot, and no byte of any page.
     ensures walks { (other : ℕ) → walk_of (M.words frames.new) root other ≡ walk_of (M.words frames.old) root other }
     ensures bytes { (address : ℕ) → reached (M.words frames.new) root address ≡ reached (M.words frames.old) root address }
 {
@@ -70,7 +71,7 @@ pub fn protect_large<M: PhysicalMemory>(
     ensures regranted { IsLargeRegranted (M.words frames.old) (M.words frames.new) root page rights }
     ensures area { M.area frames.new ≡ M.area frames.old }
 
-    // Where the tables are a tree they stay one; no other page's walk is changed, and no byte of any page.
+    // If the tables are a tree, they stay one; no other page's walk is changed, and no byte of any page.
     ensures tree { (free : List Bool) → IsTreeIn (M.area frames.old) (M.words frames.old) root free → IsTreeIn (M.area frames.new) (M.words frames.new) root free }
     ensures granted { (free : List Bool) → IsTreeIn (M.area frames.old) (M.words frames.old) root free → AreLargeGranted (M.words frames.old) (M.words frames.new) root page rights }
     ensures elsewhere { (free : List Bool) → IsTreeIn (M.area frames.old) (M.words frames.old) root free → (other : ℕ) → IsTrue (is_canonical (other * 4096)) → (other / 512 ≡ page → ⊥) → walk_of (M.words frames.new) root other ≡ walk_of (M.words frames.old) root other }

@@ -27,10 +27,11 @@ impl<'a> Model for TableArea<'a> {
 }
 
 impl<'a> TableArea<'a> {
-    /// The area of which these are the words, 512 a frame, from the first frame on. Pages lie in frames below the limit.
+    /// The area of which these are the words, 512 per frame, from the first frame on. Pages lie in frames below the
+    /// limit.
     ///
-    /// None exactly where the words are not those of whole frames, or are none; where the area ends behind the limit; or
-    /// where the limit is not below 2^40, the number of frames that an entry can name.
+    /// None exactly if the words are not those of whole frames, or are none; if the area ends after the limit; or if
+    /// the limit is not below 2^40, the number of frames that an entry can name.
     pub fn over(words: &'a mut [u64], first: u64, limit: u64) -> Option<TableArea<'a>>
         ensures some { IsSome result ↔ ((length words.entry.now % 512 ≡ 0) × (0 < length words.entry.now) × (first + length words.entry.now / 512 ≤ limit) × (limit < 2 ^ 40)) }
         ensures value { IfSome result (λ area. area ≡ record { words = padded words.entry.now first limit; area = Part first (first + length words.entry.now / 512) }) }
@@ -59,7 +60,7 @@ impl<'a> TableArea<'a> {
         self.first <= number && number < self.end
     }
 
-    /// Whether one of so many frames in a row, from this one on, is one of the area.
+    /// Whether one of `count` frames in a row, from this one on, is one of the area.
     pub fn meets(&self, from: PhysFrame, count: u64) -> bool
         requires { from + count ≤ 2 ^ 40 }
         ensures { result ≡ area_meets self.now.area from count }

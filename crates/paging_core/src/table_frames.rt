@@ -8,10 +8,11 @@ pub trait TableFrames {
     ghost use Rattle.std.specs.Prelude.{◌≡◌, ℕ, ◌+◌, ◌<◌, List, Bool, false, IfSome, MatchOption};
     ghost use Rattle.paging_core.specs.Pool.{is_free, free_count, IsFrameTaken};
 
-    /// A flag for each frame, by its number: true where it is free.
+    /// A flag for each frame, by its number: true if it is free.
     ghost free: { Self → List Bool };
 
-    /// The lowest frame that is free, and free no more. None exactly where none is free.
+    /// Hands out the lowest free frame, which is then no longer free. None exactly if no frame is
+    /// free.
     fn take_frame(&mut self) -> Option<PhysFrame>
         ensures taken { IsFrameTaken (free self.old) (free self.new) result }
         ensures count { MatchOption result (free_count (free self.old) ≡ 0) (λ _. free_count (free self.new) + 1 ≡ free_count (free self.old)) }

@@ -15,8 +15,8 @@ use crate::phys_frames::PhysFrame;
 use crate::physical_memory::PhysicalMemory;
 use crate::table_frames::TableFrames;
 
-/// Takes the lowest free frame for a root table, and clears it: nothing is mapped. None exactly where no
-/// frame is free; then nothing is changed.
+/// Takes the lowest free frame for a root table, and clears it: nothing is mapped. None exactly if no frame is free;
+/// then nothing is changed.
 pub fn make_root<M: PhysicalMemory, P: TableFrames>(
     frames: &mut M,
     pool: &mut P,
@@ -42,7 +42,8 @@ pub fn make_root<M: PhysicalMemory, P: TableFrames>(
     Some(root)
 }
 
-/// Takes a free frame for a table, clears it, and names it at the entry: in this order, so that nobody finds what it held.
+/// Takes a free frame for a table, clears it, and names it by the entry: in this order, so that nobody finds what it
+/// held.
 fn make_table<M: PhysicalMemory, P: TableFrames>(
     frames: &mut M,
     pool: &mut P,
@@ -68,7 +69,7 @@ fn make_table<M: PhysicalMemory, P: TableFrames>(
     frame
 }
 
-/// The table that the entry names, made where it is missing.
+/// The table that the entry names, made if it is missing.
 fn ensure_table<M: PhysicalMemory, P: TableFrames>(
     frames: &mut M,
     pool: &mut P,
@@ -92,7 +93,7 @@ fn ensure_table<M: PhysicalMemory, P: TableFrames>(
     }
 }
 
-/// The page's table after so many steps, with all that is missing above it made.
+/// The page's table after this many steps, with all that is missing above it made.
 pub(crate) fn ensure_tables<M: PhysicalMemory, P: TableFrames>(
     frames: &mut M,
     pool: &mut P,

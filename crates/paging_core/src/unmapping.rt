@@ -19,7 +19,7 @@ use crate::pool::FramePool;
 
 /// Unmaps the page: its entry, `index` of the table, where its walk ends, becomes 0, and no other word is changed.
 ///
-/// The page is mapped. Its tables stay, and its frame is still out.
+/// The page is mapped. Its tables stay, and its frame is still handed out.
 #[inline(always)]
 pub fn clear_at<M: PhysicalMemory>(
     frames: &mut M,
@@ -38,7 +38,7 @@ pub fn clear_at<M: PhysicalMemory>(
     ensures removed { IsPageChanged (M.words frames.old) (M.words frames.new) root page removal }
     ensures area { M.area frames.new ≡ M.area frames.old }
 
-    // Where the tables are a tree they stay one, and no other page's walk is changed.
+    // If the tables are a tree, they stay one, and no other page's walk is changed.
     ensures tree { (free : List Bool) → IsTreeIn (M.area frames.old) (M.words frames.old) root free → IsTreeIn (M.area frames.new) (M.words frames.new) root free }
     ensures pages { (free : List Bool) → IsTreeIn (M.area frames.old) (M.words frames.old) root free → ArePagesChanged (M.words frames.old) (M.words frames.new) root removal (only page) }
     ensures unmapped { (free : List Bool) → IsTreeIn (M.area frames.old) (M.words frames.old) root free → walk_of (M.words frames.new) root page ≡ None }
@@ -51,8 +51,8 @@ pub fn clear_at<M: PhysicalMemory>(
 /// Unmaps the page: its last entry becomes 0, and no other word is changed. The answer is the frame to
 /// which the page led.
 ///
-/// The page is mapped by an entry of a last table, and not in a large page. Its tables stay, and its frame is
-/// still out.
+/// The page is mapped by an entry of a last table, and not in a large page. Its tables stay, and its frame is still
+/// handed out.
 pub fn unmap_page<M: PhysicalMemory>(frames: &mut M, root: PhysFrame, page: Page) -> PhysFrame
     requires root { root < frame_count (M.words frames.old) }
     requires mapped { IsSome (walk_of (M.words frames.old) root page) }
@@ -63,7 +63,7 @@ pub fn unmap_page<M: PhysicalMemory>(frames: &mut M, root: PhysFrame, page: Page
     ensures removed { IsPageChanged (M.words frames.old) (M.words frames.new) root page removal }
     ensures area { M.area frames.new ≡ M.area frames.old }
 
-    // Where the tables are a tree they stay one, and no other page's walk is changed.
+    // If the tables are a tree, they stay one, and no other page's walk is changed.
     ensures tree { (free : List Bool) → IsTreeIn (M.area frames.old) (M.words frames.old) root free → IsTreeIn (M.area frames.new) (M.words frames.new) root free }
     ensures pages { (free : List Bool) → IsTreeIn (M.area frames.old) (M.words frames.old) root free → ArePagesChanged (M.words frames.old) (M.words frames.new) root removal (only page) }
     ensures unmapped { (free : List Bool) → IsTreeIn (M.area frames.old) (M.words frames.old) root free → walk_of (M.words frames.new) root page ≡ None }
@@ -100,7 +100,7 @@ pub fn unmap_range(
     ensures count { free_count pool.new ≡ free_count pool.old + pages }
     ensures known { FreeBelow pool.old (frame_count frames.old) → FreeBelow pool.new (frame_count frames.new) }
 
-    // The pages of the range are mapped no more. No other page's walk is changed, and no byte of it.
+    // The pages of the range are no longer mapped. No other page's walk is changed, and no byte of it.
     ensures unmapped { (k : ℕ) → k < pages → walk_of frames.new root (first + k) ≡ None }
     ensures elsewhere { (other : ℕ) → IsTrue (is_canonical (other * 4096)) → ((k : ℕ) → k < pages → other ≡ first + k → ⊥) → walk_of frames.new root other ≡ walk_of frames.old root other }
     ensures bytes { (address : ℕ) → IsSome (walk_of frames.new root (address / 4096)) → reached frames.new root address ≡ reached frames.old root address }

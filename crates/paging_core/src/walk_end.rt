@@ -30,7 +30,7 @@ pub enum WalkEnd {
     },
     /// In a large page: where the page leads.
     Large(Mapped),
-    /// Where a table is missing: the page is not mapped, and misses so many tables, 1 to 3.
+    /// Where a table is missing: the page is not mapped, and this many of its tables are missing, 1 to 3.
     Missing(u64),
 }
 

@@ -73,7 +73,7 @@ fn write_entries(frames: &mut Frames)
     write(frames, 3, 0, 0x8000_0000_0020_1083);
 }
 
-/// Walks over these words in a memory of so many frames.
+/// Walks over these words in a memory of `count` frames.
 fn walk_over(rt: &impl Abort, alloc: Global, count: u32) -> Result<(), Fail>
     requires { 1024 ≤ count }
 {

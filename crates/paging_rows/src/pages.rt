@@ -41,7 +41,7 @@ fn errors_have_texts(rt: HostRuntime) -> Result<(), Fail> {
     Ok(())
 }
 
-/// Maps sixteen pages at 4 MiB, in order: the frame of a page comes before the tables that it misses.
+/// Maps sixteen pages at 4 MiB, in order: the frame of a page is taken before those of the tables that it misses.
 fn map_sixteen(rt: &impl Abort, frames: &mut Frames, pool: &mut FramePool, root: PhysFrame)
     requires root { root < frame_count frames.old }
     requires known { FreeBelow pool.old (frame_count frames.old) }
@@ -64,7 +64,7 @@ fn map_sixteen(rt: &impl Abort, frames: &mut Frames, pool: &mut FramePool, root:
     }
 }
 
-/// A memory of so many frames, with a root; the window of 1024 pages at 4 MiB then misses four tables.
+/// A memory of `count` frames, with a root; the window of 1024 pages at 4 MiB then misses four tables.
 fn build(rt: &impl Abort, alloc: Global, count: u32) -> Result<(), Fail> {
     let mut frames = Frames::new(alloc, count)?;
     let mut pool = FramePool::new(alloc, count)?;
@@ -237,7 +237,7 @@ fn larger_pages_step_over_the_gap(rt: HostRuntime) -> Result<(), Fail> {
     Ok(())
 }
 
-/// A range of this many pages, and of one more where its end is included.
+/// A range of this many pages, and of one more if its end is included.
 fn has_pages<S: PageSize>(rt: &impl Abort, start: u64, end: u64, count: u64) {
     let (start, end) = (page_at::<S>(rt, start), page_at::<S>(rt, end));
     let range = Page::range(start, end);

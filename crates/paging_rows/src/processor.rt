@@ -1,7 +1,7 @@
-//! A processor's walks over odd entries, and the accesses by them. The rows are those of the AMD64 manual. QEMU's processor
-//! was seen to answer so where an entry has PAT, bit 7 in the first two steps, an address bit beyond its width or below the
-//! size of its page, and where a frame is not in the memory. It leaves bit 0 out of the code of a reserved bit, and ignores
-//! bit 8 of the root's entries.
+//! A processor's walks over odd entries, and the accesses by them. The rows are those of the AMD64 manual. QEMU's
+//! processor was seen to answer like this if an entry has PAT, bit 7 in the first two steps, an address bit beyond its
+//! width or below the size of its page, and if a frame is not in the memory. It leaves bit 0 out of the code of a
+//! reserved bit, and ignores bit 8 of the root's entries.
 
 ghost use Rattle.std.specs.Prelude.{◌≡◌, ◌^◌, ◌<◌};
 ghost use Rattle.paging_core.specs.Memory.{frame_count};

@@ -42,8 +42,8 @@ fn found(
     ))
 }
 
-/// A range that is mapped in an empty memory of so many frames: at which slot the large pages end, how many frames are
-/// taken, and where some of its pages are.
+/// A range that is mapped in an empty memory of a given number of frames: at which slot the large pages end, how many
+/// frames are taken, and where some of its pages are.
 #[derive(Clone, Copy)]
 struct RangeRow {
     frames: u32,
@@ -182,8 +182,8 @@ fn a_range_of_two_slots_takes_the_one_run(rt: HostRuntime) -> Result<(), Fail> {
     map_in_memory(&rt, rt.alloc(), row)
 }
 
-/// A range that is mapped in an empty memory of so many frames, and leaves from a page on while no frame is free: how
-/// many frames are given back, how many tables the range misses then, and where some of its pages are.
+/// A range that is mapped in an empty memory of a given number of frames, and leaves from a page on while no frame is
+/// free: how many frames are given back, how many tables the range misses then, and where some of its pages are.
 #[derive(Clone, Copy)]
 struct LeavingRow {
     frames: u32,

@@ -58,7 +58,7 @@ fn word(rt: &impl Abort, frames: &Frames, number: u64, index: u16) -> u64
     frames.word(frame_at(number), index)
 }
 
-/// Writes the words if the page is mapped and has as many.
+/// Writes the words if the page is mapped and has that many words.
 fn store(frames: &mut Frames, page: Page, index: u16, words: &[u64]) -> bool {
     if !is_mapped(frames, page) || words.len() > 512 || usize::from(index) + words.len() > 512 {
         return false;
@@ -67,7 +67,7 @@ fn store(frames: &mut Frames, page: Page, index: u16, words: &[u64]) -> bool {
     true
 }
 
-/// Reads as many words as there is room for if the page is mapped and has as many.
+/// Reads as many words as there is room for, if the page is mapped and has that many.
 fn load(frames: &Frames, page: Page, index: u16, words: &mut [u64]) -> bool {
     if !is_mapped(frames, page) || words.len() > 512 || usize::from(index) + words.len() > 512 {
         return false;

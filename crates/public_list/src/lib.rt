@@ -58,7 +58,7 @@ impl<T: Drop> PublicList<T> {
         self.items.is_empty()
     }
 
-    /// The item at an index, counted from 0. `None` exactly where the index is at least `len`.
+    /// The item at an index, counted from 0. `None` exactly if the index is at least `len`.
     pub fn get(&self, index: u64) -> Option<&T>
         ensures { option_copied result ≡ slice_get self.now index }
     {

@@ -57,7 +57,7 @@ with_gates cs table (gate ∷ gates) = with_gates cs (with_gate cs table gate) g
 abbrev pub gate_line : InterruptDescriptorTable → ℕ → List ℕ
 gate_line table vector = line (codes "gate") (gate_of table vector)
 
--- of so many vectors, from one on
+-- of a number of vectors, from one on
 unfoldable pub gates_text : InterruptDescriptorTable → ℕ → ℕ → List ℕ
 gates_text table vector zero = []
 gates_text table vector (suc count) = gate_line table vector ++ gates_text table (vector + 1) count

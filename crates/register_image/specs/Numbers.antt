@@ -3,7 +3,7 @@ use Rattle.std.specs.Prelude.{ℕ, List, ◌++◌, Option, Some, None, false, co
 use Rattle.std.specs.Fmt.{digits}
 use Rattle.std.specs.List.{flat_map}
 
--- a number behind a space
+-- a number after a space
 abbrev pub number_text : ℕ → List ℕ
 number_text number = codes " 0x" ++ digits 16 false number
 

@@ -77,8 +77,8 @@ fn push_condition(
     push_breakpoint(out, number, condition, BreakpointSize::Length8B)
 }
 
-/// Puts a line for each breakpoint that a debug address register can have at the end: what it waits for, how many bytes it
-/// watches, and what DR7 holds if there is no other.
+/// Puts at the end a line for each breakpoint that a debug address register can have: what it waits for, how many bytes
+/// it watches, and what DR7 holds if there is no other.
 pub fn push_breakpoints(
     out: &mut String,
     number: DebugAddressRegisterNumber,

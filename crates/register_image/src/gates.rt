@@ -9,7 +9,7 @@ use x86_flags::PrivilegeLevel;
 use x86_registers::Cpu;
 use x86_tables::idt::{Entry, EntryOptions, InterruptDescriptorTable};
 
-/// A gate that a table shall have.
+/// A gate that a table is to have.
 #[derive(Clone, Copy, Drop)]
 pub struct Gate {
     /// The number of its interrupt or exception.
@@ -26,7 +26,7 @@ pub struct Gate {
     pub present: bool,
 }
 
-// Sets what a gate says, beside its handler and its code segment, in one that says nothing else but that it is present.
+// Sets what a gate says besides its handler and its code segment, in one that says nothing else but that it is present.
 fn set_options(options: &mut EntryOptions, gate: &Gate)
     requires { options.old.bits ≡ 0x8e00 }
     ensures { options.new ≡ record options.old { bits = options_bits gate.now } }
@@ -96,8 +96,8 @@ fn push_gates(out: &mut String, table: &InterruptDescriptorTable) -> Result<(), 
     Ok(())
 }
 
-/// Puts the table of these gates at the end, whose handlers run in the code segment of the selector, and the pointer to it if
-/// it lies at `at`.
+/// Puts at the end the table of these gates, whose handlers run in the code segment of the selector, and the pointer to
+/// it if it lies at `at`.
 pub fn push_table(
     out: &mut String,
     at: VirtAddr,

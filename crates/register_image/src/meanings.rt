@@ -56,7 +56,7 @@ pub fn push_exception(out: &mut String, number: u8) -> Result<(), AllocError>
     write!(out, " {name}")
 }
 
-/// Puts at the end what the error code of an exception means that a selector raised.
+/// Puts at the end what the error code of an exception that a selector raised means.
 pub fn push_selector_code(out: &mut String, bits: u64) -> Result<(), AllocError>
     ensures { OnOk result (string_bytes out.new ≡ string_bytes out.old ++ selector_text bits) }
 {

@@ -5,14 +5,14 @@ ghost use Rattle.register_image.specs.Numbers.{line, number_text, value_text};
 
 use std::alloc::AllocError;
 
-/// Puts a number at the end, behind a space.
+/// Puts a number at the end, after a space.
 pub fn push_number(out: &mut String, number: u64) -> Result<(), AllocError>
     ensures { OnOk result (string_bytes out.new ≡ string_bytes out.old ++ number_text number) }
 {
     write!(out, " 0x{number:x}")
 }
 
-// Puts each of some bytes at the end, behind a space.
+// Puts each of some bytes at the end, after a space.
 fn push_bytes(out: &mut String, bytes: &[u8]) -> Result<(), AllocError>
     ensures { OnOk result (string_bytes out.new ≡ string_bytes out.old ++ flat_map number_text bytes.now) }
 {

@@ -22,7 +22,7 @@ pub(crate) fn denied(at: u64, code: u64) -> SpaceFault {
     }
 }
 
-/// Looks that the supervisor reads these bytes.
+/// Checks that the supervisor reads these bytes.
 pub(crate) fn expect_bytes<R: Abort>(rt: &R, space: &Space, at: u64, expected: &[u8]) {
     match space.load(at, expected.len() as u64, false) {
         Ok(bytes) => same(rt, bytes.as_slice(), expected),
@@ -30,7 +30,7 @@ pub(crate) fn expect_bytes<R: Abort>(rt: &R, space: &Space, at: u64, expected: &
     }
 }
 
-/// Looks that a byte is not read.
+/// Checks that a byte is not read.
 pub(crate) fn expect_no_byte<R: Abort>(
     rt: &R,
     space: &Space,
@@ -61,7 +61,7 @@ fn bytes_are_kept(rt: HostRuntime) -> Result<(), Fail> {
     Ok(())
 }
 
-// The codes: 1 where the page is mapped, 2 for a write, 4 for the user.
+// The codes: 1 if the page is mapped, 2 for a write, 4 for the user.
 #[test]
 fn stores_are_refused(rt: HostRuntime) -> Result<(), Fail> {
     let mut space = Space::new(rt.alloc(), 8)?;

@@ -24,7 +24,7 @@ pub(crate) const READ: Rights = Rights {
     fetch: false,
 };
 
-/// So many pages from an address on, with the rights.
+/// `pages` pages from an address on, with the rights.
 pub(crate) fn area(start: u64, pages: u64, rights: Rights) -> Area {
     Area {
         start,
@@ -33,7 +33,7 @@ pub(crate) fn area(start: u64, pages: u64, rights: Rights) -> Area {
     }
 }
 
-/// Looks that these are the areas of the space.
+/// Checks that these are the areas of the space.
 pub(crate) fn expect_areas(
     rt: &impl Abort,
     alloc: Global,

@@ -13,7 +13,7 @@ use x86_flags::PageFaultErrorCode;
 /// How many pages the plain map has: more than the calls name. They share their tables.
 const PAGES: u64 = 24;
 
-/// How many frames are free where no page is mapped: of 64, one is the root, and three are tables.
+/// How many frames are free if no page is mapped: of 64, one is the root, and three are tables.
 const FREE: u64 = 60;
 
 /// The rights of each page that is mapped, and the bytes of all.
@@ -71,7 +71,7 @@ impl Plain {
     }
 }
 
-/// Pages one behind the other.
+/// Pages one after the other.
 #[derive(Clone, Copy)]
 struct Pages {
     first: u64,
@@ -151,7 +151,7 @@ fn protect_both<R: Abort>(
     }
 }
 
-/// The lowest of the places of so many pages from a first page on.
+/// The lowest place for as many pages, from the first of them on.
 fn lowest_place(plain: &Plain, pages: Pages) -> Option<Pages> {
     for first in pages.first..PAGES {
         let place = Pages {
@@ -371,7 +371,7 @@ fn turn<R: Abort>(
     Ok(())
 }
 
-/// Looks that both have the same areas, and that all frames are counted.
+/// Checks that both have the same areas, and that all frames are counted.
 fn compare(rt: &impl Abort, alloc: Global, space: &Space, plain: &Plain) -> Result<(), Fail> {
     let all = Pages {
         first: 0,

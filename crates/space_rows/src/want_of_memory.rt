@@ -7,7 +7,7 @@ use address_space::{Space, SpaceFault};
 use std::process::Abort;
 use std::test::Fail;
 
-/// Whether the call wanted memory; if so it took no frame and gave none back. Any other answer is `Ok`.
+/// Whether the call lacked memory; if so it took no frame and gave none back. Any other answer is `Ok`.
 fn wants_memory<R: Abort>(
     rt: &R,
     answer: Result<u64, SpaceFault>,
@@ -22,7 +22,7 @@ fn wants_memory<R: Abort>(
     false
 }
 
-/// Makes one of the calls that may want memory.
+/// Makes one of the calls that may lack memory.
 fn call(space: &mut Space, number: u32) -> Result<u64, SpaceFault> {
     match number {
         0 => space.map_at(0x1000, 6, DATA).map(|()| 0),

@@ -43,7 +43,7 @@ impl<L: Ledger> Steps<L> {
         self.tick_each(1);
     }
 
-    /// Counts so many steps.
+    /// Counts `count` steps.
     pub fn tick_each(&mut self, count: u64)
         ensures { self.new ≡ self.old + count }
     {

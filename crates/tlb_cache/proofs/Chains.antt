@@ -29,7 +29,7 @@ leads_still hash hash' wanted wanted' limit len count few same is_wanted leads =
       same last (omega (arith, counted, leads.within)) ∙ (own ∙ is_wanted);
 }
 
--- how many are no newer than the one with an age, of so many
+-- how many are no newer than the one with an age, of a number of entries
 abbrev pub counted : ℕ → ℕ → ℕ
 counted age limit = if nat_lt age limit then age + 1 else 0
 

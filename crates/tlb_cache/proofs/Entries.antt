@@ -94,7 +94,7 @@ pub first_alone : (entries : List TlbEntry) (entry : TlbEntry) → AreDistinct e
 first_alone [] entry d h = cc
 first_alone (x ∷ xs) entry d h = let same : x ≡ entry = cc in subst (λ (e : TlbEntry). has_page xs e.page ≡ false) same d.0
 
--- ---- an entry joins where there is room, or the oldest leaves
+-- ---- an entry joins if there is room, or the oldest leaves
 
 pub kept_last :
     (capacity : ℕ) (entries : List TlbEntry) (entry : TlbEntry) → 0 < capacity →
@@ -119,7 +119,7 @@ filter-append test (x ∷ xs) ys = go (test x) (filter-append test xs ys) where
   go true rest = ap (λ (zs : List TlbEntry). x ∷ zs) rest
   go false rest = rest
 
--- after so many turns, the rest is in front of those that came round
+-- after a number of turns, the rest is in front of those that came round
 abbrev pub turned : (TlbEntry → Bool) → List TlbEntry → ℕ → List TlbEntry
 turned test xs turns = drop turns xs ++ filter test (take turns xs)
 
@@ -193,7 +193,7 @@ pub turn_none : (test : TlbEntry → Bool) (xs : List TlbEntry) → slice_get xs
 turn_none test [] h = refl
 turn_none test (y ∷ ys) h = cc
 
--- where no page that is tested has an entry, all stay
+-- if no page that is tested has an entry, all stay
 pub filter_kept : (covered : ℕ → Bool) (xs : List TlbEntry) → ((page : ℕ) → covered page ≡ true → has_page xs page ≡ false) → filter (λ (x : TlbEntry). not (covered x.page)) xs ≡ xs
 filter_kept covered [] h = refl
 filter_kept covered (x ∷ xs) h = go (covered x.page) refl (filter_kept covered xs (λ page is. (or_none (x.page == page) (has_page xs page) (h page is)).1)) where
@@ -207,12 +207,12 @@ pub filter_same : (f g : ℕ → Bool) (xs : List TlbEntry) → ((page : ℕ) �
 filter_same f g [] h = refl
 filter_same f g (x ∷ xs) h = rw (h x.page) (ap (λ (zs : List TlbEntry). cond (not (g x.page)) (x ∷ zs) zs) (filter_same f g xs h))
 
--- where none fails, all stay
+-- if none fails, all stay
 pub filter_all : (test : TlbEntry → Bool) (xs : List TlbEntry) → AllByRecursion (λ x. test x ≡ true) xs → filter test xs ≡ xs
 filter_all test [] h = refl
 filter_all test (x ∷ xs) h = rw h.0 (ap (λ (zs : List TlbEntry). x ∷ zs) (filter_all test xs h.1))
 
--- where all fail, none does
+-- if all fail, none does
 pub filter_none : (test : TlbEntry → Bool) (xs : List TlbEntry) → ((x : TlbEntry) → test x ≡ false) → filter test xs ≡ []
 filter_none test [] h = refl
 filter_none test (x ∷ xs) h = rw (h x) (filter_none test xs h)

@@ -1,4 +1,4 @@
--- What an access gives, where the walk finds its page.
+-- What an access gives, if the walk finds its page.
 use Rattle.std.proofs.Common.{◌≡◌, ℕ, ◌+◌, ◌*◌, ◌/◌, ◌%◌, ◌^◌, Bool, true, false, is_some, IsTrue, Option, Some, None, option_map, refl, sym, ap, ◌∙◌}
 use Rattle.paging_core.specs.Address.{is_canonical}
 use Rattle.paging_core.specs.Memory.{word_at, byte_of}

@@ -49,13 +49,13 @@ Agrees-prop words root entries = AllByRecursion-prop (IsFound words root) (IsFou
   IsFound-prop : (words : List ℕ) (root : ℕ) (entry : TlbEntry) → IsProp (IsFound words root entry)
   IsFound-prop words root entry = hlevel props
 
--- the entries after a look-up that missed: what the walk found of the page is the newest, and the oldest leaves where there
--- were as many as there may be
+-- the entries after a look-up that missed: what the walk found of the page is the newest, and the oldest leaves if
+-- there were as many as there may be
 abbrev pub kept : Cache → ℕ → Option Mapped → Cache
 kept cache page None = cache
 kept cache page (Some mapped) = record cache { entries = keep_last cache.capacity (cache.entries ++ record { page = page; mapped = mapped } ∷ []) }
 
--- The cache after a page was looked up: as it was where the page had an entry, and else with what the walk found.
+-- The cache after a page was looked up: as it was if the page had an entry, and else with what the walk found.
 pub record IsLookedUp (words : List ℕ) (root page : ℕ) (old new : Cache) : Type 0 where
   pub hit : IsTrue (has_page old.entries page) → new ≡ old
   pub missed : IsFalse (has_page old.entries page) → (found : Option Mapped) × (option_map place_of found ≡ walk_of words root page) × (new ≡ kept old page found)

@@ -22,7 +22,7 @@ use Rattle.tlb_cache.specs.declared.probed.Probed.TheVariants.{Byte, Fault, NotC
 use Rattle.tlb_cache.specs.declared.cached_fault.CachedFault.{CachedFault}
 use Rattle.tlb_cache.specs.declared.cached_fault.CachedFault.TheVariants.{Unmap, OutOfMemory}
 
--- what may be done at the page of an address, where the walk finds it
+-- what may be done at the page of an address, if the walk finds it
 abbrev pub rights_at : Paged → ℕ → Option Rights
 rights_at p at = option_map rights_of (walk_of p.words p.root (at / 4096))
 
@@ -34,17 +34,18 @@ IsProbed p at access user (Fault code) =
     IsTrue (is_canonical at) × IsFalse (is_granted (rights_at p at) access user) × (page_fault_bits code ≡ fault_code (is_some (rights_at p at)) access user)
 IsProbed p at access user (Byte byte) = IsTrue (is_canonical at) × IsTrue (is_granted (rights_at p at) access user) × (reached p.words p.root at ≡ Some byte)
 
--- the page that comes next after so many from one on, unless they hold the last one of the address space
+-- a page, and the page that comes next after a number of pages from it on, unless they hold the last one of the address
+-- space
 abbrev pub range_of : ℕ → ℕ → Option (ℕ × ℕ)
 range_of first pages =
     if nat_lt (position 4096 first + pages) (2 * half_pages 4096) then Some (first, page_at 4096 (position 4096 first + pages)) else None
 
--- the commands for so many pages from an address on: those of INVLPGB for them, or the one for all pages
+-- the commands for a number of pages from an address on: those of INVLPGB for them, or the one for all pages
 abbrev pub flush_of : Cpu → ℕ → ℕ → List FlushCommand
 flush_of cpu start pages =
     commands 4096 (record (whole (limits_of cpu)) { pages = range_of (start / 4096) pages }) (range_of (start / 4096) pages)
 
--- commands cover so many pages from an address on
+-- commands cover a number of pages from an address on
 abbrev pub Flushes : List FlushCommand → ℕ → ℕ → Type 0
 Flushes list start pages = (k : ℕ) → k < pages → IsTrue (list_any (λ (command : FlushCommand). covers command (start / 4096 + k)) list)
 

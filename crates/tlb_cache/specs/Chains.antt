@@ -6,7 +6,7 @@ use Rattle.std.specs.Prelude.{◌≡◌, ℕ, ◌+◌, ◌-◌, ◌*◌, ◌/◌
 unfoldable pub hash_of : ℕ → ℕ → ℕ
 hash_of hashes page = page * 0x9e37_79b9_7f4a_7c15 % 2 ^ 64 / 2 ^ 32 * hashes / 2 ^ 32
 
--- the place of the entry with an age, in a ring of so many places whose oldest entry has a place
+-- the place of the entry with an age, in a ring of a number of places whose oldest entry has a place
 unfoldable pub place_at : ℕ → ℕ → ℕ → ℕ
 place_at places oldest age = if nat_lt (oldest + age) places then oldest + age else oldest + age - places
 
@@ -18,7 +18,7 @@ age_at places oldest place = if nat_le oldest place then place - oldest else pla
 unfoldable pub next_place : ℕ → ℕ → ℕ
 next_place places oldest = if nat_lt (oldest + 1) places then oldest + 1 else 0
 
--- how many entries are no newer than the one at a place, if that is one of so many oldest entries, and else 0
+-- how many entries are no newer than the one at a place, if that is one of a number of oldest entries, and else 0
 unfoldable pub up_to : ℕ → ℕ → ℕ → ℕ → ℕ
 up_to places oldest place limit = if nat_lt (age_at places oldest place) limit then age_at places oldest place + 1 else 0
 

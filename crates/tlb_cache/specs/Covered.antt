@@ -4,11 +4,11 @@ use Rattle.std.specs.Prelude.{ℕ, ◌+◌, ◌*◌, ◌/◌, ◌%◌, ◌^◌, 
 use Rattle.x86_instructions.specs.declared.tlb.FlushCommand.{FlushCommand}
 use Rattle.x86_instructions.specs.declared.tlb.FlushCommand.TheVariants.{Invlpg, ReloadCr3, Invpcid, Invlpgb}
 
--- the page is one of so many from another on
+-- the page is one of a number of pages from another on
 abbrev pub is_among : ℕ → ℕ → ℕ → Bool
 is_among first pages page = nat_le first page && nat_lt page (first + pages)
 
--- the pages of 4 KiB in a page of the size that ECX names: 2 MiB where bit 31 is set
+-- the pages of 4 KiB in a page of the size that ECX names: 2 MiB if bit 31 is set
 abbrev pub pages_each : ℕ → ℕ
 pages_each ecx = if ecx / 2 ^ 31 == 1 then 512 else 1
 
@@ -16,11 +16,11 @@ pages_each ecx = if ecx / 2 ^ 31 == 1 then 512 else 1
 abbrev pub first_page : ℕ → ℕ → ℕ
 first_page rax ecx = rax / 4096 / pages_each ecx * pages_each ecx
 
--- as many pages of that size as bits 0 to 15 of ECX say, and one where they are 0
+-- as many pages of that size as bits 0 to 15 of ECX say, and one if they are 0
 abbrev pub named_pages : ℕ → ℕ
 named_pages ecx = max 1 (ecx % 2 ^ 16) * pages_each ecx
 
--- whether a command covers the page. INVLPGB covers all where bit 0 of RAX says that it has no address
+-- whether a command covers the page. INVLPGB covers all if bit 0 of RAX says that it has no address
 abbrev pub covers : FlushCommand → ℕ → Bool
 covers (Invlpg address) page = page == address / 4096
 covers ReloadCr3 page = true

@@ -32,7 +32,7 @@ pub(crate) fn probe(
     answer(system, &found, address.as_u64(), access, user)
 }
 
-/// What an access to the byte at an address gives, where the walk finds its page so.
+/// What an access to the byte at an address gives, if this is what the walk finds of its page.
 #[tactic(auto, using(crate::proofs::Reached::probed_byte, crate::proofs::Reached::probed_fault))]
 pub(crate) fn answer(
     system: &PagedSystem,

@@ -158,8 +158,8 @@ impl CachedSystem {
         access::probe(&self.system, &mut self.tlb, address, access, user)
     }
 
-    /// Whether so many pages from an address on may be a region: they are whole pages of one canonical half, and some, and
-    /// no more than there are frames. So no list is made for a range that no region has.
+    /// Whether `pages` pages from an address on may be a region: they are whole pages of one canonical half, at least
+    /// one, and no more than there are frames. So no list is made for a range that no region has.
     #[tactic(auto, using(crate::proofs::Ranges::page_range, crate::proofs::Ranges::range_canonical))]
     fn may_be_region(&self, start: u64, pages: u64) -> bool
         ensures range { IsTrue result → IsPageRange start pages }
@@ -175,7 +175,7 @@ impl CachedSystem {
             && (first + pages - 1) / HALF_PAGES == first / HALF_PAGES
     }
 
-    /// The commands that flush so many pages from an address on, if these may be a region, and else none.
+    /// The commands that flush `pages` pages from an address on, if these may be a region, and else none.
     fn commands(&self, start: u64, pages: u64) -> Result<FlushList, AllocError>
         ensures list { IfOk result (λ list. CanUnmap (paged self.now.system) start pages → list ≡ flush_of self.now.cpu start pages) }
         ensures covered { OnOk result (CanUnmap (paged self.now.system) start pages → Flushes (flush_of self.now.cpu start pages) start pages) }
@@ -190,7 +190,7 @@ impl CachedSystem {
         Ok(list)
     }
 
-    /// Appends the commands that flush so many pages from an address on.
+    /// Appends the commands that flush `pages` pages from an address on.
     #[tactic(auto, using(crate::proofs::Flushed::ranged, crate::proofs::Flushed::unranged, crate::proofs::Flushed::flush_is, crate::proofs::Flushed::flushes_all))]
     fn append_commands(
         &self,
@@ -209,7 +209,7 @@ impl CachedSystem {
         let flush = invlpgb.build();
         match Page::forward_checked(first, pages as usize) {
             Some(end) => flush.pages(Page::range(first, end)).flush(list),
-            // No page comes after the last one, so no range can end there.
+            // There is no page after the last one, so no range can end there.
             None => flush.flush(list),
         }
     }

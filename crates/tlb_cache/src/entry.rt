@@ -12,8 +12,8 @@ pub struct TlbEntry {
 /// The answer of a look-up.
 #[derive(Clone, Copy, PartialEq, Eq, Debug)]
 pub struct Translated {
-    /// Where the page is mapped. None where the walk finds it nowhere.
+    /// Where the page is mapped. None if the walk does not find it.
     pub mapped: Option<Mapped>,
-    /// Whether the page had an entry, so that no walk was made.
+    /// Whether the page had an entry, so no walk was made.
     pub hit: bool,
 }

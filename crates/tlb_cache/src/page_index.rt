@@ -1,8 +1,8 @@
 //! Which entry of a ring has a page, by chains of entries whose pages have one hash.
 //!
-//! A chain leads from the newest entry to older ones. Entries leave from the old end alone, so what leaves is at the end of
-//! its chain, and no link has to be taken out: one that leads to a place whose entry left, or to a newer one that took the
-//! place, is known by the age there.
+//! A chain leads from the newest entry to older ones. Entries leave only from the old end, so what leaves is at the end
+//! of its chain, and no link has to be taken out: one that leads to a place whose entry left, or to a newer one that
+//! took the place, is known by the age there.
 ghost use Rattle.std.specs.Prelude.{◌≡◌, ℕ, ◌+◌, ◌*◌, ◌^◌, ◌<◌, ◌≤◌, List, [], ◌∷◌, ◌++◌, length, slice_index, IfOk};
 ghost use Rattle.tlb_cache.specs.Chains.{hash_of, place_at, next_place, up_to, Leads};
 
@@ -25,7 +25,7 @@ fn hash_of(page: u64, hashes: u32) -> u32
 /// The chains of a ring's entries. It has no entry itself.
 #[derive(Drop)]
 pub(crate) struct PageIndex {
-    /// For each hash the place of the newest entry that has it, or any place where none has.
+    /// For each hash the place of the newest entry that has it, or any place if none has.
     newest: Vec<u32>,
     /// For the entry at each place the place of the next older one with its hash, or of one that is no older.
     older: Vec<u32>,
@@ -42,7 +42,7 @@ pub(crate) struct PageIndex {
 impl PageIndex {
     ghost use Rattle.tlb_cache.specs.PageIndex.{Indexes, hash_at};
 
-    /// An index for a ring of so many places, with no entries.
+    /// An index for a ring of `places` places, with no entries.
     pub(crate) fn new(alloc: Global, places: u32) -> Result<Self, AllocError>
         requires some { 0 < places }
         requires few { places < 2 ^ 31 }
@@ -100,7 +100,7 @@ impl PageIndex {
         if age < limit { age + 1 } else { 0 }
     }
 
-    /// How many of `len` entries are no newer than the newest with the hash of a page: 0 where none has it.
+    /// How many of `len` entries are no newer than the newest with the hash of a page: 0 if none has it.
     pub(crate) fn newest(&self, page: u64, len: u32) -> u32
         ensures { (pages : List ℕ) → Indexes self.now pages → length pages ≡ len → Leads (hash_at self.now pages) (hash_of (length self.now.newest.items) page) len result }
     {

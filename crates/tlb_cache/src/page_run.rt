@@ -1,7 +1,7 @@
 ghost use Rattle.std.specs.Prelude.{◌≡◌, ◌+◌, ◌^◌, ◌<◌};
 ghost use Rattle.tlb_cache.specs.Covered.{is_among};
 
-/// So many pages of 4 KiB, from the one with a number on.
+/// A number of pages of 4 KiB, from a first page on.
 #[derive(Clone, Copy)]
 pub(crate) struct PageRun {
     pub(crate) first: u64,

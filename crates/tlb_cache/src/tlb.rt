@@ -65,8 +65,8 @@ impl Model for Tlb {
 }
 
 impl Tlb {
-    /// A cache with room for so many translations. It takes all its memory now, and has none yet (own). From 2^31 places on it
-    /// answers want of memory.
+    /// A cache with room for `capacity` translations. It takes all its memory now, and has none yet (own). From 2^31
+    /// places on it answers want of memory.
     pub fn new(alloc: Global, capacity: u64) -> Result<Tlb, AllocError>
         requires { 0 < capacity }
         ensures empty { IfOk result (λ tlb. tlb ≡ record { entries = []; capacity = capacity }) }
@@ -137,7 +137,7 @@ impl Tlb {
         }
     }
 
-    /// The age of a page's entry, where the oldest has age 0.
+    /// The age of a page's entry; the oldest has age 0.
     fn find(&self, page: u64) -> Option<usize>
         ensures there { IfSome result (λ age. IsAgeOf self.now.entries page age) }
         ensures some { is_some result ≡ has_page self.now.entries page }

@@ -6,7 +6,7 @@ use Rattle.paging_core.specs.Memory.{frame_count}
 abbrev pub put : List ℕ → ℕ → ℕ → List ℕ
 put words place word = if place % 8 == 0 && nat_lt (place / 4096) (frame_count words) then set words (place / 8) word else words
 
--- with words, each behind its physical address
+-- with words, each after its physical address
 abbrev pub filled : List ℕ → List ℕ → List ℕ
 filled words [] = words
 filled words (place ∷ []) = words

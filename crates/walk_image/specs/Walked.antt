@@ -13,7 +13,7 @@ abbrev pub answer_text : Result ℕ ℕ → List ℕ
 answer_text (Ok place) = codes " " ++ hexadecimal place
 answer_text (Err code) = codes " fault:" ++ hexadecimal code
 
--- what comes of a read, a write and a fetch
+-- the outcome of a read, a write and a fetch
 abbrev pub accesses_text : List ℕ → ℕ → ℕ → ℕ → Bool → List ℕ
 accesses_text words root width address user =
     answer_text (access_of width words root address Read user)

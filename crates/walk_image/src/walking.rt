@@ -8,7 +8,7 @@ use bitflags::Flags;
 use paging_core::{AccessKind, Frames, PhysFrame, VirtAddr, access_byte};
 use std::alloc::AllocError;
 
-// What comes of an access.
+// The outcome of an access.
 fn push_access(
     out: &mut String,
     frames: &Frames,
@@ -32,7 +32,7 @@ fn push_access(
     }
 }
 
-// What comes of a read, a write and a fetch.
+// The outcome of a read, a write and a fetch.
 fn push_accesses(
     out: &mut String,
     frames: &Frames,

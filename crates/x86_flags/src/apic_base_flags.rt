@@ -7,7 +7,7 @@ ghost use Rattle.x86_flags.specs.ApicBaseFlags.{apic_base_bits, apic_base_flags}
 use bitflags::{Flag, Flags};
 use std::ops::BitOr;
 
-/// How the local interrupt controller is turned on, beside its base address.
+/// How the local interrupt controller is turned on, besides its base address.
 ///
 /// Source: AMD64 manual, volume 2, section 16.3.1.
 #[derive(Clone, Copy, PartialEq, Eq, PartialOrd, Ord, Hash, Debug)]

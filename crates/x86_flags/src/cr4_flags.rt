@@ -20,13 +20,13 @@ impl Cr4Flags {
     /// Virtual interrupts work in protected mode, too.
     pub const PROTECTED_MODE_VIRTUAL_INTERRUPTS: Self = Self(1 << 1);
 
-    /// `RDTSC` and `RDTSCP` are for ring 0 alone.
+    /// `RDTSC` and `RDTSCP` are only for ring 0.
     pub const TIMESTAMP_DISABLE: Self = Self(1 << 2);
 
     /// Breakpoints on ports work, and the names DR4 and DR5 fault.
     pub const DEBUGGING_EXTENSIONS: Self = Self(1 << 3);
 
-    /// Pages of 4 MiB, where `PHYSICAL_ADDRESS_EXTENSION` is clear.
+    /// Pages of 4 MiB, if `PHYSICAL_ADDRESS_EXTENSION` is clear.
     pub const PAGE_SIZE_EXTENSION: Self = Self(1 << 4);
 
     /// Page-table entries of 64 bits; long mode needs it.
@@ -53,10 +53,10 @@ impl Cr4Flags {
     /// Page tables have five levels.
     pub const L5_PAGING: Self = Self(1 << 12);
 
-    /// The VMX instructions work (Intel alone).
+    /// The VMX instructions work (only Intel).
     pub const VIRTUAL_MACHINE_EXTENSIONS: Self = Self(1 << 13);
 
-    /// The SMX instructions work (Intel alone).
+    /// The SMX instructions work (only Intel).
     pub const SAFER_MODE_EXTENSIONS: Self = Self(1 << 14);
 
     /// Every ring may read and write the bases of FS and GS by instructions.
@@ -68,7 +68,7 @@ impl Cr4Flags {
     /// `XSAVE` and its kin work, with XCR0.
     pub const OSXSAVE: Self = Self(1 << 18);
 
-    /// Key Locker works (Intel alone).
+    /// Key Locker works (only Intel).
     pub const KEY_LOCKER: Self = Self(1 << 19);
 
     /// Supervisor code faults when it runs code of a user page.
@@ -83,7 +83,7 @@ impl Cr4Flags {
     /// Shadow stacks and indirect-branch tracking can be turned on.
     pub const CONTROL_FLOW_ENFORCEMENT: Self = Self(1 << 23);
 
-    /// Supervisor pages have protection keys, by PKRS (Intel alone).
+    /// Supervisor pages have protection keys, by PKRS (only Intel).
     pub const PROTECTION_KEY_SUPERVISOR: Self = Self(1 << 24);
 
     const FLAGS: &'static [Flag<Self>] = flag_rows![

@@ -40,7 +40,7 @@ impl Dr6Flags {
     /// A task was switched to whose debug trap flag is set.
     pub const SWITCH: Self = Self(1 << 15);
 
-    /// Clear where the exception came inside a transactional region.
+    /// Clear if the exception was raised inside a transactional region.
     pub const RTM: Self = Self(1 << 16);
 
     const FLAGS: &'static [Flag<Self>] = flag_rows![

@@ -55,7 +55,7 @@ impl Dr7Value {
         Dr7Flags::all().bits() | 0xFFFF_0000
     }
 
-    /// The value of these bits, or none where one of them is neither a flag nor in a field.
+    /// The value of these bits, or none if one of them is neither a flag nor in a field.
     pub fn from_bits(bits: u64) -> Option<Self>
         ensures some { IsSome result ↔ IsDr7 bits }
         ensures value { IfSome result (λ value. value ≡ bits) }

@@ -17,7 +17,7 @@ impl EferFlags {
     /// `SYSCALL` and `SYSRET` work.
     pub const SYSTEM_CALL_EXTENSIONS: Self = Self(1 << 0);
 
-    /// Long mode comes on once paging does.
+    /// Long mode is on as soon as paging is.
     pub const LONG_MODE_ENABLE: Self = Self(1 << 8);
 
     /// Long mode is on; the processor sets it.

@@ -14,13 +14,13 @@ use std::ops::BitOr;
 pub struct PageFaultErrorCode(u64);
 
 impl PageFaultErrorCode {
-    /// The page is present, and its rights deny the access; where clear, no page is present.
+    /// The page is present, and its rights deny the access; if clear, no page is present.
     pub const PROTECTION_VIOLATION: Self = Self(1 << 0);
 
-    /// The access was a write; where clear, a read.
+    /// The access was a write; if clear, a read.
     pub const CAUSED_BY_WRITE: Self = Self(1 << 1);
 
-    /// The access came from user code; where clear, from supervisor code.
+    /// The access was by user code; if clear, by supervisor code.
     pub const USER_MODE: Self = Self(1 << 2);
 
     /// A reserved bit is set in an entry of a page table.
@@ -35,7 +35,7 @@ impl PageFaultErrorCode {
     /// The access was to a shadow stack.
     pub const SHADOW_STACK: Self = Self(1 << 6);
 
-    /// The fault came in the paging of HLAT (Intel).
+    /// The fault was in the paging of HLAT (Intel).
     pub const HLAT: Self = Self(1 << 7);
 
     /// The access control of SGX denies the access (Intel).

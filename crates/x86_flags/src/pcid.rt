@@ -5,8 +5,8 @@ ghost use Rattle.std.specs.Prelude.{◌≡◌, ◌<◌, ◌↔◌, IsOk, IfOk, I
 use std::marker::Model;
 use thiserror::Error;
 
-/// A process-context identifier: a number below 4096 that tells the translations of one address space
-/// from those of another. A contract sees it as the number.
+/// A process-context identifier: a number below 4096 that distinguishes the translations of one address space from
+/// those of another. A contract sees it as the number.
 ///
 /// Source: AMD64 manual, volume 2, section 5.5.1.
 #[derive(Clone, Copy, PartialEq, Eq, PartialOrd, Ord, Hash, Debug)]

@@ -29,7 +29,7 @@ impl RFlags {
     /// The last result is negative.
     pub const SIGN_FLAG: Self = Self(1 << 7);
 
-    /// A debug exception comes after each instruction.
+    /// A debug exception is raised after each instruction.
     pub const TRAP_FLAG: Self = Self(1 << 8);
 
     /// Maskable interrupts are taken.

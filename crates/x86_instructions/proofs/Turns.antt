@@ -81,7 +81,7 @@ div_ceil-step n s some pos = elim (dec_lt n s) [
       rw (rest, quotient, remainder) (omega arith)
 ]
 
--- a turn takes a step of the low pages or the rest of them, and where there is none so of the high ones
+-- a turn takes a step of the low pages or the rest of them, and if there is none, the same of the high ones
 step-low : (low high low_after high_after s : ℕ) → 0 < low → 0 < s → low_after ≡ low - min low s → high_after ≡ high →
     div_ceil low s + div_ceil high s ≡ suc (div_ceil low_after s + div_ceil high_after s)
 step-low low high low_after high_after s some pos p q = rw (p, q) (ap (λ n. n + div_ceil high s) (div_ceil-step low s some pos) ∙ omega arith)
@@ -183,7 +183,7 @@ module _ (size : ℕ) (flush : Flush) where
       turn_commands size flush from to ≡ turn_command size flush (record { page = page_at size from; count = count }) ∷ turn_commands size flush place to
   turn_commands-next' from to count place lt p q = rw (p, q) (turn_commands-next from to lt)
 
-  -- the first turn of so many pages left, and the pages left after it
+  -- the first turn of a number of pages left, and the pages left after it
   pub turn_commands-step : (to left page count : ℕ) (command : FlushCommand) → 0 < left → left ≤ to →
       page ≡ page_at size (to - left) → position size page ≡ to - left →
       count ≡ greatest_count size flush.limits.count_max (position size page) (position size page + left) →

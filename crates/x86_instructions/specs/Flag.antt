@@ -8,7 +8,7 @@ use Rattle.x86_registers.specs.declared.cpu.Cpu.{Cpu}
 abbrev pub interrupt_flag : ℕ
 interrupt_flag = 9
 
--- whether supervisor code may touch user pages, where the processor can keep it from them
+-- whether supervisor code may touch user pages, if the processor can keep it from them
 abbrev pub alignment_check : ℕ
 alignment_check = 18
 

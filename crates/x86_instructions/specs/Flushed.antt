@@ -15,8 +15,8 @@ abbrev pub count_in : FlushCommand → ℕ
 count_in (Invlpgb rax ecx edx) = ecx % 2 ^ 16
 count_in _ = 0
 
--- the pages that such a command flushes: as many as its count, and one where that is 0, one after the
--- other in the order of their addresses
+-- the pages that such a command flushes: as many as its count, or one if that is 0, one after the other in the order of
+-- their addresses
 abbrev pub flushed_by : ℕ → FlushCommand → List ℕ
 flushed_by size command = range_with_len (page_in size command) (max 1 (count_in command))
 

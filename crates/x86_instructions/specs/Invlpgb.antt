@@ -31,12 +31,12 @@ pub record Flush : Type 0 where
 abbrev pub whole : Limits → Flush
 whole limits = record { limits = limits; pages = None; pcid = None; asid = None; global = false; final_only = false; nested = false }
 
--- the bit at a place, where the condition holds
+-- the bit at a place, if the condition holds
 abbrev pub bit_if : Bool → ℕ → ℕ
 bit_if true place = 2 ^ place
 bit_if false place = 0
 
--- a number that may be given, and 0 where it is not
+-- a number that may be given, and 0 if it is not
 abbrev pub or_zero : Option ℕ → ℕ
 or_zero (Some number) = number
 or_zero None = 0
@@ -66,7 +66,7 @@ turn_command size flush turn = Invlpgb
 abbrev pub turn_commands : ℕ → Flush → ℕ → ℕ → List FlushCommand
 turn_commands size flush from to = map (turn_command size flush) (turns size flush.limits.count_max from to)
 
--- the commands of a flush: one where no pages are given
+-- the commands of a flush: one if no pages are given
 abbrev pub commands : ℕ → Flush → Option (ℕ × ℕ) → List FlushCommand
 commands size flush None = command flush ∷ []
 commands size flush (Some (first, end)) = turn_commands size flush (position size first) (position size end)

@@ -1,4 +1,4 @@
--- The turns in which a range of pages is flushed. A place is how many pages come before a page.
+-- The turns in which a range of pages is flushed. A page's place is how many pages are before it.
 use Rattle.std.specs.Prelude.{ℕ, zero, suc, ◌+◌, ◌-◌, List, [], ◌∷◌, min, max, nat_lt, if◌then◌else◌}
 use Rattle.paging_core.specs.Steps.{half_pages, page_at}
 
@@ -14,8 +14,8 @@ abbrev pub greatest_count : ℕ → ℕ → ℕ → ℕ → ℕ
 greatest_count size count_max from to =
     min (to - from) (min (if nat_lt from (half_pages size) then half_pages size - from else to - from) (min 65535 count_max))
 
--- a turn with the greatest count at the place, and then the turns of what is left. A command flushes a
--- page also where its count is 0. `pages` is no less than the pages left
+-- a turn with the greatest count at the place, and then the turns of what is left. A command flushes a page also if its
+-- count is 0. `pages` is no less than the pages left
 unfoldable pub turns_within : ℕ → ℕ → ℕ → ℕ → ℕ → List Turn
 turns_within zero size count_max from to = []
 turns_within (suc pages) size count_max from to =

@@ -36,10 +36,10 @@ impl<T, A> Model for PortGeneric<T, A> {
 /// A port that may be read and written.
 pub type Port<T> = PortGeneric<T, ReadWriteAccess>;
 
-/// A port that may be read alone.
+/// A port that may only be read.
 pub type PortReadOnly<T> = PortGeneric<T, ReadOnlyAccess>;
 
-/// A port that may be written alone.
+/// A port that may only be written.
 pub type PortWriteOnly<T> = PortGeneric<T, WriteOnlyAccess>;
 
 impl<T, A> PortGeneric<T, A> {
@@ -84,7 +84,7 @@ impl<T, A> Clone for PortGeneric<T, A> {
     }
 }
 
-/// Ports are equal where their numbers are.
+/// Ports are equal if their numbers are.
 impl<T, A> PartialEq for PortGeneric<T, A> {
     ghost use Rattle.std.proofs.Common.{rules};
     ghost use Rattle.std.specs.Cmp.Rules.{comparing};

@@ -1,7 +1,7 @@
 //! Keeping supervisor code from user pages (supervisor mode access prevention).
 //!
-//! The processor does so only where `Cr4Flags::SUPERVISOR_MODE_ACCESS_PREVENTION` is set too, which the
-//! calls here do not look at.
+//! The processor does so only if `Cr4Flags::SUPERVISOR_MODE_ACCESS_PREVENTION` is set too, which the calls here do not
+//! look at.
 
 ghost use Rattle.std.specs.Prelude.{◌≡◌, ◌↔◌, IsTrue, IsSome, true, false};
 ghost use Rattle.std.specs.Fn.{FnOnceReturnsAt, FnOnceTakesAt};
@@ -20,7 +20,7 @@ const ALIGNMENT_CHECK: u32 = 18;
 pub struct Smap(());
 
 impl Smap {
-    /// The sign. None exactly where the processor lacks the feature.
+    /// The sign. None exactly if the processor lacks the feature.
     pub fn new(cpu: &Cpu) -> Option<Self>
         ensures { IsSome result ↔ IsTrue cpu.now.smap }
     {

@@ -28,9 +28,9 @@ pub enum FlushCommand {
         /// The type: 0 for an address of one address space, 1 for an address space, 2 for all, and 3 for
         /// all but global ones.
         kind: u64,
-        /// The identifier of the address space, 0 where the type names none.
+        /// The identifier of the address space, 0 if the type names none.
         pcid: u64,
-        /// The address, 0 where the type names none.
+        /// The address, 0 if the type names none.
         address: u64,
     },
     /// `INVLPGB`: those that its registers name, on all processors.
@@ -92,7 +92,7 @@ impl FlushList {
         self.commands.is_empty()
     }
 
-    /// The command at an index, counted from 0. None exactly where the index is at least `len`.
+    /// The command at an index, counted from 0. None exactly if the index is at least `len`.
     pub fn get(&self, index: u64) -> Option<&FlushCommand>
         ensures { option_copied result ≡ slice_get self.now index }
     {
@@ -131,7 +131,7 @@ pub type InvPicdCommand = InvPcidCommand;
 ///
 /// # Errors
 ///
-/// `AllocError` where there is no memory. The list is then as it was.
+/// `AllocError` if there is no memory. The list is then as it was.
 pub fn flush(list: &mut FlushList, addr: VirtAddr) -> Result<(), AllocError>
     ensures ok { OnOk result (list.new ≡ list.old ++ FlushCommand.Invlpg addr ∷ []) }
     ensures err { OnErr result (list.new ≡ list.old) }
@@ -145,7 +145,7 @@ pub fn flush(list: &mut FlushList, addr: VirtAddr) -> Result<(), AllocError>
 ///
 /// # Errors
 ///
-/// `AllocError` where there is no memory. The list and the register file are then as they were.
+/// `AllocError` if there is no memory. The list and the register file are then as they were.
 pub fn flush_all(list: &mut FlushList, cpu: &mut Cpu) -> Result<(), AllocError>
     ensures ok { OnOk result (list.new ≡ list.old ++ FlushCommand.ReloadCr3 ∷ []) }
     ensures reloaded { OnOk result (cpu.new ≡ record cpu.old { cr3 = reloaded cpu.old.cr3 }) }
@@ -164,7 +164,7 @@ pub fn flush_all(list: &mut FlushList, cpu: &mut Cpu) -> Result<(), AllocError>
 ///
 /// # Errors
 ///
-/// `AllocError` where there is no memory. The list is then as it was.
+/// `AllocError` if there is no memory. The list is then as it was.
 pub fn flush_pcid(list: &mut FlushList, command: InvPcidCommand) -> Result<(), AllocError>
     ensures ok { OnOk result (list.new ≡ list.old ++ invpcid_of command ∷ []) }
     ensures err { OnErr result (list.new ≡ list.old) }

@@ -23,7 +23,7 @@ msr_bits cpu number =
     else if number == 0x1B then Some cpu.apic_base
     else None
 
--- the register file with other bits in the register of this number; unchanged where there is none
+-- the register file with other bits in the register of this number; unchanged if there is none
 abbrev pub with_msr : Cpu → ℕ → ℕ → Cpu
 with_msr cpu number value =
     if number == 0xC0000080 then record cpu { efer = value }

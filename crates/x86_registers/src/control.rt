@@ -57,7 +57,7 @@ impl Cr2 {
     ///
     /// # Errors
     ///
-    /// `VirtAddrNotValid`, with the register's bits, exactly where they are no canonical address.
+    /// `VirtAddrNotValid`, with the register's bits, exactly if they are no canonical address.
     pub fn read(cpu: &Cpu) -> Result<VirtAddr, VirtAddrNotValid>
         ensures canonical { IsOk result ↔ IsTrue (is_canonical cpu.now.cr2) }
         ensures ok { IfOk result (λ address. address ≡ cpu.now.cr2) }
@@ -221,7 +221,7 @@ impl FlagRegister for Cr4 {
 pub struct Cr8;
 
 impl Cr8 {
-    /// The class in the low 8 bits. None where these are 0, or 16 or more.
+    /// The class in the low 8 bits. None if these are 0, or 16 or more.
     pub fn read(cpu: &Cpu) -> Option<PriorityClass>
         ensures { priority_number result ≡ priority_in cpu.now.cr8 }
     {
@@ -235,7 +235,7 @@ impl Cr8 {
         cpu.cr8
     }
 
-    /// Makes interrupts of this class and of lower ones wait, or no interrupt where there is none.
+    /// Makes interrupts of this class and of lower ones wait, or no interrupt if there is none.
     pub fn write(cpu: &mut Cpu, priority_class: Option<PriorityClass>)
         ensures { cpu.new ≡ record cpu.old { cr8 = priority_number priority_class } }
     {

@@ -58,7 +58,7 @@ impl Msr {
         Msr(reg)
     }
 
-    /// The register's bits, or none where the register file has no register of this number.
+    /// The register's bits, or none if the register file has no register of this number.
     pub fn read(&self, cpu: &Cpu) -> Option<u64>
         ensures { result ≡ msr_bits cpu.now (msr_number self.now) }
     {
@@ -77,8 +77,7 @@ impl Msr {
         })
     }
 
-    /// Replaces the register's bits. False, and nothing changes, where the register file has no register
-    /// of this number.
+    /// Replaces the register's bits. False, and nothing changes, if the register file has no register of this number.
     pub fn write(&self, cpu: &mut Cpu, value: u64) -> bool
         ensures known { IsTrue result ↔ IsSome (msr_bits cpu.old (msr_number self.now)) }
         ensures written { cpu.new ≡ with_msr cpu.old (msr_number self.now) value }
@@ -183,7 +182,7 @@ impl ModelSpecificRegister for SFMask {
 }
 
 impl SFMask {
-    /// The flags that `SYSCALL` clears. None exactly where a bit is set that is no flag.
+    /// The flags that `SYSCALL` clears. None exactly if a bit is set that is no flag.
     pub fn read(cpu: &Cpu) -> Option<RFlags>
         ensures some { IsSome result ↔ (bit_and cpu.now.sfmask (known_bits rflags_flags) ≡ cpu.now.sfmask) }
         ensures value { IfSome result (λ flags. rflags_bits flags ≡ cpu.now.sfmask) }
@@ -198,7 +197,7 @@ impl SFMask {
         cpu.sfmask = value.bits();
     }
 
-    /// Writes what `f` makes of the flags. False, and nothing changes, exactly where `read` answers none.
+    /// Writes what `f` makes of the flags. False, and nothing changes, exactly if `read` answers none.
     pub fn update<F: FnOnce(RFlags) -> RFlags>(cpu: &mut Cpu, f: F) -> bool
         requires { bit_and cpu.old.sfmask (known_bits rflags_flags) ≡ cpu.old.sfmask
             → CanUpdate (λ flags. rflags_bits flags ≡ cpu.old.sfmask) (F.pre f) }

@@ -48,7 +48,7 @@ pub trait Segment64: Segment {
     /// The register of the base, by its number.
     const BASE: Msr;
 
-    /// The base. None exactly where its bits are no canonical address.
+    /// The base. None exactly if its bits are no canonical address.
     final fn read_base(cpu: &Cpu) -> Option<VirtAddr>
         ensures some { IsSome result ↔ IsTrue (is_canonical (Self.Base.bits cpu.now)) }
         ensures value { IfSome result (λ base. base ≡ Self.Base.bits cpu.now) }

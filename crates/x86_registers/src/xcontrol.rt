@@ -15,7 +15,7 @@ use bitflags::Flags;
 use thiserror::Error;
 pub use x86_flags::XCr0Flags;
 
-/// Which processor states are on, as those of the floating-point units.
+/// Which processor states are on, such as those of the floating-point units.
 ///
 /// Source: AMD64 manual, volume 2, section 11.5.2.
 #[derive(Debug, Drop)]

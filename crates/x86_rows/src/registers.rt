@@ -305,7 +305,7 @@ fn selectors_of_system_calls(rt: HostRuntime) {
             [0x33, 0x2B, 0x0B, 0x13],
             InvalidStarSegmentSelectors::SyscallPrivilegeLevel,
         ),
-        // Two rules and more are broken: the first one is told.
+        // Two rules or more are broken: the first one is the answer.
         (
             [0x30, 0x30, 0x0B, 0x1B],
             InvalidStarSegmentSelectors::SysretOffset,
@@ -341,7 +341,7 @@ fn states_that_go_together(rt: HostRuntime) {
         (0b1011, Err(InvalidXCr0::MpxApart)),
         (0b1110_0011, Err(InvalidXCr0::Avx512WithoutAvx)),
         (0b0110_0111, Err(InvalidXCr0::Avx512Apart)),
-        // Two rules and more are broken: the first one is told.
+        // Two rules or more are broken: the first one is the answer.
         (0b0010_1100, Err(InvalidXCr0::X87)),
         (0b0010_1101, Err(InvalidXCr0::AvxWithoutSse)),
         (0b0010_1011, Err(InvalidXCr0::MpxApart)),

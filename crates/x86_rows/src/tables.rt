@@ -21,7 +21,7 @@ use x86_tables::mem_encrypt::{
 use x86_tables::tss::{InvalidIoMap, TaskStateSegment};
 use x86_tables::{default_segments, number_of_vector, selector_gives_back};
 
-/// The values of an old Linux, which `SYSCALL` and `SYSENTER` want too.
+/// The values of an old Linux, which `SYSCALL` and `SYSENTER` need too.
 #[test]
 fn segments_of_kernels(rt: HostRuntime) {
     default_segments();
@@ -371,7 +371,7 @@ fn has_slice(idt: &mut InterruptDescriptorTable, lower: u16, upper: u16) -> bool
     idt.slice_mut(lower, upper).is_some()
 }
 
-/// Sees that the gates of these vectors are present, and no others.
+/// Checks that the gates of these vectors are present, and no others.
 fn are_present(
     rt: &impl Abort,
     alloc: Global,
@@ -389,7 +389,7 @@ fn writes_through_a_slice_of_gates(rt: HostRuntime) -> Result<(), Fail> {
     let mut idt = InterruptDescriptorTable::new();
     idt.breakpoint.set_handler_addr(&Cpu::new(), handler);
     set_interrupts(&mut idt, handler);
-    // A slice that is not there leaves every gate, and so does one that is only looked at.
+    // A slice that is not there leaves every gate as it is, and so does one that is only looked at.
     assert!(rt; !has_slice(&mut idt, 31, 64));
     assert!(rt; !has_slice(&mut idt, 32, 257));
     assert!(rt; !has_slice(&mut idt, 65, 64));

@@ -31,7 +31,7 @@ use denote.Struct.Recorded.{Recorded-part}
 use denote.Struct.Struct.{Struct}
 use Rattle.x86_tables.specs.contracts.idt.gates.Gates.{the_row, the_type}
 
--- where the product fits a word, the count is zero or the size fits too
+-- if the product fits a word, the count is zero or the size fits too
 pub uncapped : (i k : ℕ) → i * k < 2 ^ 64 → i * capped k ≡ i * k
 uncapped zero k h = zero-mul (capped k) ∙ sym (zero-mul k)
 uncapped (suc i) k h =

@@ -14,7 +14,7 @@ abbrev pub level_of : Descriptor → ℕ
 level_of (UserSegment word) = field_of word 45 47
 level_of (SystemSegment low high) = field_of low 45 47
 
--- where a task state segment ends, which has 104 bytes and maybe an I/O permission map (section 12.2.5)
+-- where a task state segment ends: it has 104 bytes and maybe an I/O permission map (section 12.2.5)
 abbrev pub tss_end : ℕ → List ℕ → ℕ
 tss_end iomap_base iomap = max 104 (iomap_base + length iomap)
 

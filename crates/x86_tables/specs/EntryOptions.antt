@@ -1,4 +1,4 @@
--- What a gate says beside its handler's address (AMD64 manual, volume 2, section 4.8.4).
+-- What a gate says besides its handler's address (AMD64 manual, volume 2, section 4.8.4).
 use Rattle.std.specs.Prelude.{ℕ}
 use Rattle.x86_tables.specs.declared.idt.entry_options.EntryOptions.{EntryOptions}
 

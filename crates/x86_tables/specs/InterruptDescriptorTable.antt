@@ -154,7 +154,7 @@ abbrev pub with_slice : InterruptDescriptorTable → ℕ → ℕ → List (Entry
 with_slice table lower upper entries =
     record table { interrupts = record { gates = with_part table.interrupts.gates (lower - 32) (upper - 32) entries } }
 
--- the table ends with the last gate behind the reference at the vector, and unchanged where there is none
+-- the table ends with the last gate behind the reference at the vector, and unchanged if there is none
 abbrev pub lends_entry : MutBor InterruptDescriptorTable → ℕ → Option (MutBor (Entry HandlerFunc)) → Fml
 lends_entry table vector entry = LendsIf the_row gate_row table entry (with_entry table.now vector) table.now
 
@@ -163,7 +163,7 @@ abbrev pub lends_slice : MutBor InterruptDescriptorTable → ℕ → ℕ → Mut
 lends_slice table lower upper entries =
     Lends the_row (Array gate_row 0) table entries (with_slice table.now lower upper)
 
--- the same if there is such a slice, and unchanged where there is none
+-- the same if there is such a slice, and unchanged if there is none
 abbrev pub lends_slice_if : MutBor InterruptDescriptorTable → ℕ → ℕ → Option (MutBor (List (Entry HandlerFunc))) → Fml
 lends_slice_if table lower upper entries =
     LendsIf the_row (Array gate_row 0) table entries (with_slice table.now lower upper) table.now

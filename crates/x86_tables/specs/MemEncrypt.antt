@@ -1,5 +1,5 @@
--- The bit of a page table entry that tells whether the page is encrypted (AMD64 manual, volume 2, section 7.10;
--- the bit that is set in shared pages is that of Intel's TDX).
+-- The bit of a page table entry that says whether the page is encrypted (AMD64 manual, volume 2, section 7.10; the bit
+-- that is set in shared pages is that of Intel's TDX).
 use Rattle.std.specs.Prelude.{ℕ, ◌-◌, ◌^◌, Bool, true, false, not, ◌==◌, ◌&&◌, if◌then◌else◌}
 use Rattle.std.specs.Int.RustNames.{bit_and, bit_or}
 use Rattle.bitflags.specs.Sets.{without}
@@ -32,7 +32,7 @@ encryption_bits configuration = record {
 abbrev pub no_encryption : EncryptionBits
 no_encryption = record { mask = 0; reversed = false; address_mask = whole_address }
 
--- the other value where the bit is reversed
+-- the other value if the bit is reversed
 abbrev pub inverted : Bool → Bool → Bool
 inverted true value = not value
 inverted false value = value
@@ -42,7 +42,7 @@ abbrev pub encrypted_by : EncryptionBits → Bool → ℕ → ℕ
 encrypted_by encryption encrypted bits =
     if inverted encryption.reversed encrypted then bit_or bits encryption.mask else without 64 bits encryption.mask
 
--- there is a bit, and it is set, or clear where it is reversed
+-- there is a bit, and it is set, or clear if it is reversed
 abbrev pub is_encrypted_by : EncryptionBits → ℕ → Bool
 is_encrypted_by encryption bits =
     not (encryption.mask == 0) && inverted encryption.reversed (bit_and bits encryption.mask == encryption.mask)

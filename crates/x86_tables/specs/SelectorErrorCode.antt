@@ -8,7 +8,7 @@ use Rattle.x86_tables.specs.declared.idt.selector_error_code.DescriptorTable.The
 abbrev pub is_external : ℕ → Bool
 is_external code = field_of code 0 1 == 1
 
--- the interrupt table where the bit IDT is set, and else the local or the global one by the bit TI
+-- the interrupt table if the bit IDT is set, and else the local or the global one by the bit TI
 abbrev pub selector_table : ℕ → DescriptorTable
 selector_table code =
     if field_of code 1 2 == 1 then Idt

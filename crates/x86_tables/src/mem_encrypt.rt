@@ -7,26 +7,27 @@ ghost use Rattle.x86_tables.specs.MemEncrypt.{bit_place, encryption_bits, no_enc
 use bitflags::Flags;
 use paging_core::PageTableFlags;
 
-/// The bits of a page table entry that hold the physical address, where no bit tells of encryption.
+/// The bits of a page table entry that hold the physical address, if no bit says whether the page
+/// is encrypted.
 const ADDRESS_MASK: u64 = 0x000f_ffff_ffff_f000;
 
-/// Which bit of a page's physical address tells whether the page is encrypted.
+/// Which bit of a page's physical address says whether the page is encrypted.
 #[derive(Clone, Copy, Debug)]
 pub enum MemoryEncryptionConfiguration {
-    /// The page is encrypted where the bit at this place is set (AMD's bit C of SME and SEV).
+    /// The page is encrypted if the bit at this place is set (AMD's bit C of SME and SEV).
     ///
     /// Source: AMD64 manual, volume 2, section 7.10.
     EncryptedBit(u8),
-    /// The page is shared, and not encrypted, where the bit at this place is set (Intel's TDX).
+    /// The page is shared, and not encrypted, if the bit at this place is set (Intel's TDX).
     SharedBit(u8),
 }
 
-/// How the flags of a page table entry tell whether its page is encrypted.
+/// How the flags of a page table entry say whether its page is encrypted.
 ///
 /// Source: AMD64 manual, volume 2, section 7.10; the type is our own.
 #[derive(Clone, Copy, Debug)]
 pub struct EncryptionBits {
-    /// The bit, or 0 where memory is not encrypted.
+    /// The bit, or 0 if memory is not encrypted.
     pub mask: u64,
     /// Whether the bit is set in the pages that are not encrypted.
     pub reversed: bool,
@@ -63,7 +64,7 @@ impl EncryptionBits {
         }
     }
 
-    /// Makes the page of these flags encrypted, or shared. There is a bit that tells.
+    /// Makes the page of these flags encrypted, or shared. There is a bit that says so.
     pub fn set_encrypted(&self, flags: &mut PageTableFlags, encrypted: bool)
         requires { self.now.mask ≢ 0 }
         ensures bits { page_table_bits flags.new ≡ encrypted_by self.now encrypted (page_table_bits flags.old) }
@@ -73,7 +74,7 @@ impl EncryptionBits {
         flags.set(bit, encrypted != self.reversed);
     }
 
-    /// Whether the page of these flags is encrypted. Never where no bit tells.
+    /// Whether the page of these flags is encrypted. Never if there is no bit that says so.
     pub fn is_encrypted(&self, flags: &PageTableFlags) -> bool
         ensures { result ≡ is_encrypted_by self.now (page_table_bits flags.now) }
     {

@@ -10,7 +10,7 @@ use Rattle.dlmalloc.proofs.Words.OfLinks.{OthersStay, is_chunk, same_or_beside, 
 module _ {A : Type 0} {regions : A → List Grant} {word : A → ℕ → ℕ} (follows : A → List Event → A → Type 0) {heap : Dlmalloc A}
     (sound : IsSound regions word heap) (system : A) (bins : Bins) (same : regions system ≡ regions heap.system)
     (only : OnlyFreeChange (regions heap.system) (state_of word heap) (word heap.system) (word system)) (followed : follows heap.system [] system) where
-  -- the words that tell the heap's extents stay
+  -- the words that describe the heap's extents stay
   telling : (one : Extent) → extent_at one.at (extents_in (state_of word heap)) ≡ Some one → (k : ℕ) → IsTelling k one →
       IsWordOf (regions heap.system) k → IsTrue (list_any (has_byte_in k) (segments_of word heap)) → word system k ≡ word heap.system k
   telling one there k tells granted inside = only k granted (λ at size free. out at size (same_or_beside sound free there))
@@ -78,7 +78,7 @@ module _ {A : Type 0} {regions : A → List Grant} {word : A → ℕ → ℕ} {h
       holds = subst (λ s. HoldsBut (at ∷ loose) s (without_chunk size at b.index)) (sym same) (unbinned_one loose (state_of word heap) b.index at size b.holds b.linked.chunks.once free);
     }
 
-    -- where its links are stored, or those to it, chunks went into bins or left them
+    -- if its links are stored, or those to it, chunks went into bins or left them
     pub relinked : {follows : A → List Event → A → Type 0} (system : A) (bins : Bins) → regions system ≡ regions heap.system →
         OnlyLinksChange (regions heap.system) b.index size at (word heap.system) (word system) → follows heap.system [] system →
         IsRebinned regions word follows heap (record heap { system = system; bins = bins })
@@ -90,7 +90,7 @@ module _ {A : Type 0} {regions : A → List Grant} {word : A → ℕ → ℕ} {h
     abbrev pub victim_loose : at ≡ heap.victim → IsBinnedBut (at ∷ loose) regions word heap
     victim_loose is = record { index = b.index; linked = b.linked; holds = looser loose (state_of word heap) b.index at b.holds (λ n there. b.holds.no_victim at n there is) }
 
--- an address where no chunk is free needs be in no bin, and may be named so
+-- an address at which no chunk is free needs to be in no bin, and may be named so
 abbrev pub none_loose : {A : Type 0} {regions : A → List Grant} {word : A → ℕ → ℕ} {heap : Dlmalloc A} (at : ℕ) (loose : List ℕ) →
     IsBinnedBut loose regions word heap → ((n : ℕ) → IsFreeAt (state_of word heap) at n → ⊥) → IsBinnedBut (at ∷ loose) regions word heap
 none_loose {word} {heap} at loose b none =
@@ -124,7 +124,7 @@ binned_moved stays {regions} {word} {old} {new} sound sound' others same moves a
   holds = holds_moved b.holds moves are;
 }
 
--- the bins stay, where no free extent but the top changes, and the victim stays
+-- the bins stay, if no free extent but the top changes, and the victim stays
 abbrev pub binned_same : IndexStays → {A : Type 0} {regions : A → List Grant} {word : A → ℕ → ℕ} {old new : Dlmalloc A} →
     IsSound regions word old → IsSound regions word new → OthersStay regions word old new → new.bins ≡ old.bins →
     FreeMoves (state_of word old) (state_of word new) [] [] → new.victim ≡ old.victim → IsBinned regions word old → IsBinned regions word new
@@ -135,7 +135,7 @@ binned_same stays sound sound' others same moves victim b = binned_moved stays s
   from = λ k out which n free other. elim which [ inl is ↦ absurd (other (is ∙ victim)) | inr none ↦ none ];
 }) b
 
--- so they do where the heap moved with no region more
+-- so they do if the heap moved with no region more
 abbrev pub binned_beside : IndexStays → {A : Type 0} {regions : A → List Grant} {word : A → ℕ → ℕ} {follows : A → List Event → A → Type 0}
     {old new : Dlmalloc A} → IsSound regions word old → IsMoved regions word follows old new → new.bins ≡ old.bins →
     FreeMoves (state_of word old) (state_of word new) [] [] → new.victim ≡ old.victim → IsBinned regions word old → IsBinned regions word new

@@ -83,7 +83,7 @@ module _ (loose : List ℕ) (heap : HeapState) (index : ℕ → List ℕ) (at : 
       apart k size is (inl same) = none size (subst (λ k. IsIn k (index size)) same is)
       apart k size is (inr later) = h.not_loose k size is later
 
-  -- and needs not be where it is the victim, or no free extent
+  -- and need not be if it is the victim, or no free extent
   pub tighter : HoldsBut (at ∷ loose) heap index → ((size : ℕ) → IsFreeAt heap at size → at ≡ heap.victim) → HoldsBut loose heap index
   tighter h none = record {
     all = λ k size free other apart. h.all k size free other (λ l. go k size free other apart l);

@@ -146,7 +146,7 @@ module _ {A : Type 0} {regions : A → List Grant} {word : A → ℕ → ℕ} {h
           | no more ↦ omega arith
         ])
 
-  -- where the index has none that is large enough, the heap has none
+  -- if the index has none that is large enough, the heap has none
   pub fit_none : IsNone b.index n (2 ^ 64) → least_fit state n ≡ None
   fit_none none = least_none n (binned_sizes state (extents_in state)) (λ size is. elim (dec_lt size n) [
     | yes less ↦ less

@@ -3,18 +3,18 @@ use Rattle.dlmalloc.proofs.Names.{◌≡◌, ℕ, ◌+◌, ◌-◌, ◌%◌, ◌
 use Rattle.dlmalloc.specs.Binned.{IsMemberChosen}
 use Rattle.dlmalloc.proofs.Blocks.HandedOut.{asked_low, asked_high}
 
--- what follows from two clauses of a call, where it has an answer
+-- what follows from two clauses of a call, if it has an answer
 pub on_both : {T E : Type 0} (r : Result T E) {P Q R : T → Type 0} → ((x : T) → P x → Q x → R x) → IfOk r P → IfOk r Q → IfOk r R
 on_both (Ok x) each one two = each x one two
 on_both (Err e) each one two = tt
 
 module _ {A : Type 0} (regions : A → List Grant) (word : A → ℕ → ℕ) (heap : Dlmalloc A) where
-  -- where nothing is chosen, there is nothing to say
+  -- if nothing is chosen, there is nothing to say
   pub none_member : {E : Type 0} (n : ℕ) → chosen (state_of word heap) n ≡ None → (r : Result ℕ E) → IfOk r (λ at. IsMemberChosen regions word heap n at)
   none_member n none (Ok at) = λ size is. absurd (let no = sym none ∙ is in cc)
   none_member n none (Err e) = tt
 
-  -- a block behind its chunk's head
+  -- a block after its chunk's head
   pub member_behind : {n : ℕ} (size chunk : ℕ) → n ≡ padded size → IsMemberChosen regions word heap n chunk → IsMemberChosen regions word heap (padded size) (chunk + 16 - 16)
   member_behind size chunk is member fit chosen_is =
       let back : chunk ≡ chunk + 16 - 16 = omega arith in

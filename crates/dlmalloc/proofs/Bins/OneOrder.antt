@@ -1,4 +1,4 @@
--- A list that is in order behind another is determined by its chunks.
+-- A list that is in order after another is determined by its chunks.
 use Rattle.dlmalloc.proofs.Names.{◌≡◌, ℕ, ◌≤◌, ◌⊎◌, inl, inr, List, [], ◌∷◌, ◌++◌, refl, sym, ◌∙◌, ap, subst, arith, length, IsIn, AreDistinct, IsPart}
 use Rattle.dlmalloc.specs.Order.{IsInOrder}
 

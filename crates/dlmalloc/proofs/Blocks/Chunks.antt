@@ -56,7 +56,7 @@ module _ {A : Type 0} (regions : A → List Grant) (word : A → ℕ → ℕ) (h
     granted = record { granted = inside.granted (block.extent.at + 8) (omega arith) (omega (arith, inside.long)); aligned = omega (arith, inside.whole) };
   })
 
-  -- its head tells the chunk's size
+  -- its head has the chunk's size
   pub block_chunk : (told : ℕ) → told ≡ size_of (word heap.system (ptr - 16 + 8)) → extent_at (ptr - 16) (extents_in (state_of word heap)) ≡ Some (extent (ptr - 16) told Used)
   block_chunk told is =
       let l = located block.extent.at (segments_of word heap) (block_there sound block) in

@@ -35,7 +35,7 @@ spans_resized heap at n is = subst (λ o. IfSome o (HasSameSpans heap)) is (firs
 
 -- ---- a block that is cleared
 
--- A block is handed out still, where no word but its own is written.
+-- A block is still handed out, if no word but its own is written.
 pub handed_written : {A : Type 0} {regions : A → List Grant} {word : A → ℕ → ℕ} {follows : A → List Event → A → Type 0} →
     ((x y z : A) (a b c : List Event) → follows x a y → follows y b z → a ++ b ≡ c → follows x c z) → {old : Dlmalloc A}
     (middle : Dlmalloc A) {new : Dlmalloc A} {size align address : ℕ} → IsHandedOut regions word follows old size align address middle →

@@ -1,7 +1,7 @@
 -- What holds of each block that is handed out.
 use Rattle.dlmalloc.proofs.Names.{◌≡◌, ℕ, ◌+◌, ◌-◌, ◌%◌, ◌^◌, ◌<◌, ◌≤◌, inl, inr, Bool, true, false, ◌==◌, nat_le, nat_lt, if◌then◌else◌, List, [], ◌∷◌, ◌++◌, map, Result, Ok, Err, IfOk, zero, suc, refl, sym, ◌∙◌, ap, subst, arith, pow_mono, list_any, IsPowerOfTwo, dec_lt, nat_tests, Grant, Event, padded, enlarged, limit, Extent, HeapState, Segment, extents_in, size_where, is_behind, is_before, is_put_before, granted, replaced, cut, in_segments, freed, freed_in, exchanged, halves, tail_freed, aligned_place, lead_freed, aligned, state_of, IsTakenFromGrant, IsServed, asked, spans, IsFound, IsHandedOut, IsServedAligned, Dlmalloc}
 
--- what follows from the answer of a call, where it is one
+-- what follows from the answer of a call, if it is one
 pub on_ok : {T E : Type 0} (r : Result T E) {P Q : T → Type 0} → ((x : T) → P x → Q x) → IfOk r P → IfOk r Q
 on_ok (Ok x) each holds = each x holds
 on_ok (Err e) each holds = tt
@@ -17,17 +17,17 @@ spans_changed change (segment ∷ segments) = ap (λ l. (record segment { extent
 abbrev pub HasSameSpans : HeapState → HeapState → Type 0
 HasSameSpans old new = (spans new ≡ spans old) × (new.granularity ≡ old.granularity)
 
--- they do where an extent is halved and one of the two is freed
+-- they do if an extent is halved and one of the two is freed
 pub halves_freed : (heap : HeapState) (at n from : ℕ) → HasSameSpans heap (freed (exchanged heap at (halves n)) from)
 halves_freed heap at n from =
     (spans_changed (freed_in from) (in_segments (replaced at (halves n)) heap.segments) ∙ spans_changed (replaced at (halves n)) heap.segments, refl)
 
--- they do where they do in each of two cases
+-- they do if they do in each of two cases
 either_kept : (b : Bool) (heap one other : HeapState) → HasSameSpans heap one → HasSameSpans heap other → HasSameSpans heap (if b then one else other)
 either_kept true heap one other first second = first
 either_kept false heap one other first second = second
 
--- and so they do where an aligned place in an extent is left in use
+-- and so they do if an aligned place in an extent is left in use
 aligned_kept : (heap : HeapState) (at align n : ℕ) → HasSameSpans heap (aligned heap at align n)
 aligned_kept heap at align n =
     let place = aligned_place at align in let led = lead_freed heap at place in
@@ -79,7 +79,7 @@ asked_low size align few = let test : nat_le align 16 ≡ true = grind (arith, n
 pub asked_high : (size align : ℕ) → 16 < align → enlarged size align ≡ asked size align
 asked_high size align many = let test : nat_le align 16 ≡ false = grind (arith, nat_tests) in rw test refl
 
--- A chunk that was found was found still, where segments and regions stay and nothing more is asked of the system.
+-- A chunk that was found was found still, if segments and regions stay and nothing more is asked of the system.
 pub found_on : {A : Type 0} (regions : A → List Grant) (word : A → ℕ → ℕ) {follows : A → List Event → A → Type 0} (old middle new : Dlmalloc A) (n : ℕ) →
     ((x y z : A) (a b c : List Event) → follows x a y → follows y b z → a ++ b ≡ c → follows x c z) →
     IsFound follows regions old.system (state_of word old) n middle.system (state_of word middle) → spans (state_of word new) ≡ spans (state_of word middle) →
@@ -90,7 +90,7 @@ found_on regions word old middle new n on found stay followed same = elim found 
   | inr there ↦ inr (there.0, there.1, there.2, stay ∙ there.3, on _ _ _ _ [] _ there.4 followed refl, same ∙ there.5)
 ]
 
--- where a region was granted, they are those that it makes
+-- if a region was granted, they are those that it makes
 pub spans_new : {old new : HeapState} {n at : ℕ} {grant : Grant} → IsTakenFromGrant old n at grant new → HasSameSpans (granted grant n old) new
 spans_new {old} {new} {n} {grant} is = go (is_put_before grant old.segments) refl
   where

@@ -23,7 +23,7 @@ module _ {A : Type 0} {regions : A → List Grant} {word : A → ℕ → ℕ} {h
     small = omega (arith, place, fits n less, inside.high);
   }
 
-  -- where they alone change, words of blocks alone do
+  -- if only they change, only words of blocks do
   pub only_block : (n : ℕ) → n ≤ size → (new : ℕ → ℕ) → ((other : ℕ) → IsWordOf (regions heap.system) other → IsBeside address
       (words_in n) other → new other ≡ word heap.system other) → OnlyBlocksChange (regions heap.system) (state_of word heap) (word heap.system) new
   only_block n less new elsewhere k is within apart =
@@ -50,7 +50,7 @@ module _ {A : Type 0} {regions : A → List Grant} {word : A → ℕ → ℕ} {h
       IsBinned regions word heap → IsBinned regions word (record heap { system = system })
   same_binned stays n less system same elsewhere = still_binned sound system (same_regions regions word heap sound system same) (only_block n less (word system) elsewhere) stays
 
--- where of a block that was handed out its first words alone are written, those before it keep their words
+-- if of a block that was handed out only the first words are written, those before it keep their words
 pub written_kept : {A : Type 0} {regions : A → List Grant} {word : A → ℕ → ℕ} {follows : A → List Event → A → Type 0} {old middle : Dlmalloc A}
     {size align address : ℕ} → IsHandedOut regions word follows old size align address middle → (n : ℕ) → n ≤ size → {new : ℕ → ℕ} →
     ((k : ℕ) → IsWordOf (regions middle.system) k → IsBeside address (words_in n) k → new k ≡ word middle.system k) →

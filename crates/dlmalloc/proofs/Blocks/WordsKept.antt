@@ -1,4 +1,4 @@
--- That blocks keep their words follows from the clause on words, where both heaps are sound.
+-- That blocks keep their words follows from the clause on words, if both heaps are sound.
 use Rattle.dlmalloc.proofs.Names.{◌≡◌, ℕ, ◌+◌, ◌/◌, ◌%◌, ◌<◌, ◌≤◌, ◌⊎◌, inl, inr, Bool, true, false, ◌==◌, if◌then◌else◌, List, [], ◌∷◌, Some, IsTrue, sym, ◌∙◌, ap, subst, arith, unwrap_or, AllByRecursion, Grant, IsWordOf, is_granted, Extent, Kind, Used, Free, Victim, Top, Record, Foot, is_used, Segment, HeapState, extents_in, is_free_below_top, IsInFree, OnlyOwnChange, OnlyOwnOrTagsChange, KeepsBlocks, IsSpared, AllSpare, IsSegment, AreSegments, IsApartFrom, AreApart, segments_of, state_of, IsSound, IsTurned, Event, Dlmalloc}
 use Rattle.dlmalloc_chunks.specs.Tiling.{extent_at}
 use Rattle.dlmalloc.proofs.Names.{IsInRecord}
@@ -137,7 +137,7 @@ abbrev pub AreInBoth : HeapState → HeapState → List Extent → Type 0
 AreInBoth old new blocks = (block : Extent) → extent_at block.at blocks ≡ Some block → block.kind ≡ Used →
     (extent_at block.at (extents_in old) ≡ Some block) × (extent_at block.at (extents_in new) ≡ Some block)
 
--- blocks of two sound heaps keep their words, where of some granted words own ones and those of tags alone change
+-- blocks of two sound heaps keep their words, if of some granted words only own ones and those of tags change
 module _ {A : Type 0} {regions : A → List Grant} {word : A → ℕ → ℕ} {old new : Dlmalloc A} (sound : IsSound regions word old)
     (sound' : IsSound regions word new) (granted : List Grant)
     (same : OnlyOwnOrTagsChange granted (state_of word old) (state_of word new) (word old.system) (word new.system)) (blocks : List Extent)
@@ -164,7 +164,7 @@ pub blocks_law_tags : {A : Type 0} {regions : A → List Grant} {word : A → �
 blocks_law_tags {regions} {word} {old} sound sound' same blocks both = blocks_kept sound sound' (regions old.system) same blocks both
     (λ block there used k low high. (used_inside regions word old sound block used (both block there used).0).granted k (omega arith) (omega arith))
 
--- so they do where bytes were given back, and of the words that are granted still those of tags alone change
+-- the same if bytes were given back, and of the words that are still granted only those of tags change
 pub blocks_law_still : {A : Type 0} (regions : A → List Grant) (word : A → ℕ → ℕ) {old : Dlmalloc A} (new : Dlmalloc A) →
     IsSound regions word old → IsSound regions word new →
     OnlyOwnOrTagsChange (regions new.system) (state_of word old) (state_of word new) (word old.system) (word new.system) →

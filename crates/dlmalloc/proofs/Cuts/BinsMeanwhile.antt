@@ -47,7 +47,7 @@ module _ {A : Type 0} {regions : A → List Grant} {word : A → ℕ → ℕ} {o
     from = λ k out which n free other. elim which [ inl victim ↦ absurd (other (victim ∙ same)) | inr loose ↦ absurd (out loose) ];
   }
 
-  -- what came is not the old victim, where that is another chunk
+  -- what came is not the old victim, if that is another chunk
   pub rest_other : (rest : ℕ) {size : ℕ} → IsIn rest more → IsFreeAt (state_of word old) old.victim size → at ≢ old.victim → rest ≢ old.victim
   rest_other rest {size} there free other same =
       (moves.stays old.victim size free (λ is. elim is [ inl victim ↦ other (sym victim) | inr none ↦ none ])).1 (subst (λ a. IsIn a more) same there)
@@ -98,7 +98,7 @@ module _ (stays : IndexStays) {A : Type 0} {regions : A → List Grant} {word : 
 
 -- ---- the two ways of a cut
 
--- where a rest stays free, and where none does
+-- if a rest stays free, and if none does
 module _ {old new : HeapState} {at : ℕ} (rest n size : ℕ) (moves : FreeMoves old new (at ∷ []) (if nat_le (n + 32) size then rest ∷ [] else [])) where
   pub moves_rest : n + 32 ≤ size → FreeMoves old new (at ∷ []) (rest ∷ [])
   moves_rest room = (let test : nat_le (n + 32) size ≡ true = grind (arith, nat_tests) in subst (λ b. FreeMoves old new (at ∷ []) (if b then rest ∷ [] else [])) test moves)
@@ -196,7 +196,7 @@ module _ (stays : IndexStays) {A : Type 0} {regions : A → List Grant} {word : 
       pub rest_came : (m : ℕ) → IsFreeAt (state_of word old) (at + n) m → 0 < n → ⊥
       rest_came m free some = (parts.stays (at + n) m free (λ is. elim is [ inl same ↦ (let e = same in omega arith) | inr none ↦ none ])).1 (inl refl)
 
--- ---- a chunk takes the free one behind it, or bytes of it
+-- ---- a chunk takes the free one after it, or bytes of it
 
 module _ (stays : IndexStays) {A : Type 0} {regions : A → List Grant} {word : A → ℕ → ℕ} {follows : A → List Event → A → Type 0}
     {old new : Dlmalloc A} (sound : IsSound regions word old) {at size free n : ℕ}

@@ -1,4 +1,4 @@
--- Where an extent stands that ends no segment: its head and its foot are granted, and so is the head behind it.
+-- Where an extent stands that ends no segment: its head and its foot are granted, and so is the head after it.
 use Rattle.dlmalloc.proofs.Names.{◌≡◌, ℕ, ◌+◌, ◌%◌, ◌^◌, ◌<◌, ◌≤◌, false, List, [], ◌∷◌, Some, arith, Grant, HasHead, HasFoot, Extent, Used, ends_segment, extent_at, extents_in, IsRunOf, segments_of, state_of, IsSound, Dlmalloc}
 use Rattle.dlmalloc.proofs.Extents.Tiling.{sized, tiles_le}
 use Rattle.dlmalloc.proofs.Extents.RunReplaced.{run_of, has_next, behind, run_part, run_word}

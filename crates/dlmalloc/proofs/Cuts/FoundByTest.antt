@@ -1,4 +1,4 @@
--- The one extent that a test finds, where there is one.
+-- The one extent that a test finds, if there is one.
 use Rattle.dlmalloc.proofs.Names.{◌≡◌, ℕ, ◌+◌, ◌<◌, ◌≤◌, inl, inr, Bool, true, false, ◌==◌, if◌then◌else◌, List, [], ◌∷◌, Some, None, refl, sym, ◌∙◌, ap, arith, find, nat_tests, Grant, Extent, extent_at, extents_in, is_free_below_top, has, segments_of, state_of, IsSound, Dlmalloc}
 use Rattle.dlmalloc.proofs.Extents.Lookup.{nat_is, nat_same, the_extent, found_here}
 use Rattle.dlmalloc.proofs.Extents.OneMoreUsed.{AreDistinct}

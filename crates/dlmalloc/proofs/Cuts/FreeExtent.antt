@@ -3,7 +3,7 @@ use Rattle.dlmalloc.proofs.Names.{◌≡◌, ◌≢◌, ℕ, ◌+◌, ◌-◌, �
 use Rattle.dlmalloc.proofs.Extents.Tiling.{free_chunk, plain_chunk}
 use Rattle.dlmalloc.proofs.Extents.Lookup.{extent}
 
--- one store, and others behind it
+-- one store, and others after it
 pub stored_then : {regions : List Grant} {old middle new : ℕ → ℕ} {at value : ℕ} {stores : List (ℕ × ℕ)} → IsWordOf regions at →
     IsStored regions old at value middle → AreStored regions middle stores new → AreStored regions old ((at, value) ∷ stores) new
 stored_then {at} word first second = record {
@@ -20,7 +20,7 @@ stored_over {first} value other word before after = record {
   elsewhere = λ k is apart. after.elsewhere k is apart.1.0 ∙ before.elsewhere k is apart;
 }
 
--- An extent in use or a record, behind one of another kind: bit 0 of its head alone tells of it.
+-- An extent in use or a record, after one of another kind: only bit 0 of its head depends on that.
 pub rehung : {words : ℕ → ℕ} (words' : ℕ → ℕ) {before : Kind} (before' : Kind) {next : Extent} → HasChunk words before next →
     (next.kind ≡ Used) ⊎ (next.kind ≡ Record) → MayStand before' next.kind →
     words' (next.at + 8) ≡ head_of (told_size next.kind next.size) (is_used before') (is_used next.kind) →
@@ -38,7 +38,7 @@ rehung words' before' {next} h kind may head same = record {
     no_free (inl is) free = (let not = ap is_free_below_top is in cc)
     no_free (inr is) free = (let not = ap is_free_below_top is in cc)
 
--- the size that a head tells is whole
+-- the size in a head is whole
 pub told_whole : (kind : Kind) (size : ℕ) → IsSize kind size → told_size kind size % 8 ≡ 0
 told_whole Record size h = refl
 told_whole Foot size h = omega arith
@@ -50,12 +50,12 @@ no_head k Free at size long h = h.0
 no_head k Victim at size long h = h.0
 no_head k kind at size long h = h
 
--- it may stand behind one in use, and behind a free one
+-- it may stand after one in use, and after a free one
 pub may_stand : (kind before : Kind) → (kind ≡ Used) ⊎ (kind ≡ Record) → (before ≡ Used) ⊎ (before ≡ Free) → MayStand before kind
 may_stand kind before (inl is) b = subst (MayStand before) (sym is) b
 may_stand kind before (inr is) b = subst (MayStand before) (sym is) b
 
--- behind a free extent stands one in use or a record, and a free one stands behind one in use
+-- after a free extent stands one in use or a record, and a free one stands after one in use
 pub behind_free : (kind : Kind) → MayStand Free kind → (kind ≡ Used) ⊎ (kind ≡ Record)
 behind_free Used h = inl refl
 behind_free Record h = inr refl

@@ -82,7 +82,7 @@ module _ {A : Type 0} {regions : A → List Grant} {word : A → ℕ → ℕ} {h
     pub others_still : (one : Extent) → one.at ≢ heap.top → extent_at one.at (extents_in (state_of word heap)) ≡ Some one → extent_at one.at (extents_in (state_of word after)) ≡ Some one
     others_still one other there = found_again sound cut_step one.at (λ found. absurd (other (ap (λ e. e.at) (sym (the_one one.at chunk found))))) there
 
-    -- the heads that the top and its foot had are boundaries still
+    -- the heads that the top and its foot had are still boundaries
     pub head_boundary : IsBoundary (state_of word after) (heap.top + 8)
     head_boundary = record {
       extent = extent heap.top n Used;

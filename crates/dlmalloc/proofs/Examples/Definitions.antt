@@ -35,7 +35,7 @@ top-keeps-16 = refl
 top-is-not-used-up : chosen (heap (run 0x400000 65456 Top ∷ foot ∷ []) 0) 65456 ≡ None
 top-is-not-used-up = refl
 
--- a grant behind the segment makes the top longer, and its foot moves
+-- a grant after the segment makes the top longer, and its foot moves
 second-grant : granted (record { base = 0x410000; size = 65536; flags = 0 }) 32 (heap (run 0x400000 65440 Used ∷ run 0x40ffa0 16 Top ∷ foot ∷ []) 0) ≡
     record new_heap {
       segments = (record { base = 0x400000; size = 131072; flags = 0; extents = run 0x400000 65440 Used ∷ run 0x40ffa0 65552 Top ∷ run 0x41ffb0 80 Foot ∷ [] }) ∷ [];
@@ -86,7 +86,7 @@ exact-fit = refl
 victim-before-bins : chosen bins 192 ≡ Some TheVictim
 victim-before-bins = refl
 
--- a large one goes to the smaller of the two, and to the victim where they are equal
+-- a large one goes to the smaller of the two, and to the victim if they are equal
 smaller-bin : chosen bins 496 ≡ Some (OfBins 512)
 smaller-bin = refl
 
@@ -96,7 +96,7 @@ tie = refl
 then-top : chosen bins 992 ≡ Some TheTop
 then-top = refl
 
--- the rest of the victim is the victim, and where it is used up there is none
+-- the rest of the victim is the victim, and if it is used up there is none
 victim-stays : taken bins (run 0x400020 976 Free) 192 ≡ heap (run 0x400000 32 Used ∷ run 0x400020 192 Used ∷ run 0x4000e0 784 Free ∷ run 0x4003f0 32
     Used ∷ run 0x400410 208 Free ∷ run 0x4004e0 32 Used ∷ run 0x400500 512 Free ∷ run 0x400700 32 Used ∷ run 0x400720 976 Free ∷ run 0x400af0 32
     Used ∷ run 0x400b10 62624 Top ∷ foot ∷ []) 0x4000e0
@@ -109,12 +109,12 @@ victim-is-used-up = refl
 
 -- ---- what a freed block joins
 
--- the victim before it stays the victim, and takes in the bin behind it
+-- the victim before it stays the victim, and takes in the bin after it
 joins-victim : freed bins 0x4003f0 ≡ heap (run 0x400000 32 Used ∷ run 0x400020 1216 Free ∷ run 0x4004e0 32 Used ∷ run 0x400500 512 Free ∷ run 0x400700
     32 Used ∷ run 0x400720 976 Free ∷ run 0x400af0 32 Used ∷ run 0x400b10 62624 Top ∷ foot ∷ []) 0x400020
 joins-victim = refl
 
--- the top where that follows
+-- the top if that follows
 joins-top : freed bins 0x400af0 ≡ heap (run 0x400000 32 Used ∷ run 0x400020 976 Free ∷ run 0x4003f0 32 Used ∷ run 0x400410 208 Free ∷ run 0x4004e0 32
     Used ∷ run 0x400500 512 Free ∷ run 0x400700 32 Used ∷ run 0x400720 63632 Top ∷ foot ∷ []) 0x400020
 joins-top = refl

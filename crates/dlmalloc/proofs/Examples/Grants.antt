@@ -21,20 +21,20 @@ segment base flags extents = record { base = base; size = 4096; flags = flags; e
 abbrev first : ℕ → ℕ → HeapState
 first base flags = heap (segment base flags (extent base 112 Used ∷ extent (base + 112) 3904 Top ∷ extent (base + 4016) 80 Foot ∷ []) ∷ []) 0 2097152
 
--- ---- behind a gap: the grant is the new head, and what was the top is free, with a record behind it
+-- ---- after a gap: the grant is the new head, and what was the top is free, with a record after it
 
 new_head : taken (granted (grant 0x20000 0) 3920 (first 0x10000 0)) (extent 0x20000 4016 Top) 3920 ≡
     heap (segment 0x20000 0 (extent 0x20000 3920 Used ∷ extent 0x20f50 96 Top ∷ extent 0x20fb0 80 Foot ∷ [])
     ∷ segment 0x10000 0 (extent 0x10000 112 Used ∷ extent 0x10070 3904 Free ∷ extent 0x10fb0 80 Record ∷ []) ∷ []) 0 2097152
 new_head = refl
 
--- where the top has 16 bytes, they are part of the record
+-- if the top has 16 bytes, they are part of the record
 top_of_16 : granted (grant 0x20000 0) 32 (heap (segment 0x10000 0 (extent 0x10000 4000 Used ∷ extent 0x10fa0 16 Top ∷ extent 0x10fb0 80 Foot ∷ []) ∷ [])
     0 2097152) ≡ heap (segment 0x20000 0 (extent 0x20000 4016 Top ∷ extent 0x20fb0 80 Foot ∷ []) ∷ segment 0x10000 0
     (extent 0x10000 4000 Used ∷ extent 0x10fa0 96 Record ∷ []) ∷ []) 0 2097152
 top_of_16 = refl
 
--- ---- before a segment: the chunk is cut from the grant, and the rest joins what stands behind
+-- ---- before a segment: the chunk is cut from the grant, and the rest joins what stands after
 
 before_a_block : granted (grant 0x1f000 0) 3920 (first 0x20000 0) ≡ heap ((record {
   base = 0x1f000;
@@ -44,7 +44,7 @@ before_a_block : granted (grant 0x1f000 0) 3920 (first 0x20000 0) ≡ heap ((rec
 }) ∷ []) 0 2097152
 before_a_block = refl
 
--- the trim check stays as it was; a first extent that is free is one with the rest, and stays the victim where it was
+-- the trim check stays as it was; a first extent that is free is one with the rest, and stays the victim if it was
 before_the_victim : granted (grant 0x1f000 0) 1024 (heap (segment 0x20000 0
     (extent 0x20000 112 Free ∷ extent 0x20070 32 Used ∷ extent 0x20090 3872 Top ∷ extent 0x20fb0 80 Foot ∷ []) ∷ []) 0x20000 5000) ≡ heap ((record {
       base = 0x1f000;
@@ -81,7 +81,7 @@ extern : granted (grant 0x11000 1) 32 (first 0x10000 1) ≡ heap (segment 0x1100
     0x10000 1 (extent 0x10000 112 Used ∷ extent 0x10070 3904 Free ∷ extent 0x10fb0 80 Record ∷ []) ∷ []) 0 2097152
 extern = refl
 
--- others are where all of their flags are equal
+-- others are if all of their flags are equal
 equal_flags : granted (grant 0x11000 2) 32 (first 0x10000 2) ≡
     heap ((record { base = 0x10000; size = 8192; flags = 2; extents = extent 0x10000 112 Used ∷ extent 0x10070 8000 Top ∷ extent 0x11fb0 80 Foot ∷ [] }) ∷ []) 0 2097152
 equal_flags = refl

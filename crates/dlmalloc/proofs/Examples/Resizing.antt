@@ -70,7 +70,7 @@ beside-victim = heap (run 0x400000 32 Used ∷ run 0x400020 976 Free ∷ run 0x4
 into-victim : in_place beside-victim 0x400000 512 ≡ Some (heap (run 0x400000 512 Used ∷ run 0x400200 496 Free ∷ run 0x4003f0 32 Used ∷ run 0x400410 64416 Top ∷ foot ∷ []) 0x400200)
 into-victim = refl
 
--- where a rest of 16 stays with the block, there is no victim more
+-- if a rest of 16 stays with the block, there is no victim any longer
 into-victim-whole : in_place beside-victim 0x400000 992 ≡ Some (heap (run 0x400000 1008 Used ∷ run 0x4003f0 32 Used ∷ run 0x400410 64416 Top ∷ foot ∷ []) 0)
 into-victim-whole = refl
 
@@ -84,7 +84,7 @@ rest-joins-victim = refl
 abbrev cut-4240 : HeapState
 cut-4240 = taken (heap (run 0x400000 65456 Top ∷ foot ∷ []) 0) (run 0x400000 65456 Top) 4240
 
--- what is before them is freed, and the 48 bytes behind them
+-- what is before them is freed, and the 48 bytes after them
 at-4096 : aligned cut-4240 0x400000 4096 112 ≡ heap (run 0x400000 4080 Free ∷ run 0x400ff0 112 Used ∷ run 0x401060 61264 Top ∷ foot ∷ []) 0
 at-4096 = refl
 
@@ -97,7 +97,7 @@ moved-at-4096 : freed (aligned (taken (heap (run 0x400000 4080 Free ∷ run 0x40
     Top) 4192) 0x401060 4096 64) 0x400ff0 ≡ heap (run 0x400000 8176 Free ∷ run 0x401ff0 64 Used ∷ run 0x402030 57216 Top ∷ foot ∷ []) 0
 moved-at-4096 = refl
 
--- where it need not be at that alignment, it stays
+-- if it need not be at that alignment, it stays
 kept-in-place : in_place (heap (run 0x400000 4080 Free ∷ run 0x400ff0 112 Used ∷ run 0x401060 61264 Top ∷ foot ∷ []) 0) 0x400ff0 64
     ≡ Some (heap (run 0x400000 4080 Free ∷ run 0x400ff0 64 Used ∷ run 0x401030 61312 Top ∷ foot ∷ []) 0)
 kept-in-place = refl

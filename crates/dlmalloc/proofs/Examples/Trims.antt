@@ -8,7 +8,7 @@ use Rattle.dlmalloc.proofs.Extents.Lookup.{extent}
 abbrev heap : ℕ → List Segment → ℕ → HeapState
 heap granularity segments trim_check = record { segments = segments; victim = 0; granularity = granularity; rate = 4095; countdown = 4095; trim_check = trim_check }
 
--- a head segment of five pages with these flags, all top, and one behind it
+-- a head segment of five pages with these flags, all top, and one after it
 abbrev five : ℕ → ℕ → HeapState
 five flags trim_check = heap 4096 (
     (record { base = 0x20000; size = 20480; flags = flags; extents = extent 0x20000 20400 Top ∷ extent 0x24fb0 80 Foot ∷ [] })
@@ -45,7 +45,7 @@ extern = refl
 other_flags : is_cut true 4096 0 (five 6 5000) ≡ true
 other_flags = refl
 
--- where the system takes no parts, or no such ones
+-- if the system takes no parts, or no such ones
 whole_alone : after_cut false 4096 0 (five 0 5000) ≡ five 0 5000
 whole_alone = refl
 

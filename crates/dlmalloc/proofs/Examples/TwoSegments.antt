@@ -1,4 +1,4 @@
--- A heap of two segments is sound: a head segment that is all top, and one with a block, which a record tells.
+-- A heap of two segments is sound: a head segment that is all top, and one with a block, which a record describes.
 use Rattle.std.proofs.Common.{◌≡◌, ℕ, true, ◌&&◌, ◌==◌, nat_le, nat_lt, if◌then◌else◌, inl, inr, List, [], ◌∷◌, refl, sym, subst, arith}
 use Rattle.std.proofs.lemmas.Bool.Decides.{nat_tests}
 use Rattle.heap_memory.specs.declared.grant.Grant.{Grant}

@@ -54,7 +54,7 @@ beside regions words (segment ∷ segments) parts apart {one} {other} there ther
         elim (within regions words segment segments parts.1 apart.0 a.1) [ inl before ↦ inl (omega arith) | inr behind ↦ inr (omega arith) ]
     both (inr a) (inr b) later = later a.1 b.1
 
--- behind an extent that ends no segment stands another
+-- after an extent that ends no segment stands another
 pub room_behind : (words : ℕ → ℕ) (before : Kind) (from : ℕ) (extents : List Extent) (to : ℕ) (one : Extent) →
     Tiles words before from extents to → ends_segment (last_kind before extents) ≡ true → extent_at one.at extents ≡ Some one →
     ends_segment one.kind ≡ false → one.at + one.size + 16 ≤ to

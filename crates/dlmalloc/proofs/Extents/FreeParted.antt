@@ -1,4 +1,4 @@
--- Free extents of a segment are parted by one in use, and where none is in use there is one of them.
+-- Free extents of a segment are parted by one in use, and if none is in use, there is one of them.
 use Rattle.dlmalloc.proofs.Names.{◌≡◌, ◌≢◌, ℕ, ◌+◌, ◌-◌, ◌⊎◌, inl, inr, true, false, ◌&&◌, List, [], ◌∷◌, ◌++◌, filter, Some, refl, sym, ◌∙◌, ap, subst, arith, append_assoc, AllByRecursion, Grant, Extent, Kind, Used, Free, Victim, Top, Record, Foot, ends_segment, IsSize, extent_at, MayStand, Tiles, last_kind, Segment, IsSegment, AreSegments, record_of, AreRecords, segments_of, state_of, AreTold, IsSound, Dlmalloc}
 use Rattle.dlmalloc.specs.Extents.{is_free}
 use Rattle.dlmalloc.specs.FreeExtents.{HasUsedBetween, AreParted, IsUnused, HasOneFree, EachHasOneFree}
@@ -17,7 +17,7 @@ not_free Record h = inr refl
 not_free Foot h = inr refl
 not_free kind h = absurd (cc)
 
--- so is what stands behind a free extent
+-- so is what stands after a free extent
 behind_free : (first next : Kind) → is_free first ≡ true → MayStand first next → (next ≡ Used) ⊎ (ends_segment next ≡ true)
 behind_free first next free may = not_free next (ap (λ b. b && is_free next) (sym free) ∙ (pair first next may).apart)
 

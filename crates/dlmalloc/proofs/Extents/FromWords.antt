@@ -1,4 +1,4 @@
--- The extents of a segment are those that its words tell.
+-- The extents of a segment are those that its words describe.
 use Rattle.dlmalloc.proofs.Names.{◌≡◌, ◌≢◌, ℕ, zero, suc, ◌+◌, ◌-◌, ◌*◌, ◌/◌, ◌%◌, ◌≤◌, inl, inr, Bool, true, false, ◌==◌, if◌then◌else◌, List, [], ◌∷◌, ◌++◌, Some, refl, sym, ◌∙◌, ap, subst, arith, length, nat_tests, Grant, Extent, Kind, Used, Free, Victim, Top, Record, Foot, size_of, head_of, size_of-head_of, pinuse_of-head_of, cinuse_of-head_of, ends_segment, IsSize, kind_of, chunks_from, is_used, Segment, top_and_foot, IsChunkKind, AreChunks, MayStand, told_size, HasChunk, Tiles, last_kind, IsSegment, AreSegments, record_of, records_from, AreRecords}
 use Rattle.std.proofs.lemmas.Bool.{le-ltb, lt-ltb}
 use Rattle.dlmalloc_chunks.specs.Tiling.{extent_at}
@@ -28,7 +28,7 @@ are_chunks words before at (extent ∷ next ∷ extents) last back end other h =
     let rest = are_chunks words extent.kind (at + extent.size) (next ∷ extents) last back end other h.2 in
     (before_all extent.kind next.kind (no_foot next.kind rest.0) h.2.1.kind, rest)
 
--- a chunk is what its head tells
+-- a chunk is what its head says
 kind_told : (kind before : Kind) (size : ℕ) → size % 8 ≡ 0 → IsChunkKind kind → MayStand before kind → kind_of (head_of size (is_used before) (is_used kind)) ≡ kind
 kind_told Used before size whole is h = go (is_used before)
   where
@@ -69,7 +69,7 @@ chunks_read words before (suc most) at (chunk ∷ chunks) end few h are =
     ap (λ e. chunks_from words most (at + e.size) end) one ∙ chunks_read words chunk.kind most (at + chunk.size) chunks end (omega arith) h.2 are.1 in
     rw (lt-ltb at end (omega arith)) (λ i. one i ∷ rest i)
 
--- what stands behind a top is its foot, and behind a record or a foot nothing
+-- what stands after a top is its foot, and after a record or a foot nothing
 pub nothing : (words : ℕ → ℕ) (before : Kind) (from : ℕ) (back : List Extent) (end : ℕ) → ends_segment before ≡ true →
     Tiles words before from back end → (back ≡ []) × (from ≡ end)
 nothing words before from [] end ends h = (refl, h)

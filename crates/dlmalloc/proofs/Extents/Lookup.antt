@@ -45,7 +45,7 @@ of_two k one two {it} there = go (one.at == k) (two.at == k) there
     go false true found = inr (the_extent found)
     go false false found = absurd (cc)
 
--- an extent with those before and behind it
+-- an extent with those before and after it
 pub record Found (at : ℕ) (extent : Extent) (extents : List Extent) : Type 0 where
   pub front : List Extent
   pub back : List Extent
@@ -70,7 +70,7 @@ found at extent (first ∷ extents) h =
 pub found_here : (extent : Extent) (rest : List Extent) → extent_at extent.at (extent ∷ rest) ≡ Some extent
 found_here extent rest = rw (nat_same extent.at) refl
 
--- an extent that is found is found with more behind
+-- an extent that is found is found with more after them
 pub found_more : (at : ℕ) (extents more : List Extent) {extent : Extent} → extent_at at extents ≡ Some extent → extent_at at (extents ++ more) ≡ Some extent
 found_more at extents more {extent} there = find-append (λ extent. extent.at == at) extents more ∙ ap (λ o. option_or o (extent_at at more)) there
 
@@ -83,6 +83,6 @@ found_either at front back {extent} there = go (extent_at at front) (sym (find-a
     go None later = inr (refl, later)
     go (Some one) is = inl is
 
--- what is found behind a list is found with it, where the list has none
+-- what is found after a list is found with it, if the list has none
 pub found_later : (at : ℕ) (front back : List Extent) → extent_at at front ≡ None → extent_at at (front ++ back) ≡ extent_at at back
 found_later at front back none = find-append (λ extent. extent.at == at) front back ∙ ap (λ o. option_or o (extent_at at back)) none

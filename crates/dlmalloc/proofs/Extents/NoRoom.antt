@@ -1,4 +1,4 @@
--- Where nothing is chosen for a request, no run of a little more bytes is clear of blocks.
+-- If nothing is chosen for a request, no run of a little more bytes is clear of blocks.
 use Rattle.dlmalloc.proofs.Names.{◌≡◌, ℕ, ◌+◌, ◌-◌, ◌<◌, ◌≤◌, ◌⊎◌, inl, inr, Bool, true, false, ◌==◌, nat_le, nat_lt, min, max, if◌then◌else◌, List, [], ◌∷◌, ◌++◌, Option, Some, None, refl, sym, ◌∙◌, ap, subst, arith, append_assoc, unwrap_or, option_map, AllByRecursion, dec_lt, nat_tests, Grant, Extent, Kind, Used, Free, Victim, Top, Record, Foot, IsSize, extent_at, MayStand, Tiles, HeapState, Segment, extents_in, is_free_below_top, is_binned, IsFull, TheVictim, TheTop, least_from, least_fit, choose, chosen, IsSegment, AreSegments, binned_sizes, segments_of, state_of, AreTold, IsSound, Dlmalloc}
 use Rattle.dlmalloc.specs.Blocks.{IsMet}
 use Rattle.dlmalloc.proofs.Extents.Lookup.{extent, nat_is, found_here, the_extent}
@@ -23,7 +23,7 @@ too_small n None victim top none = go (nat_le n victim) (nat_lt n top) refl refl
     go false true one two = absurd (let some : choose n None victim top ≡ Some TheTop = rw (one, two) refl in cc)
     go false false one two = record { none_fits = refl; victim_less = grind (arith, nat_tests); top_most = grind (arith, nat_tests) }
 
--- so is each chunk in a bin, where none fits
+-- so is each chunk in a bin, if none fits
 module _ (heap : HeapState) (n : ℕ) where
   record AreLess (first : Extent) (chunks : List Extent) : Type 0 where
     pub here : is_binned heap first ≡ true → first.size < n
@@ -70,7 +70,7 @@ record MeetsOne (extents : List Extent) (from to : ℕ) : Type 0 where
   pub ends : from < used.at + max 17 (used.size - 63)
 
 module _ (words : ℕ → ℕ) (n from : ℕ) where
-  -- Where none is met and each free extent has at most n bytes, what stands behind one in use begins at most 63 bytes behind
+  -- If none is met and each free extent has at most n bytes, what stands after one in use begins at most 63 bytes after
   -- the run's start, and else at most as many bytes further as the extent before may have.
   abbrev further : Kind → ℕ
   further Used = 0
@@ -95,7 +95,7 @@ module _ (words : ℕ → ℕ) (n from : ℕ) where
       place : first.at ≡ at
       place = h.0
 
-      -- one that is met behind it is met among all
+      -- one that is met after it is met among all
       later : Outcome extents end → Outcome (first ∷ extents) end
       later (inr past) = inr past
       later (inl met) = inl (record { used = met.used; there = distinct_later (first ∷ []) extents met.used.at distinct met.there; is = met.is; begins = met.begins; ends = met.ends })

@@ -27,7 +27,7 @@ pub distinct_second : (front back : List Extent) → AreDistinct (front ++ back)
 distinct_second [] back apart = apart
 distinct_second (first ∷ front) back apart = distinct_second front back apart.1
 
--- what is found behind some is found with them
+-- what is found after some is found with them
 pub distinct_later : (front back : List Extent) (k : ℕ) {extent : Extent} → AreDistinct (front ++ back) → extent_at k back ≡ Some extent → extent_at k (front ++ back) ≡ Some extent
 distinct_later [] back k distinct there = there
 distinct_later (first ∷ front) back k {extent} distinct there = go (first.at == k) refl (distinct_later front back k distinct.1 there)
@@ -36,7 +36,7 @@ distinct_later (first ∷ front) back k {extent} distinct there = go (first.at =
     go true here later = absurd (let none = subst (λ a. extent_at a (front ++ back) ≡ None) (nat_is here) distinct.0 in let some = later in cc)
     go false other later = later
 
--- what is found still is, where others stand in the place of some and it is found among them
+-- what is found still is, if others stand in the place of some and it is found among them
 pub replaced_found : (k : ℕ) {one : Extent} (front less more back : List Extent) → AreDistinct (front ++ (more ++ back)) →
     (extent_at k less ≡ Some one → extent_at k more ≡ Some one) → extent_at k (front ++ (less ++ back)) ≡ Some one →
     extent_at k (front ++ (more ++ back)) ≡ Some one

@@ -51,7 +51,7 @@ module _ (regions : List Grant) {words : ℕ → ℕ} {segments : List Segment}
   run_tail = ap ends_segment (sym (last_append (last_kind Used run.first) less run.last)) ∙ (ap ends_segment
       (sym (last_append Used run.first (less ++ run.last))) ∙ (ap (λ es. ends_segment (last_kind Used es)) (sym run.extents) ∙ run_part.tail))
 
-  -- a run that ends no segment has an extent behind it
+  -- a run that ends no segment has an extent after it
   pub has_next : ends_segment (last_kind (last_kind Used run.first) less) ≡ false → HasNext run.last
   has_next goes_on = go run.last run_tail
     where
@@ -119,7 +119,7 @@ module _ {A : Type 0} {regions : A → List Grant} {word : A → ℕ → ℕ} {h
         ∙ (ap (λ k. ends_segment (last_kind k run.last)) kind ∙ (run_tail (regions heap.system) sound.segments run)));
   }
 
-  -- what is found in the segment still is, where it is found among the new ones too
+  -- what is found in the segment still is, if it is found among the new ones too
   pub stays : (k : ℕ) {one : Extent} → (extent_at k less ≡ Some one → extent_at k more ≡ Some one) → extent_at k run.segment.extents ≡ Some one → extent_at k run_extents ≡ Some one
   stays k still there = replaced_found k run.first less more run.last
       (tiles_distinct (word new.system) Used run.segment.base run_extents (run.segment.base + run.segment.size) is_now.extents) still

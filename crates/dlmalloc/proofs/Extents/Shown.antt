@@ -1,9 +1,9 @@
--- Extents as they are shown: the victim is told from the other free ones.
+-- Extents as they are shown: the victim is distinguished from the other free ones.
 use Rattle.dlmalloc.proofs.Names.{◌≡◌, ◌≢◌, ℕ, inl, inr, Bool, true, false, ◌&&◌, ◌==◌, if◌then◌else◌, List, [], ◌∷◌, map, Some, refl, sym, ◌∙◌, ap, subst, option_map, Extent, Kind, Used, Free, Victim, Record, is_free, is_named_victim, is_foot, ends_segment, IsSize, extent_at, MayStand, HeapState, shown}
 use Rattle.dlmalloc_chunks.specs.Kinds.{is_top}
 use Rattle.dlmalloc.proofs.Extents.Lookup.{nat_is}
 
--- what an extent is shown as is as long, where it is, and of its kind but for the victim
+-- what an extent is shown as has its size and place, and its kind but for the victim
 pub record IsShownAs (victim : ℕ) (extent other : Extent) : Type 0 where
   pub place : other.at ≡ extent.at
   pub size : other.size ≡ extent.size
@@ -43,7 +43,7 @@ shown_found heap at (extent ∷ extents) = ap (λ begin. if begin == at then Som
     go true later = refl
     go false later = later
 
--- ---- one extent behind another
+-- ---- one extent after another
 
 pub record IsPair (first second : Kind) : Type 0 where
   pub inner : ends_segment first ≡ false
@@ -58,6 +58,6 @@ pair first Record (inl is) = subst (λ k. IsPair k Record) (sym is) (record { in
 pair first Record (inr is) = subst (λ k. IsPair k Record) (sym is) (record { inner = refl; apart = refl; foot = refl })
 pair first second is = subst (λ k. IsPair k second) (sym is) (record { inner = refl; apart = refl; foot = refl })
 
--- heads do not tell the victim
+-- heads do not distinguish the victim
 pub no_victim_kind : (before kind : Kind) → MayStand before kind → kind ≢ Victim
 no_victim_kind before kind h = λ is. subst (MayStand before) is h

@@ -8,24 +8,24 @@ sized Record size h = elim h [ inl short ↦ (omega arith, omega arith) | inr lo
 sized Foot size h = (omega arith, omega arith)
 sized kind size h = (h.0, (let l = h.1 in omega arith))
 
--- an extent of which its head alone tells
+-- an extent that only its head describes
 pub plain_chunk : {words : ℕ → ℕ} {before : Kind} {one : Extent} → one.at % 16 ≡ 0 → IsSize one.kind one.size → MayStand before one.kind →
     words (one.at + 8) ≡ head_of (told_size one.kind one.size) (is_used before) (is_used one.kind) → (IsTrue (is_free_below_top one.kind) → ⊥) →
     (one.kind ≡ Record → ⊥) → HasChunk words before one
 plain_chunk whole size kind head foot fence =
     record { whole = whole; size = size; kind = kind; head = head; foot = λ free. absurd (foot free); fence = λ is. absurd (fence is) }
 
--- a free one, of which its foot tells as well
+-- a free one, which its foot describes as well
 pub free_chunk : {words : ℕ → ℕ} {before : Kind} {at size : ℕ} → at % 16 ≡ 0 → IsSize Free size → MayStand before Free → words
     (at + 8) ≡ head_of size (is_used before) false → words (at + size) ≡ size → HasChunk words before (record { at = at; size = size; kind = Free })
 free_chunk whole size kind head foot = record { whole = whole; size = size; kind = kind; head = head; foot = λ free. foot; fence = λ is. absurd (cc) }
 
--- extents end behind their beginning
+-- extents end after their beginning
 pub tiles_le : (words : ℕ → ℕ) (before : Kind) (at : ℕ) (extents : List Extent) (end : ℕ) → Tiles words before at extents end → at ≤ end
 tiles_le words before at [] end h = omega arith
 tiles_le words before at (extent ∷ extents) end h = let rest = tiles_le words extent.kind (at + extent.size) extents end h.2 in omega arith
 
--- ---- one list behind another
+-- ---- one list after another
 
 pub tiles_append : (words : ℕ → ℕ) (before : Kind) (at : ℕ) (front back : List Extent) (middle end : ℕ) → Tiles words before at front middle →
     Tiles words (last_kind before front) middle back end → Tiles words before at (front ++ back) end
@@ -61,7 +61,7 @@ stands_kept words' {extent} h same =
       fence = λ is k low high m. same k (omega arith) (omega arith) m (λ e. absurd (omega arith)) ∙ h.fence is k low high m;
     }
 
--- Words up to the end; the word at the end itself only where a free extent is the last.
+-- Words up to the end; the word at the end itself only if a free extent is the last.
 pub tiles_kept : (words words' : ℕ → ℕ) (before : Kind) (at : ℕ) (extents : List Extent) (end : ℕ) → Tiles words before at extents end →
     ((k : ℕ) → at < k → k ≤ end → k % 8 ≡ 0 → (k ≡ end → IsTrue (is_free_below_top (last_kind before extents))) → words' k ≡ words k) → Tiles words' before at extents end
 tiles_kept words words' before at [] end h same = h

@@ -18,7 +18,7 @@ no_top (extent ∷ extents) are k {one} there is = go (extent.at == k) there (λ
         elim are.0 [ inl used ↦ (let no : Used ≡ Top = sym used ∙ kind in cc) | inr free ↦ (let no : Free ≡ Top = sym free ∙ kind in cc) ]
     go false found later = later found
 
--- the segments that records tell have records
+-- the segments that records describe have records
 record_there : (words : ℕ → ℕ) (payload : ℕ) (front : List Segment) (segment : Segment) (back : List Segment) →
     AreRecords words payload (front ++ segment ∷ back) → (at : ℕ) × (extent_at at segment.extents ≡ Some (record_of at (segment.base + segment.size)))
 record_there words payload [] segment back h = (payload - 16, h.4)
@@ -36,7 +36,7 @@ module _ {regions : List Grant} {words : ℕ → ℕ} {segment : Segment} (part 
     top_is : segment.extents ≡ chunks ++ extent at size Top ∷ extent (at + size) 80 Foot ∷ []
     top_is = (top_tail part there).is ∙ ap (λ es. es ++ extent at size Top ∷ extent (at + size) 80 Foot ∷ []) (run_read (top_tail part there).run)
 
-    -- its foot is behind it
+    -- its foot is after it
     pub foot_there : extent_at (at + size) segment.extents ≡ Some (extent (at + size) 80 Foot)
     foot_there =
         let foot = extent (at + size) 80 Foot in
@@ -64,7 +64,7 @@ module _ {regions : List Grant} {words : ℕ → ℕ} {segment : Segment} (part 
       let no : Foot ≡ Record = sym foot ∙ kind in
       cc
 
--- the top is found among all, where there is a segment
+-- the top is found among all, if there is a segment
 pub top_among : {A : Type 0} {regions : A → List Grant} {word : A → ℕ → ℕ} {heap : Dlmalloc A} → IsSound regions word heap → 0 < heap.size →
     extent_at heap.top (extents_all (segments_of word heap)) ≡ Some (extent heap.top heap.top_size Top)
 top_among {word} {heap} sound some = go (segments_of word heap) sound.told

@@ -31,7 +31,7 @@ pub record Passed (words : ℕ → ℕ) (from to at : ℕ) (known : List Extent 
   pub are : AreChunks back
   pub so_far : known front
 
--- the chunk at an address, and those behind it
+-- the chunk at an address, and those after it
 pub record Next (words : ℕ → ℕ) (before : Kind) (at : ℕ) (back : List Extent) (to : ℕ) : Type 0 where
   pub chunk : Extent
   pub rest : List Extent
@@ -65,7 +65,7 @@ module _ {words : ℕ → ℕ} {from to at : ℕ} {known : List Extent → Type 
   pub ahead : Next words (last_kind Used p.front) at p.back to
   ahead = next words (last_kind Used p.front) at p.back to more p.behind p.are
 
-  -- it is what its head tells
+  -- it is what its head says
   pub is_told : chunk_told words at ≡ ahead.chunk
   is_told = subst (λ a. chunk_told words a ≡ ahead.chunk) ahead.place (told ahead.kind ahead.stands)
 

@@ -52,7 +52,7 @@ module _ {A : Type 0} {regions : A → List Grant} {word : A → ℕ → ℕ} {h
   pub foot_stand : Tiles words top.kind (at + size + top.size) (foot.next ∷ foot.rest) (one.segment.base + one.segment.size)
   foot_stand = behind (regions heap.system) sound.segments two foot
 
-  -- the top is what is free behind it, and its foot is behind that
+  -- the top is what is free after it, and its foot is after that
   abbrev right : Right words (segments_of word heap) at size (at + size + top.size) Top
   right = record {
     rights = top ∷ [];

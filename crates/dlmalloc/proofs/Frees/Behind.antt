@@ -1,4 +1,4 @@
--- What stands behind a chunk in use.
+-- What stands after a chunk in use.
 use Rattle.dlmalloc.proofs.Names.{◌≡◌, ◌≢◌, ℕ, ◌+◌, inl, false, ◌==◌, List, [], ◌∷◌, ◌++◌, Some, refl, sym, ◌∙◌, ap, subst, arith, Grant, Extent, Used, Top, extent_at, extents_in, IsBoundary, IsRunOf, segments_of, state_of, IsSound, Dlmalloc}
 use Rattle.dlmalloc.proofs.Extents.Lookup.{extent, nat_isnt, found_here}
 use Rattle.dlmalloc.proofs.Extents.OneMoreUsed.{AreDistinct, tiles_distinct}

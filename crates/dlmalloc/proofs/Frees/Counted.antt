@@ -1,4 +1,4 @@
--- Whether a freed chunk counts, as the free extent tells it that it became part of.
+-- Whether a freed chunk counts, by the free extent that it became part of.
 use Rattle.dlmalloc.proofs.Names.{◌≡◌, ◌≢◌, ℕ, ◌+◌, ◌-◌, ◌⊎◌, inl, inr, Bool, true, false, not, ◌&&◌, ◌==◌, if◌then◌else◌, List, [], Some, refl, sym, ◌∙◌, ap, subst, arith, find, nat_le, nat_tests, Grant, Event, Extent, Kind, Used, Free, Victim, Top, HasHead, size_of, is_free, MayStand, extent_at, extents_in, is_free_below_top, has, KeepsBlocks, handed_out, taken_back, releases, regions_without, passed, is_counted, left_by_count, IsFreeAround, IsPassed, IsCounted, after_pass, IsSegment, segments_of, state_of, IsSound, Dlmalloc}
 use Rattle.dlmalloc.specs.Released.{is_large_binned}
 use Rattle.dlmalloc.proofs.Bins.Changes.{same_bins}
@@ -60,7 +60,7 @@ module _ {A : Type 0} {regions : A → List Grant} {word : A → ℕ → ℕ} {h
   none_plain is = ap (is_large_binned (state_of word heap))
       (none_has sound there (ap is_free_below_top is) at (omega (arith, place)) (omega (arith, place)))
 
-  -- so its head tells whether it counts
+  -- so its head says whether it counts
   counted_told : {b : Bool} → b ≡ (not (from == heap.top) && (not (from == heap.victim) && nat_le 256 (size_of (word heap.system (from + 8))))) → b ≡ is_counted (state_of word heap) at
   counted_told b_is = b_is ∙ elim (kinds one.kind refl) [
     | inl is ↦ (let same : (from == heap.top) ≡ true = ap (λ n. n == heap.top) (sym place ∙ top_place sound there is) ∙ nat_same heap.top in
@@ -76,7 +76,7 @@ module _ {A : Type 0} {regions : A → List Grant} {word : A → ℕ → ℕ} {h
           is_counted (state_of word heap) at ≡ (not (one.at == heap.victim) && nat_le 256 one.size)
       counts_some found is = ap (is_large_binned (state_of word heap)) found ∙ ap (λ plain. (plain && not (one.at == heap.victim)) && nat_le 256 one.size) (ap is_free_below_top is)
 
-  -- not where it is the top, nor where it is the victim
+  -- not if it is the top, nor if it is the victim
   pub top_told : from ≡ heap.top → false ≡ is_counted (state_of word heap) at
   top_told is = counted_told (sym (ap (λ b. not b && (not (from == heap.victim) && nat_le 256 (size_of (word heap.system (from + 8))))) same))
     where

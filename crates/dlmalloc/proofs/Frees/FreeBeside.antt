@@ -8,7 +8,7 @@ use Rattle.dlmalloc.proofs.Cuts.FreeExtent.{told_whole, behind_free}
 use Rattle.dlmalloc.proofs.Extents.RunReplaced.{HasNext, has_next, with_next, behind}
 use Rattle.dlmalloc.proofs.Frees.StateAfter.{IsBeside, joint_kind}
 
--- where the free chunks beside a chunk begin and end, as words tell it
+-- where the free chunks beside a chunk begin and end, as words say
 abbrev pub IsFrom : (ℕ → ℕ) → ℕ → ℕ → Type 0
 IsFrom words at from = from ≡ (if pinuse_of (words (at + 8)) then at else at - words at)
 
@@ -141,7 +141,7 @@ module _ (words : ℕ → ℕ) (segments : List Segment) where
     some = (let s = r.some in let low = tiles_le words Used from l.lefts at l.lefts_stand in omega arith);
   }
 
--- an extent in use with what is free behind it, which ends at an address, and with the extent there
+-- an extent in use with what is free after it, which ends at an address, and with the extent there
 pub record Right (words : ℕ → ℕ) (segments : List Segment) (at size to : ℕ) (kind : Kind) : Type 0 where
   pub rights : List Extent
   pub next : Extent
@@ -156,7 +156,7 @@ pub record Right (words : ℕ → ℕ) (segments : List Segment) (at size to : �
   pub stands : HasChunk words (last_kind Used rights) next
   pub reach : at + size ≤ to
 
--- where that is a free chunk or nothing
+-- if that is a free chunk or nothing
 pub record RightChunk (words : ℕ → ℕ) (segments : List Segment) (at size to : ℕ) : Type 0 where
   pub right : Right words segments at size to Free
   pub kind : (right.next.kind ≡ Used) ⊎ (right.next.kind ≡ Record)
@@ -235,7 +235,7 @@ module _ (regions : List Grant) {words : ℕ → ℕ} {segments : List Segment} 
             ap pinuse_of head_next ∙ pinuse_of-head_of t false (is_used n.next.kind) (told_whole n.next.kind n.next.size b.1.size);
       })
 
-  -- no top stands behind it
+  -- no top stands after it
   pub right_of : next_one.next.kind ≢ Top → RightChunk words segments at size (end_of words (at + size))
   right_of no_top = go next_one.next.kind refl stand.1.kind
     where

@@ -116,7 +116,7 @@ module _ {A : Type 0} {regions : A → List Grant} {word : A → ℕ → ℕ} {h
       ∙ rw (test, test') (found_later k right.rights (next ∷ []) (none_outside words Used (at + size) right.rights s.middle k
       (elim out [ inl a ↦ inl (omega (arith, reach)) | inr b ↦ inr (omega arith) ]) s.first))
 
-  -- what stands behind it is found there
+  -- what stands after it is found there
   pub next_there : extent_at to run.segment.extents ≡ Some next
   next_there =
       let first : (from == to) ≡ false = nat_isnt (inl (omega (arith, room))) in
@@ -157,7 +157,7 @@ module _ {A : Type 0} {regions : A → List Grant} {word : A → ℕ → ℕ} {h
     | inr later ↦ absurd (no_free_next (the_one k next later.1))
   ]
 
-  -- something stands behind it
+  -- something stands after it
   right_there : IsThere (at + size) less
   right_there =
       let f = first_there words Used (at + size) right.rights next end right.run.here.2 in

@@ -14,7 +14,7 @@ use Rattle.dlmalloc.proofs.Frees.Behind.{run_one}
 use Rattle.dlmalloc.proofs.Frees.OfChunk.{right}
 use Rattle.dlmalloc.proofs.Frees.WhatCallsWant.{left_one, from_at}
 
--- the words that tell a chunk in use and what is beside it stay, where those in free chunks alone change
+-- the words that describe a chunk in use and what is beside it stay, if only those in free chunks change
 pub told_stays : {A : Type 0} {regions : A → List Grant} (word : A → ℕ → ℕ) (heap : Dlmalloc A) → IsSound regions word heap → (at size : ℕ) →
     extent_at at (extents_in (state_of word heap)) ≡ Some (extent at size Used) → (granted : List Grant) (new : ℕ → ℕ) → OnlyFreeChange granted
     (state_of word heap) (word heap.system) new → (k : ℕ) → at ≤ k → k ≤ at + size + 8 → IsWordOf granted k → new k ≡ word heap.system k
@@ -25,7 +25,7 @@ told_stays word heap sound at size there granted new only k low high inside = on
     out f n free (inr (inl before)) = inl (omega arith)
     out f n free (inr (inr behind)) = inr (omega arith)
 
--- the one extent that is joined, where there is one
+-- the one extent that is joined, if there is one
 whole_beside : (words : ℕ → ℕ) (before : Kind) (from : ℕ) (extents : List Extent) (to : ℕ) → IsBeside extents → AllAre Free extents →
     Tiles words before from extents to → from < to → extent_at from extents ≡ Some (extent from (to - from) Free)
 whole_beside words before from [] to beside free h some = absurd (omega arith)
@@ -64,7 +64,7 @@ module _ {A : Type 0} {regions : A → List Grant} {word : A → ℕ → ℕ} {h
     by_top : {b : Bool} → (at + size == heap.top) ≡ b → to ≡ (if b then at + size else end_of words (at + size))
     by_top {b} is = to_is ∙ ap (λ b. if b then at + size else end_of words (at + size)) is
 
-    -- at the top nothing is free behind it
+    -- at the top nothing is free after it
     top_behind : at + size ≡ heap.top → 0 < heap.size → (n : ℕ) → IsFreeAt (state_of word heap) (at + size) n → ⊥
     top_behind is some n free =
         let top = top_among sound some in
@@ -76,7 +76,7 @@ module _ {A : Type 0} {regions : A → List Grant} {word : A → ℕ → ℕ} {h
       abbrev r : Right words (segments_of word heap) at size to Free
       r = right sound there from_is to_is goes_on
 
-      -- what is found behind the chunk in its run is found in the heap
+      -- what is found after the chunk in its run is found in the heap
       behind : (k : ℕ) {one : Extent} → at + size ≤ k → extent_at k (r.rights ++ r.next ∷ []) ≡ Some one → extent_at k (extents_in (state_of word heap)) ≡ Some one
       behind k {one} low found =
           let test : (at == k) ≡ false = nat_isnt (inl (let long = r.run.here.1.size.1 in omega arith)) in

@@ -1,4 +1,4 @@
--- A chunk of a heap is freed, behind which no top stands.
+-- A chunk of a heap is freed, after which no top stands.
 use Rattle.dlmalloc.proofs.Names.{◌≡◌, ◌≢◌, ℕ, ◌+◌, ◌-◌, ◌%◌, ◌^◌, ◌<◌, ◌≤◌, ◌⊎◌, inr, true, false, ◌==◌, if◌then◌else◌, List, [], ◌∷◌, Some, refl, sym, ◌∙◌, ap, subst, arith, unwrap_or, option_map, nat_tests, Grant, AreStored, HasHead, HasFoot, Extent, Used, Free, Top, Record, is_free, pinuse_of, head_of, without_pinuse, extents_in, Tiles, last_kind, IsMove, IsRunOf, segments_of, state_of, IsSound, Dlmalloc}
 use Rattle.dlmalloc_chunks.specs.Tiling.{extent_at}
 use Rattle.dlmalloc.proofs.Extents.Lookup.{extent, end_of, the_extent}

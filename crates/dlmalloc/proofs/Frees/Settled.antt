@@ -1,4 +1,4 @@
--- What a free does further, told by the free extent that its chunk became part of.
+-- What a free does further, by the free extent that its chunk became part of.
 use Rattle.dlmalloc.proofs.Names.{◌≡◌, ◌≢◌, ℕ, ◌+◌, ◌<◌, ◌≤◌, inl, inr, Bool, true, false, ◌&&◌, ◌==◌, if◌then◌else◌, List, [], Some, refl, sym, ◌∙◌, ap, subst, arith, dec_lt, nat_le, nat_lt, unwrap_or, option_map, nat_tests, Grant, Event, Extent, Kind, Top, extent_at, IsFreeAround, counted, left_by_count, releases, regions_without, IsCounted, after_trim, trimmed, regions_trimmed, IsTrimmed, is_above_check, IsSettled, segments_of, state_of, IsSound, Dlmalloc}
 use Rattle.dlmalloc.specs.State.{is_top as is_the_top}
 use Rattle.dlmalloc.specs.Order.{after_count}
@@ -43,7 +43,7 @@ module _ {A : Type 0} {regions : A → List Grant} {word : A → ℕ → ℕ} {h
   apart : AreDistinct all
   apart = all_distinct (regions heap.system) (word heap.system) (segments_of word heap) sound.segments sound.apart
 
-  -- the one that has the chunk's first byte is the top, where it begins there
+  -- the one that has the chunk's first byte is the top, if it begins there
   size : from ≡ heap.top → one.size ≡ heap.top_size
   size is = ap (λ e. e.size) (the_extent (sym there ∙ (ap (λ a. extent_at a all) (around.place ∙ is)
       ∙ (top_among sound (some_segment word heap one.at there)))))
@@ -110,7 +110,7 @@ module _ {A : Type 0} (regions : A → List Grant) (word : A → ℕ → ℕ) (f
         (state_of word old) else releases (left_by_count frees parts (state_of word old) at)) above)) t.followed;
   }
 
--- where the chunk became part of the top
+-- if the chunk became part of the top
 pub settled_top : {A : Type 0} {regions : A → List Grant} {word : A → ℕ → ℕ} (follows : A → List Event → A → Type 0)
     (follows_none : (x : A) → follows x [] x) (frees parts : Bool) (unit : ℕ) {old : Dlmalloc A} (sound : IsSound regions word old) (at : ℕ) {from : ℕ}
     (around : IsFreeAround (state_of word old) at from) (is : from ≡ old.top) (new : Dlmalloc A) →

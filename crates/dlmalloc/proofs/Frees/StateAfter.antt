@@ -45,7 +45,7 @@ IsBeside [] = ⊤
 IsBeside (extent ∷ []) = is_free extent.kind ≡ true
 IsBeside (extent ∷ next ∷ extents) = ⊥
 
--- what the free extent becomes, with such behind it
+-- what the free extent becomes, with such ones after it
 abbrev pub joint_kind : List Extent → Kind
 joint_kind [] = Free
 joint_kind (extent ∷ extents) = extent.kind

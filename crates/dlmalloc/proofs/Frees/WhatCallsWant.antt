@@ -33,7 +33,7 @@ module _ {A : Type 0} {regions : A → List Grant} {word : A → ℕ → ℕ} {h
   pub behind_small : at + size < 2 ^ 64
   behind_small = omega (arith, behind_there.small)
 
-  -- a free chunk behind it ends below 2 ^ 64
+  -- a free chunk after it ends below 2 ^ 64
   pub end_below : at + size ≢ heap.top → free_of (words (at + size + 8)) ≡ true → at + size + size_of (words (at + size + 8)) < 2 ^ 64
   end_below more free =
       let apart : (at + size == heap.top) ≡ false = (let on = more in grind (arith, nat_tests)) in

@@ -8,13 +8,13 @@ use Rattle.dlmalloc.proofs.Returns.Segments.{still_granted}
 use Rattle.dlmalloc.proofs.Segments.Head.{first_base, first_size, first_changed, first_counted, beside_top, same_head}
 use Rattle.dlmalloc.proofs.Frees.Settled.{top_around}
 
--- ---- what is granted behind a free was granted before it
+-- ---- what is granted after a free was granted before it
 
 end_granted : (less : ℕ) (segments : List Segment) (regions : List Grant) (k : ℕ) → IsTrue (is_granted (without_end less segments regions) k) → IsTrue (is_granted regions k)
 end_granted less [] regions k granted = granted
 end_granted less (head ∷ rest) regions k granted = granted_before (head.base + (head.size - less)) (head.base + head.size) regions k granted
 
--- what is granted of the regions that a test takes was granted, where it was of both
+-- what is granted of the regions that a test takes was granted, if it was of both
 granted_either : (b : Bool) (one other regions : List Grant) (k : ℕ) → (IsTrue (is_granted one k) → IsTrue (is_granted regions k)) →
     (IsTrue (is_granted other k) → IsTrue (is_granted regions k)) → IsTrue (is_granted (if b then one else other) k) → IsTrue (is_granted regions k)
 granted_either true one other regions k first second granted = first granted

@@ -1,4 +1,4 @@
--- A grant is put before the head segment, or before one that a record tells.
+-- A grant is put before the head segment, or before one that a record describes.
 use Rattle.dlmalloc.proofs.Names.{◌≡◌, ◌≢◌, ℕ, ◌+◌, ◌-◌, ◌%◌, ◌^◌, ◌<◌, ◌≤◌, inl, inr, false, ◌==◌, List, [], ◌∷◌, ◌++◌, Some, refl, sym, ◌∙◌, ap, subst, arith, ⊤, Grant, Event, IsWordOf, Extent, HasHead, extent_at, Segment, put_before, IsFreshGrant, IsPrepended, IsInRecord, IsHeadBehind, IsToldBehind, IsSegment, AreSegments, record_of, AreRecords, state_of, AreTold, IsSound, Dlmalloc}
 use Rattle.dlmalloc.proofs.Extents.Lookup.{nat_isnt}
 use Rattle.dlmalloc.proofs.Segments.Among.{all_at}
@@ -17,7 +17,7 @@ part_head fresh k low high m = record {
   granted = record { granted = fresh.run.covered (k + 8) (omega arith) (omega arith); aligned = omega arith };
 }
 
--- what is found behind the two parts of a grant
+-- what is found after the two parts of a grant
 behind_two : (grant : Grant) (n : ℕ) (segment : Segment) (k : ℕ) {one : Extent} → segment.base ≡ grant.base + grant.size → n < grant.size →
     segment.base ≤ k → extent_at k segment.extents ≡ Some one → extent_at k (put_before grant n segment).extents ≡ Some one
 behind_two grant n segment k place room low there =
@@ -27,7 +27,7 @@ behind_two grant n segment k place room low there =
 
 module _ {A : Type 0} {regions : A → List Grant} {word : A → ℕ → ℕ} {follows : A → List Event → A → Type 0} {heap : Dlmalloc A}
     (sound : IsSound regions word heap) {grant : Grant} {n : ℕ} {system : A} (halves : IsInTwo regions word follows heap grant n system) where
-  -- ---- before one that a record tells
+  -- ---- before one that a record describes
 
   module _ {payload : ℕ} (b : IsToldBehind word heap grant payload) (base : word system payload ≡ grant.base)
       (size : word system (payload + 8) ≡ grant.size + word heap.system (payload + 8))
@@ -91,7 +91,7 @@ module _ {A : Type 0} {regions : A → List Grant} {word : A → ℕ → ℕ} {f
         same_end : end ≡ grant.base + (grant.size + b.segment.size)
         same_end = omega (arith, segment_place)
 
-    -- the words behind those that were stored stay
+    -- the words after those that were stored stay
     still_told : (k : ℕ) → payload + 16 ≤ k → k < payload + 32 → k % 8 ≡ 0 → word system k ≡ word heap.system k
     still_told k low high m = kept_in k (omega (arith, payload_place.low)) (omega (arith, payload_place.high)) m (λ is. omega arith) (λ is. omega arith)
 
@@ -171,7 +171,7 @@ module _ {A : Type 0} {regions : A → List Grant} {word : A → ℕ → ℕ} {f
     pub before_head : IsPrepended regions word follows heap grant n head_now
     before_head = is_prepended sound halves joint grant.base (heap.size + grant.size) (omega (arith, told_are.0)) told_now (λ k tag. tt)
 
--- where the record is that tells the segment behind
+-- where the record is that describes the segment after it
 pub record ToldPlace (regions : List Grant) (words : ℕ → ℕ) (grant : Grant) (payload : ℕ) : Type 0 where
   pub base_word : IsWordOf regions payload
   pub size_word : IsWordOf regions (payload + 8)

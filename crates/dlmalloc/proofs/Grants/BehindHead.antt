@@ -31,7 +31,7 @@ abbrev pub extended_heap : {A : Type 0} → Dlmalloc A → Grant → A → Dlmal
 extended_heap heap grant system =
     record heap { system = system; size = heap.size + grant.size; top_size = heap.base + (heap.size + grant.size) - 80 - heap.top; trim_check = trim_threshold }
 
--- What is stored where the head segment gets the bytes of a grant: the heads of the longer top and of its foot.
+-- What is stored if the head segment gets the bytes of a grant: the heads of the longer top and of its foot.
 pub record IsExtended {A : Type 0} (regions : A → List Grant) (word : A → ℕ → ℕ) (heap : Dlmalloc A) (grant : Grant) (system : A) : Type 0 where
   pub fresh : IsFreshGrant (regions heap.system) (segments_of word heap) grant
   pub some : 0 < heap.size

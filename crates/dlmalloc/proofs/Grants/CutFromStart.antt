@@ -12,7 +12,7 @@ use Rattle.dlmalloc.proofs.Grants.NewRegion.{granted_same}
 use Rattle.dlmalloc.proofs.Segments.RegionsMore.{word_kept, word_fresh, with_other, none_granted}
 use Rattle.dlmalloc.proofs.Extents.RunReplaced.{behind}
 
--- where the grant is put before a segment, the state is that
+-- if the grant is put before a segment, the state is that
 pub granted_before : (grant : Grant) (n : ℕ) (heap : HeapState) → is_put_before grant heap.segments ≡ true → granted grant n heap ≡ freed (prepended grant n heap) (grant.base + n)
 granted_before grant n heap test = go heap.segments test
   where

@@ -1,4 +1,5 @@
--- A grant becomes the head segment: what was the top is freed, and a record behind it tells the segment that it is in.
+-- A grant becomes the head segment: what was the top is freed, and a record after it describes the segment that it is
+-- in.
 use Rattle.dlmalloc.proofs.Names.{◌≡◌, ◌≢◌, ℕ, ◌+◌, ◌-◌, ◌%◌, ◌<◌, ◌≤◌, ◌⊎◌, inl, inr, Bool, true, false, not, ◌&&◌, ◌==◌, nat_lt, if◌then◌else◌, List, [], ◌∷◌, ◌++◌, Some, refl, sym, ◌∙◌, ap, subst, arith, append_assoc, dec_lt, AllByRecursion, nat_tests, flat_map, list_any, flat_map-append, Grant, IsWordOf, Extent, Used, Free, Top, Record, head_of, extent_at, is_used, Tiles, last_kind, Segment, trim_threshold, opened, is_behind, is_before, is_put_before, granted, IsFreshGrant, HasSameUsed, IsRecordAt, OnlyTagsChange, IsFlaggedRun, IsSegment, IsApartFrom, record_of, AreRecords, IsFreeAt, FreeMoves, segments_of, state_of, AreTold, IsSound, IsRunOf, Dlmalloc, SegmentRecord}
 use Rattle.dlmalloc.specs.Granted.{closed, without_top}
 use Rattle.dlmalloc.proofs.Extents.Lookup.{extent, found_here, found_later, nat_same}
@@ -26,7 +27,7 @@ new_head heap grant system at = record heap {
   trim_check = trim_threshold;
 }
 
--- what a record tells of the head segment
+-- what a record says of the head segment
 abbrev pub record_of_head : {A : Type 0} → Dlmalloc A → SegmentRecord
 record_of_head heap = record { base = heap.base; size = heap.size; next = heap.next; flags = heap.flags }
 
@@ -46,8 +47,8 @@ module _ {A : Type 0} {regions : A → List Grant} {word : A → ℕ → ℕ} {h
       let apart = (subst (AllByRecursion (λ segment. IsApartFrom segment (opened grant))) (head_first sound some) fresh.apart).0 in
       elim apart [ inl before ↦ inl (omega arith) | inr behind ↦ inr (omega arith) ]
 
--- What is stored where a grant becomes the head segment: the heads of its top and of its foot, the record that tells the
--- segment that was the head, and the word behind the chunk that its top was, if that has more than 16 bytes.
+-- What is stored if a grant becomes the head segment: the heads of its top and of its foot, the record that describes
+-- the segment that was the head, and the word after the chunk that its top was, if that has more than 16 bytes.
 pub record IsNewHead {A : Type 0} (regions : A → List Grant) (word : A → ℕ → ℕ) (heap : Dlmalloc A) (grant : Grant) (system : A) (at : ℕ) : Type 0 where
   pub fresh : IsFreshGrant (regions heap.system) (segments_of word heap) grant
   pub some : 0 < heap.size
@@ -90,7 +91,7 @@ module _ {A : Type 0} {regions : A → List Grant} {word : A → ℕ → ℕ} {h
   bounds : (heap.top ≤ at) × (at + 80 ≤ heap.base + heap.size) × (at % 16 ≡ 0)
   bounds = bounds_of sound some at_is
 
-  -- the record takes the place of the whole top, or stands behind it
+  -- the record takes the place of the whole top, or stands after it
   abbrev small : Bool
   small = at == heap.top
 

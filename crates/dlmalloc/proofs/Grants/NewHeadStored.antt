@@ -5,7 +5,7 @@ use Rattle.dlmalloc.proofs.Segments.HeadTop.{top_sizes}
 use Rattle.dlmalloc.proofs.Grants.TopLeft.{left_free}
 use Rattle.dlmalloc.proofs.Grants.NewHead.{new_head, record_of_head, IsNewHead, where_is, added_used, added_free, added_rest, added_sound, added_words, added_new, added_state}
 
--- what a heap over another system tells is the same
+-- what a heap over another system says is the same
 pub ends_same : {A : Type 0} (heap : Dlmalloc A) {middle : Dlmalloc A} → middle ≡ record heap { system = middle.system } → middle.base + middle.size ≡ heap.base + heap.size
 ends_same heap is = ap (λ h. h.base + h.size) is
 

@@ -88,7 +88,7 @@ module _ {A : Type 0} {regions : A → List Grant} {word : A → ℕ → ℕ} {h
       pub opened_free : FreeMoves (state_of word heap) (state_of word new) [] []
       opened_free = none_exchanged sound only ((λ is. cc), ((λ is. cc), tt)) tt tt
 
-  -- ---- the segments behind the head
+  -- ---- the segments after the head
 
   module _ (some : 0 < heap.size) where
     abbrev run : IsRunOf (word heap.system) (segments_of word heap) heap.top (heap.top + heap.top_size) (extent heap.top heap.top_size Top ∷ [])

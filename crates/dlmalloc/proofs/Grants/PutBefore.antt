@@ -31,7 +31,7 @@ pub record IsInTwo {A : Type 0} (regions : A → List Grant) (word : A → ℕ �
   pub second : word system (grant.base + n + 8) ≡ head_of (grant.size - n) true true
   pub followed : follows heap.system [] system
 
--- It joins the segment behind it: of the words, those of its two heads change, and those that tell the segment.
+-- It joins the segment after it: of the words, those of its two heads change, and those that describe the segment.
 pub record IsJoining {A : Type 0} (regions : A → List Grant) (word : A → ℕ → ℕ) (heap : Dlmalloc A) (grant : Grant) (n : ℕ) (system : A)
     (IsUntold : ℕ → Type 0) : Type 0 where
   pub front : List Segment

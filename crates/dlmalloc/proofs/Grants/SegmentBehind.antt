@@ -1,4 +1,4 @@
--- The segment that a grant is put before is found, and the two ways in which it is told.
+-- The segment that a grant is put before is found, and the two ways in which it is named.
 use Rattle.dlmalloc.proofs.Names.{◌≡◌, ◌≢◌, ℕ, ◌+◌, ◌%◌, ◌^◌, ◌<◌, ◌≤◌, Bool, true, false, ◌&&◌, ◌==◌, List, [], ◌∷◌, ◌++◌, refl, sym, ◌∙◌, ap, subst, arith, append_assoc, ⊤, AllByRecursion, list_any, list_any-append, Grant, IsWordOf, Segment, is_behind, is_before, is_put_before, AreSegments, AreRecords, payload_behind, IsToldBehind, segments_of, IsSound, Dlmalloc}
 use Rattle.dlmalloc.proofs.Segments.HeadTold.{bare_head}
 use Rattle.dlmalloc.proofs.Segments.WordsKept.{KeepsIts}
@@ -20,7 +20,7 @@ abbrev pub as_passed : {A : Type 0} {word : A → ℕ → ℕ} {heap : Dlmalloc 
     PassedSegments word heap payload (λ ss. ⊤)
 as_passed p = record { passed = p.head ∷ p.passed; rest = p.rest; is = p.is; some = omega arith; told = p.told; so_far = tt }
 
--- the payload behind one more
+-- the payload after one more
 pub behind_more : (words : ℕ → ℕ) (payload : ℕ) (front : List Segment) (segment : Segment) →
     payload_behind words payload (front ++ segment ∷ []) ≡ words (payload_behind words payload front + 16)
 behind_more words payload [] segment = refl
@@ -34,7 +34,7 @@ module _ {A : Type 0} {regions : A → List Grant} {word : A → ℕ → ℕ} {h
   pub put_none : is_behind grant (bare_head heap) ≡ true → is_put_before grant (segments_of word heap) ≡ false
   put_none test = ap (is_put_before grant) (head_first sound some) ∙ (let longer = grant_behind_head sound some grant ∙ test in rw longer refl)
 
-  -- where the grant is not before the head segment, that is passed
+  -- if the grant is not before the head segment, that is passed
   pub begun_behind : is_before grant (bare_head heap) ≡ false → PassedBehind word heap grant heap.next
   begun_behind test = record {
     head = (top_run sound some).segment;
@@ -97,13 +97,13 @@ module _ {A : Type 0} {regions : A → List Grant} {word : A → ℕ → ℕ} {h
       none = any_more grant (p.head ∷ p.passed) segment p.none (test_is test);
     }
 
-  -- where no record is left, the grant is before no segment
+  -- if no record is left, the grant is before no segment
   pub none_behind : {payload : ℕ} → PassedBehind word heap grant payload → payload ≡ 0 → list_any (is_before grant) (segments_of word heap) ≡ false
   none_behind {payload} p empty = ap (list_any (is_before grant)) (p.is
       ∙ (ap (λ ss. p.head ∷ (p.passed ++ ss)) (none_told (word heap.system) p.rest p.told empty)))
       ∙ (list_any-append (is_before grant) (p.head ∷ p.passed) [] ∙ (let none = p.none in rw none refl))
 
--- ---- records that tell segments as before, and others behind them
+-- ---- records that describe segments as before, and others after them
 
 module _ (regions : List Grant) (old new : ℕ → ℕ) (rest now : List Segment) where
   pub told_around : (front : List Segment) {payload : ℕ} (start : ℕ) → payload ≡ payload_behind old start front → AreSegments regions old front →

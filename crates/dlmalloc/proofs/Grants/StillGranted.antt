@@ -40,7 +40,7 @@ module _ {A : Type 0} {regions : A → List Grant} {word : A → ℕ → ℕ} {z
   module _ {bytes at : ℕ} {grant : Grant} {heap : HeapState} (taken : IsTakenFromGrant (state_of word old) bytes at grant heap)
       (fresh : AllByRecursion (IsApart grant.base (grant.base + grant.size)) (regions old.system)) (stays : spans (state_of word out.filled) ≡ spans heap)
       (low : at ≤ chunk.at) (high : chunk.at < at + bytes) where
-    -- behind the head segment
+    -- after the head segment
     module _ (behind : IsBehindTop (state_of word old) grant at) where
       end : grant.base ≡ old.base + old.size
       end = first_end sound grant behind.0

@@ -1,11 +1,11 @@
--- What a top leaves behind where another head segment comes: a record, and a free chunk if it has more than 16 bytes.
+-- What a top leaves when another segment becomes the head: a record, and a free chunk if it has more than 16 bytes.
 use Rattle.dlmalloc.proofs.Names.{◌≡◌, ℕ, ◌+◌, ◌-◌, ◌%◌, ◌<◌, ◌≤◌, ◌⊎◌, inl, inr, Bool, true, false, ◌==◌, nat_lt, if◌then◌else◌, List, [], ◌∷◌, ◌++◌, Some, refl, sym, ◌∙◌, ap, subst, arith, dec_lt, flat_map, nat_tests, Extent, Kind, Used, Free, Top, Record, head_of, ends_segment, extent_at, is_used, HasChunk, Tiles, last_kind, IsRecordAt, record_of, IsIn, AreChunks, SegmentRecord}
 use Rattle.dlmalloc.proofs.Extents.Tiling.{free_chunk}
 use Rattle.dlmalloc.specs.Granted.{closed}
 use Rattle.dlmalloc.proofs.Moves.OfFreeExtents.{IsThere}
 use Rattle.dlmalloc.proofs.Extents.Lookup.{extent, nat_same, nat_isnt, found_here, the_one, of_two}
 
--- chunks stay where a top is closed
+-- chunks stay if a top is closed
 pub closed_chunks : (chunks : List Extent) → AreChunks chunks → flat_map closed chunks ≡ chunks
 closed_chunks [] are = refl
 closed_chunks (chunk ∷ chunks) are = λ i. same are.0 i ++ closed_chunks chunks are.1 i
@@ -14,11 +14,11 @@ closed_chunks (chunk ∷ chunks) are = λ i. same are.0 i ++ closed_chunks chunk
     same (inl is) = rw is refl
     same (inr is) = rw is refl
 
--- what a top of so many bytes leaves behind, and where the record is in it
+-- what a top of a given size leaves, and where the record is in it
 abbrev pub left : Bool → ℕ → ℕ → List Extent
 left b at size = if b then extent at 96 Record ∷ [] else extent at size Free ∷ extent (at + size) 80 Record ∷ []
 
--- where it is free
+-- if it is free
 abbrev pub left_free : Bool → ℕ → List ℕ
 left_free small top = if small then [] else top ∷ []
 

@@ -26,7 +26,7 @@ module _ {A : Type 0} (regions : A → List Grant) (word : A → ℕ → ℕ) (f
     new_words = j.new_words;
   }
 
--- the bins stay, where no free extent but the top changes
+-- the bins stay, if no free extent but the top changes
 abbrev pub admitted_binned : IndexStays → {A : Type 0} {regions : A → List Grant} {word : A → ℕ → ℕ} {follows : A → List Event → A → Type 0}
     {heap : Dlmalloc A} {grant : Grant} {new : Dlmalloc A} → IsSound regions word heap → IsAdmitted regions word follows heap grant new →
     FreeMoves (state_of word heap) (state_of word new) [] [] → IsSameBins heap new → IsBinned regions word heap → IsBinned regions word new

@@ -6,7 +6,7 @@ use Rattle.dlmalloc.proofs.Extents.OneMoreUsed.{AreDistinct, distinct_second, mo
 use Rattle.dlmalloc.proofs.Segments.Among.{extents_all, all_among, as_many, all_distinct, distinct_later}
 use Rattle.dlmalloc.proofs.Segments.OneReplaced.{IsChanged, all_spared, segments_after, apart_after}
 
--- ---- the segments that are read are those that are told
+-- ---- the segments that are read are those that are described
 
 pub segments_read : {A : Type 0} (regions : List Grant) (word : A → ℕ → ℕ) (heap : Dlmalloc A) (segments : List Segment) → AreSegments regions
     (word heap.system) segments → AreTold (word heap.system) heap segments → length segments ≤ suc (2 ^ 64) → segments_of word heap ≡ segments
@@ -32,7 +32,7 @@ segments_few word heap = go (heap.size == 0)
 
 -- ---- a move, and the heap that it leaves
 
--- In one segment some extents give way to others, and the new heap is told the new segment in its place.
+-- In one segment some extents give way to others, and the new heap is described with the new segment in its place.
 pub record IsStep {A : Type 0} (regions : A → List Grant) (word : A → ℕ → ℕ) (heap new : Dlmalloc A) (less more : List Extent) : Type 0 where
   pub front : List Segment
   pub segment : Segment
@@ -95,13 +95,13 @@ module _ {A : Type 0} {regions : A → List Grant} {word : A → ℕ → ℕ} {h
   found_new k one there =
       ap (extent_at k) all_new ∙ distinct_later before (more ++ behind) k (subst AreDistinct all_new distinct_new) (found_more k more behind there)
 
-  -- what is found still is, where it is found among the new ones too
+  -- what is found still is, if it is found among the new ones too
   pub found_again : (k : ℕ) {one : Extent} → (extent_at k less ≡ Some one → extent_at k more ≡ Some one) →
       extent_at k (extents_in (state_of word heap)) ≡ Some one → extent_at k (extents_in (state_of word new)) ≡ Some one
   found_again k stays there =
       ap (extent_at k) all_new ∙ replaced_found k before less more behind (subst AreDistinct all_new distinct_new) stays (ap (extent_at k) (sym all_old) ∙ there)
 
-  -- what is found was there, where it was found among the old ones too
+  -- what is found was there, if it was found among the old ones too
   pub found_before : (k : ℕ) {one : Extent} → (extent_at k more ≡ Some one → extent_at k less ≡ Some one) →
       extent_at k (extents_in (state_of word new)) ≡ Some one → extent_at k (extents_in (state_of word heap)) ≡ Some one
   found_before k stays there =
@@ -141,7 +141,7 @@ module _ {A : Type 0} {regions : A → List Grant} {word : A → ℕ → ℕ} {h
   has_less {one} h = one_more (state_of word new) (state_of word heap) distinct_new distinct_old (subst (λ es. HasMore es (extents_in (state_of word heap))
       one) (sym all_new) (subst (λ es. HasMore (before ++ (more ++ behind)) es one) (sym all_old) (more_between before behind h)))
 
-  -- where as many are in use, the same are
+  -- if as many are in use, the same are
   same_used : used_of less ≡ used_of more → used_of (extents_in (state_of word heap)) ≡ used_of (extents_in (state_of word new))
   same_used same = ap used_of all_old ∙ (used_append before (less ++ behind) ∙ (ap (λ es. used_of before ++ es) (used_append less behind ∙
       (ap (λ es. es ++ used_of behind) same ∙ sym (used_append more behind))) ∙ sym (used_append before (more ++ behind)))) ∙ ap used_of (sym all_new)
@@ -154,7 +154,7 @@ module _ {A : Type 0} {regions : A → List Grant} {word : A → ℕ → ℕ} {h
       go [] h = h.0
       go (first ∷ front) h = h.0
 
-  -- it is sound where the head segment's size stayed
+  -- it is sound if the head segment's size stayed
   pub stays_sound : regions new.system ≡ regions heap.system → new.granularity ≡ heap.granularity → new.base ≡ heap.base →
       new.size ≡ heap.size → new.flags ≡ heap.flags → (new.victim_size ≡ 0 → new.victim ≡ 0) → (new.victim_size ≢ 0 →
       extent_at new.victim (extents_in (state_of word new)) ≡ Some (extent new.victim new.victim_size Free)) → IsSound regions word new

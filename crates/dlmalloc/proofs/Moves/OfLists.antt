@@ -27,7 +27,7 @@ module _ {regions : List Grant} {old new : ℕ → ℕ} (before : Kind) (base : 
       tiles_kept old new before base front from first (λ k low high m free. move.kept k (granted k low (omega arith) m)
       (spared_before new (last_kind before front) from more to k move.more_stand (omega arith)))
 
-  -- others stand behind it
+  -- others stand after it
   pub moved : last_kind (last_kind before front) more ≡ last_kind (last_kind before front) less →
       ends_segment (last_kind (last_kind (last_kind before front) less) back) ≡ true → Tiles new before base (front ++ (more ++ back)) end
   moved kind tail =

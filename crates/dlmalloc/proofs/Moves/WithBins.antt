@@ -1,4 +1,4 @@
--- A move of the heap together with what its bins do before it and behind it.
+-- A move of the heap together with what its bins do before it and after it.
 use Rattle.dlmalloc.proofs.Names.{◌≡◌, ℕ, ◌+◌, ◌<◌, ◌≤◌, ◌⊎◌, inl, inr, List, [], ◌++◌, refl, sym, ◌∙◌, ap, subst, arith, dec_lt, Grant, IsWordOf, Event, HeapState, IsBoundary, IsInFree, state_of, IsFreeAt, IsRebinned, IsMoved, IsTurned, Dlmalloc}
 
 -- a word that is in no free extent is out of each
@@ -26,7 +26,7 @@ module _ {A : Type 0} (regions : A → List Grant) (word : A → ℕ → ℕ) (f
     followed = follows_on first.system second.system third.system [] [] [] one.followed two.followed refl;
   }
 
-  -- they did before a move and behind it
+  -- they did before a move and after it
   pub turned : {first second third last : Dlmalloc A} → IsRebinned regions word follows first second → IsMoved regions word follows second third →
       IsRebinned regions word follows third last → IsTurned regions word follows first last
   turned {first} {second} {third} {last} one moved two = record {

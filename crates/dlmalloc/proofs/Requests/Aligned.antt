@@ -38,7 +38,7 @@ too_large bound size align more =
 
 -- ---- the chunk of a block, and the aligned place in it
 
--- what is before an aligned place in a chunk, and behind it
+-- what is before an aligned place in a chunk, and after it
 pub record HasAlignedPlace (align at size n place : ℕ) : Type 0 where
   pub lead : (place ≡ at) ⊎ (at + 32 ≤ place)
   pub whole : (place - at) % 16 ≡ 0

@@ -1,4 +1,4 @@
--- What is before an aligned place is freed, and then what is behind it.
+-- What is before an aligned place is freed, and then what is after it.
 use Rattle.dlmalloc.proofs.Names.{ℕ, List, Grant, Event, HeapState, HasOneMore, HasSameOthers, HasOneMoved, KeepsOthers, state_of, IsSound, IsTurned, Dlmalloc}
 use Rattle.dlmalloc.proofs.Blocks.WordsKept.{blocks_law, keeps_on}
 

@@ -1,4 +1,4 @@
--- A chunk in use, and the extent behind it, of which it takes bytes.
+-- A chunk in use, and the extent after it, of which it takes bytes.
 use Rattle.dlmalloc.proofs.Names.{◌≡◌, ◌≢◌, ℕ, ◌+◌, ◌%◌, ◌^◌, ◌<◌, ◌≤◌, List, [], ◌∷◌, ◌++◌, Some, refl, sym, ◌∙◌, ap, subst, arith, Grant, HasHead, Extent, Kind, Used, Free, extent_at, extents_in, OnlyBoundariesChange, cut, joined, grown_into, HasSameOthers, IsRunOf, segments_of, state_of, IsSound, Dlmalloc}
 use Rattle.dlmalloc.proofs.Extents.Lookup.{extent}
 use Rattle.dlmalloc.proofs.Extents.Tiling.{tiles_le}
@@ -12,7 +12,7 @@ abbrev pub changed : {A : Type 0} → Dlmalloc A → A → ℕ → ℕ → ℕ �
 changed heap system top top_size victim victim_size =
     record heap { system = system; top = top; top_size = top_size; victim = victim; victim_size = victim_size }
 
--- A chunk in use took bytes of the extent behind it, so that it has so many.
+-- A chunk in use took bytes of the extent after it, so that it has a given number.
 pub record IsEnlarged {A : Type 0} (regions : A → List Grant) (word : A → ℕ → ℕ) (old : Dlmalloc A) (chunk behind : Extent) (n whole : ℕ) (new : Dlmalloc A) : Type 0 where
   pub state : state_of word new ≡ grown_into (state_of word old) chunk behind n
   pub held : extent_at chunk.at (extents_in (state_of word new)) ≡ Some (extent chunk.at whole Used)
@@ -20,7 +20,7 @@ pub record IsEnlarged {A : Type 0} (regions : A → List Grant) (word : A → �
   pub sound : IsSound regions word new
   pub words : OnlyBoundariesChange (regions old.system) (state_of word new) (word old.system) (word new.system)
 
--- Of two lists of extents the second has the chunk with so many bytes, and both have the same others in use.
+-- Of two lists of extents the second has the chunk with that number of bytes, and both have the same others in use.
 pub record IsChunkEnlarged (at whole : ℕ) (less more : List Extent) : Type 0 where
   pub held : extent_at at more ≡ Some (extent at whole Used)
   pub kept : (used : Extent) → used.kind ≡ Used → used.at ≢ at → extent_at used.at less ≡ Some used → extent_at used.at more ≡ Some used

@@ -1,4 +1,4 @@
--- A chunk in use takes bytes of the free extent behind it: the moves, over plain words.
+-- A chunk in use takes bytes of the free extent after it: the moves, over plain words.
 use Rattle.dlmalloc.proofs.Names.{◌≡◌, ℕ, ◌+◌, ◌-◌, ◌%◌, ◌<◌, ◌≤◌, ◌⊎◌, inl, inr, true, false, ◌==◌, List, [], ◌∷◌, ◌++◌, refl, sym, ◌∙◌, ap, subst, arith, Grant, IsWordOf, AreStored, Extent, Kind, Used, Free, Top, pinuse_of, head_of, with_pinuse, pinuse_of-head_of, with_pinuse-head_of, is_used, told_size, HasChunk, AllSpare, Tiles, Segment, IsMove, IsRunOf, replaced_both, in_segments, AreSegments, IsApartFrom, AreApart}
 use Rattle.dlmalloc.proofs.Extents.Lookup.{extent, nat_isnt, nat_same}
 use Rattle.dlmalloc.proofs.Extents.Tiling.{sized, tiles_le, free_chunk, plain_chunk}
@@ -20,7 +20,7 @@ both_none words before from (extent ∷ next ∷ extents) to at others out h =
     let test : (extent.at == at) ≡ false = nat_isnt (grind arith) in
     rw test (ap (λ es. extent ∷ es) rest)
 
--- an extent that begins elsewhere stays, with others behind it
+-- an extent that begins elsewhere stays, with others after it
 both_later : (at : ℕ) (others : Extent → Extent → List Extent) (extent : Extent) (first : List Extent) (one : Extent) (last : List Extent) →
     (extent.at == at) ≡ false → replaced_both at others (extent ∷ (first ++ one ∷ last)) ≡ extent ∷ replaced_both at others (first ++ one ∷ last)
 both_later at others extent [] one last test = rw test refl
@@ -68,7 +68,7 @@ module _ (regions : List Grant) {old : ℕ → ℕ} (new : ℕ → ℕ) {before 
   longer : (n : ℕ) → n % 16 ≡ 0 → 32 ≤ n → new (at + 8) ≡ head_of n (pinuse_of (old (at + 8))) true → HasChunk new before (extent at n Used)
   longer n whole least head = plain_chunk stands.whole (whole, least) stands.kind (head ∙ ap (λ b. head_of n b true) told) (λ free. cc) (λ is. cc)
 
-  -- the extent behind it keeps a rest
+  -- the extent after it keeps a rest
   grown_part : {n length rest : ℕ} {kind : Kind} → HasChunk old Used (extent (at + size) length kind) → n % 16 ≡ 0 → 32 ≤ n → n ≤ size + length →
       new (at + 8) ≡ head_of n (pinuse_of (old (at + 8))) true → rest ≡ size + length - n → HasChunk new Used (extent (at + n) rest kind) →
       ((k : ℕ) → IsWordOf regions k → AllSpare (extent at n Used ∷ extent (at + n) rest kind ∷ []) k → new k ≡ old k) →
@@ -100,7 +100,7 @@ module _ (regions : List Grant) {old : ℕ → ℕ} (new : ℕ → ℕ) {before 
       (free_chunk (omega arith) (omega arith, omega arith) refl (stored.here.1.0 ((λ is. omega arith), tt)) (stored.here.1.1.0 tt))
       (λ k word more. stored.elsewhere k word (more.0, (more.1.0.0, (more.1.0.1, tt))))
 
-  -- nothing of it stays free, and what is behind it is told
+  -- nothing of it stays free, and the head of what is after it says so
   pub grown_whole : (free : ℕ) (next : Extent) → HasChunk old Used (extent (at + size) free Free) → HasChunk old Free next →
       next.at ≡ at + size + free → AreStored regions old ((at + 8, head_of (size + free) (pinuse_of (old (at + 8))) true)
       ∷ (at + (size + free) + 8, with_pinuse (old (at + (size + free) + 8))) ∷ []) new → ((k : ℕ) → next.at < k → k < next.at + next.size →

@@ -1,4 +1,4 @@
--- Where a chunk in use gets another size where it stands.
+-- A chunk in use gets another size where it stands.
 use Rattle.dlmalloc.proofs.Names.{◌≡◌, ◌≢◌, ℕ, ◌+◌, ◌<◌, ◌≤◌, true, false, not, nat_le, List, ◌∷◌, None, Some, refl, sym, ◌∙◌, ap, subst, arith, nat_tests, Grant, Extent, Kind, Used, Free, Victim, Top, Record, Foot, size_of, free_of, head_of, size_of-head_of, pinuse_of-head_of, cinuse_of-head_of, extent_at, is_used, told_size, MayStand, Tiles, HeapState, extents_in, in_place, tail_freed, joined, has_room, grown_into, state_of, IsSound, Dlmalloc}
 use Rattle.dlmalloc.proofs.Extents.Lookup.{extent}
 use Rattle.dlmalloc.proofs.Cuts.FreeExtent.{told_whole}
@@ -33,7 +33,7 @@ module _ (heap : HeapState) {at size : ℕ} (n : ℕ) (there : extent_at at (ext
         let less : nat_le n size ≡ false = grind (arith, nat_tests) in
         rw (there, less, behind, room) refl
 
--- ---- what stands behind a chunk in use
+-- ---- what stands after a chunk in use
 
 module _ {A : Type 0} {regions : A → List Grant} {word : A → ℕ → ℕ} {heap : Dlmalloc A} (sound : IsSound regions word heap) {at size : ℕ}
     (there : extent_at at (extents_in (state_of word heap)) ≡ Some (extent at size Used)) where
@@ -43,7 +43,7 @@ module _ {A : Type 0} {regions : A → List Grant} {word : A → ℕ → ℕ} {h
   abbrev after : Extent
   after = (next sound there).next
 
-  -- its head tells its size
+  -- its head has its size
   pub chunk_told : {told : ℕ} → told ≡ size_of (words (at + 8)) → extent_at at (extents_in (state_of word heap)) ≡ Some (extent at told Used)
   chunk_told {told} is =
       let stands = (one sound there).here.1 in

@@ -19,7 +19,7 @@ size_at heap at one there = ap (λ o. unwrap_or (option_map (λ extent. extent.s
 pub chunk_there : {heap : HeapState} {ptr n : ℕ} (block : IsBlock heap ptr n) → extent_at (ptr - 16) (extents_in heap) ≡ Some (extent (ptr - 16) block.extent.size Used)
 chunk_there {heap} {ptr} block = block.there ∙ (λ i. Some (extent ((found (ptr - 16) block.extent (extents_in heap) block.there).place i) block.extent.size (block.used i)))
 
--- where an address is told, a block is there
+-- if an address is given, a block is there
 pub block_told : (heap : HeapState) {ptr : Option ℕ} {address : ℕ} → ptr ≡ Some address → IfSome ptr (λ at. (size : ℕ) × IsBlock heap at size) → (size : ℕ) × IsBlock heap address size
 block_told heap is block = subst (λ o. IfSome o (λ at. (size : ℕ) × IsBlock heap at size)) is block
 

@@ -1,4 +1,4 @@
--- A chunk in use takes bytes of a free chunk behind it, or all of them.
+-- A chunk in use takes bytes of a free chunk after it, or all of them.
 use Rattle.dlmalloc.proofs.Names.{◌≡◌, ◌≢◌, ℕ, ◌+◌, ◌-◌, ◌%◌, ◌^◌, ◌<◌, ◌≤◌, inl, inr, Bool, true, false, ◌==◌, nat_le, if◌then◌else◌, List, [], ◌∷◌, ◌++◌, None, Some, refl, sym, ◌∙◌, ap, subst, arith, nat_tests, Grant, Event, AreStored, HasHead, HasFoot, Extent, Used, Free, Top, Record, pinuse_of, head_of, with_pinuse, extent_at, Tiles, last_kind, extents_in, HasSameOthers, IsMoved, IsMove, IsRunOf, grown_into, segments_of, state_of, IsSound, Dlmalloc, IsFreeAt, FreeMoves}
 use Rattle.dlmalloc.proofs.Extents.Lookup.{extent, the_extent, nat_isnt, found_here, found_either, the_one}
 use Rattle.dlmalloc.proofs.Extents.Tiling.{sized, tiles_le}
@@ -20,7 +20,7 @@ pub record CanTakeFree {A : Type 0} (word : A → ℕ → ℕ) (heap : Dlmalloc 
   pub more : size < n
   pub room : n ≤ size + length
 
--- The chunk has taken bytes of the free one: those up to n, or all where less than 32 would be left.
+-- The chunk has taken bytes of the free one: those up to n, or all if less than 32 would be left.
 pub record IsPartJoined {A : Type 0} (regions : A → List Grant) (word : A → ℕ → ℕ) (follows : A → List Event → A → Type 0)
     (old : Dlmalloc A) (at size length n : ℕ) (new : Dlmalloc A) : Type 0 where
   pub state : state_of word new ≡ grown_into (state_of word old) (extent at size Used) (extent (at + size) length Free) n
@@ -50,7 +50,7 @@ module _ {A : Type 0} {regions : A → List Grant} {word : A → ℕ → ℕ} {h
   least : 32 ≤ n
   least = omega (arith, both.here.1.size.1)
 
-  -- what stands behind the free one
+  -- what stands after the free one
   abbrev third : HasNext both.last
   third = has_next (regions heap.system) sound.segments both refl
 
@@ -82,7 +82,7 @@ module _ {A : Type 0} {regions : A → List Grant} {word : A → ℕ → ℕ} {h
     granted = run_word (regions heap.system) sound.segments both k (omega (arith, low sound can.there next_is)) (omega (arith, end_room)) m;
   }
 
-  -- the victim is neither of the two, where the free one is not the victim
+  -- the victim is neither of the two, if the free one is not the victim
   not_victim : at + size ≢ heap.victim → {bytes : ℕ} → extent_at heap.victim (chunk ∷ free ∷ []) ≡ Some (extent heap.victim bytes Free) → ⊥
   not_victim isnt {bytes} found = elim (only_second at size free heap.victim bytes found) [ inl is ↦ isnt (sym is) | inr none ↦ none ]
 

@@ -1,4 +1,4 @@
--- A chunk in use takes bytes of the top behind it.
+-- A chunk in use takes bytes of the top after it.
 use Rattle.dlmalloc.proofs.Names.{◌≡◌, ℕ, ◌+◌, ◌-◌, ◌%◌, ◌<◌, ◌≤◌, inr, true, List, [], ◌∷◌, ◌++◌, Some, refl, sym, ◌∙◌, ap, subst, arith, Grant, IsStored, AreStored, HasHead, Extent, Used, Free, Top, Record, pinuse_of, head_of, extent_at, last_kind, extents_in, IsMove, IsRunOf, segments_of, state_of, IsSound, Dlmalloc, FreeMoves}
 use Rattle.dlmalloc.proofs.Extents.Lookup.{extent, found_here, found_later}
 use Rattle.dlmalloc.proofs.Extents.OneMoreUsed.{none_outside}

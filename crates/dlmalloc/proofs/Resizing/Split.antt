@@ -30,7 +30,7 @@ split_used {old} {before} at size n stands whole least room stored =
       kept = λ k word more. stored.elsewhere k word (more.0, (more.1.0, tt));
     }
 
--- A chunk in use can be split behind its first n bytes.
+-- A chunk in use can be split after its first n bytes.
 pub record CanSplit {A : Type 0} (word : A → ℕ → ℕ) (heap : Dlmalloc A) (at size n : ℕ) : Type 0 where
   pub there : extent_at at (extents_in (state_of word heap)) ≡ Some (extent at size Used)
   pub whole : n % 16 ≡ 0

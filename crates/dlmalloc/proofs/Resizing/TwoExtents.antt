@@ -3,7 +3,7 @@ use Rattle.dlmalloc.proofs.Names.{◌≡◌, ◌≢◌, ℕ, ◌<◌, ◌⊎◌,
 use Rattle.dlmalloc.proofs.Extents.Lookup.{extent, nat_isnt, nat_same, found_either, the_one}
 use Rattle.dlmalloc.proofs.Moves.OfFreeExtents.{IsThere}
 
--- numbers that are not the same are told apart
+-- numbers that are not the same are distinguished
 pub differ : (m n : ℕ) → m ≢ n → (m == n) ≡ false
 differ m n other = (let e = other in grind (arith, nat_tests))
 
@@ -24,7 +24,7 @@ no_kind first second kind no_first no_second k found is =
       | inr behind ↦ no_second (ap (λ e. e.kind) behind ∙ is)
     ]
 
--- and but for the first none is in use, where the second is not
+-- and but for the first none is in use, if the second is not
 pub no_other : (first second : Extent) → second.kind ≢ Used → {used : Extent} → used.kind ≡ Used → used.at ≢ first.at →
     extent_at used.at (first ∷ second ∷ []) ≡ Some used → ⊥
 no_other first second free {used} is other found =
@@ -42,7 +42,7 @@ only_second at size second k bytes found =
       | inr behind ↦ inl (sym (ap (λ e. e.at) behind))
     ]
 
--- the second is found, with others behind it
+-- the second is found, with others after it
 pub found_second : (at size : ℕ) (second : Extent) (others : List Extent) → at < second.at →
     extent_at second.at (extent at size Used ∷ second ∷ others) ≡ Some second
 found_second at size second others above = rw (nat_isnt (inl above), nat_same second.at) refl

@@ -10,7 +10,7 @@ use Rattle.dlmalloc.proofs.Returns.Segments.{whole_run, apart_segments, apart_ke
 
 -- ---- the next record
 
--- the segment that a record tells, and those behind it
+-- the segment that a record describes, and those after it
 pub record Ahead (words : ℕ → ℕ) (payload : ℕ) (rest : List Segment) : Type 0 where
   pub segment : Segment
   pub others : List Segment
@@ -33,7 +33,7 @@ record_read words payload = record { base = words payload; size = words (payload
 pub parity : {flags word : ℕ} → word ≡ flags → (word % 2 ^ 32 % 2 == 0) ≡ (flags % 2 == 0)
 parity is = ap (λ n. n == 0) (omega arith)
 
--- all words of segments stay, where granted words do
+-- all words of segments stay, if granted words do
 pub all_keep : (regions : List Grant) (old new : ℕ → ℕ) → ((k : ℕ) → IsWordOf regions k → new k ≡ old k) →
     (segments : List Segment) → AreSegments regions old segments → AllByRecursion (KeepsIts old new) segments
 all_keep regions old new kept [] parts = tt
@@ -42,7 +42,7 @@ all_keep regions old new kept (segment ∷ segments) parts =
 
 -- ---- so far
 
--- the segments of a heap up to a record are given back, if the system takes them, and are so many bytes
+-- the segments of a heap up to a record are given back, if the system takes them, and have this many bytes
 pub record Destroying {A : Type 0} (regions : A → List Grant) (word : A → ℕ → ℕ) (follows : A → List Event → A → Type 0) (takes : Bool) (old : Dlmalloc A) (payload released : ℕ) (system : A) : Type 0 where
   pub done : List Segment
   pub rest : List Segment
@@ -52,7 +52,7 @@ pub record Destroying {A : Type 0} (regions : A → List Grant) (word : A → �
   pub parts : AreSegments (regions system) (word system) rest
   pub told : AreRecords (word system) payload rest
 
--- the segment that is told is one of the heap
+-- the segment that is described is one of the heap
 pub record IsTold (told segment : Segment) : Type 0 where
   pub base : told.base ≡ segment.base
   pub size : told.size ≡ segment.size
@@ -116,7 +116,7 @@ module _ {A : Type 0} {regions : A → List Grant} {word : A → ℕ → ℕ} {f
 
 module _ {A : Type 0} {regions : A → List Grant} {word : A → ℕ → ℕ} {follows : A → List Event → A → Type 0}
     (follows_on : (x y z : A) (a b c : List Event) → follows x a y → follows y b z → a ++ b ≡ c → follows x c z) where
-  -- what the told segment is, the one in the heap is
+  -- what the described segment is, the one in the heap is
   pub given_told : (takes : Bool) {told segment : Segment} {old new : A} {bytes : ℕ} → IsTold told segment → AreGivenBack regions word follows
       (taken_back takes (filter is_own (told ∷ []))) old bytes new → AreGivenBack regions word follows (taken_back takes (filter is_own (segment ∷ []))) old
       bytes new
@@ -129,7 +129,7 @@ module _ {A : Type 0} {regions : A → List Grant} {word : A → ℕ → ℕ} {f
       go true false given = given
       go false own given = given
 
-  -- those behind it stay
+  -- those after it stay
   pub rest_stay : (takes : Bool) (segment : Segment) (others : List Segment) {old new : A} {bytes : ℕ} → AreSegments (regions old) (word old)
       (segment ∷ others) → AllByRecursion (IsApartFrom segment) others → AreGivenBack regions word follows (taken_back takes
       (filter is_own (segment ∷ []))) old bytes new → AreSegments (regions new) (word new) others × AllByRecursion (KeepsIts (word old) (word new)) others

@@ -7,7 +7,7 @@ use Rattle.std.proofs.lemmas.List.{length-map}
 pub freed_pass : (old : HeapState) (at : ℕ) {new : HeapState} → new ≡ freed old at → pass_steps new ≡ pass_steps old
 freed_pass old at is = ap pass_steps is ∙ ap (λ n. 512 * n) (length-map old.segments (λ segment. record segment { extents = freed_in at segment.extents }))
 
--- what does not look at the head segment is the same behind a cut of the top
+-- what does not look at the head segment is the same after a cut of the top
 cut_keeps : {B : Type 0} (of : List Segment → B) → ((one other : Segment) (rest : List Segment) → of (one ∷ rest) ≡ of (other ∷ rest)) →
     (less : ℕ) (segments : List Segment) (victim granularity rate countdown trim_check : ℕ) → of (cut_top less
     (record { segments = segments; victim = victim; granularity = granularity; rate = rate; countdown = countdown; trim_check = trim_check })).segments ≡ of

@@ -1,4 +1,4 @@
--- A release pass: what it leaves, as it visits the segments behind the head one after the other.
+-- A release pass: what it leaves, as it visits the segments after the head one after the other.
 use Rattle.dlmalloc.proofs.Names.{◌≡◌, ◌≢◌, ℕ, ◌+◌, ◌/◌, ◌%◌, ◌^◌, ◌<◌, ◌≤◌, inl, Bool, true, false, cond, not, ◌&&◌, ◌||◌, ◌==◌, if◌then◌else◌, List, [], ◌∷◌, ◌++◌, Some, IsTrue, refl, sym, ◌∙◌, ap, subst, arith, append_assoc, length-append, length, filter, max, list_any, append-nil, map-append, filter-append, list_any-append, Grant, Event, Released, IsWordOf, is_granted, Extent, Used, Free, extent_at, Segment, extents_in, countdown_from, KeepsBlocks, may_leave, handed_out, staying, releases, regions_without, bytes_of, taken_back, IsSegment, AreSegments, AreRecords, segments_of, state_of, AreTold, IsSound, IsLinked, IsChained, HaveLeft, IsVisited, IsPassed, IsReindexed, after_visit, after_visits, after_pass, Dlmalloc, SegmentRecord}
 use Rattle.dlmalloc.specs.Released.{visited}
 use Rattle.dlmalloc.proofs.Returns.PassOrder.{visit_same, visits_on}
@@ -21,7 +21,7 @@ remaining frees parts segments = filter (λ segment. not (frees && may_leave par
 abbrev pub leaving : Bool → Bool → List Segment → List Segment
 leaving frees parts segments = filter (λ segment. frees && may_leave parts segment) segments
 
--- the victim, where those that may leave are handed out
+-- the victim, if those that may leave are handed out
 abbrev pub victim_after : Bool → List Segment → ℕ → ℕ
 victim_after parts segments victim = if list_any (λ segment. segment.base == victim) (filter (may_leave parts) segments) then 0 else victim
 
@@ -57,7 +57,7 @@ countdown_sound sound countdown = record {
   victim = sound.victim;
 }
 
--- the bytes of an extent, and the head behind it, are granted
+-- the bytes of an extent, and the head after it, are granted
 record IsCovered (regions : List Grant) (block : Extent) : Type 0 where
   pub long : 32 ≤ block.size
   pub whole : block.at % 8 ≡ 0
@@ -186,7 +186,7 @@ module _ {A : Type 0} {regions : A → List Grant} {word : A → ℕ → ℕ} {f
       read_word k low high m = payload_word ahead_part payload ahead.told.0 ahead.told.4 k low high
           (omega (arith, payload_whole ahead_part payload ahead.told.0 ahead.told.4))
 
-      -- where one is left, fewer are visited than there are
+      -- if one is left, fewer are visited than there are
       pub more_left : count + 1 < length (segments_of word old)
       more_left = omega (arith, ap length p.was, length-append p.done p.rest, ap length ahead.is)
 

@@ -1,4 +1,4 @@
--- A segment behind the head leaves the heap: the record before it tells the next one, and the rest stays.
+-- A segment after the head leaves the heap: the record before it names the next one, and the rest stays.
 use Rattle.dlmalloc.proofs.Names.{◌≡◌, ◌≢◌, ℕ, ◌+◌, ◌-◌, ◌%◌, ◌^◌, ◌<◌, ◌≤◌, ◌⊎◌, inl, inr, Bool, true, false, ◌==◌, if◌then◌else◌, List, [], ◌∷◌, ◌++◌, Some, refl, sym, ◌∙◌, ap, subst, arith, append_assoc, AllByRecursion, nat_tests, flat_map-append, Grant, Event, Released, IsWordOf, without_run, Extent, Used, Free, Record, extent_at, Segment, extents_in, IsInRecord, is_unused, IsSegment, AreSegments, IsApartFrom, AreApart, record_of, AreRecords, payload_behind, state_of, IsSound, FreeMoves, IsLinked, IsChained, IsVisited, Dlmalloc, SegmentRecord}
 use Rattle.dlmalloc.specs.Chained.{IsToldByLast}
 use Rattle.dlmalloc.proofs.Extents.Lookup.{extent, nat_same, found_here}
@@ -44,7 +44,7 @@ module _ {A : Type 0} {regions : A → List Grant} {word : A → ℕ → ℕ} {h
   abbrev it : Around sound c
   it = around sound c
 
-  -- the record before it, where there is one
+  -- the record before it, if there is one
   module _ (l : IsToldByLast words heap.next before c.payload c.front) where
     split_is : c.front ++ c.segment ∷ c.back ≡ l.first ++ l.last ∷ (c.segment ∷ c.back)
     split_is = ap (λ front. front ++ c.segment ∷ c.back) l.is ∙ append_assoc l.first (l.last ∷ []) (c.segment ∷ c.back)
@@ -121,7 +121,7 @@ module _ {A : Type 0} {regions : A → List Grant} {word : A → ℕ → ℕ} {h
     gone : regions system ≡ without_run c.segment.base (c.segment.base + c.segment.size) granted
     gone = told_gone ∙ (λ i. without_run (base_is sound c i) (base_is sound c i + size_is sound c i) granted)
 
-    -- where the next record is told for the head
+    -- if the next record is named by the head's field
     abbrev next : ℕ
     next = if before == 0 then told.next else heap.next
 

@@ -1,4 +1,4 @@
--- A segment behind the head is visited: what a look at it wants, and that it may stay.
+-- A segment after the head is visited: what a look at it wants, and that it may stay.
 use Rattle.dlmalloc.proofs.Names.{◌≡◌, ◌≢◌, ℕ, ◌+◌, ◌-◌, ◌%◌, ◌<◌, inl, inr, Bool, true, false, ◌&&◌, ◌==◌, if◌then◌else◌, List, [], ◌∷◌, ◌++◌, Some, refl, sym, ◌∙◌, ap, subst, arith, AllByRecursion, Grant, Event, IsRun, Free, HasHead, size_of, free_of, extent_at, Segment, is_own, is_unused, may_leave, IsSegment, AreSegments, IsApartFrom, AreApart, record_of, AreRecords, payload_behind, segments_of, state_of, AreTold, IsSound, IsFreeAt, FreeMoves, IsLinked, IsChained, IsVisited, Dlmalloc, SegmentRecord}
 use Rattle.dlmalloc.proofs.Extents.Lookup.{extent, found_here}
 use Rattle.dlmalloc.proofs.Segments.Among.{extents_all, all_at, all_front, all_back, front_apart, back_apart, among_all}
@@ -92,7 +92,7 @@ module _ {A : Type 0} {regions : A → List Grant} {word : A → ℕ → ℕ} {h
       unused : (free_of (words (told.base + 8)) && size_of (words (told.base + 8)) == told.size - 80) ≡ is_unused c.segment
       unused = (λ i. free_of (words (base_is i + 8)) && size_of (words (base_is i + 8)) == size_is i - 80) ∙ unused_told around.part (c.payload - 16) c.records.4
 
-  -- where it is unused, its first chunk is free
+  -- if it is unused, its first chunk is free
   pub first_is_free : is_unused c.segment ≡ true → IsFreeAt (state_of word heap) told.base (told.size - 80)
   first_is_free unused = subst (λ base. IsFreeAt (state_of word heap) base (told.size - 80)) (sym base_is) (subst (λ size. IsFreeAt (state_of word heap)
       c.segment.base (size - 80)) (sym size_is) (among_all granted words sound.segments sound.apart (c.head ∷ c.front) c.segment c.back c.is c.segment.base (
@@ -154,7 +154,7 @@ module _ {A : Type 0} {regions : A → List Grant} {word : A → ℕ → ℕ} {h
     size_same = refl;
   }
 
-  -- so it does where the victim was forgotten that began with it
+  -- so it does if the victim was forgotten that began with it
   pub stays_handed : (follows : A → List Event → A → Type 0) → ((x : A) → follows x [] x) → IsVisited regions word follows true false heap before told c
       (record heap { victim = if told.base == heap.victim then 0 else heap.victim; victim_size = if told.base == heap.victim then 0 else heap.victim_size })
   stays_handed follows follows_none = subst (λ base. IsVisited regions word follows true false heap before told c (forgetful (base == heap.victim)))

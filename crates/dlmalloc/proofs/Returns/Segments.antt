@@ -89,7 +89,7 @@ module _ {regions : List Grant} (gone : Segment) (run : IsFlaggedRun regions gon
       let is = one_stays regions old new parts.0 keeps.0 in
       (record { run = run_stays segment apart.0 is.run; low = is.low; high = is.high; long = is.long; extents = is.extents; tail = is.tail }, apart_segments old new segments parts.1 apart.1 keeps.1)
 
-  -- they keep their words, where granted words stay
+  -- they keep their words, if granted words stay
   pub apart_keeps : (old new : ℕ → ℕ) → ((k : ℕ) → IsWordOf after k → new k ≡ old k) → (segments : List Segment) →
       AreSegments regions old segments → AllByRecursion (IsApartFrom gone) segments → AllByRecursion (KeepsIts old new) segments
   apart_keeps old new kept [] parts apart = tt
@@ -224,7 +224,7 @@ module _ {A : Type 0} (regions : A → List Grant) (word : A → ℕ → ℕ) (f
         (sym (map-append (λ segment. Released segment.base segment.size 0) first second));
   }
 
-  -- one that another tells is the same
+  -- one that another describes is the same
   pub given_same : (told segment : Segment) (b : Bool) (old new : A) {bytes : ℕ} → told.base ≡ segment.base → told.size ≡ segment.size →
       AreGivenBack regions word follows (if b then told ∷ [] else []) old bytes new → AreGivenBack regions word follows (if b then segment ∷ [] else []) old bytes new
   given_same told segment false old new base size given = given

@@ -1,4 +1,4 @@
--- A trim is a cut of the top, a release pass, and giving up where neither gave bytes back.
+-- A trim is a cut of the top, a release pass, and giving up if neither gave bytes back.
 use Rattle.dlmalloc.proofs.Names.{◌≡◌, ℕ, ◌+◌, ◌-◌, ◌^◌, ◌<◌, ◌≤◌, ◌⊎◌, inl, inr, Bool, true, false, not, ◌&&◌, ◌||◌, ◌==◌, if◌then◌else◌, List, [], ◌∷◌, ◌++◌, Some, None, IsTrue, refl, sym, ◌∙◌, ap, subst, arith, length, nat_lt, filter, nat_tests, Grant, Event, IsFixed, IsWordOf, is_granted, limit, Extent, Top, Foot, extent_at, Segment, extents_in, handed_out, staying, may_leave, taken_back, releases, regions_without, bytes_of, passed, IsPassed, after_pass, after_trim, IsReindexed, is_cut, after_cut, given_up, is_trimmed, gives_back, regions_cut, IsCutBack, IsTrimmed, IsSegment, AreSegments, segments_of, state_of, AreTold, IsSound, Dlmalloc}
 use Rattle.dlmalloc.proofs.Returns.PassOrder.{pass_same}
 use Rattle.dlmalloc.proofs.Returns.PassSteps.{after_cut_keeps}

@@ -44,7 +44,7 @@ module _ {A : Type 0} {regions : A → List Grant} {word : A → ℕ → ℕ} {h
 
 -- ---- whether it was cut
 
--- the bins stay, where all but the top does
+-- the bins stay, if all but the top does
 abbrev pub binned_but_top : IndexStays → {A : Type 0} {regions : A → List Grant} {word : A → ℕ → ℕ} {old new : Dlmalloc A} →
     IsSound regions word old → KeepsAllButTop regions word old new → 0 < new.size → IsBinned regions word old → IsBinned regions word new
 binned_but_top stays sound keeps some = binned_same stays sound keeps.sound (λ k was is boundary tag tag'. (let tags = head_tags keeps.sound some k boundary in

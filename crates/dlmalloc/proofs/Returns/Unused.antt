@@ -1,4 +1,4 @@
--- Whether a segment is free up to its record, as its first head tells it.
+-- Whether a segment is free up to its record, as its first head says.
 use Rattle.dlmalloc.proofs.Names.{◌≡◌, ℕ, ◌+◌, ◌-◌, ◌%◌, ◌<◌, ◌≤◌, ◌⊎◌, inl, inr, Bool, true, false, ◌&&◌, ◌==◌, if◌then◌else◌, List, [], ◌∷◌, ◌++◌, Some, None, refl, sym, ◌∙◌, ap, subst, arith, nat_tests, Grant, Extent, Kind, Used, Free, Record, HasHead, size_of, free_of, head_of, pinuse_of-head_of, cinuse_of-head_of, kind_of, is_used, extent_at, Tiles, Segment, is_free_below_top, IsSegment, record_of, IsChunkKind, AreChunks, is_unused}
 use Rattle.dlmalloc.proofs.Extents.Lookup.{extent, same_extent, nat_is, the_extent}
 use Rattle.dlmalloc.proofs.Extents.FromWords.{told}
@@ -21,7 +21,7 @@ pub both : (b c : Bool) → (b && c) ≡ true → (b ≡ true) × (c ≡ true)
 both true c h = (refl, h)
 both false c h = absurd (cc)
 
--- what is found of a free extent and a record behind it
+-- what is found of a free extent and a record after it
 pub two_found : (base size at end : ℕ) (k : ℕ) {one : Extent} → extent_at k (extent base size Free ∷ record_of at end ∷ []) ≡ Some one →
     ((one.kind ≡ Free) × (base ≡ k)) ⊎ (one.kind ≡ Record)
 two_found base size at end k {one} there = go (base == k) refl (at == k) there
@@ -67,7 +67,7 @@ module _ {regions : List Grant} {words : ℕ → ℕ} {segment : Segment} (part 
     granted = record { granted = part.run.covered (segment.base + 8) (omega arith) (omega arith); aligned = omega (arith, base_whole) };
   }
 
-  -- and it tells whether the segment is free up to its record
+  -- and it says whether the segment is free up to its record
   pub unused_told : (free_of (words (segment.base + 8)) && size_of (words (segment.base + 8)) == segment.size - 80) ≡ is_unused segment
   unused_told = go chunks tail.run.stand tail.run.are extents_are
     where

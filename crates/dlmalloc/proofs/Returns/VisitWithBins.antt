@@ -1,4 +1,4 @@
--- A segment is visited whose first chunk left its bin before, or goes into it behind that.
+-- A segment is visited whose first chunk left its bin before that, or goes into it after that.
 use Rattle.dlmalloc.proofs.Names.{◌≡◌, ◌≢◌, ℕ, ◌+◌, ◌-◌, ◌%◌, ◌^◌, ◌<◌, ◌≤◌, ◌⊎◌, inl, inr, Bool, true, false, ◌&&◌, ◌==◌, if◌then◌else◌, List, [], ◌∷◌, ◌++◌, Some, refl, sym, ◌∙◌, ap, subst, arith, append_assoc, Grant, Event, IsWordOf, Free, Record, size_of, free_of, IndexStays, extent_at, Segment, extents_in, IsInRecord, may_leave, IsSegment, AreSegments, record_of, AreRecords, payload_behind, segments_of, state_of, AreTold, IsSound, IsFreeAt, IsBinnedBut, OnlyFreeChange, IsRebinned, FreeMoves, IsLinked, IsChained, HaveLeft, IsVisited, Dlmalloc, SegmentRecord}
 use Rattle.dlmalloc.proofs.Extents.Lookup.{nat_is, nat_same}
 use Rattle.dlmalloc.proofs.Segments.Among.{all_at, all_back, among_all}
@@ -9,7 +9,7 @@ use Rattle.dlmalloc.proofs.Moves.WithBins.{out_of}
 use Rattle.dlmalloc.proofs.Returns.SegmentVisited.{records_behind, test_is}
 use Rattle.dlmalloc.proofs.Returns.ReleasePass.{left_on}
 
--- ---- the chain of records stays where words of free chunks change
+-- ---- the chain of records stays if words of free chunks change
 
 module _ {A : Type 0} {regions : A → List Grant} {word : A → ℕ → ℕ} {heap : Dlmalloc A} (sound : IsSound regions word heap) (new : Dlmalloc A)
     (state : state_of word new ≡ state_of word heap) (next : new.next ≡ heap.next)
@@ -66,7 +66,7 @@ module _ {A : Type 0} {regions : A → List Grant} {word : A → ℕ → ℕ} {h
       ∙ ap (λ p. payload_behind now p first) (sym (record_stays front (first ++ rest) is parts.0 payload h.0 h.4 (payload + 16) (omega arith) (omega arith)
       (omega (arith, payload_whole parts.0 payload h.0 h.4))))
 
-  -- what tells the next record
+  -- what names the next record
   pub linked_still : (head : Segment) (front back : List Segment) → segments_of word heap ≡ head ∷ (front ++ back) →
       (before payload : ℕ) → IsLinked words heap.next before payload front → IsLinked now new.next before payload front
   linked_still head front back is before payload (inl h) = inl (h.0, h.1, h.2 ∙ sym next)
@@ -182,7 +182,7 @@ module _ {A : Type 0} {regions : A → List Grant} {word : A → ℕ → ℕ} (f
     size_same = v.size_same ∙ ap (λ h. h.size) same.fields;
   }
 
-  -- they went into bins behind one that stays
+  -- they went into bins after one that stays
   pub visited_binned : {handed : Bool} (new : Dlmalloc A) {last : Dlmalloc A} → IsVisited regions word follows handed false heap before told c new →
       IsRebinned regions word follows new last → IsVisited regions word follows handed false heap before told c last
   visited_binned new {last} v same = record {
@@ -205,7 +205,7 @@ module _ {A : Type 0} {regions : A → List Grant} {word : A → ℕ → ℕ} (f
       split : segments_of word new ≡ c.head ∷ ((c.front ++ c.segment ∷ []) ++ c.back)
       split = v.segments ∙ ap (λ segments. c.head ∷ segments) (sym (append_assoc c.front (c.segment ∷ []) c.back))
 
--- ---- the bins where a segment is handed out whose first chunk is in none
+-- ---- the bins if a segment is handed out whose first chunk is in none
 
 module _ {A : Type 0} {regions : A → List Grant} {word : A → ℕ → ℕ} {follows : A → List Event → A → Type 0} {old new : Dlmalloc A}
     (sound : IsSound regions word old) {before : ℕ} {told : SegmentRecord} {c : IsChained word old before told} {leaves : Bool}
@@ -216,7 +216,7 @@ module _ {A : Type 0} {regions : A → List Grant} {word : A → ℕ → ℕ} {f
   victim : {b : Bool} → (told.base == old.victim) ≡ b → new.victim ≡ (if b then 0 else old.victim)
   victim {b} test = visited.victim ∙ (ap (λ base. if base == old.victim then 0 else old.victim) (sym base_is) ∙ ap (λ b. if b then 0 else old.victim) test)
 
-  -- it begins behind the first page
+  -- it begins after the first page
   base_some : 4096 ≤ told.base
   base_some = subst (λ base. 4096 ≤ base) (sym base_is) (all_at (IsSegment (regions old.system) (word old.system)) (c.head ∷ c.front) c.segment c.back
       (subst (AreSegments (regions old.system) (word old.system)) c.is sound.segments)).low

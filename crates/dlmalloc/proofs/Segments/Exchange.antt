@@ -1,4 +1,4 @@
--- Some extents of a heap give way to others, as its segments become others that are told: what stays is found as before.
+-- Some extents of a heap give way to others, as its segments become others that are described: what stays is found as before.
 use Rattle.dlmalloc.proofs.Names.{◌≡◌, ◌≢◌, ℕ, ◌<◌, ◌⊎◌, inl, inr, Bool, true, false, ◌==◌, if◌then◌else◌, List, [], ◌∷◌, ◌++◌, Some, sym, ◌∙◌, ap, subst, refl, arith, unwrap_or, Grant, Extent, Kind, Used, Free, extent_at, Segment, extents_in, AreSegments, AreApart, IsIn, FreeMoves, HasSameUsed, segments_of, state_of, AreTold, IsSound, IsGranularity, Dlmalloc}
 use Rattle.dlmalloc.proofs.Extents.Lookup.{extent, found_either, found_more}
 use Rattle.dlmalloc.proofs.Extents.OneMoreUsed.{AreDistinct, distinct_second, replaced_found}
@@ -20,7 +20,7 @@ none_of kind (other ∷ extents) k {one} none is found = go (other.at == k) foun
     go true here rest = none.0 (ap (λ o. (unwrap_or o one).kind) here ∙ is)
     go false later rest = rest later
 
--- The segments of a heap are told anew, with one order of the extents that stay: `less` give way to `more`, and `ahead` come before.
+-- The segments of a heap are described anew, with one order of the extents that stay: `less` give way to `more`, and `ahead` come before.
 pub record Exchange {A : Type 0} (regions : A → List Grant) (word : A → ℕ → ℕ) (heap new : Dlmalloc A) : Type 0 where
   pub now : List Segment
   pub parts : AreSegments (regions new.system) (word new.system) now
@@ -53,7 +53,7 @@ module _ {A : Type 0} {regions : A → List Grant} {word : A → ℕ → ℕ} {h
   distinct_rest : AreDistinct (it.first ++ (it.more ++ it.last))
   distinct_rest = distinct_second it.ahead (it.first ++ (it.more ++ it.last)) distinct_all
 
-  -- what is found behind those ahead is found
+  -- what is found after those ahead is found
   pub exchanged_found : (k : ℕ) {one : Extent} → extent_at k (it.first ++ (it.more ++ it.last)) ≡ Some one → extent_at k (extents_in (state_of word new)) ≡ Some one
   exchanged_found k there = ap (extent_at k) extents_now ∙ distinct_later it.ahead (it.first ++ (it.more ++ it.last)) k distinct_all there
 
@@ -109,7 +109,7 @@ module _ {A : Type 0} {regions : A → List Grant} {word : A → ℕ → ℕ} {h
       exchanged_free ahead [] [] (λ k size found. absurd (none_of Free it.less k less refl found))
       (λ k size found. absurd (none_of Free it.more k more refl found)) (λ k none. absurd none) (λ k none. absurd none)
 
-  -- the heap is sound, where its victim is a free extent
+  -- the heap is sound, if its victim is a free extent
   pub sound_as : (new.victim_size ≡ 0 → new.victim ≡ 0) → (new.victim_size ≢ 0 →
       extent_at new.victim (extents_in (state_of word new)) ≡ Some (extent new.victim new.victim_size Free)) → IsSound regions word new
   sound_as none there = record {
@@ -122,7 +122,7 @@ module _ {A : Type 0} {regions : A → List Grant} {word : A → ℕ → ℕ} {h
     victim = there;
   }
 
-  -- so it is, where no free extent gave way and the victim is the same
+  -- so it is, if no free extent gave way and the victim is the same
   pub exchanged_sound : HasNo Free it.less → new.victim ≡ heap.victim → new.victim_size ≡ heap.victim_size → IsSound regions word new
   exchanged_sound less victim victim_size = sound_as (λ none. victim ∙ sound.no_victim (sym victim_size ∙ none))
       (λ there. ap (λ v. extent_at v (extents_in (state_of word new))) victim ∙ (kind_still {kind = Free} less {one = extent heap.victim heap.victim_size Free} refl

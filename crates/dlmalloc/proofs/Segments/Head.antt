@@ -50,7 +50,7 @@ first_counted frees parts heap at = count (is_counted heap at) (nat_le heap.coun
     count true true true = stays heap.segments
     count a b frees = (refl, refl)
 
--- a grant behind it makes it longer
+-- a grant after it makes it longer
 pub first_granted : (grant : Grant) (n : ℕ) (heap : HeapState) → is_behind_head grant heap.segments ≡ true → (first_base
     (granted grant n heap).segments ≡ first_base heap.segments) × (first_size (granted grant n heap).segments ≡ first_size heap.segments + grant.size)
 first_granted grant n heap test = go heap.segments test
@@ -76,7 +76,7 @@ module _ {A : Type 0} {regions : A → List Grant} {word : A → ℕ → ℕ} {h
       go [] told = (told, λ some. omega arith)
       go (segment ∷ segments) told = (told.2, λ some. told.1)
 
-  -- a grant that is behind it
+  -- a grant that is after it
   pub first_end : (grant : Grant) → is_behind_head grant (segments_of word heap) ≡ true → grant.base ≡ heap.base + heap.size
   first_end grant test = go (segments_of word heap) sound.told test
     where

@@ -1,10 +1,10 @@
--- The head segment is told by fields, after a move too.
+-- Fields describe the head segment, after a move too.
 use Rattle.dlmalloc.proofs.Names.{◌≡◌, ℕ, ◌<◌, List, [], ◌∷◌, ◌++◌, Some, refl, sym, ◌∙◌, ap, subst, Grant, Extent, Top, extent_at, Segment, AreSegments, AreApart, AreRecords, segments_of, AreTold, Dlmalloc}
 use Rattle.dlmalloc.proofs.Extents.Lookup.{extent}
 use Rattle.dlmalloc.proofs.Segments.Among.{with_extents}
 use Rattle.dlmalloc.proofs.Segments.OneReplaced.{IsChanged, records_after, records_behind}
 
--- the fields tell a segment
+-- the fields describe a segment
 pub record IsHead {A : Type 0} (heap : Dlmalloc A) (segment : Segment) : Type 0 where
   pub some : 0 < heap.size
   pub base : heap.base ≡ segment.base
@@ -12,7 +12,7 @@ pub record IsHead {A : Type 0} (heap : Dlmalloc A) (segment : Segment) : Type 0 
   pub flags : heap.flags ≡ segment.flags
   pub top : extent_at heap.top segment.extents ≡ Some (extent heap.top heap.top_size Top)
 
--- they tell the same as before
+-- they say the same as before
 pub record HasSameHead {A : Type 0} (heap new : Dlmalloc A) : Type 0 where
   pub base : new.base ≡ heap.base
   pub size : new.size ≡ heap.size
@@ -39,7 +39,7 @@ module _ {A : Type 0} {regions regions' : List Grant} {old words : ℕ → ℕ} 
   )
   told_head (first ∷ front) back none apart parts h head = absurd (cc)
 
--- what the fields tell stayed, where the segment has other extents
+-- what the fields say stayed, if the segment has other extents
 pub told_same : {A : Type 0} {regions regions' : List Grant} {old words : ℕ → ℕ} (heap new : Dlmalloc A) {segment : Segment} {extents : List Extent} →
     IsChanged regions regions' old words segment (with_extents segment extents) → new.next ≡ heap.next → (front back : List Segment) →
     AreApart (front ++ segment ∷ back) → AreSegments regions old (front ++ segment ∷ back) → AreTold old heap (front ++ segment ∷ back) →
@@ -61,7 +61,7 @@ told_same {words} heap new {segment} {extents} changed next (first ∷ front) ba
   subst (λ p. AreRecords words p (front ++ with_extents segment extents ∷ back)) (sym next) (records_after changed front back apart.1 parts.1 heap.next h.5),
 )
 
--- the first of the segments is told by the fields
+-- the fields describe the first of the segments
 pub head_is : {A : Type 0} (word : A → ℕ → ℕ) (heap : Dlmalloc A) (front : List Segment) (segment : Segment) (back : List Segment) → front ≡ [] →
     segments_of word heap ≡ front ++ segment ∷ back → AreTold (word heap.system) heap (segments_of word heap) → IsHead heap segment
 head_is word heap [] segment back none is told = let h = subst (AreTold (word heap.system) heap) is told in record { some = h.0; base = h.1; size = h.2; flags = h.3; top = h.4 }

@@ -14,14 +14,14 @@ use Rattle.dlmalloc.proofs.Extents.Top.{is_top, top_among}
 pub no_segments : {A : Type 0} (word : A → ℕ → ℕ) (heap : Dlmalloc A) → heap.size ≡ 0 → segments_of word heap ≡ []
 no_segments word heap none = let test : (heap.size == 0) ≡ true = grind (arith, nat_tests) in rw test refl
 
--- where an extent is found, there is one
+-- if an extent is found, there is one
 pub some_segment : {A : Type 0} (word : A → ℕ → ℕ) (heap : Dlmalloc A) (k : ℕ) {one : Extent} → extent_at k (extents_all (segments_of word heap)) ≡ Some one → 0 < heap.size
 some_segment word heap k {one} there = elim (dec_lt 0 heap.size) [
   | yes some ↦ some
   | no none ↦ absurd (let gone : extent_at k [] ≡ Some one = ap (λ segments. extent_at k (extents_all segments)) (sym (no_segments word heap (omega arith))) ∙ there in cc)
 ]
 
--- a top and its foot, as their heads tell them
+-- a top and its foot, as their heads describe them
 abbrev pub top_of : ℕ → ℕ → List Extent
 top_of at size = extent at size Top ∷ extent (at + size) 80 Foot ∷ []
 
@@ -78,7 +78,7 @@ module _ {A : Type 0} {regions : A → List Grant} {word : A → ℕ → ℕ} {h
   pub behind_told : AreRecords (word heap.system) heap.next top_run.back
   behind_told = (subst (AreTold (word heap.system) heap) head_first sound.told).5
 
-  -- a grant is behind it, or before it, as its fields say
+  -- a grant is after it, or before it, as its fields say
   pub grant_behind_head : (grant : Grant) → is_behind grant top_run.segment ≡ is_behind grant (bare_head heap)
   grant_behind_head grant = λ i. grant.base == (sym top_segment.base) i + (sym top_segment.size) i &&
       (grant.flags % 2 == 0 && grant.flags == (sym top_segment.flags) i)
@@ -105,7 +105,7 @@ module _ {A : Type 0} {regions : A → List Grant} {word : A → ℕ → ℕ} {h
   pub low_top : top_run.segment.base ≤ heap.top
   low_top = tiles_le (word heap.system) Used top_run.segment.base top_run.first heap.top top_run.first_stand
 
-  -- with other extents from the top on it is a segment, where the words before them stay
+  -- with other extents from the top on it is a segment, if the words before them stay
   pub head_with : {others : List Grant} (new : ℕ → ℕ) {size : ℕ} (more : List Extent) →
       IsFlaggedRun others top_run.segment.base size top_run.segment.flags → top_run.segment.base + size < 2 ^ 64 → 96 < size →
       ((k : ℕ) → top_run.segment.base < k → k ≤ heap.top → k % 8 ≡ 0 → new k ≡ word heap.system k) →

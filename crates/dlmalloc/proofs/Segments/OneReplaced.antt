@@ -8,7 +8,7 @@ use Rattle.dlmalloc.proofs.Segments.Among.{all_at, all_with, apart_back, distinc
 use Rattle.dlmalloc.proofs.Segments.WordsKept.{KeepsIts, segment_kept}
 
 -- All granted words stay but those at boundaries of the new segment; what was apart from the old one is apart from the new one,
--- and a run still; and if a record told the old one, it tells the new one.
+-- and still a run; and if a record described the old one, it describes the new one.
 pub record IsChanged (regions regions' : List Grant) (old new : ℕ → ℕ) (segment segment' : Segment) : Type 0 where
   pub now : IsSegment regions' new segment'
   pub kept : (k : ℕ) → IsWordOf regions k → AllSpare segment'.extents k → new k ≡ old k
@@ -80,7 +80,7 @@ module _ {regions regions' : List Grant} {old new : ℕ → ℕ} {segment segmen
       record_told (other_kept beyond parts.0) (λ k low high m spared. beside parts.0 beyond k low high m) back back payload h
       (records_behind back apart.1 parts.1 (old (payload + 16)) h.5)
 
-  -- and so the records tell them
+  -- and so the records describe them
   pub records_after : (front back : List Segment) → AreApart (front ++ segment ∷ back) → AreSegments regions old (front ++ segment ∷ back) →
       (payload : ℕ) → AreRecords old payload (front ++ segment ∷ back) → AreRecords new payload (front ++ segment' ∷ back)
   records_after [] back apart parts payload h =

@@ -25,7 +25,7 @@ word_fresh grant old with_it k inside fresh =
       | inr was ↦ absurd (fresh (record { granted = was; aligned = inside.aligned }))
     ]
 
--- where nothing is granted, no word is
+-- if nothing is granted, no word is
 pub none_fresh : {old new : List Grant} → new ≡ old → (k : ℕ) → IsWordOf new k → (IsWordOf old k → ⊥) → ⊥
 none_fresh same k inside fresh = fresh (subst (λ rs. IsWordOf rs k) same inside)
 
@@ -42,7 +42,7 @@ with_other grant {regions} same = (let more = longer regions in let as_many = ap
         go true rest = omega arith
         go false rest = omega arith
 
--- and which one it is, they tell
+-- and they say which one it is
 pub one_more : (grant other : Grant) (regions : List Grant) → with_grant grant regions ≡ with_grant other regions → grant ≡ other
 one_more grant other [] same = cc
 one_more grant other (region ∷ regions) same = go (nat_lt grant.base region.base) refl (nat_lt other.base region.base) refl same (λ rest. one_more grant other regions rest)

@@ -19,7 +19,7 @@ pub record PassedSegments {A : Type 0} (word : A → ℕ → ℕ) (heap : Dlmall
   pub told : AreRecords (word heap.system) payload rest
   pub so_far : known passed
 
--- the segment that a record tells, and those behind it
+-- the segment that a record describes, and those after it
 pub record NextSegment (regions : List Grant) (words : ℕ → ℕ) (payload : ℕ) (rest : List Segment) : Type 0 where
   pub segment : Segment
   pub others : List Segment
@@ -31,7 +31,7 @@ pub record NextSegment (regions : List Grant) (words : ℕ → ℕ) (payload : �
   pub part : IsSegment regions words segment
   pub there : extent_at (payload - 16) segment.extents ≡ Some (record_of (payload - 16) (segment.base + segment.size))
 
--- the words of a record's payload are granted, and its segment ends below 2 ^ 64 and behind it
+-- the words of a record's payload are granted, and its segment ends below 2 ^ 64 and after it
 pub record SpanFits (regions : List Grant) (words : ℕ → ℕ) (payload : ℕ) : Type 0 where
   pub low : 16 < payload
   pub high : payload + 16 < 2 ^ 64
@@ -47,7 +47,7 @@ next_segment regions words payload [] some parts h = absurd (some h)
 next_segment regions words payload (segment ∷ others) some parts h =
     record { segment = segment; others = others; is = refl; some = h.0; base = h.1; size = h.2; told = h.5; part = parts.0; there = h.4 }
 
--- where no record is left, no segment is
+-- if no record is left, no segment is
 pub none_told : (words : ℕ → ℕ) {payload : ℕ} (rest : List Segment) → AreRecords words payload rest → payload ≡ 0 → rest ≡ []
 none_told words [] h none = refl
 none_told words (segment ∷ rest) h none = absurd (let some = h.0 in omega arith)
@@ -83,7 +83,7 @@ module _ {A : Type 0} {regions : A → List Grant} {word : A → ℕ → ℕ} {h
     left_read : records_from (word heap.system) (2 ^ 64) payload ≡ p.rest
     left_read = records_read (regions heap.system) (word heap.system) (2 ^ 64) payload p.rest few_left parts_left p.told
 
-    -- all are passed where no record is left
+    -- all are passed if no record is left
     pub all_segments : payload ≡ 0 → known (segments_of word heap)
     all_segments none = subst known (sym (p.is ∙ (ap (λ ss. p.passed ++ ss) (none_told (word heap.system) p.rest p.told none) ∙ append-nil p.passed))) p.so_far
 

@@ -1,4 +1,4 @@
--- Segments whose words stay are segments still, and records tell them as before.
+-- Segments whose words stay are still segments, and records describe them as before.
 use Rattle.dlmalloc.proofs.Names.{◌≡◌, ℕ, ◌+◌, ◌%◌, ◌<◌, ◌≤◌, ◌⊎◌, inl, inr, List, [], ◌∷◌, IsTrue, arith, dec_lt, AllByRecursion, Grant, IsWordOf, Used, last_kind, Segment, is_free_below_top, IsFlaggedRun, IsSegment, AreSegments, IsApartFrom, AreRecords}
 use Rattle.dlmalloc.proofs.Extents.Tiling.{tiles_kept}
 use Rattle.dlmalloc.proofs.Moves.OfLists.{no_plain}
@@ -12,7 +12,7 @@ KeepsIts old new segment = (k : ℕ) → segment.base < k → k < segment.base +
 abbrev pub IsOutside : Segment → ℕ → Type 0
 IsOutside segment k = (k < segment.base) ⊎ (segment.base + segment.size ≤ k)
 
--- it is one in other regions, where it is a run of them
+-- it is one in other regions, if it is a run of them
 pub segment_kept : {regions regions' : List Grant} (old new : ℕ → ℕ) {segment : Segment} → IsSegment regions old segment →
     IsFlaggedRun regions' segment.base segment.size segment.flags → KeepsIts old new segment → IsSegment regions' new segment
 segment_kept old new {segment} part run same = record {
@@ -38,7 +38,7 @@ module _ (regions : List Grant) (old new : ℕ → ℕ) where
   parts_stay [] parts same = tt
   parts_stay (segment ∷ segments) parts same = (one_stays parts.0 same.0, parts_stay segments parts.1 same.1)
 
-  -- and records tell them as before
+  -- and records describe them as before
   pub records_stay : (segments : List Segment) → AreSegments regions old segments → AllByRecursion (KeepsIts old new) segments →
       (payload : ℕ) → AreRecords old payload segments → AreRecords new payload segments
   records_stay [] parts same payload h = h
@@ -47,7 +47,7 @@ module _ (regions : List Grant) (old new : ℕ → ℕ) where
       record_stays old new payload segment segments segments p.whole (λ k low high m. same.0 k (omega arith) (omega arith) m) h
       (records_stay segments parts.1 same.1 (old (payload + 16)) h.5)
 
-  -- the words of segments that are apart from two others stay where what changes is in those
+  -- the words of segments that are apart from two others stay if what changes is in those
   pub apart_stay : (one two : Segment) (segments : List Segment) → AreSegments regions old segments → AllByRecursion (IsApartFrom one) segments →
       AllByRecursion (λ segment. IsApartFrom segment two) segments →
       ((k : ℕ) → IsWordOf regions k → IsOutside one k → IsOutside two k → new k ≡ old k) → AllByRecursion (KeepsIts old new) segments

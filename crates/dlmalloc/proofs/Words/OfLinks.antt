@@ -98,7 +98,7 @@ abbrev pub OthersStay : {A : Type 0} → (A → List Grant) → (A → ℕ → �
 OthersStay regions word old new = (k : ℕ) → IsWordOf (regions old.system) k → IsWordOf (regions new.system) k → (IsBoundary (state_of word new) k →
     ⊥) → (IsInRecord (state_of word old) k → ⊥) → (IsInRecord (state_of word new) k → ⊥) → word new.system k ≡ word old.system k
 
--- A chunk that is free before and after a move keeps its words, where those at boundaries and of records alone change.
+-- A chunk that is free before and after a move keeps its words, if only those at boundaries and of records change.
 pub kept : {A : Type 0} (regions : A → List Grant) (word : A → ℕ → ℕ) (old new : Dlmalloc A) → IsSound regions word old →
     IsSound regions word new → OthersStay regions word old new → (index : ℕ → List ℕ) →
     ((at size : ℕ) → IsIn at (index size) → IsFreeAt (state_of word old) at size) → ((at size : ℕ) → IsIn at (index size) →

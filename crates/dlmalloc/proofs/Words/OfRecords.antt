@@ -19,7 +19,7 @@ payload_in {words} {segment} part payload some there =
     let long : 80 ≤ end - (payload - 16) = elim (is.stands.size) [ inl short ↦ omega arith | inr longer ↦ omega arith ] in
     record { whole = omega (arith, is.stands.whole); low = omega (arith, is.low); high = omega (arith, long) }
 
--- a record tells its segment as before where the words of its payload stay
+-- a record describes its segment as before if the words of its payload stay
 pub record_stays : (old new : ℕ → ℕ) (payload : ℕ) (segment : Segment) (others now : List Segment) → payload % 16 ≡ 0 →
     ((k : ℕ) → payload ≤ k → k < payload + 32 → k % 8 ≡ 0 → new k ≡ old k) → AreRecords old payload (segment ∷ others) →
     AreRecords new (old (payload + 16)) now → AreRecords new payload (segment ∷ now)
@@ -53,7 +53,7 @@ module _ {regions : List Grant} {old : ℕ → ℕ} {segment : Segment} (part : 
   pub payload_word : (k : ℕ) → payload ≤ k → k < payload + 32 → k % 8 ≡ 0 → IsWordOf regions k
   payload_word k low high m = record { granted = part.run.covered k (omega (arith, payload_low)) (omega (arith, payload_high)); aligned = m }
 
-  -- and the segment is one still, where others stay
+  -- and the segment is still one, if others stay
   module _ (new : ℕ → ℕ) (kept : (k : ℕ) → segment.base < k → k < segment.base + segment.size → k % 8 ≡ 0 → (k < payload) ⊎ (payload + 32 ≤ k) → new k ≡ old k) where
     pub recorded_tiles : Tiles new Used segment.base segment.extents (segment.base + segment.size)
     recorded_tiles =

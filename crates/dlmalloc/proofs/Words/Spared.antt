@@ -4,7 +4,7 @@ use Rattle.dlmalloc_chunks.specs.Tiling.{extent_at}
 use Rattle.dlmalloc.proofs.Extents.Lookup.{found}
 use Rattle.dlmalloc.proofs.Extents.Tiling.{sized, tiles_le, tiles_split}
 
--- those that one writes are its head, and the word behind a free one
+-- those that one writes are its head, and the word after a free one
 pub spared : (kind : Kind) (at size k : ℕ) → k ≢ at + 8 → (IsTrue (is_free_below_top kind) → k ≢ at + size) → IsSpared k kind at size
 spared Free at size k head foot = (head, foot refl)
 spared Victim at size k head foot = (head, foot refl)

@@ -1,4 +1,4 @@
--- A heap rests on the words that tell its extents, and on the payloads of its records alone.
+-- A heap rests only on the words that describe its extents, and on the payloads of its records.
 use Rattle.dlmalloc.proofs.Names.{◌≡◌, ℕ, ◌+◌, ◌-◌, ◌%◌, ◌<◌, ◌≤◌, ◌⊎◌, inl, inr, true, false, nat_le, nat_lt, List, [], ◌∷◌, ◌++◌, Some, IsTrue, refl, sym, ◌∙◌, ap, subst, arith, append_assoc, dec_lt, list_any, AllByRecursion, nat_tests, Grant, IsWordOf, Extent, Kind, Used, Record, Foot, ends_segment, Bins, extent_at, HasChunk, Tiles, Segment, extents_in, is_free_below_top, IsFlaggedRun, IsSegment, has_byte_in, AreSegments, AreApart, record_of, AreRecords, segments_of, state_of, AreTold, IsSound, Dlmalloc}
 use Rattle.dlmalloc.proofs.Extents.Lookup.{found_here}
 use Rattle.dlmalloc.proofs.Extents.Tiling.{sized}
@@ -8,12 +8,12 @@ use Rattle.dlmalloc.proofs.Words.OfRecords.{payload_in, record_stays}
 use Rattle.dlmalloc.proofs.Extents.Disjoint.{room_behind}
 use Rattle.dlmalloc.proofs.Moves.OfHeaps.{segments_read, segments_few}
 
--- a word that an extent rests on, or may: its head, the words of a record, and the word behind a free one
+-- a word that an extent rests on, or may: its head, the words of a record, and the word after a free one
 abbrev pub IsTelling : ℕ → Extent → Type 0
 IsTelling k one = (one.at < k) × (k ≤ one.at + one.size) × (k % 8 ≡ 0) × ((k ≡ one.at + 8) ⊎ ((one.kind ≡ Record) ⊎ (k ≡ one.at + one.size)))
     × (k ≡ one.at + one.size → IsTrue (is_free_below_top one.kind))
 
--- an extent rests on the words that tell it
+-- an extent rests on the words that describe it
 stands_told : {words : ℕ → ℕ} (words' : ℕ → ℕ) {before : Kind} (one : Extent) → HasChunk words before one → ((k : ℕ) → IsTelling k one → words' k ≡ words k) → HasChunk words' before one
 stands_told words' one h same =
     let s = sized one.kind one.size h.size in
@@ -43,7 +43,7 @@ has_its segment k low high =
     let to : nat_lt k (segment.base + segment.size) ≡ true = grind (arith, nat_tests) in
     rw (from, to) refl
 
--- Each segment is a run still, and the words that tell the extents stay. The bins do not matter.
+-- Each segment is still a run, and the words that describe the extents stay. The bins do not matter.
 module _ {A : Type 0} {regions : A → List Grant} {word : A → ℕ → ℕ} {heap : Dlmalloc A} (sound : IsSound regions word heap) (system : A) (bins : Bins)
     (stay : AllByRecursion (λ (segment : Segment). IsFlaggedRun (regions heap.system) segment.base segment.size segment.flags → IsFlaggedRun (regions system) segment.base segment.size segment.flags) (segments_of word heap))
     (same : (one : Extent) → extent_at one.at (extents_in (state_of word heap)) ≡ Some one → (k : ℕ) → IsTelling k one → IsWordOf (regions heap.system) k → IsTrue (list_any (has_byte_in k) (segments_of word heap)) → word system k ≡ word heap.system k) where
@@ -102,7 +102,7 @@ module _ {A : Type 0} {regions : A → List Grant} {word : A → ℕ → ℕ} {h
   still_segments : AreSegments (regions system) now (segments_of word heap)
   still_segments = still_in [] (segments_of word heap) refl sound.segments stay
 
-  -- the records tell the same
+  -- the records say the same
   still_records : (front segments : List Segment) → segments_of word heap ≡ front ++ segments → AreSegments (regions heap.system) words segments →
       (payload : ℕ) → AreRecords words payload segments → AreRecords now payload segments
   still_records front [] is parts payload h = h

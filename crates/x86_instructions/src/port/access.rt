@@ -1,6 +1,6 @@
 //! The leaves to use a port.
 
-/// What no other crate gives leave by.
+/// The mark of the leaves below, which no other crate is to give.
 pub trait Sealed {}
 
 /// A leave to use a port.

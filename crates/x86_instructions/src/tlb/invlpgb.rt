@@ -38,8 +38,7 @@ impl Model for Invlpgb {
 }
 
 impl Invlpgb {
-    /// The sign, which the processor gives to code of level 0 alone. None exactly where it lacks the
-    /// instruction.
+    /// The sign, which the processor gives only to code of level 0. None exactly if it lacks the instruction.
     pub fn new(cpu: &Cpu) -> Option<Self>
         requires { cpu.now.cs % 4 ≡ 0 }
         ensures some { IsSome result ↔ IsTrue cpu.now.invlpgb }
@@ -150,7 +149,7 @@ pub struct AsidOutOfRangeError {
 }
 
 impl<'a, S: NotGiantPageSize> InvlpgbFlushBuilder<'a, S> {
-    /// Flushes the pages of this range alone.
+    /// Flushes only the pages of this range.
     pub fn pages<T: NotGiantPageSize>(self, page_range: PageRange<T>) -> InvlpgbFlushBuilder<'a, T>
         ensures { result ≡ record self.entry { pages = Some (page_range.start, page_range.end) } }
     {
@@ -165,8 +164,8 @@ impl<'a, S: NotGiantPageSize> InvlpgbFlushBuilder<'a, S> {
         }
     }
 
-    /// Flushes the translations of this process-context identifier alone, which the processor looks at
-    /// where `Cr4Flags::PCID` is set.
+    /// Flushes only the translations of this process-context identifier, which the processor looks at if
+    /// `Cr4Flags::PCID` is set.
     pub fn pcid(&mut self, pcid: Pcid) -> &mut Self
         ensures same { result.ghost_name ≡ self.entry.ghost_name }
         ensures value { result.now ≡ record self.old { pcid = Some pcid } }
@@ -184,7 +183,7 @@ impl<'a, S: NotGiantPageSize> InvlpgbFlushBuilder<'a, S> {
         self
     }
 
-    /// Flushes the final translations alone, and keeps what upper tables gave.
+    /// Flushes only the final translations, and keeps what upper tables gave.
     pub fn final_translation_only(&mut self) -> &mut Self
         ensures same { result.ghost_name ≡ self.entry.ghost_name }
         ensures value { result.now ≡ record self.old { final_only = true } }
@@ -203,13 +202,13 @@ impl<'a, S: NotGiantPageSize> InvlpgbFlushBuilder<'a, S> {
         flush
     }
 
-    /// Flushes the translations of this address space identifier alone, which the processor looks at where
+    /// Flushes only the translations of this address space identifier, which the processor looks at if
     /// `EferFlags::SECURE_VIRTUAL_MACHINE_ENABLE` is set.
     ///
     /// # Errors
     ///
-    /// `AsidOutOfRangeError` exactly where there is no such identifier. The flush is then as it was, as
-    /// `try_asid` says, which this call ends in.
+    /// `AsidOutOfRangeError` exactly if there is no such identifier. The flush is then as it was, as `try_asid` says,
+    /// which this call ends in.
     pub fn asid(&mut self, asid: u16) -> Result<&mut Self, AsidOutOfRangeError>
         ensures ok { IsOk result ↔ (asid < self.old.limits.nasid) }
         ensures same { IfOk result (λ flush. flush.ghost_name ≡ self.entry.ghost_name) }
@@ -224,7 +223,7 @@ impl<'a, S: NotGiantPageSize> InvlpgbFlushBuilder<'a, S> {
     ///
     /// # Errors
     ///
-    /// `AsidOutOfRangeError` exactly where there is no such identifier. The flush is then as it was.
+    /// `AsidOutOfRangeError` exactly if there is no such identifier. The flush is then as it was.
     pub fn try_asid(&mut self, asid: u16) -> Result<(), AsidOutOfRangeError>
         ensures ok { IsOk result ↔ (asid < self.old.limits.nasid) }
         ensures value { OnOk result (self.new ≡ record self.old { asid = Some asid }) }
@@ -239,12 +238,12 @@ impl<'a, S: NotGiantPageSize> InvlpgbFlushBuilder<'a, S> {
         Ok(())
     }
 
-    /// Appends the commands of the flush: one where no pages are given, none where the range has no page,
-    /// and else one for each turn, in the order of the pages. The places are reserved first.
+    /// Appends the commands of the flush: one if no pages are given, none if the range has no page, and else one for
+    /// each turn, in the order of the pages. The places are reserved first.
     ///
     /// # Errors
     ///
-    /// `AllocError` where there is no memory. The list is then as it was.
+    /// `AllocError` if there is no memory. The list is then as it was.
     pub fn flush(&self, list: &mut FlushList) -> Result<(), AllocError>
         ensures ok { OnOk result (list.new ≡ list.old ++ commands_of S.SIZE self.now) }
         ensures err { OnErr result (list.new ≡ list.old) }
@@ -318,7 +317,7 @@ impl<'a, S: NotGiantPageSize> InvlpgbFlushBuilder<'a, S> {
         u32::from(pcid) << 16 | u32::from(self.asid.unwrap_or(0))
     }
 
-    /// The greatest count of a turn that begins at a page, with which so many pages are left.
+    /// The greatest count of a turn that begins at a page, if `left` pages are left from that page on.
     fn count(&self, page: Page<S>, left: u64) -> u16
         ensures { result ≡ greatest_count S.SIZE self.now.limits.count_max (position S.SIZE page) (position S.SIZE page + left) }
     {
@@ -350,7 +349,7 @@ fn pages_before_gap<S: NotGiantPageSize>(page: Page<S>) -> u64
     Page::range(page, high_half).len()
 }
 
-/// The bit at this place where the condition holds, and 0 elsewhere.
+/// The bit at this place if the condition holds, and else 0.
 fn bit(holds: bool, place: u32) -> u64
     requires { place < 64 }
     ensures { result ≡ bit_if holds place }

@@ -10,7 +10,7 @@ use paging_core::VirtAddr;
 
 /// A model specific register that holds an address.
 pub trait AddressRegister: Register {
-    /// The address. None exactly where the register's bits are no canonical address.
+    /// The address. None exactly if the register's bits are no canonical address.
     final fn read(cpu: &Cpu) -> Option<VirtAddr>
         ensures some { IsSome result ↔ IsTrue (is_canonical (Self.bits cpu.now)) }
         ensures value { IfSome result (λ address. address ≡ Self.bits cpu.now) }

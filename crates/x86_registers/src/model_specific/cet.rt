@@ -20,8 +20,8 @@ use x86_flags::CetFlags;
 ///
 /// Source: AMD64 manual, volume 2, chapter 18, for the shadow stack; the rest is Intel's alone.
 pub trait CetRegister: Register {
-    /// The flags that are set, and the page of the bitmap. None exactly where the register's bits from 12
-    /// on are no canonical address.
+    /// The flags that are set, and the page of the bitmap. None exactly if the register's bits from 12 on are no
+    /// canonical address.
     final fn read(cpu: &Cpu) -> Option<(CetFlags, Page)>
         ensures some { IsSome result ↔ IsTrue (is_canonical (Self.bits cpu.now / 4096 * 4096)) }
         ensures value { IfSome result (IsCet (Self.bits cpu.now)) }
@@ -41,8 +41,7 @@ pub trait CetRegister: Register {
         Self::set(cpu, flags.bits() | legacy_bitmap.start_address().as_u64());
     }
 
-    /// Writes what `f` makes of the flags and the page. False, and nothing changes, exactly where `read`
-    /// answers none.
+    /// Writes what `f` makes of the flags and the page. False, and nothing changes, exactly if `read` answers none.
     final fn update<F: FnOnce((CetFlags, Page)) -> (CetFlags, Page)>(cpu: &mut Cpu, f: F) -> bool
         requires { IsTrue (is_canonical (Self.bits cpu.old / 4096 * 4096))
             → CanUpdate (IsCet (Self.bits cpu.old)) (F.pre f) }

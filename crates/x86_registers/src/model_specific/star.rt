@@ -68,8 +68,8 @@ impl Star {
         (sysret, syscall)
     }
 
-    /// The selectors: the code and the stack of `SYSRET`, and the code and the stack of `SYSCALL`. None
-    /// exactly where one of them would exceed 65535.
+    /// The selectors: the code and the stack of `SYSRET`, and the code and the stack of `SYSCALL`. None exactly if one
+    /// of them would exceed 65535.
     pub fn read(
         cpu: &Cpu,
     ) -> Option<

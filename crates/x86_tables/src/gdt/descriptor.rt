@@ -24,7 +24,7 @@ const IOMAP_DISTANCE: u64 = 0xdfff;
 pub enum Descriptor {
     /// A code or data segment.
     UserSegment(u64),
-    /// A system segment, as a task state segment: its low and its high word.
+    /// A system segment, such as a task state segment: its low and its high word.
     SystemSegment(u64, u64),
 }
 
@@ -79,10 +79,10 @@ impl Descriptor {
     ///
     /// # Errors
     ///
-    /// The first that holds, in this order: `TooLong`, of a map of more than 8193 bytes; `IoMapBeforeTss`,
-    /// where the map lies before the segment; `TooFarFromTss`, where it lies more than 0xdfff bytes after
-    /// the segment; `InvalidTerminatingByte`, where the map's last byte is not 0xff; `InvalidBase`, where
-    /// the segment's `iomap_base` is not the map's distance from the segment.
+    /// The first that holds, in this order: `TooLong`, if the map has more than 8193 bytes; `IoMapBeforeTss`, if the
+    /// map lies before the segment; `TooFarFromTss`, if it lies more than 0xdfff bytes after the segment;
+    /// `InvalidTerminatingByte`, if the map's last byte is not 0xff; `InvalidBase`, if the segment's `iomap_base` is
+    /// not the map's distance from the segment.
     pub fn tss_segment_with_iomap(
         tss_at: VirtAddr,
         tss: &TaskStateSegment,

@@ -26,10 +26,10 @@ impl DescriptorFlags {
     /// limit is its lower end.
     pub const CONFORMING: Self = Self(1 << 42);
 
-    /// A code segment; where clear, a data segment.
+    /// A code segment; if clear, a data segment.
     pub const EXECUTABLE: Self = Self(1 << 43);
 
-    /// A code or data segment; where clear, a system segment or a gate.
+    /// A code or data segment; if clear, a system segment or a gate.
     pub const USER_SEGMENT: Self = Self(1 << 44);
 
     /// The field of the ring that may use the segment: both bits set are ring 3.

@@ -126,8 +126,7 @@ impl<const MAX: usize> GlobalDescriptorTable<MAX> {
         SegmentSelector::new(index, entry.dpl())
     }
 
-    /// Appends a descriptor as `append` does. None exactly where there is no room; the table then is
-    /// unchanged.
+    /// Appends a descriptor as `append` does. None exactly if there is no room; then the table is unchanged.
     pub fn try_append(&mut self, entry: Descriptor) -> Option<SegmentSelector>
         ensures some { IsSome result ↔ (length self.old + length (words_of entry) ≤ MAX) }
         ensures words { OnSome result (self.new ≡ self.old ++ words_of entry) }

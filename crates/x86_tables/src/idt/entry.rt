@@ -11,7 +11,7 @@ use std::marker::PhantomData;
 use x86_registers::Cpu;
 use x86_registers::segmentation::{CS, Segment};
 
-/// A gate to the handler of an interrupt or an exception. `F` tells the form of the handler.
+/// A gate to the handler of an interrupt or an exception. `F` is the form of the handler.
 ///
 /// Source: AMD64 manual, volume 2, section 4.8.4.
 #[derive_where(Clone, Copy, PartialEq, Debug)]
@@ -53,7 +53,7 @@ impl<F> Entry<F> {
         self.address
     }
 
-    /// What the gate says beside the handler's address.
+    /// What the gate says besides the handler's address.
     pub fn options(&self) -> &EntryOptions
         ensures { result.now ≡ self.now.options }
     {

@@ -1,4 +1,4 @@
-//! What an entry of the interrupt descriptor table says beside its handler's address.
+//! What an entry of the interrupt descriptor table says besides its handler's address.
 
 ghost use Rattle.std.specs.Prelude.{◌≡◌, ◌+◌, ◌-◌, ◌^◌, ◌<◌, ◌==◌, ◌↔◌, IsNone, IfSome, if◌then◌else◌};
 ghost use Rattle.paging_core.specs.Field.{field_of, with_field};
@@ -108,8 +108,7 @@ impl EntryOptions {
         PrivilegeLevel::from_u16(self.field(13, 15))
     }
 
-    /// The index of the stack that the handler runs on. None exactly where it keeps the stack, or takes that
-    /// of its ring.
+    /// The index of the stack that the handler runs on. None exactly if it keeps the stack, or takes that of its ring.
     pub fn stack_index(&self) -> Option<u16>
         ensures none { IsNone result ↔ (field_of self.now.bits 0 3 ≡ 0) }
         ensures index { IfSome result (λ index. index + 1 ≡ field_of self.now.bits 0 3) }

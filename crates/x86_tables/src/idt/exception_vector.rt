@@ -55,7 +55,7 @@ pub enum ExceptionVector {
     HypervisorInjection = 0x1C,
     /// An event of a guest that its hypervisor has to know.
     VmmCommunication = 0x1D,
-    /// An event that bears on security, as a redirected reset.
+    /// An event that bears on security, such as a redirected reset.
     Security = 0x1E,
 }
 
@@ -64,7 +64,7 @@ pub enum ExceptionVector {
 #[error("{0} is not a valid exception vector")]
 pub struct InvalidExceptionVectorNumber(pub u8);
 
-/// The exception of this number; an error, with the number, exactly where none has it.
+/// The exception of this number; an error, with the number, exactly if none has it.
 impl TryFrom<u8> for ExceptionVector {
     type Error = InvalidExceptionVectorNumber;
 

@@ -1,5 +1,5 @@
-//! Which form the handler of an entry has. An entry holds its handler's address; these types tell which
-//! address may stand there.
+//! Which form the handler of an entry has. An entry holds its handler's address; these types say which address may
+//! stand there.
 
 /// A handler of an interrupt, or of an exception without an error code.
 #[derive(Clone, Copy, Debug)]

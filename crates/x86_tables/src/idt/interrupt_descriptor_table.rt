@@ -65,14 +65,14 @@ pub struct InterruptDescriptorTable {
     pub simd_floating_point: Entry<HandlerFunc>,
     /// Vector 20. A break of the second level of paging (Intel).
     pub virtualization: Entry<HandlerFunc>,
-    /// Vector 21. A break of a rule of control-flow enforcement. The error code tells the rule.
+    /// Vector 21. A break of a rule of control-flow enforcement. The error code says which rule.
     pub cp_protection_exception: Entry<HandlerFuncWithErrCode>,
     reserved_2: Gates<Entry<HandlerFunc>, 6>,
     /// Vector 28. A signal that a hypervisor injects.
     pub hv_injection_exception: Entry<HandlerFunc>,
-    /// Vector 29. An event of a guest that its hypervisor has to know. The error code tells the event.
+    /// Vector 29. An event of a guest that its hypervisor has to know. The error code says which event.
     pub vmm_communication_exception: Entry<HandlerFuncWithErrCode>,
-    /// Vector 30. An event that bears on security, as a redirected reset. The error code tells the event.
+    /// Vector 30. An event that bears on security, such as a redirected reset. The error code says which event.
     pub security_exception: Entry<HandlerFuncWithErrCode>,
     reserved_3: Entry<HandlerFunc>,
     // Vectors 32 to 255: the interrupts of devices and of software.
@@ -177,8 +177,8 @@ impl InterruptDescriptorTable {
         }
     }
 
-    /// The gate of a vector. None exactly where the vector is reserved, or its handler takes an error code or
-    /// does not return: 8, 10 to 15, 17, 18, 21 to 27 and 29 to 31. Of these, the fields hold the gates.
+    /// The gate of a vector. None exactly if the vector is reserved, or its handler takes an error code or does not
+    /// return: 8, 10 to 15, 17, 18, 21 to 27 and 29 to 31. Of these, the fields hold the gates.
     pub fn entry(&self, index: u8) -> Option<&Entry<HandlerFunc>>
         ensures { option_map (λ entry. entry.now) result ≡ entry_of self.now index }
     {
@@ -201,7 +201,7 @@ impl InterruptDescriptorTable {
         }
     }
 
-    /// The gate of a vector, to be changed. None exactly where `entry` is.
+    /// The gate of a vector, to be changed. None exactly if `entry` answers none.
     pub fn entry_mut(&mut self, index: u8) -> Option<&mut Entry<HandlerFunc>>
         ensures* lends { sem 𝓛 (lends_entry self.entry index result) }
         ensures value { option_map (λ entry. entry.now) result ≡ entry_of self.old index }
@@ -225,8 +225,8 @@ impl InterruptDescriptorTable {
         }
     }
 
-    /// The gates of the vectors from `lower` up to `upper`, `upper` excluded. None exactly where `lower` is
-    /// below 32, `upper` is above 256, or `lower` is above `upper`.
+    /// The gates of the vectors from `lower` up to `upper`, `upper` excluded. None exactly if `lower` is below 32,
+    /// `upper` is above 256, or `lower` is above `upper`.
     pub fn slice(&self, lower: u16, upper: u16) -> Option<&[Entry<HandlerFunc>]>
         ensures some { IsSome result ↔ has_slice lower upper }
         ensures value { IfSome result (λ entries. entries.now ≡ slice_of self.now lower upper) }
@@ -240,11 +240,11 @@ impl InterruptDescriptorTable {
         )
     }
 
-    /// The gates of the vectors from `lower` up to `upper`, `upper` excluded, to be changed. None exactly
-    /// where `slice` is; then every gate stays. Otherwise what is written lands in these gates alone.
+    /// The gates of the vectors from `lower` up to `upper`, `upper` excluded, to be changed. None exactly if `slice`
+    /// answers none; then every gate stays. Otherwise what is written changes only these gates.
     ///
-    /// The prover does not read the clause on the loan where this is called, so a caller that has to prove what
-    /// the table ends as takes `interrupts_mut`.
+    /// A caller of this function does not get the clause on the loan from the prover, so one that has to prove what the
+    /// table ends as takes `interrupts_mut`.
     pub fn slice_mut(&mut self, lower: u16, upper: u16) -> Option<&mut [Entry<HandlerFunc>]>
         ensures* lends { sem 𝓛 (lends_slice_if self.entry lower upper result) }
         ensures some { IsSome result ↔ has_slice lower upper }

@@ -7,9 +7,8 @@ ghost use Rattle.x86_tables.specs.SelectorErrorCode.{is_external, selector_table
 use paging_core::get_bits;
 use std::marker::Model;
 
-/// Which selector raised an exception: its index in bits 3 to 15, its table in bits 1 and 2, and in bit 0
-/// whether the exception came while an event from outside the program was delivered. A contract sees it as
-/// its bits.
+/// Which selector raised an exception: its index in bits 3 to 15, its table in bits 1 and 2, and in bit 0 whether the
+/// exception was raised while an event from outside the program was delivered. A contract sees it as its bits.
 ///
 /// Source: AMD64 manual, volume 2, section 8.4.1.
 #[derive(Clone, Copy, PartialEq, Eq, Hash, Debug)]
@@ -43,7 +42,7 @@ pub enum DescriptorTable {
 }
 
 impl SelectorErrorCode {
-    /// The error code of these bits. None exactly where a reserved bit is set: one from 16 on.
+    /// The error code of these bits. None exactly if a reserved bit is set: one from 16 on.
     pub fn new(value: u64) -> Option<Self>
         ensures { SomeIff result (value < 2 ^ 16) value }
     {
@@ -63,7 +62,7 @@ impl SelectorErrorCode {
         }
     }
 
-    /// Whether the exception came while an event from outside the program was delivered.
+    /// Whether the exception was raised while an event from outside the program was delivered.
     pub fn external(&self) -> bool
         ensures { result ≡ is_external self.now }
     {

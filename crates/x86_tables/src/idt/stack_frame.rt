@@ -46,8 +46,8 @@ impl InterruptStackFrameValue {
     }
 }
 
-/// A frame on an interrupt handler's stack. It is read by `value`, and changed by `as_mut` alone, since a
-/// change moves where the handler returns to.
+/// A frame on an interrupt handler's stack. It is read by `value`, and changed only by `as_mut`, since a change moves
+/// the address to which the handler returns.
 ///
 /// Source: AMD64 manual, volume 2, section 8.9.3.
 #[derive(Debug, Drop)]

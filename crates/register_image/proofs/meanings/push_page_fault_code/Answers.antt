@@ -3,7 +3,7 @@ use Rattle.std.proofs.lemmas.Result.{on_ok_weaker}
 use Rattle.register_image.specs.Meanings.{word_if}
 use Rattle.register_image.proofs.meanings.push_page_fault_code.Goals as goal
 
--- one part, and the rest behind it
+-- one part, and the rest after it
 behind : (old middle new part rest : List ℕ) → middle ≡ old ++ part → new ≡ middle ++ rest → new ≡ old ++ (part ++ rest)
 behind old middle new part rest first then = then ∙ ap (λ (l : List ℕ). l ++ rest) first ∙ append_assoc old part rest
 

@@ -8,7 +8,7 @@ use Rattle.dlmalloc.proofs.Blocks.HandedOut.{on_ok, handed_low}
 use Rattle.dlmalloc.proofs.heap.Dlmalloc.c_realloc.Goals as goal
 use Rattle.dlmalloc.proofs.heap.Dlmalloc.c_realloc.Goals.{In-Some, After-size-size}
 
--- the block that is told
+-- the block that is given
 block : (g : _) (c : In-Some g) → (size : ℕ) × IsBlock (state_of g.A.Links.word c.args.self.now) c.in-Some.address size
 block g c = block_told (state_of g.A.Links.word c.args.self.now) c.in-Some.is c.requires.block
 

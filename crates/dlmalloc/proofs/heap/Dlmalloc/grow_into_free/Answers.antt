@@ -8,7 +8,7 @@ use Rattle.dlmalloc.proofs.Bins.Order.{lessened_as, added_as, order_less, order_
 use Rattle.dlmalloc.proofs.heap.Dlmalloc.grow_into_free.Goals as goal
 use Rattle.dlmalloc.proofs.heap.Dlmalloc.grow_into_free.Goals.{Start, After-join_part, Else-was_victim}
 
--- the chunk can take n bytes with those of the free one behind it
+-- the chunk can take n bytes with those of the free one after it
 can : (g : _) (c : Start g) → CanTakeFree g.A.Links.word c.args.self.now c.args.at c.args.size c.args.free c.args.n
 can g c = record { there = c.requires.chunk; behind = c.requires.next; whole = c.requires.whole; more = c.requires.more; room = c.requires.room }
 

@@ -3,7 +3,7 @@ use Rattle.dlmalloc.proofs.Resizing.IntoTop.{CanTakeTop, top_first_head, top_res
 use Rattle.dlmalloc.proofs.heap.Dlmalloc.grow_into_top.Goals as goal
 use Rattle.dlmalloc.proofs.heap.Dlmalloc.grow_into_top.Goals.{Start}
 
--- the chunk can take n bytes with those of the top behind it
+-- the chunk can take n bytes with those of the top after it
 can : (g : _) (c : Start g) → CanTakeTop g.A.Links.word c.args.self.now c.args.at c.args.size c.args.n
 can g c = record { there = c.requires.chunk; touch = c.requires.next; whole = c.requires.whole; more = c.requires.more; room = c.requires.room }
 

@@ -65,7 +65,7 @@ returns-then-inuse-clause-none g c =
     let there = chunk_told c.requires.sound c.requires.chunk.1 c.size-size.ensures.value in
     λ no. used_behind c.requires.sound there c.if-next-self.false c.args.n c.if-n-size.false (not-true _ (sym c.inuse.ensures.value ∙ c.if-inuse.true))
 
--- the chunk behind is free, and has the size that was read
+-- the chunk after it is free, and has the size that was read
 free_chunk : (g : _) (c : After-size-free g) → extent_at (c.args.at + c.size-size.result) (extents_in (state_of g.A.Links.word c.args.self.now))
     ≡ Some (extent (c.args.at + c.size-size.result) c.size-free.result Free)
 free_chunk g c = free_behind c.requires.sound (chunk_told c.requires.sound c.requires.chunk.1 c.size-size.ensures.value) c.if-next-self.false

@@ -3,7 +3,7 @@ use Rattle.dlmalloc.proofs.Resizing.Split.{CanSplit, end_small, first_head, seco
 use Rattle.dlmalloc.proofs.heap.Dlmalloc.split.Goals as goal
 use Rattle.dlmalloc.proofs.heap.Dlmalloc.split.Goals.{Start}
 
--- the chunk can be split behind its first n bytes
+-- the chunk can be split after its first n bytes
 can : (g : _) (c : Start g) → CanSplit g.A.Links.word c.args.self.now c.args.at c.args.size c.args.n
 can g c = record { there = c.requires.chunk; whole = c.requires.whole; least = c.requires.least; room = c.requires.room }
 

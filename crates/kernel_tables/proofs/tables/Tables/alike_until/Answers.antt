@@ -9,7 +9,7 @@ block (suc (suc zero)) le = refl
 block (suc (suc (suc zero))) le = refl
 block (suc (suc (suc (suc n)))) le = absurd (omega arith)
 
--- it ends behind the page, and not far
+-- it ends after the page, and not far from it
 block_end : (page missing : ℕ) → missing ≤ 3 →
     (0 < 1 * 2 ^ (9 * missing) % 18446744073709551616)
     × (page < page - page % (1 * 2 ^ (9 * missing) % 18446744073709551616) + 1 * 2 ^ (9 * missing) % 18446744073709551616)
