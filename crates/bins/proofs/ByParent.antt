@@ -8,16 +8,17 @@ use Rattle.bins.specs.Tries.{slot, low_at, width, IsTrie}
 use Rattle.bins.specs.Stores.{IsWordPlace}
 use Rattle.bins.specs.Below.{IsHeld, OnlyHeldChanges}
 use Rattle.bins.proofs.Frame.{in_without}
-use Rattle.bins.proofs.Lists.{without_other}
+use Rattle.bins.proofs.Lists.{without_other, first_in}
 use Rattle.bins.proofs.Chunks.{same_or_not, one_size}
 use Rattle.bins.proofs.Opened.{Opened, opened, levels_some, halves_apart}
 use Rattle.bins.proofs.Widths.{wide}
-use Rattle.bins.proofs.Taking.{t_slot}
+use Rattle.bins.proofs.Taking.{o, t_slot}
 use Rattle.bins.proofs.OneIndex.{half_with}
-use Rattle.bins.proofs.LeaveBelow.{q, b_real, b_held, kids_kept, one_trie, one_words}
+use Rattle.bins.proofs.LeaveBelow.{LeavesBelow, b_real, b_held, kids_kept, one_trie, one_words}
 
--- A node stands below the root of a trie: it is a child of a node, and the trie from it on holds an index of its own. Where that
--- trie loses the node, and the word of the parent is given the one that takes its place, the whole trie has lost it.
+-- A node stands below the root of a trie: it is a child of a node, and the trie from it on holds an index of its own.
+-- If that trie loses the node, and the word of the parent is given the one that takes its place, the whole trie has
+-- lost it.
 pub record IsBelow (regions : List Grant) (old : ℕ → ℕ) (index : ℕ → List ℕ) (bin parent low levels at size chunk up : ℕ) : Type 0 where
   pub own : ℕ → List ℕ
   pub from : ℕ
@@ -31,20 +32,32 @@ pub record IsBelow (regions : List Grant) (old : ℕ → ℕ) (index : ℕ → L
   pub here : old (up + slot side) ≡ chunk
   pub there : old (up + slot (not side)) ≢ chunk
   pub kept : (mid : ℕ → ℕ) → OnlyHeldChanges regions own from (from + width deep) old mid → (b : Bool) → mid (up + slot b) ≡ old (up + slot b)
-  pub trie : (mid new : ℕ → ℕ) (left : ℕ) → IsTrie mid (without_chunk size chunk own) bin up from deep left → OnlyHeldChanges regions own from (from + width deep) old mid → IsStored regions mid (up + slot side) left new →
+  pub trie : (mid new : ℕ → ℕ) (left : ℕ) → IsTrie mid (without_chunk size chunk own) bin up from deep left →
+      OnlyHeldChanges regions own from (from + width deep) old mid → IsStored regions mid (up + slot side) left new →
       IsTrie new (without_chunk size chunk index) bin parent low levels at
-  pub words : (mid new : ℕ → ℕ) (left : ℕ) → IsTrie mid (without_chunk size chunk own) bin up from deep left → OnlyHeldChanges regions own from (from + width deep) old mid → IsStored regions mid (up + slot side) left new →
+  pub words : (mid new : ℕ → ℕ) (left : ℕ) → IsTrie mid (without_chunk size chunk own) bin up from deep left →
+      OnlyHeldChanges regions own from (from + width deep) old mid → IsStored regions mid (up + slot side) left new →
       OnlyHeldChanges regions index low (low + width levels) old new
 
 module _ (regions : List Grant) (old : ℕ → ℕ) (bin size chunk : ℕ) (others : List ℕ) where
   -- one step down from a node of another size
-  module _ (index : ℕ → List ℕ) (parent low levels at : ℕ) (some : 0 < at) (held : IsHeld regions old index bin parent low levels at) (first : index size ≡ chunk ∷ others)
-      (other : size_of (old (at + 8)) ≢ size) (side : Bool) (above : low_at side low (width (levels - 1)) ≤ size) (below : size < low_at side low (width (levels - 1)) + width (levels - 1)) where
+  module _ {index : ℕ → List ℕ} {parent low levels at : ℕ} (some : 0 < at) (held : IsHeld regions old index bin parent low levels at)
+      (first : index size ≡ chunk ∷ others)
+      (other : size_of (old (at + 8)) ≢ size) (side : Bool) (above : low_at side low (width (levels - 1)) ≤ size)
+      (below : size < low_at side low (width (levels - 1)) + width (levels - 1)) where
     chunk_in : IsIn chunk (index size)
-    chunk_in = subst (λ (cs : List ℕ). IsIn chunk cs) (sym first) (inl refl)
+    chunk_in = first_in first
+
+    abbrev leaves : LeavesBelow regions old index bin parent low levels at size chunk side (width (levels - 1)) (at + slot side) (old (at + slot side))
+    leaves = record {
+      some = some;
+      held = held;
+      chunk_in = chunk_in;
+      step = record { other = other; half_is = refl; place_is = refl; child_is = refl; above = above; below = below };
+    }
 
     abbrev node : Opened old index bin parent low (levels - 1) at
-    node = q regions old index bin parent low levels at size chunk some held chunk_in
+    node = o some held
 
     not_same : node.node.size ≢ size
     not_same is = other (node.node.head ∙ is)
@@ -52,28 +65,32 @@ module _ (regions : List Grant) (old : ℕ → ℕ) (bin size chunk : ℕ) (othe
     abbrev rest : ℕ → List ℕ
     rest = without_size node.node.size index
 
+    abbrev under : ℕ
+    under = low_at side low (width (levels - 1))
+
     rest_first : rest size ≡ chunk ∷ others
     rest_first = without_other node.node.size index size (λ e. not_same (sym e)) ∙ first
 
     at_in : IsIn at (index node.node.size)
-    at_in = subst (λ (cs : List ℕ). IsIn at cs) (sym node.node.chunks) (inl refl)
+    at_in = first_in node.node.chunks
 
     real : 0 < old (at + slot side)
-    real = b_real regions old index bin parent low levels at size chunk some held chunk_in other side (width (levels - 1)) (at + slot side) (old (at + slot side)) refl refl refl above below
+    real = b_real leaves
 
-    child_held : IsHeld regions old rest bin at (low_at side low (width (levels - 1))) (levels - 1) (old (at + slot side))
-    child_held = b_held regions old index bin parent low levels at size chunk some held chunk_in other side (width (levels - 1)) (at + slot side) (old (at + slot side)) refl refl refl above below
+    child_held : IsHeld regions old rest bin at under (levels - 1) (old (at + slot side))
+    child_held = b_held leaves
 
-    kids : (mid : ℕ → ℕ) → OnlyHeldChanges regions rest (low_at side low (width (levels - 1))) (low_at side low (width (levels - 1)) + width (levels - 1)) old mid → (b : Bool) → mid (at + slot b) ≡ old (at + slot b)
-    kids = kids_kept regions old index bin parent low levels at size chunk some held chunk_in other side (width (levels - 1)) (at + slot side) (old (at + slot side)) refl refl refl above below
+    kids : (mid : ℕ → ℕ) → OnlyHeldChanges regions rest under (under + width (levels - 1)) old mid → (b : Bool) →
+        mid (at + slot b) ≡ old (at + slot b)
+    kids = kids_kept leaves
 
-    up_trie : (mid new : ℕ → ℕ) (left : ℕ) → IsTrie mid (without_chunk size chunk rest) bin at (low_at side low (width (levels - 1))) (levels - 1) left →
-        OnlyHeldChanges regions rest (low_at side low (width (levels - 1))) (low_at side low (width (levels - 1)) + width (levels - 1)) old mid → IsStored regions mid (at + slot side) left new → IsTrie new (without_chunk size chunk index) bin parent low levels at
-    up_trie = one_trie regions old index bin parent low levels at size chunk some held chunk_in other side (width (levels - 1)) (at + slot side) (old (at + slot side)) refl refl refl above below
+    up_trie : (mid new : ℕ → ℕ) (left : ℕ) → IsTrie mid (without_chunk size chunk rest) bin at under (levels - 1) left →
+        OnlyHeldChanges regions rest under (under + width (levels - 1)) old mid → IsStored regions mid (at + slot side) left new → IsTrie new (without_chunk size chunk index) bin parent low levels at
+    up_trie = one_trie leaves
 
-    up_words : (mid new : ℕ → ℕ) (left : ℕ) → IsTrie mid (without_chunk size chunk rest) bin at (low_at side low (width (levels - 1))) (levels - 1) left →
-        OnlyHeldChanges regions rest (low_at side low (width (levels - 1))) (low_at side low (width (levels - 1)) + width (levels - 1)) old mid → IsStored regions mid (at + slot side) left new → OnlyHeldChanges regions index low (low + width levels) old new
-    up_words = one_words regions old index bin parent low levels at size chunk some held chunk_in other side (width (levels - 1)) (at + slot side) (old (at + slot side)) refl refl refl above below
+    up_words : (mid new : ℕ → ℕ) (left : ℕ) → IsTrie mid (without_chunk size chunk rest) bin at under (levels - 1) left →
+        OnlyHeldChanges regions rest under (under + width (levels - 1)) old mid → IsStored regions mid (at + slot side) left new → OnlyHeldChanges regions index low (low + width levels) old new
+    up_words = one_words leaves
 
     -- the other child is not the chunk, whose size is in this half
     not_there : old (at + slot (not side)) ≢ chunk
@@ -84,22 +101,22 @@ module _ (regions : List Grant) (old : ℕ → ℕ) (bin size chunk : ℕ) (othe
         let some' : 0 < chunk = let l = c.low in omega arith in
         let o = opened old rest bin at (low_at (not side) low (width n)) n chunk some' t in
         let w = wide n (levels_some old rest bin at (low_at (not side) low (width n)) n chunk some' t) in
-        let in_rest : IsIn chunk (rest o.node.size) = subst (λ (cs : List ℕ). IsIn chunk cs) (sym o.node.chunks) (inl refl) in
-        let one : o.node.size ≡ size = one_size regions old old index o.node.size size chunk held.chunks (in_without node.node.size index o.node.size chunk in_rest) chunk_in in
+        let in_rest : IsIn chunk (rest o.node.size) = first_in o.node.chunks in
+        let one : o.node.size ≡ size = one_size o.node.size size chunk held.chunks (in_without node.node.size index o.node.size chunk in_rest) chunk_in in
         halves_apart side low (width n) size (subst (λ s. low_at (not side) low (width n) ≤ s) one o.node.above)
         (let b = o.node.below in omega (arith, b, one, w)) above below
 
     here_below : old (at + slot side) ≡ chunk → IsBelow regions old index bin parent low levels at size chunk at
     here_below is = record {
       own = rest;
-      from = low_at side low (width (levels - 1));
+      from = under;
       deep = levels - 1;
       side = side;
-      held = subst (λ x. IsHeld regions old rest bin at (low_at side low (width (levels - 1))) (levels - 1) x) is child_held;
-      is_in = subst (λ (cs : List ℕ). IsIn chunk cs) (sym rest_first) (inl refl);
+      held = subst (λ x. IsHeld regions old rest bin at under (levels - 1) x) is child_held;
+      is_in = first_in rest_first;
       less = omega arith;
       up_low = (held.chunks.each node.node.size at at_in).low;
-      places = t_slot regions old index bin parent low levels at some held;
+      places = t_slot some held;
       here = is;
       there = not_there;
       kept = kids;
@@ -107,9 +124,10 @@ module _ (regions : List Grant) (old : ℕ → ℕ) (bin size chunk : ℕ) (othe
       words = up_words;
     }
 
-    more_below : (up : ℕ) → IsBelow regions old rest bin at (low_at side low (width (levels - 1))) (levels - 1) (old (at + slot side)) size chunk up → IsBelow regions old index bin parent low levels at size chunk up
-    more_below up b =
-        let same : (new : ℕ → ℕ) → OnlyHeldChanges regions rest (low_at side low (width (levels - 1))) (low_at side low (width (levels - 1)) + width (levels - 1)) old new → IsStored regions new (at + slot side) (old (at + slot side)) new =
+    more_below : {up : ℕ} → IsBelow regions old rest bin at under (levels - 1) (old (at + slot side)) size chunk up →
+        IsBelow regions old index bin parent low levels at size chunk up
+    more_below b =
+        let same : (new : ℕ → ℕ) → OnlyHeldChanges regions rest under (under + width (levels - 1)) old new → IsStored regions new (at + slot side) (old (at + slot side)) new =
         λ new w. record { here = kids new w side; elsewhere = λ p is far. refl } in
         record {
           own = b.own;
@@ -129,20 +147,22 @@ module _ (regions : List Grant) (old : ℕ → ℕ) (bin size chunk : ℕ) (othe
         }
 
   -- the oldest chunk of a size is the root of its trie, or stands below it
-  pub by_parent : (fuel : ℕ) (index : ℕ → List ℕ) (parent low levels at : ℕ) → levels ≤ fuel → 0 < at → IsHeld regions old index bin parent low levels at → index size ≡ chunk ∷ others →
+  pub by_parent : (fuel : ℕ) {index : ℕ → List ℕ} {parent low levels at : ℕ} → levels ≤ fuel → 0 < at →
+      IsHeld regions old index bin parent low levels at → index size ≡ chunk ∷ others →
       low ≤ size → size < low + width levels → (chunk ≡ at) ⊎ ((up : ℕ) × IsBelow regions old index bin parent low levels at size chunk up)
-  by_parent zero index parent low levels at few some held first above below = absurd (let l = levels_some old index bin parent low levels at some held.trie in omega arith)
-  by_parent (suc fuel) index parent low levels at few some held first above below =
+  by_parent zero {index = index} {parent = parent} {low = low} {levels = levels} {at = at} few some held first above below =
+      absurd (let l = levels_some old index bin parent low levels at some held.trie in omega arith)
+  by_parent (suc fuel) {index = index} {parent = parent} {low = low} {levels = levels} {at = at} few some held first above below =
       let o = opened old index bin parent low levels at some held.trie in
       elim (same_or_not (size_of (old (at + 8))) size) [
         | inl same ↦ inl (ap (λ (cs : List ℕ). first_or 0 cs) (sym first ∙ (ap index (sym same ∙ o.node.head) ∙ o.node.chunks)))
         | inr other ↦
             let w = wide levels (levels_some old index bin parent low levels at some held.trie) in
             let h = half_with low (width (levels - 1)) size above (omega (arith, w, below)) in
-            let c = real index parent low levels at some held first other h.0 h.1 h.2 in
-            elim (by_parent fuel (rest index parent low levels at some held first other h.0 h.1 h.2) at (low_at h.0 low (width (levels - 1))) (levels - 1) (old (at + slot h.0)) (omega arith) c
-            (child_held index parent low levels at some held first other h.0 h.1 h.2) (rest_first index parent low levels at some held first other h.0 h.1 h.2) h.1 h.2) [
-              | inl is ↦ inr (at, here_below index parent low levels at some held first other h.0 h.1 h.2 (sym is))
-              | inr (up, b) ↦ inr (up, more_below index parent low levels at some held first other h.0 h.1 h.2 up b)
+            let c = real some held first other h.0 h.1 h.2 in
+            elim (by_parent fuel (omega arith) c
+            (child_held some held first other h.0 h.1 h.2) (rest_first some held first other h.0 h.1 h.2) h.1 h.2) [
+              | inl is ↦ inr (at, here_below some held first other h.0 h.1 h.2 (sym is))
+              | inr (up, b) ↦ inr (up, more_below some held first other h.0 h.1 h.2 b)
             ]
       ]

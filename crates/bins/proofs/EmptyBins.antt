@@ -18,7 +18,8 @@ nothing : (b : Bool) → (if b then none else none) ≡ none
 nothing true = refl
 nothing false = refl
 
-pub empty_linked : (regions : List Grant) (words : ℕ → ℕ) (bins : Bins) → ((i : ℕ) → i < 32 → slice_index bins.firsts i ≡ 64 + i) → ((i : ℕ) → i < 32 → slice_index bins.lasts i ≡ 64 + i) →
+pub empty_linked : (regions : List Grant) (words : ℕ → ℕ) (bins : Bins) → ((i : ℕ) → i < 32 → slice_index bins.firsts i ≡ 64 + i) →
+    ((i : ℕ) → i < 32 → slice_index bins.lasts i ≡ 64 + i) →
     bins.small_map ≡ 0 → ((i : ℕ) → i < 32 → slice_index bins.roots i ≡ 0) → bins.tree_map ≡ 0 → IsLinked regions words bins (λ n. [])
 empty_linked regions words bins firsts lasts small_map roots tree_map = record {
   chunks = record { each = λ n c is. absurd is; apart = λ n c m d is other not. absurd is; once = λ n. tt };

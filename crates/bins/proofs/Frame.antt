@@ -5,8 +5,9 @@ use Rattle.bins.specs.Index.{IsIn, without_size}
 use Rattle.bins.specs.Rings.{AreLinked, IsSame}
 use Rattle.bins.specs.Tries.{slot, low_at, width, IsNode, IsTrie}
 
--- a ring stays where the words of its chunks do
-pub linked_kept : (old new : ℕ → ℕ) (before : ℕ) (chunks : List ℕ) (behind : ℕ) → ((chunk : ℕ) → IsIn chunk chunks → IsSame old new 32 chunk) →
+-- a ring stays if the words of its chunks do
+pub linked_kept : (old new : ℕ → ℕ) (before : ℕ) (chunks : List ℕ) (behind : ℕ) →
+    ((chunk : ℕ) → IsIn chunk chunks → IsSame old new 32 chunk) →
     AreLinked old before chunks behind → AreLinked new before chunks behind
 linked_kept old new before [] behind same h = tt
 linked_kept old new before (chunk ∷ chunks) behind same h =
@@ -32,11 +33,13 @@ pub in_half : (side : Bool) (low half n : ℕ) → low_at side low half ≤ n �
 in_half false low half n above below = (omega arith, omega arith)
 in_half true low half n above below = (omega arith, omega arith)
 
--- a trie stays where the words of its chunks do
+-- a trie stays if the words of its chunks do
 module _ (old new : ℕ → ℕ) (bin : ℕ) where
-  node_kept : (index : ℕ → List ℕ) (parent low high at : ℕ) → AreSame old new index low high → IsNode old index bin parent low high at → IsNode new index bin parent low high at
-  node_kept index parent low high at same node =
-      let in_index : (chunk : ℕ) → IsIn chunk (at ∷ node.others) → IsSame old new 64 chunk = λ chunk is. same node.size node.above node.below chunk (subst (λ (cs : List ℕ). IsIn chunk cs) (sym node.chunks) is) in
+  node_kept : {index : ℕ → List ℕ} {parent low high at : ℕ} → AreSame old new index low high → IsNode old index bin parent low high at →
+      IsNode new index bin parent low high at
+  node_kept {at = at} same node =
+      let in_index : (chunk : ℕ) → IsIn chunk (at ∷ node.others) → IsSame old new 64 chunk =
+      λ chunk is. same node.size node.above node.below chunk (subst (λ (cs : List ℕ). IsIn chunk cs) (sym node.chunks) is) in
       let here = in_index at (inl refl) in
       let word : (k : ℕ) → 0 < k → 8 * k < 64 → new (at + 8 * k) ≡ old (at + 8 * k) = here in
       record {
@@ -67,7 +70,7 @@ module _ (old new : ℕ → ℕ) (bin : ℕ) where
   trie_kept index parent low zero at same h = h
   trie_kept index parent low (suc levels) at same (inl none) = inl none
   trie_kept index parent low (suc levels) at same (inr (node, children)) = inr (
-    node_kept index parent low (low + 2 * width levels) at same node,
+    node_kept same node,
     λ side. trie_kept (without_size node.size index) at (low_at side low (width levels)) levels (node.child side)
         (λ n above below chunk is. let half = in_half side low (width levels) n above below in same n half.0 half.1 chunk (in_without node.size index n chunk is)) (children side),
   )

@@ -5,8 +5,9 @@ use Rattle.bins.specs.Rings.{IsRing}
 use Rattle.bins.proofs.Lists.{last_in}
 use Rattle.bins.proofs.Links.{turned_last}
 
--- the heir's prev word becomes the last, and the last one's next word the heir; this is right where it is alone, too
-pub heir_ring : (old new : ℕ → ℕ) (at heir : ℕ) (rest : List ℕ) (first last : ℕ) → AreDistinct (heir ∷ rest) → IsRing old at first last (heir ∷ rest) →
+-- the heir's prev word becomes the last, and the last one's next word the heir; this is right if it is alone, too
+pub heir_ring : (old new : ℕ → ℕ) (at heir : ℕ) (rest : List ℕ) (first last : ℕ) → AreDistinct (heir ∷ rest) →
+    IsRing old at first last (heir ∷ rest) →
     new (heir + 16) ≡ last → new (last + 24) ≡ heir →
     ((c : ℕ) → IsIn c rest → new (c + 16) ≡ old (c + 16)) → ((c : ℕ) → IsIn c (heir ∷ rest) → c ≢ last → new (c + 24) ≡ old (c + 24)) →
     IsRing new heir (new (heir + 24)) (new (heir + 16)) rest

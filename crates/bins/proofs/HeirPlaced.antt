@@ -9,25 +9,32 @@ use Rattle.bins.specs.Stores.{IsWordPlace, HasHeirLinks, HasPlaced}
 use Rattle.bins.specs.Below.{OnlyHeldChanges}
 use Rattle.bins.proofs.Frame.{trie_kept, in_without, in_half}
 use Rattle.bins.proofs.Reindexed.{trie_reindexed}
-use Rattle.bins.proofs.Lists.{last_in, removed_at, minus_same, minus_other, without_same}
-use Rattle.bins.proofs.Chunks.{same_or_not, chunk_kept, one_size}
+use Rattle.bins.proofs.Lists.{last_in, removed_at, minus_same, minus_other, first_in, later_in}
+use Rattle.bins.proofs.Chunks.{same_or_not, chunk_kept, size_apart, chunk_place, words_apart}
 use Rattle.bins.proofs.Pulled.{in_minus}
 use Rattle.bins.proofs.Opened.{Opened}
 use Rattle.bins.proofs.Placed.{placed_opened}
 use Rattle.bins.proofs.Heir.{heir_ring}
-use Rattle.bins.proofs.RingPulled.{minus_alike}
+use Rattle.bins.proofs.Changed.{without_unchanged}
 use Rattle.bins.proofs.KidPlaces.{x_place, kid, kid_in, kid_place, kid_apart, kid_two}
 
 -- a ring that does not begin with its mark has a first
-pub rest_of : (at heir : ℕ) (others : List ℕ) → heir ≡ first_or at others → heir ≢ at → (rest : List ℕ) × (others ≡ heir ∷ rest)
-rest_of at heir [] is other = absurd (other is)
-rest_of at heir (x ∷ xs) is other = (xs, ap (λ y. y ∷ xs) (sym is))
+pub rest_of : (at : ℕ) {heir : ℕ} (others : List ℕ) → heir ≡ first_or at others → heir ≢ at → (rest : List ℕ) × (others ≡ heir ∷ rest)
+rest_of at [] is other = absurd (other is)
+rest_of at (x ∷ xs) is other = (xs, ap (λ y. y ∷ xs) (sym is))
 
-module _ (regions : List Grant) (old : ℕ → ℕ) (index : ℕ → List ℕ) (bin parent low n at heir : ℕ)
+module _ {regions : List Grant} {old : ℕ → ℕ} {index : ℕ → List ℕ} {bin parent low n at : ℕ} {heir : ℕ}
     (chunks : AreChunks regions old index) (large : (m c : ℕ) → IsIn c (index m) → 256 ≤ m) (o : Opened old index bin parent low n at)
     (heir_is : heir ≡ old (at + 24)) (other : heir ≢ at) where
+  -- the index of the children, and where their ranges begin
+  abbrev lower : ℕ → List ℕ
+  lower = without_size o.node.size index
+
+  abbrev under : Bool → ℕ
+  under side = low_at side low (width n)
+
   heirs : (rest : List ℕ) × (o.node.others ≡ heir ∷ rest)
-  heirs = rest_of at heir o.node.others (heir_is ∙ o.node.ring.begins) other
+  heirs = rest_of at o.node.others (heir_is ∙ o.node.ring.begins) other
 
   abbrev rest : List ℕ
   rest = heirs.0
@@ -48,10 +55,10 @@ module _ (regions : List Grant) (old : ℕ → ℕ) (index : ℕ → List ℕ) (
   once = subst (λ (cs : List ℕ). AreDistinct cs) listed_old (chunks.once o.node.size)
 
   ring_in : (c : ℕ) → IsIn c (heir ∷ rest) → IsIn c (index o.node.size)
-  ring_in c is = subst (λ (cs : List ℕ). IsIn c cs) (sym listed_old) (inr is)
+  ring_in c is = later_in c listed_old is
 
   at_in : IsIn at (index o.node.size)
-  at_in = subst (λ (cs : List ℕ). IsIn at cs) (sym listed_old) (inl refl)
+  at_in = first_in listed_old
 
   heir_in : IsIn heir (index o.node.size)
   heir_in = ring_in heir (inl refl)
@@ -65,51 +72,42 @@ module _ (regions : List Grant) (old : ℕ → ℕ) (index : ℕ → List ℕ) (
   last_listed : IsIn last (index o.node.size)
   last_listed = ring_in last last_there
 
-  tries_old : (side : Bool) → IsTrie old (without_size o.node.size index) bin at (low_at side low (width n)) n (kids side)
-  tries_old false = subst (λ x. IsTrie old (without_size o.node.size index) bin at (low_at false low (width n)) n x) (sym (o.node.child_is false)) (o.children false)
-  tries_old true = subst (λ x. IsTrie old (without_size o.node.size index) bin at (low_at true low (width n)) n x) (sym (o.node.child_is true)) (o.children true)
+  tries_old : (side : Bool) → IsTrie old lower bin at (under side) n (kids side)
+  tries_old false =
+      subst (λ x. IsTrie old lower bin at (under false) n x) (sym (o.node.child_is false)) (o.children false)
+  tries_old true =
+      subst (λ x. IsTrie old lower bin at (under true) n x) (sym (o.node.child_is true)) (o.children true)
 
   -- ---- what the stores need
   pub h_here : (k : ℕ) → 1 < k → k < 8 → IsWordPlace regions (at + 8 * k)
-  h_here = x_place regions old old index o.node.size bin at low n at (both (old (at + 32)) (old (at + 40))) chunks large at_in tries_old
+  h_here = x_place old o.node.size bin at low n at kids chunks large at_in tries_old
 
   pub h_own : (k : ℕ) → 1 < k → k < 8 → IsWordPlace regions (heir + 8 * k)
-  h_own = x_place regions old old index o.node.size bin at low n heir (both (old (at + 32)) (old (at + 40))) chunks large heir_in tries_old
+  h_own = x_place old o.node.size bin at low n heir kids chunks large heir_in tries_old
 
   pub h_behind : IsWordPlace regions (old (at + 16) + 24)
-  h_behind = x_place regions old old index o.node.size bin at low n last (both (old (at + 32)) (old (at + 40))) chunks large last_listed tries_old 3 (omega arith) (omega arith)
+  h_behind = x_place old o.node.size bin at low n last kids chunks large last_listed tries_old 3 (omega arith) (omega arith)
 
   pub h_other : heir + 16 ≢ old (at + 16) + 24
   h_other e = let h = chunks.each o.node.size heir heir_in in let l = chunks.each o.node.size last last_listed in omega (arith, h.aligned, l.aligned)
 
-  pub h_places : (side : Bool) → 0 < both (old (at + 32)) (old (at + 40)) side → IsWordPlace regions (both (old (at + 32)) (old (at + 40)) side + 48)
-  h_places = kid_place regions old old index o.node.size bin at low n heir (both (old (at + 32)) (old (at + 40))) chunks large heir_in tries_old
+  pub h_places : (side : Bool) → 0 < kids side → IsWordPlace regions (kids side + 48)
+  h_places = kid_place old o.node.size bin at low n heir kids chunks large heir_in tries_old
 
-  pub h_apart : (side : Bool) → 0 < both (old (at + 32)) (old (at + 40)) side → (both (old (at + 32)) (old (at + 40)) side + 48 < heir + 32) ⊎ (heir + 64 ≤ both (old (at + 32)) (old (at + 40)) side + 48)
-  h_apart = kid_apart regions old old index o.node.size bin at low n heir (both (old (at + 32)) (old (at + 40))) chunks large heir_in tries_old
+  pub h_apart : (side : Bool) → 0 < kids side → (kids side + 48 < heir + 32) ⊎ (heir + 64 ≤ kids side + 48)
+  h_apart = kid_apart old o.node.size bin at low n heir kids chunks large heir_in tries_old
 
   pub h_two : 0 < old (at + 32) → 0 < old (at + 40) → old (at + 32) ≢ old (at + 40)
-  h_two = kid_two regions old old index o.node.size bin at low n heir (both (old (at + 32)) (old (at + 40))) chunks large heir_in tries_old
+  h_two = kid_two old o.node.size bin at low n heir kids chunks large heir_in tries_old
 
   -- ---- the links
-  module _ (mid new : ℕ → ℕ) (links : HasHeirLinks regions old heir (old (at + 16)) mid) (placed : HasPlaced regions mid heir (both (old (at + 32)) (old (at + 40))) parent bin new) where
-    word_apart : (m c k d j : ℕ) → IsIn c (index m) → IsIn d (index o.node.size) → c ≢ d → 8 * k < 64 → j < 64 → c + 8 * k ≢ d + j
-    word_apart m c k d j c_in d_in not few less =
-        let lm = large m c c_in in let ld = large o.node.size d d_in in
-        elim (chunks.apart m c o.node.size d c_in d_in not) [ inl below ↦ (λ e. omega arith) | inr above ↦ (λ e. omega arith) ]
-
-    mid_word : (m c k : ℕ) → IsIn c (index m) → 0 < k → 8 * k < 64 → (c ≡ heir → k ≢ 2) → (c ≡ last → k ≢ 3) → mid (c + 8 * k) ≡ old (c + 8 * k)
+  module _ {mid new : ℕ → ℕ} (links : HasHeirLinks regions old heir (old (at + 16)) mid) (placed : HasPlaced regions mid heir kids parent bin new) where
+    mid_word : (m c k : ℕ) → IsIn c (index m) → 0 < k → 8 * k < 64 → (c ≡ heir → k ≢ 2) → (c ≡ last → k ≢ 3) →
+        mid (c + 8 * k) ≡ old (c + 8 * k)
     mid_word m c k c_in some few no_heir no_last =
-        let h = chunks.each m c c_in in let l = large m c c_in in
-        links.elsewhere (c + 8 * k) (h.granted (c + 8 * k) (omega arith) (omega arith) (omega (arith, h.aligned)))
-        (λ e. elim (same_or_not c heir) [ inl same ↦ no_heir same (omega arith) | inr not ↦ word_apart m c k heir 16 c_in heir_in not few (omega arith) e ])
-        (λ e. elim (same_or_not c last) [ inl same ↦ no_last same (omega arith) | inr not ↦ word_apart m c k last 24 c_in last_listed not few (omega arith) e ])
-
-    of_child : (m c d : ℕ) → IsIn c (without_size o.node.size index m) → IsIn d (index o.node.size) → c ≢ d
-    of_child m c d c_in d_in same = elim (same_or_not m o.node.size) [
-      | inl here ↦ subst (λ (cs : List ℕ). IsIn c cs) (ap (without_size o.node.size index) here ∙ without_same o.node.size index) c_in
-      | inr far ↦ far (one_size regions old old index m o.node.size c chunks (in_without o.node.size index m c c_in) (subst (λ x. IsIn x (index o.node.size)) (sym same) d_in))
-    ]
+        links.elsewhere (c + 8 * k) (chunk_place chunks large m c k c_in some few).word
+        (λ e. elim (same_or_not c heir) [ inl same ↦ no_heir same (omega arith) | inr not ↦ words_apart chunks large m c o.node.size heir k 16 c_in heir_in not few (omega arith) e ])
+        (λ e. elim (same_or_not c last) [ inl same ↦ no_last same (omega arith) | inr not ↦ words_apart chunks large m c o.node.size last k 24 c_in last_listed not few (omega arith) e ])
 
     listed : without_chunk o.node.size at index o.node.size ≡ heir ∷ rest
     listed = minus_same o.node.size at index ∙ (ap (λ (cs : List ℕ). removed at cs) listed_old ∙ removed_at at [] (heir ∷ rest) once)
@@ -117,7 +115,7 @@ module _ (regions : List Grant) (old : ℕ → ℕ) (index : ℕ → List ℕ) (
     chunks_less : AreChunks regions mid (without_chunk o.node.size at index)
     chunks_less = record {
       each = λ m c is. let was = in_minus o.node.size at index m c is in
-          chunk_kept regions old mid m c (mid_word m c 1 was (omega arith) (omega arith) (λ e. λ k. omega arith) (λ e. λ k. omega arith)) (chunks.each m c was);
+          chunk_kept mid (mid_word m c 1 was (omega arith) (omega arith) (λ e. λ k. omega arith) (λ e. λ k. omega arith)) (chunks.each m c was);
       apart = λ m c j d c_is d_is not. chunks.apart m c j d (in_minus o.node.size at index m c c_is) (in_minus o.node.size at index j d d_is) not;
       once = λ m. elim (same_or_not m o.node.size) [
         | inl e ↦ subst (λ (cs : List ℕ). AreDistinct cs) (sym (ap (without_chunk o.node.size at index) e ∙ listed)) once.1
@@ -130,16 +128,16 @@ module _ (regions : List Grant) (old : ℕ → ℕ) (index : ℕ → List ℕ) (
         (λ c is. mid_word o.node.size c 2 (ring_in c (inr is)) (omega arith) (omega arith) (λ e. absurd (once.1.0 (subst (λ x. IsIn x rest) e is))) (λ e. λ k. omega arith))
         (λ c is not. mid_word o.node.size c 3 (ring_in c is) (omega arith) (omega arith) (λ e. λ k. omega arith) (λ e. absurd (not e)))
 
-    tries_mid : (side : Bool) → IsTrie mid (without_size o.node.size (without_chunk o.node.size at index)) bin at (low_at side low (width n)) n (both (old (at + 32)) (old (at + 40)) side)
+    tries_mid : (side : Bool) → IsTrie mid (without_size o.node.size (without_chunk o.node.size at index)) bin at (under side) n (kids side)
     tries_mid side =
-        let stays = trie_kept old mid bin (without_size o.node.size index) at (low_at side low (width n)) n (kids side)
+        let stays = trie_kept old mid bin lower at (under side) n (kids side)
         (λ m a b c is k some few. mid_word m c k (in_without o.node.size index m c is) some few
-        (λ e. absurd (of_child m c heir is heir_in e)) (λ e. absurd (of_child m c last is last_listed e))) (tries_old side) in
-        trie_reindexed mid bin (without_size o.node.size index) (without_size o.node.size (without_chunk o.node.size at index)) at (low_at side low (width n)) n (kids side)
-        (λ m a b. minus_alike o.node.size at index m) stays
+        (λ e. absurd (size_apart chunks o.node.size m c heir is heir_in e)) (λ e. absurd (size_apart chunks o.node.size m c last is last_listed e))) (tries_old side) in
+        trie_reindexed mid bin lower (without_size o.node.size (without_chunk o.node.size at index)) at (under side) n (kids side)
+        (λ m a b. without_unchanged (removed at) o.node.size o.node.size index m (λ is. is)) stays
 
     pub heir_opened : Opened new (without_chunk o.node.size at index) bin parent low n heir
-    heir_opened = placed_opened regions mid new (without_chunk o.node.size at index) bin parent low n heir o.node.size rest (both (old (at + 32)) (old (at + 40))) (λ b. at)
+    heir_opened = placed_opened low n o.node.size (λ b. at)
         chunks_less (λ m c is. large m c (in_minus o.node.size at index m c is)) o.node.above o.node.below listed ring_mid tries_mid placed
 
     pub heir_words : OnlyHeldChanges regions index low (low + 2 * width n) old new
@@ -149,11 +147,11 @@ module _ (regions : List Grant) (old : ℕ → ℕ) (index : ℕ → List ℕ) (
         placed.elsewhere p word
         (elim (out d.size heir d.above d.below heir_in) [ inl x ↦ inl (omega arith) | inr (inl x) ↦ inr x | inr (inr (less, x)) ↦ absurd (omega arith) ])
         (λ b real e.
-        let r = kid regions old old index d.size bin at low n heir (both (old (at + 32)) (old (at + 40))) chunks large heir_in tries_old b real in
-        let c_in = kid_in regions old old index d.size bin at low n heir (both (old (at + 32)) (old (at + 40))) chunks large heir_in tries_old b real in
+        let r = kid old d.size bin at low n heir kids chunks large heir_in tries_old b real in
+        let c_in = kid_in old d.size bin at low n heir kids chunks large heir_in tries_old b real in
         let h = in_half b low (width n) r.size r.above r.below in
-        let lk = large r.size (both (old (at + 32)) (old (at + 40)) b) c_in in
-        elim (out r.size (both (old (at + 32)) (old (at + 40)) b) h.0 h.1 c_in) [
+        let lk = large r.size (kids b) c_in in
+        elim (out r.size (kids b) h.0 h.1 c_in) [
           | inl x ↦ omega arith
           | inr (inl x) ↦ omega arith
           | inr (inr (less, x)) ↦ omega arith

@@ -1,23 +1,19 @@
 -- The places of a node to be and of the children that it gets.
-use Rattle.std.proofs.Common.{◌≡◌, ◌≢◌, ℕ, ◌+◌, ◌*◌, ◌<◌, ◌≤◌, ◌⊎◌, inl, inr, Bool, true, false, List, ap, subst, ◌∙◌, arith}
+use Rattle.std.proofs.Common.{◌≡◌, ◌≢◌, ℕ, ◌+◌, ◌*◌, ◌<◌, ◌≤◌, ◌⊎◌, inl, inr, Bool, true, false, List, subst, arith}
 use Rattle.heap_memory.specs.declared.grant.Grant.{Grant}
 use Rattle.bins.specs.Index.{IsIn, without_size}
 use Rattle.bins.specs.Tries.{low_at, width, IsTrie}
 use Rattle.bins.specs.Linked.{AreChunks}
 use Rattle.bins.specs.Stores.{IsWordPlace}
 use Rattle.bins.proofs.Frame.{in_without}
-use Rattle.bins.proofs.Lists.{without_same}
-use Rattle.bins.proofs.Chunks.{one_size}
+use Rattle.bins.proofs.Chunks.{one_size, size_apart, chunk_place}
 use Rattle.bins.proofs.Placed.{IsRoot, root_in}
 
-module _ (regions : List Grant) (old mid : ℕ → ℕ) (index : ℕ → List ℕ) (size bin parent low n x : ℕ) (child : Bool → ℕ)
+module _ {regions : List Grant} {old : ℕ → ℕ} (mid : ℕ → ℕ) {index : ℕ → List ℕ} (size bin parent low n x : ℕ) (child : Bool → ℕ)
     (chunks : AreChunks regions old index) (large : (m c : ℕ) → IsIn c (index m) → 256 ≤ m) (x_in : IsIn x (index size))
     (tries : (side : Bool) → IsTrie mid (without_size size index) bin parent (low_at side low (width n)) n (child side)) where
   pub x_place : (k : ℕ) → 1 < k → k < 8 → IsWordPlace regions (x + 8 * k)
-  x_place k some few = let h = chunks.each size x x_in in let l = large size x x_in in record {
-    small = omega (arith, h.high);
-    word = h.granted (x + 8 * k) (omega arith) (omega arith) (omega (arith, h.aligned));
-  }
+  x_place k some few = chunk_place chunks large size x k x_in (omega arith) (omega arith)
 
   pub kid : (side : Bool) → 0 < child side → IsRoot (without_size size index) (low_at side low (width n)) (low_at side low (width n) + width n) (child side)
   kid side some = root_in mid (without_size size index) bin parent (low_at side low (width n)) n (child side) some (tries side)
@@ -26,18 +22,10 @@ module _ (regions : List Grant) (old mid : ℕ → ℕ) (index : ℕ → List �
   kid_in side some = in_without size index (kid side some).size (child side) (kid side some).is
 
   pub kid_place : (side : Bool) → 0 < child side → IsWordPlace regions (child side + 48)
-  kid_place side some =
-      let r = kid side some in let c_in = kid_in side some in
-      let h = chunks.each r.size (child side) c_in in let l = large r.size (child side) c_in in record {
-        small = omega (arith, h.high);
-        word = h.granted (child side + 48) (omega arith) (omega arith) (omega (arith, h.aligned));
-      }
+  kid_place side some = chunk_place chunks large (kid side some).size (child side) 6 (kid_in side some) (omega arith) (omega arith)
 
   kid_other : (side : Bool) → 0 < child side → child side ≢ x
-  kid_other side some same =
-      let r = kid side some in
-      let one : r.size ≡ size = one_size regions old old index r.size size x chunks (subst (λ y. IsIn y (index r.size)) same (kid_in side some)) x_in in
-      subst (λ (cs : List ℕ). IsIn (child side) cs) (ap (without_size size index) one ∙ without_same size index) r.is
+  kid_other side some = size_apart chunks size (kid side some).size (child side) x (kid side some).is x_in
 
   pub kid_apart : (side : Bool) → 0 < child side → (child side + 48 < x + 32) ⊎ (x + 64 ≤ child side + 48)
   kid_apart side some =
@@ -48,5 +36,6 @@ module _ (regions : List Grant) (old mid : ℕ → ℕ) (index : ℕ → List �
   pub kid_two : 0 < child false → 0 < child true → child false ≢ child true
   kid_two some more same =
       let r = kid false some in let s = kid true more in
-      let one : r.size ≡ s.size = one_size regions old old index r.size s.size (child true) chunks (subst (λ y. IsIn y (index r.size)) same (kid_in false some)) (kid_in true more) in
+      let one : r.size ≡ s.size =
+      one_size r.size s.size (child true) chunks (subst (λ y. IsIn y (index r.size)) same (kid_in false some)) (kid_in true more) in
       omega (arith, r.below, s.above)

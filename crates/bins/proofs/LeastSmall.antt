@@ -20,7 +20,7 @@ last_some : (one other : ℕ) (chunks : List ℕ) → chunks ≢ [] → last_or 
 last_some one other [] some = absurd (some refl)
 last_some one other (x ∷ xs) some = refl
 
-module _ (regions : List Grant) (words : ℕ → ℕ) (bins : Bins) (index : ℕ → List ℕ) (linked : IsLinked regions words bins index) where
+module _ {regions : List Grant} {words : ℕ → ℕ} {bins : Bins} {index : ℕ → List ℕ} (linked : IsLinked regions words bins index) where
   -- no size has chunks whose bit is clear
   none_of : (n : ℕ) → n < 256 → (n % 16 ≡ 0 → bit_at bins.small_map (n / 8) ≡ 0) → index n ≡ []
   none_of n less clear = elim (nil_or_some (index n)) [
@@ -33,14 +33,16 @@ module _ (regions : List Grant) (words : ℕ → ℕ) (bins : Bins) (index : ℕ
         absurd (omega (arith, zero, set))
   ]
 
-  pub none_small : (size from : ℕ) → 8 * from < size + 8 → ((other : ℕ) → from ≤ other → bit_at bins.small_map other ≡ 0) → IsNone index size 256
+  pub none_small : (size from : ℕ) → 8 * from < size + 8 → ((other : ℕ) → from ≤ other → bit_at bins.small_map other ≡ 0) →
+      IsNone index size 256
   none_small size from near clear n above below = none_of n below (λ whole. clear (n / 8) (omega arith))
 
   pub least_small : (size from bin : ℕ) → 8 * from < size + 8 → size ≤ 8 * from → from ≤ bin → bin < 32 → bit_at bins.small_map bin ≡ 1 →
       ((other : ℕ) → from ≤ other → other < bin → bit_at bins.small_map other ≡ 0) → IsLeastFit index size (slice_index bins.lasts bin)
   least_small size from bin near enough above within set clear =
       let some : index (8 * bin) ≢ [] = λ none. (let zero = (linked.small bin within).clear none in omega (arith, set, zero)) in
-      let last_is : slice_index bins.lasts bin ≡ last_or 0 (index (8 * bin)) = (linked.small bin within).ring.ends ∙ last_some (64 + bin) 0 (index (8 * bin)) some in
+      let last_is : slice_index bins.lasts bin ≡ last_or 0 (index (8 * bin)) =
+      (linked.small bin within).ring.ends ∙ last_some (64 + bin) 0 (index (8 * bin)) some in
       record {
         size = 8 * bin;
         enough = omega arith;

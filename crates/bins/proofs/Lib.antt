@@ -3,6 +3,7 @@ pub mod Stays
 pub mod Bits
 pub mod OneIndex
 pub mod Lists
+pub mod Changed
 pub mod Links
 pub mod Maps
 pub mod Chunks
@@ -16,6 +17,7 @@ pub mod Opened
 pub mod TrieInsert
 pub mod LeafStores
 pub mod TrieEntry
+pub mod Descent
 pub mod Searching
 pub mod Lesser
 mod Examples
@@ -29,7 +31,6 @@ pub mod PlacedStores
 pub mod Heir
 pub mod KidPlaces
 pub mod LeafUp
-pub mod LeafGiven
 pub mod HeirPlaced
 pub mod LeaveHere
 pub mod LeaveBelow

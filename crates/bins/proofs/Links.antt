@@ -4,15 +4,18 @@ use Rattle.bins.specs.Index.{IsIn, AreDistinct, first_or, last_or}
 use Rattle.bins.specs.Rings.{AreLinked}
 use Rattle.bins.proofs.Lists.{last_in, first_append, distinct_front, distinct_back}
 
-pub join : (words : ℕ → ℕ) (before : ℕ) (xs ys : List ℕ) (behind : ℕ) → AreLinked words before xs (first_or behind ys) → AreLinked words (last_or before xs) ys behind → AreLinked words before (xs ++ ys) behind
+pub join : (words : ℕ → ℕ) (before : ℕ) (xs ys : List ℕ) (behind : ℕ) → AreLinked words before xs (first_or behind ys) →
+    AreLinked words (last_or before xs) ys behind → AreLinked words before (xs ++ ys) behind
 join words before [] ys behind front back = back
 join words before (x ∷ xs) ys behind front back = (front.0, front.1 ∙ sym (first_append behind xs ys), join words x xs ys behind front.2 back)
 
-pub front_of : (words : ℕ → ℕ) (before : ℕ) (xs ys : List ℕ) (behind : ℕ) → AreLinked words before (xs ++ ys) behind → AreLinked words before xs (first_or behind ys)
+pub front_of : (words : ℕ → ℕ) (before : ℕ) (xs ys : List ℕ) (behind : ℕ) → AreLinked words before (xs ++ ys) behind →
+    AreLinked words before xs (first_or behind ys)
 front_of words before [] ys behind h = tt
 front_of words before (x ∷ xs) ys behind h = (h.0, h.1 ∙ first_append behind xs ys, front_of words x xs ys behind h.2)
 
-pub back_of : (words : ℕ → ℕ) (before : ℕ) (xs ys : List ℕ) (behind : ℕ) → AreLinked words before (xs ++ ys) behind → AreLinked words (last_or before xs) ys behind
+pub back_of : (words : ℕ → ℕ) (before : ℕ) (xs ys : List ℕ) (behind : ℕ) → AreLinked words before (xs ++ ys) behind →
+    AreLinked words (last_or before xs) ys behind
 back_of words before [] ys behind h = h
 back_of words before (x ∷ xs) ys behind h = back_of words x xs ys behind h.2
 
@@ -52,7 +55,7 @@ module _ (old new : ℕ → ℕ) where
       links_same chunk chunks behind (λ c is. prevs c (inr is)) (λ c is. nexts c (inr is)) h.2,
     )
 
-  -- a chunk is put behind the last
+  -- a chunk is put after the last
   pub linked_behind : (mark : ℕ) (chunks : List ℕ) (chunk : ℕ) → AreDistinct chunks →
       ((c : ℕ) → IsIn c chunks → new (c + 16) ≡ old (c + 16)) →
       ((c : ℕ) → IsIn c chunks → c ≢ last_or mark chunks → new (c + 24) ≡ old (c + 24)) →

@@ -5,12 +5,12 @@ use Rattle.heap_memory.specs.Regions.{IsWordOf}
 use Rattle.bins.specs.Tries.{slot, both}
 use Rattle.bins.specs.Stores.{IsWordPlace, HasNode, HasPlaced}
 
--- a child's parent word was stored, where there is one
+-- a child's parent word was stored, if there is one
 pub record HasAdopted (regions : List Grant) (old : ℕ → ℕ) (child chunk : ℕ) (new : ℕ → ℕ) : Type 0 where
   pub named : 0 < child → new (child + 48) ≡ chunk
   pub elsewhere : (at : ℕ) → IsWordOf regions at → (0 < child → at ≢ child + 48) → new at ≡ old at
 
-module _ (r : List Grant) (w0 w1 w2 w3 : ℕ → ℕ) (chunk child0 child1 parent bin : ℕ)
+module _ {r : List Grant} {w0 w1 w2 w3 : ℕ → ℕ} {chunk child0 child1 parent bin : ℕ}
     (own : (k : ℕ) → 1 < k → k < 8 → IsWordPlace r (chunk + 8 * k))
     (places : (side : Bool) → 0 < both child0 child1 side → IsWordPlace r (both child0 child1 side + 48))
     (apart : (side : Bool) → 0 < both child0 child1 side → (both child0 child1 side + 48 < chunk + 32) ⊎ (chunk + 64 ≤ both child0 child1 side + 48))

@@ -1,9 +1,7 @@
 -- A small bin with a chunk less.
-use Rattle.std.proofs.Common.{◌≡◌, ◌≢◌, ℕ, ◌+◌, ◌*◌, ◌/◌, ◌<◌, ◌≤◌, ◌⊎◌, inl, inr, true, List, [], ◌∷◌, ◌++◌, refl, sym, ap, subst, ◌∙◌, arith}
-use Rattle.std.specs.Prelude.{slice_index, nat_lt, if◌then◌else◌}
+use Rattle.std.proofs.Common.{◌≡◌, ◌≢◌, ℕ, ◌+◌, ◌*◌, ◌/◌, ◌<◌, ◌≤◌, ◌⊎◌, inl, inr, List, [], ◌∷◌, ◌++◌, refl, sym, ap, subst, ◌∙◌, arith}
+use Rattle.std.specs.Prelude.{slice_index}
 use Rattle.std.specs.Int.{bit_at}
-use Rattle.std.proofs.lemmas.Bool.{cases_lt}
-use Rattle.std.proofs.lemmas.Bool.Decides.{nat_tests}
 use Rattle.heap_memory.specs.declared.grant.Grant.{Grant}
 use Rattle.heap_memory.specs.Regions.{IsWordOf}
 use Rattle.dlmalloc_chunks.specs.Bins.{least_size}
@@ -19,6 +17,7 @@ use Rattle.bins.proofs.Lists.{parted, last_in, last_append, in_front, in_back, d
 use Rattle.bins.proofs.Links.{linked_without, back_of}
 use Rattle.bins.proofs.Chunks.{same_or_not, chunk_kept, one_size}
 use Rattle.bins.proofs.SmallBins.{last_is, in_from, least_large}
+use Rattle.bins.proofs.Changed.{from_unchanged}
 
 pub first_is : (mark first : ℕ) (chunks : List ℕ) → first ≡ first_or mark chunks → ((chunks ≡ []) × (first ≡ mark)) ⊎ IsIn first chunks
 first_is mark first [] is = inl (refl, is)
@@ -28,14 +27,8 @@ first_is mark first (x ∷ xs) is = inr (inl is)
 pub in_minus : (size chunk : ℕ) (index : ℕ → List ℕ) (n other : ℕ) → IsIn other (without_chunk size chunk index n) → IsIn other (index n)
 in_minus size chunk index n other is = elim (same_or_not n size) [
   | inr not ↦ subst (λ (cs : List ℕ). IsIn other cs) (minus_other size chunk index n not) is
-  | inl same ↦ subst (λ m. IsIn other (index m)) (sym same) (in_removed other chunk (index size) (subst (λ (cs : List ℕ). IsIn other cs) (ap (without_chunk size chunk index) same ∙ minus_same size chunk index) is))
-]
-
--- an index from a size on is the same where one below loses a chunk
-from_alike : (size chunk least : ℕ) (index : ℕ → List ℕ) (n : ℕ) → size < least → from least (without_chunk size chunk index) n ≡ from least index n
-from_alike size chunk least index n below = elim (cases_lt n least) [
-  | inl less ↦ (let b : nat_lt n least ≡ true = grind (arith, nat_tests) in ap (λ c. if c then [] else without_chunk size chunk index n) b ∙ sym (ap (λ c. if c then [] else index n) b))
-  | inr more ↦ ap (λ (cs : List ℕ). if nat_lt n least then [] else cs) (minus_other size chunk index n (λ is. omega arith))
+  | inl same ↦
+      subst (λ m. IsIn other (index m)) (sym same) (in_removed other chunk (index size) (subst (λ (cs : List ℕ). IsIn other cs) (ap (without_chunk size chunk index) same ∙ minus_same size chunk index) is))
 ]
 
 -- where a chunk stands in its ring
@@ -50,9 +43,10 @@ pub record Between (old : ℕ → ℕ) (chunks : List ℕ) (prev chunk next tag 
   pub linked : AreLinked old tag (front ++ chunk ∷ back) tag
   pub distinct : AreDistinct (front ++ chunk ∷ back)
 
-pub between : (old : ℕ → ℕ) (chunks : List ℕ) (prev chunk next tag first last : ℕ) → IsIn chunk chunks → AreDistinct chunks → IsRing old tag first last chunks →
+pub between : {old : ℕ → ℕ} {chunks : List ℕ} {prev : ℕ} (chunk : ℕ) {next tag first last : ℕ} → IsIn chunk chunks →
+    AreDistinct chunks → IsRing old tag first last chunks →
     prev ≡ old (chunk + 16) → next ≡ old (chunk + 24) → Between old chunks prev chunk next tag first last
-between old chunks prev chunk next tag first last is distinct ring prev_is next_is =
+between {old = old} {chunks = chunks} chunk {tag = tag} is distinct ring prev_is next_is =
     let p = parted chunk chunks is in
     let linked : AreLinked old tag (p.front ++ chunk ∷ p.back) tag = subst (λ (cs : List ℕ). AreLinked old tag cs tag) p.is ring.linked in
     let here = back_of old tag p.front (chunk ∷ p.back) tag linked in
@@ -68,17 +62,19 @@ between old chunks prev chunk next tag first last is distinct ring prev_is next_
       distinct = subst (λ (cs : List ℕ). AreDistinct cs) p.is distinct;
     }
 
-pub first_pulled : (tag chunk : ℕ) (front back : List ℕ) (first first' prev next : ℕ) → first ≡ first_or tag (front ++ chunk ∷ back) → prev ≡ last_or tag front → next ≡ first_or tag back →
+pub first_pulled : (tag chunk : ℕ) (front back : List ℕ) {first : ℕ} (first' : ℕ) {prev next : ℕ} →
+    first ≡ first_or tag (front ++ chunk ∷ back) → prev ≡ last_or tag front → next ≡ first_or tag back →
     (IsIn prev front → prev ≢ tag) → (prev ≡ tag → first' ≡ next) → (prev ≢ tag → first' ≡ first) → first' ≡ first_or tag (front ++ back)
-first_pulled tag chunk [] back first first' prev next begins p n not empty some = empty p ∙ n
-first_pulled tag chunk (x ∷ xs) back first first' prev next begins p n not empty some = some (not (subst (λ y. IsIn y (x ∷ xs)) (sym p) (last_in x xs))) ∙ begins
+first_pulled tag chunk [] back first' begins p n not empty some = empty p ∙ n
+first_pulled tag chunk (x ∷ xs) back first' begins p n not empty some = some (not (subst (λ y. IsIn y (x ∷ xs)) (sym p) (last_in x xs))) ∙ begins
 
-pub last_pulled : (tag chunk : ℕ) (front back : List ℕ) (last last' prev next : ℕ) → last ≡ last_or chunk back → prev ≡ last_or tag front → next ≡ first_or tag back →
+pub last_pulled : (tag chunk : ℕ) (front back : List ℕ) {last : ℕ} (last' : ℕ) {prev next : ℕ} → last ≡ last_or chunk back →
+    prev ≡ last_or tag front → next ≡ first_or tag back →
     (IsIn next back → next ≢ tag) → (next ≡ tag → last' ≡ prev) → (next ≢ tag → last' ≡ last) → last' ≡ last_or tag (front ++ back)
-last_pulled tag chunk front [] last last' prev next ends p n not empty some = empty n ∙ (p ∙ sym (last_append tag front []))
-last_pulled tag chunk front (y ∷ ys) last last' prev next ends p n not empty some = some (not (inl n)) ∙ (ends ∙ sym (last_append tag front (y ∷ ys)))
+last_pulled tag chunk front [] last' ends p n not empty some = empty n ∙ (p ∙ sym (last_append tag front []))
+last_pulled tag chunk front (y ∷ ys) last' ends p n not empty some = some (not (inl n)) ∙ (ends ∙ sym (last_append tag front (y ∷ ys)))
 
-module _ (regions : List Grant) (old : ℕ → ℕ) (bins : Bins) (index : ℕ → List ℕ) (size chunk prev next tag : ℕ)
+module _ {regions : List Grant} {old : ℕ → ℕ} {bins : Bins} {index : ℕ → List ℕ} (size chunk : ℕ) {prev next tag : ℕ}
     (linked : IsLinked regions old bins index) (is_in : IsIn chunk (index size)) (small : size < 256)
     (prev_at : prev ≡ old (chunk + 16)) (next_at : next ≡ old (chunk + 24)) (tag_is : tag ≡ 64 + size / 8) where
   bin_size : 8 * (size / 8) ≡ size
@@ -91,7 +87,7 @@ module _ (regions : List Grant) (old : ℕ → ℕ) (bins : Bins) (index : ℕ �
       (subst (λ n. IsRing old (64 + size / 8) (slice_index bins.firsts (size / 8)) (slice_index bins.lasts (size / 8)) (index n)) bin_size r)
 
   pub place : Between old (index size) prev chunk next tag (slice_index bins.firsts (size / 8)) (slice_index bins.lasts (size / 8))
-  place = between old (index size) prev chunk next tag (slice_index bins.firsts (size / 8)) (slice_index bins.lasts (size / 8)) is_in (linked.chunks.once size) bin_ring prev_at next_at
+  place = between chunk is_in (linked.chunks.once size) bin_ring prev_at next_at
 
   pub in_ring_front : (c : ℕ) → IsIn c place.front → IsIn c (index size)
   in_ring_front c is = subst (λ (cs : List ℕ). IsIn c cs) (sym place.is) (in_front c place.front (chunk ∷ place.back) is)
@@ -109,13 +105,19 @@ module _ (regions : List Grant) (old : ℕ → ℕ) (bins : Bins) (index : ℕ �
   next_in not = elim (first_is tag next place.back place.next_is) [ inl none ↦ absurd (not none.1) | inr there ↦ there ]
 
   pub own_place : (k : ℕ) → k < 4 → 0 < k → IsWordPlace regions (chunk + 8 * k)
-  own_place k few some = let c = linked.chunks.each size chunk is_in in record { small = omega (arith, c.high, c.long); word = c.granted (chunk + 8 * k) (omega arith) (omega (arith, c.long)) (omega (arith, c.aligned)) }
+  own_place k few some =
+      let c = linked.chunks.each size chunk is_in in
+      record { small = omega (arith, c.high, c.long); word = c.granted (chunk + 8 * k) (omega arith) (omega (arith, c.long)) (omega (arith, c.aligned)) }
 
   pub prev_place : prev ≢ tag → IsWordPlace regions (prev + 24)
-  prev_place not = let c = linked.chunks.each size prev (in_ring_front prev (prev_in not)) in record { small = omega (arith, c.high, c.long); word = c.granted (prev + 24) (omega arith) (omega (arith, c.long)) (omega (arith, c.aligned)) }
+  prev_place not =
+      let c = linked.chunks.each size prev (in_ring_front prev (prev_in not)) in
+      record { small = omega (arith, c.high, c.long); word = c.granted (prev + 24) (omega arith) (omega (arith, c.long)) (omega (arith, c.aligned)) }
 
   pub next_place : next ≢ tag → IsWordPlace regions (next + 16)
-  next_place not = let c = linked.chunks.each size next (in_ring_back next (next_in not)) in record { small = omega (arith, c.high, c.long); word = c.granted (next + 16) (omega arith) (omega (arith, c.long)) (omega (arith, c.aligned)) }
+  next_place not =
+      let c = linked.chunks.each size next (in_ring_back next (next_in not)) in
+      record { small = omega (arith, c.high, c.long); word = c.granted (next + 16) (omega arith) (omega (arith, c.long)) (omega (arith, c.aligned)) }
 
   pub places_apart : prev ≢ tag → next ≢ tag → prev + 24 ≢ next + 16
   places_apart p n is =
@@ -123,17 +125,19 @@ module _ (regions : List Grant) (old : ℕ → ℕ) (bins : Bins) (index : ℕ �
       let d = linked.chunks.each size next (in_ring_back next (next_in n)) in
       omega (arith, c.aligned, d.aligned)
 
-  module _ (new : ℕ → ℕ) (bins' : Bins) (pulled : HasPulled regions old prev next tag new) (less : HasLess bins (size / 8) prev next tag bins') where
+  module _ {new : ℕ → ℕ} {bins' : Bins} (pulled : HasPulled regions old prev next tag new) (less : HasLess bins (size / 8) prev next tag bins') where
     word_of : (n other k : ℕ) → IsIn other (index n) → 0 < k → 8 * k < n → IsWordOf regions (other + 8 * k)
     word_of n other k is some few = let c = linked.chunks.each n other is in c.granted (other + 8 * k) (omega arith) (omega arith) (omega (arith, c.aligned))
 
     -- a word of another chunk than one of the ring is none of that one
-    other_word : (n other k c j : ℕ) → IsIn other (index n) → IsIn c (index size) → other ≢ c → 0 < k → 8 * k < n → j < 32 → other + 8 * k ≢ c + j
+    other_word : (n other k c j : ℕ) → IsIn other (index n) → IsIn c (index size) → other ≢ c → 0 < k → 8 * k < n → j < 32 →
+        other + 8 * k ≢ c + j
     other_word n other k c j is c_is not some few within =
         let long = (linked.chunks.each size c c_is).long in
         elim (linked.chunks.apart n other size c is c_is not) [ inl below ↦ (λ same. omega arith) | inr above ↦ (λ same. omega arith) ]
 
-    same_word : (n other k : ℕ) → IsIn other (index n) → 0 < k → 8 * k < n → (other ≡ prev → k ≢ 3) → (other ≡ next → k ≢ 2) → new (other + 8 * k) ≡ old (other + 8 * k)
+    same_word : (n other k : ℕ) → IsIn other (index n) → 0 < k → 8 * k < n → (other ≡ prev → k ≢ 3) →
+        (other ≡ next → k ≢ 2) → new (other + 8 * k) ≡ old (other + 8 * k)
     same_word n other k is some few no_prev no_next = pulled.elsewhere (other + 8 * k) (word_of n other k is some few)
         (λ not at. elim (same_or_not other prev) [
           | inl same ↦ no_prev same (omega arith)
@@ -152,9 +156,9 @@ module _ (regions : List Grant) (old : ℕ → ℕ) (bins : Bins) (index : ℕ �
         let long = long_ring chunk is_in in
         let p = place in
         record {
-          begins = first_pulled tag chunk p.front p.back (slice_index bins.firsts (size / 8)) (slice_index bins'.firsts (size / 8)) prev next p.first_is p.prev_is p.next_is
+          begins = first_pulled tag chunk p.front p.back (slice_index bins'.firsts (size / 8)) p.first_is p.prev_is p.next_is
               (λ is. not_tag size prev (in_ring_front prev is)) less.first_new less.first_same;
-          ends = last_pulled tag chunk p.front p.back (slice_index bins.lasts (size / 8)) (slice_index bins'.lasts (size / 8)) prev next p.last_is p.prev_is p.next_is
+          ends = last_pulled tag chunk p.front p.back (slice_index bins'.lasts (size / 8)) p.last_is p.prev_is p.next_is
               (λ is. not_tag size next (in_ring_back next is)) less.last_new less.last_same;
           linked = linked_without old new tag p.front chunk p.back p.distinct
               (λ c is. same_word size c 2 (in_ring_front c is) (omega arith) (omega arith) (λ same k. omega arith)
@@ -175,25 +179,26 @@ module _ (regions : List Grant) (old : ℕ → ℕ) (bins : Bins) (index : ℕ �
     chunks_less : AreChunks regions new (without_chunk size chunk index)
     chunks_less = record {
       each = λ n other is. let was = in_minus size chunk index n other is in let long = (linked.chunks.each n other was).long in
-          chunk_kept regions old new n other (same_word n other 1 was (omega arith) (omega arith) (λ same k. omega arith) (λ same k. omega arith)) (linked.chunks.each n other was);
+          chunk_kept new (same_word n other 1 was (omega arith) (omega arith) (λ same k. omega arith) (λ same k. omega arith)) (linked.chunks.each n other was);
       apart = λ n c m d is_c is_d not. linked.chunks.apart n c m d (in_minus size chunk index n c is_c) (in_minus size chunk index m d is_d) not;
       once = λ n. elim (same_or_not n size) [
         | inr not ↦ subst (λ (cs : List ℕ). AreDistinct cs) (sym (minus_other size chunk index n not)) (linked.chunks.once n)
-        | inl same ↦ subst (λ (cs : List ℕ). AreDistinct cs) (sym (ap (without_chunk size chunk index) same ∙ index_less)) (distinct_less place.front chunk place.back place.distinct)
+        | inl same ↦
+            subst (λ (cs : List ℕ). AreDistinct cs) (sym (ap (without_chunk size chunk index) same ∙ index_less)) (distinct_less place.front chunk place.back place.distinct)
       ];
     }
 
     -- the chunks of another size stay
     size_same : (n : ℕ) → n ≢ size → (other : ℕ) → IsIn other (index n) → IsSame old new n other
     size_same n not other is k some few =
-        let not_in : IsIn other (index size) → ⊥ = λ there. not (one_size regions old new index n size other linked.chunks is there) in
+        let not_in : IsIn other (index size) → ⊥ = λ there. not (one_size n size other linked.chunks is there) in
         same_word n other k is some few
         (λ same at. not_in (subst (λ c. IsIn c (index size)) (sym same) (in_ring_front prev (prev_in (λ t. not_tag n other is (same ∙ t))))))
         (λ same at. not_in (subst (λ c. IsIn c (index size)) (sym same) (in_ring_back next (next_in (λ t. not_tag n other is (same ∙ t))))))
 
-    marks : (index' : List ℕ) → index' ≡ place.front ++ place.back →
+    marks : {index' : List ℕ} → index' ≡ place.front ++ place.back →
         (index' ≢ [] → bit_at bins'.small_map (size / 8) ≡ 1) × (index' ≡ [] → bit_at bins'.small_map (size / 8) ≡ 0)
-    marks index' is =
+    marks is =
         let was = (linked.small (size / 8) (omega arith)).marked (λ none. absurd (subst (λ (cs : List ℕ). IsIn chunk cs) (ap index (sym bin_size) ∙ none) is_in)) in (
           (λ some. elim (same_or_not prev tag) [
             | inr not ↦ less.kept_front not ∙ was
@@ -217,8 +222,9 @@ module _ (regions : List Grant) (old : ℕ → ℕ) (bins : Bins) (index : ℕ �
 
     here : IsSmallBin new bins'.firsts bins'.lasts bins'.small_map (without_chunk size chunk index) (size / 8)
     here =
-        let index_is : place.front ++ place.back ≡ without_chunk size chunk index (8 * (size / 8)) = sym (ap (without_chunk size chunk index) bin_size ∙ index_less) in
-        let m = marks (without_chunk size chunk index (8 * (size / 8))) (sym index_is) in
+        let index_is : place.front ++ place.back ≡ without_chunk size chunk index (8 * (size / 8)) =
+        sym (ap (without_chunk size chunk index) bin_size ∙ index_less) in
+        let m = marks (sym index_is) in
         record {
           ring = subst (λ (cs : List ℕ). IsRing new (64 + size / 8) (slice_index bins'.firsts (size / 8)) (slice_index bins'.lasts (size / 8)) cs) index_is
               (subst (λ t. IsRing new t (slice_index bins'.firsts (size / 8)) (slice_index bins'.lasts (size / 8)) (place.front ++ place.back)) tag_is ring_less);
@@ -250,7 +256,7 @@ module _ (regions : List Grant) (old : ℕ → ℕ) (bins : Bins) (index : ℕ �
         (λ n above below c is k some few. let there = in_from (least_size bin) index n c is in let large = least_large bin in
         size_same n (λ e. omega (arith, there.1)) c there.0 k some (omega (arith, there.1))) was.trie in
         let again = trie_reindexed new bin (from (least_size bin) index) (from (least_size bin) (without_chunk size chunk index)) (128 + bin) (low_of bin) (levels_of bin) (slice_index bins.roots bin)
-        (λ n above below. from_alike size chunk (least_size bin) index n (let large = least_large bin in omega arith)) kept in
+        (λ n above below. from_unchanged (removed chunk) (least_size bin) size index n (let large = least_large bin in omega arith)) kept in
         record {
           trie = subst (λ (rs : List ℕ). IsTrie new (from (least_size bin) (without_chunk size chunk index)) bin (128 + bin) (low_of bin) (levels_of bin) (slice_index rs bin)) (sym less.roots) again;
           marked = λ some. ap (λ m. bit_at m bin) less.tree_map ∙ was.marked (subst (λ (rs : List ℕ). 0 < slice_index rs bin) less.roots some);

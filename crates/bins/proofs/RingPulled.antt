@@ -1,42 +1,44 @@
 -- A chunk that is not the oldest leaves the ring of a trie's node.
-use Rattle.std.proofs.Common.{◌≡◌, ◌≢◌, ℕ, ◌+◌, ◌*◌, ◌<◌, ◌≤◌, ◌⊎◌, inl, inr, true, false, List, ◌∷◌, ◌++◌, refl, sym, ap, subst, ◌∙◌, arith}
+use Rattle.std.proofs.Common.{◌≡◌, ◌≢◌, ℕ, ◌+◌, ◌*◌, ◌<◌, ◌≤◌, ◌⊎◌, inl, inr, Bool, true, false, List, ◌∷◌, ◌++◌, sym, ap, subst, ◌∙◌, arith}
 use Rattle.heap_memory.specs.declared.grant.Grant.{Grant}
 use Rattle.dlmalloc_chunks.specs.Head.{size_of}
 use Rattle.bins.specs.Index.{IsIn, AreDistinct, removed, without_chunk, without_size}
 use Rattle.bins.specs.Rings.{IsRing}
 use Rattle.bins.specs.Tries.{slot, low_at, width}
 use Rattle.bins.specs.Linked.{AreChunks}
-use Rattle.bins.specs.Stores.{IsWordPlace, HasPulled}
+use Rattle.bins.specs.Stores.{HasPulled}
 use Rattle.bins.specs.Below.{OnlyHeldChanges}
 use Rattle.bins.proofs.Frame.{trie_kept, in_without}
 use Rattle.bins.proofs.Reindexed.{trie_reindexed}
-use Rattle.bins.proofs.Lists.{apart, in_front, in_back, removed_at, minus_same, minus_other, without_same, without_other}
+use Rattle.bins.proofs.Lists.{apart, in_front, in_back, removed_at, minus_same, first_in, later_in}
 use Rattle.bins.proofs.Links.{linked_without}
-use Rattle.bins.proofs.Chunks.{same_or_not, one_size}
+use Rattle.bins.proofs.Chunks.{same_or_not, size_apart, chunk_place, words_apart}
 use Rattle.bins.proofs.SmallBins.{last_is}
 use Rattle.bins.proofs.Pulled.{Between, between, first_is, first_pulled, last_pulled}
 use Rattle.bins.proofs.Opened.{Opened}
+use Rattle.bins.proofs.Changed.{without_unchanged}
 
-pub minus_alike : (s chunk : ℕ) (index : ℕ → List ℕ) (m : ℕ) → without_size s (without_chunk s chunk index) m ≡ without_size s index m
-minus_alike s chunk index m = elim (same_or_not m s) [
-  | inl is ↦ subst (λ x. without_size s (without_chunk s chunk index) x ≡ without_size s index x) (sym is) (without_same s (without_chunk s chunk index) ∙ sym (without_same s index))
-  | inr other ↦ without_other s (without_chunk s chunk index) m other ∙ (minus_other s chunk index m other ∙ sym (without_other s index m other))
-]
-
-module _ (regions : List Grant) (old : ℕ → ℕ) (index : ℕ → List ℕ) (bin parent low n at chunk prev next : ℕ)
+module _ {regions : List Grant} {old : ℕ → ℕ} {index : ℕ → List ℕ} {bin parent low n at : ℕ} (chunk : ℕ) {prev next : ℕ}
     (chunks : AreChunks regions old index) (large : (m c : ℕ) → IsIn c (index m) → 256 ≤ m) (o : Opened old index bin parent low n at)
     (is_in : IsIn chunk o.node.others) (prev_at : prev ≡ old (chunk + 16)) (next_at : next ≡ old (chunk + 24)) where
+  -- the index of the children, and where their ranges begin
+  abbrev rest : ℕ → List ℕ
+  rest = without_size o.node.size index
+
+  abbrev under : Bool → ℕ
+  under side = low_at side low (width n)
+
   once : AreDistinct (at ∷ o.node.others)
   once = subst (λ (cs : List ℕ). AreDistinct cs) o.node.chunks (chunks.once o.node.size)
 
   place : Between old o.node.others prev chunk next at (old (at + 24)) (old (at + 16))
-  place = between old o.node.others prev chunk next at (old (at + 24)) (old (at + 16)) is_in once.1 o.node.ring prev_at next_at
+  place = between chunk is_in once.1 o.node.ring prev_at next_at
 
   in_others : (c : ℕ) → IsIn c o.node.others → IsIn c (index o.node.size)
-  in_others c is = subst (λ (cs : List ℕ). IsIn c cs) (sym o.node.chunks) (inr is)
+  in_others c is = later_in c o.node.chunks is
 
   at_in : IsIn at (index o.node.size)
-  at_in = subst (λ (cs : List ℕ). IsIn at cs) (sym o.node.chunks) (inl refl)
+  at_in = first_in o.node.chunks
 
   from_front : (c : ℕ) → IsIn c place.front → IsIn c o.node.others
   from_front c is = subst (λ (cs : List ℕ). IsIn c cs) (sym place.is) (in_front c place.front (chunk ∷ place.back) is)
@@ -58,17 +60,6 @@ module _ (regions : List Grant) (old : ℕ → ℕ) (index : ℕ → List ℕ) (
 
   not_at : (c : ℕ) → IsIn c o.node.others → c ≢ at
   not_at c is same = once.0 (subst (λ x. IsIn x o.node.others) same is)
-
-  other_word : (m c k d j : ℕ) → IsIn c (index m) → IsIn d (index o.node.size) → c ≢ d → 8 * k < 64 → j < 64 → c + 8 * k ≢ d + j
-  other_word m c k d j c_in d_in other few less =
-      let lm = large m c c_in in let ld = large o.node.size d d_in in
-      elim (chunks.apart m c o.node.size d c_in d_in other) [ inl below ↦ (λ e. omega arith) | inr above ↦ (λ e. omega arith) ]
-
-  pub ring_place : (c k : ℕ) → IsIn c (index o.node.size) → 0 < k → 8 * k < 64 → IsWordPlace regions (c + 8 * k)
-  ring_place c k c_in some few = let h = chunks.each o.node.size c c_in in let l = large o.node.size c c_in in record {
-    small = omega (arith, h.high);
-    word = h.granted (c + 8 * k) (omega arith) (omega arith) (omega (arith, h.aligned));
-  }
 
   pub pulled_apart : prev + 24 ≢ next + 16
   pulled_apart e = let p = chunks.each o.node.size prev prev_in in let n = chunks.each o.node.size next next_in in omega (arith, p.aligned, n.aligned)
@@ -96,28 +87,22 @@ module _ (regions : List Grant) (old : ℕ → ℕ) (index : ℕ → List ℕ) (
   index_less = minus_same o.node.size chunk index ∙ (ap (λ (cs : List ℕ). removed chunk cs) (o.node.chunks ∙ ap (λ (cs : List ℕ). at ∷ cs) place.is)
       ∙ removed_at chunk (at ∷ place.front) place.back (subst (λ (cs : List ℕ). AreDistinct (at ∷ cs)) place.is once))
 
-  of_child : (m c d : ℕ) → IsIn c (without_size o.node.size index m) → IsIn d (index o.node.size) → c ≢ d
-  of_child m c d c_in d_in same = elim (same_or_not m o.node.size) [
-    | inl here ↦ subst (λ (cs : List ℕ). IsIn c cs) (ap (without_size o.node.size index) here ∙ without_same o.node.size index) c_in
-    | inr other ↦ other (one_size regions old old index m o.node.size c chunks (in_without o.node.size index m c c_in) (subst (λ x. IsIn x (index o.node.size)) (sym same) d_in))
-  ]
-
-  module _ (new : ℕ → ℕ) (pulled : HasPulled regions old prev next 0 new) where
-    pub pulled_word : (m c k : ℕ) → IsIn c (index m) → 0 < k → 8 * k < 64 → (c ≡ prev → k ≢ 3) → (c ≡ next → k ≢ 2) → new (c + 8 * k) ≡ old (c + 8 * k)
+  module _ {new : ℕ → ℕ} (pulled : HasPulled regions old prev next 0 new) where
+    pub pulled_word : (m c k : ℕ) → IsIn c (index m) → 0 < k → 8 * k < 64 → (c ≡ prev → k ≢ 3) → (c ≡ next → k ≢ 2) →
+        new (c + 8 * k) ≡ old (c + 8 * k)
     pulled_word m c k c_in some few no_prev no_next =
-        let h = chunks.each m c c_in in let l = large m c c_in in
-        pulled.elsewhere (c + 8 * k) (h.granted (c + 8 * k) (omega arith) (omega arith) (omega (arith, h.aligned)))
-        (λ real e. elim (same_or_not c prev) [ inl same ↦ no_prev same (omega arith) | inr other ↦ other_word m c k prev 24 c_in prev_in other few (omega arith) e ])
-        (λ real e. elim (same_or_not c next) [ inl same ↦ no_next same (omega arith) | inr other ↦ other_word m c k next 16 c_in next_in other few (omega arith) e ])
+        pulled.elsewhere (c + 8 * k) (chunk_place chunks large m c k c_in some few).word
+        (λ real e. elim (same_or_not c prev) [ inl same ↦ no_prev same (omega arith) | inr other ↦ words_apart chunks large m c o.node.size prev k 24 c_in prev_in other few (omega arith) e ])
+        (λ real e. elim (same_or_not c next) [ inl same ↦ no_next same (omega arith) | inr other ↦ words_apart chunks large m c o.node.size next k 16 c_in next_in other few (omega arith) e ])
 
     ring_less : IsRing new at (new (at + 24)) (new (at + 16)) (place.front ++ place.back)
     ring_less =
         let p = place in let s = o.node.size in
         record {
-          begins = first_pulled at chunk p.front p.back (old (at + 24)) (new (at + 24)) prev next p.first_is p.prev_is p.next_is
+          begins = first_pulled at chunk p.front p.back (new (at + 24)) p.first_is p.prev_is p.next_is
               (λ is. not_at prev (from_front prev is)) (λ same. ap (λ x. new (x + 24)) (sym same) ∙ pulled.front prev_real)
               (λ other. pulled_word s at 3 at_in (omega arith) (omega arith) (λ e k. other (sym e)) (λ e k. omega arith));
-          ends = last_pulled at chunk p.front p.back (old (at + 16)) (new (at + 16)) prev next p.last_is p.prev_is p.next_is
+          ends = last_pulled at chunk p.front p.back (new (at + 16)) p.last_is p.prev_is p.next_is
               (λ is. not_at next (from_back next is)) (λ same. ap (λ x. new (x + 16)) (sym same) ∙ pulled.back next_real)
               (λ other. pulled_word s at 2 at_in (omega arith) (omega arith) (λ e k. omega arith) (λ e k. other (sym e)));
           linked = linked_without old new at p.front chunk p.back p.distinct
@@ -133,7 +118,8 @@ module _ (regions : List Grant) (old : ℕ → ℕ) (index : ℕ → List ℕ) (
     pub pulled_opened : Opened new (without_chunk o.node.size chunk index) bin parent low n at
     pulled_opened =
         let d = o.node in
-        let own : (k : ℕ) → 0 < k → 8 * k < 64 → k ≢ 2 → k ≢ 3 → new (at + 8 * k) ≡ old (at + 8 * k) = λ k some few not2 not3. pulled_word d.size at k at_in some few (λ e. not3) (λ e. not2) in
+        let own : (k : ℕ) → 0 < k → 8 * k < 64 → k ≢ 2 → k ≢ 3 → new (at + 8 * k) ≡ old (at + 8 * k) =
+        λ k some few not2 not3. pulled_word d.size at k at_in some few (λ e. not3) (λ e. not2) in
         record {
           node = record {
             size = d.size;
@@ -153,11 +139,11 @@ module _ (regions : List Grant) (old : ℕ → ℕ) (index : ℕ → List ℕ) (
             bin_is = own 7 (omega arith) (omega arith) (λ e. omega arith) (λ e. omega arith) ∙ d.bin_is;
           };
           children = λ side.
-              let stays = trie_kept old new bin (without_size d.size index) at (low_at side low (width n)) n (d.child side)
+              let stays = trie_kept old new bin rest at (under side) n (d.child side)
               (λ m a b c is k some few. pulled_word m c k (in_without d.size index m c is) some few
-              (λ e. absurd (of_child m c prev is prev_in e)) (λ e. absurd (of_child m c next is next_in e))) (o.children side) in
-              trie_reindexed new bin (without_size d.size index) (without_size d.size (without_chunk d.size chunk index)) at (low_at side low (width n)) n (d.child side)
-              (λ m a b. minus_alike d.size chunk index m) stays;
+              (λ e. absurd (size_apart chunks d.size m c prev is prev_in e)) (λ e. absurd (size_apart chunks d.size m c next is next_in e))) (o.children side) in
+              trie_reindexed new bin rest (without_size d.size (without_chunk d.size chunk index)) at (under side) n (d.child side)
+              (λ m a b. without_unchanged (removed chunk) d.size d.size index m (λ is. is)) stays;
         }
 
     pub pulled_words : OnlyHeldChanges regions index low (low + 2 * width n) old new

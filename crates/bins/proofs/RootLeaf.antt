@@ -13,21 +13,27 @@ use Rattle.bins.proofs.Lists.{with_same, with_other, without_same, without_other
 use Rattle.bins.proofs.Chunks.{same_or_not}
 use Rattle.bins.proofs.Opened.{Opened, closed, none_in, empty}
 
-module _ (regions : List Grant) (old : ℕ → ℕ) (index : ℕ → List ℕ) (bin parent low levels root size chunk : ℕ)
+module _ {regions : List Grant} {old : ℕ → ℕ} {index : ℕ → List ℕ} {bin parent low levels root size chunk : ℕ}
     (held : IsHeld regions old index bin parent low levels root) (fresh : IsFreshChunk regions old index size chunk) (big : 256 ≤ size) where
   pub r_own : (k : ℕ) → 1 < k → k < 8 → IsWordPlace regions (chunk + 8 * k)
-  r_own k some few = let f = fresh.is in record { small = omega (arith, f.high); word = f.granted (chunk + 8 * k) (omega arith) (omega arith) (omega (arith, f.aligned)) }
+  r_own k some few =
+      let f = fresh.is in
+      record { small = omega (arith, f.high); word = f.granted (chunk + 8 * k) (omega arith) (omega arith) (omega (arith, f.aligned)) }
 
   module _ (zero_root : root ≡ 0) (deep : 0 < levels) (above : low ≤ size) (below : size < low + width levels)
-      (mid new : ℕ → ℕ) (links : HasLinks regions old chunk chunk chunk mid) (node : HasNode regions mid chunk 0 0 parent bin new) where
+      {mid new : ℕ → ℕ} (links : HasLinks regions old chunk chunk chunk mid) (node : HasNode regions mid chunk 0 0 parent bin new) where
     none : IsNone index low (low + width levels)
-    none = none_in old index bin parent low levels root zero_root held.trie
+    none = none_in old index bin parent low levels zero_root held.trie
 
     kept : (k : ℕ) → 0 < k → k < 4 → new (chunk + 8 * k) ≡ mid (chunk + 8 * k)
-    kept k some few = let f = fresh.is in node.elsewhere (chunk + 8 * k) (f.granted (chunk + 8 * k) (omega arith) (omega arith) (omega (arith, f.aligned))) (inl (omega arith))
+    kept k some few =
+        let f = fresh.is in
+        node.elsewhere (chunk + 8 * k) (f.granted (chunk + 8 * k) (omega arith) (omega arith) (omega (arith, f.aligned))) (inl (omega arith))
 
     head : new (chunk + 8) ≡ old (chunk + 8)
-    head = let f = fresh.is in kept 1 (omega arith) (omega arith) ∙ links.elsewhere (chunk + 8) (f.granted (chunk + 8) (omega arith) (omega arith) (omega (arith, f.aligned))) (inl (omega arith))
+    head =
+        let f = fresh.is in
+        kept 1 (omega arith) (omega arith) ∙ links.elsewhere (chunk + 8) (f.granted (chunk + 8) (omega arith) (omega arith) (omega (arith, f.aligned))) (inl (omega arith))
 
     root_opened : Opened new (with_chunk size chunk index) bin parent low (levels - 1) chunk
     root_opened =
@@ -51,12 +57,13 @@ module _ (regions : List Grant) (old : ℕ → ℕ) (index : ℕ → List ℕ) (
           children = λ b. empty new (without_size size (with_chunk size chunk index)) bin chunk (low_at b low (width (levels - 1))) (levels - 1)
               (λ x a c. let half = in_half b low (width (levels - 1)) x a c in elim (same_or_not x size) [
                 | inl e ↦ ap (without_size size (with_chunk size chunk index)) e ∙ without_same size (with_chunk size chunk index)
-                | inr e ↦ without_other size (with_chunk size chunk index) x e ∙ (with_other size chunk index x e ∙ none x half.0 (omega (arith, half.1, w)))
+                | inr e ↦
+                    without_other size (with_chunk size chunk index) x e ∙ (with_other size chunk index x e ∙ none x half.0 (omega (arith, half.1, w)))
               ]);
         }
 
     pub r_trie : IsTrie new (with_chunk size chunk index) bin parent low levels chunk
-    r_trie = closed new (with_chunk size chunk index) bin parent low levels chunk deep root_opened
+    r_trie = closed levels deep root_opened
 
     pub r_words : OnlyRangeChanges regions index low (low + width levels) size chunk old new
     r_words p word no_new no_old =

@@ -15,16 +15,16 @@ scaled_below less half scale within scaled =
       | inr some ↦ omega arith
     ]
 
--- a half of a range of so many levels
-pub half_scaled : (levels half : ℕ) → 0 < levels → levels ≤ 61 → half ≡ width (levels - 1) → half * 2 ^ (61 - levels) ≡ 2 ^ 63
-half_scaled levels half some few is =
+-- a half of a range of this many levels
+pub half_scaled : (levels : ℕ) {half : ℕ} → 0 < levels → levels ≤ 61 → half ≡ width (levels - 1) → half * 2 ^ (61 - levels) ≡ 2 ^ 63
+half_scaled levels some few is =
     let w = width_is (levels - 1) in
     let p = pow-add 2 (levels - 1) (61 - levels) in
     let sum : levels - 1 + (61 - levels) ≡ 60 = omega arith in
     let q : 2 ^ (levels - 1) * 2 ^ (61 - levels) ≡ 2 ^ 60 = sym p ∙ ap (λ n. 2 ^ n) sum in
     ap (λ h. h * 2 ^ (61 - levels)) (is ∙ w) ∙ omega (arith, q)
 
--- a range of so many levels
+-- a range of this many levels
 pub range_scaled : (levels : ℕ) → levels ≤ 61 → width levels * 2 ^ (61 - levels) ≡ 2 ^ 64
 range_scaled levels few =
     let p = pow-add 2 levels (61 - levels) in
@@ -33,8 +33,9 @@ range_scaled levels few =
     ap (λ w. w * 2 ^ (61 - levels)) (width_is levels) ∙ omega (arith, q)
 
 -- A number of a range, scaled as a word, is its place there: where the range begins falls out.
-pub word_is : (low offset n scale range : ℕ) → n ≡ low + offset → offset < range → low * scale % 2 ^ 64 ≡ 0 → range * scale ≡ 2 ^ 64 → n * scale % 2 ^ 64 ≡ offset * scale
-word_is low offset n scale range place within whole scaled =
+pub word_is : (low offset : ℕ) {n : ℕ} (scale range : ℕ) → n ≡ low + offset → offset < range → low * scale % 2 ^ 64 ≡ 0 →
+    range * scale ≡ 2 ^ 64 → n * scale % 2 ^ 64 ≡ offset * scale
+word_is low offset {n = n} scale range place within whole scaled =
     let e : n * scale ≡ (low + offset) * scale = ap (λ x. x * scale) place in
     let d = add-mul low offset scale in
     let s : offset + 1 ≤ range = omega arith in
@@ -45,13 +46,14 @@ word_is low offset n scale range place within whole scaled =
     ]
 
 -- the place in the half
-next_scaled : (side : Bool) (low half size bits scale : ℕ) → low ≤ size → size < low + 2 * half → half * scale ≡ 2 ^ 63 → bits ≡ (size - low) * scale →
+next_scaled : (side : Bool) (low half size : ℕ) {bits : ℕ} (scale : ℕ) → low ≤ size → size < low + 2 * half →
+    half * scale ≡ 2 ^ 63 → bits ≡ (size - low) * scale →
     low_at side low half ≤ size → size < low_at side low half + half → 2 * bits % 2 ^ 64 ≡ (size - low_at side low half) * (2 * scale)
-next_scaled false low half size bits scale above below scaled is in_low in_high =
+next_scaled false low half size scale above below scaled is in_low in_high =
     let less = scaled_below (size - low) half scale (omega arith) scaled in
     let e : (size - low) * (2 * scale) ≡ 2 * ((size - low) * scale) = omega arith in
     omega (arith, less, e, is)
-next_scaled true low half size bits scale above below scaled is in_low in_high =
+next_scaled true low half size scale above below scaled is in_low in_high =
     let less = scaled_below (size - (low + half)) half scale (omega arith) scaled in
     let p : size - low ≡ half + (size - (low + half)) = omega arith in
     let e : (size - low) * scale ≡ (half + (size - (low + half))) * scale = ap (λ x. x * scale) p in
@@ -59,12 +61,13 @@ next_scaled true low half size bits scale above below scaled is in_low in_high =
     let twice : (size - (low + half)) * (2 * scale) ≡ 2 * ((size - (low + half)) * scale) = omega arith in
     omega (arith, less, e, d, twice, is, scaled)
 
-pub next_is : (low half size bits levels low' next : ℕ) (side : Bool) → 0 < levels → levels ≤ 61 → half ≡ width (levels - 1) → low ≤ size → size < low + width levels → bits ≡ (size - low) * 2 ^ (61 - levels) →
+pub next_is : (low : ℕ) {half : ℕ} (size : ℕ) {bits : ℕ} (levels : ℕ) {low' next : ℕ} (side : Bool) → 0 < levels → levels ≤ 61 →
+    half ≡ width (levels - 1) → low ≤ size → size < low + width levels → bits ≡ (size - low) * 2 ^ (61 - levels) →
     low' ≡ low_at side low half → low_at side low half ≤ size → size < low_at side low half + half → next ≡ 2 * bits % 2 ^ 64 → next ≡ (size - low') * 2 ^ (61 - (levels - 1))
-next_is low half size bits levels low' next side some few half_is above below bits_is low_is in_low in_high is =
+next_is low {half = half} size {bits = bits} levels {low' = low'} side some few half_is above below bits_is low_is in_low in_high is =
     let w = wide levels some in
     let p = pow-add 2 1 (61 - levels) in
     let sum : 1 + (61 - levels) ≡ 61 - (levels - 1) = omega arith in
     let q : 2 ^ (61 - (levels - 1)) ≡ 2 * 2 ^ (61 - levels) = ap (λ n. 2 ^ n) (sym sum) ∙ p in
-    let n = next_scaled side low half size bits (2 ^ (61 - levels)) above (omega (arith, w, half_is)) (half_scaled levels half some few half_is) bits_is in_low in_high in
+    let n = next_scaled side low half size (2 ^ (61 - levels)) above (omega (arith, w, half_is)) (half_scaled levels some few half_is) bits_is in_low in_high in
     is ∙ (n ∙ (ap (λ l. (size - l) * (2 * 2 ^ (61 - levels))) (sym low_is) ∙ ap (λ x. (size - low') * x) (sym q)))

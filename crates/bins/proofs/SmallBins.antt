@@ -20,23 +20,18 @@ use Rattle.bins.proofs.Reindexed.{trie_reindexed}
 use Rattle.bins.proofs.Lists.{last_in, last_append, with_same, with_other}
 use Rattle.bins.proofs.Links.{linked_behind}
 use Rattle.bins.proofs.Chunks.{same_or_not, away, chunks_with, one_size}
+use Rattle.bins.proofs.Changed.{from_unchanged}
 
--- the last of a ring is its mark, where it is empty, or one of its chunks
+-- the last of a ring is its mark if it is empty, or one of its chunks
 pub last_is : (mark last : ℕ) (chunks : List ℕ) → last ≡ last_or mark chunks → ((chunks ≡ []) × (last ≡ mark)) ⊎ IsIn last chunks
 last_is mark last [] is = inl (refl, is)
 last_is mark last (x ∷ xs) is = inr (subst (λ y. IsIn y (x ∷ xs)) (sym is) (last_in x xs))
 
-pub first_pushed : (mark chunk : ℕ) (chunks : List ℕ) (first first' last : ℕ) → first ≡ first_or mark chunks → last ≡ last_or mark chunks →
+pub first_pushed : (mark chunk : ℕ) (chunks : List ℕ) {first : ℕ} (first' : ℕ) {last : ℕ} → first ≡ first_or mark chunks →
+    last ≡ last_or mark chunks →
     (last ≡ mark → first' ≡ chunk) → (last ≢ mark → first' ≡ first) → (IsIn last chunks → last ≢ mark) → first' ≡ first_or mark (chunks ++ chunk ∷ [])
-first_pushed mark chunk [] first first' last begins ends empty some not = empty ends
-first_pushed mark chunk (x ∷ xs) first first' last begins ends empty some not = some (not (subst (λ y. IsIn y (x ∷ xs)) (sym ends) (last_in x xs))) ∙ begins
-
--- an index from a size on is the same where one below gets a chunk
-from_alike : (size chunk least : ℕ) (index : ℕ → List ℕ) (n : ℕ) → size < least → from least (with_chunk size chunk index) n ≡ from least index n
-from_alike size chunk least index n below = elim (cases_lt n least) [
-  | inl less ↦ (let b : nat_lt n least ≡ true = grind (arith, nat_tests) in ap (λ c. if c then [] else with_chunk size chunk index n) b ∙ sym (ap (λ c. if c then [] else index n) b))
-  | inr more ↦ ap (λ (cs : List ℕ). if nat_lt n least then [] else cs) (with_other size chunk index n (λ is. omega arith))
-]
+first_pushed mark chunk [] first' begins ends empty some not = empty ends
+first_pushed mark chunk (x ∷ xs) first' begins ends empty some not = some (not (subst (λ y. IsIn y (x ∷ xs)) (sym ends) (last_in x xs))) ∙ begins
 
 pub in_from : (least : ℕ) (index : ℕ → List ℕ) (n chunk : ℕ) → IsIn chunk (from least index n) → IsIn chunk (index n) × (least ≤ n)
 in_from least index n chunk is = elim (cases_lt n least) [
@@ -52,7 +47,7 @@ least_large bin =
     let q : 2 * 2 ^ (bin / 2 + 7) ≤ (2 + bin % 2) * 2 ^ (bin / 2 + 7) = mul-le-mul_right (2 ^ (bin / 2 + 7)) two in
     omega arith
 
-module _ (regions : List Grant) (old new : ℕ → ℕ) (index : ℕ → List ℕ) (size chunk last tag : ℕ)
+module _ {regions : List Grant} {old new : ℕ → ℕ} {index : ℕ → List ℕ} {size chunk last tag : ℕ}
     (chunks : AreChunks regions old index) (fresh : IsFreshChunk regions old index size chunk) (pushed : HasPushed regions old last tag chunk new)
     (last_of : ((index size ≡ []) × (last ≡ tag)) ⊎ IsIn last (index size)) (tag_small : tag < 4096) where
   last_in_index : last ≢ tag → IsIn last (index size)
@@ -86,12 +81,13 @@ module _ (regions : List Grant) (old new : ℕ → ℕ) (index : ℕ → List �
         (not_new n other k 16 is some few (omega arith)) (not_new n other k 24 is some few (omega arith)) (λ not_empty at. not (omega arith))
   ]
 
-  pub ring_pushed : (first first' : ℕ) → IsRing old tag first last (index size) → (last ≡ tag → first' ≡ chunk) → (last ≢ tag → first' ≡ first) →
+  pub ring_pushed : {first : ℕ} (first' : ℕ) → IsRing old tag first last (index size) → (last ≡ tag → first' ≡ chunk) →
+      (last ≢ tag → first' ≡ first) →
       IsRing new tag first' chunk (index size ++ chunk ∷ [])
-  ring_pushed first first' ring empty some =
+  ring_pushed {first = first} first' ring empty some =
       let long : 32 ≤ size = fresh.is.long in
       record {
-        begins = first_pushed tag chunk (index size) first first' last ring.begins ring.ends empty some (λ is. not_tag size last is);
+        begins = first_pushed tag chunk (index size) first' ring.begins ring.ends empty some (λ is. not_tag size last is);
         ends = sym (last_append tag (index size) (chunk ∷ []));
         linked = linked_behind old new tag (index size) chunk (chunks.once size)
             (λ c is. last_same size c 2 is (omega arith) (omega arith) (λ is. omega arith))
@@ -101,13 +97,13 @@ module _ (regions : List Grant) (old new : ℕ → ℕ) (index : ℕ → List �
       }
 
   pub chunks_pushed : AreChunks regions new (with_chunk size chunk index)
-  chunks_pushed = chunks_with regions old new index size chunk chunks fresh
+  chunks_pushed = chunks_with new chunks fresh
       (λ n other is. let long = (chunks.each n other is).long in last_same n other 1 is (omega arith) (omega arith) (λ is. omega arith))
       (let f = fresh.is in pushed.elsewhere (chunk + 8) (f.granted (chunk + 8) (omega arith) (omega (arith, f.long)) (omega (arith, f.aligned))) (λ is. omega arith) (λ is. omega arith)
       (λ not_empty is. let there = last_in_index not_empty in elim (fresh.apart size last there) [ inl above ↦ omega (arith, f.long) | inr below ↦ omega (arith, f.long) ]))
 
 -- what stands at entry
-module _ (regions : List Grant) (old : ℕ → ℕ) (bins : Bins) (index : ℕ → List ℕ) (size chunk last tag : ℕ)
+module _ {regions : List Grant} {old : ℕ → ℕ} {bins : Bins} {index : ℕ → List ℕ} {size chunk : ℕ} {last tag : ℕ}
     (linked : IsLinked regions old bins index) (fresh : IsFreshChunk regions old index size chunk) (small : size < 256)
     (last_at : last ≡ slice_index bins.lasts (size / 8)) (tag_is : tag ≡ 64 + size / 8) where
   bin_size : 8 * (size / 8) ≡ size
@@ -116,7 +112,8 @@ module _ (regions : List Grant) (old : ℕ → ℕ) (bins : Bins) (index : ℕ �
   bin_ring : IsRing old tag (slice_index bins.firsts (size / 8)) last (index size)
   bin_ring =
       let r = (linked.small (size / 8) (omega arith)).ring in
-      let r' : IsRing old (64 + size / 8) (slice_index bins.firsts (size / 8)) (slice_index bins.lasts (size / 8)) (index size) = subst (λ n. IsRing old (64 + size / 8) (slice_index bins.firsts (size / 8)) (slice_index bins.lasts (size / 8)) (index n)) bin_size r in
+      let r' : IsRing old (64 + size / 8) (slice_index bins.firsts (size / 8)) (slice_index bins.lasts (size / 8)) (index size) =
+      subst (λ n. IsRing old (64 + size / 8) (slice_index bins.firsts (size / 8)) (slice_index bins.lasts (size / 8)) (index n)) bin_size r in
       subst (λ t. IsRing old t (slice_index bins.firsts (size / 8)) last (index size)) (sym tag_is)
       (subst (λ l. IsRing old (64 + size / 8) (slice_index bins.firsts (size / 8)) l (index size)) (sym last_at) r')
 
@@ -139,37 +136,37 @@ module _ (regions : List Grant) (old : ℕ → ℕ) (bins : Bins) (index : ℕ �
   ]
 
 -- a chunk is put into its ring
-module _ (regions : List Grant) (old new : ℕ → ℕ) (bins bins' : Bins) (index : ℕ → List ℕ) (size chunk last tag : ℕ)
+module _ {regions : List Grant} {old new : ℕ → ℕ} {bins bins' : Bins} {index : ℕ → List ℕ} {size chunk last tag : ℕ}
     (linked : IsLinked regions old bins index) (fresh : IsFreshChunk regions old index size chunk) (small : size < 256)
     (last_at : last ≡ slice_index bins.lasts (size / 8)) (tag_is : tag ≡ 64 + size / 8)
     (pushed : HasPushed regions old last tag chunk new) (newest : HasNewest bins (size / 8) last tag chunk bins') where
   size_is : 8 * (size / 8) ≡ size
-  size_is = bin_size regions old bins index size chunk last tag linked fresh small last_at tag_is
+  size_is = bin_size linked fresh small last_at tag_is
 
   ring_is : IsRing old tag (slice_index bins.firsts (size / 8)) last (index size)
-  ring_is = bin_ring regions old bins index size chunk last tag linked fresh small last_at tag_is
+  ring_is = bin_ring linked fresh small last_at tag_is
 
   end_is : ((index size ≡ []) × (last ≡ tag)) ⊎ IsIn last (index size)
-  end_is = last_of regions old bins index size chunk last tag linked fresh small last_at tag_is
+  end_is = last_of linked fresh small last_at tag_is
 
   tag_small : tag < 4096
   tag_small = omega arith
 
   same : (n other : ℕ) → IsIn other (index n) → other ≢ last → IsSame old new n other
-  same = other_same regions old new index size chunk last tag linked.chunks fresh pushed end_is tag_small
+  same = other_same linked.chunks fresh pushed end_is tag_small
 
   -- the chunks of another size stay
   size_same : (n : ℕ) → n ≢ size → (other : ℕ) → IsIn other (index n) → IsSame old new n other
   size_same n not other is = same n other is (λ is_last. elim end_is [
-    | inl none ↦ not_tag regions old new index size chunk last tag linked.chunks fresh pushed end_is tag_small n other is (is_last ∙ none.1)
-    | inr there ↦ not (one_size regions old new index n size other linked.chunks is (subst (λ c. IsIn c (index size)) (sym is_last) there))
+    | inl none ↦ not_tag linked.chunks fresh pushed end_is tag_small n other is (is_last ∙ none.1)
+    | inr there ↦ not (one_size n size other linked.chunks is (subst (λ c. IsIn c (index size)) (sym is_last) there))
   ])
 
   here : IsSmallBin new bins'.firsts bins'.lasts bins'.small_map (with_chunk size chunk index) (size / 8)
   here =
-      let ring = ring_pushed regions old new index size chunk last tag linked.chunks fresh pushed end_is tag_small
-      (slice_index bins.firsts (size / 8)) (slice_index bins'.firsts (size / 8)) ring_is newest.first_new newest.first_same in
-      let index_is : index size ++ chunk ∷ [] ≡ with_chunk size chunk index (8 * (size / 8)) = sym (ap (with_chunk size chunk index) size_is ∙ with_same size chunk index) in
+      let ring = ring_pushed linked.chunks fresh pushed end_is tag_small (slice_index bins'.firsts (size / 8)) ring_is newest.first_new newest.first_same in
+      let index_is : index size ++ chunk ∷ [] ≡ with_chunk size chunk index (8 * (size / 8)) =
+      sym (ap (with_chunk size chunk index) size_is ∙ with_same size chunk index) in
       record {
         ring = subst (λ (cs : List ℕ). IsRing new (64 + size / 8) (slice_index bins'.firsts (size / 8)) (slice_index bins'.lasts (size / 8)) cs) index_is
             (subst (λ l. IsRing new (64 + size / 8) (slice_index bins'.firsts (size / 8)) l (index size ++ chunk ∷ [])) (sym newest.last_new)
@@ -205,7 +202,7 @@ module _ (regions : List Grant) (old new : ℕ → ℕ) (bins bins' : Bins) (ind
       (λ n above below c is k some few. let there = in_from (least_size bin) index n c is in let large = least_large bin in
       size_same n (λ e. omega (arith, there.1)) c there.0 k some (omega (arith, there.1))) was.trie in
       let again = trie_reindexed new bin (from (least_size bin) index) (from (least_size bin) (with_chunk size chunk index)) (128 + bin) (low_of bin) (levels_of bin) (slice_index bins.roots bin)
-      (λ n above below. from_alike size chunk (least_size bin) index n (let large = least_large bin in omega arith)) kept in
+      (λ n above below. from_unchanged (λ (cs : List ℕ). cs ++ chunk ∷ []) (least_size bin) size index n (let large = least_large bin in omega arith)) kept in
       record {
         trie = subst (λ (rs : List ℕ). IsTrie new (from (least_size bin) (with_chunk size chunk index)) bin (128 + bin) (low_of bin) (levels_of bin) (slice_index rs bin)) (sym newest.roots) again;
         marked = λ some. ap (λ m. bit_at m bin) newest.tree_map ∙ was.marked (subst (λ (rs : List ℕ). 0 < slice_index rs bin) newest.roots some);
@@ -214,7 +211,7 @@ module _ (regions : List Grant) (old new : ℕ → ℕ) (bins bins' : Bins) (ind
 
   pub small_inserted : IsLinked regions new bins' (with_chunk size chunk index)
   small_inserted = record {
-    chunks = chunks_pushed regions old new index size chunk last tag linked.chunks fresh pushed end_is tag_small;
+    chunks = chunks_pushed linked.chunks fresh pushed end_is tag_small;
     small = λ bin within. elim (same_or_not bin (size / 8)) [
       | inl is ↦ subst (λ b. IsSmallBin new bins'.firsts bins'.lasts bins'.small_map (with_chunk size chunk index) b) (sym is) here
       | inr not ↦ others bin within not

@@ -10,7 +10,7 @@ use Rattle.bins.specs.Linked.{IsChunk, IsSmallBin, IsTreeBin, IsLinked, AreKept,
 use Rattle.bins.proofs.Frame.{linked_kept, trie_kept}
 use Rattle.bins.proofs.SmallBins.{in_from, least_large}
 
-module _ (regions regions' : List Grant) (old new : ℕ → ℕ) (bins : Bins) (index : ℕ → List ℕ)
+module _ {regions regions' : List Grant} {old new : ℕ → ℕ} {bins : Bins} {index : ℕ → List ℕ}
     (linked : IsLinked regions old bins index) (kept : AreKept regions regions' old new index) where
   -- a word of a chunk
   word_kept : (n chunk k : ℕ) → IsIn chunk (index n) → 0 < k → 8 * k < n → 8 * k < 64 → new (chunk + 8 * k) ≡ old (chunk + 8 * k)

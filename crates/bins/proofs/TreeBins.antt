@@ -16,7 +16,7 @@ use Rattle.bins.proofs.Chunks.{same_or_not}
 use Rattle.bins.proofs.SmallBins.{in_from, least_large}
 use Rattle.bins.proofs.TreeRanges.{bin_only, in_range, from_alike}
 
-module _ (regions : List Grant) (old new : ℕ → ℕ) (bins bins' : Bins) (index index' : ℕ → List ℕ) (bin size root : ℕ)
+module _ {regions : List Grant} {old new : ℕ → ℕ} {bins bins' : Bins} {index index' : ℕ → List ℕ} {bin size root : ℕ}
     (linked : IsLinked regions old bins index) (in_bin : IsTreeIndex size bin) (chunks : AreChunks regions new index')
     (others : (m : ℕ) → m ≢ size → index' m ≡ index m)
     (kept : (m c k : ℕ) → IsIn c (index m) → 0 < k → 8 * k < m → 8 * k < 64 → (IsTreeIndex m bin → ⊥) → new (c + 8 * k) ≡ old (c + 8 * k))
@@ -46,9 +46,9 @@ module _ (regions : List Grant) (old new : ℕ → ℕ) (bins bins' : Bins) (ind
       let big = least_large b in
       let stays = trie_kept old new b (from (least_size b) index) (128 + b) (low_of b) (levels_of b) (slice_index bins.roots b)
       (λ n above below c is k some few. let there = in_from (least_size b) index n c is in
-      kept n c k there.0 some (omega (arith, there.1)) few (λ t. other (bin_only n b bin (in_range n b within there.1 below) t))) was.trie in
+      kept n c k there.0 some (omega (arith, there.1)) few (λ t. other (bin_only (in_range n b within there.1 below) t))) was.trie in
       let again = trie_reindexed new b (from (least_size b) index) (from (least_size b) index') (128 + b) (low_of b) (levels_of b) (slice_index bins.roots b)
-      (λ n above below. from_alike (least_size b) index index' n (λ reached. others n (λ e. other (bin_only n b bin (in_range n b within reached below) (subst (λ m. IsTreeIndex m bin) (sym e) in_bin))))) stays in
+      (λ n above below. from_alike (least_size b) index index' n (λ reached. others n (λ e. other (bin_only (in_range n b within reached below) (subst (λ m. IsTreeIndex m bin) (sym e) in_bin))))) stays in
       record {
         trie = subst (λ r. IsTrie new (from (least_size b) index') b (128 + b) (low_of b) (levels_of b) r) (sym (rooted.roots b other)) again;
         marked = λ some. rooted.map b within other ∙ was.marked (subst (λ r. 0 < r) (rooted.roots b other) some);

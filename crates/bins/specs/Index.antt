@@ -11,7 +11,7 @@ abbrev pub AreDistinct : List ℕ → Type 0
 AreDistinct [] = ⊤
 AreDistinct (first ∷ chunks) = (IsIn first chunks → ⊥) × AreDistinct chunks
 
--- the first of some chunks, and the last of some chunks; what stands before or behind them where there is none
+-- the first of some chunks, and the last of some chunks; if there is none, what stands after or before them
 abbrev pub first_or : ℕ → List ℕ → ℕ
 first_or behind [] = behind
 first_or behind (first ∷ chunks) = first

@@ -6,7 +6,8 @@ use Rattle.bins.specs.declared.bins.Bins.{Bins}
 use Rattle.bins.specs.Tries.{slot}
 use Rattle.bins.specs.Linked.{IsLinked, AreKept, levels_of}
 
--- Stores outside the words of its chunks leave an index, and so do grants, and the end of grants that have none of them.
+-- Stores outside the words of its chunks leave an index as it is, and so do grants, and the end of grants that have
+-- none of these words.
 abbrev pub IndexStays : Type 0
 IndexStays = (regions regions' : List Grant) (old new : ℕ → ℕ) (bins : Bins) (index : ℕ → List ℕ) →
     IsLinked regions old bins index → AreKept regions regions' old new index → IsLinked regions' new bins index
@@ -16,7 +17,7 @@ abbrev pub OneIndex : Type 0
 OneIndex = (regions : List Grant) (words : ℕ → ℕ) (bins : Bins) (index other : ℕ → List ℕ) →
     IsLinked regions words bins index → IsLinked regions words bins other → (size : ℕ) → index size ≡ other size
 
--- the sides to which the bits of a 64-bit word lead, from the top bit on: the upper side where the bit is set
+-- the sides to which the bits of a 64-bit word lead, from the top bit on: the upper side if the bit is set
 abbrev pub sides_of : ℕ → ℕ → List Bool
 sides_of word zero = []
 sides_of word (suc count) = nat_le (2 ^ 63) word ∷ sides_of (2 * word % 2 ^ 64) count

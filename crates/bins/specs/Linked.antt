@@ -10,7 +10,7 @@ use Rattle.bins.specs.Index.{IsIn, AreDistinct, from}
 use Rattle.bins.specs.Tries.{IsTrie}
 use Rattle.bins.specs.Rings.{IsRing}
 
--- a chunk of a size, whose words behind its first are granted
+-- a chunk of a size, whose words after its first are granted
 pub record IsChunk (regions : List Grant) (words : ℕ → ℕ) (size chunk : ℕ) : Type 0 where
   pub whole : size % 16 ≡ 0
   pub long : 32 ≤ size

@@ -5,7 +5,7 @@ use Rattle.dlmalloc_chunks.specs.Head.{size_of}
 use Rattle.bins.specs.Index.{without_size, IsNone}
 use Rattle.bins.specs.Rings.{IsRing}
 
--- the bytes of the range of a trie of so many levels
+-- the bytes of the range of a trie with the given number of levels
 abbrev pub width : ℕ → ℕ
 width zero = 8
 width (suc levels) = 2 * width levels
@@ -20,7 +20,7 @@ abbrev pub both : ℕ → ℕ → Bool → ℕ
 both child0 child1 false = child0
 both child0 child1 true = child1
 
--- where the range of a child begins, in a range from low on whose halves have so many bytes
+-- where the range of a child begins, in a range from low on whose halves have the given number of bytes
 abbrev pub low_at : Bool → ℕ → ℕ → ℕ
 low_at false low half = low
 low_at true low half = low + half

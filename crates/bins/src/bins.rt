@@ -9,18 +9,18 @@ use step_count::Steps;
 
 /// The bins of free chunks by size.
 ///
-/// Each call takes a memory and a counter, in which each load and store of a word counts one. What stands in the memory
-/// is told by an index: a function from a size to the list of its chunks, the oldest first. The contracts hold for the
+/// Each call takes a memory and a counter, in which each load and store of a word counts one. An index says what stands
+/// in the memory: it is a function from a size to the list of its chunks, the oldest first. The contracts hold for the
 /// index that is linked at entry, so no call takes it.
 #[derive(Drop)]
 pub struct Bins {
-    /// The oldest chunk of each small bin, or its tag where it is empty.
+    /// The oldest chunk of each small bin, or its tag if it is empty.
     pub(crate) firsts: [u64; 32],
-    /// The newest chunk of each small bin, or its tag where it is empty.
+    /// The newest chunk of each small bin, or its tag if it is empty.
     pub(crate) lasts: [u64; 32],
     /// A bit for each small bin that has a chunk.
     pub(crate) small_map: u32,
-    /// The root of the trie of each tree bin, or 0 where it is empty.
+    /// The root of the trie of each tree bin, or 0 if it is empty.
     pub(crate) roots: [u64; 32],
     /// A bit for each tree bin that has a chunk.
     pub(crate) tree_map: u32,
@@ -47,7 +47,7 @@ impl Bins {
         }
     }
 
-    /// Puts a chunk into the index, as the newest of its size. Its head tells the size, and it shares no byte with a
+    /// Puts a chunk into the index, as the newest of its size. Its head has the size, and it shares no byte with a
     /// chunk of the index.
     ///
     /// Of the granted words only link words change: those of the chunk and of the chunks of the index. At most 129 words
@@ -105,7 +105,8 @@ impl Bins {
 
     /// Takes out a chunk that `least_fit` names, which from 256 on is the oldest of its size. It is binned with this size.
     ///
-    /// The same changes as in `unlink`, with no walk down a trie from its root: such a chunk's own words tell where it is.
+    /// The same changes as in `unlink`, with no walk down a trie from its root: such a chunk's own words say where it
+    /// is.
     #[inline(always)]
     pub fn unlink_fit<M: Links, L: Ledger>(
         &mut self,
@@ -131,7 +132,7 @@ impl Bins {
     }
 
     /// The chunk of the least size that is at least `size`: the newest of its size below 256, and the oldest from 256
-    /// on. None comes exactly where no chunk is large enough.
+    /// on. None exactly if no chunk is large enough.
     ///
     /// At most 366 words are loaded: a search goes down one path, and then down the leftmost path of one subtree.
     pub fn least_fit<M: Links, L: Ledger>(

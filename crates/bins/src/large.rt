@@ -43,7 +43,7 @@ pub(crate) fn bin_levels(bin: usize) -> u32
 }
 
 impl Bins {
-    /// Names the root of a tree bin, 0 where it is empty. Nothing is written where it is the one before.
+    /// Names the root of a tree bin, or 0 if it is empty. Nothing is written if it is the one before.
     fn set_root(&mut self, bin: usize, before: u64, root: u64)
         requires within { bin < 32 }
         requires before { before ≡ slice_index self.old.roots bin }
@@ -62,7 +62,7 @@ impl Bins {
         }
     }
 
-    /// Names another root of a tree bin that has one, or 0. Its bit is set, and stays where there is a root.
+    /// Names another root of a tree bin that has one, or 0. Its bit is set, and stays if there is a root.
     fn swap_root(&mut self, bin: usize, root: u64)
         requires within { bin < 32 }
         requires marked { bit_at self.old.tree_map bin ≡ 1 }
@@ -111,8 +111,8 @@ impl Bins {
         self.set_root(bin, root, left);
     }
 
-    /// Takes a node out of the trie of its bin: the oldest chunk of a size of at least 256. Its words name its parent and the
-    /// bin, so that nothing is searched.
+    /// Takes a node out of the trie of its bin: the oldest chunk of a size of at least 256. Its words name its parent
+    /// and the bin, so nothing is searched.
     #[inline(always)]
     pub(crate) fn unlink_node<M: Links, L: Ledger>(
         &mut self,
@@ -176,7 +176,7 @@ impl Bins {
         self.set_root(bin, root, planted);
     }
 
-    /// The oldest chunk of the least size in the tree bins behind one.
+    /// The oldest chunk of the least size in the tree bins after one.
     fn least_behind<M: Links, L: Ledger>(
         &self,
         memory: &M,

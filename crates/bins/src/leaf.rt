@@ -19,7 +19,7 @@ pub(crate) struct Child {
     pub(crate) is_upper: bool,
 }
 
-/// The left child of a node, or its right child where it has no left one.
+/// The left child of a node, or its right child if it has no left one.
 pub(crate) fn first_child<M: Links, L: Ledger>(memory: &M, at: u64, steps: &mut Steps<L>) -> Child
     requires left { IsWordPlace (M.regions memory.now) (at + 32) }
     requires right { IsWordPlace (M.regions memory.now) (at + 40) }
@@ -43,7 +43,7 @@ pub(crate) fn first_child<M: Links, L: Ledger>(memory: &M, at: u64, steps: &mut 
     }
 }
 
-/// Names a chunk as the parent of a child, where there is one.
+/// Names a chunk as the parent of a child, if there is one.
 fn adopt<M: Links, L: Ledger>(memory: &mut M, child: u64, chunk: u64, steps: &mut Steps<L>)
     requires { 0 < child → IsWordPlace (M.regions memory.old) (child + 48) }
     ensures named { 0 < child → M.word memory.new (child + 48) ≡ chunk }
@@ -81,7 +81,8 @@ pub(crate) fn place_node<M: Links, L: Ledger>(
     adopt(memory, child1, chunk, steps);
 }
 
-/// Takes a leaf out from below a node, on the way that begins with this child of it. The trie has at most so many levels.
+/// Takes a leaf out from below a node, on the way that begins with this child of it. The trie has at most `levels`
+/// levels.
 ///
 /// Nothing is done on the way back, so the walk is a loop.
 fn take_under<M: Links, L: Ledger>(
@@ -111,7 +112,7 @@ fn take_under<M: Links, L: Ledger>(
     take_under(memory, child, next.is_upper, next.at, levels - 1, steps)
 }
 
-/// Takes a leaf out of a trie that is not empty, of at most so many levels.
+/// Takes a leaf out of a trie that is not empty, of at most `levels` levels.
 pub(crate) fn take_leaf<M: Links, L: Ledger>(
     memory: &mut M,
     at: u64,

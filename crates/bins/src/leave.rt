@@ -91,8 +91,8 @@ fn rest_of(leaf: u64, child: u64) -> u64
     if leaf == child { 0 } else { child }
 }
 
-/// Puts a leaf from below in the place of a node that is alone in its ring and has this first child. The trie has at most so
-/// many levels.
+/// Puts a leaf from below in the place of a node that is alone in its ring and has this first child. The trie has at
+/// most `levels` levels.
 #[inline(never)]
 fn raise_leaf<M: Links, L: Ledger>(
     memory: &mut M,
@@ -125,8 +125,8 @@ fn raise_leaf<M: Links, L: Ledger>(
     leaf
 }
 
-/// Puts a leaf from below in the place of a node that is alone in its ring. Answers 0 where nothing is below. The trie has
-/// at most so many levels.
+/// Puts a leaf from below in the place of a node that is alone in its ring. Answers 0 if nothing is below. The trie has
+/// at most `levels` levels.
 #[inline(always)]
 fn give_to_leaf<M: Links, L: Ledger>(
     memory: &mut M,
@@ -162,8 +162,8 @@ fn give_to_leaf<M: Links, L: Ledger>(
     )
 }
 
-/// Takes a node out of a trie of at most so many levels, and puts its heir in its place: the next of its ring, or else a
-/// leaf from below. Answers the heir, or 0 where there is none.
+/// Takes a node out of a trie of at most `levels` levels, and puts its heir in its place: the next of its ring, or else
+/// a leaf from below. Answers the heir, or 0 if there is none.
 #[inline(always)]
 pub(crate) fn replace_node<M: Links, L: Ledger>(
     memory: &mut M,

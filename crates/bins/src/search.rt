@@ -15,7 +15,7 @@ use step_count::Steps;
 
 /// The lesser of a known chunk and the least chunk of a trie: down its leftmost path.
 ///
-/// What is known goes down with the search, which so is a loop.
+/// What is known goes down with the search, so the search is a loop.
 pub(crate) fn least_of<M: Links, L: Ledger>(
     memory: &M,
     at: u64,
@@ -52,15 +52,15 @@ pub(crate) fn least_of<M: Links, L: Ledger>(
     )
 }
 
-/// A trie of so many levels, by its root.
+/// A trie, by its root and the number of its levels.
 #[derive(Clone, Copy)]
 pub(crate) struct Subtrie {
     at: u64,
     levels: u32,
 }
 
-/// The trie behind a path that goes on to a side of a node: its right child where the path leaves that aside, or else the
-/// one behind the path so far.
+/// The trie after a path that goes on to a side of a node: the node's right child if the path leaves that aside, or
+/// else the trie after the path so far.
 fn behind(is_upper: bool, right: Subtrie, so_far: Subtrie) -> Subtrie
     ensures right { is_upper ≡ false → 0 < right.at → result ≡ right }
     ensures so_far { (is_upper ≡ true) ⊎ (right.at ≡ 0) → result ≡ so_far }
@@ -73,7 +73,7 @@ fn behind(is_upper: bool, right: Subtrie, so_far: Subtrie) -> Subtrie
 }
 
 /// The lesser of a known chunk and the least chunk of at least a size in a trie: down the path of the size, then the
-/// leftmost path of the last trie that the path left aside on its right. That is `beside` where the path leaves none.
+/// leftmost path of the last trie that the path left aside on its right. That is `beside` if the path leaves none.
 pub(crate) fn fit_below<M: Links, L: Ledger>(
     memory: &M,
     at: u64,

@@ -11,7 +11,7 @@ use heap_memory::Links;
 use std::sync::ledger::Ledger;
 use step_count::Steps;
 
-/// Puts a chunk behind the last of a ring, which is its tag where it is empty.
+/// Puts a chunk after the last of a ring, which is the ring's tag if it is empty.
 fn push<M: Links, L: Ledger>(memory: &mut M, last: u64, tag: u64, chunk: u64, steps: &mut Steps<L>)
     requires prev { IsWordPlace (M.regions memory.old) (chunk + 16) }
     requires next { IsWordPlace (M.regions memory.old) (chunk + 24) }

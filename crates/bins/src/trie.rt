@@ -12,7 +12,7 @@ use heap_memory::Links;
 use std::sync::ledger::Ledger;
 use step_count::Steps;
 
-/// Half the bytes of the range of a trie of so many levels.
+/// Half the bytes of the range of a trie with `levels` levels.
 pub(crate) fn half_width(levels: u32) -> u64
     requires some { 0 < levels }
     requires few { levels ≤ 61 }
@@ -21,9 +21,9 @@ pub(crate) fn half_width(levels: u32) -> u64
     8 << (levels - 1)
 }
 
-/// Where a size lies in the range of a trie, scaled so that the whole range is that of 64-bit words. The top bit then tells
-/// in which half it lies (dlmalloc: `leftshift_for_tree_index`). Where the range begins is a multiple of its length, whose
-/// bits the shift drops.
+/// Where a size lies in the range of a trie, scaled so that the whole range is that of 64-bit words. The top bit then
+/// says in which half it lies (dlmalloc: `leftshift_for_tree_index`). The range begins at a multiple of its length, and
+/// the shift drops the bits of that.
 pub(crate) fn path_bits(low: u64, levels: u32, size: u64) -> u64
     requires few { levels ≤ 61 }
     requires above { low ≤ size }
@@ -41,7 +41,7 @@ pub(crate) fn next_bits(bits: u64) -> u64
     bits << 1
 }
 
-/// Whether a size is in the upper half of a range, by its top bit where it is scaled.
+/// Whether a size is in the upper half of a range, by the top bit of the scaled size.
 pub(crate) fn is_in_upper(low: u64, half: u64, size: u64, bits: u64) -> bool
     requires above { low ≤ size }
     requires below { size < low + 2 * half }
@@ -68,7 +68,7 @@ pub(crate) fn low_of(low: u64, half: u64, is_upper: bool) -> u64
     if is_upper { low + half } else { low }
 }
 
-/// Puts a chunk behind the last of a node's ring.
+/// Puts a chunk after the last of a node's ring.
 fn join_ring<M: Links, L: Ledger>(memory: &mut M, at: u64, chunk: u64, steps: &mut Steps<L>)
     requires prev { IsWordPlace (M.regions memory.old) (chunk + 16) }
     requires next { IsWordPlace (M.regions memory.old) (chunk + 24) }

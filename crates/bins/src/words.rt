@@ -1,4 +1,4 @@
-// Where the words of a chunk stand that the bins write, and the tags of links out of the memory.
+// Where the words that the bins write stand in a chunk, and the tags of links out of the memory.
 
 /// The place of the prev word in a chunk.
 pub(crate) const PREV: u64 = 16;

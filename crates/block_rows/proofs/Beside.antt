@@ -121,7 +121,7 @@ module _ (regions : List Grant) (old new : ℕ → ℕ) (bins : Bins) (entries :
   head_word = record { granted = beside.granted (at + 8) (omega (arith, place.low)) (omega (arith, place.high, place.long)); aligned = omega (arith, place.aligned) }
 
   pub still_linked : IsLinked regions new bins (index_of entries)
-  still_linked = index_stays regions regions old new bins (index_of entries) beside.linked (record {
+  still_linked = index_stays beside.linked (record {
     granted = λ n c a is above below word. word;
     words = λ n c a is above below few word. stored.elsewhere a word (elim (apart_from_all size at entries free n c is) [
       | inl after ↦ (λ same. omega (arith, place.long))
@@ -159,10 +159,10 @@ module _ (regions : List Grant) (old : ℕ → ℕ) (bins : Bins) (entries : Lis
         subst (λ (index : ℕ → List ℕ). IsLinked regions new bins' index) e linked);
   }
 
-  -- where a search names the entry's chunk, that is the oldest of its size from 256 on
+  -- if a search names the entry's chunk, that is the oldest of its size from 256 on
   pub fit_oldest : (n chunk : ℕ) → entry.1 ≡ chunk → IsLeastFit (index_of entries) n chunk → 256 ≤ entry.0 → entry.1 ≡ first_or 0 (index_of entries entry.0)
   fit_oldest n chunk same fit large =
-      let size : fit.size ≡ entry.0 = one_size regions old old (index_of entries) fit.size entry.0 chunk beside.linked.chunks fit.binned (subst (λ c. IsIn c (index_of entries entry.0)) same (entry_in entries place entry entry within is)) in
+      let size : fit.size ≡ entry.0 = one_size fit.size entry.0 chunk beside.linked.chunks fit.binned (subst (λ c. IsIn c (index_of entries entry.0)) same (entry_in entries place entry entry within is)) in
       same ∙ (fit.oldest (subst (λ m. 256 ≤ m) (sym size) large) ∙ ap (λ m. first_or 0 (index_of entries m)) size)
 
 -- ---- what holds of regions and lists holds of those equal to them

@@ -1,5 +1,5 @@
--- The index of a plain list, which the tests keep beside the bins: sizes with their chunks, in the order in which the chunks
--- came.
+-- The index of a plain list, which the tests keep beside the bins: sizes with their chunks, in the order in which the
+-- chunks were put in.
 use Rattle.std.specs.Prelude.{◌≡◌, ℕ, ◌+◌, ◌%◌, ◌^◌, ◌<◌, ◌≤◌, ◌==◌, nat_le, ◌||◌, Bool, if◌then◌else◌, List, [], ◌∷◌, IsTrue}
 use Rattle.heap_memory.specs.declared.grant.Grant.{Grant}
 use Rattle.heap_memory.specs.Regions.{is_granted}

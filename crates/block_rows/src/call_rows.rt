@@ -330,7 +330,7 @@ fn settings_are_kept(rt: HostRuntime) -> Result<(), Fail> {
     Ok(())
 }
 
-/// A heap whose system gives two regions, one behind the other, and then refuses: for want of frames, and of memory.
+/// A heap whose system gives two regions, one after the other, and then refuses: for want of frames, and of memory.
 fn wide_heap(alloc: Global) -> Result<Dlmalloc<FlatSystem>, AllocError>
     ensures sound { IfOk result (λ heap. IsSound ⟦<FlatSystem as Links>⟧.regions ⟦<FlatSystem as Links>⟧.word heap) }
     ensures linked { IfOk result (λ heap. IsBinned ⟦<FlatSystem as Links>⟧.regions ⟦<FlatSystem as Links>⟧.word heap) }

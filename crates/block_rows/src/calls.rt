@@ -37,13 +37,13 @@ pub(crate) enum Call {
     Malloc(u64, Result<u64, MallocError>),
     /// Asks for a block of a size at an alignment, and is given this answer.
     Aligned(u64, u64, Result<u64, MallocError>),
-    /// The same by `c_memalign`, which is told the alignment first.
+    /// The same by `c_memalign`, which takes the alignment first.
     Memalign(u64, u64, Result<u64, MallocError>),
     /// Asks for a cleared block of a size at an alignment, and is given this answer.
     Calloc(u64, u64, Result<u64, MallocError>),
     /// Gives the block at an address, of a size and an alignment, another size, and is given this answer.
     Realloc(u64, u64, u64, u64, Result<u64, MallocError>),
-    /// The same by `c_realloc`, which is told the new size alone.
+    /// The same by `c_realloc`, which takes only the new size.
     CRealloc(u64, u64, Result<u64, MallocError>),
     /// Frees the block at an address.
     Free(u64),
@@ -51,13 +51,13 @@ pub(crate) enum Call {
     Granularity(u64),
     /// Trims the top down to some bytes, and is given this answer.
     Trim(u64, bool),
-    /// Makes a release pass, by a trim that cuts no top: so many bytes go back. There is a segment.
+    /// Makes a release pass, by a trim that cuts no top: this many bytes go back. There is a segment.
     Pass(u64),
-    /// Makes such a pass after every so many large chunks that are freed, from now on.
+    /// Makes such a pass each time this many large chunks are freed, from now on.
     Rate(u64),
-    /// Sees that so many are to be freed before the next pass.
+    /// Checks that this many are to be freed before the next pass.
     Countdown(u64),
-    /// Sees that the trim check is this.
+    /// Checks that the trim check is this.
     TrimCheck(u64),
 }
 
@@ -71,7 +71,7 @@ fn chunk_at(extents: &[Extent], at: u64) -> Option<(Kind, u64)>
         .map(|extent| (extent.kind, extent.size))
 }
 
-/// The size of the chunk of the block at an address, where there has to be one.
+/// The size of the chunk of the block at an address, which has to be there.
 fn chunk_of<L: Ledger, R: Abort>(
     rt: &R,
     alloc: Global,
@@ -205,7 +205,7 @@ pub(crate) const TOO_LARGE: Result<u64, MallocError> = Err(MallocError::TooLarge
 /// The calls of a new heap.
 pub(crate) const NEW: &[Call] = &[];
 
-/// Calls of a heap, behind those that came before, and its extents behind them.
+/// Calls of a heap, after those that were made before, and its extents after them.
 #[derive(Drop)]
 pub(crate) struct Row {
     pub(crate) rule: &'static str,

@@ -15,7 +15,7 @@ use std::sync::ledger::{Blank, Ledger};
 use std::test::Fail;
 use step_count::Steps;
 
-/// A call that is granted a region, the extents behind it, and the countdown.
+/// A call that is granted a region, the extents after it, and the countdown.
 #[derive(Clone, Copy)]
 struct Growth {
     call: Call,
@@ -120,7 +120,7 @@ const GROWTHS: &[Growth] = &[
     },
 ];
 
-/// The same call, where the system denies its request.
+/// The same call, if the system denies its request.
 fn denied(call: Call, fault: GrantFault) -> Call {
     let answer = Err(MallocError::System(fault));
     match call {
@@ -136,7 +136,7 @@ fn denied(call: Call, fault: GrantFault) -> Call {
     }
 }
 
-/// Makes a call, if there is one, whose request the system denies, and sees that nothing changes.
+/// Makes a call, if there is one, whose request the system denies, and checks that nothing changes.
 fn expect_refusal<L: Ledger, R: Abort>(
     rt: &R,
     alloc: Global,

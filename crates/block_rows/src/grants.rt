@@ -1,4 +1,4 @@
-// Where grants go, and the countdown that the first begins.
+// Where grants go, and the countdown that the first grant begins.
 use crate::calls::{Call, NO_SPACE};
 use crate::scripted::{Given, serve_given};
 use dlmalloc::Kind;

@@ -14,8 +14,8 @@ use std::sync::ledger::{Blank, Ledger};
 use std::test::Fail;
 use step_count::Steps;
 
-/// What is done at places. They are 1024 bytes apart, from the start of a region on. Each begins with a block of the row's
-/// size, then comes one of 24 bytes, and one of all the rest.
+/// What is done at places. They are 1024 bytes apart, from the start of a region on. Each begins with a block of the
+/// row's size; one of 24 bytes follows, and one of all the rest.
 #[derive(Clone, Copy)]
 enum Step {
     /// The block is freed.

@@ -48,7 +48,7 @@ fn is_free(list: &[(u64, u64)], size: u64, at: u64) -> bool
     list.iter().all(|entry| is_apart(size, at, entry))
 }
 
-/// Puts a chunk into the bins and into the list beside them, where it has a place. Its head is written before.
+/// Puts a chunk into the bins and into the list beside them, if it has a place. Its head is written before.
 fn insert<L: Ledger>(
     bins: &mut Bins,
     memory: &mut FlatSystem,
@@ -96,7 +96,7 @@ fn place_of(list: &[(u64, u64)], at: u64) -> Option<usize>
     list.iter().position(|entry| entry.1 == at)
 }
 
-/// Takes the least fit for a size out of the bins and the list, where there is one.
+/// Takes the least fit for a size out of the bins and the list, if there is one.
 fn take_fit<L: Ledger>(
     bins: &mut Bins,
     memory: &mut FlatSystem,
@@ -151,7 +151,7 @@ fn size_by(number: u64) -> u64 {
     least.wrapping_add(number / 40 % 3 * 16).wrapping_sub(16)
 }
 
-/// A place of a chunk, by a number: one of 256 for small ones, and behind these one of a few.
+/// A place of a chunk, by a number: one of 256 for small ones, and after these one of a few.
 fn place_by(number: u64, size: u64) -> u64 {
     if size <= 0x1000 {
         BASE + number % 256 * 0x1000

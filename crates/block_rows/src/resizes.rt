@@ -4,7 +4,7 @@ use std::marker::Brand;
 use std::sync::ledger::Blank;
 use std::test::Fail;
 
-/// A block, one behind it that is freed, and one that stays.
+/// A block, one after it that is freed, and one that stays.
 const BINNED: &[Call] = &[
     Call::Malloc(100, Ok(0x40_0010)),
     Call::Malloc(100, Ok(0x40_0080)),

@@ -15,8 +15,8 @@ use step_count::Steps;
 /// What a system gives: where it begins, how many bytes, and its flags.
 pub(crate) type Give = (u64, u64, u32);
 
-/// Calls of a new heap of a granularity over a system that gives regions, and takes them back, or parts of them, or does
-/// not; the extents behind them, and the bytes that the heap gives back in the end.
+/// Calls of a new heap of a granularity over a system that gives regions, and takes them back, or parts of them, or
+/// does not; the extents after them, and the bytes that the heap gives back in the end.
 #[derive(Drop)]
 pub(crate) struct Given {
     pub(crate) rule: &'static str,

@@ -197,8 +197,8 @@ fn each_give_is_denied_in_turn(rt: HostRuntime) -> Result<(), Fail> {
     Ok(())
 }
 
-/// Gives the first grant back, but for so many units of 16 bytes, and asks for the next: whether the bytes were taken,
-/// the word stored at the start of the grant before if it is kept, and the next answer.
+/// Gives the first grant back, but for a number of units of 16 bytes, and asks for the next: whether the bytes were
+/// taken, the word stored at the start of the grant before if it is kept, and the next answer.
 fn given_back(
     alloc: Global,
     frees: bool,

@@ -1,16 +1,17 @@
 use Rattle.std.proofs.Common.{true, false}
 use Rattle.bins.proofs.Taking.{t_slot}
-use Rattle.bins.proofs.LeafGiven.{g_none}
+use Rattle.bins.proofs.LeafUp.{l_none}
 use Rattle.bins.proofs.leave.give_to_leaf.Goals as goal
 
 pub first_child-child-requires-clause-left : goal.first_child-child-requires-clause-left
-first_child-child-requires-clause-left g c = let r = c.requires.held in t_slot (g.M.Links.regions c.args.memory.now) (g.M.Links.word c.args.memory.now) r.0 c.args.bin c.args.parent r.1.0 r.1.1.0 c.args.at c.requires.some r.1.1.1.1 false
+first_child-child-requires-clause-left g c = let r = c.requires.held in t_slot c.requires.some r.1.1.1.1 false
 
 pub first_child-child-requires-clause-right : goal.first_child-child-requires-clause-right
-first_child-child-requires-clause-right g c = let r = c.requires.held in t_slot (g.M.Links.regions c.args.memory.now) (g.M.Links.word c.args.memory.now) r.0 c.args.bin c.args.parent r.1.0 r.1.1.0 c.args.at c.requires.some r.1.1.1.1 true
+first_child-child-requires-clause-right g c = let r = c.requires.held in t_slot c.requires.some r.1.1.1.1 true
 
 pub returns-then-child-eq0-clause-trie : goal.returns-then-child-eq0-clause-trie
-returns-then-child-eq0-clause-trie g c = λ index low deep less held. g_none (g.M.Links.regions c.args.memory.now) (g.M.Links.word c.args.memory.now) index c.args.bin c.args.parent low deep c.args.at c.requires.some held (c.first_child-child.ensures.left c.if-child-eq0.true) (c.first_child-child.ensures.right c.if-child-eq0.true)
+returns-then-child-eq0-clause-trie g c = λ index low deep less held.
+    l_none c.requires.some held (c.first_child-child.ensures.left c.if-child-eq0.true) (c.first_child-child.ensures.right c.if-child-eq0.true)
 
 pub raise_leaf-requires-clause-held : goal.raise_leaf-requires-clause-held
 raise_leaf-requires-clause-held g c = c.requires.held

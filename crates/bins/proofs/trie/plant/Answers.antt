@@ -2,18 +2,18 @@ use Rattle.bins.proofs.RootLeaf.{r_own, r_trie, r_words}
 use Rattle.bins.proofs.trie.plant.Goals as goal
 
 pub set_links-requires : goal.set_links-requires
-set_links-requires g c = let r = c.requires.held in r_own (g.M.Links.regions c.args.memory.now) (g.M.Links.word c.args.memory.now) r.0 c.args.bin c.args.parent c.args.low c.args.levels c.args.root c.args.size c.args.chunk r.1.0 r.1.1 c.requires.large
+set_links-requires g c = let r = c.requires.held in r_own r.1.0 r.1.1 c.requires.large
 
 pub set_node-requires : goal.set_node-requires
-set_node-requires g c = let r = c.requires.held in rw c.set_links.ensures.regions (r_own (g.M.Links.regions c.args.memory.now) (g.M.Links.word c.args.memory.now) r.0 c.args.bin c.args.parent c.args.low c.args.levels c.args.root c.args.size c.args.chunk r.1.0 r.1.1 c.requires.large)
+set_node-requires g c = let r = c.requires.held in rw c.set_links.ensures.regions (r_own r.1.0 r.1.1 c.requires.large)
 
 pub returns-then-root-eq0-clause-trie : goal.returns-then-root-eq0-clause-trie
 returns-then-root-eq0-clause-trie g c = λ index held fresh. let node = rw c.set_links.ensures.regions at c.set_node.ensures.node in
-    r_trie (g.M.Links.regions c.args.memory.now) (g.M.Links.word c.args.memory.now) index c.args.bin c.args.parent c.args.low c.args.levels c.args.root c.args.size c.args.chunk held fresh c.requires.large c.if-root-eq0.true c.requires.deep c.requires.above c.requires.below (g.M.Links.word c.set_links.new.memory) (g.M.Links.word c.set_node.new.memory) c.set_links.ensures.links node
+    r_trie held fresh c.requires.large c.if-root-eq0.true c.requires.deep c.requires.above c.requires.below c.set_links.ensures.links node
 
 pub returns-then-root-eq0-clause-words : goal.returns-then-root-eq0-clause-words
 returns-then-root-eq0-clause-words g c = λ index held fresh. let node = rw c.set_links.ensures.regions at c.set_node.ensures.node in
-    r_words (g.M.Links.regions c.args.memory.now) (g.M.Links.word c.args.memory.now) index c.args.bin c.args.parent c.args.low c.args.levels c.args.root c.args.size c.args.chunk held fresh c.requires.large c.if-root-eq0.true c.requires.deep c.requires.above c.requires.below (g.M.Links.word c.set_links.new.memory) (g.M.Links.word c.set_node.new.memory) c.set_links.ensures.links node
+    r_words held fresh c.requires.large c.if-root-eq0.true c.requires.deep c.requires.above c.requires.below c.set_links.ensures.links node
 
 pub insert_below-requires-clause-held : goal.insert_below-requires-clause-held
 insert_below-requires-clause-held g c = let r = c.requires.held in (r.0, (c.args.parent, r.1))

@@ -1,37 +1,70 @@
 use Rattle.std.proofs.Common.{refl}
 use Rattle.std.specs.Prelude.{slice_index}
-use Rattle.dlmalloc_chunks.specs.Bins.{least_size}
-use Rattle.bins.specs.Index.{from}
-use Rattle.bins.proofs.TreeEntry.{t_deep, t_below, t_whole, t_fits, t_held, t_fresh, t_inserted, t_inserted_words}
+use Rattle.bins.proofs.TreeEntry.{IsTop, top_index, t_deep, t_below, t_whole, t_fits, t_held, t_fresh, t_inserted, t_inserted_words}
 use Rattle.bins.proofs.bins.Bins.insert_large.Goals as goal
+use Rattle.bins.proofs.bins.Bins.insert_large.Goals.{After-bin_levels-levels}
+
+-- the bin of the size, as the calls give it
+top : (g : _) (c : After-bin_levels-levels g) →
+    IsTop c.args.self.now c.compute_tree_index-bin.result c.args.size (slice_index c.args.self.now.roots c.compute_tree_index-bin.result)
+    c.bin_low-low.result c.bin_levels-levels.result
+top g c = record {
+  in_bin = c.compute_tree_index-bin.ensures;
+  small = c.ranges.size.fits;
+  root_is = refl;
+  low_is = c.bin_low-low.ensures;
+  levels_is = c.bin_levels-levels.ensures;
+}
 
 pub plant-planted-requires-clause-deep : goal.plant-planted-requires-clause-deep
-plant-planted-requires-clause-deep g c = let r = c.requires.linked in t_deep (g.M.Links.regions c.args.memory.now) (g.M.Links.word c.args.memory.now) c.args.self.now r.0 c.compute_tree_index-bin.result c.args.size r.1 c.compute_tree_index-bin.ensures c.ranges.size.fits (slice_index c.args.self.now.roots c.compute_tree_index-bin.result) c.bin_low-low.result c.bin_levels-levels.result refl c.bin_low-low.ensures c.bin_levels-levels.ensures
+plant-planted-requires-clause-deep g c =
+    let r = c.requires.linked in
+    t_deep r.1 (top g (goal.at.plant-planted-requires-clause-deep g c).After-bin_levels-levels)
 
 pub plant-planted-requires-clause-below : goal.plant-planted-requires-clause-below
-plant-planted-requires-clause-below g c = let r = c.requires.linked in t_below (g.M.Links.regions c.args.memory.now) (g.M.Links.word c.args.memory.now) c.args.self.now r.0 c.compute_tree_index-bin.result c.args.size r.1 c.compute_tree_index-bin.ensures c.ranges.size.fits (slice_index c.args.self.now.roots c.compute_tree_index-bin.result) c.bin_low-low.result c.bin_levels-levels.result refl c.bin_low-low.ensures c.bin_levels-levels.ensures
+plant-planted-requires-clause-below g c =
+    let r = c.requires.linked in
+    t_below r.1 (top g (goal.at.plant-planted-requires-clause-below g c).After-bin_levels-levels)
 
 pub plant-planted-requires-clause-whole : goal.plant-planted-requires-clause-whole
-plant-planted-requires-clause-whole g c = let r = c.requires.linked in t_whole (g.M.Links.regions c.args.memory.now) (g.M.Links.word c.args.memory.now) c.args.self.now r.0 c.compute_tree_index-bin.result c.args.size r.1 c.compute_tree_index-bin.ensures c.ranges.size.fits (slice_index c.args.self.now.roots c.compute_tree_index-bin.result) c.bin_low-low.result c.bin_levels-levels.result refl c.bin_low-low.ensures c.bin_levels-levels.ensures
+plant-planted-requires-clause-whole g c =
+    let r = c.requires.linked in
+    t_whole r.1 (top g (goal.at.plant-planted-requires-clause-whole g c).After-bin_levels-levels)
 
 pub plant-planted-requires-clause-fits : goal.plant-planted-requires-clause-fits
-plant-planted-requires-clause-fits g c = let r = c.requires.linked in t_fits (g.M.Links.regions c.args.memory.now) (g.M.Links.word c.args.memory.now) c.args.self.now r.0 c.compute_tree_index-bin.result c.args.size r.1 c.compute_tree_index-bin.ensures c.ranges.size.fits (slice_index c.args.self.now.roots c.compute_tree_index-bin.result) c.bin_low-low.result c.bin_levels-levels.result refl c.bin_low-low.ensures c.bin_levels-levels.ensures
+plant-planted-requires-clause-fits g c =
+    let r = c.requires.linked in
+    t_fits r.1 (top g (goal.at.plant-planted-requires-clause-fits g c).After-bin_levels-levels)
 
 pub plant-planted-requires-clause-held : goal.plant-planted-requires-clause-held
-plant-planted-requires-clause-held g c = let r = c.requires.linked in (from (least_size c.compute_tree_index-bin.result) r.0, (t_held (g.M.Links.regions c.args.memory.now) (g.M.Links.word c.args.memory.now) c.args.self.now r.0 c.compute_tree_index-bin.result c.args.size r.1 c.compute_tree_index-bin.ensures c.ranges.size.fits (slice_index c.args.self.now.roots c.compute_tree_index-bin.result) c.bin_low-low.result c.bin_levels-levels.result refl c.bin_low-low.ensures c.bin_levels-levels.ensures, t_fresh (g.M.Links.regions c.args.memory.now) (g.M.Links.word c.args.memory.now) c.args.self.now r.0 c.compute_tree_index-bin.result c.args.size r.1 c.compute_tree_index-bin.ensures c.ranges.size.fits (slice_index c.args.self.now.roots c.compute_tree_index-bin.result) c.bin_low-low.result c.bin_levels-levels.result refl c.bin_low-low.ensures c.bin_levels-levels.ensures c.args.chunk r.2))
+plant-planted-requires-clause-held g c =
+    let r = c.requires.linked in
+    let top = top g (goal.at.plant-planted-requires-clause-held g c).After-bin_levels-levels in
+    (top_index r.1 top, (t_held r.1 top, t_fresh r.1 top r.2))
 
 pub set_root-requires-clause-marked : goal.set_root-requires-clause-marked
-set_root-requires-clause-marked g c = let r = c.requires.linked in (r.1.large c.compute_tree_index-bin.result c.compute_tree_index-bin.ensures.within).marked
+set_root-requires-clause-marked g c = (c.requires.linked.1.large c.compute_tree_index-bin.result c.compute_tree_index-bin.ensures.within).marked
 
 pub set_root-requires-clause-clear : goal.set_root-requires-clause-clear
-set_root-requires-clause-clear g c = let r = c.requires.linked in (r.1.large c.compute_tree_index-bin.result c.compute_tree_index-bin.ensures.within).clear
+set_root-requires-clause-clear g c = (c.requires.linked.1.large c.compute_tree_index-bin.result c.compute_tree_index-bin.ensures.within).clear
 
 pub returns-clause-linked : goal.returns-clause-linked
-returns-clause-linked g c = λ index linked fresh. let done = t_inserted (g.M.Links.regions c.args.memory.now) (g.M.Links.word c.args.memory.now) c.args.self.now index c.compute_tree_index-bin.result c.args.size linked c.compute_tree_index-bin.ensures c.ranges.size.fits (slice_index c.args.self.now.roots c.compute_tree_index-bin.result) c.bin_low-low.result c.bin_levels-levels.result refl c.bin_low-low.ensures c.bin_levels-levels.ensures c.args.chunk fresh (g.M.Links.word c.plant-planted.new.memory) c.set_root.new.self c.plant-planted.result
-    (c.plant-planted.ensures.trie (from (least_size c.compute_tree_index-bin.result) index) (t_held (g.M.Links.regions c.args.memory.now) (g.M.Links.word c.args.memory.now) c.args.self.now index c.compute_tree_index-bin.result c.args.size linked c.compute_tree_index-bin.ensures c.ranges.size.fits (slice_index c.args.self.now.roots c.compute_tree_index-bin.result) c.bin_low-low.result c.bin_levels-levels.result refl c.bin_low-low.ensures c.bin_levels-levels.ensures) (t_fresh (g.M.Links.regions c.args.memory.now) (g.M.Links.word c.args.memory.now) c.args.self.now index c.compute_tree_index-bin.result c.args.size linked c.compute_tree_index-bin.ensures c.ranges.size.fits (slice_index c.args.self.now.roots c.compute_tree_index-bin.result) c.bin_low-low.result c.bin_levels-levels.result refl c.bin_low-low.ensures c.bin_levels-levels.ensures c.args.chunk fresh))
-    (c.plant-planted.ensures.words (from (least_size c.compute_tree_index-bin.result) index) (t_held (g.M.Links.regions c.args.memory.now) (g.M.Links.word c.args.memory.now) c.args.self.now index c.compute_tree_index-bin.result c.args.size linked c.compute_tree_index-bin.ensures c.ranges.size.fits (slice_index c.args.self.now.roots c.compute_tree_index-bin.result) c.bin_low-low.result c.bin_levels-levels.result refl c.bin_low-low.ensures c.bin_levels-levels.ensures) (t_fresh (g.M.Links.regions c.args.memory.now) (g.M.Links.word c.args.memory.now) c.args.self.now index c.compute_tree_index-bin.result c.args.size linked c.compute_tree_index-bin.ensures c.ranges.size.fits (slice_index c.args.self.now.roots c.compute_tree_index-bin.result) c.bin_low-low.result c.bin_levels-levels.result refl c.bin_low-low.ensures c.bin_levels-levels.ensures c.args.chunk fresh)) c.set_root.ensures in rw c.plant-planted.ensures.regions done
+returns-clause-linked g c = λ index linked fresh.
+    let top = top g (goal.at.returns-clause-linked g c).After-bin_levels-levels in
+    let done = c.plant-planted.ensures in
+    let held = t_held linked top in
+    let own = t_fresh linked top fresh in
+    let trie = done.trie (top_index linked top) held own in
+    let words = done.words (top_index linked top) held own in
+    let linked = t_inserted linked top fresh (g.M.Links.word c.plant-planted.new.memory) trie words c.set_root.ensures in
+    rw done.regions linked
 
 pub returns-clause-words : goal.returns-clause-words
-returns-clause-words g c = λ index linked fresh. t_inserted_words (g.M.Links.regions c.args.memory.now) (g.M.Links.word c.args.memory.now) c.args.self.now index c.compute_tree_index-bin.result c.args.size linked c.compute_tree_index-bin.ensures c.ranges.size.fits (slice_index c.args.self.now.roots c.compute_tree_index-bin.result) c.bin_low-low.result c.bin_levels-levels.result refl c.bin_low-low.ensures c.bin_levels-levels.ensures c.args.chunk fresh (g.M.Links.word c.plant-planted.new.memory) c.set_root.new.self c.plant-planted.result
-    (c.plant-planted.ensures.trie (from (least_size c.compute_tree_index-bin.result) index) (t_held (g.M.Links.regions c.args.memory.now) (g.M.Links.word c.args.memory.now) c.args.self.now index c.compute_tree_index-bin.result c.args.size linked c.compute_tree_index-bin.ensures c.ranges.size.fits (slice_index c.args.self.now.roots c.compute_tree_index-bin.result) c.bin_low-low.result c.bin_levels-levels.result refl c.bin_low-low.ensures c.bin_levels-levels.ensures) (t_fresh (g.M.Links.regions c.args.memory.now) (g.M.Links.word c.args.memory.now) c.args.self.now index c.compute_tree_index-bin.result c.args.size linked c.compute_tree_index-bin.ensures c.ranges.size.fits (slice_index c.args.self.now.roots c.compute_tree_index-bin.result) c.bin_low-low.result c.bin_levels-levels.result refl c.bin_low-low.ensures c.bin_levels-levels.ensures c.args.chunk fresh))
-    (c.plant-planted.ensures.words (from (least_size c.compute_tree_index-bin.result) index) (t_held (g.M.Links.regions c.args.memory.now) (g.M.Links.word c.args.memory.now) c.args.self.now index c.compute_tree_index-bin.result c.args.size linked c.compute_tree_index-bin.ensures c.ranges.size.fits (slice_index c.args.self.now.roots c.compute_tree_index-bin.result) c.bin_low-low.result c.bin_levels-levels.result refl c.bin_low-low.ensures c.bin_levels-levels.ensures) (t_fresh (g.M.Links.regions c.args.memory.now) (g.M.Links.word c.args.memory.now) c.args.self.now index c.compute_tree_index-bin.result c.args.size linked c.compute_tree_index-bin.ensures c.ranges.size.fits (slice_index c.args.self.now.roots c.compute_tree_index-bin.result) c.bin_low-low.result c.bin_levels-levels.result refl c.bin_low-low.ensures c.bin_levels-levels.ensures c.args.chunk fresh)) c.set_root.ensures
+returns-clause-words g c = λ index linked fresh.
+    let top = top g (goal.at.returns-clause-words g c).After-bin_levels-levels in
+    let done = c.plant-planted.ensures in
+    let held = t_held linked top in
+    let own = t_fresh linked top fresh in
+    let trie = done.trie (top_index linked top) held own in
+    let words = done.words (top_index linked top) held own in
+    t_inserted_words linked top fresh (g.M.Links.word c.plant-planted.new.memory) trie words c.set_root.ensures

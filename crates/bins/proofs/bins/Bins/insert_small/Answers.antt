@@ -4,16 +4,16 @@ use Rattle.bins.proofs.bins.Bins.insert_small.Goals as goal
 
 pub push-requires-clause-behind : goal.push-requires-clause-behind
 push-requires-clause-behind g c = let r = c.requires.linked in
-    λ not. (start_place (g.M.Links.regions c.args.memory.now) (g.M.Links.word c.args.memory.now) c.args.self.now r.0 c.args.size c.args.chunk _ _ r.1 r.2 c.requires.small refl refl not).0
+    λ not. (start_place r.1 r.2 c.requires.small refl refl not).0
 
 pub push-requires-clause-other : goal.push-requires-clause-other
 push-requires-clause-other g c = let r = c.requires.linked in
-    λ not. (start_place (g.M.Links.regions c.args.memory.now) (g.M.Links.word c.args.memory.now) c.args.self.now r.0 c.args.size c.args.chunk _ _ r.1 r.2 c.requires.small refl refl not).1
+    λ not. (start_place r.1 r.2 c.requires.small refl refl not).1
 
 pub returns-clause-linked : goal.returns-clause-linked
 returns-clause-linked g c = λ index linked fresh.
-    rw c.push.ensures.regions (small_inserted (g.M.Links.regions c.args.memory.now) (g.M.Links.word c.args.memory.now) (g.M.Links.word c.push.new.memory) c.args.self.now _ index c.args.size c.args.chunk _ _ linked fresh c.requires.small refl refl c.push.ensures.pushed c.set_newest.ensures)
+    rw c.push.ensures.regions (small_inserted linked fresh c.requires.small refl refl c.push.ensures.pushed c.set_newest.ensures)
 
 pub returns-clause-words : goal.returns-clause-words
 returns-clause-words g c = λ index linked fresh.
-    small_words (g.M.Links.regions c.args.memory.now) (g.M.Links.word c.args.memory.now) (g.M.Links.word c.push.new.memory) c.args.self.now _ index c.args.size c.args.chunk _ _ linked fresh c.requires.small refl refl c.push.ensures.pushed c.set_newest.ensures
+    small_words linked fresh c.requires.small refl refl c.push.ensures.pushed c.set_newest.ensures

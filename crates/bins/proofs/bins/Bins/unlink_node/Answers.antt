@@ -1,146 +1,106 @@
 use Rattle.std.proofs.Common.{arith}
-use Rattle.bins.proofs.NodeLeaves.{n_place, n_some, n_bin, n_held, n_marked, n_root, n_root_words, n_places, n_was, n_below, n_below_words}
+use Rattle.bins.proofs.NodeLeaves.{IsReplaced, n_place, n_some, n_bin, n_held, n_marked, n_root, n_root_words, n_places, n_was, n_below, n_below_words}
 use Rattle.bins.proofs.bins.Bins.unlink_node.Goals as goal
+use Rattle.bins.proofs.bins.Bins.unlink_node.Goals.{After-replace_node-left}
+
+-- the chunk was taken out of its trie
+replaced : (g : _) (c : After-replace_node-left g) →
+    IsReplaced (g.M.Links.regions c.args.memory.now) (g.M.Links.word c.args.memory.now) (g.M.Links.word c.replace_node-left.new.memory)
+    c.args.chunk c.load_counted-parent.result c.load_counted-bin.result c.replace_node-left.result
+replaced g c = record { trie = c.replace_node-left.ensures.trie; words = c.replace_node-left.ensures.words }
 
 pub overflow_add-chunk : goal.overflow_add-chunk
 overflow_add-chunk g c =
-    let regions = g.M.Links.regions c.args.memory.now in
-    let word = g.M.Links.word c.args.memory.now in
-    let bins = c.args.self.now in
     let r = c.requires.linked in
-    let p = (n_place regions word bins r.0 r.1.0 c.args.chunk r.1.1.0 r.1.1.1.0 r.1.1.1.1.0 r.1.1.1.1.1 6 (omega arith) (omega arith)).small in omega (arith, p)
+    let p = (n_place r.1.0 r.1.1.0 r.1.1.1.0 r.1.1.1.1.0 r.1.1.1.1.1 6 (omega arith) (omega arith)).small in omega (arith, p)
 
 pub load_counted-parent-requires : goal.load_counted-parent-requires
 load_counted-parent-requires g c =
-    let regions = g.M.Links.regions c.args.memory.now in
-    let word = g.M.Links.word c.args.memory.now in
-    let bins = c.args.self.now in
     let r = c.requires.linked in
-    (n_place regions word bins r.0 r.1.0 c.args.chunk r.1.1.0 r.1.1.1.0 r.1.1.1.1.0 r.1.1.1.1.1 6 (omega arith) (omega arith)).word
+    (n_place r.1.0 r.1.1.0 r.1.1.1.0 r.1.1.1.1.0 r.1.1.1.1.1 6 (omega arith) (omega arith)).word
 
 pub overflow_add-chunk-2 : goal.overflow_add-chunk-2
 overflow_add-chunk-2 g c =
-    let regions = g.M.Links.regions c.args.memory.now in
-    let word = g.M.Links.word c.args.memory.now in
-    let bins = c.args.self.now in
     let r = c.requires.linked in
-    let p = (n_place regions word bins r.0 r.1.0 c.args.chunk r.1.1.0 r.1.1.1.0 r.1.1.1.1.0 r.1.1.1.1.1 7 (omega arith) (omega arith)).small in omega (arith, p)
+    let p = (n_place r.1.0 r.1.1.0 r.1.1.1.0 r.1.1.1.1.0 r.1.1.1.1.1 7 (omega arith) (omega arith)).small in omega (arith, p)
 
 pub load_counted-bin-requires : goal.load_counted-bin-requires
 load_counted-bin-requires g c =
-    let regions = g.M.Links.regions c.args.memory.now in
-    let word = g.M.Links.word c.args.memory.now in
-    let bins = c.args.self.now in
     let r = c.requires.linked in
-    (n_place regions word bins r.0 r.1.0 c.args.chunk r.1.1.0 r.1.1.1.0 r.1.1.1.1.0 r.1.1.1.1.1 7 (omega arith) (omega arith)).word
+    (n_place r.1.0 r.1.1.0 r.1.1.1.0 r.1.1.1.1.0 r.1.1.1.1.1 7 (omega arith) (omega arith)).word
 
 pub replace_node-left-requires-clause-some : goal.replace_node-left-requires-clause-some
 replace_node-left-requires-clause-some g c =
-    let regions = g.M.Links.regions c.args.memory.now in
-    let word = g.M.Links.word c.args.memory.now in
-    let bins = c.args.self.now in
     let r = c.requires.linked in
-    n_some regions word bins r.0 r.1.0 c.args.chunk r.1.1.0 r.1.1.1.0 r.1.1.1.1.0 r.1.1.1.1.1
+    n_some r.1.0 r.1.1.0 r.1.1.1.0 r.1.1.1.1.0 r.1.1.1.1.1
 
 pub replace_node-left-requires-clause-held : goal.replace_node-left-requires-clause-held
 replace_node-left-requires-clause-held g c =
-    let regions = g.M.Links.regions c.args.memory.now in
-    let word = g.M.Links.word c.args.memory.now in
-    let bins = c.args.self.now in
     let r = c.requires.linked in
     let parent = c.load_counted-parent in
     let bin = c.load_counted-bin in
-    n_held regions word bins r.0 r.1.0 c.args.chunk r.1.1.0 r.1.1.1.0 r.1.1.1.1.0 r.1.1.1.1.1
-    parent.result bin.result parent.ensures.value bin.ensures.value
+    n_held r.1.0 r.1.1.0 r.1.1.1.0 r.1.1.1.1.0 r.1.1.1.1.1 parent.ensures.value bin.ensures.value
 
 pub swap_root-requires-clause-within : goal.swap_root-requires-clause-within
 swap_root-requires-clause-within g c =
-    let regions = g.M.Links.regions c.args.memory.now in
-    let word = g.M.Links.word c.args.memory.now in
-    let bins = c.args.self.now in
     let r = c.requires.linked in
     let parent = c.load_counted-parent in
     let bin = c.load_counted-bin in
-    (n_bin regions word bins r.0 r.1.0 c.args.chunk r.1.1.0 r.1.1.1.0 r.1.1.1.1.0 r.1.1.1.1.1
-    parent.result bin.result parent.ensures.value bin.ensures.value).within
+    (n_bin r.1.0 r.1.1.0 r.1.1.1.0 r.1.1.1.1.0 r.1.1.1.1.1 parent.ensures.value bin.ensures.value).within
 
 pub swap_root-requires-clause-marked : goal.swap_root-requires-clause-marked
 swap_root-requires-clause-marked g c =
-    let regions = g.M.Links.regions c.args.memory.now in
-    let word = g.M.Links.word c.args.memory.now in
-    let bins = c.args.self.now in
     let r = c.requires.linked in
     let parent = c.load_counted-parent in
     let bin = c.load_counted-bin in
-    n_marked regions word bins r.0 r.1.0 c.args.chunk r.1.1.0 r.1.1.1.0 r.1.1.1.1.0 r.1.1.1.1.1
-    parent.result bin.result parent.ensures.value bin.ensures.value c.if-parent-lt-LEAST_ADDRESS.true
+    n_marked r.1.0 r.1.1.0 r.1.1.1.0 r.1.1.1.1.0 r.1.1.1.1.1 parent.ensures.value bin.ensures.value c.if-parent-lt-LEAST_ADDRESS.true
 
 pub swap_child-requires-clause-places : goal.swap_child-requires-clause-places
 swap_child-requires-clause-places g c =
-    let regions = g.M.Links.regions c.args.memory.now in
-    let word = g.M.Links.word c.args.memory.now in
-    let bins = c.args.self.now in
     let r = c.requires.linked in
     let parent = c.load_counted-parent in
     let bin = c.load_counted-bin in
     let left = c.replace_node-left in
-    rw left.ensures.regions (n_places regions word bins r.0 r.1.0 c.args.chunk r.1.1.0 r.1.1.1.0 r.1.1.1.1.0 r.1.1.1.1.1
-    parent.result bin.result parent.ensures.value bin.ensures.value (g.M.Links.word left.new.memory) left.result left.ensures.trie left.ensures.words c.if-parent-lt-LEAST_ADDRESS.false)
+    let replaced = replaced g (goal.at.swap_child-requires-clause-places g c).After-replace_node-left in
+    rw left.ensures.regions (n_places r.1.0 r.1.1.0 r.1.1.1.0 r.1.1.1.1.0 r.1.1.1.1.1 parent.ensures.value bin.ensures.value replaced c.if-parent-lt-LEAST_ADDRESS.false)
 
 pub swap_child-requires-clause-was : goal.swap_child-requires-clause-was
 swap_child-requires-clause-was g c =
-    let regions = g.M.Links.regions c.args.memory.now in
-    let word = g.M.Links.word c.args.memory.now in
-    let bins = c.args.self.now in
     let r = c.requires.linked in
     let parent = c.load_counted-parent in
     let bin = c.load_counted-bin in
-    let left = c.replace_node-left in
-    n_was regions word bins r.0 r.1.0 c.args.chunk r.1.1.0 r.1.1.1.0 r.1.1.1.1.0 r.1.1.1.1.1
-    parent.result bin.result parent.ensures.value bin.ensures.value (g.M.Links.word left.new.memory) left.result left.ensures.trie left.ensures.words c.if-parent-lt-LEAST_ADDRESS.false
+    let replaced = replaced g (goal.at.swap_child-requires-clause-was g c).After-replace_node-left in
+    n_was r.1.0 r.1.1.0 r.1.1.1.0 r.1.1.1.1.0 r.1.1.1.1.1 parent.ensures.value bin.ensures.value replaced c.if-parent-lt-LEAST_ADDRESS.false
 
 pub returns-then-parent-lt-LEAST_ADDRESS-clause-linked : goal.returns-then-parent-lt-LEAST_ADDRESS-clause-linked
 returns-then-parent-lt-LEAST_ADDRESS-clause-linked g c = λ index size large linked is_in oldest.
-    let regions = g.M.Links.regions c.args.memory.now in
-    let word = g.M.Links.word c.args.memory.now in
-    let bins = c.args.self.now in
     let parent = c.load_counted-parent in
     let bin = c.load_counted-bin in
     let left = c.replace_node-left in
-    rw left.ensures.regions (n_root regions word bins index size c.args.chunk large linked is_in oldest
-    parent.result bin.result parent.ensures.value bin.ensures.value (g.M.Links.word left.new.memory) left.result left.ensures.trie left.ensures.words c.if-parent-lt-LEAST_ADDRESS.true c.swap_root.new.self c.swap_root.ensures)
+    let replaced = replaced g (goal.at.returns-then-parent-lt-LEAST_ADDRESS-clause-linked g c).After-replace_node-left in
+    rw left.ensures.regions (n_root size large linked is_in oldest parent.ensures.value bin.ensures.value replaced c.if-parent-lt-LEAST_ADDRESS.true c.swap_root.ensures)
 
 pub returns-then-parent-lt-LEAST_ADDRESS-clause-words : goal.returns-then-parent-lt-LEAST_ADDRESS-clause-words
 returns-then-parent-lt-LEAST_ADDRESS-clause-words g c = λ index size large linked is_in oldest.
-    let regions = g.M.Links.regions c.args.memory.now in
-    let word = g.M.Links.word c.args.memory.now in
-    let bins = c.args.self.now in
     let parent = c.load_counted-parent in
     let bin = c.load_counted-bin in
-    let left = c.replace_node-left in
-    n_root_words regions word bins index size c.args.chunk large linked is_in oldest
-    parent.result bin.result parent.ensures.value bin.ensures.value (g.M.Links.word left.new.memory) left.result left.ensures.trie left.ensures.words c.if-parent-lt-LEAST_ADDRESS.true c.swap_root.new.self c.swap_root.ensures
+    let replaced = replaced g (goal.at.returns-then-parent-lt-LEAST_ADDRESS-clause-words g c).After-replace_node-left in
+    n_root_words size large linked is_in oldest parent.ensures.value bin.ensures.value replaced c.if-parent-lt-LEAST_ADDRESS.true c.swap_root.ensures
 
 pub returns-else-parent-lt-LEAST_ADDRESS-clause-linked : goal.returns-else-parent-lt-LEAST_ADDRESS-clause-linked
 returns-else-parent-lt-LEAST_ADDRESS-clause-linked g c = λ index size large linked is_in oldest.
-    let regions = g.M.Links.regions c.args.memory.now in
-    let word = g.M.Links.word c.args.memory.now in
-    let bins = c.args.self.now in
     let parent = c.load_counted-parent in
     let bin = c.load_counted-bin in
     let left = c.replace_node-left in
+    let replaced = replaced g (goal.at.returns-else-parent-lt-LEAST_ADDRESS-clause-linked g c).After-replace_node-left in
     let stored = rw left.ensures.regions at c.swap_child.ensures.stored in
-    rw (c.swap_child.ensures.regions, left.ensures.regions) (n_below regions word bins index size c.args.chunk large linked is_in oldest
-    parent.result bin.result parent.ensures.value bin.ensures.value (g.M.Links.word left.new.memory) left.result left.ensures.trie left.ensures.words c.if-parent-lt-LEAST_ADDRESS.false (g.M.Links.word c.swap_child.new.memory) stored)
+    rw (c.swap_child.ensures.regions, left.ensures.regions) (n_below size large linked is_in oldest parent.ensures.value bin.ensures.value replaced c.if-parent-lt-LEAST_ADDRESS.false (g.M.Links.word c.swap_child.new.memory) stored)
 
 pub returns-else-parent-lt-LEAST_ADDRESS-clause-words : goal.returns-else-parent-lt-LEAST_ADDRESS-clause-words
 returns-else-parent-lt-LEAST_ADDRESS-clause-words g c = λ index size large linked is_in oldest.
-    let regions = g.M.Links.regions c.args.memory.now in
-    let word = g.M.Links.word c.args.memory.now in
-    let bins = c.args.self.now in
     let parent = c.load_counted-parent in
     let bin = c.load_counted-bin in
     let left = c.replace_node-left in
+    let replaced = replaced g (goal.at.returns-else-parent-lt-LEAST_ADDRESS-clause-words g c).After-replace_node-left in
     let stored = rw left.ensures.regions at c.swap_child.ensures.stored in
-    n_below_words regions word bins index size c.args.chunk large linked is_in oldest
-    parent.result bin.result parent.ensures.value bin.ensures.value (g.M.Links.word left.new.memory) left.result left.ensures.trie left.ensures.words c.if-parent-lt-LEAST_ADDRESS.false (g.M.Links.word c.swap_child.new.memory) stored
+    n_below_words size large linked is_in oldest parent.ensures.value bin.ensures.value replaced c.if-parent-lt-LEAST_ADDRESS.false (g.M.Links.word c.swap_child.new.memory) stored

@@ -18,22 +18,22 @@ load_counted-next-requires g c = let r = c.requires.linked in let own = r.1.chun
 
 pub pull-requires-clause-front : goal.pull-requires-clause-front
 pull-requires-clause-front g c = let r = c.requires.linked in
-    λ not. prev_place (g.M.Links.regions c.args.memory.now) (g.M.Links.word c.args.memory.now) c.args.self.now r.0 c.args.size c.args.chunk _ _ _ r.1 r.2 c.requires.small c.load_counted-prev.ensures.value c.load_counted-next.ensures.value refl not
+    λ not. prev_place c.args.size c.args.chunk r.1 r.2 c.requires.small c.load_counted-prev.ensures.value c.load_counted-next.ensures.value refl not
 
 pub pull-requires-clause-back : goal.pull-requires-clause-back
 pull-requires-clause-back g c = let r = c.requires.linked in
-    λ not. next_place (g.M.Links.regions c.args.memory.now) (g.M.Links.word c.args.memory.now) c.args.self.now r.0 c.args.size c.args.chunk _ _ _ r.1 r.2 c.requires.small c.load_counted-prev.ensures.value c.load_counted-next.ensures.value refl not
+    λ not. next_place c.args.size c.args.chunk r.1 r.2 c.requires.small c.load_counted-prev.ensures.value c.load_counted-next.ensures.value refl not
 
 pub pull-requires-clause-other : goal.pull-requires-clause-other
 pull-requires-clause-other g c = let r = c.requires.linked in
-    λ p n. places_apart (g.M.Links.regions c.args.memory.now) (g.M.Links.word c.args.memory.now) c.args.self.now r.0 c.args.size c.args.chunk _ _ _ r.1 r.2 c.requires.small c.load_counted-prev.ensures.value c.load_counted-next.ensures.value refl p n
+    λ p n. places_apart c.args.size c.args.chunk r.1 r.2 c.requires.small c.load_counted-prev.ensures.value c.load_counted-next.ensures.value refl p n
 
 pub returns-clause-linked : goal.returns-clause-linked
 returns-clause-linked g c = λ index linked is.
-    rw c.pull.ensures.regions (small_unlinked (g.M.Links.regions c.args.memory.now) (g.M.Links.word c.args.memory.now) c.args.self.now index c.args.size c.args.chunk _ _ _ linked is c.requires.small
-    c.load_counted-prev.ensures.value c.load_counted-next.ensures.value refl (g.M.Links.word c.pull.new.memory) _ c.pull.ensures.pulled c.set_less.ensures)
+    rw c.pull.ensures.regions (small_unlinked c.args.size c.args.chunk linked is c.requires.small
+    c.load_counted-prev.ensures.value c.load_counted-next.ensures.value refl c.pull.ensures.pulled c.set_less.ensures)
 
 pub returns-clause-words : goal.returns-clause-words
 returns-clause-words g c = λ index linked is.
-    pulled_words (g.M.Links.regions c.args.memory.now) (g.M.Links.word c.args.memory.now) c.args.self.now index c.args.size c.args.chunk _ _ _ linked is c.requires.small
-    c.load_counted-prev.ensures.value c.load_counted-next.ensures.value refl (g.M.Links.word c.pull.new.memory) _ c.pull.ensures.pulled c.set_less.ensures
+    pulled_words c.args.size c.args.chunk linked is c.requires.small
+    c.load_counted-prev.ensures.value c.load_counted-next.ensures.value refl c.pull.ensures.pulled c.set_less.ensures
