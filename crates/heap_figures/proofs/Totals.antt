@@ -1,8 +1,8 @@
 -- Sums of sizes that fit 64 bits.
-use Rattle.std.proofs.Common.{◌≡◌, ◌<◌, ◌≤◌, ◌+◌, ◌-◌, ◌*◌, ◌^◌, ℕ, zero, suc, List, [], ◌∷◌, ◌++◌, length, map, get_or, set, refl, sym, subst, arith}
+use Rattle.std.proofs.Common.{◌≡◌, ◌<◌, ◌≤◌, ◌+◌, ◌-◌, ◌*◌, ◌^◌, ℕ, zero, suc, List, [], ◌∷◌, ◌++◌, length, map, get_or, set, refl, sym, ap, ◌∙◌, arith}
 use Rattle.std.proofs.lemmas.List.Sums.{sum_by-cons}
 use Rattle.std.specs.Prelude.{sum}
-use Rattle.heap_figures.specs.Totals.{IsTotal}
+use Rattle.heap_figures.specs.Totals.{AreKept}
 
 sum-cons : (x : ℕ) (xs : List ℕ) → sum (x ∷ xs) ≡ x + sum xs
 sum-cons x xs = sum_by-cons (λ (y : ℕ). y) x xs
@@ -37,5 +37,13 @@ zero_sum : (xs : List ℕ) → sum (map {B = ℕ} (λ (size : ℕ). 0) xs) ≡ 0
 zero_sum [] = refl
 zero_sum (x ∷ xs) = let rest = zero_sum xs in let both = sum-cons 0 (map (λ (size : ℕ). 0) xs) in omega (arith, rest, both)
 
-pub all_ended : (xs ys : List ℕ) → ys ≡ map (λ (size : ℕ). 0) xs → IsTotal ys 0
-all_ended xs ys is = subst (λ (l : List ℕ). IsTotal l 0) (sym is) (record { total_is = sym (zero_sum xs); small = λ k. (let none = zero_at xs k in omega (arith, none)) })
+zero_from : (xs ys : List ℕ) → ys ≡ map (λ (size : ℕ). 0) xs → (k : ℕ) → get_or ys k 0 ≡ 0
+zero_from xs ys is k = ap (λ (l : List ℕ). get_or l k 0) is ∙ zero_at xs k
+
+pub all_ended : (xs ys : List ℕ) (count : ℕ) → ys ≡ map (λ (size : ℕ). 0) xs → count ≡ length ys → AreKept ys 0 count
+all_ended xs ys count is all = record {
+  total_is = sym (ap sum is ∙ zero_sum xs);
+  small = λ k. (let none = zero_from xs ys is k in omega (arith, none));
+  within = omega (arith, all);
+  zero = λ k less. zero_from xs ys is k;
+}

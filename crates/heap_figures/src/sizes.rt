@@ -1,14 +1,17 @@
 // The sizes of blocks by number, and their sum, which is kept.
-ghost use Rattle.std.specs.Prelude.{◌≡◌, map};
+ghost use Rattle.std.specs.Prelude.{◌≡◌, ◌≤◌, map, length};
+ghost use Rattle.heap_figures.specs.Totals.{AreZeroBefore};
 
 use std::alloc::{AllocError, Global};
 use std::marker::Model;
 
-// All sizes become 0.
-fn end_all(sizes: &mut Vec<u64>)
+// All sizes become 0. Those before a number are 0.
+fn end_from(sizes: &mut Vec<u64>, first: usize)
+    requires within { first ≤ length sizes.old.items }
+    requires zero { AreZeroBefore first sizes.old.items }
     ensures { sizes.new.items ≡ map (λ size. 0) sizes.old.items }
 {
-    for number in 0..sizes.len() {
+    for number in first..sizes.len() {
         sizes[number] = 0;
     }
 }
@@ -18,17 +21,19 @@ fn end_all(sizes: &mut Vec<u64>)
 pub struct BlockSizes {
     sizes: Vec<u64>,
     total: u128,
+    // All sizes before this number are 0.
+    first: usize,
 }
 
 impl Model for BlockSizes {
     ghost use Rattle.std.specs.Prelude.{List, ℕ};
-    ghost use Rattle.heap_figures.specs.Totals.{IsTotal};
+    ghost use Rattle.heap_figures.specs.Totals.{AreKept};
 
     ghost Value = { List ℕ };
 
     ghost view = { λ all. all.sizes.items };
 
-    ghost invariant = { λ all. IsTotal all.sizes.items all.total };
+    ghost invariant = { λ all. AreKept all.sizes.items all.total all.first };
 }
 
 impl BlockSizes {
@@ -41,6 +46,7 @@ impl BlockSizes {
         BlockSizes {
             sizes: Vec::new(alloc),
             total: 0,
+            first: 0,
         }
     }
 
@@ -63,15 +69,18 @@ impl BlockSizes {
         if number < self.sizes.len() {
             self.total = self.total - u128::from(self.sizes[number]) + u128::from(size);
             self.sizes[number] = size;
+            self.first = self.first.min(number);
         }
     }
 
-    /// All blocks end. Their numbers stay.
+    /// All blocks end. Their numbers stay. It takes as long as there are blocks since the last time, unless an earlier
+    /// one was set meanwhile.
     pub fn clear(&mut self)
         ensures { self.new ≡ map (λ size. 0) self.old }
     {
-        end_all(&mut self.sizes);
+        end_from(&mut self.sizes, self.first);
         self.total = 0;
+        self.first = self.sizes.len();
     }
 
     /// The sum of the sizes.

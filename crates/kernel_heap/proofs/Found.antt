@@ -38,7 +38,7 @@ use Rattle.heap_model.proofs.Regions.{length_with, all_with, beside, not_within,
 use Rattle.heap_model.proofs.NewSlots.{slots_listed, allowed_slots, slots_bare, placed_none, placed_some}
 use Rattle.heap_model.proofs.Shortened.{none_gone, good_cut, none_new_left, new_left}
 use Rattle.heap_model.proofs.Slots.{settled_same}
-use Rattle.region_tree.specs.Regions.{AreLaid}
+use Rattle.mapped_regions.specs.Regions.{AreLaid}
 use Rattle.mapped_regions.specs.Mapped.{AreRunsUsed}
 use Rattle.kernel_heap.specs.Layout.{IsGrantedFor}
 use Rattle.kernel_heap.specs.Words.{heap_regions}

@@ -3,9 +3,9 @@ use Rattle.std.proofs.Common.{◌≡◌, ℕ, ◌^◌, arith, refl, sym, subst, 
 use Rattle.heap_model.specs.declared.region.Region.{Region}
 use Rattle.heap_model.specs.Room.{heap_region}
 use Rattle.heap_model.specs.Machine.{Paged}
-use Rattle.region_tree.specs.Regions.{AreLaid}
+use Rattle.mapped_regions.specs.Regions.{AreLaid}
 use Rattle.mapped_regions.specs.Mapped.{IsMapped, IsRegion, CanMap, IsRegionJoined, IsLeft}
-use Rattle.region_tree.proofs.Laying.{laid_with, laid_without}
+use Rattle.mapped_regions.proofs.Laying.{laid_with, laid_without}
 use Rattle.mapped_regions.proofs.Mapped.{range_ends_at}
 use Rattle.kernel_heap.specs.Config.{IsGoodWindow}
 use Rattle.kernel_heap.specs.Layout.{IsPagedKept, CanGrant, IsGranted}

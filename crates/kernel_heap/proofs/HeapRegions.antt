@@ -13,8 +13,8 @@ use Rattle.heap_model.specs.Run.{IsGood, IsHeapRegion, IsUserRegion}
 use Rattle.heap_model.specs.Machine.{is_of_user}
 use Rattle.heap_model.proofs.Booleans.{or_left, or_right, or_cases, neither_or}
 use Rattle.heap_model.proofs.Regions.{within, within_bounds, beside}
-use Rattle.region_tree.specs.Regions.{AreLaid, is_at, kind_at, without_region}
-use Rattle.region_tree.proofs.AllRegions.{joined_all}
+use Rattle.mapped_regions.specs.Regions.{AreLaid, is_at, kind_at, without_region}
+use Rattle.mapped_regions.proofs.AllRegions.{joined_all}
 use Rattle.mapped_regions.specs.Mapped.{IsPageRange, IsRegion}
 use Rattle.kernel_heap.specs.Words.{heap_regions, grant_of}
 

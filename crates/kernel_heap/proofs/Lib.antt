@@ -1,4 +1,5 @@
 pub mod Numbers
+pub mod NoneLive
 pub mod Places
 pub mod Pages
 pub mod HeapRegions

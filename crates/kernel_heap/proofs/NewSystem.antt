@@ -8,7 +8,7 @@ use Rattle.heap_model.specs.Machine.{Paged, Seen, Stands, rights_of}
 use Rattle.heap_model.specs.Run.{IsGood}
 use Rattle.mapped_regions.specs.Mapped.{IsMapped, IsEmpty}
 use Rattle.kernel_heap.specs.Config.{IsGoodWindow, IsGoodConfig}
-use Rattle.region_tree.specs.Regions.{AreLaid}
+use Rattle.mapped_regions.specs.Regions.{AreLaid}
 use Rattle.kernel_heap.specs.Layout.{IsNew}
 
 -- where nothing is mapped, the system is new

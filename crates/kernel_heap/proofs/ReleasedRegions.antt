@@ -24,8 +24,8 @@ use Rattle.heap_model.proofs.Booleans.{or_cases}
 use Rattle.heap_model.proofs.Cut.{none_cut, cut_on}
 use Rattle.heap_model.proofs.Settled.{cut_slots}
 use Rattle.heap_model.proofs.Slots.{page_slot, page_number, whole_bounds}
-use Rattle.region_tree.specs.Regions.{AreLaid, cut_of}
-use Rattle.region_tree.proofs.Laying.{laid_cut}
+use Rattle.mapped_regions.specs.Regions.{AreLaid, cut_of}
+use Rattle.mapped_regions.proofs.Laying.{laid_cut}
 use Rattle.mapped_regions.specs.Mapped.{AreGone}
 use Rattle.mapped_regions.proofs.Looked.{first_canonical}
 use Rattle.kernel_heap.specs.Layout.{IsPagedKept}

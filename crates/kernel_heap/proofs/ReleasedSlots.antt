@@ -18,7 +18,7 @@ use Rattle.heap_model.proofs.Booleans.{or_left, or_right, or_cases}
 use Rattle.heap_model.proofs.Regions.{within}
 use Rattle.heap_model.proofs.Settled.{AreSettled}
 use Rattle.heap_model.proofs.Slots.{same_slot, whole_bounds}
-use Rattle.region_tree.specs.Regions.{kind_at}
+use Rattle.mapped_regions.specs.Regions.{kind_at}
 use Rattle.mapped_regions.specs.Mapped.{IsRegion, IsMapped}
 use Rattle.mapped_regions.proofs.Mapped.{some_mapped}
 use Rattle.kernel_heap.proofs.HeapRegions.{kind_some}

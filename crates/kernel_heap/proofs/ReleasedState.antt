@@ -24,8 +24,8 @@ use Rattle.heap_model.proofs.Settled.{AreSettled, cut_slots, settled_larges, set
 use Rattle.heap_model.proofs.Regions.{not_within, within_bounds, find_behind, find_same}
 use Rattle.heap_model.proofs.Mapped.{reached_walk}
 use Rattle.heap_model.proofs.Moved.{user_of_machine}
-use Rattle.region_tree.specs.Regions.{AreLaid, kind_at}
-use Rattle.region_tree.proofs.AllRegions.{Sorted, sorted_with}
+use Rattle.mapped_regions.specs.Regions.{AreLaid, kind_at}
+use Rattle.mapped_regions.proofs.AllRegions.{Sorted, sorted_with}
 use Rattle.mapped_regions.specs.Mapped.{IsMapped}
 use Rattle.kernel_heap.specs.Words.{heap_regions}
 use Rattle.kernel_heap.proofs.HeapRegions.{all_more, heap_first, user_first, heap_of_all, user_any, within_canonical}

@@ -14,8 +14,8 @@ use Rattle.paging_core.specs.Tree.{IsTree}
 use Rattle.page_ranges.specs.RangeUnmapping.{AreUnmapped}
 use Rattle.page_ranges.proofs.Unmapped.{unmapped_words}
 use Rattle.heap_model.specs.Machine.{Paged}
-use Rattle.region_tree.specs.Regions.{AreLaid, AreHeld, IsBoundary}
-use Rattle.region_tree.proofs.Laying.{laid_cut}
+use Rattle.mapped_regions.specs.Regions.{AreLaid, AreHeld, IsBoundary}
+use Rattle.mapped_regions.proofs.Laying.{laid_cut}
 use Rattle.mapped_regions.specs.Mapped.{IsPageRange, IsMapped, AreGone, word_in, word_reached}
 use Rattle.mapped_regions.proofs.Looked.{first_canonical}
 use Rattle.kernel_heap.specs.Config.{IsGoodWindow}

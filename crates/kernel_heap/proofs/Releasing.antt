@@ -10,7 +10,7 @@ use Rattle.heap_memory.specs.Runs.{IsWithin, begins_in, up_to, without_run}
 use Rattle.heap_model.specs.declared.region.Region.{Region}
 use Rattle.heap_model.specs.State.{end_of}
 use Rattle.heap_model.specs.Place.{meets}
-use Rattle.region_tree.specs.Regions.{AreLaid, cut_of}
+use Rattle.mapped_regions.specs.Regions.{AreLaid, cut_of}
 use Rattle.kernel_heap.specs.Words.{heap_regions, grant_of}
 
 abbrev pub heap_grants : List Region → List Grant

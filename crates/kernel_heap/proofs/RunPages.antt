@@ -8,7 +8,7 @@ use Rattle.heap_memory.specs.Runs.{IsRun, IsWithin, without_run}
 use Rattle.heap_model.specs.declared.region.Region.{Region}
 use Rattle.heap_model.specs.State.{end_of, is_within}
 use Rattle.heap_model.proofs.Booleans.{or_cases}
-use Rattle.region_tree.specs.Regions.{AreLaid, AreHeld, IsBoundary, cut_of}
+use Rattle.mapped_regions.specs.Regions.{AreLaid, AreHeld, IsBoundary, cut_of}
 use Rattle.mapped_regions.specs.Mapped.{IsRegion}
 use Rattle.mapped_regions.proofs.CutPages.{at_or_behind}
 use Rattle.kernel_heap.proofs.Releasing.{heap_grants, cut_grants}

@@ -14,7 +14,7 @@ use Rattle.dlmalloc.proofs.Segments.RegionsLess.{all_without}
 use Rattle.heap_model.specs.declared.region.Region.{Region}
 use Rattle.heap_model.specs.State.{end_of}
 use Rattle.heap_model.proofs.Booleans.{or_left, or_right, or_cases}
-use Rattle.region_tree.specs.Regions.{AreLaid}
+use Rattle.mapped_regions.specs.Regions.{AreLaid}
 use Rattle.kernel_heap.specs.Words.{heap_regions, grant_of}
 use Rattle.kernel_heap.specs.LaidOut.{has_region, HaveRegions}
 use Rattle.kernel_heap.proofs.HeapRegions.{all_more}

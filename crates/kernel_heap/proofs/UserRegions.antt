@@ -23,7 +23,7 @@ use Rattle.heap_model.proofs.Regions.{any_all}
 use Rattle.heap_model.proofs.Added.{missing_same}
 use Rattle.heap_model.proofs.NewSlots.{slots_bare}
 use Rattle.heap_model.proofs.Mapped.{range_whole, whole_range, user_beside, with_user, without_user, stands_mapped, stands_unmapped, step_mapped, step_unmapped}
-use Rattle.region_tree.proofs.AllRegions.{Sorted, joined_users, left_users, heap_met, user_listed}
+use Rattle.mapped_regions.proofs.AllRegions.{Sorted, joined_users, left_users, heap_met, user_listed}
 use Rattle.mapped_regions.specs.declared.map_fault.MapFault.{MapFault}
 use Rattle.mapped_regions.specs.declared.map_fault.MapFault.TheVariants as Mapping
 use Rattle.mapped_regions.specs.declared.map_fault.UnmapFault.{UnmapFault}

@@ -2,7 +2,7 @@
 use Rattle.std.specs.Prelude.{◌≡◌, ℕ, ⊤, Bool, true, false, Option, Some, None, not, IsTrue}
 use Rattle.paging_core.specs.Walk.{reached}
 use Rattle.heap_model.specs.declared.call.Call.{Call}
-use Rattle.heap_model.specs.declared.call.Call.TheVariants.{Realloc, CRealloc, Probe}
+use Rattle.heap_model.specs.declared.call.Call.TheVariants.{Realloc, CRealloc, Write, Unmap, Probe, SetRate, SetGranularity}
 use Rattle.heap_model.specs.declared.answer.Answer.{Answer}
 use Rattle.heap_model.specs.declared.answer.Reply.{Reply}
 use Rattle.heap_model.specs.declared.answer.Reply.TheVariants.{Bytes, Byte, Fault, Accepted, Extents as Listed, Refused}
@@ -17,6 +17,15 @@ use Rattle.kernel_heap.specs.Machine.{seen_with}
 abbrev pub IsReachedByte : Paged → Call → Reply → Type 0
 IsReachedByte p (Probe at access user) (Byte byte) = reached p.words p.root at ≡ Some byte
 IsReachedByte p call reply = ⊤
+
+-- Whether a call takes no memory: a write, an unmap, a probe or a setting. Such a call is always answered.
+abbrev pub is_always_answered : Call → Bool
+is_always_answered (Write number offset bytes) = true
+is_always_answered (Unmap start pages) = true
+is_always_answered (Probe at access user) = true
+is_always_answered (SetRate rate) = true
+is_always_answered (SetGranularity granularity) = true
+is_always_answered call = false
 
 -- The pages that an answer to a call maps, where no page leaves in the same call: those of a map, or those that were granted for a
 -- new block.

@@ -13,7 +13,7 @@ use Rattle.heap_model.specs.State.{end_of}
 use Rattle.heap_model.specs.Place.{with_region, IsPlace, HasNoPlace}
 use Rattle.heap_model.specs.Room.{heap_region}
 use Rattle.heap_model.specs.Machine.{Paged, IsPagedGrant}
-use Rattle.region_tree.specs.Regions.{AreLaid}
+use Rattle.mapped_regions.specs.Regions.{AreLaid}
 use Rattle.mapped_regions.specs.Mapped.{IsMapped, IsMapped-prop, AreRunsUsed}
 use Rattle.std.proofs.Props.{props}
 use Rattle.kernel_heap.specs.Config.{IsGoodWindow}

@@ -11,6 +11,7 @@ pub mod Parts
 pub mod Registers
 pub mod Machine
 pub mod Numbered
+pub mod NumberedBlocks
 pub mod LaidOut
 pub mod Refusing
 pub mod Blocks

@@ -6,6 +6,7 @@ mod configuration;
 mod flat_window;
 mod heap_calls;
 mod machine;
+mod numbered_blocks;
 mod numbered_heap;
 mod paged_allocator;
 mod paged_bytes;

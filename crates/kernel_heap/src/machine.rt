@@ -1,6 +1,5 @@
 // The machine: a numbered heap over a paged system, which is always sound, and the registers of the processor.
-ghost use Rattle.std.specs.Prelude.{◌≡◌, ℕ, IsTrue, IfOk, IfErr, IsOk, OnOk, OnErr, List, Bool};
-ghost use Rattle.heap_model.specs.declared.call.Access.{Access};
+ghost use Rattle.std.specs.Prelude.{◌≡◌, ℕ, IsTrue, IfOk, IfErr, IsOk, OnOk, OnErr};
 ghost use Rattle.heap_model.specs.State.{State, start};
 ghost use Rattle.heap_model.specs.Run.{IsGood};
 ghost use Rattle.heap_model.specs.Machine.{Stands, IsStep};
@@ -10,6 +9,7 @@ ghost use Rattle.kernel_heap.specs.Registers.{machine_cpu, cpu_after};
 
 use crate::configuration::check;
 use crate::heap_calls;
+use crate::numbered_blocks::NumberedBlocks;
 use crate::numbered_heap::NumberedHeap;
 use crate::paged_system::PagedSystem;
 use crate::run_error::RunError;
@@ -80,7 +80,7 @@ impl Model for Machine {
 impl Machine {
     ghost use Rattle.kernel_heap.specs.System.{paged};
     ghost use Rattle.kernel_heap.specs.Machine.{seen, system_of, heap_of, fresh_heap};
-    ghost use Rattle.kernel_heap.specs.Kept.{lasting_pages, AreRunsUsedFor, leaves_all, IsReachedByte};
+    ghost use Rattle.kernel_heap.specs.Kept.{is_always_answered, lasting_pages, AreRunsUsedFor, leaves_all, IsReachedByte};
     ghost use Rattle.kernel_heap.specs.Moves.{HeapMoves, IsStill};
 
     /// A machine with the configuration's window, granularity and frames. A configuration from which none can be
@@ -100,7 +100,7 @@ impl Machine {
             heap: NumberedHeap {
                 alloc,
                 heap: heap_calls::fresh(system, config.granularity, config.rate),
-                blocks: Vec::new(alloc),
+                blocks: NumberedBlocks::new(alloc),
                 list: Vec::new(alloc),
             },
             cpu,
@@ -140,11 +140,7 @@ impl Machine {
         ensures registers_err { OnErr result (self.new.cpu ≡ self.old.cpu) }
         // A byte that a probe shows is the one that the walk reaches.
         ensures reached { IfOk result (λ answer. IsReachedByte (paged (system_of self.new.heap)) call.now answer.reply) }
-        ensures write { (number offset : ℕ) (bytes : List ℕ) → call.now ≡ Call.Write number offset bytes → IsOk result }
-        ensures unmap { (start pages : ℕ) → call.now ≡ Call.Unmap start pages → IsOk result }
-        ensures probe { (at : ℕ) (access : Access) (user : Bool) → call.now ≡ Call.Probe at access user → IsOk result }
-        ensures rate { (rate : ℕ) → call.now ≡ Call.SetRate rate → IsOk result }
-        ensures granularity { (granularity : ℕ) → call.now ≡ Call.SetGranularity granularity → IsOk result }
+        ensures answered { IsTrue (is_always_answered call.now) → IsOk result }
     {
         let served = self.heap.serve(call);
         if let Ok(answer) = &served {

@@ -1,5 +1,5 @@
 // A heap over a paged system, and the blocks that were handed out of it, by number.
-ghost use Rattle.std.specs.Prelude.{◌≡◌, ◌≢◌, ℕ, ◌<◌, ◌≤◌, ◌++◌, ◌∷◌, Some, None, IfOk, OnErr, [], vec_len, vec_capacity, length};
+ghost use Rattle.std.specs.Prelude.{◌≡◌, ◌≢◌, ℕ, ◌<◌, ◌≤◌, ◌++◌, ◌∷◌, Some, None, IfOk, OnErr, [], vec_capacity, length};
 ghost use Rattle.heap_model.specs.State.{State};
 ghost use Rattle.heap_model.specs.Run.{IsGood};
 ghost use Rattle.heap_model.specs.Machine.{Stands, IsStep};
@@ -8,6 +8,7 @@ ghost use Rattle.kernel_heap.specs.Refusing.{refusal_of, IsRefusalOf};
 ghost use Rattle.kernel_heap.specs.Blocks.{align_kept};
 
 use crate::heap_calls;
+use crate::numbered_blocks::NumberedBlocks;
 use crate::paged_system::PagedSystem;
 use dlmalloc::{Dlmalloc, MallocError};
 use heap_memory::GrantFault;
@@ -64,7 +65,7 @@ pub(crate) struct Marks {
 pub(crate) struct NumberedHeap {
     pub(crate) alloc: Global,
     pub(crate) heap: Dlmalloc<PagedSystem>,
-    pub(crate) blocks: Vec<Option<Live>>,
+    pub(crate) blocks: NumberedBlocks,
     /// The list of the next answer that tells of regions. Its places are reserved before the heap is asked.
     pub(crate) list: Vec<Region>,
 }
@@ -101,7 +102,7 @@ impl NumberedHeap {
             return Ok(refused(Refusal::BadAlign));
         }
         let count = self.heap.allocator().region_count();
-        self.blocks.reserve(1)?;
+        self.blocks.reserve()?;
         self.list.clear();
         self.list.reserve(count + 1)?;
         let before = self.marks();
@@ -148,11 +149,14 @@ impl NumberedHeap {
             Blank::new(1),
         ) {
             Ok(address) => {
-                self.blocks[number as usize] = Some(Live {
-                    address,
-                    size,
-                    align,
-                });
+                self.blocks.change(
+                    number,
+                    Live {
+                        address,
+                        size,
+                        align,
+                    },
+                );
                 Ok(Answer {
                     reply: Reply::Block { number, address },
                     regions: self.changed_regions(before),
@@ -167,26 +171,22 @@ impl NumberedHeap {
     pub(crate) fn live(&self, number: u64) -> Option<Live>
         ensures { result ≡ live_at self.now.blocks.items number }
     {
-        match self.blocks.get(number as usize) {
-            Some(live) => *live,
-            None => None,
-        }
+        self.blocks.get(number)
     }
 
     /// Numbers a block. It has its place among the blocks.
     fn add_block(&mut self, address: u64, size: u64, align: u64) -> Reply
-        requires place { vec_len self.old.blocks < vec_capacity self.old.blocks }
+        requires place { length self.old.blocks.items < self.old.blocks.capacity }
         ensures reply { result ≡ Reply.Block (length self.old.blocks.items) address }
         ensures blocks { self.new.blocks.items ≡ self.old.blocks.items ++ Some (record { address = address; size = size; align = align }) ∷ [] }
         ensures heap { self.new.heap ≡ self.old.heap }
         ensures list { self.new.list ≡ self.old.list }
     {
-        let number = self.blocks.len() as u64;
-        self.blocks.push_reserved(Some(Live {
+        let number = self.blocks.push(Live {
             address,
             size,
             align,
-        }));
+        });
         Reply::Block { number, address }
     }
 
@@ -269,7 +269,7 @@ impl NumberedHeap {
         self.list.reserve(count)?;
         let before = self.marks();
         heap_calls::free::<Brand>(&mut self.heap, live, Blank::new(1));
-        self.blocks[number as usize] = None;
+        self.blocks.end(number);
         Ok(Answer {
             reply: Reply::Done,
             regions: self.changed_regions(before),

@@ -3,7 +3,7 @@ ghost use Rattle.std.specs.Prelude.{◌≡◌, ℕ, ◌+◌, ◌*◌, ◌/◌, �
 ghost use Rattle.paging_core.specs.Address.{is_canonical};
 ghost use Rattle.paging_core.specs.Pool.{free_count};
 ghost use Rattle.paging_core.specs.Walk.{walk_of, reached};
-ghost use Rattle.region_tree.specs.Regions.{kind_at};
+ghost use Rattle.mapped_regions.specs.Regions.{kind_at};
 ghost use Rattle.heap_model.specs.Machine.{rights_of};
 ghost use Rattle.heap_model.specs.Room.{heap_region as granted_region, heap_rights as granted_rights};
 ghost use Rattle.kernel_heap.specs.Config.{IsGoodWindow};

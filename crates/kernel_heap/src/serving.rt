@@ -1,13 +1,12 @@
 // A call goes to the function of the numbered heap that serves it.
-ghost use Rattle.std.specs.Prelude.{◌≡◌, ℕ, IfOk, IsOk, OnErr, List, Bool};
-ghost use Rattle.heap_model.specs.declared.call.Access.{Access};
+ghost use Rattle.std.specs.Prelude.{◌≡◌, ℕ, IsTrue, IfOk, IsOk, OnErr};
 ghost use Rattle.heap_model.specs.State.{State};
 ghost use Rattle.heap_model.specs.Run.{IsGood};
 ghost use Rattle.heap_model.specs.Machine.{Stands, IsStep};
 ghost use Rattle.kernel_heap.specs.System.{paged};
 ghost use Rattle.kernel_heap.specs.Machine.{seen_with, system_of};
 ghost use Rattle.kernel_heap.specs.LaidOut.{IsSound};
-ghost use Rattle.kernel_heap.specs.Kept.{lasting_pages, AreRunsUsedFor, IsSeenAsBefore, IsReachedByte};
+ghost use Rattle.kernel_heap.specs.Kept.{is_always_answered, lasting_pages, AreRunsUsedFor, IsSeenAsBefore, IsReachedByte};
 ghost use Rattle.kernel_heap.specs.Moves.{HeapMoves, IsStill};
 
 use crate::numbered_heap::NumberedHeap;
@@ -27,11 +26,7 @@ impl NumberedHeap {
         ensures kept { IfOk result (λ answer. IsSeenAsBefore answer.reply self.old self.new) }
         ensures heap_err { OnErr result (IsStill self.old.heap self.new.heap) }
         ensures reached { IfOk result (λ answer. IsReachedByte (paged (system_of self.new)) call.now answer.reply) }
-        ensures write { (number offset : ℕ) (bytes : List ℕ) → call.now ≡ Call.Write number offset bytes → IsOk result }
-        ensures unmap { (start pages : ℕ) → call.now ≡ Call.Unmap start pages → IsOk result }
-        ensures probe { (at : ℕ) (access : Access) (user : Bool) → call.now ≡ Call.Probe at access user → IsOk result }
-        ensures rate { (rate : ℕ) → call.now ≡ Call.SetRate rate → IsOk result }
-        ensures granularity { (granularity : ℕ) → call.now ≡ Call.SetGranularity granularity → IsOk result }
+        ensures answered { IsTrue (is_always_answered call.now) → IsOk result }
     {
         match call {
             Call::Malloc { size, align } => self.hand_out(*size, *align, false),

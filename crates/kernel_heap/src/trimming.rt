@@ -1,5 +1,5 @@
 // Memory of the heap that goes back to the system, as calls of the machine.
-ghost use Rattle.std.specs.Prelude.{◌≡◌, ℕ, None, IfOk, OnErr, length, replicate};
+ghost use Rattle.std.specs.Prelude.{◌≡◌, ℕ, IfOk, OnErr};
 ghost use Rattle.heap_model.specs.State.{State};
 ghost use Rattle.heap_model.specs.Run.{IsGood};
 ghost use Rattle.heap_model.specs.Machine.{Stands, IsStep};
@@ -55,7 +55,7 @@ impl NumberedHeap {
         let other = PagedSystem::new(self.alloc, Size4KiB::SIZE, 1, 1)?;
         let free = self.heap.allocator().free_frames();
         heap_calls::reset::<Brand>(&mut self.heap, other, Blank::new(1));
-        self.end_blocks();
+        self.blocks.end_all();
         let frames = self.heap.allocator().free_frames() - free;
         Ok(Answer {
             reply: Reply::Released(frames * Size4KiB::SIZE),
@@ -66,13 +66,5 @@ impl NumberedHeap {
             },
             large: None,
         })
-    }
-
-    /// Ends all blocks. Their numbers stay.
-    fn end_blocks(&mut self)
-        ensures ended { self.new.blocks.items ≡ replicate (length self.old.blocks.items) None }
-        ensures heap { self.new.heap ≡ self.old.heap }
-    {
-        self.blocks.as_mut_slice().fill(None);
     }
 }

@@ -8,7 +8,7 @@ use Rattle.heap_model.specs.declared.region.Region.{Region}
 use Rattle.heap_model.specs.State.{end_of, is_within, total_pages}
 use Rattle.heap_model.specs.Place.{meets}
 use Rattle.heap_model.proofs.Booleans.{or_cases}
-use Rattle.region_tree.specs.Regions.{AreLaid, AreHeld, IsBoundary, cut_of}
+use Rattle.mapped_regions.specs.Regions.{AreLaid, AreHeld, IsBoundary, cut_of}
 use Rattle.mapped_regions.specs.Mapped.{IsPageRange, IsRegion}
 
 -- an address that regions have is not before them
@@ -54,7 +54,7 @@ module _ (low pages : ℕ) (aligned : low % 4096 ≡ 0) (some : 0 < pages) where
     ]
   ]
     where
-      -- an address behind the region is in a later one
+      -- an address after the region is in a later one
       held_on : (address : ℕ) → end_of region ≤ address → next ≤ address → address < low + 4096 * pages → list_any (is_within address) rest ≡ true
       held_on address past from' before = elim (or_cases (is_within address region) (list_any (is_within address) rest) (held address from' before)) [
         | inl here ↦ absurd (let bound : address < end_of region = grind (arith, nat_tests) in omega arith)

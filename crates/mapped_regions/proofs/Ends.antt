@@ -15,7 +15,7 @@ use Rattle.heap_model.specs.Machine.{Paged}
 use Rattle.heap_model.proofs.Booleans.{or_cases, or_left, or_right}
 use Rattle.heap_model.proofs.Regions.{page_canonical}
 use Rattle.heap_model.proofs.Slots.{page_slot, page_number, whole_true, whole_bounds}
-use Rattle.region_tree.specs.Regions.{AreLaid, IsBoundary, is_at, without_region, cut_of}
+use Rattle.mapped_regions.specs.Regions.{AreLaid, IsBoundary, is_at, without_region, cut_of}
 use Rattle.mapped_regions.specs.Mapped.{IsPageRange, IsRegion, IsMapped}
 
 -- ---- regions that are laid end where one begins, and where one ends
@@ -55,7 +55,7 @@ listed_starts start pages from to (first ∷ rest) laid there = elim (or_cases (
 
 -- ---- slots that lie whole in a region
 
--- where no region reaches over an address, neither does a slot
+-- if no region reaches over an address, neither does a slot
 whole_ends : (slot address : ℕ) (list : List Region) → IsBoundary address list → is_whole_in list slot ≡ true → slot < address → slot + 2 ^ 21 ≤ address
 whole_ends slot address [] ends whole less = absurd (let no : false ≡ true = whole in cc)
 whole_ends slot address (first ∷ rest) ends whole less = elim (or_cases (has_whole slot first) (is_whole_in rest slot) whole) [

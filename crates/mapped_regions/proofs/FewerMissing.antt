@@ -1,4 +1,4 @@
--- Where tables stay, no more are missing.
+-- If tables stay, no more are missing.
 use Rattle.std.proofs.Common.{◌≡◌, ℕ, zero, suc, ◌+◌, ◌-◌, ◌≤◌, cond, List, Option, Some, None, refl, arith}
 use Rattle.std.specs.Prelude.{is_none}
 use Rattle.paging_core.specs.Prefix.{prefix_of}

@@ -19,11 +19,11 @@ ascending_append : (slots : List ℕ) (slot : ℕ) → AreAscending slots → Al
 ascending_append [] slot up below = (tt, tt)
 ascending_append (first ∷ rest) slot up below = (all_append (λ later. first < later) rest (slot ∷ []) up.0 (below.0, tt), ascending_append rest slot up.1 below.1)
 
--- there is none where no slot is whole
+-- there is none if no slot is whole
 pub slots_none : (words : List ℕ) (root address pages : ℕ) → ((slot : ℕ) → IsSlotOf address pages slot → ⊥) → AreLargeSlots words root address pages []
 slots_none words root address pages none = record { ascending = tt; within = tt; exactly = λ slot of. absurd (none slot of) }
 
--- the next slot behind the pages that were looked at
+-- the next slot after the pages that were looked at
 module _ (words : List ℕ) (root address pages slot : ℕ) (slots : List ℕ)
     (next : slot ≡ address + 4096 * pages)
     (is_slot : IsSlot slot)
@@ -84,7 +84,7 @@ module _ (words : List ℕ) (root address pages slot : ℕ) (slots : List ℕ)
       )
       go other of (inr ne) = are.exactly other (before other of ne)
 
--- the same slots are listed of another range, where all that are large are in both
+-- the same slots are listed of another range, if all that are large are in both
 pub slots_of : (words : List ℕ) (root address pages more : ℕ) (slots : List ℕ) → AreLargeSlots words root address pages slots →
     ((slot : ℕ) → IsSlotOf address more slot → IsSlotOf address pages slot ⊎ (large_of words root (slot_number slot) ≡ None)) →
     ((slot : ℕ) → IsSlotOf address pages slot → IsSlotOf address more slot) → AreLargeSlots words root address more slots

@@ -1,3 +1,14 @@
+pub mod Passed
+pub mod Meeting
+pub mod Changes
+pub mod Hint
+pub mod Held
+pub mod Listing
+pub mod Cutting
+pub mod Taken
+pub mod OfHeap
+pub mod AllRegions
+pub mod Laying
 pub mod MetSlots
 pub mod LargeSlots
 pub mod FewerMissing

@@ -11,11 +11,11 @@ use Rattle.heap_model.specs.declared.region.Region.{Region}
 use Rattle.heap_model.specs.State.{is_within}
 use Rattle.heap_model.specs.Machine.{Paged, rights_of}
 use Rattle.heap_model.proofs.Regions.{within, within_bounds}
-use Rattle.region_tree.specs.Regions.{kind_at}
+use Rattle.mapped_regions.specs.Regions.{kind_at}
 use Rattle.mapped_regions.specs.Mapped.{IsRegion, IsMapped}
 use Rattle.mapped_regions.proofs.Mapped.{some_mapped}
 
--- a region has an address where it has the first of its page
+-- a region has an address if it has the first of its page
 page_within : (at : ℕ) (r : Region) → r.start % 4096 ≡ 0 → is_within at r ≡ is_within (4096 * (at / 4096)) r
 page_within at r whole = go (is_within at r) (is_within (4096 * (at / 4096)) r) refl refl where
   go : (b c : Bool) → is_within at r ≡ b → is_within (4096 * (at / 4096)) r ≡ c → is_within at r ≡ is_within (4096 * (at / 4096)) r

@@ -19,7 +19,7 @@ use Rattle.heap_model.specs.Slots.{IsSlot, slot_number, has_whole, is_whole_in}
 use Rattle.heap_model.specs.Machine.{Paged, ArePagesGone, rights_of}
 use Rattle.heap_model.proofs.Regions.{within, within_bounds, all_with, pages_with, none_within, find_none, listed, any_with, page_canonical}
 use Rattle.heap_model.proofs.Slots.{same_slot, page_slot, page_number, slot_among, whole_true}
-use Rattle.region_tree.specs.Regions.{kind_at, is_at, AreHeld, IsPutIn, AreTakenOut}
+use Rattle.mapped_regions.specs.Regions.{kind_at, is_at, AreHeld, IsPutIn, AreTakenOut}
 use Rattle.mapped_regions.specs.Mapped.{IsPageRange, IsRegion, IsMapped, CanMap, IsRegionJoined}
 
 -- ---- regions of a list
@@ -28,7 +28,7 @@ use Rattle.mapped_regions.specs.Mapped.{IsPageRange, IsRegion, IsMapped, CanMap,
 pub kind_none : (start pages at : ℕ) (list : List Region) → meets_any start pages list ≡ false → start ≤ at → at < start + 4096 * pages → kind_at list at ≡ None
 kind_none start pages at list clear above below = ap (option_map (λ (r : Region). (r.heap, r.rights))) (find_none (is_within at) list (none_within start pages at list above below clear))
 
--- the region of so many pages at an address has each of their addresses
+-- the region of a number of pages at an address has each of their addresses
 pub kind_there : (start pages at : ℕ) (list : List Region) → list_any (is_at start pages) list ≡ true → start ≤ at → at < start + 4096 * pages → IsSome (kind_at list at)
 kind_there start pages at [] there above below = let no : false ≡ true = there in absurd (cc)
 kind_there start pages at (r ∷ rs) there above below = go (is_within at r) (is_at start pages r) refl refl (λ t. kind_there start pages at rs t above below) where
@@ -87,7 +87,7 @@ held_mapped p start pages k m range held less =
     some_mapped (walk_of p.words p.root (start / 4096 + k)) (kind_at p.regions (4096 * (start / 4096 + k))) (m.found (start / 4096 + k) (page_canonical (start / 4096) pages k range.1 less))
     (kind_held (4096 * (start / 4096 + k)) p.regions (held (4096 * (start / 4096 + k)) (omega arith) (omega arith)))
 
--- where no slot is large, there is nothing to say of them
+-- if no slot is large, there is nothing to say of them
 pub none_large : (words : List ℕ) (root : ℕ) (regions : List Region) → ((slot : ℕ) → large_of words root slot ≡ None) →
     (slot : ℕ) → IsSlot slot → IsSome (large_of words root (slot_number slot)) → is_whole_in regions slot ≡ true
 none_large words root regions none slot is some = absurd (some_not_none (large_of words root (slot_number slot)) some (none (slot_number slot)))

@@ -246,7 +246,7 @@ some_stays : (old new : Option Place) (frame : ℕ) → ((place : Place) → old
 some_stays None new frame stay is = absurd (let no : None ≡ Some frame = is in cc)
 some_stays (Some place) new frame stay is = ap (option_map (λ (place : Place). place.frame)) (stay place refl) ∙ is
 
--- tables stay kept where tables stay
+-- tables are still kept if tables stay
 pub tables_stay : (old new : List ℕ) (root : ℕ) (slots : List Met) →
     ((number : ℕ) (met : Place) → reach old root 3 number ≡ Some met → reach new root 3 number ≡ Some met) → AreTablesMet old root slots → AreTablesMet new root slots
 tables_stay old new root slots tables are = λ k d less some.
@@ -285,7 +285,7 @@ found_frame_kept words root page number frame (Some x) within some same is e =
     let to : x ≡ frame = ap (λ o. unwrap_or o 0) e in
     kept_frame words root page frame within some (subst (λ f. IsPage words root page f) to (subst (λ n. IsPage words root n x) same is))
 
--- where pages are cut tables stay: a large page that leaves its slot to a table had none before
+-- if pages are cut, tables stay: a large page that leaves its slot to a table had none before
 pub cut_stay : (old new : List ℕ) (root first : ℕ) (slots : List Met) →
     ((l number : ℕ) → l ≡ 3 → (l ≡ 3 → number ≡ prefix_of first 3 → is_cut old root first ≡ false) → reach new root l number ≡ reach old root l number) →
     AreTablesMet old root slots → AreTablesMet new root slots

@@ -6,10 +6,10 @@ use Rattle.heap_model.specs.declared.region.Region.{Region}
 use Rattle.heap_model.specs.State.{end_of}
 use Rattle.heap_model.specs.Place.{meets, meets_any}
 use Rattle.heap_model.specs.Machine.{Paged}
-use Rattle.region_tree.specs.Regions.{is_at, meets_heap, AreLaid}
+use Rattle.mapped_regions.specs.Regions.{is_at, meets_heap, AreLaid}
 use Rattle.mapped_regions.specs.UserRegions.{meets_any_heap, has_user_region}
 
--- a search finds one where a test passes
+-- a search finds one if a test passes
 found_any : (test : Region → Bool) (list : List Region) → is_some (find test list) ≡ list_any test list
 found_any test [] = refl
 found_any test (r ∷ rs) = go (test r) refl (found_any test rs) where
@@ -35,7 +35,7 @@ any_met p start first pages found b whole first_is is some =
 
 -- ---- the lowest region that is met
 
--- it is listed, and where none of the heap is met it is the user's
+-- it is listed, and if none of the heap is met, it is the user's
 pub found_there : (at start pages : ℕ) (list : List Region) (r : Region) → find (meets at pages) list ≡ Some r → r.start ≡ start → r.pages ≡ pages →
     list_any (is_at start pages) list ≡ true
 found_there at start pages [] r is s n = absurd (cc)
@@ -54,7 +54,7 @@ found_there at start pages (x ∷ xs) r is s n = go (meets at pages x) (is_at st
       let yes = here e in absurd (cc)
   go false false w t rest = rw t (rest (rw w at is))
 
--- a listed region that is met, where none of the heap is met, is the user's
+-- a listed region that is met, if none of the heap is met, is the user's
 pub user_there : (p : Paged) (start pages : ℕ) → 0 < pages → list_any (is_at start pages) p.regions ≡ true → meets_any_heap p start pages ≡ false → has_user_region p start pages ≡ true
 user_there p start pages some there none = go p.regions there none where
   go : (list : List Region) → list_any (is_at start pages) list ≡ true → list_any (meets_heap start pages) list ≡ false → list_any (λ region. not region.heap && is_at start pages region) list ≡ true
@@ -72,7 +72,7 @@ user_there p start pages some there none = go p.regions there none where
 
 -- ---- a region that is not there
 
--- where regions are laid, one that has just these pages is the lowest one that they meet
+-- if regions are laid, one that has just these pages is the lowest one that they meet
 alone : (start pages from : ℕ) (list : List Region) (to : ℕ) → 0 < pages → AreLaid from list to → list_any (λ region. not region.heap && is_at start pages region) list ≡ true →
     (r : Region) × (find (meets start pages) list ≡ Some r) × (r.start ≡ start) × (r.pages ≡ pages)
 alone start pages from [] to some laid there = let no : false ≡ true = there in absurd (cc)
@@ -102,7 +102,7 @@ alone start pages from (x ∷ xs) to some laid there = go (not x.heap && is_at s
             omega (arith, l.0, a)
         by false w rest = let more = rest (rw w at found) s in omega (arith, l.0, more)
 
--- so none is there, where another one is the lowest, or none is met
+-- so none is there, if another one is the lowest, or none is met
 pub none_there : (p : Paged) (start first pages : ℕ) (found : Option Region) → start % 4096 ≡ 0 → first ≡ start / 4096 → 0 < pages → AreLaid 0 p.regions (2 ^ 64) →
     found ≡ find (meets (4096 * first) pages) p.regions → ((r : Region) → found ≡ Some r → r.start ≡ start → r.pages ≡ pages → ⊥) → has_user_region p start pages ≡ false
 none_there p start first pages found whole first_is some laid is other = go (has_user_region p start pages) refl where

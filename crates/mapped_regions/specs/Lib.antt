@@ -1,3 +1,5 @@
+pub mod Regions
+pub mod Pairs
 pub mod MetSlots
 pub mod Mapped
 pub mod Shown

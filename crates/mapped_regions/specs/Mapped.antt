@@ -1,4 +1,4 @@
--- What is kept where regions are mapped, and how they join and leave. `old` is what is seen before, `new` after.
+-- What is kept while regions are mapped, and how they join and leave. `old` is what is seen before, `new` after.
 use Rattle.std.specs.Prelude.{◌≡◌, ℕ, ◌+◌, ◌*◌, ◌/◌, ◌%◌, ◌^◌, ◌<◌, ◌≤◌, true, false, IsTrue, IsFalse, IsSome, List, [], length, Option, Some, None}
 use Rattle.std.specs.Option.{option_map}
 use Rattle.std.specs.List.{AllByRecursion, AllByRecursion-prop}
@@ -17,13 +17,14 @@ use Rattle.heap_model.specs.Room.{heap_rights}
 use Rattle.page_ranges.specs.RangeUnmapping.{is_cut}
 use Rattle.heap_model.specs.Slots.{IsSlot, IsSlotOf, slot_number, is_whole_in}
 use Rattle.heap_model.specs.Machine.{Paged, ArePagesAdded, ArePagesGone, rights_of}
-use Rattle.region_tree.specs.Regions.{kind_at, without_region, cut_of}
+use Rattle.mapped_regions.specs.Regions.{kind_at, without_region, cut_of}
 
 -- whole pages from an address on: at least one, and all in one canonical half
 abbrev pub IsPageRange : ℕ → ℕ → Type 0
 IsPageRange start pages = (start % 4096 ≡ 0) × IsCanonicalRange (start / 4096) pages
 
--- A region has whole pages; one of the heap lies in the window, of so many pages from `base` on, with the heap's rights.
+-- A region has whole pages; one of the heap lies in the window, which has `window` pages from `base` on, with the
+-- heap's rights.
 pub record IsRegion (base window : ℕ) (region : Region) : Type 0 where
   pub range : IsPageRange region.start region.pages
   pub from : region.heap ≡ true → base ≤ region.start
@@ -59,18 +60,18 @@ pub record IsEmpty (p : Paged) (base pages frames : ℕ) : Type 0 where
   pub no_slots : p.slots ≡ []
   pub unmapped : (page : ℕ) → walk_of p.words p.root page ≡ None
 
--- there are frames for so many pages from a page on, and for the tables that they lack
+-- there are frames for `pages` pages from a page on, and for the tables that they lack
 abbrev pub HasFrames : Paged → ℕ → ℕ → Type 0
 HasFrames p page pages = pages + missing_of p.words p.root page pages ≤ free_count p.free
 
--- so many pages from an address on can be mapped: they meet no region, and there are frames for them
+-- `pages` pages from an address on can be mapped: they meet no region, and there are frames for them
 pub record CanMap (p : Paged) (start pages : ℕ) : Type 0 where
   pub range : IsPageRange start pages
   pub clear : IsFalse (meets_any start pages p.regions)
   pub frames : HasFrames p (start / 4096) pages
 
--- Where a slot lies whole among so many pages from an address on, had no table, and is not mapped by one entry now, no run of
--- frames is free that it could have.
+-- If a slot lies whole among a number of pages from an address on, had no table, and is not mapped by one entry now, no
+-- run of frames is free that it could have.
 abbrev pub AreRunsUsed : Paged → Paged → ℕ → ℕ → Type 0
 AreRunsUsed old new start pages =
     (slot : ℕ) → IsSlotOf start pages slot → reach old.words old.root 3 (slot_number slot) ≡ None → large_of new.words new.root (slot_number slot) ≡ None →
@@ -87,16 +88,17 @@ pub record IsRegionJoined (old new : Paged) (region : Region) : Type 0 where
   pub zeros : (address : ℕ) → IsTrue (is_within address region) → reached new.words old.root address ≡ Some 0
   pub bytes : (address : ℕ) → IsSome (walk_of old.words old.root (address / 4096)) → reached new.words old.root address ≡ reached old.words old.root address
 
--- The region of so many pages at an address left. Its pages are mapped no more and their frames are free; the tables
--- stay and none is made, and so does every byte that is still mapped.
+-- The region of `pages` pages at an address left. Its pages are no longer mapped and their frames are free; the tables
+-- stay and none is made, and every byte that is still mapped stays.
 pub record IsLeft (old new : Paged) (start pages : ℕ) : Type 0 where
   pub regions : new.regions ≡ without_region start pages old.regions
   pub gone : ArePagesGone old new start pages
   pub whole : is_cut old.words old.root (start / 4096) ≡ false
 
--- So many pages from an address on left the regions: one that begins among them left, and one that reaches there from
--- before ends where they begin. They are mapped no more and their frames are free, but for that of the table of a slot that
--- was mapped by one entry and is left in part; the other tables stay, and so does every byte that is still mapped.
+-- `pages` pages from an address on left the regions: one that begins among them left, and one that reaches there from
+-- before ends where they begin. They are no longer mapped and their frames are free, but for that of the table of a
+-- slot that was mapped by one entry and is left in part; the other tables stay, and so does every byte that is still
+-- mapped.
 pub record AreGone (old new : Paged) (start pages : ℕ) : Type 0 where
   pub regions : new.regions ≡ cut_of start pages old.regions
   pub gone : ArePagesGone old new start pages

@@ -1,5 +1,5 @@
--- What maps pages, and the pages of slots, and of which of them it is kept: a slot goes by the first three indices of its
--- pages, as one number in base 512 (own).
+-- What maps pages, and the pages of slots, and for which of them this is kept: a slot goes by the first three indices
+-- of its pages, as one number in base 512 (own).
 use Rattle.std.specs.Prelude.{◌≡◌, ℕ, ◌^◌, ◌<◌, List, Some}
 use Rattle.std.specs.Option.{option_map}
 use Rattle.std.specs.List.{All}

@@ -4,14 +4,14 @@ use Rattle.std.specs.List.{list_any}
 use Rattle.heap_model.specs.Place.{meets_any}
 use Rattle.heap_model.specs.Machine.{Paged}
 pub use Rattle.heap_model.specs.Room.{user_region}
-use Rattle.region_tree.specs.Regions.{is_at, meets_heap}
+use Rattle.mapped_regions.specs.Regions.{is_at, meets_heap}
 use Rattle.mapped_regions.specs.declared.map_fault.MapFault.{MapFault}
 use Rattle.mapped_regions.specs.declared.map_fault.MapFault.TheVariants as Map
 use Rattle.mapped_regions.specs.declared.map_fault.UnmapFault.{UnmapFault}
 use Rattle.mapped_regions.specs.declared.map_fault.UnmapFault.TheVariants as Unmap
 use Rattle.mapped_regions.specs.Mapped.{IsPageRange, HasFrames, CanMap}
 
--- so many pages from an address on meet a region of the heap
+-- a number of pages from an address on meet a region of the heap
 abbrev pub meets_any_heap : Paged → ℕ → ℕ → Bool
 meets_any_heap p start pages = list_any (meets_heap start pages) p.regions
 
@@ -19,7 +19,7 @@ meets_any_heap p start pages = list_any (meets_heap start pages) p.regions
 abbrev pub has_user_region : Paged → ℕ → ℕ → Bool
 has_user_region p start pages = list_any (λ region. not region.heap && is_at start pages region) p.regions
 
--- memory may be wanting where there is none of the other causes
+-- memory may be wanting if there is none of the other causes
 abbrev pub IsMapRefused : Paged → ℕ → ℕ → MapFault → Type 0
 IsMapRefused p start pages Map.BadRange = ¬ (IsPageRange start pages)
 IsMapRefused p start pages Map.HeapRegion = IsPageRange start pages × IsTrue (meets_any_heap p start pages)

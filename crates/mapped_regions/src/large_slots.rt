@@ -9,8 +9,8 @@ ghost use Rattle.mapped_regions.specs.Mapped.{IsPageRange};
 use heap_model::Region;
 use paging_core::{Frames, Page, PageSize, PhysFrame, Size2MiB, Size4KiB, VirtAddr, large_page};
 
-/// Lists the slots that lie whole in the region and are mapped by one entry each. None of them is `stop`, in counts of 2 MiB,
-/// or behind it.
+/// Lists the slots that lie whole in the region and are mapped by one entry each. None of them is `stop`, in counts of
+/// 2 MiB, or after it.
 pub(crate) fn list_large(
     slots: &mut Vec<u64>,
     frames: &Frames,

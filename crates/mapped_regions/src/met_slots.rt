@@ -92,7 +92,7 @@ pub(crate) struct Met {
     frame: PhysFrame,
 }
 
-/// Where none is kept.
+/// Places that keep nothing.
 fn none_met(frame: PhysFrame) -> [Met; PLACES]
     ensures pages { (words : List ℕ) (root : ℕ) → ArePagesMet words root result }
     ensures tables { (words : List ℕ) (root : ℕ) → AreTablesMet words root result }
@@ -130,9 +130,9 @@ fn put(kept: &mut [Met; PLACES], number: u64, frame: PhysFrame)
 }
 
 /// Pages that walks met, and slots, those with a table apart from those of large pages; of each at most one for each
-/// remainder of their numbers. So a walk to a page that is kept reads no entry, nor does one into a large page that is kept,
-/// and one to another page of a slot with a table reads its last entry alone. Tables stay where they are; what is kept of
-/// pages is forgotten when pages leave.
+/// remainder of their numbers. So a walk to a page that is kept reads no entry, nor does one into a large page that is
+/// kept, and one to another page of a slot with a table reads only its last entry. Tables stay where they are; what is
+/// kept of pages is forgotten when pages leave.
 #[derive(Drop)]
 pub(crate) struct MetSlots {
     pages: [Met; PLACES],

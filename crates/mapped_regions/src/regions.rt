@@ -9,19 +9,19 @@ ghost use Rattle.paging_core.specs.Walk.{walk_of, reach, large_of, reached};
 ghost use Rattle.paging_core.specs.Tree.{IsTree};
 ghost use Rattle.heap_model.specs.Place.{IsPlace, HasNoPlace};
 ghost use Rattle.heap_model.specs.Machine.{rights_of};
-ghost use Rattle.region_tree.specs.Regions.{is_at, kind_at, AreHeld, IsBoundary};
+ghost use Rattle.mapped_regions.specs.Regions.{is_at, kind_at, AreHeld, IsBoundary};
 ghost use Rattle.mapped_regions.specs.MetSlots.{AreMet, AreMet-prop};
 ghost use Rattle.mapped_regions.specs.Mapped.{IsPageRange, IsMapped, IsMapped-prop};
 
 use crate::large_slots::list_large;
 use crate::met_slots::MetSlots;
+use crate::region_tree::RegionTree;
 use heap_model::{Region, RegionList, Rights, SlotList};
 use page_ranges::{map_pages, unmap_pages};
 use paging_core::{
     FramePool, Frames, Page, PageSize, PhysFrame, Size2MiB, Size4KiB, VirtAddr, load_word,
     make_root, missing_tables, walk,
 };
-use region_tree::RegionTree;
 use std::alloc::{AllocError, Global};
 use std::mem;
 
@@ -45,7 +45,8 @@ pub struct MappedRegions {
     pool: FramePool,
     root: PhysFrame,
     tables: u64,
-    /// How often a region joined. It begins anew behind the greatest number, and tells no more than whether one did of late.
+    /// How often a region joined. It begins anew after the greatest number, and says no more than whether one joined
+    /// lately.
     joins: u64,
     /// The pages that stores met, and their slots: a word of one of these takes one step of the walk at most.
     met_slots: MetSlots,
@@ -160,7 +161,7 @@ impl MappedRegions {
         self.regions.list_of_heap(list)
     }
 
-    /// Whether there are frames for so many pages, and for the tables that they lack.
+    /// Whether there are frames for the `pages` pages from `page` on, and for the tables that they lack.
     pub fn has_frames(&self, page: u64, pages: u64) -> bool
         requires { IsCanonicalRange page pages }
         ensures { IsTrue result ↔ HasFrames (shown self.now) page pages }
@@ -172,7 +173,7 @@ impl MappedRegions {
         missing_tables(&self.frames, self.root, page, pages) <= free - pages
     }
 
-    /// The lowest place in the window for so many pages.
+    /// The lowest place in the window for `pages` pages.
     pub fn lowest_place(&self, pages: u64) -> Option<u64>
         requires some { 0 < pages }
         ensures place { IfSome result (λ start. IsPlace (shown self.now).base (shown self.now).pages (shown self.now).regions pages start) }
@@ -211,8 +212,8 @@ impl MappedRegions {
         Ok(())
     }
 
-    /// The slots that the region which joined last has in large pages, by ascending address, where there are any and
-    /// they were not asked for before.
+    /// The slots that the region which joined last has in large pages, by ascending address, if there are any and they
+    /// were not asked for before.
     pub fn take_slots(&mut self) -> Option<SlotList>
         ensures none { IfNone result ((shown self.old).slots ≡ []) }
         ensures some { IfSome result (λ list. (list ≡ (shown self.old).slots) × (list ≢ [])) }
@@ -272,8 +273,8 @@ impl MappedRegions {
     }
 
     /// Unmaps `pages` pages from the address `start` on and takes them out of the regions, which have all of them and
-    /// of which none reaches over their end. Where they begin in the middle of a large page, the first frame of them becomes
-    /// the table of what is left of it. It takes no memory, and no free frame.
+    /// of which none reaches over their end. If they begin in the middle of a large page, the first frame of them
+    /// becomes the table of what is left of it. It takes no memory, and no free frame.
     pub fn cut(&mut self, start: u64, pages: u64)
         requires range { IsPageRange start pages }
         requires held { AreHeld start (start + 4096 * pages) (shown self.old).regions }
@@ -324,7 +325,8 @@ impl MappedRegions {
         self.frames.set_word(frame, word_index(at), value);
     }
 
-    /// Reads words from a multiple of 8 on in a page that is mapped, by one walk. The page has as many.
+    /// Reads words from a multiple of 8 on in a page that is mapped, by one walk. The page has that many words from
+    /// there on.
     pub fn words(&self, at: u64, words: &mut [u64])
         requires word { IsMappedWord (shown self.now) at }
         requires fits { at % 4096 / 8 + length words.old ≤ 512 }
@@ -337,7 +339,7 @@ impl MappedRegions {
     }
 
     /// Puts words from a multiple of 8 on in a page that is mapped, by one walk, and changes nothing else. The page has
-    /// as many.
+    /// that many words from there on.
     pub fn set_words(&mut self, at: u64, words: &[u64])
         requires word { IsMappedWord (shown self.old) at }
         requires fits { at % 4096 / 8 + length words.now ≤ 512 }

@@ -17,7 +17,7 @@ const UPPER_FIRST: u64 = (1 << 52) - HALF_PAGES;
 
 const ALL_PAGES: u64 = 1 << 52;
 
-/// Whether so many pages from an address on are whole pages of one canonical half, and some.
+/// Whether `pages` pages from an address on are whole pages of one canonical half, and at least one.
 fn is_page_range(start: u64, pages: u64) -> bool
     ensures range { IsTrue result ↔ IsPageRange start pages }
     ensures within { IsTrue result → start / 4096 + pages ≤ 2 ^ 52 }

@@ -4,7 +4,7 @@ use Rattle.std.specs.List.{list_all}
 use Rattle.std.proofs.lemmas.Bool.Decides.{nat_tests}
 use Rattle.heap_model.specs.declared.region.Region.{Region}
 use Rattle.heap_model.specs.State.{end_of}
-use Rattle.region_tree.specs.Regions.{IsBoundary}
+use Rattle.mapped_regions.specs.Regions.{IsBoundary}
 
 -- no region reaches over an address that each of them misses
 pub missed_by_all : (address : ℕ) (list : List Region) → list_all (λ region. nat_le (end_of region) address || nat_le address region.start) list ≡ true → IsBoundary address list

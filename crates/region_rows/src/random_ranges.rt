@@ -1,4 +1,4 @@
-//! Ranges that come and go as numbers say that look random, beside a plain map of pages.
+//! Ranges that are mapped and unmapped as numbers say that look random, beside a plain map of pages.
 ghost use Rattle.std.specs.Prelude.{◌^◌, ◌<◌, ◌≤◌};
 
 use crate::checks::same;
@@ -66,7 +66,7 @@ fn pages_from(plain: &[u64], first: u64) -> u64
     pages
 }
 
-/// Maps a range and unmaps another one, and sees that both are answered as the plain map says.
+/// Maps a range and unmaps another one, and checks that both are answered as the plain map says.
 fn change(rt: &impl Abort, regions: &mut MappedRegions, plain: &mut [u64], seed: &mut u64) {
     let first = random(seed, PAGES);
     let most = if random(seed, 4) == 0 { 1_200 } else { 40 };
@@ -95,7 +95,7 @@ fn change(rt: &impl Abort, regions: &mut MappedRegions, plain: &mut [u64], seed:
     }
 }
 
-/// Sees that walks find the pages that have an owner and no others, and that all frames are counted.
+/// Checks that walks find the pages that have an owner and no others, and that all frames are counted.
 fn compare(rt: &impl Abort, regions: &MappedRegions, plain: &[u64], frames: u32) {
     let mut mapped = 0u64;
     for page in 0..PAGES {
@@ -112,7 +112,7 @@ fn compare(rt: &impl Abort, regions: &MappedRegions, plain: &[u64], frames: u32)
     );
 }
 
-/// Maps and unmaps at random in a memory of so many frames.
+/// Maps and unmaps at random in a memory of `frames` frames.
 fn run(rt: &impl Abort, alloc: Global, frames: u32) -> Result<(), Fail>
     requires { 0 < frames }
 {

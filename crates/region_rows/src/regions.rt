@@ -2,7 +2,7 @@
 ghost use Rattle.std.specs.Prelude.{◌≡◌, ◌*◌, ◌^◌, ◌<◌, ◌≤◌, ◌||◌, nat_le, IfSome};
 ghost use Rattle.std.specs.List.{list_all};
 ghost use Rattle.heap_model.specs.State.{end_of, is_within};
-ghost use Rattle.region_tree.specs.Regions.{AreHeld, IsBoundary};
+ghost use Rattle.mapped_regions.specs.Regions.{AreHeld, IsBoundary};
 
 use crate::checks::same;
 use heap_model::{Region, RegionList, Rights};
@@ -36,7 +36,7 @@ fn grant(regions: &mut MappedRegions, pages: u64) -> Result<Option<u64>, AllocEr
     Ok(Some(start))
 }
 
-// A window of so many pages from 0x400000 on, and 1024 frames.
+// A window of `pages` pages from 0x400000 on, and 1024 frames.
 fn empty(alloc: Global, pages: u64) -> Result<MappedRegions, AllocError>
     requires some { 0 < pages }
     requires few { pages < 65536 }
@@ -112,7 +112,7 @@ fn causes_in_their_order(rt: HostRuntime) -> Result<(), Fail> {
     answer_in_order(&rt, rt.alloc(), &mut regions)
 }
 
-/// Grants places to the heap beside a region of the user, and where it was.
+/// Grants places to the heap beside a region of the user, and where that region was.
 fn grant_beside(rt: &impl Abort, regions: &mut MappedRegions) -> Result<(), Fail> {
     same(rt, grant(regions, 16)?, Some(0x40_0000));
     same(rt, map(regions, 0x41_0000, 1), Ok(()));
@@ -140,7 +140,7 @@ fn has_page(region: &Region, page: u64) -> bool
     region.start <= page * 4096 && (page * 4096 - region.start) / 4096 < region.pages
 }
 
-/// Whether the region ends at a page or before, or begins there or behind.
+/// Whether the region ends at a page or before, or begins there or after it.
 fn is_missed(region: &Region, page: u64) -> bool
     requires { page < 2 ^ 35 }
     ensures { result ≡ nat_le (end_of region.now) (4096 * page) || nat_le (4096 * page) region.now.start }
@@ -148,7 +148,7 @@ fn is_missed(region: &Region, page: u64) -> bool
     region.start >= page * 4096 || region.pages <= (page * 4096 - region.start) / 4096
 }
 
-/// Whether each region ends at a page or before, or begins there or behind.
+/// Whether each region ends at a page or before, or begins there or after it.
 fn are_missed(list: &[Region], page: u64) -> bool
     requires { page < 2 ^ 35 }
     ensures { result ≡ list_all (λ region. nat_le (end_of region) (4096 * page) || nat_le (4096 * page) region.start) list.now }
@@ -156,7 +156,7 @@ fn are_missed(list: &[Region], page: u64) -> bool
     list.iter().all(|region| is_missed(region, page))
 }
 
-/// The page behind the region that has a page, if one has it and none reaches over its end.
+/// The page after the region that has a page, if one has it and none reaches over its end.
 fn end_page(list: &[Region], page: u64) -> Option<u64>
     requires { page < 2 ^ 35 }
     ensures range { IfSome result (λ end. (page < end) × (end < 2 ^ 35)) }
@@ -171,8 +171,8 @@ fn end_page(list: &[Region], page: u64) -> Option<u64>
     Some(end)
 }
 
-/// Cuts from a page on what is left of its region, and of the one behind it where it is to cut two. Answers how many
-/// pages were cut.
+/// Cuts from a page on what is left of its region, and of the one after it if it is to cut two. Answers how many pages
+/// were cut.
 fn cut_from(
     regions: &mut MappedRegions,
     alloc: Global,
@@ -201,7 +201,7 @@ fn pages_at(list: &RegionList, index: u64) -> (u64, u64) {
         .map_or((0, 0), |region| (region.start / 4096, region.pages))
 }
 
-/// Sees that these regions are listed after a cut from a page on, each by its first page and its pages.
+/// Checks that these regions are listed after a cut from a page on, each by its first page and its pages.
 fn are_listed(rt: &impl Abort, list: &RegionList, page: u32, regions: &[(u64, u64)]) {
     for (index, want) in regions.iter().enumerate() {
         let found = pages_at(list, index as u64);

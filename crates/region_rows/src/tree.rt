@@ -3,8 +3,8 @@ ghost use Rattle.std.specs.Prelude.{◌≡◌, ◌+◌, ◌*◌, ◌^◌, ◌<�
 
 use crate::checks::same;
 use heap_model::{Region, RegionList};
+use mapped_regions::RegionTree;
 use paging_core::Rights;
-use region_tree::RegionTree;
 use std::alloc::{AllocError, Global};
 use std::process::Abort;
 use std::test::Fail;
@@ -72,7 +72,7 @@ fn four_regions(alloc: Global) -> Result<RegionTree, AllocError> {
     Ok(tree)
 }
 
-/// The lowest place of so many pages, if there are some.
+/// The lowest place of `n` pages, if `n` is not 0.
 fn place(tree: &RegionTree, base: u32, pages: u32, n: u64) -> Option<u64> {
     if n == 0 {
         return None;
@@ -288,7 +288,7 @@ fn change_both(
     Ok(first)
 }
 
-/// Sees that the tree answers as the plain list does.
+/// Checks that the tree answers as the plain list does.
 fn compare(
     rt: &impl Abort,
     alloc: Global,

@@ -24,13 +24,13 @@ changed_regions-requires-clause-places c =
 pub returns-clause-sound : goal.returns-clause-sound
 returns-clause-sound c =
     let is = sym c.live.ensures ∙ c.in-Some.is in
-    rw (c.changed_regions.ensures.heap, c.changed_regions.ensures.blocks)
+    rw (c.changed_regions.ensures.heap, c.changed_regions.ensures.blocks, c.end.ensures)
     (laid_ended c.args.self.now.heap c.free.new.heap c.args.self.now.blocks.items c.args.number c.in-Some.live c.requires.sound is c.free.ensures.freed c.free.ensures.linked)
 
 pub returns-clause-ok : goal.returns-clause-ok
 returns-clause-ok c = λ top s good stands.
     let is = sym c.live.ensures ∙ c.in-Some.is in
-    rw (c.changed_regions.ensures.heap, c.changed_regions.ensures.blocks)
+    rw (c.changed_regions.ensures.heap, c.changed_regions.ensures.blocks, c.end.ensures)
     (step_ended c.args.self.now.heap c.free.new.heap c.args.self.now.blocks.items c.args.number c.in-Some.live c.requires.sound is c.free.ensures.freed c.free.ensures.placed_before c.free.ensures.placed s good stands c.changed_regions.result
     (λ joins few. c.changed_regions.ensures.same (joins ∙ sym c.marks-before.ensures.joins) (few ∙ sym c.marks-before.ensures.pageless))
     (λ other. c.changed_regions.ensures.other (λ joins few. other (joins ∙ c.marks-before.ensures.joins) (few ∙ c.marks-before.ensures.pageless))))

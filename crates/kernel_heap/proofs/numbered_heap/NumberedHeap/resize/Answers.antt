@@ -40,7 +40,7 @@ new_slots-requires c =
     let is = sym c.live.ensures ∙ c.in-Some.is in
     let power = kept_power c.args.keeps_alignment c.in-Some.live (c.requires.sound.lives c.args.number c.in-Some.live is).align in
     record {
-      sound = rw (c.changed_regions.ensures.heap, c.changed_regions.ensures.blocks, c.alignment_kept-align.ensures)
+      sound = rw (c.changed_regions.ensures.heap, c.changed_regions.ensures.blocks, c.change.ensures, c.alignment_kept-align.ensures)
           (laid_resized c.args.self.now.heap c.resize.new.heap c.args.self.now.blocks.items c.args.number c.in-Some.live c.args.size (align_kept c.args.keeps_alignment c.in-Some.live) c.in-Ok.address c.requires.sound is c.in-Ok.ensures.ok power c.resize.ensures.linked);
     }
 
@@ -65,7 +65,7 @@ returns-in-Ok-clause-ok c = λ top s good stands.
       blocks = c.new_slots.ensures.blocks;
     } in
     let before : IsStep s (resizing c.args.keeps_alignment c.args.number c.args.size) (record { reply = Placed c.args.number c.in-Ok.address; regions = c.changed_regions.result; large = c.new_slots.result }) (seen_with top c.changed_regions.new.self) =
-    rw (c.changed_regions.ensures.heap, c.changed_regions.ensures.blocks, c.alignment_kept-align.ensures) step in
+    rw (c.changed_regions.ensures.heap, c.changed_regions.ensures.blocks, c.change.ensures, c.alignment_kept-align.ensures) step in
     step_told c.changed_regions.new.self c.new_slots.new.self c.marks-before.result.joins told top s (resizing c.args.keeps_alignment c.args.number c.args.size) _ before
 
 pub returns-in-Ok-clause-heap : goal.returns-in-Ok-clause-heap

@@ -6,7 +6,7 @@ use Rattle.page_ranges.specs.RangeUnmapping.{NoLargePageReachesOver, cut_tables}
 use Rattle.heap_model.specs.State.{total_pages}
 use Rattle.heap_model.specs.Slots.{is_whole_in}
 use Rattle.heap_model.specs.Machine.{Paged}
-use Rattle.region_tree.specs.Regions.{AreTakenOut, IsBoundary, cut_of}
+use Rattle.mapped_regions.specs.Regions.{AreTakenOut, IsBoundary, cut_of}
 use Rattle.mapped_regions.specs.Mapped.{IsRegion, AreGone}
 use Rattle.mapped_regions.specs.Shown.{shown}
 use Rattle.mapped_regions.proofs.MetSlots.{cut_stay}

@@ -6,7 +6,7 @@ use Rattle.paging_core.specs.declared.page_table.Rights.{Rights}
 use Rattle.heap_model.specs.declared.region.Region.{Region}
 use Rattle.heap_model.specs.State.{total_pages}
 use Rattle.heap_model.specs.Machine.{rights_of}
-use Rattle.region_tree.specs.Regions.{kind_at}
+use Rattle.mapped_regions.specs.Regions.{kind_at}
 use Rattle.mapped_regions.specs.Mapped.{IsRegion}
 use Rattle.mapped_regions.proofs.Mapped.{none_large}
 use Rattle.mapped_regions.proofs.regions.MappedRegions.new.Goals as goal

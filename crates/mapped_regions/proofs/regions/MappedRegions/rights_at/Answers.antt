@@ -2,7 +2,7 @@ use Rattle.std.proofs.Common.{◌/◌, refl, ap, ◌∙◌, option_map, Bool}
 use Rattle.paging_core.specs.Walk.{walk_of}
 use Rattle.paging_core.specs.declared.page_table.Rights.{Rights}
 use Rattle.heap_model.specs.Machine.{rights_of}
-use Rattle.region_tree.specs.Regions.{kind_at}
+use Rattle.mapped_regions.specs.Regions.{kind_at}
 use Rattle.mapped_regions.specs.Shown.{shown}
 use Rattle.mapped_regions.proofs.Looked.{found_at, walked_none, walked_some}
 use Rattle.mapped_regions.proofs.regions.MappedRegions.rights_at.Goals as goal

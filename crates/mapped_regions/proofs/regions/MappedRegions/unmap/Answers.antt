@@ -1,7 +1,7 @@
 use Rattle.std.proofs.Common.{◌≡◌, ◌*◌, ◌/◌, ◌∙◌, true, false, refl, sym, ap, subst, Some}
 use Rattle.std.specs.List.{list_any}
 use Rattle.heap_model.specs.declared.region.Region.{Region}
-use Rattle.region_tree.specs.Regions.{is_at}
+use Rattle.mapped_regions.specs.Regions.{is_at}
 use Rattle.mapped_regions.specs.Mapped.{IsPageRange}
 use Rattle.mapped_regions.specs.Shown.{shown}
 use Rattle.mapped_regions.proofs.UserRegions.{heap_met, found_there, user_there, none_there}

@@ -1,0 +1,55 @@
+-- Regions by ascending address: how they lie, which of them is at a place, and how they change.
+use Rattle.std.specs.Prelude.{◌≡◌, ℕ, ◌-◌, ◌/◌, ◌%◌, ◌<◌, ◌≤◌, ◌⊎◌, ◌&&◌, Bool, nat_le, nat_lt, if◌then◌else◌, IsTrue, List, [], ◌∷◌, find, Option, Some, None, option_map}
+use Rattle.std.specs.List.{list_any, AllByRecursion}
+use Rattle.paging_core.specs.declared.page_table.Rights.{Rights}
+use Rattle.heap_model.specs.declared.region.Region.{Region}
+use Rattle.heap_model.specs.State.{end_of, is_within}
+use Rattle.heap_model.specs.Place.{meets}
+pub use Rattle.heap_model.specs.Place.{is_at, without_region}
+
+-- ---- how regions lie
+
+-- regions one after the other between two addresses: each has pages, begins at a page, and ends before the next begins
+abbrev pub AreLaid : ℕ → List Region → ℕ → Type 0
+AreLaid from [] to = from ≤ to
+AreLaid from (region ∷ rest) to = (from ≤ region.start) × (region.start % 4096 ≡ 0) × (0 < region.pages) × AreLaid (end_of region) rest to
+
+-- each address from one on and below another lies in a region
+abbrev pub AreHeld : ℕ → ℕ → List Region → Type 0
+AreHeld from to regions = (address : ℕ) → from ≤ address → address < to → IsTrue (list_any (is_within address) regions)
+
+-- each region lies before the address or after it: none reaches over it
+abbrev pub IsBoundary : ℕ → List Region → Type 0
+IsBoundary address regions = AllByRecursion (λ region. (end_of region ≤ address) ⊎ (address ≤ region.start)) regions
+
+-- ---- single regions
+
+-- whether a region is of the heap, and `pages` pages from an address meet it
+abbrev pub meets_heap : ℕ → ℕ → Region → Bool
+meets_heap address pages region = region.heap && meets address pages region
+
+-- whether the heap has the region that holds an address, and with which rights, if there is one
+abbrev pub kind_at : List Region → ℕ → Option (Bool × Rights)
+kind_at regions address = option_map (λ region. (region.heap, region.rights)) (find (is_within address) regions)
+
+-- ---- changes
+
+-- a region with another number of pages, if it is the one of a given number of pages at an address
+abbrev pub with_pages : ℕ → ℕ → ℕ → Region → Region
+with_pages start pages new region = if is_at start pages region then record region { pages = new } else region
+
+-- The regions without `pages` pages from an address on: a region that meets them ends where they begin, and leaves if
+-- it begins there or after that.
+abbrev pub cut_of : ℕ → ℕ → List Region → List Region
+cut_of address pages [] = []
+cut_of address pages (region ∷ rest) =
+    if meets address pages region then (if nat_lt region.start address then record region { pages = (address - region.start) / 4096 } ∷ cut_of address pages rest else cut_of address pages rest)
+    else region ∷ cut_of address pages rest
+
+-- the addresses from one on and below another were taken out, and every other one is in a region of the kind that it was
+abbrev pub AreTakenOut : ℕ → ℕ → List Region → List Region → Type 0
+AreTakenOut from to old new = (address : ℕ) → kind_at new address ≡ (if nat_le from address && nat_lt address to then None else kind_at old address)
+
+-- the region joined: it is at its addresses, and every other one is in a region of the kind that it was
+abbrev pub IsPutIn : Region → List Region → List Region → Type 0
+IsPutIn region old new = (address : ℕ) → kind_at new address ≡ (if is_within address region then Some (region.heap, region.rights) else kind_at old address)
