@@ -5,10 +5,10 @@
 
 ghost use Rattle.std.specs.Prelude.{◌≡◌, ◌<◌, ◌≤◌, length, IfOk};
 
-use dlmalloc::Dlmalloc;
 use heap_memory::{FlatStep, FlatSystem};
 use measuring::{Watch, numbers};
 use object_pool::{Key, Pool};
+use sound_heap::Heap;
 use std::alloc::{AllocError, Global};
 use std::io;
 
@@ -29,7 +29,7 @@ fn pool_for(alloc: Global, objects: u32, size: u64) -> Result<Pool<FlatSystem>, 
         flags: 0,
     })?;
     let system = FlatSystem::new(alloc, script, true, true, 4096)?;
-    Ok(Pool::new(alloc, Dlmalloc::new_with_allocator(system), size))
+    Ok(Pool::new(alloc, Heap::new(system), size))
 }
 
 /// A number that is scattered over 2^32, each at its own.

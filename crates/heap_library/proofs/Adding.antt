@@ -7,7 +7,7 @@ use Rattle.dlmalloc.specs.declared.heap.Dlmalloc.{Dlmalloc}
 use Rattle.dlmalloc.proofs.Laws.{same_regions}
 use Rattle.heap_arena.specs.declared.arena.Arena.{Arena}
 use Rattle.heap_arena.specs.Arenas.{regions_of_all, word_among, IsAdded}
-use Rattle.heap_library.specs.Library.{IsIntact}
+use Rattle.sound_heap.specs.Heap.{IsIntact}
 
 -- whether the arena was taken or not, what was granted is granted, and has its words
 kept_either : {T E : Type 0} (answer : Result T E) (old new : List Arena) (arena : Arena) → OnOk answer (IsAdded old arena new) → OnErr answer (new ≡ old) →

@@ -3,7 +3,7 @@ use Rattle.std.specs.Prelude.{◌≡◌, ◌≢◌, ℕ, zero, suc, ◌+◌, ◌
 use Rattle.std.proofs.Common.{◌∙◌, ap, sym, refl, inl, inr, arith}
 use Rattle.std.proofs.lemmas.Bool.{cases_eq}
 use Rattle.dlmalloc.specs.State.{HeapState}
-use Rattle.heap_library.specs.Library.{HasBlock}
+use Rattle.sound_heap.specs.Heap.{HasBlock}
 use Rattle.heap_library.specs.Counted.{counted, HasBlocks}
 
 counted_suc : (test : ℕ → Bool) (n : ℕ) → counted test (suc n) ≡ counted test n + (if test n then 1 else 0)

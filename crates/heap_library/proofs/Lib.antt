@@ -1,5 +1,4 @@
 mod Adding
-mod BlockWords
 mod Cleared
 mod Counting
 mod MarkLemmas

@@ -12,9 +12,10 @@ use Rattle.dlmalloc.specs.declared.heap.Dlmalloc.{Dlmalloc}
 use Rattle.dlmalloc.proofs.Extents.Lookup.{found}
 use Rattle.heap_arena.specs.declared.arena.Arena.{Arena}
 use Rattle.heap_arena.specs.Arena.{regions_of, word_of, IsSameArena}
-use Rattle.heap_library.specs.declared.heap_error.HeapError.{HeapError}
-use Rattle.heap_library.specs.declared.heap_error.HeapError.TheVariants.{BadAlign, NoBlock, Refused}
-use Rattle.heap_library.specs.Library.{HasBlock, IsRequestRefused, IsResizeRefused}
+use Rattle.sound_heap.specs.declared.heap_error.HeapError.{HeapError}
+use Rattle.sound_heap.specs.declared.heap_error.HeapError.TheVariants.{BadAlign, NoBlock, Refused}
+use Rattle.heap_library.specs.Library.{IsResizeRefused}
+use Rattle.sound_heap.specs.Heap.{HasBlock, IsRequestRefused}
 use Rattle.heap_library.specs.Marks.{is_marked}
 use Rattle.heap_library.specs.Counted.{counted}
 use Rattle.heap_library.specs.Checked.{follows, refuses, denies, heap_state, IsMarked}

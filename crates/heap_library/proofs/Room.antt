@@ -16,9 +16,10 @@ use Rattle.dlmalloc.specs.declared.malloc_error.MallocError.TheVariants.{TooLarg
 use Rattle.heap_arena.specs.Grants.{grant_at, grants, are_between}
 use Rattle.heap_arena.specs.Arena.{regions_of, word_of, end_of, has_room, IsArenaAfter}
 use Rattle.heap_arena.specs.declared.arena.Arena.{Arena}
-use Rattle.heap_library.specs.declared.heap_error.HeapError.{HeapError}
-use Rattle.heap_library.specs.declared.heap_error.HeapError.TheVariants.{BadAlign, NoBlock, Refused}
-use Rattle.heap_library.specs.Library.{HasBlock, usable, IsRequestRefused, IsResizeRefused}
+use Rattle.sound_heap.specs.declared.heap_error.HeapError.{HeapError}
+use Rattle.sound_heap.specs.declared.heap_error.HeapError.TheVariants.{BadAlign, NoBlock, Refused}
+use Rattle.heap_library.specs.Library.{IsResizeRefused}
+use Rattle.sound_heap.specs.Heap.{HasBlock, usable, IsRequestRefused}
 use Rattle.heap_library.specs.Checked.{zeros, follows, refuses, denies, heap_state}
 use Rattle.heap_library.specs.Room.{HasNoRoom, IsRefused, IsRefusedResize}
 

@@ -8,7 +8,7 @@ use Rattle.dlmalloc.specs.Heap.{state_of}
 use Rattle.dlmalloc.specs.declared.heap.Dlmalloc.{Dlmalloc}
 use Rattle.heap_arena.specs.declared.arena.Arena.{Arena}
 use Rattle.heap_arena.specs.Arena.{word_of, IsArenaAfter, IsDenied}
-use Rattle.heap_library.specs.Library.{HasBlock}
+use Rattle.sound_heap.specs.Heap.{HasBlock}
 use Rattle.heap_library.specs.Marks.{is_marked}
 use Rattle.heap_library.specs.Counted.{counted}
 
@@ -17,7 +17,7 @@ abbrev pub zeros : Arena → Bool
 zeros arena = false
 
 -- what a heap over an arena says of the time between two moments: its top and its peak are where what was granted and what came
--- back left them, and the words behind the peak are as they were
+-- back left them, and the words after the peak are as they were
 abbrev pub follows : Arena → List Event → Arena → Type 0
 follows old events new = IsArenaAfter old events new
 
@@ -55,7 +55,7 @@ table_of granularity count = table_in granularity (left_beside_marks count)
 abbrev pub left_for_words : (granularity count : ℕ) → ℕ
 left_for_words granularity count = left_beside_marks count - table_of granularity count
 
--- Where they stand: those for blocks from the first one on, those for the table behind them, and those for the marks at the end.
+-- Where they stand: those for blocks from the first one on, those for the table after them, and those for the marks at the end.
 abbrev pub words_for_blocks : (granularity : ℕ) → List ℕ → List ℕ
 words_for_blocks granularity memory = take (left_for_words granularity (length memory)) memory
 

@@ -1,29 +1,18 @@
--- What callers know of a heap (own).
-use Rattle.std.specs.Prelude.{◌≡◌, ◌≢◌, ℕ, ◌+◌, ◌-◌, ◌%◌, ◌<◌, ◌≤◌, ◌==◌, List, None}
-use Rattle.std.specs.Int.{IsPowerOfTwo}
+-- What callers know of a heap that looks at addresses (own).
+use Rattle.std.specs.Prelude.{◌≡◌, ◌≢◌, ℕ, ◌+◌, ◌-◌, ◌%◌, ◌≤◌, List, None}
 use Rattle.heap_memory.specs.declared.grant.Grant.{Grant}
 use Rattle.heap_memory.specs.declared.grant.GrantFault.{GrantFault}
 use Rattle.heap_memory.specs.Events.{Event}
 use Rattle.dlmalloc_chunks.specs.Request.{padded}
-use Rattle.dlmalloc.specs.State.{HeapState, extents_in, size_where}
-use Rattle.dlmalloc.specs.Blocks.{IsBlock}
+use Rattle.dlmalloc.specs.State.{HeapState}
 use Rattle.dlmalloc.specs.Resized.{in_place}
-use Rattle.dlmalloc.specs.Requested.{asked}
-use Rattle.dlmalloc.specs.Heap.{state_of, IsSound}
-use Rattle.dlmalloc.specs.Binned.{IsBinned}
+use Rattle.dlmalloc.specs.Heap.{state_of}
 use Rattle.dlmalloc.specs.Served.{IsRefusedWith}
 use Rattle.dlmalloc.specs.declared.heap.Dlmalloc.{Dlmalloc}
 use Rattle.dlmalloc.specs.declared.malloc_error.MallocError.TheVariants.{TooLarge}
-use Rattle.heap_library.specs.declared.heap_error.HeapError.{HeapError}
-use Rattle.heap_library.specs.declared.heap_error.HeapError.TheVariants.{BadAlign, NoBlock, Refused}
-
--- a block begins at an address, whatever its size
-abbrev pub HasBlock : HeapState → ℕ → Type 0
-HasBlock heap address = (size : ℕ) × IsBlock heap address size
-
--- the bytes that the block at an address has: all of its chunk but the head
-abbrev pub usable : HeapState → ℕ → ℕ
-usable heap address = size_where (λ extent. extent.at == address - 16) (extents_in heap) - 8
+use Rattle.sound_heap.specs.Heap.{HasBlock, usable}
+use Rattle.sound_heap.specs.declared.heap_error.HeapError.{HeapError}
+use Rattle.sound_heap.specs.declared.heap_error.HeapError.TheVariants.{BadAlign, NoBlock, Refused}
 
 -- the block at an address has a whole word at an offset
 pub record HasWord (heap : HeapState) (address offset : ℕ) : Type 0 where
@@ -31,22 +20,7 @@ pub record HasWord (heap : HeapState) (address offset : ℕ) : Type 0 where
   pub within : offset + 8 ≤ usable heap address
   pub aligned : offset % 8 ≡ 0
 
--- the words that hold so many bytes from an address on are 0
-abbrev pub AreZero : (ℕ → ℕ) → ℕ → ℕ → Type 0
-AreZero words address size = (k : ℕ) → address ≤ k → k < address + size → k % 8 ≡ 0 → words k ≡ 0
-
--- A heap is sound, and its bins hold its free extents: a condition of the type.
-pub record IsIntact {A : Type 0} (regions : A → List Grant) (word : A → ℕ → ℕ) (heap : Dlmalloc A) : Type 0 where
-  pub sound : IsSound regions word heap
-  pub linked : IsBinned regions word heap
-
--- Why a request for so many bytes at a multiple of an alignment is refused, and that all is as it was.
-abbrev pub IsRequestRefused : {A : Type 0} → (A → List Grant) → (A → ℕ → ℕ) → (A → List Event → A → Type 0) → (A → A → Type 0) → (A → ℕ → GrantFault → Type 0) → Dlmalloc A → ℕ → ℕ → HeapError → Dlmalloc A → Type 0
-IsRequestRefused regions word follows refuses denies old size align BadAlign new = (IsPowerOfTwo align → ⊥) × (new ≡ old)
-IsRequestRefused regions word follows refuses denies old size align NoBlock new = ⊥
-IsRequestRefused regions word follows refuses denies old size align (Refused error) new = IsPowerOfTwo align × IsRefusedWith regions word follows refuses denies old (asked size align) error new
-
--- Why the block at an address does not get so many bytes, and that all is as it was: it cannot have them where it stands, and
+-- Why the block at an address does not get this many bytes, and that all is as it was: it cannot have them where it stands, and
 -- a new block for them is refused.
 abbrev pub IsResizeRefused : {A : Type 0} → (A → List Grant) → (A → ℕ → ℕ) → (A → List Event → A → Type 0) → (A → A → Type 0) → (A → ℕ → GrantFault → Type 0) → Dlmalloc A → ℕ → ℕ → HeapError → Dlmalloc A → Type 0
 IsResizeRefused regions word follows refuses denies old address size BadAlign new = ⊥

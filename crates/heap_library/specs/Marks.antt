@@ -6,7 +6,7 @@ use Rattle.std.specs.Int.{bit_at}
 abbrev pub has_bit : List ℕ → ℕ → Bool
 has_bit words n = bit_at (slice_index words (n / 64)) (n % 64) == 1
 
--- Whether an address is marked: it is a base or behind it by a multiple of 16, and bit n is set, if it is 16 n behind.
+-- Whether an address is marked: it is a base or a multiple of 16 after it, and bit n is set, if it is 16 n after it.
 abbrev pub is_marked : ℕ → List ℕ → ℕ → Bool
 is_marked base words address = nat_le base address && ((address - base) % 16 == 0 && has_bit words ((address - base) / 16))
 

@@ -16,7 +16,7 @@ fn word_kept_by_add<'a>(heap: &mut Heap<Arenas<'a, 2>>, arena: Arena<'a>) -> (u6
         return (0, 0);
     };
     heap.store(address, 88, 7);
-    if heap.add(arena).is_err() {
+    if add_arena(heap, arena).is_err() {
         return (0, 0);
     }
     (address, heap.load(address, 88))
@@ -47,10 +47,7 @@ fn memory_is_added_as_it_is_found(rt: HostRuntime) -> Result<(), Fail> {
     assert!(rt; heap.set_granularity(4096));
     let no_space = Err(HeapError::Refused(MallocError::System(GrantFault::NoSpace)));
     assert_eq!(rt; heap.malloc(100, 8), no_space);
-    assert!(rt;
-        heap.add(Arena::new(&mut first, &mut first_table, 0x10000))
-            .is_ok()
-    );
+    assert!(rt; add_arena(&mut heap, Arena::new(&mut first, &mut first_table, 0x10000)).is_ok());
     let arena = Arena::new(&mut second, &mut second_table, 0x11000);
     assert_eq!(rt; word_kept_by_add(&mut heap, arena), (0x10010, 7));
     assert_eq!(rt; heap.system().len(), 2);

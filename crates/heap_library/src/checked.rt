@@ -6,11 +6,10 @@ ghost use Rattle.heap_library.specs.Marks.{is_marked};
 ghost use Rattle.heap_library.specs.Counted.{counted};
 ghost use Rattle.heap_library.specs.Checked.{table_in};
 
-use crate::heap::Heap;
-use crate::heap_error::HeapError;
 use crate::marks::Marks;
 use dlmalloc::ExtentList;
 use heap_arena::Arena;
+use sound_heap::{Heap, HeapError};
 use std::alloc::{AllocError, Global};
 use std::marker::Model;
 
@@ -78,7 +77,8 @@ impl<'a> CheckedHeap<'a> {
     ghost use Rattle.dlmalloc.specs.Order.{KeepsIndex};
     ghost use Rattle.dlmalloc.specs.Served.{IsListed};
     ghost use Rattle.heap_arena.specs.Arena.{regions_of, word_of, IsAbove};
-    ghost use Rattle.heap_library.specs.Library.{HasBlock, HasWord, usable, AreZero, IsRequestRefused, IsResizeRefused};
+    ghost use Rattle.heap_library.specs.Library.{HasWord, IsResizeRefused};
+    ghost use Rattle.sound_heap.specs.Heap.{HasBlock, usable, AreZero, IsRequestRefused};
     ghost use Rattle.heap_library.specs.Counted.{HasBlocks, counted};
     ghost use Rattle.heap_library.specs.Checked.{zeros, follows, refuses, denies, heap_state, table_in, table_of, left_for_words, words_for_blocks, words_for_table, IsCleared};
     ghost use Rattle.heap_library.specs.Marks.{is_marked};
@@ -132,7 +132,7 @@ impl<'a> CheckedHeap<'a> {
         CheckedHeap::over_front(front, Marks::new(marks, base), base, GRANULARITY)
     }
 
-    /// As `over`, with a granularity, where the words for the marks are 0 already: no word is touched. The table has a
+    /// As `over`, with a granularity, if the words for the marks are 0 already: no word is touched. The table has a
     /// place for each granularity of bytes.
     pub fn over_cleared(memory: &'a mut [u64], base: u64, granularity: u64) -> CheckedHeap<'a>
         requires aligned { base % 16 ≡ 0 }
@@ -248,8 +248,8 @@ impl<'a> CheckedHeap<'a> {
         self.heap.set_granularity(granularity)
     }
 
-    /// Sets how many large chunks are freed between two release passes, and begins to count them anew. With 0 there is no
-    /// such pass.
+    /// Sets how many large chunks are freed between two release passes, and begins to count them anew. 0 stands for the
+    /// greatest number, 2^64 - 1.
     pub fn set_release_rate(&mut self, rate: u64)
         ensures state { heap_state self.new ≡ record (heap_state self.old) { rate = rate; countdown = countdown_from rate } }
         ensures system { self.new.system ≡ self.old.system }
@@ -309,7 +309,7 @@ impl<'a> CheckedHeap<'a> {
     }
 
     /// Gives the block at `from` another size, and answers where it is then, at a multiple of 16. It keeps as many of
-    /// its bytes as both sizes have. `NoBlock` where none begins there; then nothing changes.
+    /// its bytes as both sizes have. `NoBlock` if none begins there; then nothing changes.
     pub fn realloc(&mut self, from: u64, size: u64) -> Result<u64, HeapError>
         ensures block { IfOk result (λ to. HasBlock (heap_state self.old) from) }
         ensures resized { IfOk result (λ to. IsResized regions_of word_of zeros follows true true 1 self.old from (usable (heap_state self.old) from) 16 size to self.new) }
@@ -331,11 +331,11 @@ impl<'a> CheckedHeap<'a> {
                 mark(&mut self.marks, &self.heap, to);
                 Ok(to)
             }
-            Err(refusal) => Err(refusal),
+            Err(error) => Err(HeapError::Refused(error)),
         }
     }
 
-    /// Gives the block at an address back. False where none begins there; then nothing changes.
+    /// Gives the block at an address back. False if none begins there; then nothing changes.
     pub fn free(&mut self, address: u64) -> bool
         ensures answer { IsTrue result ↔ HasBlock (heap_state self.old) address }
         ensures freed { result ≡ true → IsFreed regions_of word_of follows true true 1 self.old address self.new }
@@ -349,7 +349,7 @@ impl<'a> CheckedHeap<'a> {
         true
     }
 
-    /// Gives memory back to the arena that no block needs: the top keeps more than `pad` bytes. True exactly where bytes
+    /// Gives memory back to the arena that no block needs: the top keeps more than `pad` bytes. True exactly if bytes
     /// went back.
     pub fn trim(&mut self, pad: u64) -> bool
         ensures trimmed { IsTrimmed regions_of word_of follows true true 1 self.old pad result self.new }
@@ -379,7 +379,7 @@ impl<'a> CheckedHeap<'a> {
         }
     }
 
-    /// The word at an offset of the block at an address; None where there is none. The offset is a multiple of 8.
+    /// The word at an offset of the block at an address; None if there is none. The offset is a multiple of 8.
     pub fn load(&self, address: u64, offset: u64) -> Option<u64>
         ensures some { IfSome result (λ word. HasWord (heap_state self.now) address offset × (word ≡ word_of self.now.system (address + offset))) }
         ensures none { IfNone result (HasWord (heap_state self.now) address offset → ⊥) }
@@ -391,7 +391,7 @@ impl<'a> CheckedHeap<'a> {
         }
     }
 
-    /// Puts a word at an offset of the block at an address, and changes nothing else. False where there is none; then
+    /// Puts a word at an offset of the block at an address, and changes nothing else. False if there is none; then
     /// nothing changes. The offset is a multiple of 8.
     pub fn store(&mut self, address: u64, offset: u64, value: u64) -> bool
         ensures answer { IsTrue result ↔ HasWord (heap_state self.old) address offset }
@@ -424,7 +424,7 @@ impl<'a> CheckedHeap<'a> {
         self.heap.system().used()
     }
 
-    /// How many words of the arena from its front were ever in use: those behind them are as they were when the heap began.
+    /// How many words of the arena from its front were ever in use: those after them are as they were when the heap began.
     pub fn touched(&self) -> usize
         ensures { self.now.system.base + 8 * result ≡ self.now.system.peak }
     {

@@ -2,11 +2,11 @@
 ghost use Rattle.std.specs.Prelude.{◌≡◌, ℕ, OnOk, OnErr, IfErr};
 ghost use Rattle.dlmalloc.specs.Heap.{state_of};
 ghost use Rattle.heap_arena.specs.Arenas.{regions_of_all, word_among, IsAdded, IsNotAdded};
-ghost use Rattle.heap_library.specs.Library.{IsIntact};
+ghost use Rattle.sound_heap.specs.Heap.{IsIntact};
 
-use crate::heap::Heap;
 use dlmalloc::Dlmalloc;
 use heap_arena::{AddFault, Arena, Arenas};
+use sound_heap::Heap;
 
 /// Has the system of a heap take a further arena.
 fn add<'a, const N: usize>(
@@ -26,18 +26,19 @@ fn add<'a, const N: usize>(
     heap.allocator_mut().add(arena)
 }
 
-impl<'a, const N: usize> Heap<Arenas<'a, N>> {
-    /// Takes a further arena, from which blocks are served where the others have no room. Blocks stay where they are, and
-    /// keep their bytes, and all of the heap but its arenas is as it was. An arena that is not taken comes back with the
-    /// reason, and nothing changes then.
-    pub fn add(&mut self, arena: Arena<'a>) -> Result<(), (AddFault, Arena<'a>)>
-        ensures ok { OnOk result (IsAdded self.old.system.arenas.items arena.entry self.new.system.arenas.items) }
-        ensures err { IfErr result (λ refusal. IsNotAdded self.old.system.arenas.items N arena.entry refusal.0) }
-        ensures back { IfErr result (λ refusal. refusal.1 ≡ arena.entry) }
-        ensures same { OnErr result (self.new.system.arenas.items ≡ self.old.system.arenas.items) }
-        ensures others { self.new ≡ record self.old { system = self.new.system } }
-        ensures state { state_of (λ a at. word_among a.arenas.items at) self.new ≡ state_of (λ a at. word_among a.arenas.items at) self.old }
-    {
-        add(&mut self.heap, arena)
-    }
+/// Has a heap take a further arena, from which blocks are served if the others have no room. Blocks stay where they are,
+/// and keep their bytes, and all of the heap but its arenas is as it was. An arena that is not taken comes back with the
+/// reason, and nothing changes then.
+pub fn add_arena<'a, const N: usize>(
+    heap: &mut Heap<Arenas<'a, N>>,
+    arena: Arena<'a>,
+) -> Result<(), (AddFault, Arena<'a>)>
+    ensures ok { OnOk result (IsAdded heap.old.system.arenas.items arena.entry heap.new.system.arenas.items) }
+    ensures err { IfErr result (λ refusal. IsNotAdded heap.old.system.arenas.items N arena.entry refusal.0) }
+    ensures back { IfErr result (λ refusal. refusal.1 ≡ arena.entry) }
+    ensures same { OnErr result (heap.new.system.arenas.items ≡ heap.old.system.arenas.items) }
+    ensures others { heap.new ≡ record heap.old { system = heap.new.system } }
+    ensures state { state_of (λ a at. word_among a.arenas.items at) heap.new ≡ state_of (λ a at. word_among a.arenas.items at) heap.old }
+{
+    add(&mut heap.heap, arena)
 }

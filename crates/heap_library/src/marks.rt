@@ -25,7 +25,7 @@ impl<'a> Marks<'a> {
         Marks::over_zeros(words, base)
     }
 
-    /// As `new`, where the words are 0 already.
+    /// As `new`, if the words are 0 already.
     pub fn over_zeros(words: &'a mut [u64], base: u64) -> Marks<'a>
         requires zeros { words.now ≡ replicate (length words.now) 0 }
         ensures none { (address : ℕ) → is_marked result.base result.words.now address ≡ false }

@@ -20,7 +20,7 @@ enum Call {
     Store(u64, u64, u64, bool),
     /// Reads a word at an offset of the block at an address.
     Load(u64, u64, Option<u64>),
-    /// Trims the heap down to so many bytes.
+    /// Trims the heap down to this many bytes.
     Trim(u64, bool),
     /// Asks how many blocks there are.
     Blocks(u64),

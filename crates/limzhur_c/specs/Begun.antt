@@ -1,4 +1,4 @@
--- A heap where C begins it (own).
+-- A heap as C begins it (own).
 use Rattle.std.specs.Prelude.{◌≡◌, ℕ, List, [], length}
 use Rattle.dlmalloc.specs.State.{new_heap}
 use Rattle.dlmalloc.specs.declared.heap.Dlmalloc.{Dlmalloc}

@@ -1,4 +1,4 @@
--- Page tables where C begins them (own).
+-- Page tables as C begins them (own).
 use Rattle.std.specs.Prelude.{◌≡◌, ℕ, ◌+◌, ◌/◌, ◌%◌, ◌^◌, ◌<◌, ◌≤◌, None}
 use Rattle.paging_core.specs.Area.{Part}
 use Rattle.paging_core.specs.Pool.{free_count}
@@ -12,7 +12,8 @@ pub record IsAreaGiven (count first limit : ℕ) : Type 0 where
   pub below : first + count / 512 ≤ limit
   pub limit_fits : limit < 2 ^ 40
 
--- Tables in an area of so many words: no page is mapped, the first frame is the root, and all others are left for tables.
+-- Tables in an area of `count` words: no page is mapped, the first frame is the root, and all others are left for
+-- tables.
 pub record AreBegun (count first limit : ℕ) (tables : TableState) : Type 0 where
   pub empty : (page : ℕ) → leads tables page ≡ None
   pub root : tables.root ≡ first

@@ -61,7 +61,7 @@ range_code (Some range.InArea) = 4
 range_code (Some (range.NoFrames wanting)) = 5
 range_code (Some (range.NotMapped page)) = 6
 
--- what C is told of a refused range, over what was there: the address of a page, or how many frames are wanting
+-- what C is told of a refused range, in place of what was there: the address of a page, or how many frames are wanting
 abbrev pub told_of : Option RangeFault → ℕ → ℕ
 told_of None was = was
 told_of (Some range.NotCanonical) was = was

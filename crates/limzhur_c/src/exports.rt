@@ -11,15 +11,16 @@ ghost use Rattle.dlmalloc.specs.AfterFree.{IsFreed};
 ghost use Rattle.dlmalloc.specs.Shortened.{IsTrimmed};
 ghost use Rattle.dlmalloc.specs.Order.{KeepsIndex};
 ghost use Rattle.heap_arena.specs.Arena.{regions_of, word_of, IsAbove};
-ghost use Rattle.heap_library.specs.declared.heap_error.HeapError.{HeapError};
+ghost use Rattle.sound_heap.specs.declared.heap_error.HeapError.{HeapError};
 ghost use Rattle.heap_library.specs.Counted.{HasBlocks};
-ghost use Rattle.heap_library.specs.Library.{HasBlock, AreZero, usable, IsRequestRefused, IsResizeRefused};
+ghost use Rattle.heap_library.specs.Library.{IsResizeRefused};
+ghost use Rattle.sound_heap.specs.Heap.{HasBlock, AreZero, usable, IsRequestRefused};
 ghost use Rattle.heap_library.specs.Checked.{zeros, follows, refuses, denies, heap_state};
 ghost use Rattle.heap_library.specs.Room.{IsRefused, IsRefusedResize};
 
 use crate::handle::Handle;
 
-/// The address of a block of `size` bytes at a multiple of `align`; 0 where it is refused.
+/// The address of a block of `size` bytes at a multiple of `align`; 0 if it is refused.
 #[unsafe(no_mangle)]
 pub extern "C" fn limzhur_malloc(handle: &mut Handle, size: u64, align: u64) -> u64
     ensures ok { result ≢ 0 → IsHandedOut regions_of word_of follows handle.old.heap size align result handle.new.heap }
@@ -36,7 +37,7 @@ pub extern "C" fn limzhur_malloc(handle: &mut Handle, size: u64, align: u64) -> 
     }
 }
 
-/// The address of a block of `size` bytes of value 0 at a multiple of `align`; 0 where it is refused.
+/// The address of a block of `size` bytes of value 0 at a multiple of `align`; 0 if it is refused.
 #[unsafe(no_mangle)]
 pub extern "C" fn limzhur_calloc(handle: &mut Handle, size: u64, align: u64) -> u64
     ensures ok { result ≢ 0 → IsHandedOut regions_of word_of follows handle.old.heap size align result handle.new.heap }
@@ -54,7 +55,7 @@ pub extern "C" fn limzhur_calloc(handle: &mut Handle, size: u64, align: u64) -> 
     }
 }
 
-/// The address of the block that the block at an address becomes, of another size, at a multiple of 16. 0 where no block
+/// The address of the block that the block at an address becomes, of another size, at a multiple of 16. 0 if no block
 /// begins at the address, or the size is refused; nothing then changes.
 #[unsafe(no_mangle)]
 pub extern "C" fn limzhur_realloc(handle: &mut Handle, address: u64, size: u64) -> u64
@@ -72,7 +73,7 @@ pub extern "C" fn limzhur_realloc(handle: &mut Handle, address: u64, size: u64) 
     }
 }
 
-/// Gives a block back. False where none begins at the address; nothing then changes.
+/// Gives a block back. False if none begins at the address; nothing then changes.
 #[unsafe(no_mangle)]
 pub extern "C" fn limzhur_free(handle: &mut Handle, address: u64) -> bool
     ensures answer { IsTrue result ↔ HasBlock (heap_state handle.old.heap) address }
@@ -82,7 +83,7 @@ pub extern "C" fn limzhur_free(handle: &mut Handle, address: u64) -> bool
     handle.open().free(address)
 }
 
-/// Gives memory back to the arena that no block needs: the top keeps more than `pad` bytes. True exactly where bytes went
+/// Gives memory that no block needs back to the arena: the top keeps more than `pad` bytes. True exactly if bytes went
 /// back.
 #[unsafe(no_mangle)]
 pub extern "C" fn limzhur_trim(handle: &mut Handle, pad: u64) -> bool
@@ -91,7 +92,7 @@ pub extern "C" fn limzhur_trim(handle: &mut Handle, pad: u64) -> bool
     handle.open().trim(pad)
 }
 
-/// Sets the granularity of a heap. False where the number is none; nothing then changes.
+/// Sets the granularity of a heap. False if the number is no granularity; nothing then changes.
 #[unsafe(no_mangle)]
 pub extern "C" fn limzhur_set_granularity(handle: &mut Handle, bytes: u64) -> bool
     ensures answer { IsTrue result ↔ IsGranularity bytes }
@@ -102,8 +103,8 @@ pub extern "C" fn limzhur_set_granularity(handle: &mut Handle, bytes: u64) -> bo
     handle.open().set_granularity(bytes)
 }
 
-/// Sets how many large chunks are freed between two release passes, and begins to count them anew. With 0 there is no such
-/// pass.
+/// Sets how many large chunks are freed between two release passes, and begins to count them anew. 0 stands for the
+/// greatest number.
 #[unsafe(no_mangle)]
 pub extern "C" fn limzhur_set_release_rate(handle: &mut Handle, rate: u64)
     ensures state { heap_state handle.new.heap ≡ record (heap_state handle.old.heap) { rate = rate; countdown = countdown_from rate } }
@@ -113,7 +114,7 @@ pub extern "C" fn limzhur_set_release_rate(handle: &mut Handle, rate: u64)
     handle.open().set_release_rate(rate);
 }
 
-/// The bytes of the block at an address; 0 where none begins there.
+/// The bytes of the block at an address; 0 if none begins there.
 #[unsafe(no_mangle)]
 pub extern "C" fn limzhur_usable_size(handle: &mut Handle, address: u64) -> u64
     ensures some { HasBlock (heap_state handle.old.heap) address → result ≡ usable (heap_state handle.old.heap) address }
@@ -136,7 +137,7 @@ pub struct Stats {
     pub blocks: u64,
 }
 
-/// Tells what a heap holds.
+/// Says what a heap holds.
 #[unsafe(no_mangle)]
 pub extern "C" fn limzhur_stats(handle: &mut Handle, stats: &mut Stats)
     ensures top { handle.old.heap.system.base + stats.new.used ≡ handle.old.heap.system.top }

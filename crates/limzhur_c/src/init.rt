@@ -36,7 +36,7 @@ fn begin(memory: &'static mut [u64], address: u64, granularity: u64) -> CheckedH
     CheckedHeap::over_cleared(memory, address, granularity)
 }
 
-/// The words at a pointer. Who gives them has them no more.
+/// The words at a pointer. Whoever gives them has them no longer.
 pub(crate) unsafe fn words_at(memory: *mut u64, count: usize) -> &'static mut [u64]
     ghost words: { List ℕ }
     requires* memory { sem 𝓛 (lies_at (Array u64 count) full_share memory words) }

@@ -47,8 +47,8 @@ pub struct PlaceOfPage {
     pub fetch: bool,
 }
 
-/// Tells where the page of an address leads. False where it is not mapped, or the address is not canonical; nothing is then
-/// told.
+/// Puts into `place` where the page of an address leads. False if it is not mapped, or the address is not canonical;
+/// then `place` stays.
 #[unsafe(no_mangle)]
 pub extern "C" fn limzhur_lookup(
     handle: &mut TablesHandle,
@@ -133,8 +133,8 @@ pub extern "C" fn limzhur_map(
     }
 }
 
-/// Ends the mapping of the page of an address, and tells its frame. A large page of which it is part is split first. 0 if it did,
-/// and else why it did not: then nothing is changed, and nothing told.
+/// Ends the mapping of the page of an address, and puts its frame into `frame`. A large page of which it is part is
+/// split first. 0 if it did, and else why it did not: then nothing is changed.
 #[unsafe(no_mangle)]
 pub extern "C" fn limzhur_unmap(handle: &mut TablesHandle, address: u64, frame: &mut u64) -> u32
     ensures answer { result ≡ entry_answer handle.old.tables address }
@@ -230,8 +230,8 @@ pub extern "C" fn limzhur_map_large(
     }
 }
 
-/// Ends the mapping of the 2 MiB from an address on, which one entry maps, and tells the first of their frames. 0 if it did,
-/// and else why it did not: then nothing is changed, and nothing told.
+/// Ends the mapping of the 2 MiB from an address on, which one entry maps, and puts the first of their frames into
+/// `frame`. 0 if it did, and else why it did not: then nothing is changed.
 #[unsafe(no_mangle)]
 pub extern "C" fn limzhur_unmap_large(
     handle: &mut TablesHandle,

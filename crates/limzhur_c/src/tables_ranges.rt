@@ -11,7 +11,7 @@ use crate::tables_handle::TablesHandle;
 use kernel_tables::RangeFault;
 use paging_core::{Page, PhysAddr, PhysFrame, Rights, VirtAddr};
 
-/// The number of a refusal, which tells its page or how many frames are wanting.
+/// The number of a refusal, and in `told` its page or how many frames are wanting, if it has either.
 fn refuse(fault: RangeFault, told: &mut u64) -> u32
     ensures code { result ≡ range_code (Some fault) }
     ensures told { told.new ≡ told_of (Some fault) told.old }
@@ -35,8 +35,8 @@ fn refuse(fault: RangeFault, told: &mut u64) -> u32
     }
 }
 
-/// Maps so many pages, from that of an address on, to the frames from `frame` on with the rights. 0 if it did, and else why it
-/// did not: then nothing is changed.
+/// Maps `pages` pages, from that of an address on, to the frames from `frame` on with the rights. 0 if it did, and else
+/// why it did not: then nothing is changed.
 #[unsafe(no_mangle)]
 pub extern "C" fn limzhur_map_range(
     handle: &mut TablesHandle,
@@ -75,8 +75,8 @@ pub extern "C" fn limzhur_map_range(
     }
 }
 
-/// Ends the mapping of so many pages, from that of an address on. A large page that lies in part among them is split first. 0 if it
-/// did, and else why it did not: then nothing is changed.
+/// Ends the mapping of `pages` pages, from that of an address on. A large page that lies in part among them is split
+/// first. 0 if it did, and else why it did not: then nothing is changed.
 #[unsafe(no_mangle)]
 pub extern "C" fn limzhur_unmap_range(
     handle: &mut TablesHandle,
@@ -105,8 +105,8 @@ pub extern "C" fn limzhur_unmap_range(
     }
 }
 
-/// Gives so many pages, from that of an address on, these rights. A large page that lies in part among them is split first. 0 if it
-/// did, and else why it did not: then nothing is changed.
+/// Gives these rights to `pages` pages, from that of an address on. A large page that lies in part among them is split
+/// first. 0 if it did, and else why it did not: then nothing is changed.
 #[unsafe(no_mangle)]
 pub extern "C" fn limzhur_protect_range(
     handle: &mut TablesHandle,

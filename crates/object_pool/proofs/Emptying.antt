@@ -15,6 +15,7 @@ use Rattle.dlmalloc.specs.Released.{releases, left_by_count, taken_back, handed_
 use Rattle.dlmalloc.specs.Trimmed.{cut_of, cut_off, end_released, is_cut, is_trimmed, trim_releases}
 use Rattle.dlmalloc.specs.AfterFree.{after_free, free_releases, is_above_check, regions_after, IsFreed}
 use Rattle.dlmalloc.specs.declared.heap.Dlmalloc.{Dlmalloc}
+use Rattle.sound_heap.specs.Heap.{IsIntact}
 use Rattle.object_pool.specs.Pool.{IsLaidOut, KeepsOthers}
 use Rattle.object_pool.specs.Emptied.{slabs_freed, slab_releases, regions_left, IsRelease, AreFreed, IsEmptied}
 use Rattle.object_pool.proofs.HeapBlocks.{freed_keeps, freed_only}
@@ -63,6 +64,7 @@ slabs_are frees parts unit (slab ∷ slabs) heap =
 
 -- All but the slabs that are left were given back.
 pub record IsEmptying {A : Type 0} (regions : A → List Grant) (word : A → ℕ → ℕ) (follows : A → List Event → A → Type 0) (frees parts : Bool) (unit : ℕ) (old : Dlmalloc A) (slabs : List ℕ) (size : ℕ) (heap : Dlmalloc A) (left : List ℕ) : Type 0 where
+  pub intact : IsIntact regions word heap
   pub laid : IsLaidOut regions word heap size left
   pub few : length left ≤ length slabs
   pub front : (i : ℕ) → i < length left → slice_index left i ≡ slice_index slabs i
@@ -78,8 +80,9 @@ pub record IsEmptying {A : Type 0} (regions : A → List Grant) (word : A → �
   pub rate : heap.rate ≡ old.rate
 
 pub emptying_none : {A : Type 0} (regions : A → List Grant) (word : A → ℕ → ℕ) (follows : A → List Event → A → Type 0) (frees parts : Bool) (unit : ℕ) (heap : Dlmalloc A) (slabs : List ℕ) (size : ℕ) →
-    follows heap.system [] heap.system → IsLaidOut regions word heap size slabs → IsEmptying regions word follows frees parts unit heap slabs size heap slabs
-emptying_none regions word follows frees parts unit heap slabs size followed laid = record {
+    follows heap.system [] heap.system → IsIntact regions word heap → IsLaidOut regions word heap size slabs → IsEmptying regions word follows frees parts unit heap slabs size heap slabs
+emptying_none regions word follows frees parts unit heap slabs size followed intact laid = record {
+  intact = intact;
   laid = laid;
   few = omega arith;
   front = λ i less. refl;
@@ -104,8 +107,8 @@ pub emptied : {A : Type 0} (regions : A → List Grant) (word : A → ℕ → �
 emptied regions word follows frees parts unit old heap slabs size left none e =
     let same : e.back ≡ slabs = sym (e.all ∙ ap (λ (list : List ℕ). list ++ e.back) (none_left left none)) in
     record {
-      sound = e.laid.sound;
-      linked = e.laid.linked;
+      sound = e.intact.sound;
+      linked = e.intact.linked;
       each = subst (λ (list : List ℕ). AreFreed regions word follows frees parts unit old list heap) same e.each;
       kept = e.kept;
       only = λ address n block. (let was = e.only address n block in (was.0, λ i less. was.1 i (omega (arith, none)) less));
@@ -145,9 +148,8 @@ module _ {A : Type 0} (regions : A → List Grant) (word : A → ℕ → ℕ) (f
 
   pub slab_back : IsEmptying regions word follows frees parts unit old slabs size new rest
   slab_back = record {
+    intact = record { sound = back.sound; linked = linked };
     laid = record {
-      sound = back.sound;
-      linked = linked;
       some = e.laid.some;
       small = e.laid.small;
       blocks = λ i less. subst (λ a. IsBlock (state_of word new) a (64 * size)) (sym (same i less))
@@ -174,7 +176,7 @@ module _ {A : Type 0} (regions : A → List Grant) (word : A → ℕ → ℕ) (f
           ],
         );
     back = address ∷ e.back;
-    each = (heap, e.each, e.laid.linked, back);
+    each = (heap, e.each, e.intact.linked, back);
     all = e.all ∙ (ap (λ (list : List ℕ). list ++ e.back) is ∙ append_assoc rest (address ∷ []) e.back);
     state = back.state ∙ ap (λ (h : HeapState). after_free frees parts unit (freed h (address - 16)) (address - 16)) e.state;
     followed = follows_on old.system heap.system new.system (slab_releases frees parts unit e.back (state_of word old)) (free_releases frees parts unit (freed (state_of word heap) (address - 16)) (address - 16))

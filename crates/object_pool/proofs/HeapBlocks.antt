@@ -167,9 +167,10 @@ module _ {A : Type 0} (regions : A → List Grant) (word : A → ℕ → ℕ) (h
   pub written_index : OrderRestsOutside regions word heap → IsSound regions word heap → regions system ≡ regions heap.system → KeepsIndex regions word heap (record heap { system = system })
   written_index rests sound same = rests sound system (same_regions regions (state_of word heap) heap.system system same) outside
 
+module _ {A : Type 0} (regions : A → List Grant) (word : A → ℕ → ℕ) (heap new : Dlmalloc A) (address size : ℕ) (block : IsBlock (state_of word heap) address size) (placed : ArePlaced (regions heap.system) (state_of word heap))
+    (at : ℕ) (bytes : List ℕ) (count : ℕ) (from : address ≤ at) (to : at + count ≤ address + size) (written : IsWritten (regions heap.system) (word heap.system) at bytes count (word new.system)) where
   -- every other block has the bytes that it had
-  pub written_keeps : BlocksAreApart (state_of word heap) → state_of word (record heap { system = system }) ≡ state_of word heap →
-      (other n : ℕ) → IsBlock (state_of word heap) other n → other ≢ address → IsBlockKept word heap other n (record heap { system = system })
+  pub written_keeps : BlocksAreApart (state_of word heap) → state_of word new ≡ state_of word heap → (other n : ℕ) → IsBlock (state_of word heap) other n → other ≢ address → IsBlockKept word heap other n new
   written_keeps apart state other n b differ = record {
     block = subst (λ (h : HeapState). IsBlock h other n) (sym state) b;
     bytes = λ k less. written.elsewhere (other + k) ((placed other n b).granted (other + k) (omega arith) (omega arith))

@@ -9,16 +9,13 @@ use Rattle.dlmalloc_chunks.specs.Request.{limit}
 use Rattle.dlmalloc_chunks.proofs.Powers.{power_small}
 use Rattle.dlmalloc.specs.State.{HeapState}
 use Rattle.dlmalloc.specs.Blocks.{IsBlock, ArePlaced, BlocksAreApart}
-use Rattle.dlmalloc.specs.Heap.{state_of, IsSound, IsGranularity}
-use Rattle.dlmalloc.specs.Binned.{IsBinned}
+use Rattle.dlmalloc.specs.Heap.{state_of, IsGranularity}
 use Rattle.dlmalloc.specs.Requested.{IsHandedOut}
-use Rattle.dlmalloc.specs.Order.{KeepsIndex}
-use Rattle.dlmalloc.specs.Served.{RestsOutside, OrderRestsOutside}
 use Rattle.dlmalloc.specs.declared.heap.Dlmalloc.{Dlmalloc}
 use Rattle.object_pool.specs.Bytes.{bytes_at, AreGranted, IsWritten}
-use Rattle.object_pool.specs.Pool.{place_of, bytes_of, IsLaidOut, KeepsOthers, PlacesAreApart}
+use Rattle.object_pool.specs.Pool.{place_of, bytes_of, AreInBlock, IsLaidOut, KeepsOthers, PlacesAreApart, StaysInState}
 use Rattle.object_pool.proofs.ByteRuns.{bytes_same, bytes_are}
-use Rattle.object_pool.proofs.HeapBlocks.{handed_keeps, handed_fresh, written_rests, written_index, written_keeps}
+use Rattle.object_pool.proofs.HeapBlocks.{handed_keeps, handed_fresh, written_keeps}
 use Rattle.object_pool.proofs.Numbers.{lt_or_le, same_or_other}
 
 -- ---- where objects lie
@@ -70,51 +67,48 @@ module _ {A : Type 0} (regions : A → List Grant) (word : A → ℕ → ℕ) (h
 
   -- ---- an object is written
 
-  module _ (placed : ArePlaced (regions heap.system) (state_of word heap)) (apart : BlocksAreApart (state_of word heap)) (rests : RestsOutside regions word heap)
-      (index : ℕ) (less : index < 64 * length slabs) (system : A) (same : regions system ≡ regions heap.system) (bytes : List ℕ) (many : length bytes ≡ size)
-      (written : IsWritten (regions heap.system) (word heap.system) (place_of slabs size index) bytes (length bytes) (word system)) where
-    abbrev new : Dlmalloc A
-    new = record heap { system = system }
+  pub object_inside : (index : ℕ) → index < 64 * length slabs → (count at : ℕ) → count ≡ size → at ≡ place_of slabs size index → AreInBlock (state_of word heap) at count
+  object_inside index less count at many is =
+      let end = place_ends index in
+      record {
+        block = slice_index slabs (index / 64);
+        held = 64 * size;
+        is = slab_block index less;
+        low = omega (arith, is);
+        within = omega (arith, is, many, end);
+      }
 
+  module _ (placed : ArePlaced (regions heap.system) (state_of word heap)) (apart : BlocksAreApart (state_of word heap)) (follows : A → List Event → A → Type 0)
+      (index : ℕ) (less : index < 64 * length slabs) (new : Dlmalloc A) (stays : StaysInState regions word follows heap new) (bytes : List ℕ) (many : length bytes ≡ size)
+      (written : IsWritten (regions heap.system) (word heap.system) (place_of slabs size index) bytes (length bytes) (word new.system)) where
     within : place_of slabs size index + length bytes ≤ slice_index slabs (index / 64) + 64 * size
     within = let end = place_ends index in omega (arith, end, many)
 
-    rest : IsSound regions word new × (state_of word new ≡ state_of word heap) × (IsBinned regions word heap → IsBinned regions word new)
-    rest = written_rests regions word heap system (slice_index slabs (index / 64)) (64 * size) (slab_block index less) placed (place_of slabs size index) bytes (length bytes) (omega arith) within written rests laid.sound same
-
-    pub written_state : state_of word new ≡ state_of word heap
-    written_state = rest.1
-
-    pub written_order : OrderRestsOutside regions word heap → KeepsIndex regions word heap new
-    written_order ordered = written_index regions word heap system (slice_index slabs (index / 64)) (64 * size) (slab_block index less) placed (place_of slabs size index) bytes (length bytes) (omega arith) within written ordered laid.sound same
-
     pub written_laid : IsLaidOut regions word new size slabs
     written_laid = record {
-      sound = rest.0;
-      linked = rest.2 laid.linked;
       some = laid.some;
       small = laid.small;
-      blocks = λ i there. subst (λ (h : HeapState). IsBlock h (slice_index slabs i) (64 * size)) (sym written_state) (laid.blocks i there);
+      blocks = λ i there. subst (λ (h : HeapState). IsBlock h (slice_index slabs i) (64 * size)) (sym stays.state) (laid.blocks i there);
       distinct = laid.distinct;
     }
 
     pub written_here : bytes_of word new slabs size index ≡ bytes
-    written_here = subst (λ n. bytes_at (word system) (place_of slabs size index) n ≡ bytes) many (bytes_are (word system) (place_of slabs size index) bytes written.here)
+    written_here = subst (λ n. bytes_at (word new.system) (place_of slabs size index) n ≡ bytes) many (bytes_are (word new.system) (place_of slabs size index) bytes written.here)
 
     pub written_others : (other : ℕ) → other < 64 * length slabs → other ≢ index → bytes_of word new slabs size other ≡ bytes_of word heap slabs size other
-    written_others other there differ = bytes_same (word heap.system) (word system) (place_of slabs size other) size (λ k below.
+    written_others other there differ = bytes_same (word heap.system) (word new.system) (place_of slabs size other) size (λ k below.
         written.elsewhere (place_of slabs size other + k) (place_granted placed other there (place_of slabs size other + k) (omega arith) (omega arith))
         (elim (places_apart apart other index there less differ) [ inl before ↦ inl (omega (arith, before, below)) | inr behind ↦ inr (omega (arith, behind, many)) ]))
 
     pub written_kept : KeepsOthers word slabs heap new
     written_kept address n block none =
-        written_keeps regions word heap system (slice_index slabs (index / 64)) (64 * size) (slab_block index less) placed (place_of slabs size index) bytes (length bytes) (omega arith) within written apart written_state
+        written_keeps regions word heap new (slice_index slabs (index / 64)) (64 * size) (slab_block index less) placed (place_of slabs size index) bytes (length bytes) (omega arith) within written apart stays.state
         address n block (λ e. none (index / 64) (slab_there index less) (sym e))
 
   -- ---- a slab more
 
   module _ (follows : A → List Event → A → Type 0) (new : Dlmalloc A) (address : ℕ) (placed : ArePlaced (regions heap.system) (state_of word heap))
-      (out : IsHandedOut regions word follows heap (64 * size) 16 address new) (linked : IsBinned regions word new) where
+      (out : IsHandedOut regions word follows heap (64 * size) 16 address new) where
     slab_other : (i : ℕ) → i < length slabs → slice_index slabs i ≢ address
     slab_other i there same = handed_fresh regions word follows heap new (64 * size) 16 address placed out (64 * size) (subst (λ a. IsBlock (state_of word heap) a (64 * size)) same (laid.blocks i there))
 
@@ -132,8 +126,6 @@ module _ {A : Type 0} (regions : A → List Grant) (word : A → ℕ → ℕ) (h
 
     pub added_laid : IsLaidOut regions word new size (slabs ++ address ∷ [])
     added_laid = record {
-      sound = out.sound;
-      linked = linked;
       some = laid.some;
       small = laid.small;
       blocks = λ i there. elim (lt_or_le i (length slabs)) [

@@ -8,17 +8,16 @@ use Rattle.heap_memory.specs.Regions.{is_granted, IsWordOf}
 abbrev pub byte_in : (ℕ → ℕ) → ℕ → ℕ
 byte_in words at = slice_index (to_le_bytes w64 (words (at - at % 8))) (at % 8)
 
--- so many bytes from an address on
+-- this many bytes from an address on
 abbrev pub bytes_at : (ℕ → ℕ) → ℕ → ℕ → List ℕ
 bytes_at words at zero = []
 bytes_at words at (suc count) = byte_in words at ∷ bytes_at words (at + 1) count
 
--- so many bytes from an address on are granted
+-- this many bytes from an address on are granted
 abbrev pub AreGranted : List Grant → ℕ → ℕ → Type 0
 AreGranted regions at count = (k : ℕ) → at ≤ k → k < at + count → IsTrue (is_granted regions k)
 
--- the first so many of these bytes were put at an address, and every other granted byte stays, and every word that has none
--- of them
+-- The first `count` of these bytes were put at an address. Every other granted byte stays, and every word that has none of them.
 pub record IsWritten (regions : List Grant) (old : ℕ → ℕ) (at : ℕ) (bytes : List ℕ) (count : ℕ) (new : ℕ → ℕ) : Type 0 where
   pub here : (k : ℕ) → k < count → byte_in new (at + k) ≡ slice_index bytes k
   pub elsewhere : (k : ℕ) → IsTrue (is_granted regions k) → (k < at) ⊎ (at + count ≤ k) → byte_in new k ≡ byte_in old k

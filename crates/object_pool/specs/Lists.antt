@@ -37,7 +37,7 @@ abbrev pub index_count : List Entry → ℕ
 index_count [] = 0
 index_count (entry ∷ entries) = max (entry.key.index + 1) (index_count entries)
 
--- the entries, where that of a key has other bytes or none
+-- the entries, if that of a key has other bytes or none
 abbrev pub with_bytes : Key → Option (List ℕ) → List Entry → List Entry
 with_bytes key bytes entries = map (λ entry. if is_of key entry then record entry { bytes = bytes } else entry) entries
 
@@ -60,7 +60,7 @@ inserted bytes lists = record {
 abbrev pub replaced : Key → List ℕ → Lists → Lists
 replaced key bytes lists = record lists { entries = with_bytes key (Some bytes) lists.entries }
 
--- a slot is not used again where its index had 2 ^ 32 - 1 entries
+-- a slot is not used again if its index had 2 ^ 32 - 1 entries
 abbrev pub removed : Key → Lists → Lists
 removed key lists = record {
   entries = with_bytes key None lists.entries;
@@ -73,7 +73,7 @@ removed key lists = record {
 abbrev pub object_count : List Entry → ℕ
 object_count entries = length (filter (λ entry. is_some entry.bytes) entries)
 
--- the keys of the objects at so many indexes from one on, in the order of the indexes
+-- the keys of the objects at this many indexes from one on, in the order of the indexes
 abbrev pub keys_at : ℕ → ℕ → List Entry → List Key
 keys_at index zero entries = []
 keys_at index (suc count) entries = map (λ (entry : Entry). entry.key) (filter (λ (entry : Entry). is_some entry.bytes) (entries_at index entries)) ++ keys_at (index + 1) count entries

@@ -5,8 +5,8 @@ use Rattle.heap_memory.specs.declared.grant.GrantFault.{GrantFault}
 use Rattle.heap_memory.specs.Events.{Event}
 use Rattle.dlmalloc_chunks.specs.Request.{padded}
 use Rattle.dlmalloc.specs.declared.heap.Dlmalloc.{Dlmalloc}
-use Rattle.dlmalloc.specs.Heap.{state_of, IsSound}
-use Rattle.dlmalloc.specs.Binned.{IsBinned}
+use Rattle.dlmalloc.specs.State.{HeapState}
+use Rattle.dlmalloc.specs.Heap.{state_of}
 use Rattle.dlmalloc.specs.Blocks.{IsBlock}
 use Rattle.dlmalloc.specs.Grown.{IsAsItWas}
 use Rattle.dlmalloc.specs.declared.malloc_error.MallocError.TheVariants.{System}
@@ -23,7 +23,7 @@ use Rattle.object_pool.specs.Slots.{slot_at, used_count}
 
 -- ---- where objects lie
 
--- the place of a slot: 64 slots stand in a slab, one behind the other
+-- the place of a slot: 64 slots stand in a slab, one after the other
 abbrev pub place_of : List ℕ → ℕ → ℕ → ℕ
 place_of slabs size index = slice_index slabs (index / 64) + size * (index % 64)
 
@@ -31,14 +31,20 @@ place_of slabs size index = slice_index slabs (index / 64) + size * (index % 64)
 abbrev pub bytes_of : {A : Type 0} → (A → ℕ → ℕ) → Dlmalloc A → List ℕ → ℕ → ℕ → List ℕ
 bytes_of word heap slabs size index = bytes_at (word heap.system) (place_of slabs size index) size
 
+-- this many bytes from an address on are in one block
+pub record AreInBlock (heap : HeapState) (address count : ℕ) : Type 0 where
+  pub block : ℕ
+  pub held : ℕ
+  pub is : IsBlock heap block held
+  pub low : block ≤ address
+  pub within : address + count ≤ block + held
+
 -- no slab begins at an address
 abbrev pub IsNoSlab : List ℕ → ℕ → Type 0
 IsNoSlab slabs address = (i : ℕ) → i < length slabs → slice_index slabs i ≢ address
 
--- The heap is sound, and each slab is a block of it, which has room for 64 objects; no two slabs are one block.
+-- Each slab is a block of the heap, which has room for 64 objects; no two slabs are one block.
 pub record IsLaidOut {A : Type 0} (regions : A → List Grant) (word : A → ℕ → ℕ) (heap : Dlmalloc A) (size : ℕ) (slabs : List ℕ) : Type 0 where
-  pub sound : IsSound regions word heap
-  pub linked : IsBinned regions word heap
   pub some : 0 < size
   pub small : size ≤ 4096
   pub blocks : (i : ℕ) → i < length slabs → IsBlock (state_of word heap) (slice_index slabs i) (64 * size)
@@ -73,7 +79,7 @@ pub record StaysInState {A : Type 0} (regions : A → List Grant) (word : A → 
   pub index : KeepsIndex regions word old new
 
 -- The heap served one request, for the slab at an address: it was cut from what the heap had, or from a region of its system
--- where it had no room.
+-- if it had no room.
 unfoldable pub HasServed : {A : Type 0} → (A → List Grant) → (A → ℕ → ℕ) → (A → List Event → A → Type 0) → Dlmalloc A → ℕ → ℕ → Dlmalloc A → Type 0
 HasServed regions word follows old size address new = IsObtained follows regions old.system (state_of word old) (padded (64 * size)) (address - 16) new.system (state_of word new)
 
@@ -109,7 +115,7 @@ past index (suc generation) = past index generation ++ (record { key = record { 
 abbrev pub present : ℕ → Slot → List ℕ → List Entry
 present index slot bytes = if slot.used then (record { key = record { index = index; generation = slot.generation }; bytes = Some bytes }) ∷ [] else []
 
--- Slots hold the entries, where an object at a slot has these bytes.
+-- Slots hold the entries, if an object at a slot has these bytes.
 pub record Holds (slots : List Slot) (freed : List ℕ) (bytes : ℕ → List ℕ) (lists : Lists) : Type 0 where
   -- the entries of an index, in the order inserted, are those of the objects that were removed from its slot, and then that of
   -- the object in it
@@ -134,13 +140,13 @@ pub record Keeps {A : Type 0} (word : A → ℕ → ℕ) (old new : Pooled A) : 
   pub size : new.size ≡ old.size
   pub blocks : KeepsOthers word old.slabs old.heap new.heap
 
--- A slab was taken, where no slot was free; or the slabs are the same, and the heap stays in its state.
+-- A slab was taken, if no slot was free; or the slabs are the same, and the heap stays in its state.
 abbrev pub TakesSlabIfNeeded : {A : Type 0} → (A → List Grant) → (A → ℕ → ℕ) → (A → List Event → A → Type 0) → Pooled A → Lists → Pooled A → Type 0
 TakesSlabIfNeeded regions word follows old lists new =
     (LacksSlot lists × IsAdded regions word follows old.heap old.size old.slabs new.heap new.slabs)
     ⊎ ((new.slabs ≡ old.slabs) × StaysInState regions word follows old.heap new.heap)
 
--- A slot is free: where none was, a slab was taken, and else all is as it was.
+-- A slot is free: if none was, a slab was taken, and else all is as it was.
 pub record HasRoom {A : Type 0} (regions : A → List Grant) (word : A → ℕ → ℕ) (follows : A → List Event → A → Type 0) (old new : Pooled A) : Type 0 where
   pub kept : KeepsAll word old.heap new.heap
   pub others : new ≡ record old { heap = new.heap; slabs = new.slabs }

@@ -4,7 +4,7 @@ use Rattle.std.specs.List.{count_by}
 use Rattle.object_pool.specs.declared.key.Key.{Key}
 use Rattle.object_pool.specs.declared.slots.Slot.{Slot}
 
--- the slot of an index: one that was never used where there is none
+-- the slot of an index: one that was never used if there is none
 abbrev pub slot_at : List Slot → ℕ → Slot
 slot_at slots index = slice_index_or slots index (record { generation = 0; used = false })
 

@@ -1,4 +1,4 @@
-// Bytes of granted memory, in a row: whole words at once, and the bytes before and behind them one by one.
+// Bytes of granted memory, in a row: whole words at once, and the bytes before and after them one by one.
 ghost use Rattle.std.specs.Prelude.{◌≡◌, ℕ, ◌+◌, ◌*◌, ◌%◌, ◌<◌, ◌≤◌, [], IfOk, OnOk, length, slice_index};
 ghost use Rattle.std.specs.Int.{w64, to_le_bytes};
 ghost use Rattle.object_pool.specs.Bytes.{AreGranted, bytes_at, IsWritten};
@@ -28,7 +28,7 @@ fn word_of_bytes(bytes: &[u8], place: usize) -> u64
     u64::from_le_bytes(word)
 }
 
-/// Reads bytes one by one behind the first `done`, until those from the address on are `count`.
+/// Reads bytes one by one after the first `done`, until those from the address on are `count`.
 fn read_each<M: Memory>(
     memory: &M,
     address: u64,
@@ -47,7 +47,7 @@ fn read_each<M: Memory>(
     Ok(())
 }
 
-/// Reads so many words behind the first `done` bytes from the address on.
+/// Reads the given number of words after the first `done` bytes from the address on.
 fn read_words<M: Memory>(
     memory: &M,
     address: u64,

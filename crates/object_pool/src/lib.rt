@@ -10,11 +10,11 @@
 //! The objects lie in slabs of 64, each of which is a block of a heap. So they are in the memory of that heap and not in the
 //! host's, and its other blocks stand beside them and keep their bytes. Slabs stay until `finish`.
 //!
-//! Use it where objects have one size of 1 to 4096 bytes. Where sizes differ, ask the heap for blocks.
+//! Use it if objects have one size of 1 to 4096 bytes. If sizes differ, ask the heap for blocks.
 //!
 //! # An example
 //!
-//!     let heap = Dlmalloc::new_with_allocator(system);
+//!     let heap = Heap::new(system);
 //!     let mut pool = Pool::new(alloc, heap, 24);
 //!     let key = pool.insert(&[1; 24])?;     // Key { index: 0, generation: 0 }
 //!     let other = pool.insert(&[2; 24])?;   // Key { index: 1, generation: 0 }
@@ -30,11 +30,11 @@
 //! # What calls cost, and when they fail
 //!
 //! `get`, `set`, `remove` and an `insert` that finds a free slot cost what the size of an object costs, however many objects
-//! there are; bytes move by words where these are whole. An `insert` without a free slot takes a slab first. A step of `keys`
+//! there are; bytes move by words if these are whole. An `insert` without a free slot takes a slab first. A step of `keys`
 //! looks at the slots that it passes. Only `insert`, for a slab, and `get`, for the bytes that it answers, take memory.
 //!
-//! An `insert` fails only where no slot is free, with a `PoolFault` that says why, and leaves all as it was. It asks the heap's
-//! system for a region only where the heap has no room for a slab.
+//! An `insert` fails only if no slot is free, with a `PoolFault` that says why, and leaves all as it was. It asks the heap's
+//! system for a region only if the heap has no room for a slab.
 //!
 //! # What is proved
 //!
@@ -56,6 +56,7 @@ pub use keys::Keys;
 pub use pool::Pool;
 pub use pool_fault::PoolFault;
 pub use public_list::PublicList;
+pub use sound_heap::Heap;
 
 /// Bytes, as a list.
 pub type Bytes = PublicList<u8>;

@@ -1,8 +1,6 @@
 //! The pool.
 ghost use Rattle.std.specs.Prelude.{◌≡◌, ◌≢◌, ℕ, ◌+◌, ◌-◌, ◌*◌, ◌/◌, ◌^◌, ◌<◌, ◌≤◌, Bool, true, false, if◌then◌else◌, [], ◌∷◌, ◌++◌, IfOk, IfErr, OnErr, OnOk, Some, None, Err, IsSome, IsTrue, ◌↔◌, length, vec_len, vec_capacity};
 ghost use Rattle.dlmalloc_chunks.specs.Request.{padded};
-ghost use Rattle.dlmalloc.specs.Binned.{IsBinned};
-ghost use Rattle.dlmalloc.specs.Heap.{IsSound};
 ghost use Rattle.object_pool.specs.Lists.{Lists, empty, object_of, object_count, slab_count, next_key, keys_of, inserted, replaced, removed, LacksSlot, IsFull};
 
 use crate::Bytes;
@@ -11,8 +9,8 @@ use crate::keys::Keys;
 use crate::pool_fault::PoolFault;
 use crate::slabs::{SLOTS, Slabs};
 use crate::slots::Slots;
-use dlmalloc::Dlmalloc;
 use heap_memory::{Allocator, Links, Memory};
+use sound_heap::Heap;
 use std::alloc::{AllocError, Global};
 use std::marker::Model;
 
@@ -60,11 +58,9 @@ impl<A: Allocator + Memory> Pool<A> {
     ghost use Rattle.object_pool.specs.Pool.{HasRoom, IsAdded, IsLaidOut, IsPoolRefused, IsRefusedBy, IsUnchanged, Keeps, KeepsAll, PlacesAreApart, Stands, StaysInState, TakesSlabIfNeeded};
 
     /// A pool without objects or slabs, for objects of `size` bytes, over a heap.
-    pub fn new(alloc: Global, heap: Dlmalloc<A>, size: u64) -> Pool<A>
+    pub fn new(alloc: Global, heap: Heap<A>, size: u64) -> Pool<A>
         requires some { 0 < size }
         requires small { size ≤ 4096 }
-        requires sound { IsSound A.regions A.word heap }
-        requires linked { IsBinned A.regions A.word heap }
         ensures is { result ≡ record { heap = heap; size = size; slabs = []; slots = []; freed = [] } }
         ensures stands { Stands A.word result empty }
     {
@@ -80,7 +76,7 @@ impl<A: Allocator + Memory> Pool<A> {
     }
 
     /// Inserts an object, and answers its key. It uses the slot freed last, else the lowest that was never used, and takes a
-    /// slab only where no slot is free. An `Err` changes nothing, but where the heap's
+    /// slab only if no slot is free. An `Err` changes nothing, unless the heap's
     /// system denied a region: what it denies next may be other.
     pub fn insert(&mut self, bytes: &[u8]) -> Result<Key, PoolFault>
         requires many { length bytes.now ≡ self.old.size }
@@ -107,7 +103,7 @@ impl<A: Allocator + Memory> Pool<A> {
         self.slots.none_freed() && self.slots.len() == SLOTS * self.slabs.len()
     }
 
-    /// Takes a slab where no slot is free.
+    /// Takes a slab if no slot is free.
     fn make_room(&mut self) -> Result<(), PoolFault>
         ensures laid { IsLaidOut A.regions A.word self.old.heap self.old.size self.old.slabs }
         ensures within { length self.old.slots ≤ 64 * length self.old.slabs }
@@ -124,7 +120,7 @@ impl<A: Allocator + Memory> Pool<A> {
         self.add_slab()
     }
 
-    /// Takes a slab more, where no slot is free. Every place that its slots need is reserved before the heap is asked.
+    /// Takes one more slab if no slot is free. Every place that its slots need is reserved before the heap is asked.
     fn add_slab(&mut self) -> Result<(), PoolFault>
         requires lacks { (self.old.freed ≡ []) × (length self.old.slots ≡ 64 * length self.old.slabs) }
         ensures added { OnOk result (IsAdded A.regions A.word A.follows self.old.heap self.old.size self.old.slabs self.new.heap self.new.slabs) }
@@ -146,7 +142,7 @@ impl<A: Allocator + Memory> Pool<A> {
         }
     }
 
-    /// The bytes of a key's object. None exactly where the key has no object.
+    /// The bytes of a key's object. None exactly if the key has no object.
     pub fn get(&self, key: Key) -> Result<Option<Bytes>, AllocError>
         ensures ok { (lists : Lists) → Stands A.word self.now lists → IfOk result (λ object. object ≡ object_of key lists.entries) }
         ensures err { (lists : Lists) → Stands A.word self.now lists → OnErr result (IsSome (object_of key lists.entries)) }
@@ -157,7 +153,7 @@ impl<A: Allocator + Memory> Pool<A> {
         Ok(Some(self.slabs.read(self.alloc, key.index)?))
     }
 
-    /// Gives a key's object other bytes. False exactly where the key has no object; then nothing changes. It takes no memory.
+    /// Gives a key's object other bytes. False exactly if the key has no object; then nothing changes. It takes no memory.
     pub fn set(&mut self, key: Key, bytes: &[u8]) -> bool
         requires many { length bytes.now ≡ self.old.size }
         ensures answer { (lists : Lists) → Stands A.word self.old lists → IsTrue result ↔ IsSome (object_of key lists.entries) }
@@ -174,7 +170,7 @@ impl<A: Allocator + Memory> Pool<A> {
         true
     }
 
-    /// Removes a key's object. False exactly where the key has no object; then nothing changes. The slot is free, unless it was
+    /// Removes a key's object. False exactly if the key has no object; then nothing changes. The slot is free, unless it was
     /// its last generation. It takes no memory.
     pub fn remove(&mut self, key: Key) -> bool
         ensures answer { (lists : Lists) → Stands A.word self.old lists → IsTrue result ↔ IsSome (object_of key lists.entries) }
@@ -213,8 +209,8 @@ impl<A: Allocator + Memory> Pool<A> {
         self.slabs.len()
     }
 
-    /// The heap. It is sound, and each slab is a block of it.
-    pub fn heap(&self) -> &Dlmalloc<A>
+    /// The heap. Each slab is a block of it.
+    pub fn heap(&self) -> &Heap<A>
         ensures heap { result.now ≡ self.now.heap }
         ensures laid { IsLaidOut A.regions A.word self.now.heap self.now.size self.now.slabs }
     {
@@ -231,7 +227,7 @@ impl<A: Allocator + Memory> Pool<A> {
     /// Gives every slab back, the one taken last first, and answers the heap: the blocks that are no slabs stand in it with the
     /// bytes that they had. It asks the heap's system for nothing; what that gets back is what these frees give back, and its
     /// bins are in the order that they leave.
-    pub fn finish(self) -> Dlmalloc<A>
+    pub fn finish(self) -> Heap<A>
         ensures { IsEmptied A.regions A.word A.follows (A.frees self.heap.system) (A.parts self.heap.system) (A.unit self.heap.system) self.heap self.slabs result }
     {
         self.slabs.free_all()

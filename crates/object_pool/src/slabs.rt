@@ -8,18 +8,17 @@ ghost use Rattle.dlmalloc.specs.Grown.{IsAsItWas};
 ghost use Rattle.dlmalloc.specs.Heap.{state_of, IsGranularity, IsSound};
 ghost use Rattle.dlmalloc.specs.Requested.{IsHandedOut, IsMemberServed, IsServedAt};
 ghost use Rattle.dlmalloc.specs.Served.{IsDenied, IsRefusedWith, refused_events};
-ghost use Rattle.object_pool.specs.Bytes.{AreGranted};
+ghost use Rattle.sound_heap.specs.Heap.{HasBlock};
+ghost use Rattle.object_pool.specs.Bytes.{AreGranted, IsWritten};
 ghost use Rattle.object_pool.specs.Emptied.{IsEmptied};
-ghost use Rattle.object_pool.specs.Pool.{bytes_of, place_of, IsAdded, IsLaidOut, KeepsAll, KeepsOthers, StaysInState};
+ghost use Rattle.object_pool.specs.Pool.{AreInBlock, bytes_of, place_of, IsAdded, IsLaidOut, KeepsAll, KeepsOthers, StaysInState};
 
 use crate::Bytes;
 use crate::bytes::{read_bytes, write_bytes};
-use dlmalloc::{Dlmalloc, MallocError};
+use dlmalloc::MallocError;
 use heap_memory::{Allocator, GrantFault, Links, Memory};
+use sound_heap::Heap;
 use std::alloc::{AllocError, Global};
-use std::marker::Brand;
-use std::sync::ledger::{Blank, Ledger};
-use step_count::Steps;
 
 /// How many slots stand in a slab.
 pub(crate) const SLOTS: u64 = 64;
@@ -30,7 +29,7 @@ const ALIGNMENT: u64 = 16;
 /// Slabs of a heap, for objects of a size.
 #[derive(Drop)]
 pub(crate) struct Slabs<A: Allocator> {
-    pub(crate) heap: Dlmalloc<A>,
+    pub(crate) heap: Heap<A>,
     pub(crate) size: u64,
     /// Where the slabs begin.
     pub(crate) places: Vec<u64>,
@@ -43,48 +42,28 @@ fn slabs_are_small(granularity: u64, size: u64)
     ensures { size < limit granularity }
 {}
 
-/// Asks a heap for a block of `size` bytes, with a counter of its own. The blocks before and after are placed.
-fn take_block<A: Allocator, L: Ledger>(
-    heap: &mut Dlmalloc<A>,
-    size: u64,
-    blank: Blank,
-) -> Result<u64, MallocError>
-    requires name { blank.name ≡ L.name }
-    requires parts { blank.parts ≡ L.parts }
-    requires some { 0 < blank.parts }
-    requires sound { IsSound A.regions A.word heap.old }
-    requires linked { IsBinned A.regions A.word heap.old }
-    ensures ok { IfOk result (λ address. IsHandedOut A.regions A.word A.follows heap.old size 16 address heap.new) }
-    ensures served { IfOk result (λ address. IsServedAt A.regions A.word A.zeros A.follows heap.old size 16 address heap.new) }
-    ensures member { IfOk result (λ address. IsMemberServed A.regions A.word heap.old size 16 address) }
-    ensures err { IfErr result (λ error. IsRefusedWith A.regions A.word A.follows A.refuses A.denies heap.old size error heap.new) }
-    ensures sound { IsSound A.regions A.word heap.new }
-    ensures linked { IsBinned A.regions A.word heap.new }
-    ensures placed { ArePlaced (A.regions heap.old.system) (state_of A.word heap.old) }
+/// Puts bytes at an address of a block. The heap stays in its state, and no other byte of a region changes.
+fn put_bytes<A: Allocator + Memory>(heap: &mut Heap<A>, address: u64, bytes: &[u8])
+    requires inside { AreInBlock (state_of A.word heap.old) address (length bytes.now) }
+    ensures written { IsWritten (A.regions heap.old.system) (A.word heap.old.system) address bytes.now (length bytes.now) (A.word heap.new.system) }
+    ensures stays { StaysInState A.regions A.word A.follows heap.old heap.new }
 {
-    heap.blocks_are_placed();
-    heap.malloc(size, ALIGNMENT, &mut Steps::<L>::new(blank))
+    heap.heap.blocks_are_placed();
+    heap.heap.rests_outside();
+    heap.heap.order_rests_outside();
+    write_bytes(heap.heap.allocator_mut(), address, bytes);
 }
 
-/// Gives a block of a heap back, with a counter of its own. The blocks before and after are placed.
-fn free_block<A: Allocator, L: Ledger>(
-    heap: &mut Dlmalloc<A>,
-    address: u64,
-    size: u64,
-    blank: Blank,
-)
-    requires name { blank.name ≡ L.name }
-    requires parts { blank.parts ≡ L.parts }
-    requires some { 0 < blank.parts }
-    requires sound { IsSound A.regions A.word heap.old }
-    requires linked { IsBinned A.regions A.word heap.old }
-    requires block { IsBlock (state_of A.word heap.old) address size }
+/// Gives a slab back. The blocks before are placed.
+fn free_slab<A: Allocator>(heap: &mut Heap<A>, address: u64)
+    requires block { HasBlock (state_of A.word heap.old) address }
     ensures freed { IsFreed A.regions A.word A.follows (A.frees heap.old.system) (A.parts heap.old.system) (A.unit heap.old.system) heap.old address heap.new }
     ensures linked { IsBinned A.regions A.word heap.new }
     ensures placed { ArePlaced (A.regions heap.old.system) (state_of A.word heap.old) }
 {
     heap.blocks_are_placed();
-    heap.free(address, size, ALIGNMENT, &mut Steps::<L>::new(blank));
+    heap.free(address);
+    heap.is_intact();
 }
 
 impl<A: Allocator + Memory> Slabs<A> {
@@ -114,7 +93,7 @@ impl<A: Allocator + Memory> Slabs<A> {
         ensures { IfOk result (λ bytes. bytes ≡ bytes_of A.word self.now.heap self.now.places.items self.now.size index) }
     {
         let place = self.place(index);
-        let bytes = read_bytes(self.heap.allocator(), alloc, place, self.size)?;
+        let bytes = read_bytes(self.heap.system(), alloc, place, self.size)?;
         Ok(Bytes::from_vec(bytes))
     }
 
@@ -135,9 +114,7 @@ impl<A: Allocator + Memory> Slabs<A> {
         let place = self.place(index);
         self.heap.blocks_are_placed();
         self.heap.blocks_are_apart();
-        self.heap.rests_outside();
-        self.heap.order_rests_outside();
-        write_bytes(self.heap.allocator_mut(), place, bytes);
+        put_bytes(&mut self.heap, place, bytes);
     }
 
     /// Takes one more slab of the heap. It has a place in the list.
@@ -152,8 +129,10 @@ impl<A: Allocator + Memory> Slabs<A> {
         ensures err { IfErr result (λ fault. IsAsItWas A.regions A.word A.follows A.refuses (refused_events (state_of A.word self.old.heap) (64 * self.old.size) (MallocError.System fault)) self.old.heap self.new.heap) }
         ensures denied { IfErr result (λ fault. IsDenied A.denies self.old.heap.system (state_of A.word self.old.heap) (padded (64 * self.old.size)) fault) }
     {
+        self.heap.is_intact();
         slabs_are_small(self.heap.granularity(), SLOTS * self.size);
-        match take_block::<A, Brand>(&mut self.heap, SLOTS * self.size, Blank::new(1)) {
+        self.heap.blocks_are_placed();
+        match self.heap.hand_out(SLOTS * self.size, ALIGNMENT, false) {
             Ok(address) => {
                 self.places.push_reserved(address);
                 Ok(())
@@ -164,14 +143,15 @@ impl<A: Allocator + Memory> Slabs<A> {
     }
 
     /// Gives every slab back, the last one first, and answers the heap.
-    pub(crate) fn free_all(self) -> Dlmalloc<A>
+    pub(crate) fn free_all(self) -> Heap<A>
         requires laid { IsLaidOut A.regions A.word self.heap self.size self.places.items }
         ensures { IsEmptied A.regions A.word A.follows (A.frees self.heap.system) (A.parts self.heap.system) (A.unit self.heap.system) self.heap self.places.items result }
     {
         let mut heap = self.heap;
+        heap.is_intact();
         let mut places = self.places;
         while let Some(address) = places.pop() {
-            free_block::<A, Brand>(&mut heap, address, SLOTS * self.size, Blank::new(1));
+            free_slab(&mut heap, address);
         }
         heap
     }

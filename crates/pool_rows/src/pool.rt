@@ -1,15 +1,12 @@
 ghost use Rattle.std.specs.Prelude.{◌≡◌, ◌<◌, ◌≤◌, IfOk, OnOk, length};
 
 use crate::checks::same;
-use dlmalloc::Dlmalloc;
 use heap_memory::{FlatStep, FlatSystem};
 use object_pool::{GrantFault, Key, Pool, PoolFault};
+use sound_heap::Heap;
 use std::alloc::{AllocError, Global};
-use std::marker::Brand;
 use std::process::Abort;
-use std::sync::ledger::{Blank, Ledger};
 use std::test::Fail;
-use step_count::Steps;
 
 /// A pool of objects of a size, over a heap whose system follows a script.
 fn pool_over(
@@ -23,7 +20,7 @@ fn pool_over(
     ensures { IfOk result (λ pool. pool.size ≡ size) }
 {
     let system = FlatSystem::new(alloc, script, true, true, 4096)?;
-    let mut heap = Dlmalloc::new_with_allocator(system);
+    let mut heap = Heap::new(system);
     heap.set_granularity(granularity);
     Ok(Pool::new(alloc, heap, size))
 }
@@ -111,8 +108,8 @@ fn a_slot_is_used_again(rt: HostRuntime) -> Result<(), Fail> {
     use_slots_again(&rt, &mut pool)?;
     let heap = pool.finish();
     same(&rt, heap.granularity(), 65536);
-    same(&rt, heap.release_checks(), 4095);
-    same(&rt, heap.trim_check(), 2_097_152);
+    same(&rt, heap.heap.release_checks(), 4095);
+    same(&rt, heap.heap.trim_check(), 2_097_152);
     Ok(())
 }
 
@@ -149,16 +146,6 @@ fn a_heap_without_room_is_told(rt: HostRuntime) -> Result<(), Fail> {
     Ok(())
 }
 
-/// Finishes a pool, hands the regions of its heap back, and answers how many bytes those had.
-fn bytes_left<L: Ledger>(pool: Pool<FlatSystem>, blank: Blank) -> u64
-    requires name { blank.name ≡ L.name }
-    requires parts { blank.parts ≡ L.parts }
-    requires some { 0 < blank.parts }
-{
-    let heap = pool.finish();
-    heap.destroy(&mut Steps::<L>::new(blank)).0
-}
-
 // A slab of 64 objects of 4096 bytes takes 262,160 bytes. The top is 4,194,224 bytes long at first, 80 less than the region, and
 // so 1,834,784 behind nine slabs. The second slab that goes back makes it 2,359,104, above 2,097,152: 35 granularities of it go
 // to the system, and the other slabs are freed beside the 65,344 bytes that are left.
@@ -167,7 +154,7 @@ fn finish_gives_the_system_what_its_frees_do(rt: HostRuntime) -> Result<(), Fail
     let mut pool = pool_of(rt.alloc(), 4_194_304, 65536, 4096)?;
     insert_all(&rt, &mut pool, 513, &[7u8; 4096]);
     same(&rt, pool.slabs(), 9);
-    same(&rt, bytes_left::<Brand>(pool, Blank::new(1)), 1_900_544);
+    same(&rt, pool.finish().destroy().0, 1_900_544);
     Ok(())
 }
 

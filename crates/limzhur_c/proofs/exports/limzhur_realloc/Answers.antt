@@ -4,7 +4,7 @@ use Rattle.dlmalloc.specs.Moved.{IsResized}
 use Rattle.dlmalloc.specs.declared.heap.Dlmalloc.{Dlmalloc}
 use Rattle.heap_arena.specs.Arena.{regions_of, word_of}
 use Rattle.heap_arena.specs.declared.arena.Arena.{Arena}
-use Rattle.heap_library.specs.Library.{usable}
+use Rattle.sound_heap.specs.Heap.{usable}
 use Rattle.heap_library.specs.Checked.{zeros, follows, heap_state}
 use Rattle.heap_library.specs.Room.{IsRefusedResize}
 use Rattle.limzhur_c.proofs.exports.limzhur_realloc.Goals as goal

@@ -1,7 +1,7 @@
 use Rattle.std.proofs.Common.{subst, sym, true}
 use Rattle.dlmalloc.specs.AfterFree.{IsFreed}
 use Rattle.heap_arena.specs.Arena.{regions_of, word_of}
-use Rattle.heap_library.specs.Library.{HasBlock}
+use Rattle.sound_heap.specs.Heap.{HasBlock}
 use Rattle.heap_library.specs.Checked.{follows, heap_state}
 use Rattle.heap_library.proofs.MarkLemmas.{place_of_mark}
 use Rattle.heap_library.proofs.Marking.{freed_marked}

@@ -1,7 +1,7 @@
 use Rattle.std.proofs.Common.{subst, sym, arith}
 use Rattle.dlmalloc.specs.Requested.{IsHandedOut, IsServedAt, IsMemberServed}
 use Rattle.heap_arena.specs.Arena.{regions_of, word_of}
-use Rattle.heap_library.specs.Library.{IsRequestRefused}
+use Rattle.sound_heap.specs.Heap.{IsRequestRefused}
 use Rattle.heap_library.specs.Checked.{zeros, follows, refuses, denies}
 use Rattle.heap_library.proofs.Marking.{made_unmarked, made_marked, unserved_marked}
 use Rattle.heap_library.proofs.Room.{refused_for, not_refused}

@@ -3,7 +3,9 @@ use Rattle.dlmalloc.specs.Blocks.{BlocksAreApart}
 use Rattle.dlmalloc.specs.Requested.{IsMemberServed}
 use Rattle.dlmalloc.specs.Moved.{IsGivenSize, IsResized}
 use Rattle.heap_arena.specs.Arena.{regions_of, word_of}
-use Rattle.heap_library.specs.Library.{HasBlock, usable, IsResizeRefused}
+use Rattle.heap_library.specs.Library.{IsResizeRefused}
+use Rattle.sound_heap.specs.Heap.{HasBlock, usable}
+use Rattle.sound_heap.specs.declared.heap_error.HeapError.TheVariants.{Refused}
 use Rattle.heap_library.specs.Checked.{zeros, follows, refuses, denies, heap_state}
 use Rattle.heap_library.proofs.MarkLemmas.{place_of_mark}
 use Rattle.heap_library.proofs.Marking.{resized_same, moved_unmarked, moved_marked, unresized_marked}
@@ -58,7 +60,7 @@ invariant_of-self c =
     c.clear.ensures.here c.clear.ensures.others c.mark.ensures.here c.mark.ensures.others
 
 pub invariant_of-self-in-Err : goal.invariant_of-self-in-Err
-invariant_of-self-in-Err c = unresized_marked c.self.inside.marks.base c.self.inside.marks.words.now c.self.inside.marks.count c.self.inside.heap c.realloc.new.self c.self.invariant c.args.from c.args.size c.in-Err.refusal c.in-Err.ensures.err
+invariant_of-self-in-Err c = unresized_marked c.self.inside.marks.base c.self.inside.marks.words.now c.self.inside.marks.count c.self.inside.heap c.realloc.new.self c.self.invariant c.args.from c.args.size (Refused c.in-Err.error) (c.in-Err.ensures.err, c.in-Err.ensures.tried)
 
 pub returns-in-Ok-clause-block : goal.returns-in-Ok-clause-block
 returns-in-Ok-clause-block c = c.has_block.ensures.0 c.if-not-has_block.false
@@ -75,10 +77,10 @@ pub returns-in-Ok-clause-member : goal.returns-in-Ok-clause-member
 returns-in-Ok-clause-member c = λ moved. subst (λ heap. IsMemberServed regions_of word_of heap c.args.size 16 c.in-Ok.to) c.self.view_is (c.in-Ok.ensures.member moved)
 
 pub returns-in-Err-clause-err : goal.returns-in-Err-clause-err
-returns-in-Err-clause-err c = subst (λ heap. IsResizeRefused regions_of word_of follows refuses denies heap c.args.from c.args.size c.in-Err.refusal c.realloc.new.self) c.self.view_is c.in-Err.ensures.err
+returns-in-Err-clause-err c = subst (λ heap. IsResizeRefused regions_of word_of follows refuses denies heap c.args.from c.args.size (Refused c.in-Err.error) c.realloc.new.self) c.self.view_is (c.in-Err.ensures.err, c.in-Err.ensures.tried)
 
 pub returns-in-Err-clause-refused : goal.returns-in-Err-clause-refused
-returns-in-Err-clause-refused c = subst (λ heap. IsRefusedResize heap c.args.from c.args.size) c.self.view_is (resize_refused_for c.self.inside.heap c.realloc.new.self c.args.from c.args.size c.in-Err.refusal c.in-Err.ensures.err)
+returns-in-Err-clause-refused c = subst (λ heap. IsRefusedResize heap c.args.from c.args.size) c.self.view_is (resize_refused_for c.self.inside.heap c.realloc.new.self c.args.from c.args.size (Refused c.in-Err.error) (c.in-Err.ensures.err, c.in-Err.ensures.tried))
 
 pub returns-in-Ok-clause-room : goal.returns-in-Ok-clause-room
 returns-in-Ok-clause-room c = λ refused.

@@ -50,7 +50,7 @@ R = R-type.the_row static_lft
 abbrev owning : Owning
 owning = H-type.the_type
 
--- the code behind its first n statements
+-- the code after its first n statements
 abbrev after : ℕ → Body → Body
 after zero b = b
 after (suc n) (seq x y) = after n y

@@ -1,4 +1,4 @@
-use Rattle.std.proofs.Common.{◌*◌, ap, arith, sym, subst, slice_index}
+use Rattle.std.proofs.Common.{◌*◌, ap, arith, refl, sym, subst, slice_index}
 use Rattle.dlmalloc_chunks.specs.Request.{limit}
 use Rattle.dlmalloc.specs.Blocks.{IsBlock}
 use Rattle.dlmalloc.specs.Heap.{state_of}
@@ -15,16 +15,19 @@ unreachable-requires g c =
     let large = (subst (λ error. IsMallocRefused g.A.Allocator.denies c.args.self.now.heap.system (state_of g.A.Links.word c.args.self.now.heap) (64 * c.args.self.now.size) error) c.in-Err-TooLarge.field-0-is (c.in-Err-TooLarge.ensures).err.refused) in
     omega (arith, small, large, same)
 
+pub hand_out-requires : goal.hand_out-requires
+hand_out-requires g c = record { align = (4, refl) }
+
 pub returns-in-Ok-clause-laid : goal.returns-in-Ok-clause-laid
 returns-in-Ok-clause-laid g c =
     let s = c.args.self.now in
-    subst (IsLaidOut g.A.Links.regions g.A.Links.word c.take_block.new.heap s.size) (sym c.push_reserved.ensures.items)
-    (added_laid g.A.Links.regions g.A.Links.word s.heap s.size s.places.items c.requires.laid g.A.Links.follows c.take_block.new.heap c.in-Ok.address c.take_block.ensures.placed c.in-Ok.ensures.ok c.take_block.ensures.linked)
+    subst (IsLaidOut g.A.Links.regions g.A.Links.word c.hand_out.new.self s.size) (sym c.push_reserved.ensures.items)
+    (added_laid g.A.Links.regions g.A.Links.word s.heap s.size s.places.items c.requires.laid g.A.Links.follows c.hand_out.new.self c.in-Ok.address c.blocks_are_placed.ensures c.in-Ok.ensures.ok)
 
 pub returns-in-Ok-clause-kept : goal.returns-in-Ok-clause-kept
 returns-in-Ok-clause-kept g c =
     let s = c.args.self.now in
-    handed_keeps g.A.Links.regions g.A.Links.word g.A.Links.follows s.heap c.take_block.new.heap (64 * s.size) 16 c.in-Ok.address c.take_block.ensures.placed c.in-Ok.ensures.ok
+    handed_keeps g.A.Links.regions g.A.Links.word g.A.Links.follows s.heap c.hand_out.new.self (64 * s.size) 16 c.in-Ok.address c.blocks_are_placed.ensures c.in-Ok.ensures.ok
 
 pub returns-in-Ok-clause-added : goal.returns-in-Ok-clause-added
 returns-in-Ok-clause-added g c =
@@ -32,17 +35,17 @@ returns-in-Ok-clause-added g c =
     record {
       address = c.in-Ok.address;
       is = c.push_reserved.ensures.items;
-      fresh = handed_fresh g.A.Links.regions g.A.Links.word g.A.Links.follows s.heap c.take_block.new.heap (64 * s.size) 16 c.in-Ok.address c.take_block.ensures.placed c.in-Ok.ensures.ok;
-      only = handed_only g.A.Links.regions g.A.Links.word g.A.Links.follows s.heap c.take_block.new.heap (64 * s.size) 16 c.in-Ok.address c.take_block.ensures.placed c.in-Ok.ensures.ok;
-      served = served_once g.A.Links.regions g.A.Links.word g.A.Links.follows s.heap c.take_block.new.heap g.A.Allocator.zeros s.size c.in-Ok.address c.in-Ok.ensures.served;
+      fresh = handed_fresh g.A.Links.regions g.A.Links.word g.A.Links.follows s.heap c.hand_out.new.self (64 * s.size) 16 c.in-Ok.address c.blocks_are_placed.ensures c.in-Ok.ensures.ok;
+      only = handed_only g.A.Links.regions g.A.Links.word g.A.Links.follows s.heap c.hand_out.new.self (64 * s.size) 16 c.in-Ok.address c.blocks_are_placed.ensures c.in-Ok.ensures.ok;
+      served = served_once g.A.Links.regions g.A.Links.word g.A.Links.follows s.heap c.hand_out.new.self g.A.Allocator.zeros s.size c.in-Ok.address (c.in-Ok.ensures.served refl);
       member = c.in-Ok.ensures.member;
-      order = order_once g.A.Links.regions g.A.Links.word g.A.Links.follows s.heap c.take_block.new.heap g.A.Allocator.zeros (64 * s.size) c.in-Ok.address c.in-Ok.ensures.served;
+      order = order_once g.A.Links.regions g.A.Links.word g.A.Links.follows s.heap c.hand_out.new.self g.A.Allocator.zeros (64 * s.size) c.in-Ok.address (c.in-Ok.ensures.served refl);
     }
 
 pub returns-in-Err-System-clause-kept : goal.returns-in-Err-System-clause-kept
 returns-in-Err-System-clause-kept g c =
     let s = c.args.self.now in
-    refused_keeps g.A.Links.regions g.A.Links.word g.A.Links.follows s.heap c.take_block.new.heap g.A.Allocator.refuses c.take_block.ensures.placed c.in-Err-System.ensures.err.same
+    refused_keeps g.A.Links.regions g.A.Links.word g.A.Links.follows s.heap c.hand_out.new.self g.A.Allocator.refuses c.blocks_are_placed.ensures c.in-Err-System.ensures.err.same
 
 pub returns-in-Err-System-clause-laid : goal.returns-in-Err-System-clause-laid
 returns-in-Err-System-clause-laid g c =
@@ -50,8 +53,6 @@ returns-in-Err-System-clause-laid g c =
     let laid = c.requires.laid in
     let same = c.in-Err-System.ensures.err.same.state in
     record {
-      sound = c.take_block.ensures.sound;
-      linked = c.take_block.ensures.linked;
       some = laid.some;
       small = laid.small;
       blocks = λ i there. subst (λ heap. IsBlock heap (slice_index s.places.items i) (64 * s.size)) (sym same) (laid.blocks i there);

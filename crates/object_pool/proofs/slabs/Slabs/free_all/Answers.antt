@@ -6,7 +6,7 @@ pub loop-address-preserved : goal.loop-address-preserved
 loop-address-preserved g c =
     let s = c.args.self in
     emptying_more g.A.Links.regions g.A.Links.word g.A.Links.follows g.A.Links.follows_on g.A.Allocator.zeros g.A.Allocator.frees g.A.Allocator.parts g.A.Allocator.unit g.met.A.Allocator.fixed
-    s.heap c.loop-address.heap c.free_block.new.heap s.places.items s.size c.loop-address.places.items c.pop.new.self.items c.in-Some.address c.loop-address.invariant c.in-Some.ensures.items c.free_block.ensures.placed c.free_block.ensures.freed c.free_block.ensures.linked
+    s.heap c.loop-address.heap c.free_slab.new.heap s.places.items s.size c.loop-address.places.items c.pop.new.self.items c.in-Some.address c.loop-address.invariant c.in-Some.ensures.items c.free_slab.ensures.placed c.free_slab.ensures.freed c.free_slab.ensures.linked
 
 pub returns : goal.returns
 returns g c =

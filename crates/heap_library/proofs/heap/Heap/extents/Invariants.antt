@@ -1,4 +1,0 @@
-use Rattle.heap_library.proofs.heap.Heap.extents.Given as goal
-
-abbrev pub ghosts-extents : goal.ghosts-extents
-ghosts-extents g a = record { name = a.blank.name; parts = a.blank.parts }

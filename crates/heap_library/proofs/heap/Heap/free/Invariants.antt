@@ -1,4 +1,0 @@
-use Rattle.heap_library.proofs.heap.Heap.free.Given as goal
-
-abbrev pub ghosts-free : goal.ghosts-free
-ghosts-free g a = record { name = a.blank.name; parts = a.blank.parts }

@@ -1,4 +1,0 @@
-use Rattle.heap_library.proofs.heap.Heap.realloc.Given as goal
-
-abbrev pub ghosts-resize : goal.ghosts-resize
-ghosts-resize g a = record { name = a.blank.name; parts = a.blank.parts }

@@ -1,4 +1,0 @@
-use Rattle.heap_library.proofs.heap.Heap.trim.Given as goal
-
-abbrev pub ghosts-trim : goal.ghosts-trim
-ghosts-trim g a = record { name = a.blank.name; parts = a.blank.parts }
