@@ -1,4 +1,3 @@
 pub mod Pages
 pub mod Process
 pub mod Served
-pub mod Streams

@@ -8,7 +8,7 @@ use Rattle.command_line.specs.declared.pages.Pages.{Pages}
 abbrev pub is_help : List ℕ → Bool
 is_help word = bytes_eq word (codes "--help") || bytes_eq word (codes "-h")
 
--- help and version are asked for alone, and the lines, where they have a page, behind help
+-- help and version are asked for alone, and the lines, if they have a page, after help
 abbrev pub page_named : Pages → List (List ℕ) → Option (List ℕ)
 page_named pages (word ∷ []) =
     if is_help word then Some pages.help.now else

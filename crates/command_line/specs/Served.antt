@@ -7,7 +7,7 @@ use Rattle.std.specs.declared.io.ErrorKind.TheVariants.{OutOfMemory}
 use Rattle.command_line.specs.declared.pages.Pages.{Pages}
 use Rattle.command_line.specs.Pages.{page_of}
 use Rattle.command_line.specs.Process.{IsShown}
-use Rattle.command_line.specs.Streams.{Streams}
+use Rattle.heap_program.specs.Streams.{Streams}
 
 -- The words were served over a source and a sink, each as it was and as it then is. `comes` says what comes of words that ask for no
 -- page, and `needs_memory` whether a call of the sink may want memory.

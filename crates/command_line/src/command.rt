@@ -1,7 +1,7 @@
 // What a program does.
 ghost use Rattle.std.specs.Prelude.{◌≡◌, ◌≤◌, List, ℕ, String};
 ghost use Rattle.std.specs.declared.alloc.Global.{Global};
-ghost use Rattle.command_line.specs.Streams.{Streams, streams};
+ghost use Rattle.heap_program.specs.Streams.{Streams, streams};
 
 use heap_program::{Sink, Source};
 use std::alloc::Global;

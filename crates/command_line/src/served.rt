@@ -5,7 +5,7 @@ ghost use Rattle.std.specs.Process.{exit_status};
 ghost use Rattle.heap_program.specs.Faults.{HasRisen};
 ghost use Rattle.command_line.specs.Process.{status_line};
 ghost use Rattle.command_line.specs.Served.{IsServed, IsUnread};
-ghost use Rattle.command_line.specs.Streams.{streams};
+ghost use Rattle.heap_program.specs.Streams.{streams};
 
 use crate::command::Command;
 use crate::pages::{Pages, page_of};

@@ -151,7 +151,7 @@ impl Call {
     }
 }
 
-/// Ends the test, and shows both values and the words, where they differ. A test with an `assert_eq!` for each comparison
+/// Ends the test, and shows both values and the words, if they differ. A test with an `assert_eq!` for each comparison
 /// takes several times as long to be proved.
 fn same<T: PartialEq + Debug + Drop>(rt: &impl Abort, found: T, wanted: T, words: &[&str]) {
     assert_eq!(rt; found, wanted, "{:?}", words);
@@ -242,7 +242,7 @@ const FAULTS: [FaultRow; 4] = [
     },
 ];
 
-/// Sees that the program ends so where reads or writes fail.
+/// Sees that the program ends so if reads or writes fail.
 fn expect_fault(rt: &impl Abort, alloc: Global, row: &FaultRow) -> Result<(), Fail> {
     let arguments = arguments(alloc, row.words)?;
     let mut call = Call::new(alloc, "malloc 24\n", row.reads, row.writes)?;
@@ -260,7 +260,7 @@ fn faults_have_their_statuses(rt: HostRuntime) -> Result<(), Fail> {
     Ok(())
 }
 
-/// Sees that the program ends so where its arguments cannot be read.
+/// Sees that the program ends so if its arguments cannot be read.
 fn expect_unread(
     rt: &impl Abort,
     alloc: Global,

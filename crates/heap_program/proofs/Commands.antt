@@ -1,6 +1,6 @@
 -- The words of a command, and the status at which it ends.
-use Rattle.std.proofs.Common.{◌≡◌, ◌≢◌, ◌≤◌, ◌<◌, ◌⊎◌, ℕ, List, [], ◌∷◌, length, map, refl, arith, Option, Some, None, Ok, Err}
-use Rattle.std.specs.Prelude.{String, string_bytes, ◌↔◌, IfSome, IsErrOf}
+use Rattle.std.proofs.Common.{◌≡◌, ◌≢◌, ◌≤◌, ◌<◌, ◌+◌, ◌^◌, ◌⊎◌, ℕ, List, [], ◌∷◌, length, map, refl, arith, Option, Some, None, Ok, Err}
+use Rattle.std.specs.Prelude.{String, string_bytes, ◌↔◌, IfSome, IsErrOf, unwrap_or}
 use Rattle.std.specs.declared.alloc.Global.{Global}
 use Rattle.heap_model.specs.declared.config.Config.{Config}
 use Rattle.kernel_heap.specs.Config.{IsGoodConfig}
@@ -45,3 +45,8 @@ stop_status (Some input) TooLong status Q is long = (λ eight. long.0 refl, λ m
 stop_status (Some input) Memory status Q is long = (λ eight. absurd (omega (arith, is, eight)), λ more. let other = long.1 more in absurd (cc))
 stop_status (Some input) ReadFault status Q is long = (λ eight. absurd (omega (arith, is, eight)), λ more. let other = long.1 more in absurd (cc))
 stop_status (Some input) WriteFault status Q is long = (λ eight. absurd (omega (arith, is, eight)), λ more. let other = long.1 more in absurd (cc))
+
+-- a source of which nothing was read was not too long
+pub unread_long : (left : Option (List ℕ)) (status : ℕ) → status ≤ 7 → IfSome left (λ input. status ≡ 8 ↔ (2 ^ 30 + length (unwrap_or left []) < length input))
+unread_long None status few = tt
+unread_long (Some input) status few = (λ eight. absurd (omega (arith, few, eight)), λ more. absurd (omega (arith, more)))

@@ -31,8 +31,7 @@ answers-append (x ∷ xs) y = ap (λ (l : List (Option Answer)). Some x ∷ l) (
 -- no call
 pub drawn_none : (s : State) (drawing : Drawing) → IsAt drawing.machine s → HasDrawn s drawing drawing 0
 drawn_none s drawing at = record {
-  more = [];
-  answers = sym (append-nil drawing.answers);
+  answers = [];
   counted = refl;
   calls = λ rest. refl;
   given = λ rest. refl;
@@ -46,56 +45,55 @@ drawn_none s drawing at = record {
 pub drawn_more : (s : State) (old mid new : Drawing) (count : ℕ) (h : HasDrawn s old mid count) → HasDrawnOne h.state mid new → HasDrawn s old new (count + 1)
 drawn_more s old mid new count h k =
     let call = drawn_call mid.state mid.given in
-    let before = drawn_calls old.state old.given h.more in
+    let before = drawn_calls old.state old.given h.answers in
     let last : List Answer = k.answer ∷ [] in
-    let one : drawn_calls old.state old.given (h.more ++ last) ≡ before ++ call ∷ [] = h.calls last in
+    let one : drawn_calls old.state old.given (h.answers ++ last) ≡ before ++ call ∷ [] = h.calls last in
     record {
-      more = h.more ++ last;
-      answers = k.answers ∙ ap (λ (l : List Answer). l ++ last) h.answers ∙ append_assoc old.answers h.more last;
-      counted = let len = length-append h.more last in let counted = h.counted in omega (arith, len, counted);
+      answers = h.answers ++ last;
+      counted = let len = length-append h.answers last in let counted = h.counted in omega (arith, len, counted);
       calls = λ rest.
-          ap (drawn_calls old.state old.given) (append_assoc h.more last rest)
+          ap (drawn_calls old.state old.given) (append_assoc h.answers last rest)
           ∙ h.calls (k.answer ∷ rest)
           ∙ (λ i. before ++ call ∷ drawn_calls (sym k.next i) (sym k.given i) rest)
           ∙ sym (append_assoc before (call ∷ []) (drawn_calls new.state new.given rest))
           ∙ ap (λ (l : List Call). l ++ drawn_calls new.state new.given rest) (sym one);
       given = λ rest.
-          ap (blocks_given old.state old.given) (append_assoc h.more last rest)
+          ap (blocks_given old.state old.given) (append_assoc h.answers last rest)
           ∙ h.given (k.answer ∷ rest)
           ∙ (λ i. blocks_given (sym k.next i) (sym k.given i) rest);
-      refused = let sum = refused-append h.more k.answer in let first = h.refused in let then = k.refused in omega (arith, sum, first, then);
+      refused = let sum = refused-append h.answers k.answer in let first = h.refused in let then = k.refused in omega (arith, sum, first, then);
       state = k.state;
-      run = subst (λ (calls : List (Option Call)). RunsTo s calls (map Some (h.more ++ last)) k.state) (sym (ap (map Some) one ∙ some-append before call))
-          (subst (λ (answers : List (Option Answer)). RunsTo s (map Some before ++ Some call ∷ []) answers k.state) (sym (answers-append h.more k.answer))
-          (run_on s h.state k.state (map Some before) (Some call ∷ []) (map Some h.more) (Some k.answer ∷ []) h.run k.run));
+      run = subst (λ (calls : List (Option Call)). RunsTo s calls (map Some (h.answers ++ last)) k.state) (sym (ap (map Some) one ∙ some-append before call))
+          (subst (λ (answers : List (Option Answer)). RunsTo s (map Some before ++ Some call ∷ []) answers k.state) (sym (answers-append h.answers k.answer))
+          (run_on s h.state k.state (map Some before) (Some call ∷ []) (map Some h.answers) (Some k.answer ∷ []) h.run k.run));
       at = k.at;
     }
 
 -- what stands once all calls came
 pub record IsWhole (s : State) (seed count : ℕ) (drawing : Drawing) : Type 0 where
+  pub answers : List Answer
   pub state : State
-  pub counted : length drawing.answers ≡ count
-  pub drawn : AreDrawn s seed drawing.answers state
-  pub tally : tally_line count drawing.given drawing.refused ≡ tally_line (length drawing.answers) (blocks_given (first_state seed) 0 drawing.answers) (refused_count drawing.answers)
+  pub counted : length answers ≡ count
+  pub drawn : AreDrawn s seed answers state
+  pub tally : tally_line count drawing.given drawing.refused ≡ tally_line (length answers) (blocks_given (first_state seed) 0 answers) (refused_count answers)
   pub at : IsAt drawing.machine state
 
-pub all_drawn : (s : State) (seed count : ℕ) (old new : Drawing) → old.answers ≡ [] → old.state ≡ first_state seed → old.given ≡ 0 → old.refused ≡ 0 → HasDrawn s old new count → IsWhole s seed count new
-all_drawn s seed count old new none first zero unrefused h =
-    let all : new.answers ≡ h.more = h.answers ∙ ap (λ (l : List Answer). l ++ h.more) none in
-    let counted : length new.answers ≡ count = ap (λ (l : List Answer). length l) all ∙ h.counted in
-    let calls : drawn_calls old.state old.given h.more ≡ drawn_calls (first_state seed) 0 new.answers = (λ i. drawn_calls (first i) (zero i) (sym all i)) in
-    let given : new.given ≡ blocks_given (first_state seed) 0 new.answers = sym (h.given []) ∙ (λ i. blocks_given (first i) (zero i) ((append-nil h.more ∙ sym all) i)) in
-    let refused : new.refused ≡ refused_count new.answers = (let same = ap refused_count all in let more = h.refused in omega (arith, same, more, unrefused)) in
+pub all_drawn : (s : State) (seed count : ℕ) (old new : Drawing) → old.state ≡ first_state seed → old.given ≡ 0 → old.refused ≡ 0 → HasDrawn s old new count → IsWhole s seed count new
+all_drawn s seed count old new first zero unrefused h =
+    let calls : drawn_calls old.state old.given h.answers ≡ drawn_calls (first_state seed) 0 h.answers = (λ i. drawn_calls (first i) (zero i) h.answers) in
+    let given : new.given ≡ blocks_given (first_state seed) 0 h.answers = sym (h.given []) ∙ (λ i. blocks_given (first i) (zero i) (append-nil h.answers i)) in
+    let refused : new.refused ≡ refused_count h.answers = (let more = h.refused in omega (arith, more, unrefused)) in
     record {
+      answers = h.answers;
       state = h.state;
-      counted = counted;
-      drawn = subst (λ (c : List Call). RunsTo s (map Some c) (map Some new.answers) h.state) calls (subst (λ (a : List Answer). RunsTo s (map Some (drawn_calls old.state old.given h.more)) (map Some a) h.state) (sym all) h.run);
-      tally = λ i. tally_line (sym counted i) (given i) (refused i);
+      counted = h.counted;
+      drawn = subst (λ (c : List Call). RunsTo s (map Some c) (map Some h.answers) h.state) calls h.run;
+      tally = λ i. tally_line (sym h.counted i) (given i) (refused i);
       at = h.at;
     }
 
--- the counts, and the end text behind them
-pub whole_text : (s : State) (seed count : ℕ) (drawing : Drawing) (w : IsWhole s seed count drawing) (empty told out : List ℕ) → empty ≡ [] → told ≡ empty ++ tally_line count drawing.given drawing.refused → out ≡ told ++ end_text_of w.state → out ≡ generated_text seed drawing.answers w.state
+-- the counts, and the end text after them
+pub whole_text : (s : State) (seed count : ℕ) (drawing : Drawing) (w : IsWhole s seed count drawing) (empty told out : List ℕ) → empty ≡ [] → told ≡ empty ++ tally_line count drawing.given drawing.refused → out ≡ told ++ end_text_of w.state → out ≡ generated_text seed w.answers w.state
 whole_text s seed count drawing w empty told out none counts end =
     end ∙ ap (λ (text : List ℕ). text ++ end_text_of w.state) (counts ∙ ap (λ (text : List ℕ). text ++ tally_line count drawing.given drawing.refused) none ∙ w.tally)
 
@@ -104,16 +102,17 @@ pub none_generated : (s : State) (seed count : ℕ) (taken : Option (List ℕ)) 
 none_generated s seed count taken = record { text = []; written = appends_nothing taken; front = inl refl }
 
 -- a front of the text was written
-pub part_generated : (s : State) (seed count : ℕ) (drawing : Drawing) (w : IsWhole s seed count drawing) (out : List ℕ) (before after : Option (List ℕ)) (n : ℕ) → out ≡ generated_text seed drawing.answers w.state → Appends before after (take n out) → IsGenerationStopped s seed count before after
+pub part_generated : (s : State) (seed count : ℕ) (drawing : Drawing) (w : IsWhole s seed count drawing) (out : List ℕ) (before after : Option (List ℕ)) (n : ℕ) → out ≡ generated_text seed w.answers w.state → Appends before after (take n out) → IsGenerationStopped s seed count before after
 part_generated s seed count drawing w out before after n is written = record {
   text = take n out;
   written = written;
-  front = inr (record { answers = drawing.answers; state = w.state; counted = w.counted; drawn = w.drawn; more = drop n out; front = take-append-drop n out ∙ is });
+  front = inr (record { answers = w.answers; state = w.state; counted = w.counted; drawn = w.drawn; more = drop n out; front = take-append-drop n out ∙ is });
 }
 
 -- all of it was
-pub all_generated : (s : State) (seed count : ℕ) (drawing : Drawing) (w : IsWhole s seed count drawing) (out : List ℕ) (before after : Option (List ℕ)) (flushed : Option ℕ) → out ≡ generated_text seed drawing.answers w.state → Appends before after out → IsAllFlushed after flushed → IsGenerated s seed count before after flushed drawing.answers drawing.machine
+pub all_generated : (s : State) (seed count : ℕ) (drawing : Drawing) (w : IsWhole s seed count drawing) (out : List ℕ) (before after : Option (List ℕ)) (flushed : Option ℕ) → out ≡ generated_text seed w.answers w.state → Appends before after out → IsAllFlushed after flushed → IsGenerated s seed count before after flushed drawing.machine
 all_generated s seed count drawing w out before after flushed is written all = record {
+  answers = w.answers;
   state = w.state;
   counted = w.counted;
   drawn = w.drawn;

@@ -19,7 +19,6 @@ use Rattle.heap_model.proofs.Regions.{within_canonical}
 use Rattle.kernel_heap.specs.declared.machine.Machine.{Machine}
 use Rattle.kernel_heap.specs.Machine.{seen}
 use Rattle.heap_program.specs.Generated.{IsGenerated}
-use Rattle.heap_program.specs.Headline.{IsAnswered}
 use Rattle.heap_program.specs.LiveBlocks.{IsHeld, HoldsBlocks, HoldsEachBlock}
 
 abbrev region_rights : Option Region → Option Rights
@@ -107,14 +106,8 @@ holds_blocks m s good stands = record {
 
 -- ---- the machine at the end of a run
 
-pub answered_live : (machine : Option Machine) (s : State) (had left before after : Option (List ℕ)) (flushed : Option ℕ) → IfSome machine (λ m. IsAnswered s had left before after flushed m) →
-    IfSome machine (λ m. (run : IsAnswered s had left before after flushed m) × HoldsBlocks (seen m) run.state.blocks)
-answered_live None s had left before after flushed done = tt
-answered_live (Some m) s had left before after flushed done = (done, holds_blocks (seen m) done.state done.good done.stands)
-
-pub generated_live : (machine : Option Machine) (answers : Option (List Answer)) (s : State) (seed count : ℕ) (before after : Option (List ℕ)) (flushed : Option ℕ) →
-    IfSome machine (λ m. IfSome answers (λ list. IsGenerated s seed count before after flushed list m)) →
-    IfSome machine (λ m. IfSome answers (λ list. (run : IsGenerated s seed count before after flushed list m) × HoldsBlocks (seen m) run.state.blocks))
-generated_live None answers s seed count before after flushed done = tt
-generated_live (Some m) None s seed count before after flushed done = tt
-generated_live (Some m) (Some list) s seed count before after flushed done = (done, holds_blocks (seen m) done.state done.good done.stands)
+pub generated_live : (machine : Option Machine) (s : State) (seed count : ℕ) (before after : Option (List ℕ)) (flushed : Option ℕ) →
+    IfSome machine (λ m. IsGenerated s seed count before after flushed m) →
+    IfSome machine (λ m. (run : IsGenerated s seed count before after flushed m) × HoldsBlocks (seen m) run.state.blocks)
+generated_live None s seed count before after flushed done = tt
+generated_live (Some m) s seed count before after flushed done = (done, holds_blocks (seen m) done.state done.good done.stands)

@@ -13,7 +13,7 @@ pub record Advanced {R : Type 0} (responds : R → List (Option Call) → List �
   pub output : string_bytes new.output ≡ string_bytes old.output ++ told
   pub responded : Responded responds old.responder old.line bytes told new.line new.responder
 
--- From the state s the session answered the line that had begun, and put the end text behind it.
+-- From the state s the session answered the line that had begun, and put the end text after it.
 pub record IsFinished (s : State) (old new : Session Machine) : Type 0 where
   pub told : List ℕ
   pub output : string_bytes new.output ≡ string_bytes old.output ++ told

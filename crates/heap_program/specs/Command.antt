@@ -16,7 +16,7 @@ default_config = record { base = 0x400000; pages = 1024; granularity = 65536; fr
 abbrev pub frames_of : List ℕ → Option ℕ
 frames_of word = option_and_then (λ frames. if nat_lt frames (2 ^ 32) then Some frames else None) (number_of word)
 
--- a configuration of these numbers, where each is one
+-- a configuration of these numbers, if each word is one
 abbrev pub config_from : Option ℕ → Option ℕ → Option ℕ → Option ℕ → Option ℕ → Option Config
 config_from (Some base) (Some pages) (Some granularity) (Some frames) (Some rate) = Some (record { base = base; pages = pages; granularity = granularity; frames = frames; rate = rate })
 config_from base pages granularity frames rate = None
@@ -27,7 +27,7 @@ config_of [] = Some default_config
 config_of (base ∷ pages ∷ granularity ∷ frames ∷ rate ∷ []) = config_from (number_of base) (number_of pages) (number_of granularity) (frames_of frames) (number_of rate)
 config_of words = None
 
--- a drawing of these numbers, where each is one; there are at most 1000000 calls
+-- a drawing of these numbers, if each word is one; there are at most 1000000 calls
 abbrev pub generate_from : Option ℕ → Option ℕ → Option Config → Option Command
 generate_from (Some seed) (Some count) (Some config) = if nat_le count 1000000 then Some (Generate seed count config) else None
 generate_from seed count config = None
@@ -57,9 +57,3 @@ machine_config (Generate seed count config) = config
 abbrev pub HasFewCalls : Command → Type 0
 HasFewCalls (Run config) = ⊤
 HasFewCalls (Generate seed count config) = count ≤ 1000000
-
--- calls are drawn
-abbrev pub IsGenerate : Option Command → Type 0
-IsGenerate (Some (Generate seed count config)) = ⊤
-IsGenerate (Some (Run config)) = ⊥
-IsGenerate None = ⊥

@@ -10,7 +10,6 @@ use Rattle.heap_program.specs.Progress.{IsAt}
 -- From the state s one more call was drawn and answered.
 pub record HasDrawnOne (s : State) (old new : Drawing) : Type 0 where
   pub answer : Answer
-  pub answers : new.answers ≡ old.answers ++ answer ∷ []
   pub next : new.state ≡ state_after old.state
   pub given : new.given ≡ old.given + numbers_given (drawn_call old.state old.given) answer.reply
   pub refused : new.refused ≡ old.refused + refusals answer.reply
@@ -18,14 +17,13 @@ pub record HasDrawnOne (s : State) (old new : Drawing) : Type 0 where
   pub run : RunsTo s (Some (drawn_call old.state old.given) ∷ []) (Some answer ∷ []) state
   pub at : IsAt new.machine state
 
--- From the state s so many calls more were drawn and answered.
+-- From the state s, `count` calls more were drawn and answered.
 pub record HasDrawn (s : State) (old new : Drawing) (count : ℕ) : Type 0 where
-  pub more : List Answer
-  pub answers : new.answers ≡ old.answers ++ more
-  pub counted : length more ≡ count
-  pub calls : (rest : List Answer) → drawn_calls old.state old.given (more ++ rest) ≡ drawn_calls old.state old.given more ++ drawn_calls new.state new.given rest
-  pub given : (rest : List Answer) → blocks_given old.state old.given (more ++ rest) ≡ blocks_given new.state new.given rest
-  pub refused : new.refused ≡ old.refused + refused_count more
+  pub answers : List Answer
+  pub counted : length answers ≡ count
+  pub calls : (rest : List Answer) → drawn_calls old.state old.given (answers ++ rest) ≡ drawn_calls old.state old.given answers ++ drawn_calls new.state new.given rest
+  pub given : (rest : List Answer) → blocks_given old.state old.given (answers ++ rest) ≡ blocks_given new.state new.given rest
+  pub refused : new.refused ≡ old.refused + refused_count answers
   pub state : State
-  pub run : RunsTo s (map Some (drawn_calls old.state old.given more)) (map Some more) state
+  pub run : RunsTo s (map Some (drawn_calls old.state old.given answers)) (map Some answers) state
   pub at : IsAt new.machine state

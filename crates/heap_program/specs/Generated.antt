@@ -21,8 +21,9 @@ AreDrawn s seed answers e = RunsTo s (map Some (drawn_calls (first_state seed) 0
 abbrev pub generated_text : ℕ → List Answer → State → List ℕ
 generated_text seed answers e = tally_line (length answers) (blocks_given (first_state seed) 0 answers) (refused_count answers) ++ end_text_of e
 
--- So many calls were drawn, and the run over them ended well.
-pub record IsGenerated (s : State) (seed count : ℕ) (before after : Option (List ℕ)) (flushed : Option ℕ) (answers : List Answer) (machine : Machine) : Type 0 where
+-- `count` calls were drawn, and the run over them ended well.
+pub record IsGenerated (s : State) (seed count : ℕ) (before after : Option (List ℕ)) (flushed : Option ℕ) (machine : Machine) : Type 0 where
+  pub answers : List Answer
   pub state : State
   pub counted : length answers ≡ count
   pub drawn : AreDrawn s seed answers state
@@ -32,7 +33,7 @@ pub record IsGenerated (s : State) (seed count : ℕ) (before after : Option (Li
   pub good : IsGood state
   pub stands : Stands (seen machine) state
 
--- a front of the text of a run over so many calls
+-- a front of the text of a run over `count` calls
 pub record IsGeneratedFront (s : State) (seed count : ℕ) (text : List ℕ) : Type 0 where
   pub answers : List Answer
   pub state : State

@@ -21,11 +21,11 @@ first_state seed = if seed == 0 then 1 else seed
 abbrev pub pick : ℕ → ℕ → ℕ
 pick given c = given - 1 - c / 2 ^ 8 % min given 64
 
--- which call it is; where no number is given there is no block to name
+-- which call it is; if no number is given there is no block to name
 abbrev pub kind_of : ℕ → ℕ → ℕ
 kind_of given a = if given == 0 && nat_le 3 (a % 8) then 0 else a % 8
 
--- the call of three numbers drawn, where so many numbers were given
+-- the call of three numbers drawn, if this many numbers were given
 unfoldable pub call_of_draws : ℕ → ℕ → ℕ → ℕ → Call
 call_of_draws given a b c =
     let size = b % 4096 in

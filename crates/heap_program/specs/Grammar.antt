@@ -12,7 +12,7 @@ use Rattle.heap_model.specs.declared.call.Call.TheVariants.{Malloc, Calloc, Real
 use Rattle.heap_program.specs.Number.{number_of}
 use Rattle.heap_program.specs.Words.{words_of}
 
--- one number, and no word behind it
+-- one number, and no word after it
 abbrev pub one_number : List (List ℕ) → Option ℕ
 one_number (word ∷ []) = number_of word
 one_number words = None
@@ -21,7 +21,7 @@ abbrev pub both_numbers : Option ℕ → Option ℕ → Option (ℕ × ℕ)
 both_numbers (Some first) (Some second) = Some (first, second)
 both_numbers first second = None
 
--- two numbers, and no word behind them
+-- two numbers, and no word after them
 abbrev pub two_numbers : List (List ℕ) → Option (ℕ × ℕ)
 two_numbers (first ∷ second ∷ []) = both_numbers (number_of first) (number_of second)
 two_numbers words = None
@@ -31,23 +31,23 @@ abbrev pub request_of : List (List ℕ) → Option (ℕ × ℕ)
 request_of (size ∷ []) = both_numbers (number_of size) (Some 16)
 request_of words = two_numbers words
 
--- `malloc SIZE` and `malloc SIZE ALIGN`, with what stands behind the name
+-- `malloc SIZE` and `malloc SIZE ALIGN`, with what comes after the name
 abbrev pub malloc_of : List (List ℕ) → Option Call
 malloc_of words = option_map (λ asked. Malloc asked.0 asked.1) (request_of words)
 
--- `calloc SIZE` and `calloc SIZE ALIGN`, with what stands behind the name
+-- `calloc SIZE` and `calloc SIZE ALIGN`, with what comes after the name
 abbrev pub calloc_of : List (List ℕ) → Option Call
 calloc_of words = option_map (λ asked. Calloc asked.0 asked.1) (request_of words)
 
--- `realloc BLOCK SIZE`, with what stands behind the name
+-- `realloc BLOCK SIZE`, with what comes after the name
 abbrev pub realloc_of : List (List ℕ) → Option Call
 realloc_of words = option_map (λ asked. Realloc asked.0 asked.1) (two_numbers words)
 
--- `c_realloc BLOCK SIZE`, with what stands behind the name
+-- `c_realloc BLOCK SIZE`, with what comes after the name
 abbrev pub c_realloc_of : List (List ℕ) → Option Call
 c_realloc_of words = option_map (λ asked. CRealloc asked.0 asked.1) (two_numbers words)
 
--- `free BLOCK`, with what stands behind the name
+-- `free BLOCK`, with what comes after the name
 abbrev pub free_of : List (List ℕ) → Option Call
 free_of words = option_map Free (one_number words)
 
@@ -60,7 +60,7 @@ abbrev pub write_call : Option ℕ → Option ℕ → Option (List ℕ) → Opti
 write_call (Some block) (Some offset) (Some bytes) = Some (Write block offset bytes)
 write_call block offset bytes = None
 
--- `write BLOCK OFFSET HEX`, with what stands behind the name
+-- `write BLOCK OFFSET HEX`, with what comes after the name
 abbrev pub write_of : List (List ℕ) → Option Call
 write_of (block ∷ offset ∷ bytes ∷ []) = write_call (number_of block) (number_of offset) (bytes_of bytes)
 write_of words = None
@@ -69,12 +69,12 @@ abbrev pub read_call : Option ℕ → Option ℕ → Option ℕ → Option Call
 read_call (Some block) (Some offset) (Some count) = Some (Read block offset count)
 read_call block offset count = None
 
--- `read BLOCK OFFSET LENGTH`, with what stands behind the name
+-- `read BLOCK OFFSET LENGTH`, with what comes after the name
 abbrev pub read_of : List (List ℕ) → Option Call
 read_of (block ∷ offset ∷ count ∷ []) = read_call (number_of block) (number_of offset) (number_of count)
 read_of words = None
 
--- a right is granted where its letter stands, and is not where `-` does
+-- a right is granted if its letter stands there, and not if `-` does
 abbrev pub right_of : ℕ → ℕ → Option Bool
 right_of letter code = if code == letter then Some true else if code == 45 then Some false else None
 
@@ -91,12 +91,12 @@ abbrev pub map_call : Option ℕ → Option ℕ → Option Rights → Option Cal
 map_call (Some start) (Some pages) (Some rights) = Some (Map start pages rights)
 map_call start pages rights = None
 
--- `map ADDR PAGES RIGHTS`, with what stands behind the name
+-- `map ADDR PAGES RIGHTS`, with what comes after the name
 abbrev pub map_of : List (List ℕ) → Option Call
 map_of (start ∷ pages ∷ rights ∷ []) = map_call (number_of start) (number_of pages) (rights_of_letters rights)
 map_of words = None
 
--- `unmap ADDR PAGES`, with what stands behind the name
+-- `unmap ADDR PAGES`, with what comes after the name
 abbrev pub unmap_of : List (List ℕ) → Option Call
 unmap_of words = option_map (λ range. Unmap range.0 range.1) (two_numbers words)
 
@@ -111,30 +111,30 @@ abbrev pub probe_call : Option ℕ → Option Access → Option Bool → Option 
 probe_call (Some at) (Some access) (Some user) = Some (Probe at access user)
 probe_call at access user = None
 
--- whether the access is the user's: it is where the word `user` stands there, alone
+-- whether the access is the user's: it is if the word `user` stands there, alone
 abbrev pub user_of : List (List ℕ) → Option Bool
 user_of [] = Some false
 user_of (word ∷ []) = if bytes_eq word (codes "user") then Some true else None
 user_of words = None
 
--- `probe ADDR ACCESS` and `probe ADDR ACCESS user`, with what stands behind the name
+-- `probe ADDR ACCESS` and `probe ADDR ACCESS user`, with what comes after the name
 abbrev pub probe_of : List (List ℕ) → Option Call
 probe_of (at ∷ access ∷ words) = probe_call (number_of at) (access_of access) (user_of words)
 probe_of words = None
 
--- `trim PAD`, with what stands behind the name
+-- `trim PAD`, with what comes after the name
 abbrev pub trim_of : List (List ℕ) → Option Call
 trim_of words = option_map Trim (one_number words)
 
--- `rate N`, with what stands behind the name
+-- `rate N`, with what comes after the name
 abbrev pub rate_of : List (List ℕ) → Option Call
 rate_of words = option_map SetRate (one_number words)
 
--- `granularity N`, with what stands behind the name
+-- `granularity N`, with what comes after the name
 abbrev pub granularity_of : List (List ℕ) → Option Call
 granularity_of words = option_map SetGranularity (one_number words)
 
--- a call whose name is the whole line: no word stands behind it
+-- a call whose name is the whole line: no word comes after it
 abbrev pub alone : Call → List (List ℕ) → Option Call
 alone call [] = Some call
 alone call words = None

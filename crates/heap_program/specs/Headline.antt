@@ -39,13 +39,13 @@ pub record IsAnswered (s : State) (had left before after : Option (List ℕ)) (f
   pub good : IsGood state
   pub stands : Stands (seen machine) state
 
--- what follows the answers to the first items of an input: the end text, where there are no others
+-- what follows the answers to the first items of an input: the end text, if there are no others
 abbrev pub ending_of : List (Option Call) → State → List ℕ
 ending_of [] state = end_text_of state
 ending_of (other ∷ others) state = []
 
--- The text is a front of the texts of a run over the first lines of the bytes and, where these are all, of the end
--- text behind them.
+-- The text is a front of the texts of a run over the first lines of the bytes and, if these are all, of the end
+-- text after them.
 pub record IsFront (s : State) (bytes text : List ℕ) : Type 0 where
   pub items : List (Option Call)
   pub others : List (Option Call)
@@ -67,7 +67,7 @@ pub record IsCaughtUp (s : State) (bytes text : List ℕ) : Type 0 where
   pub run : RunsTo s items answers state
   pub told : text ≡ texts_of answers
 
--- A run that stopped at a read. All lines that ended before the last piece are answered, and the piece has at most so many
+-- A run that stopped at a read. All lines that ended before the last piece are answered, and the piece has at most `most`
 -- bytes.
 pub record IsInterrupted (s : State) (most : ℕ) (had left before after : Option (List ℕ)) : Type 0 where
   pub input : List ℕ

@@ -2,6 +2,7 @@ pub mod Advanced
 pub mod Answering
 pub mod AnsweringLaws
 pub mod Command
+pub mod Done
 pub mod Drawing
 pub mod Faults
 pub mod Flushed
@@ -19,5 +20,6 @@ pub mod Responses
 pub mod Spelling
 pub mod Status
 pub mod Stop
+pub mod Streams
 pub mod Text
 pub mod Words

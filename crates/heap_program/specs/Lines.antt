@@ -4,12 +4,12 @@ use Rattle.std.specs.List.{onto_first, AllByRecursion}
 use Rattle.heap_model.specs.declared.call.Call.{Call}
 use Rattle.heap_program.specs.Grammar.{item_of}
 
--- a line ends with a line feed; a last line without one counts where it has a byte
+-- a line ends with a line feed; a last line without one counts if it has a byte
 abbrev pub lines_of : List ℕ → List (List ℕ)
 lines_of [] = []
 lines_of (b ∷ bytes) = if b == 10 then [] ∷ lines_of bytes else onto_first b (lines_of bytes)
 
--- what each line asks for: a call, or None where the line is bad
+-- what each line asks for: a call, or None if the line is bad
 unfoldable pub items_of : List ℕ → List (Option Call)
 items_of bytes = map item_of (lines_of bytes)
 

@@ -7,7 +7,7 @@ use Rattle.heap_model.specs.State.{State, Cell, Known, Block, block_at, cell_at,
 use Rattle.heap_model.specs.Run.{IsGood}
 use Rattle.heap_model.specs.Machine.{Seen, Stands, outline}
 
--- A processor's walk ends at a present page at the address, which may be written and lies in the memory; and where the byte that
+-- A processor's walk ends at a present page at the address, which may be written and lies in the memory; and if the byte that
 -- was last written there is known, it is the one in the page. `width` is how many bits a physical address has.
 pub record IsHeld (width : ℕ) (words : List ℕ) (root address : ℕ) (cell : Cell) : Type 0 where
   pub page : Place

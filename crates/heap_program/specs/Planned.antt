@@ -27,13 +27,13 @@ after_call calls = record {
 abbrev pub planned : List ℕ → Calls
 planned failing = record { made = 0; failing = failing; faults = 0 }
 
--- a source: the bytes that are left, of which a read gives no more than so many
+-- a source: the bytes that are left, of which a read gives no more than the given number
 pub record PiecewiseSource : Type 0 where
   pub left : List ℕ
   pub piece : ℕ
   pub calls : Calls
 
--- a sink: the bytes taken, of which a write takes no more than so many, and how many of them are flushed
+-- a sink: the bytes taken, of which a write takes no more than the given number, and how many of them are flushed
 pub record PiecewiseSink : Type 0 where
   pub taken : List ℕ
   pub flushed : ℕ

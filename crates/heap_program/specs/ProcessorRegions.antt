@@ -9,7 +9,7 @@ use Rattle.paging_core.specs.ProcessorWalk.{processor_walk, page_of, is_refused}
 use Rattle.heap_model.specs.State.{State, region_at}
 use Rattle.heap_model.specs.Machine.{Seen, Stands, rights_of}
 
--- A processor whose physical addresses reach the whole memory finds a page exactly where a region of the state holds it, with
+-- A processor whose physical addresses reach the whole memory finds a page exactly if a region of the state holds it, with
 -- the region's rights, and meets no reserved bit.
 abbrev pub FindsEachRegion : Type 0
 FindsEachRegion =

@@ -36,7 +36,7 @@ pub record HasCaughtUp {R : Type 0} (responds : R → List (Option Call) → Lis
   pub new : R
   pub responses : responds old items text new
 
--- It stopped at a read, and had responded to all lines that ended before the last piece, which has at most so many bytes.
+-- It stopped at a read, and had responded to all lines that ended before the last piece, which has at most `most` bytes.
 pub record HasHeld {R : Type 0} (responds : R → List (Option Call) → List ℕ → R → Type 0) (old : R) (most : ℕ) (had left before after : Option (List ℕ)) : Type 0 where
   pub input : List ℕ
   pub piece : List ℕ

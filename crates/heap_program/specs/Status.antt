@@ -5,14 +5,14 @@ use Rattle.kernel_heap.specs.Config.{IsGoodConfig, IsConfigRefused}
 use Rattle.kernel_heap.specs.declared.run_error.RunError.{RunError}
 use Rattle.kernel_heap.specs.declared.run_error.RunError.TheVariants.{BadWindow, BadGranularity, TooFewFrames, OutOfMemory}
 
--- the status where no machine was made
+-- the status if no machine was made
 abbrev pub refusal_status : RunError → ℕ
 refusal_status BadWindow = 2
 refusal_status BadGranularity = 3
 refusal_status TooFewFrames = 4
 refusal_status OutOfMemory = 5
 
--- statuses 2 to 4 come exactly where no machine can be made from the configuration, and tell why
+-- statuses 2 to 4 come exactly if no machine can be made from the configuration, and tell why
 pub record TellsRefusal (config : Config) (status : ℕ) : Type 0 where
   pub window : status ≡ 2 ↔ IsConfigRefused config BadWindow
   pub granularity : status ≡ 3 ↔ IsConfigRefused config BadGranularity

@@ -43,7 +43,7 @@ refusal_word Overlap = codes "overlap"
 refusal_word UnknownRegion = codes "unknown-region"
 refusal_word NotCanonical = codes "not-canonical"
 
--- bytes as two lower case digits each, behind a space where there are bytes
+-- bytes as two lower case digits each, after a space if there are bytes
 abbrev pub bytes_text : List ℕ → List ℕ
 bytes_text [] = []
 bytes_text (byte ∷ bytes) = codes " " ++ encode_lower (byte ∷ bytes)
@@ -81,17 +81,17 @@ reply_text (Refused why) = codes "refused " ++ (refusal_word why ++ codes "\n")
 abbrev pub pages_text : Region → List ℕ
 pages_text region = span_text region.start region.pages
 
--- the heap regions behind the word `heap`
+-- the heap regions after the word `heap`
 abbrev pub regions_text : List Region → List ℕ
 regions_text [] = codes " none"
 regions_text (region ∷ rest) = spaced pages_text (region ∷ rest)
 
--- the line behind a reply, where the answer lists the heap regions
+-- the line after a reply, if the answer lists the heap regions
 abbrev pub heap_line : Option (List Region) → List ℕ
 heap_line None = []
 heap_line (Some regions) = codes "heap" ++ (regions_text regions ++ codes "\n")
 
--- and the line behind it, where it lists the slots that were mapped by one entry each
+-- and the line after it, if it lists the slots that were mapped by one entry each
 abbrev pub large_line : Option (List ℕ) → List ℕ
 large_line None = []
 large_line (Some slots) = codes "large" ++ (spaced hexadecimal slots ++ codes "\n")
@@ -105,7 +105,7 @@ unfoldable pub line_text : Option Answer → List ℕ
 line_text None = codes "bad line\n"
 line_text (Some answer) = text_of answer
 
--- a letter where the right is granted
+-- a letter if the right is granted
 abbrev pub right_text : Bool → List ℕ → List ℕ
 right_text granted letter = if granted then letter else codes "-"
 

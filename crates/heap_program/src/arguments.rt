@@ -25,7 +25,7 @@ pub enum Command {
     Run {
         config: Config,
     },
-    /// Draws so many calls from the seed, for a new machine of this configuration.
+    /// Draws `count` calls from the seed, for a new machine of this configuration.
     Generate {
         seed: u64,
         count: u64,

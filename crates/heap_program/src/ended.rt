@@ -4,9 +4,9 @@ ghost use Rattle.heap_program.specs.Status.{refusal_status, status_text_of};
 ghost use Rattle.heap_program.specs.Stop.{status_of};
 
 use crate::run::Stop;
-use kernel_heap::{AnswerList, Machine, RunError};
+use kernel_heap::{Machine, RunError};
 
-/// The status where no machine was made.
+/// The status if no machine was made.
 pub fn refusal_status(error: RunError) -> u8
     ensures { result ≡ refusal_status error }
 {
@@ -18,7 +18,7 @@ pub fn refusal_status(error: RunError) -> u8
     }
 }
 
-/// The status where a run stopped.
+/// The status if a run stopped.
 pub fn status_of(stop: Stop) -> u8
     ensures { result ≡ status_of stop }
 {
@@ -51,23 +51,19 @@ pub fn status_text(status: u8) -> &'static str
 /// How a command ended.
 #[derive(Drop)]
 pub struct Ended {
-    /// 0 where the input was read to its end and all was written and flushed; else see [`status_text`].
+    /// 0 if the input was read to its end and all was written and flushed; else see [`status_text`].
     pub status: u8,
-    /// The machine as it was at the end, where the status is 0.
+    /// The machine as it was at the end, if the status is 0.
     pub machine: Option<Machine>,
-    /// The answers to the calls that were drawn, where they were and the status is 0.
-    pub answers: Option<AnswerList>,
 }
 
 /// The end at a status other than 0.
 pub fn ended_early(status: u8) -> Ended
     ensures status { result.status ≡ status }
     ensures machine { result.machine ≡ None }
-    ensures answers { result.answers ≡ None }
 {
     Ended {
         status,
         machine: None,
-        answers: None,
     }
 }

@@ -14,7 +14,7 @@ use crate::generator::{first_state, next_call};
 use crate::run::{Stop, write_out};
 use crate::sink::Sink;
 use crate::text::{push_end, push_tally};
-use kernel_heap::{AnswerList, Call, Config, Machine, Reply};
+use kernel_heap::{Call, Config, Machine, Reply};
 use std::alloc::{AllocError, Global};
 
 /// The machine, and what has come of the calls that were drawn so far.
@@ -22,8 +22,6 @@ use std::alloc::{AllocError, Global};
 pub struct Drawing {
     pub alloc: Global,
     pub machine: Machine,
-    /// The answers, one a call.
-    pub answers: AnswerList,
     /// The state of the generator.
     pub state: u64,
     /// How many numbers were given.
@@ -55,7 +53,6 @@ fn refusals(reply: &Reply) -> u64
 impl Drawing {
     fn new(alloc: Global, machine: Machine, seed: u64) -> Drawing
         ensures machine { result.machine ≡ machine }
-        ensures answers { result.answers ≡ [] }
         ensures state { result.state ≡ first_state seed }
         ensures given { result.given ≡ 0 }
         ensures refused { result.refused ≡ 0 }
@@ -63,7 +60,6 @@ impl Drawing {
         Drawing {
             alloc,
             machine,
-            answers: AnswerList::new(alloc),
             state: first_state(seed),
             given: 0,
             refused: 0,
@@ -83,10 +79,10 @@ impl Drawing {
         self.state = state;
         self.given += numbers_given(&call, &answer.reply);
         self.refused += refusals(&answer.reply);
-        self.answers.push(answer)
+        Ok(())
     }
 
-    // Draws so many calls and serves them.
+    // Draws `count` calls and serves them.
     fn draw_calls(&mut self, count: u64) -> Result<(), AllocError>
         requires few { count ≤ 1000000 }
         requires given { self.old.given ≡ 0 }
@@ -100,18 +96,18 @@ impl Drawing {
     }
 }
 
-// Draws so many calls from the seed, and runs a machine to which no call came yet over them. Writes the counts and the end
-// text, and answers the machine as it is then, with its answers.
+// Draws `count` calls from the seed, and runs a machine to which no call came yet over them. Writes the counts and the end
+// text, and answers the machine as it is then.
 fn generate<K: Sink>(
     alloc: Global,
     machine: Machine,
     seed: u64,
     count: u64,
     sink: &mut K,
-) -> Result<(Machine, AnswerList), Stop>
+) -> Result<Machine, Stop>
     requires { count ≤ 1000000 }
-    ensures generated { IfOk result (λ ended. (s : State) → IsAt machine s →
-        IsGenerated s seed count (K.taken sink.old) (K.taken sink.new) (K.flushed sink.new) ended.1 ended.0) }
+    ensures generated { IfOk result (λ last. (s : State) → IsAt machine s →
+        IsGenerated s seed count (K.taken sink.old) (K.taken sink.new) (K.flushed sink.new) last) }
     ensures stopped { OnErr result ((s : State) → IsAt machine s → IsGenerationStopped s seed count (K.taken sink.old) (K.taken sink.new)) }
     ensures which { IfErr result (λ stop. (stop ≡ Memory) ⊎ (stop ≡ WriteFault)) }
     ensures write_cause { IsErrOf result WriteFault → HasRisen (K.faults sink.old) (K.faults sink.new) }
@@ -122,15 +118,11 @@ fn generate<K: Sink>(
     push_tally(&mut output, count, drawing.given, drawing.refused)?;
     push_end(alloc, &mut output, &drawing.machine)?;
     write_out(&mut output, sink)?;
-    let Drawing {
-        machine,
-        answers,
-        ..
-    } = drawing;
-    Ok((machine, answers))
+    let Drawing { machine, .. } = drawing;
+    Ok(machine)
 }
 
-/// Draws so many calls from the seed, for a new machine of the configuration.
+/// Draws `count` calls from the seed, for a new machine of the configuration.
 pub fn generate_new<K: Sink>(
     alloc: Global,
     config: &Config,
@@ -140,9 +132,8 @@ pub fn generate_new<K: Sink>(
 ) -> Ended
     requires { count ≤ 1000000 }
     ensures machine { IsSome result.machine ↔ (result.status ≡ 0) }
-    ensures answers { IsSome result.answers ↔ (result.status ≡ 0) }
-    ensures generated { IfSome result.machine (λ machine. IfSome result.answers (λ answers.
-        IsGenerated (start config.now) seed count (K.taken sink.old) (K.taken sink.new) (K.flushed sink.new) answers machine)) }
+    ensures generated { IfSome result.machine (λ machine.
+        IsGenerated (start config.now) seed count (K.taken sink.old) (K.taken sink.new) (K.flushed sink.new) machine) }
     ensures stopped { 5 ≤ result.status → IsGenerationStopped (start config.now) seed count (K.taken sink.old) (K.taken sink.new) }
     ensures statuses { (result.status ≢ 1) × (result.status ≢ 6) × (result.status ≤ 7) }
     ensures refused { TellsRefusal config.now result.status }
@@ -156,10 +147,9 @@ pub fn generate_new<K: Sink>(
         }
     };
     match generate(alloc, machine, seed, count, sink) {
-        Ok((machine, answers)) => Ended {
+        Ok(machine) => Ended {
             status: 0,
             machine: Some(machine),
-            answers: Some(answers),
         },
         Err(stop) => ended_early(status_of(stop)),
     }

@@ -8,7 +8,7 @@ use std::alloc::{AllocError, Global};
 /// How many of the numbers given last a call may name.
 const NAMED: u64 = 64;
 
-/// The alignment of a block where none is drawn.
+/// The alignment of a block if none is drawn.
 const DEFAULT_ALIGNMENT: u64 = 16;
 
 // One draw of the xorshift generator with the shifts 13, 7 and 17: the state after it, which is what is drawn.
@@ -52,7 +52,7 @@ fn kind_of(given: u64, draw: u64) -> u64
     if given == 0 && kind >= 3 { 0 } else { kind }
 }
 
-// The call of three draws, where so many numbers are given.
+// The call of three draws, if `given` numbers were given.
 #[tactic(auto, unfolding(crate::specs::Generator::call_of_draws))]
 fn call_of_draws(alloc: Global, given: u64, a: u64, b: u64, c: u64) -> Result<Call, AllocError>
     ensures { IfOk result (λ call. call ≡ call_of_draws given a b c) }
@@ -87,7 +87,7 @@ fn call_of_draws(alloc: Global, given: u64, a: u64, b: u64, c: u64) -> Result<Ca
     Ok(call)
 }
 
-/// The call that comes next, where so many numbers are given, and the state that its three draws leave. An `Err` says
+/// The call that comes next, if `given` numbers were given, and the state that its three draws leave. An `Err` says
 /// that the host had too little memory for the byte of a write.
 #[tactic(auto, unfolding(crate::specs::Generator::drawn_call, crate::specs::Generator::state_after))]
 pub fn next_call(alloc: Global, state: u64, given: u64) -> Result<(Call, u64), AllocError>

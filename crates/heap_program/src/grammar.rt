@@ -12,10 +12,10 @@ use std::alloc::{AllocError, Global};
 /// The greatest number of bytes of a line, its line feed not counted.
 pub const LONGEST_LINE: usize = 8192;
 
-/// The alignment of a block where the line gives none.
+/// The alignment of a block if the line gives none.
 const DEFAULT_ALIGNMENT: u64 = 16;
 
-// The number that is left where it is the only word.
+// The number that is left, if it is the only word.
 fn one_number(words: &mut Words<'_>) -> Option<u64>
     ensures { result ≡ one_number words.old }
 {
@@ -26,7 +26,7 @@ fn one_number(words: &mut Words<'_>) -> Option<u64>
     }
 }
 
-// The two numbers that are left where they are the only words.
+// The two numbers that are left, if they are the only words.
 fn two_numbers(words: &mut Words<'_>) -> Option<(u64, u64)>
     ensures { result ≡ two_numbers words.old }
 {
@@ -38,7 +38,7 @@ fn two_numbers(words: &mut Words<'_>) -> Option<(u64, u64)>
     }
 }
 
-// A size, and the alignment that stands behind it, if one does.
+// A size, and the alignment after it, if there is one.
 fn request(words: &mut Words<'_>) -> Option<(u64, u64)>
     ensures { result ≡ request_of words.old }
 {
@@ -114,7 +114,7 @@ fn bytes(alloc: Global, word: &[u8]) -> Result<Option<Bytes>, AllocError>
     decode(alloc, word)
 }
 
-// The words behind `write`, the first two as numbers.
+// The words after `write`, the first two as numbers.
 fn write_words<'a>(words: &mut Words<'a>) -> Option<(u64, u64, &'a [u8])>
     ensures { MatchOption result (write_of words.old ≡ None) (λ found. write_of words.old ≡ write_call (Some found.0) (Some found.1) (bytes_of found.2.now)) }
 {
@@ -143,7 +143,7 @@ fn write(alloc: Global, words: &mut Words<'_>) -> Result<Option<Call>, AllocErro
     }
 }
 
-// Whether a letter grants a right, where it is that of the right or `-`.
+// Whether a letter grants a right: it is that of the right, or `-`.
 fn right(code: u8, letter: u8) -> Option<bool>
     ensures { result ≡ right_of letter code }
 {
@@ -308,7 +308,7 @@ fn call_of(alloc: Global, line: &[u8]) -> Result<Option<Call>, AllocError>
     }
 }
 
-/// The call that a line asks for, without its line feed. `None` exactly where the line is outside the
+/// The call that a line asks for, without its line feed. `None` exactly if the line is outside the
 /// grammar or longer than 8192 bytes. An `Err` says that the host had too little memory for the bytes of a
 /// `write`.
 #[tactic(auto, unfolding(crate::specs::Grammar::item_of))]

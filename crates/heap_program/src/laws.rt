@@ -3,7 +3,7 @@ ghost use Rattle.heap_program.specs.LiveBlocks.{HoldsEachBlock};
 ghost use Rattle.heap_program.specs.ProcessorRegions.{FindsEachRegion, LeavesEachTable};
 ghost use Rattle.heap_program.specs.Spelling.{SpellsOne, RunsSpellOne};
 
-/// An output spells one list of answers: where two lists of answers to the same number of lines are
+/// An output spells one list of answers: if two lists of answers to the same number of lines are
 /// printed alike, each followed by an end text, the lists are equal. Only a `heap` line goes on with an
 /// answer. The answers of a run are such a list, so what [`crate::heap_main`] writes at status 0 spells its
 /// answers, and no others.
@@ -19,7 +19,7 @@ pub fn live_blocks()
     ensures { HoldsEachBlock }
 {}
 
-/// A processor finds by its own walk from CR3 what the state says: a page exactly where a region holds it, with the
+/// A processor finds by its own walk from CR3 what the state says: a page exactly if a region holds it, with the
 /// region's rights, and no reserved bit. It leaves each entry of the tables as it is: all are accessed, and dirty if
 /// they map a page.
 pub fn processor_regions()

@@ -3,7 +3,7 @@ ghost use Rattle.std.specs.Prelude.{◌≡◌, ◌≤◌, ◌+◌, ◌*◌, ◌^
 ghost use Rattle.std.specs.Char.{is_digit, digit_value};
 ghost use Rattle.heap_program.specs.Number.{numeral_of, number_of};
 
-// The value with one more digit, where there is one and the value stays below 2^64.
+// The value with one more digit, if there is one and the value stays below 2^64.
 fn next_value(value: u64, base: u32, byte: u8) -> Option<u64>
     requires low { 2 ≤ base }
     requires high { base ≤ 36 }

@@ -145,7 +145,7 @@ impl<R: Respond + Drop> Session<R> {
 }
 
 impl Session<Machine> {
-    /// Answers a last line that has no line feed, and puts the end text behind it.
+    /// Answers a last line that has no line feed, and puts the end text after it.
     pub fn finish(&mut self) -> Result<(), AllocError>
         ensures { OnOk result ((s : State) → IsAt self.old.responder s → IsFinished s self.old self.new) }
     {

@@ -22,10 +22,10 @@ pub enum SinkFault {
 
 /// Something that bytes are written to, as [`std::io::Write`], with a count of its faults.
 pub trait Sink {
-    /// The bytes taken, where the sink tells them.
+    /// The bytes taken, if the sink tells them.
     ghost taken: { Self → Option (List ℕ) };
 
-    /// How many of them are flushed, where the sink tells that.
+    /// How many of them are flushed, if the sink tells that.
     ghost flushed: { Self → Option ℕ };
 
     /// Whether a call may want memory.
@@ -56,7 +56,7 @@ pub trait Sink {
         ensures memory { IsErrOf result SinkFault.OutOfMemory → needs_memory self.old };
 }
 
-/// Bytes in memory, where they need no flush. No call fails, but a write may want memory.
+/// Bytes in memory, which need no flush. No call fails, but a write may want memory.
 #[derive(Drop)]
 pub struct SureSink {
     bytes: Vec<u8>,

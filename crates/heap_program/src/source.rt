@@ -14,7 +14,7 @@ pub struct Failed;
 
 /// Something that bytes are read from, as [`std::io::Read`], with a count of its faults.
 pub trait Source {
-    /// The bytes that are left, where the source tells them.
+    /// The bytes that are left, if the source tells them.
     ghost left: { Self → Option (List ℕ) };
 
     /// How often a read has failed. A count stays at 2^64 - 1 once it is there.

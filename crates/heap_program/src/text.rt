@@ -57,7 +57,7 @@ fn push_span(out: &mut String, start: u64, size: u64) -> Result<(), AllocError>
     write!(out, "0x{start:x}+{size}")
 }
 
-// Bytes as two digits each, behind a space where there are bytes.
+// Bytes as two digits each, after a space if there are bytes.
 fn push_bytes(out: &mut String, bytes: &[u8]) -> Result<(), AllocError>
     ensures { OnOk result (string_bytes out.new ≡ string_bytes out.old ++ bytes_text bytes.now) }
 {
@@ -152,7 +152,7 @@ fn push_regions(out: &mut String, regions: &[Region]) -> Result<(), AllocError>
     Ok(())
 }
 
-// The line of the heap regions, where an answer lists them.
+// The line of the heap regions, if an answer lists them.
 fn push_heap_line(out: &mut String, regions: &Option<RegionList>) -> Result<(), AllocError>
     ensures { OnOk result (string_bytes out.new ≡ string_bytes out.old ++ heap_line regions.now) }
 {
@@ -177,7 +177,7 @@ fn push_slots(out: &mut String, slots: &[u64]) -> Result<(), AllocError>
     Ok(())
 }
 
-// The line of the slots that were mapped by one entry each, where an answer lists them.
+// The line of the slots that were mapped by one entry each, if an answer lists them.
 fn push_large_line(out: &mut String, large: &Option<SlotList>) -> Result<(), AllocError>
     ensures { OnOk result (string_bytes out.new ≡ string_bytes out.old ++ large_line large.now) }
 {
@@ -201,7 +201,7 @@ pub fn push_answer(out: &mut String, answer: &Answer) -> Result<(), AllocError>
     push_large_line(out, &answer.large)
 }
 
-/// The text of an answer: its reply, the heap regions where they changed, and the slots that were mapped by one entry
+/// The text of an answer: its reply, the heap regions if they changed, and the slots that were mapped by one entry
 /// each. An `Err` says that the host had too little memory.
 pub fn text_of(alloc: Global, answer: &Answer) -> Result<Bytes, AllocError>
     ensures { IfOk result (λ text. text ≡ text_of answer.now) }

@@ -2,11 +2,11 @@
 ghost use Rattle.std.specs.Prelude.{◌<◌};
 
 use crate::checks::same;
+use crate::runs::{Row, strings};
 use crate::tests::ROWS;
 use heap_program::{
     Failed, MemorySink, MemorySource, ReaderSource, SinkFault, WriterSink, heap_main,
 };
-use program_runs::{Row, strings};
 use std::alloc::{AllocError, Global};
 use std::io;
 use std::io::Write;

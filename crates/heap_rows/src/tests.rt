@@ -1,10 +1,10 @@
 use crate::checks::{expect_output, same};
+use crate::runs::{Row, outcome};
 use heap_program::{Ended, end_text, parse_call, text_of};
 use kernel_heap::{
     Answer, AnswerList, Call, CallList, Config, Extent, ExtentList, Kind, Machine, Refusal, Reply,
     Run, RunError, run_calls,
 };
-use program_runs::{Row, outcome};
 use std::alloc::{AllocError, Global};
 use std::process::Abort;
 use std::test::Fail;

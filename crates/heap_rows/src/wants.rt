@@ -1,8 +1,8 @@
 // What runs out: frames, input and output.
 use crate::checks::same;
+use crate::runs::{outcome, strings};
 use crate::tests::ROWS;
 use heap_program::{MemorySink, MemorySource, heap_main};
-use program_runs::{outcome, strings};
 use std::alloc::{AllocError, Global};
 use std::process::Abort;
 use std::test::Fail;

@@ -16,7 +16,7 @@ use Rattle.memory_image.specs.Imaged.{IsImaged}
 use Rattle.memory_image.specs.Traced.{AreTraced, IsTracing, behind, probed_address}
 use Rattle.memory_image.specs.TracedLaws.{tracing_on}
 
--- an item is answered, and the walk of a probe stands behind that
+-- an item is answered, and the walk of a probe stands after that
 pub traced_one : (x y : Traced) (item : Option Call) (before middle after last : List ℕ) → HasResponded IsAnswering x.machine (item ∷ []) before middle y.machine
     → behind (probed_address item) y.machine ≡ last → after ≡ middle ++ last → HasResponded IsTracing x (item ∷ []) before after y
 traced_one x y item before middle after last h is written = record {
@@ -31,7 +31,7 @@ read_whole (Some xs) None bytes consumed end = absurd consumed
 read_whole (Some xs) (Some ys) bytes consumed end =
     (sym (consumed ∙ ap (λ (l : List ℕ). bytes ++ l) end ∙ append-nil bytes), ap (λ (l : List ℕ). Some l) end)
 
--- the last line is answered, and the image stands behind all
+-- the last line is answered, and the image stands after all
 pub imaged : (first last end : Traced) (line : List ℕ) (l l1 t t1 t2 : Option (List ℕ)) (flushed : Option ℕ) (n : ℕ) (before after output : List ℕ) → HasRead IsTracing first last line l l1 t t1 n → IsAtEnd l1
     → before ≡ [] → HasResponded IsTracing last (items_of line) before after end → output ≡ after ++ image_text end.machine → Appends t1 t2 output → IsAllFlushed t2 flushed → IsImaged first.machine l l1 t t2 flushed end.machine
 imaged first last end line l l1 t t1 t2 flushed n before after output h done empty k is written all =

@@ -1,4 +1,4 @@
--- The parts of an image, one behind the other.
+-- The parts of an image, one after the other.
 use Rattle.std.proofs.Common.{◌≡◌, ℕ, List, ◌++◌, ◌∙◌, ap, append_assoc}
 use Rattle.std.specs.List.{flat_map}
 use Rattle.heap_model.specs.declared.region.Region.{Region}
@@ -10,7 +10,7 @@ use Rattle.kernel_heap.specs.declared.paged_system.PagedSystem.{PagedSystem}
 use Rattle.x86_registers.specs.declared.cpu.Cpu.{Cpu}
 use Rattle.memory_image.specs.Image.{registers_line, memory_text, image_text}
 
--- a text and what comes behind it
+-- a text and what comes after it
 pub behind : (old part new text rest : List ℕ) → new ≡ part ++ rest → part ≡ old ++ text → new ≡ old ++ (text ++ rest)
 behind old part new text rest last first = last ∙ ap (λ (t : List ℕ). t ++ rest) first ∙ append_assoc old text rest
 

@@ -1,11 +1,11 @@
--- What comes of words that are the program's command.
+-- What the words that are the program's command lead to.
 use Rattle.std.specs.Prelude.{◌≡◌, ℕ, List, map, String, string_bytes}
 use Rattle.std.specs.declared.alloc.Global.{Global}
-use Rattle.command_line.specs.Streams.{Streams}
+use Rattle.heap_program.specs.Streams.{Streams}
 use Rattle.memory_image.specs.declared.imaged.Imaged.{Imaged}
 use Rattle.memory_image.specs.Imaged.{Images}
 
--- They were served over a source and a sink, each as it was and as it then is. So ended the command.
+-- They were served over a source and a sink, each as it was and as it then is. The command ended like this.
 abbrev pub IsDone : {S K : Type 0} → Streams S K → List (String Global) → S → S → K → K → ℕ → Type 0
 IsDone streams words source source' sink sink' status =
     (imaged : Imaged)

@@ -8,7 +8,7 @@ use Rattle.kernel_heap.specs.Parts.{Parts}
 use Rattle.kernel_heap.specs.System.{paged}
 use Rattle.x86_registers.specs.declared.cpu.Cpu.{Cpu}
 
--- a number behind a space
+-- a number after a space
 abbrev pub number_text : ℕ → List ℕ
 number_text number = codes " " ++ hexadecimal number
 

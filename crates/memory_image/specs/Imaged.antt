@@ -34,7 +34,7 @@ pub record ImagesOf (config : Config) (had left before after : Option (List ℕ)
   -- at status 0 the machine is handed on, which a new one became that stands for the state at the start
   pub machine : IsSome imaged.machine ↔ (imaged.status ≡ 0)
   pub image : IfSome imaged.machine (λ last. (first : Machine) × IsAt first (start config) × IsImaged first had left before after flushed last)
-  -- statuses 2 to 4 tell why no machine could be made
+  -- statuses 2 to 4 say why no machine could be made
   pub refused : TellsRefusal config imaged.status
   -- at 6 the source failed, at 7 the sink, and at 8 the input is too long; and 5 is what is left, for want of memory
   pub read_fault : imaged.status ≡ 6 → HasRisen reads reads'
@@ -47,7 +47,7 @@ pub record ImagesOf (config : Config) (had left before after : Option (List ℕ)
 -- With these words, each by its bytes.
 pub record Images (words : List (List ℕ)) (had left before after : Option (List ℕ)) (flushed : Option ℕ) (reads reads' writes writes' : ℕ) (imaged : Imaged) : Type 0 where
   pub statuses : imaged.status ≤ 8
-  -- status 1 comes exactly if the words are no configuration
+  -- the status is 1 exactly if the words are no configuration
   pub usage : (imaged.status ≡ 1) ↔ (config_of words ≡ None)
   pub nothing : imaged.status ≡ 1 → imaged.machine ≡ None
   pub run : (config : Config) → config_of words ≡ Some config → ImagesOf config had left before after flushed reads reads' writes writes' imaged

@@ -1,4 +1,4 @@
--- What a traced machine tells of the items of an input.
+-- What a traced machine answers to the items of an input.
 use Rattle.std.specs.Prelude.{◌≡◌, ℕ, List, [], ◌∷◌, ◌++◌, Option, Some, None}
 use Rattle.heap_model.specs.declared.call.Call.{Call}
 use Rattle.heap_model.specs.declared.call.Call.TheVariants.{Probe}
@@ -12,18 +12,18 @@ abbrev pub probed_address : Option Call → Option ℕ
 probed_address (Some (Probe at access user)) = Some at
 probed_address item = None
 
--- behind the answer to a probe, where its walk arrives
+-- after the answer to a probe, where its walk arrives
 abbrev pub behind : Option ℕ → Machine → List ℕ
 behind (Some at) machine = walk_line machine at
 behind None machine = []
 
--- An item is answered as by a machine, and the walk of a probe stands behind the answer.
+-- An item is answered as by a machine, and the walk of a probe stands after the answer.
 pub record IsTraced (old : Machine) (item : Option Call) (told : List ℕ) (new : Machine) : Type 0 where
   pub answer : List ℕ
   pub answered : IsAnswering old (item ∷ []) answer new
   pub text : told ≡ answer ++ behind (probed_address item) new
 
--- so is each of some items, one after another
+-- the same for each of some items, one after another
 abbrev pub AreTraced : Machine → List (Option Call) → List ℕ → Machine → Type 0
 AreTraced old [] told new = (told ≡ []) × (new ≡ old)
 AreTraced old (item ∷ items) told new =

@@ -15,7 +15,7 @@ use heap_program::{
 use kernel_heap::{Config, Machine};
 use std::alloc::Global;
 
-// Serves the source on a machine, and writes its image behind the answers.
+// Serves the source on a machine, and writes its image after the answers.
 fn image_run<S: Source, K: Sink>(
     alloc: Global,
     machine: Machine,
@@ -66,12 +66,12 @@ fn image_new<S: Source, K: Sink>(
     }
 }
 
-/// Serves the lines of the source as `heap run` does, on a machine of the configuration that the words are; without words
-/// the default one. Behind the answer to a probe stands a line with CR2 and the place at which its walk arrives. Behind all
-/// answers stands the image of the machine: the registers, a line for each region, how many frames the memory has, and
-/// each word of it that is not 0, by address.
+/// Serves the lines of the source as `heap run` does, on a machine of the configuration that the words are; without
+/// words the default one. After the answer to a probe stands a line with CR2 and the place at which its walk arrives.
+/// After all answers stands the image of the machine: the registers, a line for each region, how many frames the memory
+/// has, and each word of it that is not 0, by address.
 ///
-/// The statuses are those of `heap run`. Statuses 1 to 4 come before anything is read or written.
+/// The statuses are those of `heap run`. With statuses 1 to 4 nothing was read or written.
 pub fn image_main<S: Source, K: Sink>(
     alloc: Global,
     words: &[String],

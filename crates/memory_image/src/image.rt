@@ -10,7 +10,7 @@ use paging_core::{Frames, PhysAddr, PhysFrame};
 use std::alloc::{AllocError, Global};
 use x86_registers::Cpu;
 
-// Puts a number at the end, behind a space.
+// Puts a number at the end, after a space.
 fn push_number(out: &mut String, number: u64) -> Result<(), AllocError>
     ensures { OnOk result (string_bytes out.new ≡ string_bytes out.old ++ number_text number) }
 {

@@ -1,4 +1,4 @@
-// A machine that tells of each probe where its walk arrives.
+// A machine that says of each probe where its walk arrives.
 ghost use Rattle.std.specs.Prelude.{◌≡◌, ◌++◌, OnOk, string_bytes};
 ghost use Rattle.kernel_heap.specs.System.{paged};
 ghost use Rattle.memory_image.specs.Traced.{probed_address, IsTracing};

@@ -1,25 +1,88 @@
-use Rattle.std.proofs.Common.{ℕ, List, [], ◌<◌, ◌+◌, ◌^◌, length, refl, ◌∙◌}
+use Rattle.std.proofs.Common.{rules, arith, ℕ, List, [], ◌<◌, ◌+◌, ◌^◌, length, refl, ◌∙◌}
 use Rattle.std.specs.Prelude.{unwrap_or}
 use Rattle.heap_model.specs.State.{start}
-use Rattle.heap_program.proofs.Commands.{ok_status, stop_status}
+use Rattle.heap_program.proofs.Commands.{ok_status, stop_status, complete_status}
+use Rattle.heap_program.proofs.LiveBlocks.{holds_blocks}
 use Rattle.heap_program.proofs.Wholes.{seen_first}
 use Rattle.heap_program.proofs.command.run_new.Goals as goal
 
-pub returns-in-Err-clause-stopped : goal.returns-in-Err-clause-stopped
-returns-in-Err-clause-stopped g c late = seen_first (start c.args.config.now) (g.S.Source.left c.args.source.now) (g.K.Sink.taken c.args.sink.now)
+-- no machine was made
+pub returns-in-Err-clause-run : goal.returns-in-Err-clause-run
+returns-in-Err-clause-run g c = record {
+  answered = search rules;
+  stopped = λ late. seen_first (start c.args.config.now) (g.S.Source.left c.args.source.now) (g.K.Sink.taken c.args.sink.now);
+  caught_up = search rules;
+  caught_up_long = search rules;
+}
 
-pub returns-in-Ok-run-clause-too_long : goal.returns-in-Ok-run-clause-too_long
-returns-in-Ok-run-clause-too_long g c =
+pub returns-in-Err-clause-status : goal.returns-in-Err-clause-status
+returns-in-Err-clause-status g c = record {
+  few = search rules;
+  usage = search rules;
+  refused = search rules;
+  untouched = search rules;
+  read_fault = search rules;
+  write_fault = search rules;
+  too_long = search rules;
+  flushed = search rules;
+  complete = λ good unread unwritten. complete_status c.args.config.now c.ended_early.result.status (search rules) (search rules) (search rules) good (search rules) (search rules);
+}
+
+-- the run ended well
+pub returns-in-Ok-run-clause-run : goal.returns-in-Ok-run-clause-run
+returns-in-Ok-run-clause-run g c =
+    let run = c.in-Ok-run.ensures.answered (start c.args.config.now) (record { good = c.in-Ok.ensures.good; stands = c.in-Ok.ensures.stands }) refl in
+    record {
+      answered = (run, holds_blocks _ run.state run.good run.stands);
+      stopped = search rules;
+      caught_up = search rules;
+      caught_up_long = search rules;
+    }
+
+pub returns-in-Ok-run-clause-status : goal.returns-in-Ok-run-clause-status
+returns-in-Ok-run-clause-status g c =
     let left = g.S.Source.left in
-    ok_status (left c.args.source.now) c.in-Ok-run.machine (λ (input : List ℕ). 2 ^ 30 + length (unwrap_or (left c.run.new.source) []) < length input)
-    c.in-Ok-run.ensures.too_long
+    let good = c.in-Ok.ensures.accepted in
+    record {
+      few = search rules;
+      usage = search rules;
+      refused = record {
+        window = (λ is. absurd (omega (arith, is)), λ bad. absurd (bad good.window));
+        granularity = (λ is. absurd (omega (arith, is)), λ bad. absurd (bad.1 good.granularity));
+        frames = (λ is. absurd (omega (arith, is)), λ bad. absurd (let none = bad.2 in let some = good.frames in omega (arith, none, some)));
+        good = λ which. good;
+      };
+      untouched = search rules;
+      read_fault = search rules;
+      write_fault = search rules;
+      too_long = ok_status (left c.args.source.now) c.in-Ok-run.machine (λ (input : List ℕ). 2 ^ 30 + length (unwrap_or (left c.run.new.source) []) < length input) c.in-Ok-run.ensures.too_long;
+      flushed = search rules;
+      complete = search rules;
+    }
 
-pub returns-in-Err-run-clause-too_long : goal.returns-in-Err-run-clause-too_long
-returns-in-Err-run-clause-too_long g c =
+-- it stopped early
+pub returns-in-Err-run-clause-run : goal.returns-in-Err-run-clause-run
+returns-in-Err-run-clause-run g c =
+    let fresh = c.in-Ok.ensures in
+    record {
+      answered = search rules;
+      stopped = λ late. c.in-Err-run.ensures.stopped (start c.args.config.now) (record { good = fresh.good; stands = fresh.stands });
+      caught_up = λ six. c.in-Err-run.ensures.at_fault (search rules) (start c.args.config.now) (record { good = fresh.good; stands = fresh.stands });
+      caught_up_long = λ eight. c.in-Err-run.ensures.at_length (search rules) (start c.args.config.now) (record { good = fresh.good; stands = fresh.stands });
+    }
+
+pub returns-in-Err-run-clause-status : goal.returns-in-Err-run-clause-status
+returns-in-Err-run-clause-status g c =
     let left = g.S.Source.left in
-    stop_status (left c.args.source.now) c.in-Err-run.stop c.ended_early-in-Err-run.result.status (λ (input : List ℕ). 2 ^ 30 + length (unwrap_or (left c.run.new.source) []) < length input) (c.ended_early-in-Err-run.ensures.status ∙ c.status_of.ensures)
-    c.in-Err-run.ensures.too_long
-
-pub returns-in-Ok-run-clause-answered : goal.returns-in-Ok-run-clause-answered
-returns-in-Ok-run-clause-answered g c =
-    c.in-Ok-run.ensures.answered (start c.args.config.now) (record { good = c.in-Ok.ensures.good; stands = c.in-Ok.ensures.stands }) refl
+    record {
+      few = search rules;
+      usage = search rules;
+      refused = search rules;
+      untouched = search rules;
+      read_fault = search rules;
+      write_fault = search rules;
+      too_long = stop_status (left c.args.source.now) c.in-Err-run.stop c.ended_early-in-Err-run.result.status (λ (input : List ℕ). 2 ^ 30 + length (unwrap_or (left c.run.new.source) []) < length input) (c.ended_early-in-Err-run.ensures.status ∙ c.status_of.ensures)
+          c.in-Err-run.ensures.too_long;
+      flushed = search rules;
+      complete = search rules;
+    }

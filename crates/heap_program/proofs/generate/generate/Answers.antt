@@ -18,7 +18,7 @@ pub returns-in_err-write_out-clause-stopped : goal.returns-in_err-write_out-clau
 returns-in_err-write_out-clause-stopped g c = on_err c.from_residual-in_err-write_out.result (λ s at.
     let first = c.new-drawing.ensures in
     let drawing = c.draw_calls.new.self in
-    let w = all_drawn s c.args.seed c.args.count c.new-drawing.result drawing first.answers first.state first.given first.refused
+    let w = all_drawn s c.args.seed c.args.count c.new-drawing.result drawing first.state first.given first.refused
     (c.in_ok-draw_calls.ensures s (subst (λ (m : Machine). IsAt m s) (sym first.machine) at)) in
     let out = string_bytes c.push_end.new.out in
     let part = c.in_err-write_out.ensures.err in
@@ -29,7 +29,7 @@ pub returns-clause-generated : goal.returns-clause-generated
 returns-clause-generated g c s at =
     let first = c.new-drawing.ensures in
     let drawing = c.draw_calls.new.self in
-    let w = all_drawn s c.args.seed c.args.count c.new-drawing.result drawing first.answers first.state first.given first.refused
+    let w = all_drawn s c.args.seed c.args.count c.new-drawing.result drawing first.state first.given first.refused
     (c.in_ok-draw_calls.ensures s (subst (λ (m : Machine). IsAt m s) (sym first.machine) at)) in
     let out = string_bytes c.push_end.new.out in
     all_generated s c.args.seed c.args.count drawing w out (g.K.Sink.taken c.args.sink.now) (g.K.Sink.taken c.write_out.new.sink) (g.K.Sink.flushed c.write_out.new.sink)

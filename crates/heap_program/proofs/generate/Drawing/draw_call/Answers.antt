@@ -1,5 +1,4 @@
 use Rattle.std.proofs.Common.{ℕ, ◌+◌, [], ◌∷◌, Some, refl, ◌∙◌, ap, subst}
-use Rattle.std.proofs.lemmas.Result.{on_ok_weaker}
 use Rattle.heap_model.specs.declared.call.Call.{Call}
 use Rattle.heap_model.specs.Answer.{after}
 use Rattle.heap_model.specs.Run.{RunsTo}
@@ -11,15 +10,14 @@ returns-clause-drawn c =
     let call = c.in_ok-call.call in
     let answer = c.in_ok-answer.answer in
     let same = c.in_ok-call.ensures.0 in
-    on_ok_weaker c.push.result (λ pushed s at.
+    λ s at.
     let st = c.in_ok-answer.ensures.ok s at.good at.stands in
     record {
       answer = answer;
-      answers = pushed;
       next = c.in_ok-call.ensures.1;
       given = ap (λ (n : ℕ). c.args.self.now.given + n) (c.numbers_given.ensures ∙ ap (λ (k : Call). numbers_given k answer.reply) same);
       refused = ap (λ (n : ℕ). c.args.self.now.refused + n) c.refusals.ensures;
       state = after s call answer;
       run = subst (λ (k : Call). RunsTo s (Some k ∷ []) (Some answer ∷ []) (after s call answer)) same (record { run = ((st.allowed, st.good), tt); last = refl });
       at = record { good = st.good; stands = st.stands };
-    }) c.push.ensures.ok
+    }

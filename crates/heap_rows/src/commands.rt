@@ -1,7 +1,7 @@
 // The words of the program: configurations, and commands that are refused.
 use crate::checks::{expect_row, same};
+use crate::runs::{Row, outcome, strings};
 use heap_program::{MemorySink, MemorySource, SureSink, heap_main, status_text};
-use program_runs::{Row, outcome, strings};
 use std::alloc::Global;
 use std::process::Abort;
 use std::test::Fail;
@@ -242,7 +242,6 @@ fn expect_drawing(
     let ended = heap_main(alloc, &strings(alloc, words)?, &mut source, &mut sink);
     same(rt, ended.status, 0);
     same(rt, sink.written(), output.as_bytes());
-    assert!(rt; ended.answers.is_some());
     Ok(())
 }
 

@@ -1,7 +1,7 @@
 //! Slots of 2 MiB that one entry maps, as large pages: when they come, how they leave, and how they are cut.
 use crate::checks::expect_row;
 use crate::commands::Command;
-use program_runs::Row;
+use crate::runs::Row;
 use std::test::Fail;
 
 /// A window of 4 MiB, and frames in which there are three free runs for large pages.

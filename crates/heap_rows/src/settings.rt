@@ -1,7 +1,7 @@
 //! Memory that goes back, the settings of the heap, and a heap that begins anew.
 use crate::checks::expect_row;
 use crate::commands::Command;
-use program_runs::Row;
+use crate::runs::Row;
 use std::test::Fail;
 
 /// Pages are granted one by one.

@@ -1,19 +1,17 @@
-//! Runs of the whole program over bytes in memory, for tests that are rows of an input and what is printed for it.
-#![tactic(auto)]
-
+//! Runs of the whole program over bytes in memory, for rows of an input and what is printed for it.
 use heap_program::{Ended, SureSink, SureSource, heap_main};
 use std::alloc::{AllocError, Global};
 
 /// What the command `run` prints for an input. Each run ends with status 0.
-pub struct Row {
+pub(crate) struct Row {
     /// What the program reads.
-    pub input: &'static str,
+    pub(crate) input: &'static str,
     /// What it writes.
-    pub output: &'static str,
+    pub(crate) output: &'static str,
 }
 
 /// Words as the program takes them.
-pub fn strings(alloc: Global, words: &[&str]) -> Result<Vec<String>, AllocError> {
+pub(crate) fn strings(alloc: Global, words: &[&str]) -> Result<Vec<String>, AllocError> {
     let mut strings = Vec::new(alloc);
     for word in words {
         strings.push(String::from_str(alloc, word)?)?;
@@ -22,7 +20,7 @@ pub fn strings(alloc: Global, words: &[&str]) -> Result<Vec<String>, AllocError>
 }
 
 /// Runs a command over an input in memory.
-pub fn outcome(
+pub(crate) fn outcome(
     alloc: Global,
     words: &[&str],
     input: &[u8],

@@ -1,7 +1,7 @@
 //! Requests that the heap serves though the system could not, those that it refuses for want of room, and what refusals leave.
 use crate::checks::expect_row;
 use crate::commands::Command;
-use program_runs::Row;
+use crate::runs::Row;
 use std::test::Fail;
 
 /// A window of 24 pages, which are granted one by one.

@@ -1,6 +1,6 @@
 //! Probes of the heap's pages and of pages that are not mapped.
 use crate::checks::expect_row;
-use program_runs::Row;
+use crate::runs::Row;
 use std::test::Fail;
 
 const ROWS: [Row; 4] = [

@@ -1,6 +1,6 @@
 //! Requests at alignments, for cleared bytes, and for other sizes.
 use crate::checks::expect_row;
-use program_runs::Row;
+use crate::runs::Row;
 use std::test::Fail;
 
 const ROWS: [Row; 11] = [

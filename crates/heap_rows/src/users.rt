@@ -1,6 +1,6 @@
 //! Regions of the user: mapped, unmapped, and refused.
 use crate::checks::expect_row;
-use program_runs::Row;
+use crate::runs::Row;
 use std::test::Fail;
 
 const ROWS: [Row; 6] = [
