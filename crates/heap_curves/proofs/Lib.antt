@@ -4,3 +4,4 @@ pub mod Loops
 pub mod Meets
 pub mod Numbers
 pub mod Starts
+pub mod Words

@@ -1,7 +1,6 @@
 -- What is put one after another, or counted: with one more, and after the last.
-use Rattle.std.proofs.Common.{◌≡◌, ◌≤◌, ◌<◌, ℕ, zero, suc, ◌+◌, ◌-◌, ◌*◌, ◌^◌, min, max, nat_eq, nat_le, List, [], ◌∷◌, ◌++◌, length, get_or, drop, refl, ◌∙◌, ap, arith, add-one, string_bytes}
-use Rattle.std.specs.Prelude.{if◌then◌else◌, String}
-use Rattle.std.specs.declared.alloc.Global.{Global}
+use Rattle.std.proofs.Common.{◌≡◌, ◌≤◌, ◌<◌, ℕ, zero, suc, ◌+◌, ◌-◌, ◌*◌, ◌^◌, min, max, nat_eq, nat_le, List, [], ◌∷◌, ◌++◌, length, get_or, drop, refl, ◌∙◌, ap, arith, add-one}
+use Rattle.std.specs.Prelude.{if◌then◌else◌}
 use Rattle.std.proofs.lemmas.List.{at_drop_more, at_drop_all}
 use Rattle.heap_history.specs.declared.history.Moment.{Moment}
 use Rattle.heap_history.specs.declared.history.Mapping.{Mapping}
@@ -93,18 +92,18 @@ bars_step calls y first number refused i d within = at_drop_more (bars_from call
 pub bars_last : (calls y : ℕ) (first : RefusedCall) (number : ℕ) (refused : List RefusedCall) (i : ℕ) → length refused ≤ i → bars_from calls y first number (drop i refused) ≡ bar_text calls y first number
 bars_last calls y first number refused i all = at_drop_all (bars_from calls y first number) refused i all
 
-pub lines_step : (top y calls call : ℕ) (lines : List (String Global)) (i : ℕ) (d : String Global) → i < length lines →
-    lines_text top y calls call (drop i lines) ≡ line_text top y calls call (string_bytes (get_or lines i d)) ++ lines_text top y calls (call + 1) (drop (i + 1) lines)
+pub lines_step : (top y calls call : ℕ) (lines : List (List ℕ)) (i : ℕ) (d : List ℕ) → i < length lines →
+    lines_text top y calls call (drop i lines) ≡ line_text top y calls call (get_or lines i d) ++ lines_text top y calls (call + 1) (drop (i + 1) lines)
 lines_step top y calls call lines i d within = at_drop_more (lines_text top y calls call) lines i d within
 
-pub lines_last : (top y calls call : ℕ) (lines : List (String Global)) (i : ℕ) → length lines ≤ i → lines_text top y calls call (drop i lines) ≡ []
+pub lines_last : (top y calls call : ℕ) (lines : List (List ℕ)) (i : ℕ) → length lines ≤ i → lines_text top y calls call (drop i lines) ≡ []
 lines_last top y calls call lines i all = at_drop_all (lines_text top y calls call) lines i all
 
-pub letters_step : (lines : List (String Global)) (i : ℕ) (d : String Global) → i < length lines →
-    most_letters (drop i lines) ≡ max (min 28 (length (string_bytes (get_or lines i d)))) (most_letters (drop (i + 1) lines))
+pub letters_step : (lines : List (List ℕ)) (i : ℕ) (d : List ℕ) → i < length lines →
+    most_letters (drop i lines) ≡ max (min 28 (length (get_or lines i d))) (most_letters (drop (i + 1) lines))
 letters_step lines i d within = at_drop_more most_letters lines i d within
 
-pub letters_last : (lines : List (String Global)) (i : ℕ) → length lines ≤ i → most_letters (drop i lines) ≡ 0
+pub letters_last : (lines : List (List ℕ)) (i : ℕ) → length lines ≤ i → most_letters (drop i lines) ≡ 0
 letters_last lines i all = at_drop_all most_letters lines i all
 
 pub power_begin : (calls : ℕ) → step_from (20 - 0) 1 calls ≡ step_of calls

@@ -1,6 +1,5 @@
 -- The axis of calls: their lines if there are few calls, else their numbers.
-use Rattle.std.specs.Prelude.{ℕ, zero, suc, ◌+◌, ◌-◌, ◌*◌, ◌/◌, min, max, nat_eq, nat_lt, nat_le, List, [], ◌∷◌, ◌++◌, length, take, map, codes, decimal, String, string_bytes, if◌then◌else◌}
-use Rattle.std.specs.declared.alloc.Global.{Global}
+use Rattle.std.specs.Prelude.{ℕ, zero, suc, ◌+◌, ◌-◌, ◌*◌, ◌/◌, min, max, Bool, ◌&&◌, nat_eq, nat_lt, nat_le, List, [], ◌∷◌, ◌++◌, length, take, map, codes, decimal, if◌then◌else◌}
 use Rattle.heap_history.specs.Columns.{x_of}
 use Rattle.heap_map.specs.Words.{commas}
 use Rattle.heap_map.specs.Shapes.{text_at, rect}
@@ -32,14 +31,62 @@ unfoldable pub line_text : ℕ → ℕ → ℕ → ℕ → List ℕ → List ℕ
 line_text top y calls call line = grid_text top y calls call ++ down_text (middle_of calls call) (y + 6) (short_words line)
 
 -- the calls from one on, with their lines
-abbrev pub lines_text : ℕ → ℕ → ℕ → ℕ → List (String Global) → List ℕ
+abbrev pub lines_text : ℕ → ℕ → ℕ → ℕ → List (List ℕ) → List ℕ
 lines_text top y calls call [] = []
-lines_text top y calls call (line ∷ lines) = line_text top y calls call (string_bytes line) ++ lines_text top y calls (call + 1) lines
+lines_text top y calls call (line ∷ lines) = line_text top y calls call line ++ lines_text top y calls (call + 1) lines
 
 -- the letters of the longest line, and 28 at most
-abbrev pub most_letters : List (String Global) → ℕ
+abbrev pub most_letters : List (List ℕ) → ℕ
 most_letters [] = 0
-most_letters (line ∷ lines) = max (min 28 (length (string_bytes line))) (most_letters lines)
+most_letters (line ∷ lines) = max (min 28 (length line)) (most_letters lines)
+
+-- the letters of the longest word of a line, of whose first word so many came already
+abbrev pub longest_from : ℕ → List ℕ → ℕ
+longest_from letters [] = letters
+longest_from letters (letter ∷ line) = if nat_eq letter 32 then max letters (longest_from 0 line) else longest_from (letters + 1) line
+
+-- those of the longest word of all lines
+abbrev pub longest_word : List (List ℕ) → ℕ
+longest_word [] = 0
+longest_word (line ∷ lines) = max (longest_from 0 line) (longest_word lines)
+
+-- the words of a line, which are between spaces
+abbrev pub words_number : List ℕ → ℕ
+words_number [] = 1
+words_number (letter ∷ line) = if nat_eq letter 32 then 1 + words_number line else words_number line
+
+-- those of the line that has most
+abbrev pub most_words : List (List ℕ) → ℕ
+most_words [] = 0
+most_words (line ∷ lines) = max (words_number line) (most_words lines)
+
+-- whether the lines stand upright, the words of each below one another: there are at most 32, each with at most eight words, and
+-- each has room beside the next, with 8 pixels for a letter
+abbrev pub are_upright : ℕ → List (List ℕ) → Bool
+are_upright calls lines = nat_le calls 32 && (nat_le (most_words lines) 8 && nat_le (calls * (8 * longest_word lines + 6)) 1024)
+
+-- the first word of a line is darker than those below it
+abbrev pub word_class : ℕ → List ℕ
+word_class place = if nat_eq place 0 then codes "m" else codes "m faint"
+
+-- a word of a line, so many below the first
+unfoldable pub word_text : ℕ → ℕ → ℕ → List ℕ → List ℕ
+word_text x y place word = text_at (word_class place) (x + 4) (y + 13 + 14 * place) word
+
+-- the words of a line, of the first of which there are letters already
+abbrev pub words_text : ℕ → ℕ → ℕ → List ℕ → List ℕ → List ℕ
+words_text x y place word [] = word_text x y place word
+words_text x y place word (letter ∷ line) =
+    if nat_eq letter 32 then word_text x y place word ++ words_text x y (place + 1) [] line else words_text x y place (word ++ plain letter ∷ []) line
+
+-- a call with its line upright
+unfoldable pub upright_text : ℕ → ℕ → ℕ → ℕ → List ℕ → List ℕ
+upright_text top y calls call line = grid_text top y calls call ++ words_text (x_of call calls) y 0 [] line
+
+-- the calls from one on, with their lines upright
+abbrev pub uprights_text : ℕ → ℕ → ℕ → ℕ → List (List ℕ) → List ℕ
+uprights_text top y calls call [] = []
+uprights_text top y calls call (line ∷ lines) = upright_text top y calls call line ++ uprights_text top y calls (call + 1) lines
 
 -- The least of a number, two and five times as much, and of ten times as much so many times, that makes ten of it reach so many calls.
 abbrev pub step_from : ℕ → ℕ → ℕ → ℕ
@@ -68,9 +115,15 @@ unfoldable pub numbers_text : ℕ → ℕ → ℕ → List ℕ
 numbers_text top y calls = text_at (codes "q") 24 (y + 14) (codes "calls") ++ ticks_text top y calls (step_of calls) (calls / step_of calls + 1)
 
 -- the axis, from the top of the grid on, its words below a height
-unfoldable pub calls_text : ℕ → ℕ → ℕ → List (String Global) → List ℕ
-calls_text top y calls lines = if nat_eq (length lines) 0 then numbers_text top y calls else lines_text top y calls 0 lines
+unfoldable pub calls_text : ℕ → ℕ → ℕ → List (List ℕ) → List ℕ
+calls_text top y calls lines =
+    if nat_eq (length lines) 0 then numbers_text top y calls
+    else if are_upright calls lines then uprights_text top y calls 0 lines
+    else lines_text top y calls 0 lines
 
 -- its height below that
-abbrev pub calls_height : List (String Global) → ℕ
-calls_height lines = if nat_eq (length lines) 0 then 18 else 8 * most_letters lines + 10
+abbrev pub calls_height : ℕ → List (List ℕ) → ℕ
+calls_height calls lines =
+    if nat_eq (length lines) 0 then 18
+    else if are_upright calls lines then 14 * most_words lines + 4
+    else 8 * most_letters lines + 10

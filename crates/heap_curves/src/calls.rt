@@ -2,12 +2,14 @@
 ghost use Rattle.std.specs.Prelude.{◌≡◌, ◌<◌, ◌≤◌, ◌+◌, ◌*◌, ◌/◌, ◌^◌, ◌++◌, map, length, take, OnOk, string_bytes};
 ghost use Rattle.heap_curves.specs.Calls.{plain, short_words, down_text, grid_text, middle_of, line_text, lines_text, most_letters, step_of, tick_text, ticks_text, numbers_text, calls_text, calls_height};
 
+use crate::upright::{are_upright, most_words, push_uprights};
 use heap_history::x_of;
 use heap_map::{Area, push_commas, push_rect, push_text};
+use heap_model::Bytes;
 use std::alloc::{AllocError, Global};
 
-// A letter that can stand in a document as it is; else a question mark.
-fn plain(letter: u8) -> u8
+/// A letter that can stand in a document as it is; else a question mark.
+pub fn plain(letter: u8) -> u8
     ensures value { result ≡ plain letter }
     ensures few { result < 128 }
 {
@@ -46,14 +48,13 @@ fn first_letters(letters: &[u8]) -> &[u8]
 
 // Puts the line of a call at the end, in 28 letters at most.
 #[tactic(auto, unfolding(crate::specs::Calls::short_words))]
-fn push_short(out: &mut String, line: &str) -> Result<(), AllocError>
+fn push_short(out: &mut String, line: &[u8]) -> Result<(), AllocError>
     ensures { OnOk result (string_bytes out.new ≡ string_bytes out.old ++ short_words line.now) }
 {
-    let letters = line.as_bytes();
-    if letters.len() <= 28 {
-        return push_letters(out, letters);
+    if line.len() <= 28 {
+        return push_letters(out, line);
     }
-    push_letters(out, first_letters(letters))?;
+    push_letters(out, first_letters(line))?;
     out.push_str("..")
 }
 
@@ -68,9 +69,15 @@ fn push_down(out: &mut String, x: u128, y: u128, words: &str) -> Result<(), Allo
     )
 }
 
-// Puts a line of the grid at the end.
+/// Puts a line of the grid at the end, at the begin of a call, from a height down to another.
 #[tactic(auto, unfolding(crate::specs::Calls::grid_text))]
-fn push_grid(out: &mut String, top: u128, y: u128, calls: u64, call: u64) -> Result<(), AllocError>
+pub fn push_grid(
+    out: &mut String,
+    top: u128,
+    y: u128,
+    calls: u64,
+    call: u64,
+) -> Result<(), AllocError>
     ensures { OnOk result (string_bytes out.new ≡ string_bytes out.old ++ grid_text top y calls call) }
 {
     let area = Area {
@@ -98,7 +105,7 @@ fn push_line(
     y: u128,
     calls: u64,
     call: u64,
-    line: &str,
+    line: &[u8],
 ) -> Result<(), AllocError>
     requires { y < 2 ^ 100 }
     ensures { OnOk result (string_bytes out.new ≡ string_bytes out.old ++ line_text top y calls call line.now) }
@@ -117,14 +124,14 @@ fn push_lines(
     top: u128,
     y: u128,
     calls: u64,
-    lines: &[String],
+    lines: &[Bytes],
 ) -> Result<(), AllocError>
     requires { y < 2 ^ 100 }
     ensures { OnOk result (string_bytes out.new ≡ string_bytes out.old ++ lines_text top y calls 0 lines.now) }
 {
     let mut call = 0;
     for line in lines {
-        push_line(alloc, out, top, y, calls, call, line.as_str())?;
+        push_line(alloc, out, top, y, calls, call, line.as_slice())?;
         call += 1;
     }
     Ok(())
@@ -132,7 +139,7 @@ fn push_lines(
 
 // The letters of the longest line, and 28 at most.
 #[tactic(auto, using(crate::proofs::Loops::letters_step, crate::proofs::Loops::letters_last, std::proofs::lemmas::Grind::common_steps))]
-fn most_letters(lines: &[String]) -> u128
+fn most_letters(lines: &[Bytes]) -> u128
     ensures value { result ≡ most_letters lines.now }
     ensures few { result ≤ 28 }
 {
@@ -233,7 +240,7 @@ fn push_numbers(
 }
 
 /// Puts the axis of calls at the end: a grid from the top on, and below a height the lines of the calls, if there are some,
-/// and else their numbers.
+/// and else their numbers. The lines stand upright if they have room, a word below the other, and else downwards.
 #[tactic(auto, unfolding(crate::specs::Calls::calls_text))]
 pub fn push_calls(
     alloc: Global,
@@ -241,7 +248,7 @@ pub fn push_calls(
     top: u128,
     y: u128,
     calls: u64,
-    lines: &[String],
+    lines: &[Bytes],
 ) -> Result<(), AllocError>
     requires { y < 2 ^ 100 }
     ensures { OnOk result (string_bytes out.new ≡ string_bytes out.old ++ calls_text top y calls lines.now) }
@@ -249,16 +256,22 @@ pub fn push_calls(
     if lines.is_empty() {
         return push_numbers(alloc, out, top, y, calls);
     }
+    if are_upright(calls, lines) {
+        return push_uprights(alloc, out, top, y, calls, lines);
+    }
     push_lines(alloc, out, top, y, calls, lines)
 }
 
 /// The height of the axis below that, in pixels.
-pub fn calls_height(lines: &[String]) -> u128
+pub fn calls_height(calls: u64, lines: &[Bytes]) -> u128
     ensures few { result ≤ 234 }
-    ensures value { result ≡ calls_height lines.now }
+    ensures value { result ≡ calls_height calls lines.now }
 {
     if lines.is_empty() {
         return 18;
+    }
+    if are_upright(calls, lines) {
+        return 14 * u128::from(most_words(lines)) + 4;
     }
     8 * most_letters(lines) + 10
 }

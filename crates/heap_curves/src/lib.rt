@@ -16,6 +16,7 @@ mod lanes;
 mod laws;
 mod paths;
 mod refused;
+mod upright;
 
 pub use calls::{calls_height, push_calls};
 pub use curves::{curves_height, push_curves};

@@ -1,5 +1,5 @@
 // What a run did to its heap.
-use heap_model::{Refusal, Region};
+use heap_model::{Bytes, Refusal, Region};
 use public_list::PublicList;
 
 /// How a stay ended.
@@ -102,8 +102,8 @@ pub struct RefusedCall {
 /// Refused calls, by ascending number.
 pub type RefusedList = PublicList<RefusedCall>;
 
-/// Lines of calls.
-pub type LineList = PublicList<String>;
+/// The letters of lines, without their line feeds.
+pub type LineList = PublicList<Bytes>;
 
 /// What a run did to its heap.
 #[derive(Drop)]
@@ -118,6 +118,6 @@ pub struct History {
     /// One for each call.
     pub moments: MomentList,
     pub refused: RefusedList,
-    /// The lines of the calls if there are at most 64, and else none.
+    /// The lines that ask for the calls, if there are at most 64 calls, and else none.
     pub lines: LineList,
 }

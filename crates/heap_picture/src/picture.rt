@@ -1,5 +1,5 @@
 // The picture of a run.
-ghost use Rattle.std.specs.Prelude.{◌≡◌, ◌≤◌, ◌^◌, ◌<◌, ◌++◌, ⊤, codes, map, string_bytes, OnOk};
+ghost use Rattle.std.specs.Prelude.{◌≡◌, ◌≤◌, ◌^◌, ◌<◌, ◌++◌, ⊤, map, string_bytes, OnOk};
 ghost use Rattle.std.specs.Str.{bytes_eq};
 ghost use Rattle.dlmalloc_chunks.specs.Tiling.{AreInSegments};
 ghost use Rattle.heap_model.specs.State.{State};
@@ -74,25 +74,11 @@ impl Tell for Picture {
     }
 }
 
-// Whether a word asks for a map.
-fn is_map(word: &str) -> bool
-    ensures { result ≡ bytes_eq word.now (codes "map") }
+// Whether a word is this name of a drawing.
+fn is_name(word: &str, name: &str) -> bool
+    ensures { result ≡ bytes_eq word.now name.now }
 {
-    word.as_bytes() == b"map".as_slice()
-}
-
-// Whether a word asks for the page tables.
-fn is_tables(word: &str) -> bool
-    ensures { result ≡ bytes_eq word.now (codes "tables") }
-{
-    word.as_bytes() == b"tables".as_slice()
-}
-
-// Whether a word asks for the heap over the run.
-fn is_time(word: &str) -> bool
-    ensures { result ≡ bytes_eq word.now (codes "time") }
-{
-    word.as_bytes() == b"time".as_slice()
+    word.as_bytes() == name.as_bytes()
 }
 
 /// Replays the calls of the source, asks for the extents, and writes a drawing of that run, one SVG document. The words are
@@ -110,11 +96,11 @@ pub fn picture_main<S: Source, K: Sink>(
 {
     match words.split_first() {
         Some((word, others)) => {
-            if is_map(word.as_str()) {
+            if is_name(word.as_str(), "map") {
                 tell_main::<Picture, S, K>(alloc, others, source, sink)
-            } else if is_tables(word.as_str()) {
+            } else if is_name(word.as_str(), "tables") {
                 tell_main::<Tables, S, K>(alloc, others, source, sink)
-            } else if is_time(word.as_str()) {
+            } else if is_name(word.as_str(), "time") {
                 tell_main::<Timing, S, K>(alloc, others, source, sink)
             } else {
                 tell_main::<Picture, S, K>(alloc, words, source, sink)

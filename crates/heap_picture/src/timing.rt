@@ -8,7 +8,7 @@ use crate::picture::push_head;
 use heap_history::History;
 use heap_recorder::Recorder;
 use heap_report::Tell;
-use heap_time::{push_time, time_height};
+use heap_time::{bands_of, push_time, time_height};
 use kernel_heap::{Answer, Call, Extent, Machine};
 use std::alloc::{AllocError, Global};
 
@@ -16,9 +16,9 @@ use std::alloc::{AllocError, Global};
 fn push_timing(alloc: Global, out: &mut String, history: &History) -> Result<(), AllocError>
     ensures { OnOk result (string_bytes out.new ≡ string_bytes out.old ++ timing_of style history.now) }
 {
-    let height = time_height(alloc, history)?;
-    push_head(out, height)?;
-    push_time(alloc, out, history)?;
+    let bands = bands_of(alloc, history.stays.as_slice(), history.heap.as_slice())?;
+    push_head(out, time_height(&bands, history))?;
+    push_time(alloc, out, &bands, history)?;
     out.push_str("</svg>\n")
 }
 

@@ -18,7 +18,7 @@ record IsKept (s : State) (notes : Notes) : Type 0 where
   tracks : Tracks s.blocks notes.stays
   past : ArePast (length notes.moments) notes.stays.stays
 
-one_more : (notes : Notes) (call : Call) (answer : Answer) → length (noted notes call answer).moments ≡ suc (length notes.moments)
+pub one_more : (notes : Notes) (call : Call) (answer : Answer) → length (noted notes call answer).moments ≡ suc (length notes.moments)
 one_more notes call answer = let more = length-append notes.moments (moment (sizes_after notes.sizes call answer.reply) (bytes_after answer.regions notes.bytes) ∷ []) in omega (arith, more)
 
 kept : (s : State) (notes : Notes) (call : Call) (answer : Answer) (calls : List Call) (answers : List Answer) → IsAllowedRun s (map Some (call ∷ calls)) (map Some (answer ∷ answers)) → IsKept s notes → IsKept (after s call answer) (noted notes call answer)
@@ -28,7 +28,7 @@ kept s notes call answer calls answers run is = record {
       (past_later (length notes.moments) notes.stays.stays (stays_after (length notes.moments) call answer.reply notes.stays).stays (later (length notes.moments) call answer.reply notes.stays) is.past);
 }
 
-moments_all : (s : State) (notes : Notes) (calls : List Call) (answers : List Answer) → IsAllowedRun s (map Some calls) (map Some answers) → length (notes_from notes calls answers).moments ≡ length notes.moments + length calls
+pub moments_all : (s : State) (notes : Notes) (calls : List Call) (answers : List Answer) → IsAllowedRun s (map Some calls) (map Some answers) → length (notes_from notes calls answers).moments ≡ length notes.moments + length calls
 moments_all s notes [] [] run = omega arith
 moments_all s notes (call ∷ calls) (answer ∷ answers) run =
     let rest = moments_all (after s call answer) (noted notes call answer) calls answers run.1 in

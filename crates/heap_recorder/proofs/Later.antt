@@ -13,16 +13,16 @@ use Rattle.heap_recorder.specs.Shown.{is_spot, shown, shows}
 use Rattle.heap_recorder.specs.Stays.{StayNotes, is_live, goes_on, is_of, is_at, why, new_stay, ended, ended_of, ended_now, resized_from, stays_after, closed}
 use Rattle.heap_recorder.proofs.Tracked.{alive, bit, left_true, why_over}
 
-less_true : (m n : ℕ) → m < n → nat_lt m n ≡ true
+pub less_true : (m n : ℕ) → m < n → nat_lt m n ≡ true
 less_true m n less = grind (arith, nat_tests, less)
 
-less_false : (m n : ℕ) → n ≤ m → nat_lt m n ≡ false
+pub less_false : (m n : ℕ) → n ≤ m → nat_lt m n ≡ false
 less_false m n least = grind (arith, nat_tests, least)
 
-least_true : (m n : ℕ) → m ≤ n → nat_le m n ≡ true
+pub least_true : (m n : ℕ) → m ≤ n → nat_le m n ≡ true
 least_true m n least = grind (arith, nat_tests, least)
 
-least_false : (m n : ℕ) → n < m → nat_le m n ≡ false
+pub least_false : (m n : ℕ) → n < m → nat_le m n ≡ false
 least_false m n less = grind (arith, nat_tests, less)
 
 -- whether a stay shows after a call, if it ends later or not at all

@@ -1,8 +1,11 @@
 pub mod DrawnOnce
+pub mod KeptHeap
+pub mod KeptLines
 pub mod KeptMappings
 pub mod KeptRegions
 pub mod KeptRun
 pub mod KeptStays
 pub mod Later
+pub mod Merged
 pub mod Places
 pub mod Tracked

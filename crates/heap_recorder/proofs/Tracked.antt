@@ -29,7 +29,7 @@ has blocks number address size = lies address size (block_at blocks number)
 abbrev pub alive : ℕ → ℕ → ℕ → Stay → Bool
 alive number address size stay = goes_on stay && is_spot number address size stay
 
-same_number : (m n : ℕ) → nat_eq m n ≡ true → m ≡ n
+pub same_number : (m n : ℕ) → nat_eq m n ≡ true → m ≡ n
 same_number m n same = grind (arith, nat_tests, same)
 
 equal : (n : ℕ) → nat_eq n n ≡ true

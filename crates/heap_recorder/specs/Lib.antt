@@ -1,3 +1,4 @@
+pub mod Lines
 pub mod Mappings
 pub mod Places
 pub mod Regions

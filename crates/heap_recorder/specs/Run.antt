@@ -15,6 +15,7 @@ use Rattle.heap_model.specs.Answer.{slots_of}
 use Rattle.heap_model.specs.Room.{user_region}
 use Rattle.heap_model.specs.State.{total_pages}
 use Rattle.heap_recorder.specs.Sizes.{sizes_after}
+use Rattle.heap_recorder.specs.Lines.{lines_after, lines_of}
 use Rattle.heap_recorder.specs.Mappings.{mapped, unmapped, mappings_at_end}
 use Rattle.heap_recorder.specs.Regions.{RegionNotes, regions_after, regions_at_end}
 use Rattle.heap_recorder.specs.Stays.{StayNotes, stays_after, stays_at_end}
@@ -32,6 +33,8 @@ pub record Notes : Type 0 where
   -- one for each call
   pub moments : List Moment
   pub refused : List RefusedCall
+  -- those of the calls, until there are more than 64
+  pub lines : List (List ℕ)
 
 -- no call was made
 abbrev pub nothing : Notes
@@ -44,6 +47,7 @@ nothing = record {
   bytes = 0;
   moments = [];
   refused = [];
+  lines = [];
 }
 
 -- the regions of the heap, if the answer lists them
@@ -95,6 +99,7 @@ noted notes call answer = record {
   bytes = bytes_after answer.regions notes.bytes;
   moments = notes.moments ++ moment (sizes_after notes.sizes call answer.reply) (bytes_after answer.regions notes.bytes) ∷ [];
   refused = refused_after (length notes.moments) answer.reply notes.refused;
+  lines = lines_after (length notes.moments) call notes.lines;
 }
 
 -- the notes after calls and their answers
@@ -115,12 +120,16 @@ history_in notes = record {
   large = notes.large;
   moments = notes.moments;
   refused = notes.refused;
-  lines = [];
+  lines = notes.lines;
 }
 
 -- The history of a run with these calls and answers.
 abbrev pub history_of : List Call → List Answer → History
 history_of calls answers = history_in (notes_of calls answers)
+
+-- The lines of a history are those of the calls.
+abbrev pub LinesAreTheCalls : Type 0
+LinesAreTheCalls = (calls : List Call) (answers : List Answer) → length calls ≡ length answers → (history_of calls answers).lines ≡ lines_of calls
 
 -- The notes are those of a run with these calls, an answer to each.
 pub record IsRecordOf (notes : Notes) (calls : List Call) (answers : List Answer) : Type 0 where

@@ -1,9 +1,11 @@
--- The stays of a run are its live blocks.
+-- The stays of a run are its live blocks, and the regions that it notes are those of its heap.
 use Rattle.std.specs.Prelude.{◌≡◌, ◌<◌, ℕ, zero, suc, ◌+◌, Bool, false, ◌&&◌, nat_eq, nat_le, nat_lt, if◌then◌else◌, List, [], ◌∷◌, length, map, Option, Some, None}
+use Rattle.heap_history.specs.declared.history.Held.{Held}
 use Rattle.heap_history.specs.declared.history.Stay.{Stay}
 use Rattle.heap_model.specs.declared.answer.Answer.{Answer}
 use Rattle.heap_model.specs.declared.call.Call.{Call}
 use Rattle.heap_model.specs.declared.config.Config.{Config}
+use Rattle.heap_model.specs.declared.region.Region.{Region}
 use Rattle.heap_model.specs.Answer.{after}
 use Rattle.heap_model.specs.Run.{IsAllowedRun}
 use Rattle.heap_model.specs.State.{State, Block, block_at, start}
@@ -17,10 +19,10 @@ is_spot number address size stay = nat_eq stay.block number && (nat_eq stay.addr
 abbrev pub shows : ℕ → ℕ → ℕ → ℕ → Stay → Bool
 shows call number address size stay = nat_le stay.born call && (nat_lt call stay.end && is_spot number address size stay)
 
--- how many stays show so
-abbrev pub shown : (Stay → Bool) → List Stay → ℕ
+-- how many of a list show so
+abbrev pub shown : {A : Type 0} → (A → Bool) → List A → ℕ
 shown test [] = 0
-shown test (stay ∷ stays) = (if test stay then 1 else 0) + shown test stays
+shown test (one ∷ more) = (if test one then 1 else 0) + shown test more
 
 -- whether a block is live, and at the address with the size
 abbrev pub lies : ℕ → ℕ → Option Block → Bool
@@ -47,3 +49,26 @@ AreStays s calls answers stays =
 abbrev pub EachBlockIsDrawnOnce : Type 0
 EachBlockIsDrawnOnce =
     (config : Config) (calls : List Call) (answers : List Answer) → IsAllowedRun (start config) (map Some calls) (map Some answers) → AreStays (start config) calls answers (history_of calls answers).stays
+
+-- whether a region of the heap begins at the address and has so many pages
+abbrev pub is_part : ℕ → ℕ → Held → Bool
+is_part start pages held = nat_eq held.start start && nat_eq held.pages pages
+
+-- whether the heap has it so after a call: it came with that call or before, and goes later
+abbrev pub shows_part : ℕ → ℕ → ℕ → Held → Bool
+shows_part call start pages held = nat_le held.born call && (nat_lt call held.end && is_part start pages held)
+
+-- whether a region of a state is so
+abbrev pub is_region : ℕ → ℕ → Region → Bool
+is_region start pages region = nat_eq region.start start && nat_eq region.pages pages
+
+-- After each call, as many regions that are noted show with a first address and so many pages as the heap has such regions.
+abbrev pub AreParts : State → List Call → List Answer → List Held → Type 0
+AreParts s calls answers heap =
+    (call start pages : ℕ) → call < length calls →
+    shown (shows_part call start pages) heap ≡ shown (is_region start pages) (state_after s calls answers (suc call)).heap
+
+-- So are the regions of each run from the start.
+abbrev pub EachRegionIsDrawnOnce : Type 0
+EachRegionIsDrawnOnce =
+    (config : Config) (calls : List Call) (answers : List Answer) → IsAllowedRun (start config) (map Some calls) (map Some answers) → AreParts (start config) calls answers (history_of calls answers).heap

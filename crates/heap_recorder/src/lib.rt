@@ -2,12 +2,13 @@
 #![tactic(auto)]
 
 mod laws;
+mod lines;
 mod mappings;
 mod note;
 mod recorder;
 mod regions;
 mod stays;
 
-pub use laws::each_block_is_drawn_once;
+pub use laws::{each_block_is_drawn_once, each_region_is_drawn_once, lines_are_the_calls};
 pub use note::note_answer;
 pub use recorder::Recorder;

@@ -3,6 +3,7 @@ ghost use Rattle.std.specs.Prelude.{◌≡◌, ◌++◌, ◌-◌, length, map, t
 ghost use Rattle.heap_model.specs.Answer.{slots_of};
 ghost use Rattle.heap_recorder.specs.Run.{is_map, large_page, heap_noted, bytes_after, mappings_after, larges_after, refused_after};
 
+use crate::lines::note_line;
 use crate::mappings::Mappings;
 use crate::note::note_answer;
 use crate::regions::{Regions, bytes_of};
@@ -138,7 +139,7 @@ fn note_refused(refused: &mut RefusedList, number: u64, reply: &Reply) -> Result
 }
 
 /// What a run did so far. Each call and its answer is noted in turn, in constant time beside the lists that the answer
-/// brings; a reset takes as long as blocks ever began.
+/// brings; a reset goes over the blocks of the calls since the one before.
 #[derive(Drop)]
 pub struct Recorder {
     alloc: Global,
@@ -150,6 +151,7 @@ pub struct Recorder {
     bytes: u128,
     moments: MomentList,
     refused: RefusedList,
+    lines: LineList,
 }
 
 impl Model for Recorder {
@@ -166,6 +168,7 @@ impl Model for Recorder {
       bytes = all.bytes;
       moments = all.moments;
       refused = all.refused;
+      lines = all.lines;
     } };
 }
 
@@ -190,6 +193,7 @@ impl Recorder {
             bytes: 0,
             moments: MomentList::new(alloc),
             refused: RefusedList::new(alloc),
+            lines: LineList::new(alloc),
         }
     }
 
@@ -204,6 +208,7 @@ impl Recorder {
         note_answer(&mut self.sizes, call, &answer.reply)?;
         self.bytes = bytes_after(&answer.regions, self.bytes);
         note_refused(&mut self.refused, number, &answer.reply)?;
+        note_line(self.alloc, &mut self.lines, number, call)?;
         self.moments.push(Moment {
             live: self.sizes.sum(),
             heap: self.bytes,
@@ -225,13 +230,13 @@ impl Recorder {
     {
         let calls = self.moments.len();
         let Recorder {
-            alloc,
             stays,
             regions,
             mappings,
             large,
             moments,
             refused,
+            lines,
             ..
         } = self;
         Ok(History {
@@ -241,7 +246,7 @@ impl Recorder {
             large,
             moments,
             refused,
-            lines: LineList::new(alloc),
+            lines,
         })
     }
 }

@@ -1,38 +1,20 @@
 -- What is noted of a moment is what is so of the state.
-use Rattle.std.proofs.Common.{◌≡◌, ◌<◌, ℕ, zero, suc, ◌+◌, ◌*◌, ◌%◌, ◌^◌, true, false, List, [], ◌∷◌, ◌++◌, length, length-append, map, Option, Some, None, refl, sym, ◌∙◌, ap, arith}
+use Rattle.std.proofs.Common.{◌≡◌, ◌<◌, ℕ, zero, suc, ◌+◌, ◌*◌, ◌%◌, ◌^◌, List, [], ◌∷◌, ◌++◌, length, length-append, map, Option, Some, None, refl, sym, ◌∙◌, ap, arith}
 use Rattle.std.specs.Prelude.{slice_get, sum}
 use Rattle.heap_history.specs.declared.history.Moment.{Moment}
 use Rattle.heap_model.specs.declared.answer.Answer.{Answer}
-use Rattle.heap_model.specs.declared.answer.Reply.{Reply}
-use Rattle.heap_model.specs.declared.answer.Reply.TheVariants.{Block as Placed, Done, Bytes, Byte, Accepted, Released}
 use Rattle.heap_model.specs.declared.call.Call.{Call}
-use Rattle.heap_model.specs.declared.call.Call.TheVariants.{Malloc, Calloc, Realloc, CRealloc, Free, Write, Read, Map, Unmap, Probe, SetGranularity, Reset}
 use Rattle.heap_model.specs.declared.region.Region.{Region}
 use Rattle.heap_model.specs.State.{State, start, total_pages}
 use Rattle.heap_model.specs.Answer.{IsAllowed, NewPages, after, changed, new_pages, slots_of, with_regions}
 use Rattle.heap_model.specs.Run.{IsAllowedRun}
+use Rattle.heap_recorder.proofs.KeptHeap.{changed_heap}
 use Rattle.heap_recorder.specs.Run.{Notes, nothing, noted, notes_from, bytes_after}
 use Rattle.heap_recorder.specs.Shown.{state_after}
 use Rattle.heap_recorder.specs.Sizes.{sizes_after}
 use Rattle.heap_report.specs.Live.{live, sizes_of}
 use Rattle.heap_report.specs.Moments.{moment_of, EachMomentIsOfItsState}
 use Rattle.heap_report.proofs.KeptSizes.{kept_sizes}
-
-changed_heap : (s : State) (call : Call) (reply : Reply) → (changed s call reply).heap ≡ s.heap
-changed_heap s (Malloc size align) (Placed number address) = refl
-changed_heap s (Calloc size align) (Placed number address) = refl
-changed_heap s (Realloc number size) (Placed given address) = refl
-changed_heap s (CRealloc number size) (Placed given address) = refl
-changed_heap s (Free number) Done = refl
-changed_heap s (Write number offset bytes) Done = refl
-changed_heap s (Read number offset count) (Bytes bytes) = refl
-changed_heap s (Map start pages rights) Done = refl
-changed_heap s (Unmap start pages) Done = refl
-changed_heap s (Probe at access user) (Byte byte) = refl
-changed_heap s (SetGranularity granularity) (Accepted true) = refl
-changed_heap s (SetGranularity granularity) (Accepted false) = refl
-changed_heap s Reset (Released bytes) = refl
-changed_heap s call reply = refl
 
 abbrev bytes_of : State → ℕ
 bytes_of s = 4096 * total_pages s.heap % 2 ^ 128

@@ -1,24 +1,22 @@
 -- The call for the extents.
-use Rattle.std.proofs.Common.{◌≡◌, ◌-◌, ℕ, max, List, [], ◌∷◌, ◌++◌, length, length-append, map, inl, inr, Option, Some, None, refl, sym, ◌∙◌, ap, subst, arith}
-use Rattle.std.specs.Prelude.{sum, slice_get}
+use Rattle.std.proofs.Common.{◌≡◌, ℕ, List, inl, inr, Option, None, refl, sym, ◌∙◌, ap, subst}
+use Rattle.std.specs.Prelude.{sum}
 use Rattle.dlmalloc_chunks.specs.declared.extent.Extent.{Extent}
 use Rattle.heap_model.specs.declared.answer.Answer.{Answer}
 use Rattle.heap_model.specs.declared.answer.Reply.{Reply}
 use Rattle.heap_model.specs.declared.answer.Reply.TheVariants.{Extents as Listing, Refused}
-use Rattle.heap_model.specs.declared.call.Call.{Call}
 use Rattle.heap_model.specs.declared.call.Call.TheVariants.{Extents}
 use Rattle.heap_model.specs.declared.region.Region.{Region}
 use Rattle.heap_model.specs.State.{State}
 use Rattle.heap_model.specs.Answer.{IsAllowed, IsReply, after, changed, new_pages, slots_of, with_regions}
 use Rattle.heap_model.specs.Extents.{IsTiling}
-use Rattle.heap_model.specs.Run.{RunsTo}
 use Rattle.kernel_heap.specs.declared.machine.Machine.{Machine}
 use Rattle.heap_program.specs.Progress.{IsAt}
 use Rattle.heap_report.specs.declared.listed.Listed.{Listed}
 use Rattle.heap_report.specs.declared.replay.Replay.{Replay}
-use Rattle.heap_report.specs.Listed.{EndsWith, IsListed}
-use Rattle.heap_report.specs.Live.{peak}
-use Rattle.heap_report.specs.Replaying.{IsReplayed}
+use Rattle.heap_report.specs.Listed.{IsListed}
+use Rattle.heap_report.specs.Replaying.{IsAnswered}
+use Rattle.heap_report.proofs.Serving.{answered_one}
 
 -- a reply with extents, which tile the heap; no region is new
 record IsListing (s : State) (reply : Reply) (regions : Option (List Region)) : Type 0 where
@@ -51,55 +49,23 @@ lists_extents s answer allowed =
     let same = same_state s answer.reply listing.extents answer.regions (slots_of answer.large) listing.lists listing.none in
     record { extents = listing.extents; lists = listing.lists; tiles = subst (λ (e : State). IsTiling e listing.extents) (sym same) listing.tiles }
 
--- one answer to one call
-pub record IsSingle (s : State) (call : Call) (answers : List Answer) (state : State) : Type 0 where
-  pub answer : Answer
-  pub is : answers ≡ answer ∷ []
-  pub allowed : IsAllowed s call answer
-  pub last : state ≡ after s call answer
-
-pub single : (s e : State) (call : Call) (answers : List Answer) → RunsTo s (map Some (call ∷ [])) (map Some answers) e → IsSingle s call answers e
-single s e call [] run = absurd run.run
-single s e call (answer ∷ []) run = record { answer = answer; is = refl; allowed = run.run.0.0; last = run.last }
-single s e call (answer ∷ other ∷ answers) run = absurd run.run.1
-
--- the last of some answers
-last_is : (xs : List Answer) (x : Answer) → slice_get (xs ++ x ∷ []) (length xs) ≡ Some x
-last_is [] x = refl
-last_is (y ∷ xs) x = last_is xs x
-
-some_same : (x y : Answer) → Some x ≡ Some y → x ≡ y
-some_same x y same = cc
-
--- the answer that is found there is the list of the extents
-pub found : (answers : List Answer) (answer : Answer) (extents : List Extent) → slice_get answers (length answers - 1) ≡ Some answer → EndsWith answers extents → answer.reply ≡ Listing extents
-found answers answer extents is ends =
-    let long = ap length ends.split ∙ length-append ends.earlier (ends.last ∷ []) in
-    let count : length answers - 1 ≡ length ends.earlier = omega (arith, long) in
-    let last : slice_get answers (length answers - 1) ≡ Some ends.last =
-    (λ i. slice_get (ends.split i) (count i)) ∙ last_is ends.earlier ends.last in
-    ap (λ (a : Answer). a.reply) (some_same answer ends.last (sym is ∙ last)) ∙ ends.listed
-
 pub extents_same : (xs ys : List Extent) → Listing xs ≡ Listing ys → xs ≡ ys
 extents_same xs ys same = cc
 
--- what a run is that was served and ends with the extents
-pub listed_from : (replay served : Replay) (listed : Listed) → IsReplayed replay (Extents ∷ []) served → ((extents : List Extent) → EndsWith served.answers extents → listed.extents ≡ extents)
-    → listed.machine ≡ served.machine → listed.answers ≡ served.answers → listed.live ≡ sum served.sizes → listed.peak ≡ served.peak → IsListed replay listed
-listed_from replay served listed h found machine answers sums top = λ s follows least.
-    let end = h s follows least in
-    let one = single s end.state Extents end.answers end.run in
-    let kept : served.answers ≡ replay.answers ++ one.answer ∷ [] = end.kept ∙ ap (λ (l : List Answer). replay.answers ++ l) one.is in
-    let list = lists_extents s one.answer one.allowed in
-    let same : listed.extents ≡ list.extents = found list.extents (record { earlier = replay.answers; last = one.answer; split = kept; listed = list.lists }) in
+-- what a run is whose last call asked for the extents
+pub listed_from : (replay served : Replay) (answer : Answer) (listed : Listed) → IsAnswered replay Extents answer served → ((extents : List Extent) → answer.reply ≡ Listing extents → listed.extents ≡ extents)
+    → listed.machine ≡ served.machine → listed.live ≡ sum served.sizes → listed.peak ≡ served.peak → IsListed replay listed
+listed_from replay served answer listed is found machine sums top = λ s follows least.
+    let one = answered_one s replay served served Extents answer follows least is refl refl refl in
+    let list = lists_extents s answer (is.step s follows.at).allowed in
+    let same : listed.extents ≡ list.extents = found list.extents list.lists in
     record {
-      answer = one.answer;
-      state = end.state;
-      run = subst (λ (l : List Answer). RunsTo s (Some Extents ∷ []) (map Some l) end.state) one.is end.run;
-      kept = answers ∙ kept;
+      answer = answer;
+      state = after s Extents answer;
+      run = one.run;
       lists = list.lists ∙ ap (λ (l : List Extent). Listing l) (sym same);
-      tiles = subst (λ (l : List Extent). IsTiling end.state l) (sym same) (subst (λ (e : State). IsTiling e list.extents) (sym one.last) list.tiles);
-      at = subst (λ (m : Machine). IsAt m end.state) (sym machine) end.follows.at;
-      live_is = sums ∙ ap sum end.follows.sizes;
-      peak_is = top ∙ end.peak_is ∙ ap (λ (l : List Answer). max replay.peak (peak s (Extents ∷ []) l)) one.is;
+      tiles = subst (λ (l : List Extent). IsTiling (after s Extents answer) l) (sym same) list.tiles;
+      at = subst (λ (m : Machine). IsAt m (after s Extents answer)) (sym machine) one.follows.at;
+      live_is = sums ∙ ap sum one.follows.sizes;
+      peak_is = top ∙ one.peak_is;
     }

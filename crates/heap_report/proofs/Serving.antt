@@ -15,7 +15,7 @@ use Rattle.heap_report.specs.Live.{block_size, live, peak, sizes_of}
 use Rattle.heap_recorder.specs.Sizes.{sizes_after}
 use Rattle.heap_report.specs.declared.noted.Noted.{Noted}
 use Rattle.heap_report.specs.Noting.{IsNoted}
-use Rattle.heap_report.specs.Replaying.{Follows, IsAnswered, IsReplayed, IsBegun}
+use Rattle.heap_report.specs.Replaying.{Follows, IsAnswered, IsBegun}
 use Rattle.heap_report.proofs.KeptSizes.{kept_sizes}
 
 -- the greatest of two sums, the first of which was not above the greatest before
@@ -23,12 +23,12 @@ highest : (before first last sum_now now : ℕ) → first ≤ before → now ≡
 highest before first last sum_now now least top same = omega (arith, least, top, same)
 
 -- what is so after a call that was answered: the run of it, and that the sizes and the peak are kept
-record IsOne (s : State) (old : Replay) (call : Call) (answer : Answer) (new : Replay) : Type 0 where
-  run : RunsTo s (Some call ∷ []) (Some answer ∷ []) (after s call answer)
-  follows : Follows (after s call answer) new
-  peak_is : new.peak ≡ max old.peak (peak s (call ∷ []) (answer ∷ []))
+pub record IsOne (s : State) (old : Replay) (call : Call) (answer : Answer) (new : Replay) : Type 0 where
+  pub run : RunsTo s (Some call ∷ []) (Some answer ∷ []) (after s call answer)
+  pub follows : Follows (after s call answer) new
+  pub peak_is : new.peak ≡ max old.peak (peak s (call ∷ []) (answer ∷ []))
 
-answered_one : (s : State) (old middle new : Replay) (call : Call) (answer : Answer) → Follows s old → live s ≤ old.peak → IsAnswered old call answer middle → new.machine ≡ middle.machine → new.sizes ≡ middle.sizes → new.peak ≡ middle.peak → IsOne s old call answer new
+pub answered_one : (s : State) (old middle new : Replay) (call : Call) (answer : Answer) → Follows s old → live s ≤ old.peak → IsAnswered old call answer middle → new.machine ≡ middle.machine → new.sizes ≡ middle.sizes → new.peak ≡ middle.peak → IsOne s old call answer new
 answered_one s old middle new call answer follows least is machine same top =
     let step : IsStep s call answer (seen new.machine) = subst (λ (m : Machine). IsStep s call answer (seen m)) (sym machine) (is.step s follows.at) in
     let sizes_is : new.sizes ≡ sizes_of (after s call answer) =
@@ -41,30 +41,16 @@ answered_one s old middle new call answer follows least is machine same top =
       peak_is = highest old.peak (live s) (live (after s call answer)) (sum new.sizes) new.peak least most sum_is;
     }
 
--- the answer is kept too
-pub served_one : (old middle new : Replay) (call : Call) (answer : Answer) → IsAnswered old call answer middle → new.machine ≡ middle.machine → new.sizes ≡ middle.sizes → new.peak ≡ middle.peak → new.answers ≡ middle.answers ++ answer ∷ [] → IsReplayed old (call ∷ []) new
-served_one old middle new call answer is machine same top kept s follows least =
-    let one = answered_one s old middle new call answer follows least is machine same top in
-    record {
-      answers = answer ∷ [];
-      state = after s call answer;
-      run = one.run;
-      kept = kept ∙ ap (λ (l : List Answer). l ++ answer ∷ []) is.answers;
-      follows = one.follows;
-      peak_is = one.peak_is;
-    }
-
--- and what is kept for the text
+-- with what is kept for the text
 pub noted_one : {T : Type 0} (keeps : T → List Call → List Answer → Type 0) (old new : Noted T) (middle : Replay) (call : Call) (answer : Answer) → IsAnswered old.replay call answer middle → new.replay.machine ≡ middle.machine → new.replay.sizes ≡ middle.sizes → new.replay.peak ≡ middle.peak →
-    new.replay.answers ≡ middle.answers ++ answer ∷ [] → ((calls : List Call) (answers : List Answer) → keeps old.kept calls answers → keeps new.kept (calls ++ call ∷ []) (answers ++ answer ∷ [])) → IsNoted keeps old (call ∷ []) new
-noted_one keeps old new middle call answer is machine same top kept noted s follows least =
+    ((calls : List Call) (answers : List Answer) → keeps old.kept calls answers → keeps new.kept (calls ++ call ∷ []) (answers ++ answer ∷ [])) → IsNoted keeps old (call ∷ []) new
+noted_one keeps old new middle call answer is machine same top noted s follows least =
     let one = answered_one s old.replay middle new.replay call answer follows least is machine same top in
     record {
       served = record {
         answers = answer ∷ [];
         state = after s call answer;
         run = one.run;
-        kept = kept ∙ ap (λ (l : List Answer). l ++ answer ∷ []) is.answers;
         follows = one.follows;
         peak_is = one.peak_is;
       };

@@ -43,11 +43,12 @@ served_input keeps first last end line l l1 t t1 n before after h k =
 
 -- and then the extents were asked for
 pub record IsWhole {T : Type 0} (keeps : T → List Call → List Answer → Type 0) (s : State) (input : List ℕ) (kept : T) (listed : Listed) : Type 0 where
+  pub answers : List Answer
   pub state : State
-  pub replay : IsReplayOf s input listed.answers state listed.extents
+  pub replay : IsReplayOf s input answers state listed.extents
   pub at : IsAt listed.machine state
   pub live_is : listed.live ≡ live state
-  pub peak_is : listed.peak ≡ peak s (calls_of input) listed.answers
+  pub peak_is : listed.peak ≡ peak s (calls_of input) answers
   pub keeping : keeps kept (calls_in (items_of input)) replay.last.earlier
 
 -- the greatest over a run that begins at 0 and one behind it
@@ -63,29 +64,29 @@ whole keeps s machine first end listed input at none begins served lists =
     let k = all_served.served in
     let up = peak_end s k.state calls k.answers k.run in
     let e = lists k.state k.follows (omega (arith, up, k.peak_is)) in
-    let answers : listed.answers ≡ k.answers ++ e.answer ∷ [] = e.kept ∙ ap (λ (l : List Answer). l ++ e.answer ∷ []) (k.kept ∙ ap (λ (l : List Answer). l ++ k.answers) begun.answers) in
     let all : RunsTo s (map Some (calls_of input)) (map Some (k.answers ++ e.answer ∷ [])) e.state =
     calls_on s k.state e.state calls (Extents ∷ []) k.answers (e.answer ∷ []) k.run e.run in
     let joined = peak-append s k.state calls (Extents ∷ []) k.answers (e.answer ∷ []) k.run in
     let top : listed.peak ≡ peak s (calls_of input) (k.answers ++ e.answer ∷ []) = joined_peak first.replay.peak (peak s calls k.answers) (peak k.state (Extents ∷ []) (e.answer ∷ [])) (peak s (calls_of input) (k.answers ++ e.answer ∷ [])) end.replay.peak listed.peak e.peak_is k.peak_is begun.peak_is joined in
     record {
+      answers = k.answers ++ e.answer ∷ [];
       state = e.state;
       replay = record {
-        run = subst (λ (l : List Answer). RunsTo s (map Some (calls_of input)) (map Some l) e.state) (sym answers) all;
-        last = record { earlier = k.answers; last = e.answer; split = answers; listed = e.lists };
+        run = all;
+        last = record { earlier = k.answers; last = e.answer; split = refl; listed = e.lists };
         tiles = e.tiles;
         good = e.at.good;
       };
       at = e.at;
       live_is = e.live_is;
-      peak_is = top ∙ ap (λ (l : List Answer). peak s (calls_of input) l) (sym answers);
+      peak_is = top;
       keeping = all_served.noted [] [] begins.kept;
     }
 
 -- the text of the run is the one pushed
 pub text_is : {T : Type 0} (keeps : T → List Call → List Answer → Type 0) (text : Text) (s : State) (input : List ℕ) (kept : T) (listed : Listed) (extents : List Extent) (output before : List ℕ) (w : IsWhole keeps s input kept listed) → extents ≡ listed.extents →
     ((e : State) (calls : List Call) (answers : List Answer) → IsAt listed.machine e → keeps kept calls answers → output ≡ before ++ text listed.machine e listed.live listed.peak extents calls answers) → before ≡ []
-    → output ≡ text_of_run text listed.machine s input listed.answers w.state listed.extents w.replay.last.earlier
+    → output ≡ text_of_run text listed.machine s input w.answers w.state listed.extents w.replay.last.earlier
 text_is keeps text s input kept listed extents output before w same pushed empty =
     let calls = calls_in (items_of input) in
     let earlier = w.replay.last.earlier in
@@ -130,7 +131,7 @@ part_read keeps text s first last line l l1 t t1 n h short =
 
 -- one that stopped as it wrote
 pub part_written : {T : Type 0} (keeps : T → List Call → List Answer → Type 0) (text : Text) (s : State) (first last : Noted T) (kept : T) (listed : Listed) (line output : List ℕ) (l l1 t t1 t2 : Option (List ℕ)) (n k : ℕ) (h : HasRead (IsReplaying keeps) first last line l l1 t t1 n) → n ≤ 2 ^ 30 → IsAtEnd l1 → (w : IsWhole keeps s h.bytes kept listed)
-    → output ≡ text_of_run text listed.machine s h.bytes listed.answers w.state listed.extents w.replay.last.earlier → Appends t1 t2 (take k output) → IsToldInPart text s l l1 t t2
+    → output ≡ text_of_run text listed.machine s h.bytes w.answers w.state listed.extents w.replay.last.earlier → Appends t1 t2 (take k output) → IsToldInPart text s l l1 t t2
 part_written keeps text s first last kept listed line output l l1 t t1 t2 n k h short done w is written = record {
   taken = h.bytes;
   read = h.consumed;
@@ -140,7 +141,7 @@ part_written keeps text s first last kept listed line output l l1 t t1 t2 n k h 
   is = inr (record {
     input = h.bytes;
     read = read_whole l l1 h.bytes h.consumed done;
-    answers = listed.answers;
+    answers = w.answers;
     state = w.state;
     extents = listed.extents;
     replay = w.replay;
@@ -153,10 +154,11 @@ part_written keeps text s first last kept listed line output l l1 t t1 t2 n k h 
 
 -- one that ended well
 pub told : {T : Type 0} (keeps : T → List Call → List Answer → Type 0) (text : Text) (s : State) (first last : Noted T) (kept : T) (listed : Listed) (line output : List ℕ) (l l1 t t1 t2 : Option (List ℕ)) (flushed : Option ℕ) (n : ℕ) (h : HasRead (IsReplaying keeps) first last line l l1 t t1 n) → IsAtEnd l1 → (w : IsWhole keeps s h.bytes kept listed)
-    → output ≡ text_of_run text listed.machine s h.bytes listed.answers w.state listed.extents w.replay.last.earlier → Appends t1 t2 output → IsAllFlushed t2 flushed → IsTold text s l l1 t t2 flushed listed.machine listed.answers listed.extents
+    → output ≡ text_of_run text listed.machine s h.bytes w.answers w.state listed.extents w.replay.last.earlier → Appends t1 t2 output → IsAllFlushed t2 flushed → IsTold text s l l1 t t2 flushed listed.machine listed.extents
 told keeps text s first last kept listed line output l l1 t t1 t2 flushed n h done w is written all = record {
   input = h.bytes;
   read = read_whole l l1 h.bytes h.consumed done;
+  answers = w.answers;
   state = w.state;
   replay = w.replay;
   written = subst (Appends t t2) is (appends_behind t t1 t2 output (silent_read keeps first last line l l1 t t1 n h) written);

@@ -20,12 +20,11 @@ pub record EndsWith (answers : List Answer) (extents : List Extent) : Type 0 whe
   pub split : answers ≡ earlier ++ last ∷ []
   pub listed : last.reply ≡ Listing extents
 
--- From the state s the extents were asked for: they tile the heap, the answer is kept, and so are the sums.
+-- From the state s the extents were asked for: they tile the heap, and the sums are those of the run.
 pub record IsListedFrom (s : State) (replay : Replay) (listed : Listed) : Type 0 where
   pub answer : Answer
   pub state : State
   pub run : RunsTo s (Some Extents ∷ []) (Some answer ∷ []) state
-  pub kept : listed.answers ≡ replay.answers ++ answer ∷ []
   pub lists : answer.reply ≡ Listing listed.extents
   pub tiles : IsTiling state listed.extents
   pub at : IsAt listed.machine state

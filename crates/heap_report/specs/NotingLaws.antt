@@ -20,7 +20,6 @@ noted_none keeps x = λ s follows least. record {
     answers = [];
     state = s;
     run = runs_none s;
-    kept = sym (append-nil x.replay.answers);
     follows = follows;
     peak_is = omega (arith, least);
   };
@@ -38,7 +37,6 @@ noted_on keeps x y z a b h k = λ s follows least.
         answers = first.answers ++ last.answers;
         state = last.state;
         run = calls_on s first.state last.state a b first.answers last.answers first.run last.run;
-        kept = last.kept ∙ ap (λ (l : List Answer). l ++ last.answers) first.kept ∙ append_assoc x.replay.answers first.answers last.answers;
         follows = last.follows;
         peak_is = let joined = peak-append s first.state a b first.answers last.answers first.run in omega (arith, last.peak_is, first.peak_is, joined);
       };

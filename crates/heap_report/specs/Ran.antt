@@ -3,7 +3,7 @@ use Rattle.std.specs.Prelude.{◌≡◌, ℕ, List, map, String, string_bytes}
 use Rattle.std.specs.declared.alloc.Global.{Global}
 use Rattle.dlmalloc_chunks.specs.declared.extent.Extent.{Extent}
 use Rattle.heap_model.specs.State.{State}
-use Rattle.command_line.specs.Streams.{Streams}
+use Rattle.heap_program.specs.Streams.{Streams}
 use Rattle.heap_report.specs.declared.reported.Reported.{Reported}
 use Rattle.heap_report.specs.Reported.{EndText}
 use Rattle.heap_report.specs.Telling.{Tells}

@@ -1,5 +1,5 @@
 -- How a replay goes on.
-use Rattle.std.specs.Prelude.{◌≡◌, ◌≤◌, max, sum, List, [], ◌++◌, map, Some}
+use Rattle.std.specs.Prelude.{◌≡◌, max, sum, List, [], map, Some}
 use Rattle.heap_model.specs.declared.answer.Answer.{Answer}
 use Rattle.heap_model.specs.declared.call.Call.{Call}
 use Rattle.heap_model.specs.State.{State}
@@ -10,36 +10,29 @@ use Rattle.kernel_heap.specs.Machine.{seen}
 use Rattle.heap_program.specs.Progress.{IsAt}
 use Rattle.heap_recorder.specs.Sizes.{sizes_after}
 use Rattle.heap_report.specs.declared.replay.Replay.{Replay}
-use Rattle.heap_report.specs.Live.{sizes_of, live, peak}
+use Rattle.heap_report.specs.Live.{sizes_of, peak}
 
 -- the replay's machine stands for the state, and its sizes are those of the live blocks
 pub record Follows (s : State) (replay : Replay) : Type 0 where
   pub at : IsAt replay.machine s
   pub sizes : replay.sizes ≡ sizes_of s
 
--- From the state s the calls were served: the answers are kept behind the earlier ones, and the peak too.
+-- From the state s the calls were served, each by an answer that is allowed; the sizes and the peak are kept.
 pub record IsServedFrom (s : State) (old : Replay) (calls : List Call) (new : Replay) : Type 0 where
   pub answers : List Answer
   pub state : State
   pub run : RunsTo s (map Some calls) (map Some answers) state
-  pub kept : new.answers ≡ old.answers ++ answers
   pub follows : Follows state new
   pub peak_is : new.peak ≡ max old.peak (peak s calls answers)
-
--- so it is from each state that the replay followed; its peak is at least what is live there
-abbrev pub IsReplayed : Replay → List Call → Replay → Type 0
-IsReplayed old calls new = (s : State) → Follows s old → live s ≤ old.peak → IsServedFrom s old calls new
 
 -- The replay answered a call: as is allowed from each state for which its machine stood. The sizes and the peak are kept.
 pub record IsAnswered (old : Replay) (call : Call) (answer : Answer) (new : Replay) : Type 0 where
   pub step : (s : State) → IsAt old.machine s → IsStep s call answer (seen new.machine)
-  pub answers : new.answers ≡ old.answers
   pub sizes : new.sizes ≡ sizes_after old.sizes call answer.reply
   pub peak_is : new.peak ≡ max old.peak (sum new.sizes)
 
 -- no call came yet
 pub record IsBegun (machine : Machine) (replay : Replay) : Type 0 where
   pub machine_is : replay.machine ≡ machine
-  pub answers : replay.answers ≡ []
   pub sizes : replay.sizes ≡ []
   pub peak_is : replay.peak ≡ 0

@@ -38,11 +38,12 @@ text_of_run text machine s input answers state extents earlier =
 
 -- A run that ended well. The source had the input and, after it, has `left`; the sink had taken `before`, and then `after`, of
 -- which `flushed` is flushed.
-pub record IsTold (text : EndText) (s : State) (had left before after : Option (List ℕ)) (flushed : Option ℕ) (machine : Machine) (answers : List Answer) (extents : List Extent) : Type 0 where
+pub record IsTold (text : EndText) (s : State) (had left before after : Option (List ℕ)) (flushed : Option ℕ) (machine : Machine) (extents : List Extent) : Type 0 where
   -- the source is read to its end
   pub input : List ℕ
   pub read : IsReadWhole had left input
   -- its calls are answered, each as is allowed in the state that the answers before it determine
+  pub answers : List Answer
   pub state : State
   pub replay : IsReplayOf s input answers state extents
   -- the text is written, and flushed

@@ -14,13 +14,12 @@ use Rattle.heap_report.specs.Reported.{EndText, IsTold, IsToldInPart}
 -- Under a configuration. The source had the input, and `left` after it; the sink had taken `before`, and then `after`, of which
 -- `flushed` is flushed. The counts are those of the faults, of the source and of the sink, before and after.
 pub record TellsOf (text : EndText) (config : Config) (had left before after : Option (List ℕ)) (flushed : Option ℕ) (reads reads' writes writes' : ℕ) (reported : Reported) : Type 0 where
-  -- at status 0 the machine, the answers and the extents are handed on; the source is read to its end, and the text is written
+  -- at status 0 the machine and the extents are handed on; the source is read to its end, and the text is written
   pub machine : IsSome reported.machine ↔ (reported.status ≡ 0)
-  pub answers : IsSome reported.answers ↔ (reported.status ≡ 0)
   pub extents : IsSome reported.extents ↔ (reported.status ≡ 0)
   pub told :
-      IfSome reported.machine (λ machine. IfSome reported.answers (λ answers. IfSome reported.extents (λ extents.
-      IsTold text (start config) had left before after flushed machine answers extents)))
+      IfSome reported.machine (λ machine. IfSome reported.extents (λ extents.
+      IsTold text (start config) had left before after flushed machine extents))
   -- statuses 2 to 4 tell why no machine could be made
   pub refused : TellsRefusal config reported.status
   -- from 5 on a front of such a text is written, or nothing: at 6 and 8 nothing
@@ -39,6 +38,6 @@ pub record Tells (text : EndText) (words : List (List ℕ)) (had left before aft
   pub statuses : reported.status ≤ 8
   -- status 1 comes exactly if the words are no configuration, and then nothing is handed on
   pub usage : (reported.status ≡ 1) ↔ (config_of words ≡ None)
-  pub nothing : reported.status ≡ 1 → (reported.machine ≡ None) × (reported.answers ≡ None) × (reported.extents ≡ None)
+  pub nothing : reported.status ≡ 1 → (reported.machine ≡ None) × (reported.extents ≡ None)
   -- else the run of that configuration is told of
   pub run : (config : Config) → config_of words ≡ Some config → TellsOf text config had left before after flushed reads reads' writes writes' reported

@@ -27,13 +27,12 @@ impl<T: Tell> Noted<T> {
         }
     }
 
-    /// Serves a call, and keeps the answer and what the text needs of it.
+    /// Serves a call, and keeps what the text needs of it and of its answer.
     pub fn serve(&mut self, call: &Call) -> Result<(), AllocError>
         ensures { OnOk result (IsNoted T.keeps self.old (call.now ∷ []) self.new) }
     {
         let answer = self.replay.answer(call)?;
-        self.kept.note(call, &answer)?;
-        self.replay.answers.push(answer)
+        self.kept.note(call, &answer)
     }
 }
 

@@ -1,7 +1,7 @@
 // How a command ends that tells of a run.
 ghost use Rattle.std.specs.Prelude.{◌≡◌, None};
 
-use kernel_heap::{AnswerList, ExtentList, Machine};
+use kernel_heap::{ExtentList, Machine};
 
 /// How a command ended that tells of a run.
 #[derive(Drop)]
@@ -10,8 +10,6 @@ pub struct Reported {
     pub status: u8,
     /// The machine as it was at the end, if the status is 0.
     pub machine: Option<Machine>,
-    /// The answers to the calls of the input and to the last call, which asks for the extents; if the status is 0.
-    pub answers: Option<AnswerList>,
     /// The extents of the heap at the end, if the status is 0.
     pub extents: Option<ExtentList>,
 }
@@ -20,13 +18,11 @@ pub struct Reported {
 pub fn ended_early(status: u8) -> Reported
     ensures status { result.status ≡ status }
     ensures machine { result.machine ≡ None }
-    ensures answers { result.answers ≡ None }
     ensures extents { result.extents ≡ None }
 {
     Reported {
         status,
         machine: None,
-        answers: None,
         extents: None,
     }
 }

@@ -97,4 +97,4 @@ time_text history =
 -- how high it is
 unfoldable pub time_height : History → ℕ
 time_height history =
-    if nat_eq (calls_of history) 0 then 64 else calls_top (bands_of history.stays history.heap) history + calls_height history.lines + 12
+    if nat_eq (calls_of history) 0 then 64 else calls_top (bands_of history.stays history.heap) history + calls_height (calls_of history) history.lines + 12

@@ -22,5 +22,6 @@ mod moves;
 mod shapes;
 mod time;
 
+pub use axis::bands_of;
 pub use laws::bands_tile_the_axis;
 pub use time::{push_time, time_height};

@@ -1,11 +1,12 @@
 // The drawing of a heap over a run.
-ghost use Rattle.std.specs.Prelude.{◌≡◌, ◌<◌, ◌≤◌, ◌+◌, ◌^◌, ◌++◌, IfOk, OnOk, string_bytes};
+ghost use Rattle.std.specs.Prelude.{◌≡◌, ◌<◌, ◌≤◌, ◌+◌, ◌^◌, ◌++◌, OnOk, string_bytes};
 ghost use Rattle.std.specs.List.{All};
+ghost use Rattle.heap_time.specs.Axis.{bands_of};
 ghost use Rattle.heap_time.specs.Bands.{IsBand};
 ghost use Rattle.heap_time.specs.Time.{calls_of, over_words, call_word, title_words, title_text, is_single, single_text, many_text, stays_text, lanes_top, curves_top, refused_top, calls_top, ground_text, over_text, below_text, drawing_text, time_text, time_height};
 
 use crate::addresses::push_addresses;
-use crate::axis::{bands_of, below_bands};
+use crate::axis::below_bands;
 use crate::blocks::push_blocks;
 use crate::columns::push_columns;
 use crate::covers::parts_number;
@@ -240,26 +241,35 @@ fn push_drawing(
 }
 
 /// Puts the drawing of a heap over a run at the end: its blocks and regions at their addresses, from call to call, and below
-/// them the user's regions, the bytes that were live, the refused calls and the axis of calls. It is 1304 pixels wide.
+/// them the user's regions, the bytes that were live, the refused calls and the axis of calls. It is 1304 pixels wide. The
+/// bands are those of the run ([`crate::bands_of`]).
 #[tactic(auto, unfolding(crate::specs::Time::time_text))]
-pub fn push_time(alloc: Global, out: &mut String, history: &History) -> Result<(), AllocError>
+pub fn push_time(
+    alloc: Global,
+    out: &mut String,
+    bands: &[Band],
+    history: &History,
+) -> Result<(), AllocError>
+    requires its { bands.now ≡ bands_of history.now.stays history.now.heap }
+    requires drawn { All IsBand bands.now }
     ensures { OnOk result (string_bytes out.new ≡ string_bytes out.old ++ time_text history.now) }
 {
     if calls_of(history) == 0 {
         return push_title(alloc, out, 0);
     }
-    let bands = bands_of(alloc, history.stays.as_slice(), history.heap.as_slice())?;
-    push_drawing(alloc, out, &bands, history)
+    push_drawing(alloc, out, bands, history)
 }
 
 /// The height of that drawing, in pixels.
 #[tactic(auto, unfolding(crate::specs::Time::time_height))]
-pub fn time_height(alloc: Global, history: &History) -> Result<u128, AllocError>
-    ensures { IfOk result (λ height. height ≡ time_height history.now) }
+pub fn time_height(bands: &[Band], history: &History) -> u128
+    requires its { bands.now ≡ bands_of history.now.stays history.now.heap }
+    requires drawn { All IsBand bands.now }
+    ensures { result ≡ time_height history.now }
 {
-    if calls_of(history) == 0 {
-        return Ok(64);
+    let calls = calls_of(history);
+    if calls == 0 {
+        return 64;
     }
-    let bands = bands_of(alloc, history.stays.as_slice(), history.heap.as_slice())?;
-    Ok(calls_top(&bands, history) + calls_height(history.lines.as_slice()) + 12)
+    calls_top(bands, history) + calls_height(calls, history.lines.as_slice()) + 12
 }

@@ -143,6 +143,7 @@ fn a_run_is_drawn_over_its_calls(rt: HostRuntime) -> Result<(), Fail> {
             "<svg x=\"144\" y=\"103\" width=\"1024\" height=\"336\" viewBox=\"0 0 10 1256\" preserveAspectRatio=\"none\">\n<rect class=\"heap\" x=\"0\" y=\"0\" width=\"10\" height=\"1256\"><title>heap region 0x400000 + 16 pages</title></rect>\n<rect class=\"gone\" x=\"0\" y=\"240\" width=\"3\" height=\"1000\"><title>block 0: 1,000 bytes at 0x400010, call 1 to 4 (freed)</title></rect>\n<rect class=\"gone\" x=\"1\" y=\"208\" width=\"5\" height=\"24\"><title>block 1: 24 bytes at 0x400400, call 2 to 7 (moved)</title></rect>\n",
             "<text class=\"m in\" x=\"1070\" y=\"210\">6: 400 B</text>\n",
             "<path class=\"mark\" d=\"M758 162V325m-4 -5l4 5l4 -5\" stroke-width=\"1.5\"/>\n",
+            "<text class=\"m\" x=\"762\" y=\"647\">realloc</text>\n<text class=\"m faint\" x=\"762\" y=\"661\">1</text>\n<text class=\"m faint\" x=\"762\" y=\"675\">120</text>\n",
             "<path class=\"su\" d=\"M144 477H246V475H348V456H451V548H553V546H656V518H758V510H860V504H963V522H1065V485H1168\" stroke-width=\"2\"/>\n",
         ],
     )

@@ -93,8 +93,8 @@ const ROWS: [Row; 11] = [
     },
 ];
 
-/// Of `heap_picture` alone: `map` may stand before the words.
-const PICTURE_ROWS: [Row; 4] = [
+/// Of `heap_picture` alone: the name of a drawing may stand before the words.
+const PICTURE_ROWS: [Row; 8] = [
     Row {
         words: &["map"],
         status: 6,
@@ -106,6 +106,30 @@ const PICTURE_ROWS: [Row; 4] = [
         status: 2,
         output: "",
         errors: "bad window\n",
+    },
+    Row {
+        words: &["time"],
+        status: 6,
+        output: "",
+        errors: "read fault\n",
+    },
+    Row {
+        words: &["time", "0x400000", "1024", "65537", "1024", "4095"],
+        status: 3,
+        output: "",
+        errors: "bad granularity\n",
+    },
+    Row {
+        words: &["tables", "0x400000", "1024", "65536", "0", "4095"],
+        status: 4,
+        output: "",
+        errors: "too few frames\n",
+    },
+    Row {
+        words: &["map", "time"],
+        status: 1,
+        output: "",
+        errors: "usage\n",
     },
     Row {
         words: &["map", "map"],

@@ -2,7 +2,7 @@
 use crate::checks::same;
 use heap_program::{MemorySink, MemorySource, SureSink, SureSource};
 use heap_report::{Reported, report_main};
-use kernel_heap::{Extent, Kind, Reply};
+use kernel_heap::{Extent, Kind};
 use std::alloc::{AllocError, Global};
 use std::process::Abort;
 use std::test::Fail;
@@ -97,22 +97,10 @@ fn rows_are_reported(rt: HostRuntime) -> Result<(), Fail> {
 #[test]
 fn what_is_handed_out_belongs_together(rt: HostRuntime) -> Result<(), Fail> {
     let (reported, _sink) = outcome(rt.alloc(), &[], b"malloc 24\nx\nfree 7\n".as_slice())?;
-    let (Some(machine), Some(answers), Some(extents)) = (
-        &reported.machine,
-        &reported.answers,
-        &reported.extents,
-    ) else {
+    let (Some(machine), Some(extents)) = (&reported.machine, &reported.extents) else {
         panic!(rt; "something is missing");
     };
     same(&rt, machine.system().free_frames(), 1004);
-    same(&rt, answers.len(), 3);
-    let Some(last) = answers.get(2) else {
-        panic!(rt; "no last answer");
-    };
-    let Reply::Extents(listed) = &last.reply else {
-        panic!(rt; "no extents");
-    };
-    same(&rt, listed.as_slice(), extents.as_slice());
     let first = Extent {
         at: 0x40_0000,
         size: 32,
@@ -241,7 +229,6 @@ fn expect_ending(
     let ends_well = ending.status == 0;
     same(rt, reported.status, ending.status);
     same(rt, reported.machine.is_some(), ends_well);
-    same(rt, reported.answers.is_some(), ends_well);
     same(rt, reported.extents.is_some(), ends_well);
     same(rt, sink.written(), written);
     if ends_well {

@@ -10,7 +10,6 @@ use Rattle.heap_report.proofs.tell.tell_new.Goals as goal
 pub returns-in-Err-clause-tells : goal.returns-in-Err-clause-tells
 returns-in-Err-clause-tells g c = record {
   machine = search rules;
-  answers = search rules;
   extents = search rules;
   told = search rules;
   refused = search rules;
@@ -32,7 +31,6 @@ returns-in-Ok-tell_run-clause-tells g c =
     let good = c.in-Ok.ensures.accepted in
     record {
       machine = search rules;
-      answers = search rules;
       extents = search rules;
       told = c.in-Ok-tell_run.ensures.told (start c.args.config.now) (record { good = c.in-Ok.ensures.good; stands = c.in-Ok.ensures.stands }) refl;
       refused = record {
@@ -55,7 +53,6 @@ returns-in-Err-tell_run-clause-tells g c =
     let left = g.S.Source.left in
     record {
       machine = search rules;
-      answers = search rules;
       extents = search rules;
       told = search rules;
       refused = search rules;
