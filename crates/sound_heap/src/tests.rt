@@ -75,3 +75,23 @@ fn requests_are_refused_with_their_cause(rt: HostRuntime) -> Result<(), Fail> {
     }
     Ok(())
 }
+
+#[test]
+fn a_reset_gives_all_memory_back(rt: HostRuntime) -> Result<(), Fail> {
+    let mut heap = flat_heap(rt.alloc())?;
+    heap.set_release_rate(7);
+    let mut places = [1, 1];
+    if let Ok(address) = heap.malloc(24, 64) {
+        places[0] = address % 64;
+        if let Ok(to) = heap.realloc_aligned(address, 24, 64, 4000) {
+            places[1] = to % 64;
+        }
+    }
+    assert_eq!(rt; places.as_slice(), [0, 0].as_slice());
+    let (_, other) = flat_heap(rt.alloc())?.destroy();
+    assert_eq!(rt; heap.reset(other), 65536);
+    assert_eq!(rt; heap.extents(rt.alloc())?.len(), 0);
+    assert_eq!(rt; heap.granularity(), 65536);
+    assert_eq!(rt; heap.release_rate(), 7);
+    Ok(())
+}
