@@ -5,3 +5,4 @@ pub mod WordsKept
 pub mod WordsOutside
 pub mod HandedOut
 pub mod GivenSize
+pub mod Allocated

@@ -14,7 +14,7 @@ use Rattle.bins.specs.Laws.{IndexStays}
 use Rattle.dlmalloc.specs.Binned.{IsBinned}
 use Rattle.dlmalloc.specs.Heap.{segments_of, state_of, IsSound}
 use Rattle.dlmalloc.specs.Grown.{IsAsItWas}
-use Rattle.dlmalloc.specs.Served.{regions_in, KeepsRegions}
+use Rattle.dlmalloc.specs.Resting.{regions_in, KeepsRegions}
 use Rattle.dlmalloc.specs.declared.heap.Dlmalloc.{Dlmalloc}
 use Rattle.dlmalloc.proofs.Moves.OfLists.{standing}
 use Rattle.dlmalloc.proofs.Segments.Among.{located, of_located}

@@ -60,7 +60,11 @@ pub use Rattle.dlmalloc.specs.Requested.{IsFound, IsHandedOut, IsMemberServed, I
 pub use Rattle.dlmalloc.specs.Resized.{HasSameOthers, exchanged, grown_into, halves, has_room, in_place, joined, replaced_both, tail_freed}
 pub use Rattle.dlmalloc.specs.Segments.{AreApart, AreRecords, AreSegments, IsApartFrom, IsFlaggedRun, IsSegment, IsWithin, has_byte_in, record_of}
 unfoldable pub use Rattle.dlmalloc.specs.Segments.{records_from}
-pub use Rattle.dlmalloc.specs.Served.{AreSpans, IsBehindTop, IsCutOut, IsDisposed, IsMoved, IsObtained, IsServed, IsTakenFromGrant, IsTurned, KeepsRegions, OnlyBlocksChange, regions_in}
+pub use Rattle.dlmalloc.specs.Listed.{AreSpans}
+pub use Rattle.dlmalloc.specs.Served.{IsBehindTop, IsCutOut, IsObtained, IsServed, IsTakenFromGrant}
+pub use Rattle.dlmalloc.specs.Disposed.{IsDisposed}
+pub use Rattle.dlmalloc.specs.Turned.{IsMoved, IsTurned}
+pub use Rattle.dlmalloc.specs.Resting.{KeepsRegions, OnlyBlocksChange, regions_in}
 pub use Rattle.dlmalloc.specs.Shortened.{IsCutBack, IsShortened, IsTrimmed}
 pub use Rattle.dlmalloc.specs.State.{HeapState, Segment, by_address, countdown_from, extents_in, is_binned, is_free_below_top, is_victim, shown, size_where, trim_threshold, with_item}
 pub use Rattle.dlmalloc.specs.Taken.{cut, in_segments, replaced, taken, victim_after}

@@ -37,6 +37,11 @@ pub record IsBinnedBut {A : Type 0} (loose : List ℕ) (regions : A → List Gra
 abbrev pub IsBinned : {A : Type 0} → (A → List Grant) → (A → ℕ → ℕ) → Dlmalloc A → Type 0
 IsBinned regions word heap = IsBinnedBut [] regions word heap
 
+-- A heap is sound, and its bins hold its free extents.
+pub record IsIntact {A : Type 0} (regions : A → List Grant) (word : A → ℕ → ℕ) (heap : Dlmalloc A) : Type 0 where
+  pub sound : IsSound regions word heap
+  pub linked : IsBinned regions word heap
+
 -- what begins at an address is the top, or else a free extent of the given size
 abbrev pub IsJoint : HeapState → ℕ → ℕ → ℕ → Type 0
 IsJoint heap top at size = ((at ≡ top) × ((n : ℕ) → IsFreeAt heap at n → ⊥)) ⊎ ((at ≢ top) × IsFreeAt heap at size)

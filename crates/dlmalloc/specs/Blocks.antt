@@ -1,12 +1,12 @@
 -- The blocks of a heap, and what stays of them.
-use Rattle.std.specs.Prelude.{◌≡◌, ◌≢◌, ℕ, ◌+◌, ◌-◌, ◌/◌, ◌%◌, ◌^◌, ◌<◌, ◌≤◌, ◌⊎◌, max, List, Some, IsTrue}
+use Rattle.std.specs.Prelude.{◌≡◌, ◌≢◌, ℕ, ◌+◌, ◌-◌, ◌/◌, ◌%◌, ◌^◌, ◌<◌, ◌≤◌, ◌⊎◌, ◌==◌, max, List, Some, IsTrue}
 use Rattle.std.specs.List.{AllByRecursion}
 use Rattle.heap_memory.specs.declared.grant.Grant.{Grant}
 use Rattle.heap_memory.specs.Regions.{is_granted}
 use Rattle.dlmalloc_chunks.specs.declared.extent.Extent.{Extent}
 use Rattle.dlmalloc_chunks.specs.declared.extent.Kind.TheVariants.{Used}
 use Rattle.dlmalloc.specs.Extents.{extent_at}
-use Rattle.dlmalloc.specs.State.{HeapState, extents_in}
+use Rattle.dlmalloc.specs.State.{HeapState, extents_in, size_where}
 
 -- a block of the given size begins at an address: its chunk has room for that many bytes and for its head, and little
 -- more
@@ -17,6 +17,14 @@ pub record IsBlock (heap : HeapState) (address size : ℕ) : Type 0 where
   pub used : extent.kind ≡ Used
   pub holds : size + 8 ≤ extent.size
   pub little : extent.size ≤ size + 79
+
+-- a block begins at an address, whatever its size
+abbrev pub HasBlock : HeapState → ℕ → Type 0
+HasBlock heap address = (size : ℕ) × IsBlock heap address size
+
+-- the bytes that the block at an address has: all of its chunk but the head
+abbrev pub usable : HeapState → ℕ → ℕ
+usable heap address = size_where (λ extent. extent.at == address - 16) (extents_in heap) - 8
 
 -- One heap has one more extent in use than another: the one at an address. Every other extent in use is the same in
 -- both.

@@ -19,6 +19,10 @@ pub mod Boundaries
 pub mod Prepended
 pub mod Grown
 pub mod Released
+pub mod Turned
+pub mod Disposed
+pub mod Listed
+pub mod Resting
 pub mod Served
 pub mod GivenBack
 pub mod Chained
@@ -29,3 +33,4 @@ pub mod Requested
 pub mod Written
 pub mod Counts
 pub mod Moved
+pub mod Outcome

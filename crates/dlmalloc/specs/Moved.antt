@@ -11,7 +11,7 @@ use Rattle.dlmalloc.specs.Aligned.{HasOneMoved}
 use Rattle.dlmalloc.specs.Blocks.{IsBlock, KeepsBlocks}
 use Rattle.dlmalloc.specs.State.{extents_in}
 use Rattle.dlmalloc.specs.Heap.{state_of, IsSound}
-use Rattle.dlmalloc.specs.Served.{IsTurned}
+use Rattle.dlmalloc.specs.Turned.{IsTurned}
 use Rattle.dlmalloc.specs.AfterFree.{IsFreed}
 use Rattle.dlmalloc.specs.Requested.{asked, IsFound, IsServedAt}
 use Rattle.dlmalloc.specs.Written.{words_in, IsSameHeap}

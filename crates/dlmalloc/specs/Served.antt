@@ -1,28 +1,25 @@
--- A request is served, or it is refused; a block is freed (dlmalloc: `malloc`, `free`).
-use Rattle.std.specs.Prelude.{◌≡◌, ℕ, ◌+◌, ◌-◌, ◌%◌, ◌^◌, ◌<◌, ◌≤◌, ◌⊎◌, ⊤, max, Bool, true, false, ◌&&◌, ◌==◌, nat_lt, List, [], ◌∷◌, map, filter, option_map, None, Some, IsTrue}
-use Rattle.std.specs.List.{list_any, AllByRecursion}
+-- A request is served, or it is refused (dlmalloc: `malloc`).
+use Rattle.std.specs.Prelude.{◌≡◌, ℕ, ◌+◌, ◌-◌, ◌%◌, ◌^◌, ◌<◌, ◌≤◌, ◌⊎◌, max, Bool, true, false, List, [], ◌∷◌, None, Some, IsTrue}
+use Rattle.std.specs.List.{AllByRecursion}
 use Rattle.heap_memory.specs.declared.grant.Grant.{Grant}
 use Rattle.heap_memory.specs.declared.grant.GrantFault.{GrantFault}
 use Rattle.heap_memory.specs.Events.{Event, Granted, Refused}
-use Rattle.heap_memory.specs.Regions.{with_grant, is_granted, IsWordOf, IsApart}
+use Rattle.heap_memory.specs.Regions.{with_grant, is_granted, IsApart}
 use Rattle.dlmalloc_chunks.specs.Request.{padded, limit, round_up}
 use Rattle.dlmalloc_chunks.specs.declared.extent.Extent.{Extent}
-use Rattle.dlmalloc_chunks.specs.declared.extent.Kind.TheVariants.{Used, Top}
+use Rattle.dlmalloc_chunks.specs.declared.extent.Kind.TheVariants.{Top}
 use Rattle.dlmalloc.specs.Extents.{extent_at}
-use Rattle.dlmalloc.specs.State.{HeapState, Segment, extents_in, extents_by_address, is_top, shown}
-use Rattle.dlmalloc.specs.Segments.{has_byte_in}
-use Rattle.dlmalloc_chunks.specs.Kinds.{ends_segment}
-use Rattle.dlmalloc_chunks.specs.Tiling.{AreExtents, has_byte}
+use Rattle.dlmalloc.specs.State.{HeapState, extents_in, is_top}
 use Rattle.dlmalloc.specs.Choice.{chosen, IsChosen}
 use Rattle.dlmalloc.specs.Taken.{taken}
 use Rattle.dlmalloc.specs.Granted.{is_behind_head, is_put_before, granted}
-use Rattle.dlmalloc.specs.Freed.{freed}
 use Rattle.dlmalloc.specs.Blocks.{IsBlock, HasOneMore, IsFull, KeepsBlocks}
-use Rattle.dlmalloc.specs.Boundaries.{OnlyBoundariesChange, OnlyOwnChange, OnlyOwnOrTagsChange, NewWordsAreZero}
-use Rattle.dlmalloc.specs.Binned.{IsBinned}
-use Rattle.dlmalloc.specs.Order.{KeepsOrder, KeepsIndex}
+use Rattle.dlmalloc.specs.Boundaries.{OnlyOwnChange, OnlyOwnOrTagsChange, NewWordsAreZero}
+use Rattle.dlmalloc.specs.Order.{KeepsOrder}
 use Rattle.dlmalloc.specs.Heap.{state_of, IsSound}
 use Rattle.dlmalloc.specs.Grown.{IsAsItWas}
+pub use Rattle.dlmalloc.specs.Listed.{AreSpans, IsListed}
+pub use Rattle.dlmalloc.specs.Resting.{regions_in, KeepsRegions, OnlyBlocksChange, RestsOutside, OrderRestsOutside}
 use Rattle.dlmalloc.specs.declared.heap.Dlmalloc.{Dlmalloc}
 use Rattle.dlmalloc.specs.declared.malloc_error.MallocError.{MallocError}
 use Rattle.dlmalloc.specs.declared.malloc_error.MallocError.TheVariants.{TooLarge, System}
@@ -77,23 +74,6 @@ abbrev pub IsMallocRefused : {A : Type 0} → (A → ℕ → GrantFault → Type
 IsMallocRefused denies system old size TooLarge = limit old.granularity ≤ size
 IsMallocRefused denies system old size (System fault) = (size < limit old.granularity) × IsDenied denies system old (padded size) fault
 
--- ---- what each call leaves
-
--- The heap moved with no further region: it is sound, and of the granted words only those at boundaries of its extents
--- changed.
-pub record IsMoved {A : Type 0} (regions : A → List Grant) (word : A → ℕ → ℕ) (follows : A → List Event → A → Type 0) (old new : Dlmalloc A) : Type 0 where
-  pub sound : IsSound regions word new
-  pub words : OnlyBoundariesChange (regions old.system) (state_of word new) (word old.system) (word new.system)
-  pub regions_same : regions new.system ≡ regions old.system
-  pub followed : follows old.system [] new.system
-
--- The same with its bins: of the granted words only its own changed, those in free extents among them.
-pub record IsTurned {A : Type 0} (regions : A → List Grant) (word : A → ℕ → ℕ) (follows : A → List Event → A → Type 0) (old new : Dlmalloc A) : Type 0 where
-  pub sound : IsSound regions word new
-  pub words : OnlyOwnChange (regions old.system) (state_of word old) (state_of word new) (word old.system) (word new.system)
-  pub regions_same : regions new.system ≡ regions old.system
-  pub followed : follows old.system [] new.system
-
 -- A chunk of n bytes was cut at an address: it holds each block whose padded size it is. If no region was granted, only
 -- own words changed, and else words of records too.
 pub record IsCutOut {A : Type 0} (regions : A → List Grant) (word : A → ℕ → ℕ) (zeros : A → Bool) (follows : A → List Event → A → Type 0) (old : Dlmalloc A) (n at : ℕ) (new : Dlmalloc A) : Type 0 where
@@ -128,66 +108,8 @@ abbrev pub refused_events : HeapState → ℕ → MallocError → List Event
 refused_events heap size TooLarge = []
 refused_events heap size (System fault) = Refused (round_up (padded size + 96) heap.granularity) fault ∷ []
 
--- A block of `size` bytes was refused, and all is as it was.
+-- A block of `size` bytes was refused, and all is as it was; one that is too large did not even touch the heap.
 pub record IsRefusedWith {A : Type 0} (regions : A → List Grant) (word : A → ℕ → ℕ) (follows : A → List Event → A → Type 0) (refuses : A → A → Type 0) (denies : A → ℕ → GrantFault → Type 0) (old : Dlmalloc A) (size : ℕ) (error : MallocError) (new : Dlmalloc A) : Type 0 where
   pub refused : IsMallocRefused denies old.system (state_of word old) size error
   pub same : IsAsItWas regions word follows refuses (refused_events (state_of word old) size error) old new
-
--- The block at an address was given back: its chunk is free, and one with the free ones beside it.
-pub record IsDisposed {A : Type 0} (regions : A → List Grant) (word : A → ℕ → ℕ) (follows : A → List Event → A → Type 0) (old : Dlmalloc A) (address : ℕ) (new : Dlmalloc A) : Type 0 where
-  pub state : state_of word new ≡ freed (state_of word old) (address - 16)
-  pub less : HasOneMore (state_of word new) (state_of word old) (address - 16)
-  pub kept : KeepsBlocks (extents_in (state_of word new)) (word old.system) (word new.system)
-  pub words : OnlyOwnChange (regions old.system) (state_of word old) (state_of word new) (word old.system) (word new.system)
-  pub sound : IsSound regions word new
-  pub regions_same : regions new.system ≡ regions old.system
-  pub followed : follows old.system [] new.system
-  pub order : KeepsOrder regions word old new
-
--- Of some extents, one segment's after another's, the first of each segment begins where a segment does, and the last
--- ends where one does. `begins` says whether the first of them is the first of a segment.
-abbrev pub AreSpans : List Segment → Bool → List Extent → Type 0
-AreSpans segments begins [] = ⊤
-AreSpans segments begins (extent ∷ extents) =
-    (IsTrue begins → IsTrue (list_any (λ segment. segment.base == extent.at) segments))
-    × (IsTrue (ends_segment extent.kind) → IsTrue (list_any (λ segment. segment.base + segment.size == extent.at + extent.size) segments))
-    × AreSpans segments (ends_segment extent.kind) extents
-
--- The extents of a heap, in a list, by ascending address.
-pub record IsListed {A : Type 0} (word : A → ℕ → ℕ) (heap : Dlmalloc A) (list : List Extent) : Type 0 where
-  pub is : list ≡ map (shown (state_of word heap)) (extents_by_address (state_of word heap))
-  pub tiled : AreExtents list
-  pub bytes : (address : ℕ) → list_any (has_byte address) list ≡ list_any (has_byte_in address) (state_of word heap).segments
-  pub spans : AreSpans (state_of word heap).segments true list
-  -- the search of the list and that of the state find the same
-  pub found : (at : ℕ) → extent_at at list ≡ option_map (shown (state_of word heap)) (extent_at at (extents_in (state_of word heap)))
-
--- ---- what is done through the system
-
--- the regions that have a byte of a segment
-abbrev pub regions_in : Segment → List Grant → List Grant
-regions_in segment regions = filter (λ region. nat_lt region.base (segment.base + segment.size) && nat_lt segment.base (region.base + region.size)) regions
-
--- The regions of a heap's segments stay.
-abbrev pub KeepsRegions : List Segment → List Grant → List Grant → Type 0
-KeepsRegions segments old new = AllByRecursion (λ (segment : Segment). regions_in segment new ≡ regions_in segment old) segments
-
--- Of a heap's segments only words of blocks changed: those after a block's head, and the first word of the extent after
--- it.
-abbrev pub OnlyBlocksChange : List Grant → HeapState → (ℕ → ℕ) → (ℕ → ℕ) → Type 0
-OnlyBlocksChange regions heap old new = (k : ℕ) → IsWordOf regions k → IsTrue (list_any (has_byte_in k) heap.segments) →
-    ((used : Extent) → used.kind ≡ Used → extent_at used.at (extents_in heap) ≡ Some used → (k < used.at + 16) ⊎ (used.at + used.size + 8 ≤ k)) → new k ≡ old k
-
--- A sound heap rests on the regions of its segments, and on their words outside of its blocks, and so do its bins: with a system
--- that has these regions and words, it is sound and in the same state, and its bins are linked.
-abbrev pub RestsOutside : {A : Type 0} → (A → List Grant) → (A → ℕ → ℕ) → Dlmalloc A → Type 0
-RestsOutside {A} regions word heap = IsSound regions word heap → (system : A) → KeepsRegions (state_of word heap).segments (regions heap.system) (regions system) →
-    OnlyBlocksChange (regions heap.system) (state_of word heap) (word heap.system) (word system) →
-    IsSound regions word (record heap { system = system }) × (state_of word (record heap { system = system }) ≡ state_of word heap)
-    × (IsBinned regions word heap → IsBinned regions word (record heap { system = system }))
-
--- And so does the order of the bins: with such a system they have the same chunks, each size in its order.
-abbrev pub OrderRestsOutside : {A : Type 0} → (A → List Grant) → (A → ℕ → ℕ) → Dlmalloc A → Type 0
-OrderRestsOutside {A} regions word heap = IsSound regions word heap → (system : A) → KeepsRegions (state_of word heap).segments (regions heap.system) (regions system) →
-    OnlyBlocksChange (regions heap.system) (state_of word heap) (word heap.system) (word system) →
-    KeepsIndex regions word heap (record heap { system = system })
+  pub untouched : error ≡ TooLarge → new ≡ old

@@ -4,7 +4,7 @@ ghost use Rattle.dlmalloc.specs.Blocks.{ArePlaced, BlocksAreApart};
 ghost use Rattle.dlmalloc.specs.FreeExtents.{AreParted, IsUnused, EachHasOneFree};
 ghost use Rattle.dlmalloc.specs.Heap.{state_of, IsSound};
 ghost use Rattle.dlmalloc.specs.Released.{IdleAreHandedOut};
-ghost use Rattle.dlmalloc.specs.Served.{RestsOutside, OrderRestsOutside};
+ghost use Rattle.dlmalloc.specs.Resting.{RestsOutside, OrderRestsOutside};
 
 use crate::heap::Dlmalloc;
 use bins::laws::index_stays;

@@ -1,13 +1,14 @@
 // What a block holds when it is handed out.
-ghost use Rattle.std.specs.Prelude.{◌≡◌, ◌≢◌, ◌+◌, ◌*◌, ◌≤◌, None, IfOk, IfErr};
+ghost use Rattle.std.specs.Prelude.{◌≡◌, ◌≢◌, ◌+◌, ◌≤◌, None, IfOk, IfErr};
 ghost use Rattle.std.specs.Int.{IsPowerOfTwo};
-ghost use Rattle.dlmalloc.specs.Binned.{IsBinned};
+ghost use Rattle.dlmalloc.specs.Binned.{IsIntact};
 ghost use Rattle.dlmalloc.specs.Choice.{chosen};
-ghost use Rattle.dlmalloc.specs.Heap.{state_of, IsSound};
+ghost use Rattle.dlmalloc.specs.Heap.{state_of};
 ghost use Rattle.dlmalloc_chunks.specs.Request.{padded};
 ghost use Rattle.dlmalloc.specs.Served.{IsRefusedWith};
-ghost use Rattle.dlmalloc.specs.Requested.{asked, IsHandedOut, IsMemberServed};
-ghost use Rattle.dlmalloc.specs.Written.{words_in, IsServedCleared};
+ghost use Rattle.dlmalloc.specs.Outcome.{IsAllocatedCleared};
+ghost use Rattle.dlmalloc.specs.Requested.{asked};
+ghost use Rattle.dlmalloc.specs.Written.{words_in};
 
 use crate::heap::Dlmalloc;
 use crate::malloc_error::MallocError;
@@ -33,16 +34,11 @@ impl<A: Allocator> Dlmalloc<A> {
         align: u64,
         steps: &mut Steps<L>,
     ) -> Result<u64, MallocError>
-        requires sound { IsSound A.regions A.word self.old }
-        requires linked { IsBinned A.regions A.word self.old }
+        requires intact { IsIntact A.regions A.word self.old }
         requires align { IsPowerOfTwo align }
-        ensures handed { IfOk result (λ address. IsHandedOut A.regions A.word A.follows self.old size align address self.new) }
-        ensures served { IfOk result (λ address. IsServedCleared A.regions A.word A.zeros A.follows self.old size align address self.new) }
+        ensures allocated { IfOk result (λ address. IsAllocatedCleared A.regions A.word A.zeros A.follows self.old size align address self.new) }
         ensures refused { IfErr result (λ error. IsRefusedWith A.regions A.word A.follows A.refuses A.denies self.old (asked size align) error self.new) }
-        ensures untouched { IfErr result (λ error. error ≡ MallocError.TooLarge → self.new ≡ self.old) }
-        ensures sound { IsSound A.regions A.word self.new }
-        ensures linked { IsBinned A.regions A.word self.new }
-        ensures member { IfOk result (λ address. IsMemberServed A.regions A.word self.old size align address) }
+        ensures intact { IsIntact A.regions A.word self.new }
         ensures counted { chosen (state_of A.word self.old) (padded (asked size align)) ≢ None → steps.new ≤ steps.old + 8192 + words_in size }
         ensures refused_counted { IfErr result (λ error. steps.new ≤ steps.old + 512) }
     {

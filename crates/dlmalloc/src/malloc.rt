@@ -4,9 +4,10 @@ ghost use Rattle.std.specs.Int.{IsPowerOfTwo};
 ghost use Rattle.dlmalloc.specs.Choice.{chosen};
 ghost use Rattle.dlmalloc.specs.Heap.{state_of, IsSound};
 ghost use Rattle.dlmalloc.specs.Grown.{IsAsItWas};
-ghost use Rattle.dlmalloc.specs.Requested.{asked, IsServedAt, IsHandedOut, IsMemberServed};
+ghost use Rattle.dlmalloc.specs.Outcome.{IsAllocated};
+ghost use Rattle.dlmalloc.specs.Requested.{asked};
 ghost use Rattle.dlmalloc.specs.Order.{KeepsOrder};
-ghost use Rattle.dlmalloc.specs.Binned.{IsBinned, IsMemberChosen};
+ghost use Rattle.dlmalloc.specs.Binned.{IsBinned, IsIntact, IsMemberChosen};
 ghost use Rattle.dlmalloc_chunks.specs.Request.{padded, round_up};
 ghost use Rattle.heap_memory.specs.Events.{Refused};
 ghost use Rattle.dlmalloc.specs.Served.{IsDenied, IsCutOut, IsServed, IsRefusedWith};
@@ -33,16 +34,11 @@ impl<A: Allocator> Dlmalloc<A> {
         align: u64,
         steps: &mut Steps<L>,
     ) -> Result<u64, MallocError>
-        requires sound { IsSound A.regions A.word self.old }
-        requires linked { IsBinned A.regions A.word self.old }
+        requires intact { IsIntact A.regions A.word self.old }
         requires align { IsPowerOfTwo align }
-        ensures served { IfOk result (λ address. IsServedAt A.regions A.word A.zeros A.follows self.old size align address self.new) }
-        ensures handed { IfOk result (λ address. IsHandedOut A.regions A.word A.follows self.old size align address self.new) }
+        ensures allocated { IfOk result (λ address. IsAllocated A.regions A.word A.zeros A.follows self.old size align address self.new) }
         ensures refused { IfErr result (λ error. IsRefusedWith A.regions A.word A.follows A.refuses A.denies self.old (asked size align) error self.new) }
-        ensures untouched { IfErr result (λ error. error ≡ MallocError.TooLarge → self.new ≡ self.old) }
-        ensures sound { IsSound A.regions A.word self.new }
-        ensures linked { IsBinned A.regions A.word self.new }
-        ensures member { IfOk result (λ address. IsMemberServed A.regions A.word self.old size align address) }
+        ensures intact { IsIntact A.regions A.word self.new }
         ensures counted { chosen (state_of A.word self.old) (padded (asked size align)) ≢ None → steps.new ≤ steps.old + 8192 }
         ensures refused_counted { IfErr result (λ error. steps.new ≤ steps.old + 512) }
     {
@@ -60,16 +56,11 @@ impl<A: Allocator> Dlmalloc<A> {
         size: u64,
         steps: &mut Steps<L>,
     ) -> Result<u64, MallocError>
-        requires sound { IsSound A.regions A.word self.old }
-        requires linked { IsBinned A.regions A.word self.old }
+        requires intact { IsIntact A.regions A.word self.old }
         requires align { IsPowerOfTwo align }
-        ensures served { IfOk result (λ address. IsServedAt A.regions A.word A.zeros A.follows self.old size align address self.new) }
-        ensures handed { IfOk result (λ address. IsHandedOut A.regions A.word A.follows self.old size align address self.new) }
+        ensures allocated { IfOk result (λ address. IsAllocated A.regions A.word A.zeros A.follows self.old size align address self.new) }
         ensures refused { IfErr result (λ error. IsRefusedWith A.regions A.word A.follows A.refuses A.denies self.old (asked size align) error self.new) }
-        ensures untouched { IfErr result (λ error. error ≡ MallocError.TooLarge → self.new ≡ self.old) }
-        ensures sound { IsSound A.regions A.word self.new }
-        ensures linked { IsBinned A.regions A.word self.new }
-        ensures member { IfOk result (λ address. IsMemberServed A.regions A.word self.old size align address) }
+        ensures intact { IsIntact A.regions A.word self.new }
         ensures counted { chosen (state_of A.word self.old) (padded (asked size align)) ≢ None → steps.new ≤ steps.old + 8192 }
         ensures refused_counted { IfErr result (λ error. steps.new ≤ steps.old + 512) }
     {
@@ -84,13 +75,10 @@ impl<A: Allocator> Dlmalloc<A> {
         size: u64,
         steps: &mut Steps<L>,
     ) -> Result<u64, MallocError>
-        requires sound { IsSound A.regions A.word self.old }
-        requires linked { IsBinned A.regions A.word self.old }
+        requires intact { IsIntact A.regions A.word self.old }
         ensures served { IfOk result (λ address. IsServed A.regions A.word A.zeros A.follows self.old size address self.new) }
         ensures refused { IfErr result (λ error. IsRefusedWith A.regions A.word A.follows A.refuses A.denies self.old size error self.new) }
-        ensures untouched { IfErr result (λ error. error ≡ MallocError.TooLarge → self.new ≡ self.old) }
-        ensures sound { IsSound A.regions A.word self.new }
-        ensures linked { IsBinned A.regions A.word self.new }
+        ensures intact { IsIntact A.regions A.word self.new }
         ensures order { KeepsOrder A.regions A.word self.old self.new }
         ensures member { IfOk result (λ address. IsMemberChosen A.regions A.word self.old (padded size) (address - 16)) }
         ensures counted { chosen (state_of A.word self.old) (padded size) ≢ None → steps.new ≤ steps.old + 1024 }

@@ -11,9 +11,10 @@ ghost use Rattle.dlmalloc.specs.Boundaries.{IsOwn};
 ghost use Rattle.dlmalloc.specs.Resized.{HasSameOthers};
 ghost use Rattle.dlmalloc.specs.Aligned.{aligned_place, lead_freed, tail_cut, aligned, HasOneMoved, KeepsOthers};
 ghost use Rattle.dlmalloc.specs.Heap.{state_of, IsSound};
-ghost use Rattle.dlmalloc.specs.Served.{IsTurned, IsRefusedWith};
+ghost use Rattle.dlmalloc.specs.Turned.{IsTurned};
+ghost use Rattle.dlmalloc.specs.Served.{IsRefusedWith};
 ghost use Rattle.dlmalloc.specs.Order.{KeepsOrder, KeepsOrderThrough};
-ghost use Rattle.dlmalloc.specs.Binned.{IsBinned};
+ghost use Rattle.dlmalloc.specs.Binned.{IsBinned, IsIntact};
 ghost use Rattle.dlmalloc.specs.Requested.{IsPassedOver, IsServedAligned, IsMemberServed};
 ghost use Rattle.dlmalloc.specs.Choice.{chosen};
 
@@ -58,14 +59,11 @@ impl<A: Allocator> Dlmalloc<A> {
         align: u64,
         steps: &mut Steps<L>,
     ) -> Result<u64, MallocError>
-        requires sound { IsSound A.regions A.word self.old }
-        requires linked { IsBinned A.regions A.word self.old }
+        requires intact { IsIntact A.regions A.word self.old }
         requires align { IsPowerOfTwo align × (16 < align) }
         ensures served { IfOk result (λ address. IsServedAligned A.regions A.word A.zeros A.follows self.old size align address self.new) }
         ensures refused { IfErr result (λ error. IsRefusedWith A.regions A.word A.follows A.refuses A.denies self.old (enlarged size align) error self.new) }
-        ensures untouched { IfErr result (λ error. error ≡ MallocError.TooLarge → self.new ≡ self.old) }
-        ensures sound { IsSound A.regions A.word self.new }
-        ensures linked { IsBinned A.regions A.word self.new }
+        ensures intact { IsIntact A.regions A.word self.new }
         ensures member { IfOk result (λ address. IsMemberServed A.regions A.word self.old size align address) }
         ensures counted { chosen (state_of A.word self.old) (padded (enlarged size align)) ≢ None → steps.new ≤ steps.old + 8192 }
         ensures refused_counted { IfErr result (λ error. steps.new ≤ steps.old + 512) }

@@ -9,7 +9,7 @@ ghost use Rattle.dlmalloc.specs.Freed.{freed};
 ghost use Rattle.dlmalloc.specs.Resized.{exchanged, halves, tail_freed, HasSameOthers};
 ghost use Rattle.dlmalloc.specs.Aligned.{HasOneMoved, KeepsOthers};
 ghost use Rattle.dlmalloc.specs.Heap.{state_of, IsSound};
-ghost use Rattle.dlmalloc.specs.Served.{IsMoved, IsTurned};
+ghost use Rattle.dlmalloc.specs.Turned.{IsMoved, IsTurned};
 ghost use Rattle.dlmalloc.specs.Order.{KeepsOrder};
 ghost use Rattle.dlmalloc.specs.Binned.{IsBinned, FreeMoves};
 

@@ -6,7 +6,7 @@ ghost use Rattle.dlmalloc.specs.State.{extents_in};
 ghost use Rattle.dlmalloc.specs.Blocks.{HasOneMore};
 ghost use Rattle.dlmalloc.specs.Taken.{taken};
 ghost use Rattle.dlmalloc.specs.Heap.{state_of, IsSound};
-ghost use Rattle.dlmalloc.specs.Served.{IsMoved, IsTurned};
+ghost use Rattle.dlmalloc.specs.Turned.{IsMoved, IsTurned};
 ghost use Rattle.dlmalloc.specs.Binned.{IsFreeAt, IsBinned, IsMember, FreeMoves};
 ghost use Rattle.dlmalloc.specs.Order.{KeepsOrder};
 

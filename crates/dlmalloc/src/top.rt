@@ -8,7 +8,7 @@ ghost use Rattle.dlmalloc.specs.Blocks.{HasOneMore};
 ghost use Rattle.dlmalloc.specs.Boundaries.{IsBoundary};
 ghost use Rattle.dlmalloc.specs.Taken.{taken};
 ghost use Rattle.dlmalloc.specs.Heap.{state_of, IsSound};
-ghost use Rattle.dlmalloc.specs.Served.{IsMoved};
+ghost use Rattle.dlmalloc.specs.Turned.{IsMoved};
 ghost use Rattle.dlmalloc.specs.Binned.{FreeMoves};
 
 use crate::heap::Dlmalloc;

@@ -14,7 +14,8 @@ use Rattle.dlmalloc.specs.Grown.{IsAsItWas}
 use Rattle.dlmalloc.specs.Requested.{IsHandedOut, IsServedAt}
 use Rattle.dlmalloc.specs.AfterFree.{IsFreed}
 use Rattle.dlmalloc.specs.Order.{KeepsOrder, KeepsIndex}
-use Rattle.dlmalloc.specs.Served.{regions_in, IsObtained, KeepsRegions, OnlyBlocksChange, RestsOutside, OrderRestsOutside}
+use Rattle.dlmalloc.specs.Resting.{regions_in, KeepsRegions, OnlyBlocksChange, RestsOutside, OrderRestsOutside}
+use Rattle.dlmalloc.specs.Served.{IsObtained}
 use Rattle.dlmalloc.specs.Binned.{IsBinned}
 use Rattle.dlmalloc.specs.declared.heap.Dlmalloc.{Dlmalloc}
 use Rattle.dlmalloc_chunks.specs.Request.{padded}

@@ -7,7 +7,7 @@ use Rattle.dlmalloc.proofs.heap.Dlmalloc.c_malloc.Goals as goal
 
 pub cut-requires-clause-small : goal.cut-requires-clause-small
 cut-requires-clause-small g c =
-    let granularity = c.requires.sound.granularity in let e = c.request2size.ensures in
+    let granularity = c.requires.intact.sound.granularity in let e = c.request2size.ensures in
     let less : c.args.size < limit c.args.self.now.granularity = (let not = c.if-size-max_request.false in let is = c.max_request.ensures.is in omega arith) in
     request_small c.args.self.now.granularity c.args.size granularity.0 granularity.1 less e.whole e.near e.is
 
@@ -26,5 +26,6 @@ returns-then-size-max_request-clause-order g c = λ b. (b, order_same b.index)
 pub returns-then-size-max_request-clause-refused : goal.returns-then-size-max_request-clause-refused
 returns-then-size-max_request-clause-refused g c = record {
   refused = (let is = c.max_request.ensures.is in let more = c.if-size-max_request.true in omega arith);
-  same = record { followed = search rules; refused = search rules; state = refl; sound = c.requires.sound; regions_same = refl; words = λ k is. refl; index = λ b. (b, λ n. refl) };
+  same = record { followed = search rules; refused = search rules; state = refl; sound = c.requires.intact.sound; regions_same = refl; words = λ k is. refl; index = λ b. (b, λ n. refl) };
+  untouched = λ large. refl;
 }

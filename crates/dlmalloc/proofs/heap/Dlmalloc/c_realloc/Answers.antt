@@ -3,8 +3,8 @@ use Rattle.dlmalloc.proofs.Extents.Lookup.{extent}
 use Rattle.dlmalloc.proofs.Blocks.Chunks.{block_chunk, block_head}
 use Rattle.dlmalloc.proofs.Resizing.InPlaceOrElsewhere.{size_at, block_told}
 use Rattle.dlmalloc.proofs.Blocks.GivenSize.{given_size}
-use Rattle.dlmalloc.proofs.Bins.Members.{on_both, member_low}
-use Rattle.dlmalloc.proofs.Blocks.HandedOut.{on_ok, handed_low}
+use Rattle.dlmalloc.proofs.Bins.Members.{on_both}
+use Rattle.dlmalloc.proofs.Blocks.Allocated.{allocated_low}
 use Rattle.dlmalloc.proofs.heap.Dlmalloc.c_realloc.Goals as goal
 use Rattle.dlmalloc.proofs.heap.Dlmalloc.c_realloc.Goals.{In-Some, After-size-size}
 
@@ -18,7 +18,7 @@ size_read : (g : _) (c : After-size-size g) →
 size_read g c =
     let there = block_told (state_of g.A.Links.word c.args.self.now) c.in-Some.is c.requires.block in let address = c.in-Some.address in
     size_at (state_of g.A.Links.word c.args.self.now) (address - 16) (extent (address - 16) c.size-size.result Used) (block_chunk g.A.Links.regions
-    g.A.Links.word c.args.self.now c.requires.sound address there.0 there.1 c.size-size.result c.size-size.ensures.value)
+    g.A.Links.word c.args.self.now c.requires.intact.sound address there.0 there.1 c.size-size.result c.size-size.ensures.value)
 
 -- its chunk has room for a head
 long : (g : _) (c : After-size-size g) → 8 ≤ c.size-size.result
@@ -31,7 +31,7 @@ long g c =
 pub size-size-requires : goal.size-size-requires
 size-size-requires g c =
     let block = block g (goal.at.size-size-requires g c).In-Some in
-    record { head = block_head g.A.Links.regions g.A.Links.word c.args.self.now c.requires.sound c.in-Some.address block.0 block.1 }
+    record { head = block_head g.A.Links.regions g.A.Links.word c.args.self.now c.requires.intact.sound c.in-Some.address block.0 block.1 }
 
 pub overflow_sub-size : goal.overflow_sub-size
 overflow_sub-size g c = long g (goal.at.overflow_sub-size g c).After-size-size
@@ -44,26 +44,19 @@ resize_or_move-requires-clause-held g c =
     let now = (goal.at.resize_or_move-requires-clause-held g c).After-size-size in
     let read = size_read g now in let long = long g now in omega arith
 
-pub returns-in-Some-clause-resized : goal.returns-in-Some-clause-resized
-returns-in-Some-clause-resized g c =
-    rw (c.in-Some.is, size_read g (goal.at.returns-in-Some-clause-resized g c).After-size-size) c.resize_or_move.ensures.resized
+pub returns-in-Some-clause-reallocated : goal.returns-in-Some-clause-reallocated
+returns-in-Some-clause-reallocated g c =
+    let at = goal.at.returns-in-Some-clause-reallocated g c in
+    rw (c.in-Some.is, size_read g at.After-size-size) (on_both c.resize_or_move.result (λ address resized member. record {
+      resized = resized;
+      given = given_size g.A.Links.follows_on c.requires.intact.sound (4, refl) (block g at.In-Some).1 resized;
+      member = member;
+    }) c.resize_or_move.ensures.resized c.resize_or_move.ensures.member)
 
-pub returns-in-Some-clause-given : goal.returns-in-Some-clause-given
-returns-in-Some-clause-given g c =
-    let at = goal.at.returns-in-Some-clause-given g c in
-    rw (c.in-Some.is, size_read g at.After-size-size) (on_ok c.resize_or_move.result (λ address resized.
-    given_size g.A.Links.follows_on c.requires.sound (4, refl) (block g at.In-Some).1 resized) c.resize_or_move.ensures.resized)
-
-pub returns-in-None-clause-member : goal.returns-in-None-clause-member
-returns-in-None-clause-member g c =
-    on_both c.c_malloc.result (λ address served member other.
-    let handed = handed_low {align = 16} (4, refl) (omega arith) served in
-    member_low g.A.Links.regions g.A.Links.word c.args.self.now c.args.new_size 16 address (omega arith) handed.low handed.multiple member)
-    c.c_malloc.ensures.served c.c_malloc.ensures.member
-
-pub returns-in-Some-clause-member : goal.returns-in-Some-clause-member
-returns-in-Some-clause-member g c =
-    on_ok c.resize_or_move.result (λ address member other. member (λ same. other (c.in-Some.is ∙ ap Some (sym same)))) c.resize_or_move.ensures.member
+pub returns-in-None-clause-reallocated : goal.returns-in-None-clause-reallocated
+returns-in-None-clause-reallocated g c =
+    rw c.in-None.is (on_both c.c_malloc.result (λ address served member. allocated_low {align = 16} (4, refl) (omega arith) served member)
+    c.c_malloc.ensures.served c.c_malloc.ensures.member)
 
 pub returns-in-Some-clause-counted : goal.returns-in-Some-clause-counted
 returns-in-Some-clause-counted g c = λ some.

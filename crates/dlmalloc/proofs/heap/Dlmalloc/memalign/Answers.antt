@@ -13,12 +13,13 @@ returns-then-size-limit-clause-refused g c =
     ] in
     record {
       refused = too_large (limit c.args.self.now.granularity) c.args.size c.args.align (subst (λ bound. bound ≤ c.args.size + c.args.align) c.max_request-limit.ensures.is more);
-      same = record { followed = search rules; refused = search rules; state = refl; sound = c.requires.sound; regions_same = refl; words = λ k is. refl; index = λ b. (b, λ n. refl) };
+      same = record { followed = search rules; refused = search rules; state = refl; sound = c.requires.intact.sound; regions_same = refl; words = λ k is. refl; index = λ b. (b, λ n. refl) };
+      untouched = λ large. refl;
     }
 
 pub overflow_add-n-2 : goal.overflow_add-n-2
 overflow_add-n-2 g c =
-    let small = limit_small c.args.self.now.granularity c.requires.sound.granularity.1 in
+    let small = limit_small c.args.self.now.granularity c.requires.intact.sound.granularity.1 in
     let bound = c.max_request-limit.ensures.is in let near = c.request2size-n.ensures.near in
     let less = c.if-align-limit.false in omega arith
 

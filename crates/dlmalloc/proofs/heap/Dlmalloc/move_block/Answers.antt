@@ -7,7 +7,7 @@ use Rattle.dlmalloc.proofs.heap.Dlmalloc.move_block.Goals as goal
 pub copy_counted-requires : goal.copy_counted-requires
 copy_counted-requires g c =
     let count = c.words_in.ensures ∙ ap words_in c.min.ensures in
-    let sound = c.requires.sound in let block = c.requires.block.1 in let handed = c.in-Ok.ensures.handed in
+    let sound = c.requires.intact.sound in let block = c.requires.block.1 in let handed = c.in-Ok.ensures.allocated.handed in
     record {
       from = from_words c.args.held sound block c.requires.held handed count;
       to = to_words c.args.held sound block c.requires.held handed count;
@@ -17,11 +17,11 @@ copy_counted-requires g c =
 pub free_and_settle-requires : goal.free_and_settle-requires
 free_and_settle-requires g c =
     let count = c.words_in.ensures ∙ ap words_in c.min.ensures in let e = c.copy_counted.ensures in
-    let sound = c.requires.sound in let block = c.requires.block.1 in let handed = c.in-Ok.ensures.handed in
+    let sound = c.requires.intact.sound in let block = c.requires.block.1 in let handed = c.in-Ok.ensures.allocated.handed in
     record {
       sound = (copied_heap c.args.held sound block c.requires.held handed count e.regions e.follows e.copied).sound;
       linked = copied_binned c.args.held sound block c.requires.held handed count e.regions e.follows e.copied
-          c.index_stays.ensures c.malloc.ensures.linked;
+          c.index_stays.ensures c.malloc.ensures.intact.linked;
       block = (block.extent.size - 8, copied_block c.args.held sound block c.requires.held handed count e.regions e.follows e.copied);
     }
 
@@ -29,14 +29,14 @@ pub returns-in-Ok-clause-elsewhere : goal.returns-in-Ok-clause-elsewhere
 returns-in-Ok-clause-elsewhere g c =
     let A = g.A.Allocator in let middle = c.malloc.new.self in let filled = record middle { system = c.copy_counted.new.self } in
     let count = c.words_in.ensures ∙ ap words_in c.min.ensures in let e = c.copy_counted.ensures in
-    let sound = c.requires.sound in let block = c.requires.block.1 in let handed = c.in-Ok.ensures.handed in
+    let sound = c.requires.intact.sound in let block = c.requires.block.1 in let handed = c.in-Ok.ensures.allocated.handed in
     let IsFreedBy = λ (frees parts : Bool) (unit : ℕ).
     IsFreed g.A.Links.regions g.A.Links.word g.A.Links.follows frees parts unit filled c.args.ptr c.free_and_settle.new.self in
     let freed = by_rules A.zeros A.frees A.parts A.unit (rules_found A.zeros A.frees A.parts A.unit g.met.A.Allocator.fixed handed) IsFreedBy
     (by_rules A.zeros A.frees A.parts A.unit (g.met.A.Allocator.fixed middle.system filled.system _ e.follows) IsFreedBy c.free_and_settle.ensures.freed) in
     record {
       middle = middle;
-      served = c.in-Ok.ensures.served;
+      served = c.in-Ok.ensures.allocated.served;
       filled = filled;
       copied = copied c.args.held sound block c.requires.held handed count e.regions e.follows e.copied;
       same = copied_heap c.args.held sound block c.requires.held handed count e.regions e.follows e.copied;
@@ -49,9 +49,9 @@ returns-in-Ok-clause-elsewhere g c =
 
 pub returns-in-Ok-clause-counted : goal.returns-in-Ok-clause-counted
 returns-in-Ok-clause-counted g c = λ some.
-    let old = c.args.self.now in let middle = c.malloc.new.self in let handed = c.in-Ok.ensures.handed in
+    let old = c.args.self.now in let middle = c.malloc.new.self in let handed = c.in-Ok.ensures.allocated.handed in
     let count = c.words_in.ensures ∙ ap words_in c.min.ensures in let e = c.copy_counted.ensures in
-    let same = copied_heap c.args.held c.requires.sound c.requires.block.1 c.requires.held handed count e.regions e.follows e.copied in
+    let same = copied_heap c.args.held c.requires.intact.sound c.requires.block.1 c.requires.held handed count e.regions e.follows e.copied in
     let segments = ap pass_steps same.state ∙ found_pass g.A.Links.follows g.A.Links.regions old.system (state_of g.A.Links.word old)
     (padded (asked c.args.size c.args.align)) middle.system (state_of g.A.Links.word middle) handed.found some in
     let cut = c.malloc.ensures.counted some in let words = c.copy_counted.ensures.counted in

@@ -15,7 +15,7 @@ returns-then-resize_chunk-clause-resized g c =
     inl (
       c.requires.least,
       refl,
-      stays_there c.requires.sound c.requires.block.1 c.requires.held small request.is request.holds request.near
+      stays_there c.requires.intact.sound c.requires.block.1 c.requires.held small request.is request.holds request.near
           (done.resized yes) (done.held yes) done.others done.moved done.order,
     )
 
@@ -25,7 +25,8 @@ returns-then-size-max_request-clause-refused g c =
     let test : nat_le c.args.align 16 ≡ true = grind (arith, nat_tests) in
     record {
       refused = rw test (let is = c.max_request.ensures.is in let more = c.if-size-max_request.true in omega arith);
-      same = record { followed = search rules; refused = search rules; state = refl; sound = c.requires.sound; regions_same = refl; words = λ k is. refl; index = λ b. (b, λ n. refl) };
+      same = record { followed = search rules; refused = search rules; state = refl; sound = c.requires.intact.sound; regions_same = refl; words = λ k is. refl; index = λ b. (b, λ n. refl) };
+      untouched = λ large. refl;
     }
 
 pub returns-clause-member : goal.returns-clause-member
