@@ -6,7 +6,8 @@ use Rattle.paging_core.specs.Memory.{word_at, byte_of}
 use Rattle.paging_core.specs.Walk.{Place, walk_of, reached}
 use Rattle.dlmalloc.specs.declared.heap.Dlmalloc.{Dlmalloc}
 use Rattle.dlmalloc.specs.Blocks.{ArePlaced}
-use Rattle.dlmalloc.specs.Served.{OnlyBlocksChange, RestsOutside, OrderRestsOutside}
+use Rattle.dlmalloc.specs.Served.{OnlyBlocksChange}
+use Rattle.sound_heap.specs.Heap.{AreInBlock}
 use Rattle.heap_model.specs.declared.live.Live.{Live}
 use Rattle.heap_model.specs.declared.call.Call.TheVariants.{Write, Read}
 use Rattle.heap_model.specs.declared.answer.Reply.TheVariants.{Done, Bytes}
@@ -20,19 +21,18 @@ use Rattle.heap_model.proofs.Placed.{outline_at}
 use Rattle.heap_model.proofs.Known.{good_known}
 use Rattle.heap_model.proofs.Written.{stands_written}
 use Rattle.kernel_heap.specs.Follows.{still_none}
-use Rattle.kernel_heap.specs.Words.{heap_regions, grants_of}
+use Rattle.kernel_heap.specs.Words.{heap_regions}
 use Rattle.kernel_heap.specs.System.{paged}
 use Rattle.kernel_heap.specs.Heap.{regions, word, heap_state}
 use Rattle.kernel_heap.specs.Machine.{seen_of}
 use Rattle.kernel_heap.specs.Numbered.{live_at, refuse_live, HasBytes}
 use Rattle.kernel_heap.specs.LaidOut.{IsLaidOut}
-use Rattle.kernel_heap.specs.Moves.{IsStill}
 use Rattle.kernel_heap.specs.Written.{AreInside, AreRead, IsWritten}
 use Rattle.kernel_heap.specs.declared.paged_system.PagedSystem.{PagedSystem}
 use Rattle.kernel_heap.proofs.BlockPlaces.{bytes_within}
 use Rattle.kernel_heap.proofs.Full.{behind}
 use Rattle.kernel_heap.proofs.HeapRegions.{granted_same}
-use Rattle.kernel_heap.proofs.Laid.{block_place, block_there, same_regions, laid_outside}
+use Rattle.kernel_heap.proofs.Laid.{block_place, block_there}
 use Rattle.kernel_heap.proofs.Numbers.{not_less}
 use Rattle.kernel_heap.proofs.Refused.{regions_are}
 
@@ -71,41 +71,38 @@ read_bytes : (p : Paged) (address count : ℕ) (bytes : List ℕ) → AreRead p 
 read_bytes p address count bytes read =
     all_bytes bytes (λ k less. reached_byte p.words p.root (address + k) (slice_index bytes k) (read.each k (let n = read.many in omega arith)))
 
-module _ (heap : Dlmalloc PagedSystem) (blocks : List (Option Live)) (number offset count address : ℕ) (laid : IsLaidOut heap blocks) (placed : ArePlaced (regions heap.system) (heap_state heap)) (has : HasBytes blocks number offset count address) where
-  -- bytes of a live block lie in the regions
-  pub bytes_inside : AreInside (paged heap.system) address count
-  bytes_inside =
-      let live = has.live in
-      let b = (laid.lives number has.live has.is).block in
+-- bytes of a block
+module _ (heap : Dlmalloc PagedSystem) (placed : ArePlaced (regions heap.system) (heap_state heap)) (address count : ℕ) (inside : AreInBlock (heap_state heap) address count) where
+  -- they lie in the regions
+  pub block_inside : AreInside (paged heap.system) address count
+  block_inside =
+      let low = inside.low in
+      let within = inside.within in
+      λ k above below. bytes_within heap placed inside.block inside.size inside.is k (omega (arith, above, low)) (omega (arith, below, within)) k (omega arith) (omega arith)
+
+  -- where they are put, words of blocks alone change
+  pub only_blocks : (system : PagedSystem) (bytes : List ℕ) → length bytes ≡ count → IsWritten (paged heap.system) (paged system) address bytes (length bytes) →
+      OnlyBlocksChange (regions heap.system) (heap_state heap) (word heap.system) (word system)
+  only_blocks system bytes many written k granted there beside =
+      let b = inside.is in
+      let place = block_place (heap_state heap) inside.block inside.size b in
+      let aligned = (placed inside.block inside.size b).aligned in
+      let holds = b.holds in
+      let low = inside.low in
+      let within = inside.within in
+      let multiple = granted.aligned in
+      written.words k granted (elim (beside b.extent b.used (block_there (heap_state heap) inside.block inside.size b)) [
+        | inl below ↦ inl (omega arith)
+        | inr above ↦ inr (omega arith)
+      ])
+
+module _ (heap : Dlmalloc PagedSystem) (blocks : List (Option Live)) (number offset count address : ℕ) (laid : IsLaidOut heap blocks) (has : HasBytes blocks number offset count address) where
+  -- bytes of a live block lie in one
+  pub in_block : AreInBlock (heap_state heap) address count
+  in_block =
       let at = has.place in
       let within = has.within in
-      λ k above below. bytes_within heap placed has.live.address has.live.size b k (omega (arith, above)) (omega (arith, below)) k (omega arith) (omega arith)
-
-  module _ (system : PagedSystem) (bytes : List ℕ) (many : length bytes ≡ count) (written : IsWritten (paged heap.system) (paged system) address bytes (length bytes)) (rests : RestsOutside regions word heap) where
-    -- no word outside of the block is changed
-    outside : OnlyBlocksChange (regions heap.system) (heap_state heap) (word heap.system) (word system)
-    outside k granted there beside =
-        let b = (laid.lives number has.live has.is).block in
-        let place = block_place (heap_state heap) has.live.address has.live.size b in
-        let aligned = (placed has.live.address has.live.size b).aligned in
-        let holds = b.holds in
-        let at = has.place in
-        let within = has.within in
-        let multiple = granted.aligned in
-        written.words k granted (elim (beside b.extent b.used (block_there (heap_state heap) has.live.address has.live.size b)) [
-          | inl below ↦ inl (omega arith)
-          | inr above ↦ inr (omega arith)
-        ])
-
-    -- so the heap is as it was, and the blocks stay laid out
-    heap_written : heap_state (record heap { system = system }) ≡ heap_state heap
-    heap_written = (rests laid.heap_sound system (same_regions heap laid.heap_sound system (ap grants_of written.still.others)) outside).1
-
-    pub still_written : OrderRestsOutside regions word heap → IsStill heap (record heap { system = system })
-    still_written order = (heap_written, order laid.heap_sound system (same_regions heap laid.heap_sound system (ap grants_of written.still.others)) outside)
-
-    pub laid_written : IsLaidOut (record heap { system = system }) blocks
-    laid_written = laid_outside heap blocks system laid (ap grants_of written.still.others) rests outside
+      record { block = has.live.address; size = has.live.size; is = (laid.lives number has.live has.is).block; low = omega arith; within = omega arith }
 
   -- ---- the steps
 

@@ -35,7 +35,8 @@ use Rattle.kernel_heap.specs.Heap.{regions, word, follows, heap_state}
 use Rattle.kernel_heap.specs.Machine.{seen_of}
 use Rattle.kernel_heap.specs.Numbered.{live_at}
 use Rattle.kernel_heap.specs.LaidOut.{IsLaidOut}
-use Rattle.kernel_heap.specs.Blocks.{AreZero, request}
+use Rattle.sound_heap.specs.Heap.{AreZero}
+use Rattle.kernel_heap.specs.Blocks.{request}
 use Rattle.kernel_heap.specs.Kept.{lasting_pages, AreRunsUsedFor}
 use Rattle.kernel_heap.specs.declared.paged_system.PagedSystem.{PagedSystem}
 use Rattle.kernel_heap.proofs.BlockPlaces.{byte_kept, bytes_within}

@@ -9,10 +9,10 @@ use Rattle.dlmalloc_chunks.specs.declared.extent.Extent.{Extent}
 use Rattle.dlmalloc.specs.Extents.{extent_at}
 use Rattle.dlmalloc.specs.State.{HeapState, Segment, extents_in}
 use Rattle.dlmalloc.specs.Blocks.{IsBlock}
-use Rattle.dlmalloc.specs.Order.{KeepsIndex}
 use Rattle.dlmalloc.specs.Freed.{freed}
 use Rattle.dlmalloc.specs.declared.heap.Dlmalloc.{Dlmalloc}
 use Rattle.dlmalloc.specs.declared.malloc_error.MallocError.{MallocError}
+use Rattle.sound_heap.specs.Heap.{IsIntact}
 use Rattle.heap_model.specs.declared.live.Live.{Live}
 use Rattle.heap_model.proofs.Placed.{appended, stays, last_at}
 use Rattle.heap_model.proofs.Ended.{left_at}
@@ -20,7 +20,7 @@ use Rattle.heap_model.proofs.Resized.{replaced_at, replaced_stays, replaced_here
 use Rattle.kernel_heap.specs.Beside.{IsBeside}
 use Rattle.kernel_heap.specs.Words.{heap_regions, grant_of, grants_of}
 use Rattle.kernel_heap.specs.System.{paged}
-use Rattle.kernel_heap.specs.Heap.{follows, refuses, denies, regions, word, heap_state, IsHeap, HasBins}
+use Rattle.kernel_heap.specs.Heap.{follows, refuses, denies, regions, word, heap_state}
 use Rattle.dlmalloc.specs.Requested.{asked, IsHandedOut}
 use Rattle.dlmalloc.specs.Moved.{IsGivenSize}
 use Rattle.dlmalloc.specs.AfterFree.{after_free, IsFreed}
@@ -28,7 +28,7 @@ use Rattle.dlmalloc.specs.Served.{IsRefusedWith, regions_in, KeepsRegions, OnlyB
 use Rattle.kernel_heap.specs.Machine.{seen_of}
 use Rattle.kernel_heap.specs.Numbered.{live_at}
 use Rattle.kernel_heap.specs.LaidOut.{HaveRegions, IsLive, IsLaidOut}
-use Rattle.kernel_heap.specs.Moves.{IsStill}
+use Rattle.kernel_heap.specs.Moves.{IsStill, IsKeptBeside}
 use Rattle.kernel_heap.specs.declared.paged_system.PagedSystem.{PagedSystem}
 use Rattle.kernel_heap.proofs.Numbers.{same_or_other}
 use Rattle.kernel_heap.proofs.SegmentRegions.{have_found}
@@ -92,10 +92,8 @@ module _ (heap new : Dlmalloc PagedSystem) (blocks : List (Option Live)) (size a
       let place = block_place (heap_state heap) live.address live.size b in
       out.more.new b.extent b.used (block_there (heap_state heap) live.address live.size b) (omega arith)
 
-  pub laid_handed : IsPowerOfTwo align → HasBins new → IsLaidOut new (blocks ++ Some (next_live address size align) ∷ [])
-  laid_handed power linked = record {
-    heap_sound = out.sound;
-    heap_linked = linked;
+  pub laid_handed : IsPowerOfTwo align → IsLaidOut new (blocks ++ Some (next_live address size align) ∷ [])
+  laid_handed power = record {
     has = have_found heap new (padded (asked size align)) out.found laid.has;
     lives = λ number live is. elim (appended blocks (Some (next_live address size align)) number live is) [
       | inl old ↦ live_kept number live old
@@ -168,10 +166,8 @@ module _ (heap new : Dlmalloc PagedSystem) (blocks : List (Option Live)) (number
         | inr other ↦ have_ended out.middle new live.address (out.elsewhere other) found
       ]
 
-  pub laid_resized : IsPowerOfTwo align → HasBins new → IsLaidOut new (slice_set blocks number (Some (next_live address size align)))
-  laid_resized power linked = record {
-    heap_sound = out.sound;
-    heap_linked = linked;
+  pub laid_resized : IsPowerOfTwo align → IsLaidOut new (slice_set blocks number (Some (next_live address size align)))
+  laid_resized power = record {
     has = have_resized;
     lives = λ i it at. elim (replaced_at blocks number (next_live address size align) i it at) [
       | inl same ↦ subst (λ (l : Live). IsLive (heap_state new) l) same.1 (record { block = out.block; align = power })
@@ -206,20 +202,22 @@ module _ (heap new : Dlmalloc PagedSystem) (blocks : List (Option Live)) (number
 
 -- ---- no block more
 
+-- the blocks stay laid out where the regions stay, and the heap stays in its state
+pub laid_still : (heap new : Dlmalloc PagedSystem) (blocks : List (Option Live)) → IsLaidOut heap blocks → regions new.system ≡ regions heap.system → heap_state new ≡ heap_state heap → IsLaidOut new blocks
+laid_still heap new blocks laid same state = record {
+  has = subst (λ (h : HeapState). HaveRegions h.segments (regions new.system)) (sym state) (subst (HaveRegions (heap_state heap).segments) (sym same) laid.has);
+  lives = λ number live is. subst (λ (h : HeapState). IsLive h live) (sym state) (laid.lives number live is);
+  used = λ extent used there. laid.used extent used (subst (λ (h : HeapState). extent_at extent.at (extents_in h) ≡ Some extent) state there);
+  distinct = laid.distinct;
+}
+
 module _ (heap new : Dlmalloc PagedSystem) (blocks : List (Option Live)) (size : ℕ) (error : MallocError) (denied : IsRefusedWith regions word follows refuses denies heap size error new) where
   -- a refused request leaves the machine as it was
   pub seen_denied : (top : ℕ) → seen_of top new blocks ≡ seen_of top heap blocks
   seen_denied top i = record { paged = denied.same.refused i; granularity = (ap (λ (h : HeapState). h.granularity) denied.same.state) i; blocks = blocks; top = top }
 
-  pub laid_denied : IsLaidOut heap blocks → HasBins new → IsLaidOut new blocks
-  laid_denied laid linked = record {
-    heap_sound = denied.same.sound;
-    heap_linked = linked;
-    has = subst (λ (h : HeapState). HaveRegions h.segments (regions new.system)) (sym denied.same.state) (subst (λ p. HaveRegions (heap_state heap).segments (grants_of p)) (sym denied.same.refused) laid.has);
-    lives = λ number live is. subst (λ (h : HeapState). IsLive h live) (sym denied.same.state) (laid.lives number live is);
-    used = λ extent used there. laid.used extent used (subst (λ (h : HeapState). extent_at extent.at (extents_in h) ≡ Some extent) denied.same.state there);
-    distinct = laid.distinct;
-  }
+  pub laid_denied : IsLaidOut heap blocks → IsLaidOut new blocks
+  laid_denied laid = laid_still heap new blocks laid (ap grants_of denied.same.refused) denied.same.state
 
 -- ---- a block less
 
@@ -242,10 +240,8 @@ module _ (heap new : Dlmalloc PagedSystem) (blocks : List (Option Live)) (number
         align = was.align;
       }
 
-  pub laid_ended : HasBins new → IsLaidOut new (slice_set blocks number None)
-  laid_ended linked = record {
-    heap_sound = back.sound;
-    heap_linked = linked;
+  pub laid_ended : IsLaidOut new (slice_set blocks number None)
+  laid_ended = record {
     has = have_ended heap new live.address back laid.has;
     lives = λ other it at. (let was = left_at blocks number other it at in live_left other it was.0 was.1);
     used = λ extent used there. (
@@ -261,44 +257,44 @@ module _ (heap new : Dlmalloc PagedSystem) (blocks : List (Option Live)) (number
     distinct = λ i j a b is_a is_b differ. laid.distinct i j a b (left_at blocks number i a is_a).1 (left_at blocks number j b is_b).1 differ;
   }
 
--- ---- bytes of blocks
+-- ---- beside the heap
 
 -- a system with the same regions keeps those of the segments
-pub same_regions : (heap : Dlmalloc PagedSystem) → IsHeap heap → (system : PagedSystem) → regions system ≡ regions heap.system → KeepsRegions (heap_state heap).segments (regions heap.system) (regions system)
-same_regions heap sound system same = subst (KeepsRegions (heap_state heap).segments (regions heap.system)) (sym same) (each (heap_state heap).segments)
+same_regions : (heap : Dlmalloc PagedSystem) → (system : PagedSystem) → regions system ≡ regions heap.system → KeepsRegions (heap_state heap).segments (regions heap.system) (regions system)
+same_regions heap system same = subst (KeepsRegions (heap_state heap).segments (regions heap.system)) (sym same) (each (heap_state heap).segments)
   where
     each : (segments : List Segment) → AllByRecursion (λ (segment : Segment). regions_in segment (regions heap.system) ≡ regions_in segment (regions heap.system)) segments
     each [] = tt
     each (segment ∷ segments) = (refl, each segments)
 
--- the blocks stay laid out where the regions stay, and words of blocks alone are changed
-pub laid_outside : (heap : Dlmalloc PagedSystem) (blocks : List (Option Live)) (system : PagedSystem) → IsLaidOut heap blocks → regions system ≡ regions heap.system → RestsOutside regions word heap →
-    OnlyBlocksChange (regions heap.system) (heap_state heap) (word heap.system) (word system) → IsLaidOut (record heap { system = system }) blocks
-laid_outside heap blocks system laid same rests outside =
-    let rest = rests laid.heap_sound system (same_regions heap laid.heap_sound system same) outside in
-    let state : heap_state (record heap { system = system }) ≡ heap_state heap = rest.1 in
-    record {
-      heap_sound = rest.0;
-      heap_linked = rest.2 laid.heap_linked;
-      has = subst (λ (h : HeapState). HaveRegions h.segments (regions system)) (sym state) (subst (HaveRegions (heap_state heap).segments) (sym same) laid.has);
-      lives = λ number live is. subst (λ (h : HeapState). IsLive h live) (sym state) (laid.lives number live is);
-      used = λ extent used there. laid.used extent used (subst (λ (h : HeapState). extent_at extent.at (extents_in h) ≡ Some extent) state there);
-      distinct = laid.distinct;
-    }
+-- A heap is as it was where the regions of its system stay, and of their words those of blocks alone are changed.
+module _ (heap : Dlmalloc PagedSystem) (intact : IsIntact regions word heap) (system : PagedSystem) (same : regions system ≡ regions heap.system)
+    (outside : OnlyBlocksChange (regions heap.system) (heap_state heap) (word heap.system) (word system)) (rests : RestsOutside regions word heap) where
+  pub intact_outside : IsIntact regions word (record heap { system = system })
+  intact_outside = let rest = rests intact.sound system (same_regions heap system same) outside in record { sound = rest.0; linked = rest.2 intact.linked }
 
--- so a heap is as it was where something was done beside it
-pub heap_beside : (heap : Dlmalloc PagedSystem) → IsHeap heap → (system : PagedSystem) → IsBeside (paged heap.system) (paged system) → RestsOutside regions word heap →
-    IsHeap (record heap { system = system }) × (heap_state (record heap { system = system }) ≡ heap_state heap) × (HasBins heap → HasBins (record heap { system = system }))
-heap_beside heap sound system beside rests = rests sound system (same_regions heap sound system beside.regions) (λ k granted there outside. beside.words k granted)
+  pub kept_outside : OrderRestsOutside regions word heap → IsKeptBeside heap (record heap { system = system })
+  kept_outside order = record {
+    rest = refl;
+    regions_same = same;
+    still = ((rests intact.sound system (same_regions heap system same) outside).1, order intact.sound system (same_regions heap system same) outside);
+  }
 
--- and the bins keep their order
-pub order_beside : (heap : Dlmalloc PagedSystem) → IsHeap heap → (system : PagedSystem) → IsBeside (paged heap.system) (paged system) → OrderRestsOutside regions word heap →
-    KeepsIndex regions word heap (record heap { system = system })
-order_beside heap sound system beside rests = rests sound system (same_regions heap sound system beside.regions) (λ k granted there outside. beside.words k granted)
+-- so it is if something was done beside it
+module _ (heap : Dlmalloc PagedSystem) (intact : IsIntact regions word heap) (system : PagedSystem) (beside : IsBeside (paged heap.system) (paged system)) (rests : RestsOutside regions word heap) where
+  pub intact_beside : IsIntact regions word (record heap { system = system })
+  intact_beside = intact_outside heap intact system beside.regions (λ k granted there outside. beside.words k granted) rests
 
-pub still_beside : (heap : Dlmalloc PagedSystem) → IsHeap heap → (system : PagedSystem) → IsBeside (paged heap.system) (paged system) → RestsOutside regions word heap → OrderRestsOutside regions word heap →
-    IsStill heap (record heap { system = system })
-still_beside heap sound system beside rests order = ((heap_beside heap sound system beside rests).1, order_beside heap sound system beside order)
+  pub kept_beside : OrderRestsOutside regions word heap → IsKeptBeside heap (record heap { system = system })
+  kept_beside order = kept_outside heap intact system beside.regions (λ k granted there outside. beside.words k granted) rests order
+
+-- what is seen of the machine is different in the system alone
+pub seen_beside : (top : ℕ) (heap new : Dlmalloc PagedSystem) (blocks : List (Option Live)) → IsKeptBeside heap new → seen_of top new blocks ≡ record (seen_of top heap blocks) { paged = paged new.system }
+seen_beside top heap new blocks kept i = record { paged = paged new.system; granularity = (kept.rest i).granularity; blocks = blocks; top = top }
+
+-- and in nothing if the system is as it was
+pub seen_refused : (top : ℕ) (heap new : Dlmalloc PagedSystem) (blocks : List (Option Live)) → IsKeptBeside heap new → paged new.system ≡ paged heap.system → seen_of top new blocks ≡ seen_of top heap blocks
+seen_refused top heap new blocks kept same = seen_beside top heap new blocks kept ∙ ap (λ p. record (seen_of top heap blocks) { paged = p }) same
 
 -- one stay behind another
 pub still_none : (heap : Dlmalloc PagedSystem) → IsStill heap heap
@@ -317,10 +313,8 @@ still_on old middle new first second = (
 
 -- ---- no block
 
-pub laid_new : (heap : Dlmalloc PagedSystem) → IsHeap heap → HasBins heap → (heap_state heap).segments ≡ [] → (paged heap.system).regions ≡ [] → IsLaidOut heap []
-laid_new heap sound linked none empty = record {
-  heap_sound = sound;
-  heap_linked = linked;
+pub laid_new : (heap : Dlmalloc PagedSystem) → (heap_state heap).segments ≡ [] → (paged heap.system).regions ≡ [] → IsLaidOut heap []
+laid_new heap none empty = record {
   has = subst (λ list. HaveRegions (heap_state heap).segments (map grant_of (heap_regions list))) (sym empty) tt;
   lives = λ number live is. absurd (cc);
   used = λ extent used there. absurd (let gone : extent_at extent.at [] ≡ Some extent = subst (λ (segments : List Segment). extent_at extent.at (Rattle.std.specs.List.flat_map (λ (segment : Segment). segment.extents) segments) ≡ Some extent) none there in cc);

@@ -16,7 +16,7 @@ pub mod Allocated
 pub mod Releasing
 pub mod SegmentsLeft
 pub mod Laid
-pub mod HeapCalls
+pub mod KeptBytes
 pub mod BlockPlaces
 pub mod Full
 pub mod Refused
@@ -45,4 +45,3 @@ pub mod Reset
 pub mod Registers
 pub mod FlatWindows
 pub mod Twins
-pub mod TwinHeaps

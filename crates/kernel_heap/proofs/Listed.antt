@@ -16,7 +16,8 @@ use Rattle.heap_model.specs.Extents.{AreRuns, HasExtent, HasBlock, IsTiling}
 use Rattle.heap_model.specs.Run.{IsGood}
 use Rattle.heap_model.specs.Machine.{Seen, Stands, IsStep, outline}
 use Rattle.heap_model.proofs.Placed.{outline_of}
-use Rattle.kernel_heap.specs.Heap.{word, heap_state}
+use Rattle.kernel_heap.specs.Heap.{regions, word, heap_state}
+use Rattle.dlmalloc.specs.Heap.{IsSound}
 use Rattle.dlmalloc.specs.Served.{IsListed}
 use Rattle.kernel_heap.specs.Machine.{seen_of}
 use Rattle.kernel_heap.specs.LaidOut.{IsLaidOut}
@@ -38,7 +39,7 @@ used_shown heap (Some one) extent is used = go (is_victim heap one) (let same : 
     go true same = absurd (let k : Victim ≡ extent.kind = ap (λ (e : Extent). e.kind) same in let u = ap is_used (k ∙ used) in cc)
     go false same = ap Some same
 
-module _ {top : ℕ} (heap : Dlmalloc PagedSystem) (blocks : List (Option Live)) (laid : IsLaidOut heap blocks) (s : State) (good : IsGood s)
+module _ {top : ℕ} (heap : Dlmalloc PagedSystem) (sound : IsSound regions word heap) (blocks : List (Option Live)) (laid : IsLaidOut heap blocks) (s : State) (good : IsGood s)
     (stands : Stands (seen_of top heap blocks) s)
     (list : List Extent) (listed : IsListed word heap list) where
   abbrev m : Seen
@@ -75,12 +76,12 @@ module _ {top : ℕ} (heap : Dlmalloc PagedSystem) (blocks : List (Option Live))
   -- each segment is a run of whole regions
   runs : AreRuns s.heap true list
   runs = subst (λ (regions : List Region). AreRuns regions true list) (sym (regions_are heap.system m refl s good stands))
-      (heap_runs heap laid.heap_sound list listed.spans)
+      (heap_runs heap sound list listed.spans)
 
   tiling : IsTiling s list
   tiling = record {
     extents_are = listed.tiled;
-    bytes = λ address. listed.bytes address ∙ (segment_bytes heap laid.heap_sound laid.has address ∙ sym (ap (list_any (is_within address)) (regions_are heap.system m refl s good stands)));
+    bytes = λ address. listed.bytes address ∙ (segment_bytes heap sound laid.has address ∙ sym (ap (list_any (is_within address)) (regions_are heap.system m refl s good stands)));
     runs = runs;
     blocks = block_has;
     used = extent_has;

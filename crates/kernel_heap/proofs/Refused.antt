@@ -6,6 +6,7 @@ use Rattle.std.specs.Int.{is_power_of_two}
 use Rattle.dlmalloc_chunks.specs.Request.{round_up, padded, enlarged, wanted, limit}
 use Rattle.dlmalloc_chunks.proofs.PowersOfTwo.{power_from_test}
 use Rattle.dlmalloc_chunks.proofs.Wanted.{wanted_few, wanted_many}
+use Rattle.dlmalloc.specs.Heap.{IsGranularity}
 use Rattle.dlmalloc.specs.Requested.{asked}
 use Rattle.dlmalloc.specs.Served.{IsDenied, IsMallocRefused, IsRefusedWith}
 use Rattle.dlmalloc.specs.declared.malloc_error.MallocError.{MallocError}
@@ -171,9 +172,9 @@ module _ {top : ℕ} (heap : Dlmalloc PagedSystem) (blocks : List (Option Live))
       step_may NoSpace (no_room heap blocks laid s good stands n is.full, subst (HasNoPlace s.base s.pages (all_regions s)) (sym pages_same) none_fits)
 
   -- they have one, but too few frames
-  step_no_frames : IsDenied denies heap.system (heap_state heap) n SystemNoFrames → IsStep s call (refused_with NoFrames) m
-  step_no_frames is =
-      let some = pages_some (round_up (n + 96) heap.granularity) (asked_some n heap.granularity laid.heap_sound.granularity) in
+  step_no_frames : IsGranularity heap.granularity → IsDenied denies heap.system (heap_state heap) n SystemNoFrames → IsStep s call (refused_with NoFrames) m
+  step_no_frames granularity is =
+      let some = pages_some (round_up (n + 96) heap.granularity) (asked_some n heap.granularity granularity) in
       let f = stands.free_frames in
       let lacks = is.denied (λ e. absurd (cc)) in
       let few = lacks.2 in
@@ -191,10 +192,10 @@ module _ {top : ℕ} (heap : Dlmalloc PagedSystem) (blocks : List (Option Live))
       )
 
 -- What the heap refuses, is refused for the same cause.
-pub step_denied : {top : ℕ} → (heap new : Dlmalloc PagedSystem) (blocks : List (Option Live)) (laid : IsLaidOut heap blocks) (s : State) (good : IsGood s)
+pub step_denied : {top : ℕ} → (heap new : Dlmalloc PagedSystem) → IsGranularity heap.granularity → (blocks : List (Option Live)) (laid : IsLaidOut heap blocks) (s : State) (good : IsGood s)
     (stands : Stands (seen_of top heap blocks) s) (call : Call) (asked n : ℕ) → padded asked ≡ n → (limit s.granularity ≤ asked → must_refuse s call ≡ Some TooLarge) → (asked < limit s.granularity → must_refuse s call ≡ None) →
     wanted_by s call ≡ Some n → (error : MallocError) → IsRefusedWith regions word follows refuses denies heap asked error new → (answer : Answer) → IsRefusalOf error answer → IsStep s call answer (seen_of top new blocks)
-step_denied {top = top} heap new blocks laid s good stands call asked n same large small wants error denied answer given =
+step_denied {top = top} heap new granularity blocks laid s good stands call asked n same large small wants error denied answer given =
     subst (λ (m : Seen). IsStep s call answer m) (sym (seen_denied heap new blocks asked error denied top))
     (subst (λ (a : Answer). IsStep s call a (seen_of top heap blocks)) (sym given.2) (go error given.0 given.1 denied.refused))
   where
@@ -210,6 +211,6 @@ step_denied {top = top} heap new blocks laid s good stands call asked n same lar
     go (System SystemNoFrames) refusal is why =
         let one : NoFrames ≡ refusal = cc in
         subst (λ r. IsStep s call (refused_with r) (seen_of top heap blocks)) one
-        (step_no_frames heap blocks laid s good stands call n (small (subst (λ g. asked < limit g) stands.granularity why.0)) wants
+        (step_no_frames heap blocks laid s good stands call n (small (subst (λ g. asked < limit g) stands.granularity why.0)) wants granularity
         (subst (λ k. IsDenied denies heap.system (heap_state heap) k SystemNoFrames) same why.1))
     go (System SystemOutOfMemory) refusal is why = absurd (cc)

@@ -11,9 +11,11 @@ use Rattle.heap_memory.specs.Regions.{is_granted, IsApart}
 use Rattle.dlmalloc.specs.Extents.{extent_at}
 use Rattle.dlmalloc.specs.State.{HeapState, Segment, extents_in}
 use Rattle.dlmalloc.specs.Segments.{IsWithin, IsSegment, AreSegments}
+use Rattle.dlmalloc.specs.Heap.{IsSound}
 use Rattle.dlmalloc.specs.Released.{is_own, releases, regions_without}
 use Rattle.dlmalloc.specs.GivenBack.{AreGivenBack}
 use Rattle.dlmalloc.specs.declared.heap.Dlmalloc.{Dlmalloc}
+use Rattle.sound_heap.specs.Heap.{fresh_heap}
 use Rattle.heap_model.specs.declared.live.Live.{Live}
 use Rattle.heap_model.specs.declared.region.Region.{Region}
 use Rattle.heap_model.specs.declared.call.Call.TheVariants.{Reset}
@@ -33,8 +35,8 @@ use Rattle.heap_model.proofs.Slots.{settled_same}
 use Rattle.kernel_heap.specs.Config.{IsGoodWindow}
 use Rattle.kernel_heap.specs.System.{paged}
 use Rattle.kernel_heap.specs.Words.{heap_regions, grant_of}
-use Rattle.kernel_heap.specs.Heap.{regions, word, follows, heap_state, IsHeap, HasBins}
-use Rattle.kernel_heap.specs.Machine.{seen_of, fresh_heap}
+use Rattle.kernel_heap.specs.Heap.{regions, word, follows, heap_state}
+use Rattle.kernel_heap.specs.Machine.{seen_of}
 use Rattle.kernel_heap.specs.Numbered.{live_at}
 use Rattle.kernel_heap.specs.LaidOut.{HaveRegions, IsLaidOut}
 use Rattle.kernel_heap.specs.declared.paged_system.PagedSystem.{PagedSystem}
@@ -100,11 +102,11 @@ ended_lives (block ∷ blocks) = ap (λ (lives : List (Option Live)). None ∷ l
 
 -- ---- the machine
 
-module _ (heap new : Dlmalloc PagedSystem) (blocks : List (Option Live)) (released : ℕ) (laid : IsLaidOut heap blocks)
+module _ (heap new : Dlmalloc PagedSystem) (sound : IsSound regions word heap) (blocks : List (Option Live)) (released : ℕ) (laid : IsLaidOut heap blocks)
     (out : AreGivenBack regions word follows (filter is_own (heap_state heap).segments) heap.system released new.system)
-    (state : heap_state new ≡ fresh_heap heap.granularity heap.rate) (sound : IsHeap new) where
+    (state : heap_state new ≡ fresh_heap heap.granularity heap.rate) where
   own : filter is_own (heap_state heap).segments ≡ (heap_state heap).segments
-  own = all_own (heap_regions (paged heap.system).regions) (word heap.system) (heap_state heap).segments laid.heap_sound.segments
+  own = all_own (heap_regions (paged heap.system).regions) (word heap.system) (heap_state heap).segments sound.segments
 
   pub none_left : heap_regions (paged new.system).regions ≡ []
   none_left = no_grant (heap_regions (paged new.system).regions)
@@ -118,10 +120,8 @@ module _ (heap new : Dlmalloc PagedSystem) (blocks : List (Option Live)) (releas
   abbrev blocks' : List (Option Live)
   blocks' = none_live_of (length blocks)
 
-  pub laid_reset : HasBins new → IsLaidOut new blocks'
-  laid_reset linked = record {
-    heap_sound = sound;
-    heap_linked = linked;
+  pub laid_reset : IsLaidOut new blocks'
+  laid_reset = record {
     has = subst (λ (list : List Region). HaveRegions (heap_state new).segments (map grant_of list)) (sym none_left) tt;
     lives = λ number live is. absurd (no_live (length blocks) number live is);
     used = λ extent used there. absurd (let gone : extent_at extent.at (extents_in (fresh_heap heap.granularity heap.rate)) ≡ Some extent = subst (λ (h : HeapState). extent_at extent.at (extents_in h) ≡ Some extent) state there in cc);

@@ -14,6 +14,7 @@ use Rattle.dlmalloc.specs.Extents.{extent_at}
 use Rattle.dlmalloc.specs.State.{extents_in}
 use Rattle.std.proofs.lemmas.Bool.Decides.{nat_tests}
 use Rattle.dlmalloc.specs.Blocks.{ArePlaced, BlocksAreApart}
+use Rattle.dlmalloc.specs.Heap.{IsGranularity}
 use Rattle.dlmalloc.specs.Requested.{asked, IsFound, IsMemberServed}
 use Rattle.dlmalloc.specs.Moved.{others_at, IsGivenSize, HasByteOf}
 use Rattle.dlmalloc.specs.Served.{IsRefusedWith}
@@ -283,13 +284,13 @@ kept_power true live power = power
 kept_power false live power = (4, refl)
 
 -- the heap refuses the size
-pub step_not_resized : {top : ℕ} → (heap new : Dlmalloc PagedSystem) (blocks : List (Option Live)) (number size : ℕ) (keeps : Bool) (live : Live) (laid : IsLaidOut heap blocks) → live_at blocks number ≡ Some live →
+pub step_not_resized : {top : ℕ} → (heap new : Dlmalloc PagedSystem) → IsGranularity heap.granularity → (blocks : List (Option Live)) (number size : ℕ) (keeps : Bool) (live : Live) (laid : IsLaidOut heap blocks) → live_at blocks number ≡ Some live →
     (s : State) (good : IsGood s) (stands : Stands (seen_of top heap blocks) s) → IsPowerOfTwo (align_kept keeps live) → (error : MallocError) → IsRefusedWith regions word follows refuses denies heap (asked size (align_kept keeps live)) error new →
     (answer : Answer) → IsRefusalOf error answer → IsStep s (resizing keeps number size) answer (seen_of top new blocks)
-step_not_resized {top = top} heap new blocks number size keeps live laid is s good stands power error denied answer given =
+step_not_resized {top = top} heap new granularity blocks number size keeps live laid is s good stands power error denied answer given =
     let old = behind heap blocks laid s good stands number live is in
     let align : align_then keeps old.0 ≡ align_kept keeps live = same keeps old.0 old.2 in
-    step_denied heap new blocks laid s good stands (resizing keeps number size) (asked size (align_kept keeps live)) (wanted size (align_kept keeps live)) (wanted_asked size (align_kept keeps live) (test_of_power (align_kept keeps live) power))
+    step_denied heap new granularity blocks laid s good stands (resizing keeps number size) (asked size (align_kept keeps live)) (wanted size (align_kept keeps live)) (wanted_asked size (align_kept keeps live) (test_of_power (align_kept keeps live) power))
     (λ most. refused_resizing keeps s number size ∙ (ap (refuse_resizing s.granularity size (align_then keeps)) old.1 ∙ large_resizing s.granularity size (align_then keeps) old.0 (subst (λ a. limit s.granularity ≤ asked size a) (sym align) most)))
     (λ less. refused_resizing keeps s number size ∙ (ap (refuse_resizing s.granularity size (align_then keeps)) old.1 ∙ not_refused_resizing s.granularity size (align_then keeps) old.0 (subst (λ a. asked size a < limit s.granularity) (sym align) less)))
     (wanted_resizing keeps s number size ∙ (ap (option_map (λ (b : Block). wanted size (align_then keeps b))) old.1 ∙ ap (λ a. Some (wanted size a)) align))

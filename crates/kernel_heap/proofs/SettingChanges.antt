@@ -5,7 +5,7 @@ use Rattle.dlmalloc.specs.State.{Segment, extents_in}
 use Rattle.dlmalloc.specs.declared.heap.Dlmalloc.{Dlmalloc}
 use Rattle.heap_model.specs.declared.live.Live.{Live}
 use Rattle.kernel_heap.specs.System.{paged}
-use Rattle.kernel_heap.specs.Heap.{regions, heap_state, IsHeap, HasBins}
+use Rattle.kernel_heap.specs.Heap.{regions, heap_state}
 use Rattle.kernel_heap.specs.Machine.{seen_of}
 use Rattle.kernel_heap.specs.LaidOut.{HaveRegions, IsLaidOut}
 use Rattle.kernel_heap.specs.declared.paged_system.PagedSystem.{PagedSystem}
@@ -16,14 +16,12 @@ module _ (heap new : Dlmalloc PagedSystem) (blocks : List (Option Live)) (system
   pub seen_set : (top granularity : ℕ) → new.granularity ≡ granularity → seen_of top new blocks ≡ record (seen_of top heap blocks) { granularity = granularity }
   seen_set top granularity is i = record { paged = paged (system i); granularity = is i; blocks = blocks; top = top }
 
-  module _ (laid : IsLaidOut heap blocks) (sound : IsHeap new) (linked : HasBins new) (same : (heap_state new).segments ≡ (heap_state heap).segments) where
+  module _ (laid : IsLaidOut heap blocks) (same : (heap_state new).segments ≡ (heap_state heap).segments) where
     extents_same : (at : ℕ) → extent_at at (extents_in (heap_state new)) ≡ extent_at at (extents_in (heap_state heap))
     extents_same at = ap (λ (segments : List Segment). extent_at at (extents_in (record (heap_state heap) { segments = segments }))) same
 
     pub laid_set : IsLaidOut new blocks
     laid_set = record {
-      heap_sound = sound;
-      heap_linked = linked;
       has = subst (λ (p : PagedSystem). HaveRegions (heap_state new).segments (regions p)) (sym system)
           (subst (λ (segments : List Segment). HaveRegions segments (regions heap.system)) (sym same) laid.has);
       lives = λ number live is. (let was = laid.lives number live is in record {

@@ -27,7 +27,7 @@ use Rattle.heap_model.proofs.Shortened.{length_cut, none_gone, good_cut}
 use Rattle.heap_model.proofs.Slots.{settled_same}
 use Rattle.kernel_heap.specs.System.{paged, pageless_frames}
 use Rattle.kernel_heap.specs.Words.{heap_regions}
-use Rattle.kernel_heap.specs.Heap.{regions, word, follows, heap_state, HasBins}
+use Rattle.kernel_heap.specs.Heap.{regions, word, follows, heap_state}
 use Rattle.kernel_heap.specs.Machine.{seen_of}
 use Rattle.kernel_heap.specs.Numbered.{live_at}
 use Rattle.kernel_heap.specs.LaidOut.{has_region, HaveRegions, IsLive, IsLaidOut}
@@ -81,10 +81,8 @@ module _ (heap new : Dlmalloc PagedSystem) (blocks : List (Option Live)) (pad : 
         align = was.align;
       }
 
-  pub laid_trimmed : HasBins new → IsLaidOut new blocks
-  laid_trimmed linked = record {
-    heap_sound = out.sound;
-    heap_linked = linked;
+  pub laid_trimmed : IsLaidOut new blocks
+  laid_trimmed = record {
     has = subst (λ (h : HeapState). HaveRegions h.segments (regions new.system)) (sym out.state)
         (subst (HaveRegions (trimmed true true 4096 pad (heap_state heap)).segments) (sym out.regions_are)
         (all_more (Has (trimmed true true 4096 pad (heap_state heap)).segments) (λ region. IsTrue (list_any (has_region region) (trimmed true true 4096 pad (heap_state heap)).segments)) (λ region is. is.1)

@@ -1,5 +1,5 @@
 -- Regions of the user are mapped and unmapped: the answer is allowed, and the machine stands for the state after it.
-use Rattle.std.proofs.Common.{◌≡◌, ◌≢◌, ℕ, ◌+◌, ◌/◌, ◌<◌, ◌≤◌, ◌||◌, nat_lt, List, [], ◌∷◌, refl, sym, ap, ◌∙◌, subst, arith, Bool, true, false, Option, Some, None}
+use Rattle.std.proofs.Common.{◌≡◌, ◌≢◌, ℕ, ◌+◌, ◌/◌, ◌<◌, ◌≤◌, ◌||◌, nat_lt, List, [], ◌∷◌, refl, sym, ap, ◌∙◌, subst, arith, Bool, true, false, Some, None}
 use Rattle.std.specs.List.{list_any, AllByRecursion}
 use Rattle.std.proofs.lemmas.Bool.Decides.{nat_tests}
 use Rattle.paging_core.specs.Walk.{reached}
@@ -8,7 +8,6 @@ use Rattle.heap_model.specs.declared.region.Region.{Region}
 use Rattle.heap_model.specs.declared.call.Call.TheVariants.{Map, Unmap}
 use Rattle.heap_model.specs.declared.answer.Answer.{Answer}
 use Rattle.heap_model.specs.declared.answer.Refusal.{Refusal}
-use Rattle.heap_model.specs.declared.live.Live.{Live}
 use Rattle.heap_model.specs.declared.answer.Reply.TheVariants.{Done}
 use Rattle.heap_model.specs.State.{State, end_of}
 use Rattle.heap_model.specs.Tables.{missing, free_frames}
@@ -30,16 +29,9 @@ use Rattle.mapped_regions.specs.declared.map_fault.UnmapFault.{UnmapFault}
 use Rattle.mapped_regions.specs.declared.map_fault.UnmapFault.TheVariants as Unmapping
 use Rattle.mapped_regions.specs.Mapped.{IsPageRange, HasFrames, CanMap, IsRegionJoined, IsLeft}
 use Rattle.mapped_regions.specs.UserRegions.{meets_any_heap, has_user_region, IsMapRefused, IsUnmapRefused, CanUnmap}
-use Rattle.dlmalloc.specs.declared.heap.Dlmalloc.{Dlmalloc}
-use Rattle.dlmalloc.specs.Served.{RestsOutside}
-use Rattle.kernel_heap.specs.Beside.{IsBeside}
 use Rattle.kernel_heap.specs.System.{paged}
-use Rattle.kernel_heap.specs.Heap.{regions, word}
-use Rattle.kernel_heap.specs.LaidOut.{IsLaidOut}
 use Rattle.kernel_heap.specs.Refusing.{map_refusal, unmap_refusal, IsRefusal}
-use Rattle.kernel_heap.specs.declared.paged_system.PagedSystem.{PagedSystem}
 use Rattle.kernel_heap.proofs.Refused.{refused_with, step_refused}
-use Rattle.kernel_heap.proofs.Laid.{laid_outside}
 
 -- ---- regions of a good state
 
@@ -175,9 +167,3 @@ module _ (m : Seen) (s : State) (start pages : ℕ) (good : IsGood s) (stands : 
 
   pub unmap_denied : (fault : UnmapFault) → IsUnmapRefused m.paged start pages fault → IsStep s (Unmap start pages) (refused_with (unmap_refusal fault)) m
   unmap_denied fault why = step_refused m s (Unmap start pages) (unmap_refusal fault) (unmap_refused fault why) good stands
-
--- ---- the heap beside them
-
-pub laid_beside : (heap : Dlmalloc PagedSystem) (blocks : List (Option Live)) → IsLaidOut heap blocks → (system : PagedSystem) → IsBeside (paged heap.system) (paged system) → RestsOutside regions word heap →
-    IsLaidOut (record heap { system = system }) blocks
-laid_beside heap blocks laid system beside rests = laid_outside heap blocks system laid beside.regions rests (λ k granted there outside. beside.words k granted)

@@ -6,6 +6,7 @@ use Rattle.heap_memory.specs.Regions.{IsApart}
 use Rattle.dlmalloc_chunks.specs.declared.extent.Extent.{Extent}
 use Rattle.dlmalloc_chunks.specs.Kinds.{ends_segment}
 use Rattle.dlmalloc.specs.State.{Segment}
+use Rattle.dlmalloc.specs.Heap.{IsSound}
 use Rattle.dlmalloc.specs.Segments.{IsWithin, AreSegments, has_byte_in}
 use Rattle.dlmalloc.specs.declared.heap.Dlmalloc.{Dlmalloc}
 use Rattle.dlmalloc.specs.Served.{AreSpans}
@@ -16,7 +17,7 @@ use Rattle.heap_model.proofs.Booleans.{or_left, or_right, or_cases}
 use Rattle.heap_model.proofs.Regions.{within_bounds}
 use Rattle.kernel_heap.specs.Words.{heap_regions, grant_of}
 use Rattle.kernel_heap.specs.System.{paged}
-use Rattle.kernel_heap.specs.Heap.{regions, word, heap_state, IsHeap}
+use Rattle.kernel_heap.specs.Heap.{regions, word, heap_state}
 use Rattle.kernel_heap.specs.LaidOut.{has_region, HaveRegions}
 use Rattle.kernel_heap.specs.declared.paged_system.PagedSystem.{PagedSystem}
 use Rattle.kernel_heap.proofs.HeapRegions.{granted_same}
@@ -113,7 +114,7 @@ both_ways true false there back = absurd (let no = there refl in cc)
 both_ways false true there back = absurd (let no = back refl in cc)
 
 -- they have the same bytes
-pub segment_bytes : (heap : Dlmalloc PagedSystem) → IsHeap heap → HaveRegions (heap_state heap).segments (regions heap.system) → (address : ℕ) →
+pub segment_bytes : (heap : Dlmalloc PagedSystem) → IsSound regions word heap → HaveRegions (heap_state heap).segments (regions heap.system) → (address : ℕ) →
     list_any (has_byte_in address) (heap_state heap).segments ≡ list_any (is_within address) (heap_regions (paged heap.system).regions)
 segment_bytes heap sound have address =
     both_ways (list_any (has_byte_in address) (heap_state heap).segments) (list_any (is_within address) (heap_regions (paged heap.system).regions))
@@ -133,7 +134,7 @@ runs_of segments regions from to begins (extent ∷ extents) spans = (
   runs_of segments regions from to (ends_segment extent.kind) extents spans.2,
 )
 
-pub heap_runs : (heap : Dlmalloc PagedSystem) → IsHeap heap → (list : List Extent) → AreSpans (heap_state heap).segments true list → AreRuns (heap_regions (paged heap.system).regions) true list
+pub heap_runs : (heap : Dlmalloc PagedSystem) → IsSound regions word heap → (list : List Extent) → AreSpans (heap_state heap).segments true list → AreRuns (heap_regions (paged heap.system).regions) true list
 heap_runs heap sound list spans = runs_of (heap_state heap).segments (heap_regions (paged heap.system).regions)
     (segment_begins (heap_regions (paged heap.system).regions) (word heap.system) (heap_state heap).segments sound.segments)
     (segment_ends (heap_regions (paged heap.system).regions) (word heap.system) (heap_state heap).segments sound.segments) true list spans

@@ -1,10 +1,11 @@
 -- The block that a call is served, or gives another size.
-use Rattle.std.specs.Prelude.{◌≡◌, ℕ, ◌+◌, ◌-◌, ◌==◌, ◌%◌, ◌<◌, ◌≤◌, Bool, true, false}
+use Rattle.std.specs.Prelude.{ℕ, Bool, true, false}
 use Rattle.dlmalloc.specs.Requested.{IsServedAt}
-use Rattle.dlmalloc.specs.State.{HeapState, extents_in, size_where}
+use Rattle.dlmalloc.specs.State.{HeapState}
 use Rattle.dlmalloc.specs.Written.{IsServedCleared}
 use Rattle.dlmalloc.specs.Moved.{IsResized}
 use Rattle.dlmalloc.specs.declared.heap.Dlmalloc.{Dlmalloc}
+use Rattle.sound_heap.specs.Heap.{usable}
 use Rattle.heap_model.specs.declared.live.Live.{Live}
 use Rattle.heap_model.specs.declared.call.Call.{Call}
 use Rattle.heap_model.specs.declared.call.Call.TheVariants.{Malloc, Calloc, Realloc, CRealloc}
@@ -15,10 +16,6 @@ use Rattle.kernel_heap.specs.declared.paged_system.PagedSystem.{PagedSystem}
 abbrev pub IsServedFor : Bool → Dlmalloc PagedSystem → ℕ → ℕ → ℕ → Dlmalloc PagedSystem → Type 0
 IsServedFor false old size align address new = IsServedAt regions word zeros follows old size align address new
 IsServedFor true old size align address new = IsServedCleared regions word zeros follows old size align address new
-
--- the words that hold so many bytes from an address on are 0
-abbrev pub AreZero : (ℕ → ℕ) → ℕ → ℕ → Type 0
-AreZero words address size = (k : ℕ) → address ≤ k → k < address + size → k % 8 ≡ 0 → words k ≡ 0
 
 -- the call that asks for a block, of value 0 or not
 abbrev pub request : Bool → ℕ → ℕ → Call
@@ -38,7 +35,7 @@ align_kept false live = 16
 -- how many of its bytes are copied then at most: as many as it has, or as many as its chunk holds
 abbrev pub bytes_kept : Bool → HeapState → Live → ℕ
 bytes_kept true heap live = live.size
-bytes_kept false heap live = size_where (λ extent. extent.at == live.address - 16) (extents_in heap) - 8
+bytes_kept false heap live = usable heap live.address
 
 -- So a live block gets that size. The system takes back whole runs, and ends of runs in pages.
 abbrev pub IsResizedTo : Bool → Dlmalloc PagedSystem → Live → ℕ → ℕ → Dlmalloc PagedSystem → Type 0

@@ -4,8 +4,7 @@ use Rattle.heap_memory.specs.declared.grant.Grant.{Grant}
 use Rattle.heap_memory.specs.declared.grant.GrantFault.{GrantFault}
 use Rattle.heap_memory.specs.Events.{Event}
 use Rattle.dlmalloc.specs.State.{HeapState}
-use Rattle.dlmalloc.specs.Heap.{state_of, IsSound}
-use Rattle.dlmalloc.specs.Binned.{IsBinned}
+use Rattle.dlmalloc.specs.Heap.{state_of}
 use Rattle.dlmalloc.specs.declared.heap.Dlmalloc.{Dlmalloc}
 use Rattle.kernel_heap.specs.Layout.{MayDeny}
 use Rattle.kernel_heap.specs.Words.{grants_of}
@@ -35,10 +34,3 @@ refuses old new = paged new ≡ paged old
 
 abbrev pub heap_state : Dlmalloc PagedSystem → HeapState
 heap_state heap = state_of word heap
-
-abbrev pub IsHeap : Dlmalloc PagedSystem → Type 0
-IsHeap heap = IsSound regions word heap
-
--- its bins hold its free extents
-abbrev pub HasBins : Dlmalloc PagedSystem → Type 0
-HasBins heap = IsBinned regions word heap

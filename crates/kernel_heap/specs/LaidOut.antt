@@ -10,7 +10,7 @@ use Rattle.dlmalloc.specs.Blocks.{IsBlock}
 use Rattle.dlmalloc.specs.declared.heap.Dlmalloc.{Dlmalloc}
 use Rattle.heap_memory.specs.declared.grant.Grant.{Grant}
 use Rattle.heap_model.specs.declared.live.Live.{Live}
-use Rattle.kernel_heap.specs.Heap.{regions, heap_state, IsHeap, HasBins}
+use Rattle.kernel_heap.specs.Heap.{regions, heap_state}
 use Rattle.kernel_heap.specs.declared.paged_system.PagedSystem.{PagedSystem}
 use Rattle.kernel_heap.specs.declared.numbered_heap.NumberedHeap.{NumberedHeap}
 use Rattle.kernel_heap.specs.Numbered.{live_at}
@@ -35,16 +35,13 @@ pub record HasLive (blocks : List (Option Live)) (extent : Extent) : Type 0 wher
   pub is : live_at blocks number ≡ Some live
   pub place : live.address ≡ extent.at + 16
 
--- The heap is sound, its bins hold its free extents, it has all of the regions, and its extents in use and the live blocks
--- correspond to one another.
+-- The heap has all of the regions, and its extents in use and the live blocks correspond to one another.
 pub record IsLaidOut (heap : Dlmalloc PagedSystem) (blocks : List (Option Live)) : Type 0 where
-  pub heap_sound : IsHeap heap
-  pub heap_linked : HasBins heap
   pub has : HaveRegions (heap_state heap).segments (regions heap.system)
   pub lives : (number : ℕ) (live : Live) → live_at blocks number ≡ Some live → IsLive (heap_state heap) live
   pub used : (extent : Extent) → extent.kind ≡ Used → extent_at extent.at (extents_in (heap_state heap)) ≡ Some extent → HasLive blocks extent
   pub distinct : (i j : ℕ) (a b : Live) → live_at blocks i ≡ Some a → live_at blocks j ≡ Some b → i ≢ j → a.address ≢ b.address
 
--- what a machine keeps, as a condition of its type
+-- what a machine keeps, as a condition of its type; that its heap is sound is one of the heap's
 abbrev pub IsSound : NumberedHeap → Type 0
 IsSound numbered = IsLaidOut numbered.heap numbered.blocks.items

@@ -1,6 +1,6 @@
 -- What contracts see of a machine and of its numbered heap.
 use Rattle.std.specs.Prelude.{ℕ, List, Option}
-use Rattle.dlmalloc.specs.State.{HeapState, new_heap, countdown_from}
+use Rattle.dlmalloc.specs.State.{HeapState}
 use Rattle.dlmalloc.specs.declared.heap.Dlmalloc.{Dlmalloc}
 use Rattle.heap_model.specs.declared.live.Live.{Live}
 use Rattle.heap_model.specs.Machine.{Seen}
@@ -29,7 +29,3 @@ seen machine = seen_with (root_of machine.cpu.cr3) machine.heap
 -- the state of the heap
 abbrev pub heap_of : NumberedHeap → HeapState
 heap_of numbered = heap_state numbered.heap
-
--- the state of a new heap with a granularity and a rate
-abbrev pub fresh_heap : ℕ → ℕ → HeapState
-fresh_heap granularity rate = record new_heap { granularity = granularity; rate = rate; countdown = countdown_from rate }

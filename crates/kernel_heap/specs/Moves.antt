@@ -7,6 +7,7 @@ use Rattle.dlmalloc.specs.Shortened.{IsTrimmed}
 use Rattle.dlmalloc.specs.Order.{KeepsIndex}
 use Rattle.dlmalloc.specs.Served.{IsRefusedWith, IsListed}
 use Rattle.dlmalloc.specs.declared.heap.Dlmalloc.{Dlmalloc}
+use Rattle.sound_heap.specs.Heap.{fresh_heap}
 use Rattle.heap_model.specs.Slots.{listed_slots}
 use Rattle.heap_model.specs.Machine.{Paged, AreLargeSlots}
 use Rattle.heap_model.specs.declared.call.Call.{Call}
@@ -18,7 +19,7 @@ use Rattle.kernel_heap.specs.System.{paged}
 use Rattle.kernel_heap.specs.Heap.{regions, word, follows, denies, refuses, heap_state}
 use Rattle.kernel_heap.specs.declared.paged_system.PagedSystem.{PagedSystem}
 use Rattle.kernel_heap.specs.declared.numbered_heap.NumberedHeap.{NumberedHeap}
-use Rattle.kernel_heap.specs.Machine.{heap_of, fresh_heap}
+use Rattle.kernel_heap.specs.Machine.{heap_of}
 use Rattle.kernel_heap.specs.Numbered.{live_at}
 use Rattle.kernel_heap.specs.Refusing.{error_of, HasNoneFor, HasNoneBeside}
 use Rattle.kernel_heap.specs.Blocks.{IsServedFor, IsResizedTo}
@@ -44,6 +45,12 @@ pub record AreMapSlotsTold (p : Paged) (start pages : ℕ) (large : Option (List
 -- A heap stays in its state, and each size of its bins keeps its chunks, in their order.
 abbrev pub IsStill : Dlmalloc PagedSystem → Dlmalloc PagedSystem → Type 0
 IsStill old new = (heap_state new ≡ heap_state old) × KeepsIndex regions word old new
+
+-- Something was done to the system of a heap, beside it: the heap's regions stay, and so it stays in its state.
+pub record IsKeptBeside (old new : Dlmalloc PagedSystem) : Type 0 where
+  pub rest : new ≡ record old { system = new.system }
+  pub regions_same : regions new.system ≡ regions old.system
+  pub still : IsStill old new
 
 -- A refused call leaves the heap: the heap refused it so many bytes, or was not asked.
 abbrev pub IsLeft : Dlmalloc PagedSystem → ℕ → Refusal → Dlmalloc PagedSystem → Type 0

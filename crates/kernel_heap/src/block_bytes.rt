@@ -11,6 +11,7 @@ ghost use Rattle.kernel_heap.specs.LaidOut.{IsSound};
 ghost use Rattle.kernel_heap.specs.Kept.{IsSeenAsBefore};
 ghost use Rattle.kernel_heap.specs.Moves.{IsStill};
 
+use crate::beside;
 use crate::numbered_heap::{NumberedHeap, refused};
 use heap_model::{Answer, Call, Refusal, Reply};
 use std::alloc::AllocError;
@@ -43,9 +44,7 @@ impl NumberedHeap {
     {
         match self.find_bytes(number, offset, bytes.len() as u64) {
             Ok(address) => {
-                self.heap.rests_outside();
-                self.heap.order_rests_outside();
-                self.heap.allocator_mut().write_bytes(address, bytes);
+                beside::write_bytes(&mut self.heap, address, bytes);
                 Answer {
                     reply: Reply::Done,
                     regions: None,
@@ -63,11 +62,7 @@ impl NumberedHeap {
     {
         match self.find_bytes(number, offset, count) {
             Ok(address) => Ok(Answer {
-                reply: Reply::Bytes(
-                    self.heap
-                        .allocator()
-                        .read_bytes(self.alloc, address, count)?,
-                ),
+                reply: Reply::Bytes(self.heap.system().read_bytes(self.alloc, address, count)?),
                 regions: None,
                 large: None,
             }),

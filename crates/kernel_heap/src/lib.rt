@@ -1,10 +1,10 @@
 //! A heap over four-level page tables: the paged system, and the machine that serves calls over it.
 #![tactic(auto)]
 
+mod beside;
 mod block_bytes;
 mod configuration;
 mod flat_window;
-mod heap_calls;
 mod machine;
 mod numbered_blocks;
 mod numbered_heap;

@@ -8,13 +8,13 @@ ghost use Rattle.kernel_heap.specs.Config.{IsGoodConfig, IsConfigRefused};
 ghost use Rattle.kernel_heap.specs.Registers.{machine_cpu, cpu_after};
 
 use crate::configuration::check;
-use crate::heap_calls;
 use crate::numbered_blocks::NumberedBlocks;
 use crate::numbered_heap::NumberedHeap;
 use crate::paged_system::PagedSystem;
 use crate::run_error::RunError;
 use heap_model::{Answer, Call, Config, Reply};
 use paging_core::PhysFrame;
+use sound_heap::Heap;
 use std::alloc::{AllocError, Global};
 use std::marker::Model;
 use x86_registers::control::{Cr0, Cr0Flags, Cr4, Cr4Flags, Efer, EferFlags};
@@ -60,7 +60,7 @@ pub struct Machine {
     cpu: Cpu,
 }
 
-// Each machine is sound: its heap is, and the heap's extents in use are its live blocks.
+// Each machine is sound: the extents in use of its heap, which is a sound one, are its live blocks.
 impl Model for Machine {
     ghost use Rattle.kernel_heap.specs.Parts.{Parts, coded_parts};
     ghost use Rattle.kernel_heap.specs.contracts.numbered_heap.NumberedHeap as numbered_heap;
@@ -79,7 +79,8 @@ impl Model for Machine {
 
 impl Machine {
     ghost use Rattle.kernel_heap.specs.System.{paged};
-    ghost use Rattle.kernel_heap.specs.Machine.{seen, system_of, heap_of, fresh_heap};
+    ghost use Rattle.sound_heap.specs.Heap.{fresh_heap};
+    ghost use Rattle.kernel_heap.specs.Machine.{seen, system_of, heap_of};
     ghost use Rattle.kernel_heap.specs.Kept.{is_always_answered, lasting_pages, AreRunsUsedFor, leaves_all, IsReachedByte};
     ghost use Rattle.kernel_heap.specs.Moves.{HeapMoves, IsStill};
 
@@ -99,7 +100,7 @@ impl Machine {
         Ok(Machine {
             heap: NumberedHeap {
                 alloc,
-                heap: heap_calls::fresh(system, config.granularity, config.rate),
+                heap: Heap::with_settings(system, config.granularity, config.rate),
                 blocks: NumberedBlocks::new(alloc),
                 list: Vec::new(alloc),
             },
@@ -111,7 +112,7 @@ impl Machine {
     pub fn system(&self) -> &PagedSystem
         ensures { result.now ≡ system_of self.now.heap }
     {
-        self.heap.heap.allocator()
+        self.heap.heap.system()
     }
 
     /// The registers of the processor. CR3 has the root table's frame, and CR2 the address of the last fault.

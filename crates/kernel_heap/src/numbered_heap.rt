@@ -1,21 +1,28 @@
 // A heap over a paged system, and the blocks that were handed out of it, by number.
-ghost use Rattle.std.specs.Prelude.{◌≡◌, ◌≢◌, ℕ, ◌<◌, ◌≤◌, ◌++◌, ◌∷◌, Some, None, IfOk, OnErr, [], vec_capacity, length};
+ghost use Rattle.std.specs.Prelude.{◌≡◌, ◌≢◌, ℕ, ◌-◌, ◌<◌, ◌≤◌, ◌++◌, ◌∷◌, true, Some, None, IfOk, IfErr, OnErr, [], vec_capacity, length};
+ghost use Rattle.dlmalloc_chunks.specs.Request.{padded};
+ghost use Rattle.dlmalloc.specs.Blocks.{BlocksAreApart};
+ghost use Rattle.dlmalloc.specs.Moved.{IsGivenSize};
+ghost use Rattle.dlmalloc.specs.Requested.{asked, IsMemberServed};
+ghost use Rattle.dlmalloc.specs.Resized.{in_place};
+ghost use Rattle.dlmalloc.specs.Served.{IsRefusedWith};
 ghost use Rattle.heap_model.specs.State.{State};
 ghost use Rattle.heap_model.specs.Run.{IsGood};
 ghost use Rattle.heap_model.specs.Machine.{Stands, IsStep};
 ghost use Rattle.heap_model.specs.Slots.{listed_slots};
+ghost use Rattle.kernel_heap.specs.Heap.{regions, word, follows, denies, refuses, heap_state};
+ghost use Rattle.kernel_heap.specs.LaidOut.{IsLive};
 ghost use Rattle.kernel_heap.specs.Refusing.{refusal_of, IsRefusalOf};
-ghost use Rattle.kernel_heap.specs.Blocks.{align_kept};
+ghost use Rattle.kernel_heap.specs.Blocks.{align_kept, IsResizedTo};
 
-use crate::heap_calls;
+use crate::beside;
 use crate::numbered_blocks::NumberedBlocks;
 use crate::paged_system::PagedSystem;
-use dlmalloc::{Dlmalloc, MallocError};
+use dlmalloc::MallocError;
 use heap_memory::GrantFault;
 use heap_model::{Answer, Call, Live, Refusal, Region, RegionList, Reply, SlotList};
+use sound_heap::Heap;
 use std::alloc::{AllocError, Global};
-use std::marker::Brand;
-use std::sync::ledger::Blank;
 
 /// The alignment that every block has, in bytes.
 const LEAST_ALIGNMENT: u64 = 16;
@@ -36,6 +43,28 @@ fn alignment_kept(live: Live, keeps: bool) -> u64
     ensures { result ≡ align_kept keeps live }
 {
     if keeps { live.align } else { LEAST_ALIGNMENT }
+}
+
+/// Gives a live block another size, at its own alignment or at the least.
+fn resize_live(
+    heap: &mut Heap<PagedSystem>,
+    live: Live,
+    size: u64,
+    keeps_alignment: bool,
+) -> Result<u64, MallocError>
+    requires block { IsLive (heap_state heap.old) live }
+    ensures ok { IfOk result (λ address. IsGivenSize regions word follows true true 4096 heap.old live.address live.size (align_kept keeps_alignment live) size address heap.new) }
+    ensures resized { IfOk result (λ address. IsResizedTo keeps_alignment heap.old live size address heap.new) }
+    ensures member { IfOk result (λ address. address ≢ live.address → IsMemberServed regions word heap.old size (align_kept keeps_alignment live) address) }
+    ensures err { IfErr result (λ error. IsRefusedWith regions word follows refuses denies heap.old (asked size (align_kept keeps_alignment live)) error heap.new) }
+    ensures tried { IfErr result (λ error. error ≢ MallocError.TooLarge → align_kept keeps_alignment live ≤ 16 → in_place (heap_state heap.old) (live.address - 16) (padded size) ≡ None) }
+    ensures apart { BlocksAreApart (heap_state heap.new) }
+{
+    if keeps_alignment {
+        heap.realloc_aligned(live.address, live.size, live.align, size)
+    } else {
+        heap.realloc(live.address, size)
+    }
 }
 
 /// The answer where the heap refuses. Want of memory leaves none.
@@ -64,7 +93,7 @@ pub(crate) struct Marks {
 #[derive(Drop)]
 pub(crate) struct NumberedHeap {
     pub(crate) alloc: Global,
-    pub(crate) heap: Dlmalloc<PagedSystem>,
+    pub(crate) heap: Heap<PagedSystem>,
     pub(crate) blocks: NumberedBlocks,
     /// The list of the next answer that tells of regions. Its places are reserved before the heap is asked.
     pub(crate) list: Vec<Region>,
@@ -101,17 +130,22 @@ impl NumberedHeap {
         if !align.is_power_of_two() {
             return Ok(refused(Refusal::BadAlign));
         }
-        let count = self.heap.allocator().region_count();
+        let count = self.heap.system().region_count();
         self.blocks.reserve()?;
         self.list.clear();
         self.list.reserve(count + 1)?;
         let before = self.marks();
-        match heap_calls::hand_out::<Brand>(&mut self.heap, size, align, cleared, Blank::new(1)) {
-            Ok(address) => Ok(Answer {
-                reply: self.add_block(address, size, align),
-                regions: self.changed_regions(before),
-                large: self.new_slots(before),
-            }),
+        self.heap.is_intact();
+        self.heap.blocks_are_placed();
+        match self.heap.hand_out(size, align, cleared) {
+            Ok(address) => {
+                self.heap.blocks_are_placed();
+                Ok(Answer {
+                    reply: self.add_block(address, size, align),
+                    regions: self.changed_regions(before),
+                    large: self.new_slots(before),
+                })
+            }
             Err(error) => refused_by(error),
         }
     }
@@ -137,18 +171,15 @@ impl NumberedHeap {
             return Ok(refused(Refusal::UnknownBlock));
         };
         let align = alignment_kept(live, keeps_alignment);
-        let count = self.heap.allocator().region_count();
+        let count = self.heap.system().region_count();
         self.list.clear();
         self.list.reserve(count + 1)?;
         let before = self.marks();
-        match heap_calls::resize::<Brand>(
-            &mut self.heap,
-            live,
-            size,
-            keeps_alignment,
-            Blank::new(1),
-        ) {
+        self.heap.is_intact();
+        self.heap.blocks_are_placed();
+        match resize_live(&mut self.heap, live, size, keeps_alignment) {
             Ok(address) => {
+                self.heap.blocks_are_placed();
                 self.blocks.change(
                     number,
                     Live {
@@ -195,7 +226,7 @@ impl NumberedHeap {
         ensures joins { result.joins ≡ (paged (system_of self.now)).joins }
         ensures pageless { result.pageless ≡ pageless_frames (paged (system_of self.now)) }
     {
-        let system = self.heap.allocator();
+        let system = self.heap.system();
         Marks {
             joins: system.joins(),
             pageless: system.free_frames() + system.tables(),
@@ -233,9 +264,7 @@ impl NumberedHeap {
         if self.marks().joins == before.joins {
             return None;
         }
-        self.heap.rests_outside();
-        self.heap.order_rests_outside();
-        self.heap.allocator_mut().take_slots()
+        beside::take_slots(&mut self.heap)
     }
 
     /// The regions of the heap, in the list that has places for them.
@@ -247,7 +276,7 @@ impl NumberedHeap {
         ensures heap { self.new.heap ≡ self.old.heap }
     {
         let list = std::mem::replace(&mut self.list, Vec::new(self.alloc));
-        self.heap.allocator().list_of_heap(list)
+        self.heap.system().list_of_heap(list)
     }
 
     /// Ends a block. The answer has its places before anything changes: regions may go back to the system by it.
@@ -264,11 +293,13 @@ impl NumberedHeap {
         let Some(live) = self.live(number) else {
             return Ok(refused(Refusal::UnknownBlock));
         };
-        let count = self.heap.allocator().region_count();
+        let count = self.heap.system().region_count();
         self.list.clear();
         self.list.reserve(count)?;
         let before = self.marks();
-        heap_calls::free::<Brand>(&mut self.heap, live, Blank::new(1));
+        self.heap.blocks_are_placed();
+        self.heap.free(live.address);
+        self.heap.blocks_are_placed();
         self.blocks.end(number);
         Ok(Answer {
             reply: Reply::Done,
@@ -283,12 +314,9 @@ impl NumberedHeap {
         ensures ok { (top : ℕ) (s : State) → IsGood s → Stands (seen_with top self.now) s → IfOk result (λ answer. IsStep s Call.Extents answer (seen_with top self.now)) }
         ensures heap { IfOk result (λ answer. HeapMoves self.now Call.Extents answer.reply answer.large self.now) }
     {
+        self.heap.is_intact();
         Ok(Answer {
-            reply: Reply::Extents(heap_calls::extents::<Brand>(
-                &self.heap,
-                self.alloc,
-                Blank::new(1),
-            )?),
+            reply: Reply::Extents(self.heap.extents(self.alloc)?),
             regions: None,
             large: None,
         })

@@ -66,7 +66,7 @@ impl NumberedHeap {
         if VirtAddr::try_new(at).is_err() {
             return refused(Refusal::NotCanonical);
         }
-        let system = self.heap.allocator();
+        let system = self.heap.system();
         let rights = system.rights_at(at);
         if !is_granted(rights, access, user) {
             return Answer {

@@ -20,7 +20,7 @@ impl NumberedHeap {
         ensures heap { HeapMoves self.old (Call.SetRate rate) result.reply result.large self.new }
         ensures kept { IsSeenAsBefore result.reply self.old self.new }
     {
-        self.heap.set_max_release_check_rate(rate);
+        self.heap.set_release_rate(rate);
         Answer {
             reply: Reply::Done,
             regions: None,

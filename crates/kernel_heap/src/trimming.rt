@@ -8,14 +8,11 @@ ghost use Rattle.kernel_heap.specs.LaidOut.{IsSound};
 ghost use Rattle.kernel_heap.specs.Kept.{IsSeenAsBefore};
 ghost use Rattle.kernel_heap.specs.Moves.{HeapMoves, IsStill};
 
-use crate::heap_calls;
 use crate::numbered_heap::NumberedHeap;
 use crate::paged_system::PagedSystem;
 use heap_model::{Answer, Call, RegionList, Reply};
 use paging_core::{PageSize, Size4KiB};
 use std::alloc::AllocError;
-use std::marker::Brand;
-use std::sync::ledger::Blank;
 
 impl NumberedHeap {
     /// Gives memory back that no block needs. The answer has its places before anything changes.
@@ -28,11 +25,13 @@ impl NumberedHeap {
         ensures kept { IfOk result (λ answer. IsSeenAsBefore answer.reply self.old self.new) }
         ensures heap_err { OnErr result (IsStill self.old.heap self.new.heap) }
     {
-        let count = self.heap.allocator().region_count();
+        let count = self.heap.system().region_count();
         self.list.clear();
         self.list.reserve(count)?;
         let before = self.marks();
-        heap_calls::trim::<Brand>(&mut self.heap, pad, Blank::new(1));
+        self.heap.blocks_are_placed();
+        self.heap.trim(pad);
+        self.heap.blocks_are_placed();
         let regions = self.changed_regions(before);
         Ok(Answer {
             reply: Reply::Trimmed(regions.is_some()),
@@ -53,10 +52,11 @@ impl NumberedHeap {
         ensures heap_err { OnErr result (IsStill self.old.heap self.new.heap) }
     {
         let other = PagedSystem::new(self.alloc, Size4KiB::SIZE, 1, 1)?;
-        let free = self.heap.allocator().free_frames();
-        heap_calls::reset::<Brand>(&mut self.heap, other, Blank::new(1));
+        let free = self.heap.system().free_frames();
+        self.heap.is_intact();
+        self.heap.reset(other);
         self.blocks.end_all();
-        let frames = self.heap.allocator().free_frames() - free;
+        let frames = self.heap.system().free_frames() - free;
         Ok(Answer {
             reply: Reply::Released(frames * Size4KiB::SIZE),
             regions: if frames == 0 {

@@ -10,6 +10,7 @@ ghost use Rattle.kernel_heap.specs.Refusing.{map_refusal, unmap_refusal, IsRefus
 ghost use Rattle.kernel_heap.specs.Kept.{lasting_pages, AreRunsUsedFor, IsSeenAsBefore};
 ghost use Rattle.kernel_heap.specs.Moves.{HeapMoves, IsStill};
 
+use crate::beside;
 use crate::numbered_heap::{NumberedHeap, refused};
 use heap_model::{Answer, Call, Refusal, Reply, Rights};
 use mapped_regions::{MapFault, UnmapFault};
@@ -57,10 +58,8 @@ impl NumberedHeap {
         ensures heap_err { OnErr result (IsStill self.old.heap self.new.heap) }
         ensures kept { IfOk result (λ answer. IsSeenAsBefore answer.reply self.old self.new) }
     {
-        self.heap.rests_outside();
-        self.heap.order_rests_outside();
         let before = self.marks();
-        match self.heap.allocator_mut().map(start, pages, rights) {
+        match beside::map(&mut self.heap, start, pages, rights) {
             Ok(()) => Ok(Answer {
                 reply: Reply::Done,
                 regions: None,
@@ -78,9 +77,7 @@ impl NumberedHeap {
         ensures heap { IsStill self.old.heap self.new.heap }
         ensures kept { IsSeenAsBefore result.reply self.old self.new }
     {
-        self.heap.rests_outside();
-        self.heap.order_rests_outside();
-        match self.heap.allocator_mut().unmap(start, pages) {
+        match beside::unmap(&mut self.heap, start, pages) {
             Ok(()) => Answer {
                 reply: Reply::Done,
                 regions: None,

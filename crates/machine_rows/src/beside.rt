@@ -1,17 +1,14 @@
 //! Regions of the user beside those of the heap: rows whose answers are known.
-ghost use Rattle.std.specs.Prelude.{◌≡◌, ◌%◌, ◌<◌, IfOk};
-ghost use Rattle.kernel_heap.specs.Heap.{heap_state, IsHeap, HasBins};
+ghost use Rattle.std.specs.Prelude.{◌≡◌, ◌%◌, ◌<◌};
+ghost use Rattle.kernel_heap.specs.Moves.{IsKeptBeside};
 
 use crate::checks::same;
-use dlmalloc::Dlmalloc;
 use heap_memory::Allocator;
 use kernel_heap::{MapFault, PagedSystem, Region, Rights, UnmapFault};
+use sound_heap::Heap;
 use std::alloc::{AllocError, Global};
-use std::marker::Brand;
 use std::process::Abort;
-use std::sync::ledger::{Blank, Ledger};
 use std::test::Fail;
-use step_count::Steps;
 
 const READ: Rights = Rights {
     write: false,
@@ -149,79 +146,44 @@ fn grants_go_around_the_regions_of_the_user(rt: HostRuntime) -> Result<(), Fail>
     Ok(())
 }
 
-// Maps pages beside the regions of a heap. The heap stays sound, in its state, and with its bins.
+// Maps pages beside the regions of a heap. The heap stays in its state, with the order of its bins.
 fn map_beside(
-    heap: &mut Dlmalloc<PagedSystem>,
+    heap: &mut Heap<PagedSystem>,
     start: u64,
     pages: u64,
     rights: Rights,
 ) -> Result<(), MapFault>
-    requires sound { IsHeap heap.old }
-    requires linked { HasBins heap.old }
-    ensures sound { IsHeap heap.new }
-    ensures linked { HasBins heap.new }
-    ensures state { heap_state heap.new ≡ heap_state heap.old }
+    ensures kept { IsKeptBeside heap.old heap.new }
 {
-    heap.rests_outside();
-    heap.allocator_mut().map(start, pages, rights)
+    heap.heap.rests_outside();
+    heap.heap.order_rests_outside();
+    heap.heap.allocator_mut().map(start, pages, rights)
 }
 
-// Unmaps pages beside the regions of a heap. The heap stays sound, in its state, and with its bins.
-fn unmap_beside(heap: &mut Dlmalloc<PagedSystem>, start: u64, pages: u64) -> Result<(), UnmapFault>
-    requires sound { IsHeap heap.old }
-    requires linked { HasBins heap.old }
-    ensures sound { IsHeap heap.new }
-    ensures linked { HasBins heap.new }
-    ensures state { heap_state heap.new ≡ heap_state heap.old }
+// Unmaps pages beside the regions of a heap. The heap stays in its state, with the order of its bins.
+fn unmap_beside(heap: &mut Heap<PagedSystem>, start: u64, pages: u64) -> Result<(), UnmapFault>
+    ensures kept { IsKeptBeside heap.old heap.new }
 {
-    heap.rests_outside();
-    heap.allocator_mut().unmap(start, pages)
-}
-
-// The block of `size` bytes that a heap hands out, if it does.
-fn block<L: Ledger>(
-    heap: &mut Dlmalloc<PagedSystem>,
-    size: u64,
-    steps: &mut Steps<L>,
-) -> Option<u64>
-    requires sound { IsHeap heap.old }
-    requires linked { HasBins heap.old }
-    ensures sound { IsHeap heap.new }
-    ensures linked { HasBins heap.new }
-{
-    heap.malloc(size, 16, steps).ok()
-}
-
-// A heap over a window of 1024 pages, which asks for single pages.
-fn heap_of_pages(alloc: Global) -> Result<Dlmalloc<PagedSystem>, AllocError>
-    ensures sound { IfOk result (λ heap. IsHeap heap) }
-    ensures linked { IfOk result (λ heap. HasBins heap) }
-{
-    let mut heap = Dlmalloc::new_with_allocator(empty(alloc, 1024)?);
-    heap.set_granularity(4096);
-    Ok(heap)
+    heap.heap.rests_outside();
+    heap.heap.order_rests_outside();
+    heap.heap.allocator_mut().unmap(start, pages)
 }
 
 // Has a heap grow on both sides of a region of the user, which then goes.
-fn grow_around<L: Ledger, R: Abort>(rt: &R, heap: &mut Dlmalloc<PagedSystem>, blank: Blank)
-    requires sound { IsHeap heap.old }
-    requires linked { HasBins heap.old }
-    requires name { blank.name ≡ L.name }
-    requires parts { blank.parts ≡ L.parts }
-    requires some { 0 < blank.parts }
-{
-    let mut steps = Steps::<L>::new(blank);
-    same(rt, block(heap, 100, &mut steps), Some(0x40_0010));
+fn grow_around<R: Abort>(rt: &R, heap: &mut Heap<PagedSystem>) {
+    same(rt, heap.malloc(100, 16), Ok(0x40_0010));
     same(rt, map_beside(heap, 0x40_1000, 1, READ_WRITE), Ok(()));
-    same(rt, block(heap, 5000, &mut steps), Some(0x40_2010));
+    same(rt, heap.malloc(5000, 16), Ok(0x40_2010));
     same(rt, unmap_beside(heap, 0x40_1000, 1), Ok(()));
-    same(rt, block(heap, 3912, &mut steps), Some(0x40_1010));
-    same(rt, counts(heap.allocator()), (1016, 4));
+    same(rt, heap.malloc(3912, 16), Ok(0x40_1010));
+    same(rt, counts(heap.system()), (1016, 4));
 }
 
 #[test]
 fn a_heap_has_regions_on_both_sides(rt: HostRuntime) -> Result<(), Fail> {
-    let mut heap = heap_of_pages(rt.alloc())?;
-    grow_around::<Brand, HostRuntime>(&rt, &mut heap, Blank::new(1));
+    let mut heap = Heap::new(empty(rt.alloc(), 1024)?);
+    // It asks for single pages.
+    same(&rt, heap.set_granularity(4096), true);
+    grow_around(&rt, &mut heap);
     Ok(())
 }

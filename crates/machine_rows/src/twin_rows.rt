@@ -1,24 +1,21 @@
 //! A heap over pages with flat words beside them: it makes the calls of worked runs, and after each of them the words of
 //! both memories are compared.
-ghost use Rattle.std.specs.Prelude.{◌≡◌, ℕ, ◌-◌, ◌<◌, ◌≤◌, Some, IfOk, option_map};
+ghost use Rattle.std.specs.Prelude.{◌≡◌, ◌-◌, ◌<◌, ◌≤◌, Some, IfOk, option_map};
 ghost use Rattle.std.specs.Int.{IsPowerOfTwo};
 ghost use Rattle.dlmalloc_chunks.specs.declared.extent.Kind.TheVariants.{Used};
 ghost use Rattle.dlmalloc.specs.Extents.{extent_at};
 ghost use Rattle.dlmalloc.specs.State.{extents_in};
-ghost use Rattle.dlmalloc.specs.Binned.{IsBinned};
-ghost use Rattle.dlmalloc.specs.Heap.{state_of, IsSound};
+ghost use Rattle.dlmalloc.specs.Heap.{state_of};
 
 use crate::checks::same;
-use dlmalloc::{Dlmalloc, Extent, Kind};
-use heap_memory::{Links, Memory};
+use dlmalloc::{Extent, Kind};
+use heap_memory::Links;
 use kernel_heap::{Region, TwinSystem};
 use paging_core::{Frames, Page, PhysFrame, VirtAddr, walk};
+use sound_heap::Heap;
 use std::alloc::Global;
-use std::marker::Brand;
 use std::process::Abort;
-use std::sync::ledger::{Blank, Ledger};
 use std::test::Fail;
-use step_count::Steps;
 
 /// A call of a heap, and the answer that it gets.
 #[derive(Clone, Copy)]
@@ -204,18 +201,17 @@ fn chunk_at(extents: &[Extent], at: u64) -> Option<(Kind, u64)>
 }
 
 /// The size of the chunk of the block at an address, which has to be there.
-fn chunk_of<L: Ledger, R: Abort>(
+fn chunk_of<R: Abort>(
     rt: &R,
     alloc: Global,
-    heap: &Dlmalloc<TwinSystem>,
+    heap: &Heap<TwinSystem>,
     address: u64,
-    steps: &mut Steps<L>,
 ) -> Result<u64, Fail>
-    requires { IsSound ⟦<TwinSystem as Links>⟧.regions ⟦<TwinSystem as Links>⟧.word heap.now }
     ensures { IfOk result (λ size. (16 ≤ address) × (32 ≤ size)
         × (extent_at (address - 16) (extents_in (state_of ⟦<TwinSystem as Links>⟧.word heap.now)) ≡ Some (record { at = address - 16; size = size; kind = Used }))) }
 {
-    let extents = heap.extents(alloc, steps)?;
+    heap.is_intact();
+    let extents = heap.extents(alloc)?;
     assert!(rt; address >= 16);
     match chunk_at(extents.as_slice(), address - 16) {
         Some((Kind::Used, size)) => Ok(size),
@@ -233,96 +229,56 @@ fn power<R: Abort>(rt: &R, align: u64) -> u64
     panic!(rt; "no power of two: {align}")
 }
 
-/// The first word of the block at an address.
-fn load(heap: &Dlmalloc<TwinSystem>, address: u64) -> u64
-    requires sound { IsSound ⟦<TwinSystem as Links>⟧.regions ⟦<TwinSystem as Links>⟧.word heap.now }
-    requires low { 16 ≤ address }
-    requires chunk { (size : ℕ) × (extent_at (address - 16) (extents_in (state_of ⟦<TwinSystem as Links>⟧.word heap.now)) ≡ Some (record { at = address - 16; size = size; kind = Used })) }
-{
-    heap.allocator().load(address)
-}
-
-/// Puts the first word of the block at an address. The heap stays sound, with its bins.
-fn store(heap: &mut Dlmalloc<TwinSystem>, address: u64, value: u64)
-    requires sound { IsSound ⟦<TwinSystem as Links>⟧.regions ⟦<TwinSystem as Links>⟧.word heap.old }
-    requires linked { IsBinned ⟦<TwinSystem as Links>⟧.regions ⟦<TwinSystem as Links>⟧.word heap.old }
-    requires low { 16 ≤ address }
-    requires chunk { (size : ℕ) × (extent_at (address - 16) (extents_in (state_of ⟦<TwinSystem as Links>⟧.word heap.old)) ≡ Some (record { at = address - 16; size = size; kind = Used })) }
-    ensures sound { IsSound ⟦<TwinSystem as Links>⟧.regions ⟦<TwinSystem as Links>⟧.word heap.new }
-    ensures linked { IsBinned ⟦<TwinSystem as Links>⟧.regions ⟦<TwinSystem as Links>⟧.word heap.new }
-{
-    heap.rests_outside();
-    heap.allocator_mut().store(address, value);
-}
-
 /// Makes a call.
-fn apply<L: Ledger, R: Abort>(
+fn apply<R: Abort>(
     rt: &R,
     alloc: Global,
-    heap: &mut Dlmalloc<TwinSystem>,
+    heap: &mut Heap<TwinSystem>,
     call: Call,
-    steps: &mut Steps<L>,
-) -> Result<(), Fail>
-    requires sound { IsSound ⟦<TwinSystem as Links>⟧.regions ⟦<TwinSystem as Links>⟧.word heap.old }
-    requires linked { IsBinned ⟦<TwinSystem as Links>⟧.regions ⟦<TwinSystem as Links>⟧.word heap.old }
-    ensures sound { IsSound ⟦<TwinSystem as Links>⟧.regions ⟦<TwinSystem as Links>⟧.word heap.new }
-    ensures linked { IsBinned ⟦<TwinSystem as Links>⟧.regions ⟦<TwinSystem as Links>⟧.word heap.new }
-{
+) -> Result<(), Fail> {
     match call {
         Call::Granularity(granularity) => assert!(rt; heap.set_granularity(granularity)),
-        Call::Malloc(size, align, address) => {
-            same(rt, heap.malloc(size, power(rt, align), steps).ok(), address);
-        }
-        Call::Calloc(size, align, address) => {
-            same(rt, heap.calloc(size, power(rt, align), steps).ok(), address);
-        }
+        Call::Malloc(size, align, address) => same(rt, heap.malloc(size, align).ok(), address),
+        Call::Calloc(size, align, address) => same(rt, heap.calloc(size, align).ok(), address),
         Call::Realloc(address, old_size, align, size, to) => {
-            let chunk = chunk_of(rt, alloc, heap, address, steps)?;
+            let chunk = chunk_of(rt, alloc, heap, address)?;
             assert!(rt; chunk >= old_size && chunk - old_size >= 8 && chunk - old_size < 80);
             same(
                 rt,
-                heap.realloc(address, old_size, power(rt, align), size, steps)
+                heap.realloc_aligned(address, old_size, power(rt, align), size)
                     .ok(),
                 to,
             );
         }
         Call::CRealloc(address, size, to) => {
-            chunk_of(rt, alloc, heap, address, steps)?;
-            same(rt, heap.c_realloc(Some(address), size, steps).ok(), to);
+            chunk_of(rt, alloc, heap, address)?;
+            same(rt, heap.realloc(address, size).ok(), to);
         }
         Call::Free(address) => {
-            chunk_of(rt, alloc, heap, address, steps)?;
-            heap.c_free(Some(address), steps);
+            chunk_of(rt, alloc, heap, address)?;
+            heap.free(address);
         }
-        Call::Trim(pad, answer) => same(rt, heap.trim(pad, steps), answer),
+        Call::Trim(pad, answer) => same(rt, heap.trim(pad), answer),
         Call::Store(address, value) => {
-            chunk_of(rt, alloc, heap, address, steps)?;
-            store(heap, address, value);
+            chunk_of(rt, alloc, heap, address)?;
+            heap.store(address, 0, value);
         }
         Call::Load(address, mask, value) => {
-            chunk_of(rt, alloc, heap, address, steps)?;
-            same(rt, load(heap, address) & mask, value);
+            chunk_of(rt, alloc, heap, address)?;
+            same(rt, heap.load(address, 0) & mask, value);
         }
     }
     Ok(())
 }
 
-/// Makes the calls of a row. After each of them both memories are equal.
-fn serve_over<L: Ledger, R: Abort>(
-    rt: &R,
-    alloc: Global,
-    heap: &mut Dlmalloc<TwinSystem>,
-    row: &Row,
-    steps: &mut Steps<L>,
-) -> Result<(), Fail>
-    requires sound { IsSound ⟦<TwinSystem as Links>⟧.regions ⟦<TwinSystem as Links>⟧.word heap.old }
-    requires linked { IsBinned ⟦<TwinSystem as Links>⟧.regions ⟦<TwinSystem as Links>⟧.word heap.old }
-{
+/// Makes the calls of a row over a new heap. After each of them both memories are equal.
+fn serve<R: Abort>(rt: &R, alloc: Global, row: &Row) -> Result<(), Fail> {
+    let mut heap = Heap::new(TwinSystem::new(alloc, 0x40_0000, 1024, 1024)?);
     for &call in row.calls {
-        apply(rt, alloc, heap, call, steps)?;
-        expect_twins(rt, alloc, heap.allocator(), row.rule)?;
+        apply(rt, alloc, &mut heap, call)?;
+        expect_twins(rt, alloc, heap.system(), row.rule)?;
     }
-    let system = heap.allocator().paged();
+    let system = heap.system().paged();
     assert_eq!(rt;
         (system.free_frames(), system.tables()),
         row.end,
@@ -332,22 +288,10 @@ fn serve_over<L: Ledger, R: Abort>(
     Ok(())
 }
 
-/// Makes the calls of a row over a new heap.
-fn serve<L: Ledger, R: Abort>(rt: &R, alloc: Global, row: &Row, blank: Blank) -> Result<(), Fail>
-    requires name { blank.name ≡ L.name }
-    requires parts { blank.parts ≡ L.parts }
-    requires some { 0 < blank.parts }
-{
-    let mut steps = Steps::<L>::new(blank);
-    let system = TwinSystem::new(alloc, 0x40_0000, 1024, 1024)?;
-    let mut heap = Dlmalloc::new_with_allocator(system);
-    serve_over(rt, alloc, &mut heap, row, &mut steps)
-}
-
 #[test]
 fn rows_leave_both_memories_equal(rt: HostRuntime) -> Result<(), Fail> {
     for row in ROWS {
-        serve::<Brand, HostRuntime>(&rt, rt.alloc(), row, Blank::new(1))?;
+        serve(&rt, rt.alloc(), row)?;
     }
     Ok(())
 }

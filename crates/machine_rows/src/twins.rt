@@ -5,15 +5,12 @@ ghost use Rattle.kernel_heap.specs.TwinSystem.{paged_of};
 
 use crate::checks::same;
 use crate::twin_rows::word_of_both;
-use dlmalloc::Dlmalloc;
 use heap_memory::{Allocator, GrantFault, Memory};
 use kernel_heap::TwinSystem;
+use sound_heap::Heap;
 use std::alloc::{AllocError, Global};
-use std::marker::Brand;
 use std::process::Abort;
-use std::sync::ledger::{Blank, Ledger};
 use std::test::Fail;
-use step_count::Steps;
 
 /// A twin over a window of 16 pages from 0x400000 on, and 1024 frames.
 fn twin(alloc: Global) -> Result<TwinSystem, AllocError>
@@ -98,24 +95,9 @@ fn grants_are_cleared_in_both(rt: HostRuntime) -> Result<(), Fail> {
     Ok(())
 }
 
-/// The address of the first block of 24 bytes of a heap over pages with flat words.
-fn first_block<L: Ledger>(alloc: Global, blank: Blank) -> Result<Option<u64>, AllocError>
-    requires name { blank.name ≡ L.name }
-    requires parts { blank.parts ≡ L.parts }
-    requires some { 0 < blank.parts }
-{
-    let system = TwinSystem::new(alloc, 0x40_0000, 1024, 1024)?;
-    let mut heap = Dlmalloc::new_with_allocator(system);
-    let mut steps = Steps::<L>::new(blank);
-    Ok(heap.c_malloc(24, &mut steps).ok())
-}
-
 #[test]
 fn a_heap_stands_on_both(rt: HostRuntime) -> Result<(), Fail> {
-    same(
-        &rt,
-        first_block::<Brand>(rt.alloc(), Blank::new(1))?,
-        Some(0x40_0010),
-    );
+    let mut heap = Heap::new(TwinSystem::new(rt.alloc(), 0x40_0000, 1024, 1024)?);
+    same(&rt, heap.malloc(24, 16), Ok(0x40_0010));
     Ok(())
 }

@@ -9,7 +9,7 @@ use Rattle.dlmalloc.specs.Blocks.{IsBlock, IsInside}
 use Rattle.dlmalloc.specs.Heap.{state_of, IsSound}
 use Rattle.dlmalloc.specs.Binned.{IsBinned}
 use Rattle.dlmalloc.specs.Order.{KeepsIndex}
-use Rattle.dlmalloc.specs.Served.{OnlyBlocksChange, RestsOutside, OrderRestsOutside}
+use Rattle.dlmalloc.specs.Resting.{OnlyBlocksChange, RestsOutside, OrderRestsOutside}
 use Rattle.dlmalloc.specs.declared.heap.Dlmalloc.{Dlmalloc}
 use Rattle.dlmalloc.proofs.Extents.Lookup.{found}
 use Rattle.dlmalloc.proofs.Laws.{used_inside, same_regions}

@@ -1,1 +1,1 @@
-mod BlockWords
+pub mod BlockWords

@@ -1,35 +1,30 @@
 -- What callers know of a heap (own).
-use Rattle.std.specs.Prelude.{◌≡◌, ℕ, ◌+◌, ◌-◌, ◌%◌, ◌<◌, ◌≤◌, ◌==◌, List}
+use Rattle.std.specs.Prelude.{◌≡◌, ℕ, ◌+◌, ◌%◌, ◌<◌, ◌≤◌, List}
 use Rattle.std.specs.Int.{IsPowerOfTwo}
 use Rattle.heap_memory.specs.declared.grant.Grant.{Grant}
 use Rattle.heap_memory.specs.declared.grant.GrantFault.{GrantFault}
 use Rattle.heap_memory.specs.Events.{Event}
-use Rattle.dlmalloc.specs.State.{HeapState, new_heap, countdown_from, extents_in, size_where}
+use Rattle.dlmalloc.specs.State.{HeapState, new_heap, countdown_from}
+pub use Rattle.dlmalloc.specs.Blocks.{HasBlock, usable}
 use Rattle.dlmalloc.specs.Blocks.{IsBlock}
 use Rattle.dlmalloc.specs.Requested.{asked}
-use Rattle.dlmalloc.specs.Heap.{IsSound}
-use Rattle.dlmalloc.specs.Binned.{IsBinned}
+pub use Rattle.dlmalloc.specs.Binned.{IsIntact}
 use Rattle.dlmalloc.specs.Served.{IsRefusedWith}
 use Rattle.dlmalloc.specs.declared.heap.Dlmalloc.{Dlmalloc}
 use Rattle.sound_heap.specs.declared.heap_error.HeapError.{HeapError}
 use Rattle.sound_heap.specs.declared.heap_error.HeapError.TheVariants.{BadAlign, NoBlock, Refused}
 
--- A heap is sound, and its bins hold its free extents: a condition of the type.
-pub record IsIntact {A : Type 0} (regions : A → List Grant) (word : A → ℕ → ℕ) (heap : Dlmalloc A) : Type 0 where
-  pub sound : IsSound regions word heap
-  pub linked : IsBinned regions word heap
-
 -- a heap without blocks, with a granularity and a rate
 abbrev pub fresh_heap : ℕ → ℕ → HeapState
 fresh_heap granularity rate = record new_heap { granularity = granularity; rate = rate; countdown = countdown_from rate }
 
--- a block begins at an address, whatever its size
-abbrev pub HasBlock : HeapState → ℕ → Type 0
-HasBlock heap address = (size : ℕ) × IsBlock heap address size
-
--- the bytes that the block at an address has: all of its chunk but the head
-abbrev pub usable : HeapState → ℕ → ℕ
-usable heap address = size_where (λ extent. extent.at == address - 16) (extents_in heap) - 8
+-- this many bytes from an address on lie in one block
+pub record AreInBlock (heap : HeapState) (address count : ℕ) : Type 0 where
+  pub block : ℕ
+  pub size : ℕ
+  pub is : IsBlock heap block size
+  pub low : block ≤ address
+  pub within : address + count ≤ block + size
 
 -- the words that hold this many bytes from an address on are 0
 abbrev pub AreZero : (ℕ → ℕ) → ℕ → ℕ → Type 0

@@ -1,10 +1,11 @@
 // Calls of a heap, each with a counter of its own.
 ghost use Rattle.std.specs.Prelude.{◌≡◌, ◌≢◌, ◌↔◌, ◌-◌, ◌<◌, ◌≤◌, true, false, None, IfOk, IfErr, IsTrue, filter};
 ghost use Rattle.std.specs.Int.{IsPowerOfTwo};
-ghost use Rattle.dlmalloc.specs.Binned.{IsBinned};
-ghost use Rattle.dlmalloc.specs.Blocks.{IsBlock, BlocksAreApart};
+ghost use Rattle.dlmalloc.specs.Binned.{IsIntact};
+ghost use Rattle.dlmalloc.specs.Blocks.{IsBlock, HasBlock, BlocksAreApart, usable};
 ghost use Rattle.dlmalloc.specs.Heap.{state_of, IsSound};
-ghost use Rattle.dlmalloc.specs.Served.{IsRefusedWith, IsListed};
+ghost use Rattle.dlmalloc.specs.Served.{IsRefusedWith};
+ghost use Rattle.dlmalloc.specs.Listed.{IsListed};
 ghost use Rattle.dlmalloc.specs.AfterFree.{IsFreed};
 ghost use Rattle.dlmalloc.specs.Requested.{asked, IsHandedOut, IsServedAt, IsMemberServed};
 ghost use Rattle.dlmalloc.specs.Written.{IsServedCleared};
@@ -14,7 +15,7 @@ ghost use Rattle.dlmalloc.specs.Moved.{IsGivenSize, IsResized};
 ghost use Rattle.dlmalloc.specs.Shortened.{IsTrimmed};
 ghost use Rattle.dlmalloc.specs.GivenBack.{AreGivenBack};
 ghost use Rattle.dlmalloc.specs.Released.{is_own, taken_back};
-ghost use Rattle.sound_heap.specs.Heap.{HasBlock, AreZero, usable};
+ghost use Rattle.sound_heap.specs.Heap.{AreZero};
 
 use dlmalloc::{Dlmalloc, ExtentList, MallocError};
 use dlmalloc_chunks::chunk;
@@ -41,8 +42,7 @@ pub(crate) fn hand_out<A: Allocator, L: Ledger>(
     requires name { blank.name ≡ L.name }
     requires parts { blank.parts ≡ L.parts }
     requires some { 0 < blank.parts }
-    requires sound { IsSound A.regions A.word heap.old }
-    requires linked { IsBinned A.regions A.word heap.old }
+    requires intact { IsIntact A.regions A.word heap.old }
     requires align { IsPowerOfTwo align }
     ensures ok { IfOk result (λ address. IsHandedOut A.regions A.word A.follows heap.old size align address heap.new) }
     ensures served { cleared ≡ false → IfOk result (λ address. IsServedAt A.regions A.word A.zeros A.follows heap.old size align address heap.new) }
@@ -50,8 +50,7 @@ pub(crate) fn hand_out<A: Allocator, L: Ledger>(
     ensures member { IfOk result (λ address. IsMemberServed A.regions A.word heap.old size align address) }
     ensures zeros { cleared ≡ true → IfOk result (λ address. AreZero (A.word heap.new.system) address size) }
     ensures err { IfErr result (λ error. IsRefusedWith A.regions A.word A.follows A.refuses A.denies heap.old (asked size align) error heap.new) }
-    ensures sound { IsSound A.regions A.word heap.new }
-    ensures linked { IsBinned A.regions A.word heap.new }
+    ensures intact { IsIntact A.regions A.word heap.new }
     ensures apart { BlocksAreApart (state_of A.word heap.new) }
 {
     let mut steps = Steps::<L>::new(blank);
@@ -74,16 +73,14 @@ pub(crate) fn resize<A: Allocator, L: Ledger>(
     requires name { blank.name ≡ L.name }
     requires parts { blank.parts ≡ L.parts }
     requires some { 0 < blank.parts }
-    requires sound { IsSound A.regions A.word heap.old }
-    requires linked { IsBinned A.regions A.word heap.old }
+    requires intact { IsIntact A.regions A.word heap.old }
     requires block { HasBlock (state_of A.word heap.old) address }
     ensures resized { IfOk result (λ to. IsResized A.regions A.word A.zeros A.follows (A.frees heap.old.system) (A.parts heap.old.system) (A.unit heap.old.system) heap.old address (usable (state_of A.word heap.old) address) 16 size to heap.new) }
     ensures ok { IfOk result (λ to. IsGivenSize A.regions A.word A.follows (A.frees heap.old.system) (A.parts heap.old.system) (A.unit heap.old.system) heap.old address (usable (state_of A.word heap.old) address) 16 size to heap.new) }
     ensures member { IfOk result (λ to. to ≢ address → IsMemberServed A.regions A.word heap.old size 16 to) }
     ensures err { IfErr result (λ error. IsRefusedWith A.regions A.word A.follows A.refuses A.denies heap.old size error heap.new) }
     ensures tried { IfErr result (λ error. error ≢ MallocError.TooLarge → in_place (state_of A.word heap.old) (address - 16) (padded size) ≡ None) }
-    ensures sound { IsSound A.regions A.word heap.new }
-    ensures linked { IsBinned A.regions A.word heap.new }
+    ensures intact { IsIntact A.regions A.word heap.new }
     ensures apart { BlocksAreApart (state_of A.word heap.new) }
 {
     let answer = heap.c_realloc(Some(address), size, &mut Steps::<L>::new(blank));
@@ -103,8 +100,7 @@ pub(crate) fn resize_aligned<A: Allocator, L: Ledger>(
     requires name { blank.name ≡ L.name }
     requires parts { blank.parts ≡ L.parts }
     requires some { 0 < blank.parts }
-    requires sound { IsSound A.regions A.word heap.old }
-    requires linked { IsBinned A.regions A.word heap.old }
+    requires intact { IsIntact A.regions A.word heap.old }
     requires align { IsPowerOfTwo align }
     requires block { IsBlock (state_of A.word heap.old) address held }
     ensures resized { IfOk result (λ to. IsResized A.regions A.word A.zeros A.follows (A.frees heap.old.system) (A.parts heap.old.system) (A.unit heap.old.system) heap.old address held align size to heap.new) }
@@ -112,8 +108,7 @@ pub(crate) fn resize_aligned<A: Allocator, L: Ledger>(
     ensures member { IfOk result (λ to. to ≢ address → IsMemberServed A.regions A.word heap.old size align to) }
     ensures err { IfErr result (λ error. IsRefusedWith A.regions A.word A.follows A.refuses A.denies heap.old (asked size align) error heap.new) }
     ensures tried { IfErr result (λ error. error ≢ MallocError.TooLarge → align ≤ 16 → in_place (state_of A.word heap.old) (address - 16) (padded size) ≡ None) }
-    ensures sound { IsSound A.regions A.word heap.new }
-    ensures linked { IsBinned A.regions A.word heap.new }
+    ensures intact { IsIntact A.regions A.word heap.new }
     ensures apart { BlocksAreApart (state_of A.word heap.new) }
 {
     let answer = heap.realloc(address, held, align, size, &mut Steps::<L>::new(blank));
@@ -126,12 +121,10 @@ pub(crate) fn free<A: Allocator, L: Ledger>(heap: &mut Dlmalloc<A>, address: u64
     requires name { blank.name ≡ L.name }
     requires parts { blank.parts ≡ L.parts }
     requires some { 0 < blank.parts }
-    requires sound { IsSound A.regions A.word heap.old }
-    requires linked { IsBinned A.regions A.word heap.old }
+    requires intact { IsIntact A.regions A.word heap.old }
     requires block { HasBlock (state_of A.word heap.old) address }
     ensures freed { IsFreed A.regions A.word A.follows (A.frees heap.old.system) (A.parts heap.old.system) (A.unit heap.old.system) heap.old address heap.new }
-    ensures sound { IsSound A.regions A.word heap.new }
-    ensures linked { IsBinned A.regions A.word heap.new }
+    ensures intact { IsIntact A.regions A.word heap.new }
 {
     heap.c_free(Some(address), &mut Steps::<L>::new(blank));
 }
@@ -141,11 +134,9 @@ pub(crate) fn trim<A: Allocator, L: Ledger>(heap: &mut Dlmalloc<A>, pad: u64, bl
     requires name { blank.name ≡ L.name }
     requires parts { blank.parts ≡ L.parts }
     requires some { 0 < blank.parts }
-    requires sound { IsSound A.regions A.word heap.old }
-    requires linked { IsBinned A.regions A.word heap.old }
+    requires intact { IsIntact A.regions A.word heap.old }
     ensures trimmed { IsTrimmed A.regions A.word A.follows (A.frees heap.old.system) (A.parts heap.old.system) (A.unit heap.old.system) heap.old pad result heap.new }
-    ensures sound { IsSound A.regions A.word heap.new }
-    ensures linked { IsBinned A.regions A.word heap.new }
+    ensures intact { IsIntact A.regions A.word heap.new }
 {
     heap.trim(pad, &mut Steps::<L>::new(blank))
 }

@@ -32,7 +32,7 @@ impl<A: Allocator> Heap<A> {
     ghost use Rattle.dlmalloc.specs.GivenBack.{AreGivenBack};
     ghost use Rattle.dlmalloc.specs.Order.{KeepsIndex};
     ghost use Rattle.dlmalloc.specs.Released.{is_own, taken_back};
-    ghost use Rattle.dlmalloc.specs.Served.{IsListed};
+    ghost use Rattle.dlmalloc.specs.Listed.{IsListed};
     ghost use Rattle.dlmalloc.specs.Shortened.{IsTrimmed};
     ghost use Rattle.sound_heap.specs.Heap.{IsIntact, fresh_heap};
 

@@ -1,11 +1,15 @@
-use Rattle.std.proofs.Common.{◌∷◌, [], ◌++◌, take, get_or, sym, subst, List}
+use Rattle.std.specs.Prelude.{Result, Ok, Err, IfErr}
+use Rattle.std.specs.Result.{IsErrAnd}
+use Rattle.std.proofs.Common.{◌≡◌, ◌∷◌, [], ◌++◌, take, get_or, sym, subst, List}
 use Rattle.std.proofs.lemmas.List.{take_more, take_all}
 use Rattle.heap_model.specs.State.{start}
 use Rattle.heap_model.specs.declared.call.Call.{Call}
 use Rattle.heap_model.specs.declared.answer.Answer.{Answer}
 use Rattle.heap_model.specs.Machine.{IsStep}
+use Rattle.kernel_heap.specs.Config.{IsConfigRefused}
 use Rattle.kernel_heap.specs.Machine.{seen}
 use Rattle.kernel_heap.specs.Runs.{AreServed}
+use Rattle.kernel_heap.specs.declared.run_error.RunError.TheVariants.{OutOfMemory}
 use Rattle.kernel_heap.proofs.Calls.{served_more}
 use Rattle.kernel_heap.proofs.runs.run_calls.Goals as goal
 
@@ -28,3 +32,13 @@ returns-clause-served c =
     let all = take_all c.loop-call.call-index items c.loop-call-test.false in
     subst (λ (calls : List Call). AreServed (start c.args.config.now) calls c.loop-call.answers c.loop-call.machine) c.as_slice-call-items.ensures
     (subst (λ (calls : List Call). AreServed (start c.args.config.now) calls c.loop-call.answers c.loop-call.machine) all c.loop-call.invariant)
+
+-- what holds of the error that was made
+of_error : {T E : Type 0} (r : Result T E) (Q : E → Type 0) {P : E → Type 0} → IsErrAnd r Q → ((e : E) → Q e → P e) → IfErr r P
+of_error (Ok x) Q made holds = absurd made
+of_error (Err e) Q made holds = holds e made
+
+pub returns-in_err-push-clause-refused : goal.returns-in_err-push-clause-refused
+returns-in_err-push-clause-refused c =
+    of_error c.from_residual-in_err-push.result (λ error. error ≡ OutOfMemory) c.from_residual-in_err-push.ensures.1
+    (λ error made. subst (IsConfigRefused c.args.config.now) (sym made) c.in_ok-machine.ensures.accepted)

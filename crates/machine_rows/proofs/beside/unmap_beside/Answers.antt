@@ -1,17 +1,19 @@
 use Rattle.std.proofs.Common.{subst}
+use Rattle.dlmalloc.specs.declared.heap.Dlmalloc.{Dlmalloc}
 use Rattle.kernel_heap.specs.Beside.{IsBeside}
+use Rattle.kernel_heap.specs.Moves.{IsKeptBeside}
 use Rattle.kernel_heap.specs.System.{paged}
-use Rattle.kernel_heap.proofs.Laid.{heap_beside}
+use Rattle.kernel_heap.specs.declared.paged_system.PagedSystem.{PagedSystem}
+use Rattle.kernel_heap.proofs.Laid.{intact_beside, kept_beside}
 use Rattle.machine_rows.proofs.beside.unmap_beside.Goals as goal
 
-pub returns-clause-sound : goal.returns-clause-sound
-returns-clause-sound c =
-    (heap_beside c.args.heap.now c.requires.sound c.unmap.new.self (subst (λ system. IsBeside (paged system) (paged c.unmap.new.self)) c.allocator_mut.ensures.value c.unmap.ensures.beside) c.rests_outside.ensures).0
+pub invariant_of-heap : goal.invariant_of-heap
+invariant_of-heap c =
+    intact_beside c.heap.inside.heap c.heap.invariant c.unmap.new.self (subst (λ (s : PagedSystem). IsBeside (paged s) (paged c.unmap.new.self)) c.allocator_mut.ensures.value c.unmap.ensures.beside) c.rests_outside.ensures
 
-pub returns-clause-state : goal.returns-clause-state
-returns-clause-state c =
-    (heap_beside c.args.heap.now c.requires.sound c.unmap.new.self (subst (λ system. IsBeside (paged system) (paged c.unmap.new.self)) c.allocator_mut.ensures.value c.unmap.ensures.beside) c.rests_outside.ensures).1
-
-pub returns-clause-linked : goal.returns-clause-linked
-returns-clause-linked c =
-    (heap_beside c.args.heap.now c.requires.sound c.unmap.new.self (subst (λ system. IsBeside (paged system) (paged c.unmap.new.self)) c.allocator_mut.ensures.value c.unmap.ensures.beside) c.rests_outside.ensures).2 c.requires.linked
+pub returns : goal.returns
+returns c = record {
+  kept =
+      subst (λ (h : Dlmalloc PagedSystem). IsKeptBeside h (record c.heap.inside.heap { system = c.unmap.new.self })) c.heap.view_is
+      (kept_beside c.heap.inside.heap c.heap.invariant c.unmap.new.self (subst (λ (s : PagedSystem). IsBeside (paged s) (paged c.unmap.new.self)) c.allocator_mut.ensures.value c.unmap.ensures.beside) c.rests_outside.ensures c.order_rests_outside.ensures);
+}

@@ -12,12 +12,15 @@ use Rattle.kernel_heap.proofs.BlockBytes.{unknown_same}
 use Rattle.kernel_heap.proofs.Refused.{step_refused}
 use Rattle.kernel_heap.proofs.numbered_heap.NumberedHeap.free.Goals as goal
 
+pub free-requires : goal.free-requires
+free-requires c = record { block = (c.in-Some.live.size, (c.requires.sound.lives c.args.number c.in-Some.live (sym c.live.ensures ∙ c.in-Some.is)).block) }
+
 -- there are no more regions than before
 pub changed_regions-requires-clause-places : goal.changed_regions-requires-clause-places
 changed_regions-requires-clause-places c =
-    let short = free_shortened c.args.self.now.heap c.free.new.heap c.in-Some.live.address c.free.ensures.freed in
-    let few = length_cut (paged c.args.self.now.heap.system).regions (paged c.free.new.heap.system).regions short.short.cut in
-    let count : c.region_count-count.result ≡ length (paged c.args.self.now.heap.system).regions = c.region_count-count.ensures.count ∙ ap (λ system. length (paged system).regions) c.allocator.ensures in
+    let short = free_shortened c.args.self.now.heap c.free.new.self c.in-Some.live.address c.free.ensures.freed in
+    let few = length_cut (paged c.args.self.now.heap.system).regions (paged c.free.new.self.system).regions short.short.cut in
+    let count : c.region_count-count.result ≡ length (paged c.args.self.now.heap.system).regions = c.region_count-count.ensures.count ∙ ap (λ system. length (paged system).regions) c.system.ensures in
     let places : c.region_count-count.result ≤ vec_capacity c.reserve.new.self = search rules in
     omega arith
 
@@ -25,13 +28,13 @@ pub returns-clause-sound : goal.returns-clause-sound
 returns-clause-sound c =
     let is = sym c.live.ensures ∙ c.in-Some.is in
     rw (c.changed_regions.ensures.heap, c.changed_regions.ensures.blocks, c.end.ensures)
-    (laid_ended c.args.self.now.heap c.free.new.heap c.args.self.now.blocks.items c.args.number c.in-Some.live c.requires.sound is c.free.ensures.freed c.free.ensures.linked)
+    (laid_ended c.args.self.now.heap c.free.new.self c.args.self.now.blocks.items c.args.number c.in-Some.live c.requires.sound is c.free.ensures.freed)
 
 pub returns-clause-ok : goal.returns-clause-ok
 returns-clause-ok c = λ top s good stands.
     let is = sym c.live.ensures ∙ c.in-Some.is in
     rw (c.changed_regions.ensures.heap, c.changed_regions.ensures.blocks, c.end.ensures)
-    (step_ended c.args.self.now.heap c.free.new.heap c.args.self.now.blocks.items c.args.number c.in-Some.live c.requires.sound is c.free.ensures.freed c.free.ensures.placed_before c.free.ensures.placed s good stands c.changed_regions.result
+    (step_ended c.args.self.now.heap c.free.new.self c.args.self.now.blocks.items c.args.number c.in-Some.live c.requires.sound is c.free.ensures.freed c.blocks_are_placed.ensures c.blocks_are_placed-2.ensures s good stands c.changed_regions.result
     (λ joins few. c.changed_regions.ensures.same (joins ∙ sym c.marks-before.ensures.joins) (few ∙ sym c.marks-before.ensures.pageless))
     (λ other. c.changed_regions.ensures.other (λ joins few. other (joins ∙ c.marks-before.ensures.joins) (few ∙ c.marks-before.ensures.pageless))))
 

@@ -3,7 +3,8 @@ use Rattle.std.specs.Int.{is_power_of_two}
 use Rattle.std.proofs.lemmas.Result.{IfOk-weaker, on_err_weaker}
 use Rattle.dlmalloc_chunks.specs.Request.{padded, wanted}
 use Rattle.dlmalloc_chunks.proofs.PowersOfTwo.{power_from_test}
-use Rattle.dlmalloc.specs.Requested.{asked, IsMemberServed}
+use Rattle.dlmalloc.specs.Requested.{asked, IsServedAt, IsMemberServed}
+use Rattle.dlmalloc.specs.Written.{IsServedCleared}
 use Rattle.dlmalloc.specs.declared.heap.Dlmalloc.{Dlmalloc}
 use Rattle.heap_model.specs.declared.answer.Answer.{Answer}
 use Rattle.heap_model.specs.declared.answer.Refusal.TheVariants.{BadAlign}
@@ -13,7 +14,7 @@ use Rattle.heap_model.specs.Slots.{listed_slots}
 use Rattle.heap_model.specs.Machine.{IsStep}
 use Rattle.kernel_heap.specs.System.{paged, pageless_frames}
 use Rattle.kernel_heap.specs.Words.{heap_regions}
-use Rattle.kernel_heap.specs.Heap.{regions, word}
+use Rattle.kernel_heap.specs.Heap.{regions, word, zeros, follows}
 use Rattle.kernel_heap.specs.Machine.{system_of, seen_with}
 use Rattle.kernel_heap.specs.Blocks.{request, IsServedFor}
 use Rattle.kernel_heap.specs.Kept.{lasting_pages, AreRunsUsedFor, leaves_all}
@@ -31,8 +32,15 @@ use Rattle.kernel_heap.proofs.Refused.{step_refused}
 use Rattle.kernel_heap.proofs.WantOfRoom.{none_for, left_refused, request_refused_moves, other_reply}
 use Rattle.kernel_heap.proofs.numbered_heap.NumberedHeap.hand_out.Goals as goal
 
-pub hand_out-requires-clause-align : goal.hand_out-requires-clause-align
-hand_out-requires-clause-align c = let power : is_power_of_two c.args.align ≡ true = search rules in power_from_test c.args.align power
+pub hand_out-requires : goal.hand_out-requires
+hand_out-requires c = let power : is_power_of_two c.args.align ≡ true = search rules in record { align = power_from_test c.args.align power }
+
+-- the block is cleared if that is asked for
+served_for : (cleared : Bool) (old : Dlmalloc PagedSystem) (size align address : ℕ) (new : Dlmalloc PagedSystem) →
+    (cleared ≡ false → IsServedAt regions word zeros follows old size align address new) → (cleared ≡ true → IsServedCleared regions word zeros follows old size align address new) →
+    IsServedFor cleared old size align address new
+served_for false old size align address new plain all = plain refl
+served_for true old size align address new plain all = all refl
 
 -- how the heap moves is told by the request
 moves_request : (cleared : Bool) (old : NumberedHeap) (size align number address : ℕ) (large : Option (List ℕ)) (new : NumberedHeap) (heap : Dlmalloc PagedSystem) → IsServedFor cleared old.heap size align address heap →
@@ -43,9 +51,9 @@ moves_request true old size align number address large new heap served told slot
 -- the list has a place for one region more
 pub changed_regions-requires-clause-places : goal.changed_regions-requires-clause-places
 changed_regions-requires-clause-places c =
-    let few = few_regions c.args.self.now.heap c.hand_out.new.heap (padded (asked c.args.size c.args.align)) c.in-Ok.ensures.ok.found in
+    let few = few_regions c.args.self.now.heap c.hand_out.new.self (padded (asked c.args.size c.args.align)) c.in-Ok.ensures.ok.found in
     let same = ap (λ heap. length (paged heap.system).regions) c.add_block.ensures.heap in
-    let count : c.region_count-count.result ≡ length (paged c.args.self.now.heap.system).regions = c.region_count-count.ensures.count ∙ ap (λ system. length (paged system).regions) c.allocator.ensures in
+    let count : c.region_count-count.result ≡ length (paged c.args.self.now.heap.system).regions = c.region_count-count.ensures.count ∙ ap (λ system. length (paged system).regions) c.system.ensures in
     let places : c.region_count-count.result + 1 ≤ vec_capacity c.add_block.new.self.list = search rules in
     omega arith
 
@@ -55,7 +63,7 @@ new_slots-requires c =
     let power : is_power_of_two c.args.align ≡ true = search rules in
     record {
       sound = rw (c.changed_regions.ensures.heap, c.changed_regions.ensures.blocks, c.add_block.ensures.heap, c.add_block.ensures.blocks, c.in_ok-reserve.ensures.items)
-          (laid_handed c.args.self.now.heap c.hand_out.new.heap c.args.self.now.blocks.items c.args.size c.args.align c.in-Ok.address c.requires.sound c.in-Ok.ensures.ok (power_from_test c.args.align power) c.hand_out.ensures.linked);
+          (laid_handed c.args.self.now.heap c.hand_out.new.self c.args.self.now.blocks.items c.args.size c.args.align c.in-Ok.address c.requires.sound c.in-Ok.ensures.ok (power_from_test c.args.align power));
     }
 
 pub returns-in-Ok-clause-sound : goal.returns-in-Ok-clause-sound
@@ -67,7 +75,7 @@ returns-in-Ok-clause-ok c = λ top s good stands.
     let joins = ap (λ heap. (paged heap.system).joins) c.add_block.ensures.heap in
     let free = ap (λ heap. pageless_frames (paged heap.system)) c.add_block.ensures.heap in
     let joins_now = ap (λ heap. (paged heap.system).joins) c.changed_regions.ensures.heap ∙ joins in
-    let step = step_request c.args.self.now.heap c.hand_out.new.heap c.args.self.now.blocks.items c.args.size c.args.align c.in-Ok.address c.requires.sound c.in-Ok.ensures.ok c.hand_out.ensures.placed_before c.hand_out.ensures.placed c.hand_out.ensures.apart s good stands
+    let step = step_request c.args.self.now.heap c.hand_out.new.self c.args.self.now.blocks.items c.args.size c.args.align c.in-Ok.address c.requires.sound c.in-Ok.ensures.ok c.blocks_are_placed.ensures c.blocks_are_placed-in-Ok.ensures c.hand_out.ensures.apart s good stands
     power c.changed_regions.result c.new_slots.result
     (λ same few. c.changed_regions.ensures.same (joins ∙ (same ∙ sym c.marks-before.ensures.joins)) (free ∙ (few ∙ sym c.marks-before.ensures.pageless)))
     (λ other. c.changed_regions.ensures.other (λ same few. other (sym joins ∙ (same ∙ c.marks-before.ensures.joins)) (sym free ∙ (few ∙ c.marks-before.ensures.pageless)))
@@ -92,7 +100,7 @@ returns-in-Ok-clause-runs c = λ top s good stands.
     let joins = ap (λ heap. (paged heap.system).joins) c.add_block.ensures.heap in
     let free = ap (λ heap. pageless_frames (paged heap.system)) c.add_block.ensures.heap in
     let joins_now = ap (λ heap. (paged heap.system).joins) c.changed_regions.ensures.heap ∙ joins in
-    let step = step_request c.args.self.now.heap c.hand_out.new.heap c.args.self.now.blocks.items c.args.size c.args.align c.in-Ok.address c.requires.sound c.in-Ok.ensures.ok c.hand_out.ensures.placed_before c.hand_out.ensures.placed c.hand_out.ensures.apart s good stands
+    let step = step_request c.args.self.now.heap c.hand_out.new.self c.args.self.now.blocks.items c.args.size c.args.align c.in-Ok.address c.requires.sound c.in-Ok.ensures.ok c.blocks_are_placed.ensures c.blocks_are_placed-in-Ok.ensures c.hand_out.ensures.apart s good stands
     power c.changed_regions.result c.new_slots.result
     (λ same few. c.changed_regions.ensures.same (joins ∙ (same ∙ sym c.marks-before.ensures.joins)) (free ∙ (few ∙ sym c.marks-before.ensures.pageless)))
     (λ other. c.changed_regions.ensures.other (λ same few. other (sym joins ∙ (same ∙ c.marks-before.ensures.joins)) (sym free ∙ (few ∙ c.marks-before.ensures.pageless)))
@@ -122,25 +130,26 @@ returns-in-Ok-clause-heap c =
     } in
     let heap = c.changed_regions.ensures.heap ∙ c.add_block.ensures.heap in
     let joins_now = ap (λ h. (paged h.system).joins) heap in
-    let slots : AreSlotsTold c.args.self.now.heap c.hand_out.new.heap c.new_slots.result = record {
+    let slots : AreSlotsTold c.args.self.now.heap c.hand_out.new.self c.new_slots.result = record {
       none = λ same. (c.new_slots.ensures.none (joins_now ∙ (same ∙ sym c.marks-before.ensures.joins))).0;
       joined = λ other. c.new_slots.ensures.slots (λ same. other (sym joins_now ∙ (same ∙ c.marks-before.ensures.joins))) ∙ ap (λ h. listed_slots (paged h.system).slots) heap;
     } in
     rw c.add_block.ensures.reply
-    (moves_request c.args.cleared c.args.self.now c.args.size c.args.align _ c.in-Ok.address c.new_slots.result c.new_slots.new.self c.hand_out.new.heap c.in-Ok.ensures.served
+    (moves_request c.args.cleared c.args.self.now c.args.size c.args.align _ c.in-Ok.address c.new_slots.result c.new_slots.new.self c.hand_out.new.self
+    (served_for c.args.cleared c.args.self.now.heap c.args.size c.args.align c.in-Ok.address c.hand_out.new.self c.in-Ok.ensures.served c.in-Ok.ensures.served_cleared)
     (subst (λ h. IsToldFrom h c.new_slots.new.self.heap) heap (told_from c.changed_regions.new.self c.new_slots.new.self c.marks-before.result.joins told))
     slots c.in-Ok.ensures.member)
 
 pub returns-in-Err-clause-sound : goal.returns-in-Err-clause-sound
 returns-in-Err-clause-sound c =
-    rw c.in_ok-reserve.ensures.items (laid_denied c.args.self.now.heap c.hand_out.new.heap c.args.self.now.blocks.items (asked c.args.size c.args.align) c.in-Err.error c.in-Err.ensures.err c.requires.sound c.hand_out.ensures.linked)
+    rw c.in_ok-reserve.ensures.items (laid_denied c.args.self.now.heap c.hand_out.new.self c.args.self.now.blocks.items (asked c.args.size c.args.align) c.in-Err.error c.in-Err.ensures.err c.requires.sound)
 
 pub returns-in-Err-clause-ok : goal.returns-in-Err-clause-ok
 returns-in-Err-clause-ok c = λ top s good stands.
     let power : is_power_of_two c.args.align ≡ true = search rules in
     IfOk-weaker c.refused_by.result _ _ (λ answer given.
     rw c.in_ok-reserve.ensures.items
-    (step_denied c.args.self.now.heap c.hand_out.new.heap c.args.self.now.blocks.items c.requires.sound s good stands (request c.args.cleared c.args.size c.args.align) (asked c.args.size c.args.align) (wanted c.args.size c.args.align)
+    (step_denied c.args.self.now.heap c.hand_out.new.self c.is_intact.ensures.sound.granularity c.args.self.now.blocks.items c.requires.sound s good stands (request c.args.cleared c.args.size c.args.align) (asked c.args.size c.args.align) (wanted c.args.size c.args.align)
     (wanted_asked c.args.size c.args.align power)
     (λ most. request_refused c.args.cleared s c.args.size c.args.align ∙ refused_large s.granularity c.args.size c.args.align power most)
     (λ less. request_refused c.args.cleared s c.args.size c.args.align ∙ not_refused s.granularity c.args.size c.args.align power less)
@@ -149,7 +158,7 @@ returns-in-Err-clause-ok c = λ top s good stands.
 
 pub returns-in-Err-clause-runs : goal.returns-in-Err-clause-runs
 returns-in-Err-clause-runs c = λ top s good stands.
-    IfOk-weaker c.refused_by.result _ _ (λ answer given. runs_refused (paged (system_of c.args.self.now)) (paged c.hand_out.new.heap.system) s (request c.args.cleared c.args.size c.args.align) _ answer given) c.refused_by.ensures.ok
+    IfOk-weaker c.refused_by.result _ _ (λ answer given. runs_refused (paged (system_of c.args.self.now)) (paged c.hand_out.new.self.system) s (request c.args.cleared c.args.size c.args.align) _ answer given) c.refused_by.ensures.ok
 
 pub returns-then-not-is_power_of_two-clause-runs : goal.returns-then-not-is_power_of_two-clause-runs
 returns-then-not-is_power_of_two-clause-runs c = λ top s good stands.
@@ -167,15 +176,15 @@ returns-then-not-is_power_of_two-clause-ok c = λ top s good stands.
 
 pub returns-in-Err-clause-err : goal.returns-in-Err-clause-err
 returns-in-Err-clause-err c = λ top. on_err_weaker c.refused_by.result
-    (λ none. rw c.in_ok-reserve.ensures.items (seen_denied c.args.self.now.heap c.hand_out.new.heap c.args.self.now.blocks.items (asked c.args.size c.args.align) c.in-Err.error c.in-Err.ensures.err top))
+    (λ none. rw c.in_ok-reserve.ensures.items (seen_denied c.args.self.now.heap c.hand_out.new.self c.args.self.now.blocks.items (asked c.args.size c.args.align) c.in-Err.error c.in-Err.ensures.err top))
     c.refused_by.ensures.err
 
 pub returns-in-Err-clause-heap : goal.returns-in-Err-clause-heap
 returns-in-Err-clause-heap c =
-    let new : NumberedHeap = record { alloc = c.args.self.now.alloc; heap = c.hand_out.new.heap; blocks = c.reserve.new.self; list = c.reserve-2.new.self } in
+    let new : NumberedHeap = record { alloc = c.args.self.now.alloc; heap = c.hand_out.new.self; blocks = c.reserve.new.self; list = c.reserve-2.new.self } in
     IfOk-weaker c.refused_by.result _ _
     (λ answer given. subst (λ (a : Answer). HeapMoves c.args.self.now (request c.args.cleared c.args.size c.args.align) a.reply a.large new) (sym given.2)
-    (request_refused_moves c.args.cleared c.args.self.now c.args.size c.args.align given.0 None new (left_refused c.args.self.now.heap c.hand_out.new.heap (asked c.args.size c.args.align) c.in-Err.error given.0 given.1 c.in-Err.ensures.err)
+    (request_refused_moves c.args.cleared c.args.self.now c.args.size c.args.align given.0 None new (left_refused c.args.self.now.heap c.hand_out.new.self (asked c.args.size c.args.align) c.in-Err.error given.0 given.1 c.in-Err.ensures.err)
     (none_for c.args.self.now.heap c.args.size c.args.align c.in-Err.error given.0 given.1 c.in-Err.ensures.err.refused)))
     c.refused_by.ensures.ok
 
@@ -192,7 +201,7 @@ returns-in-Ok-clause-kept c = other_reply c.add_block.result c.args.self.now c.n
 pub returns-in-Err-clause-kept : goal.returns-in-Err-clause-kept
 returns-in-Err-clause-kept c =
     IfOk-weaker c.refused_by.result _ _ (λ answer given told top.
-    rw c.in_ok-reserve.ensures.items (seen_denied c.args.self.now.heap c.hand_out.new.heap c.args.self.now.blocks.items (asked c.args.size c.args.align) c.in-Err.error c.in-Err.ensures.err top))
+    rw c.in_ok-reserve.ensures.items (seen_denied c.args.self.now.heap c.hand_out.new.self c.args.self.now.blocks.items (asked c.args.size c.args.align) c.in-Err.error c.in-Err.ensures.err top))
     c.refused_by.ensures.ok
 
 pub returns-in_err-reserve-clause-heap_err : goal.returns-in_err-reserve-clause-heap_err

@@ -1,21 +1,22 @@
 use Rattle.std.proofs.Common.{◌∙◌, subst, sym}
 use Rattle.kernel_heap.specs.System.{paged}
 use Rattle.kernel_heap.specs.Written.{AreInside, AreRead}
-use Rattle.kernel_heap.proofs.BlockBytes.{bytes_inside, refuse_same, step_read}
+use Rattle.kernel_heap.proofs.BlockBytes.{block_inside, in_block, refuse_same, step_read}
 use Rattle.heap_model.specs.declared.call.Call.TheVariants.{Read}
 use Rattle.kernel_heap.specs.Machine.{seen_with}
 use Rattle.kernel_heap.proofs.Refused.{step_refused}
 use Rattle.kernel_heap.proofs.numbered_heap.NumberedHeap.read.Goals as goal
 
 pub read_bytes-requires : goal.read_bytes-requires
-read_bytes-requires c = subst (λ system. AreInside (paged system) c.in-Ok.address c.args.count) (sym c.allocator.ensures)
-    (bytes_inside c.args.self.now.heap c.args.self.now.blocks.items c.args.number c.args.offset c.args.count c.in-Ok.address c.requires.sound c.find_bytes.ensures.placed c.in-Ok.ensures.ok)
+read_bytes-requires c = subst (λ system. AreInside (paged system) c.in-Ok.address c.args.count) (sym c.system.ensures)
+    (block_inside c.args.self.now.heap c.find_bytes.ensures.placed c.in-Ok.address c.args.count
+    (in_block c.args.self.now.heap c.args.self.now.blocks.items c.args.number c.args.offset c.args.count c.in-Ok.address c.requires.sound c.in-Ok.ensures.ok))
 
 pub returns-in_ok-read_bytes-in-Ok : goal.returns-in_ok-read_bytes-in-Ok
 returns-in_ok-read_bytes-in-Ok c = record {
   ok = λ top s good stands.
-      step_read c.args.self.now.heap c.args.self.now.blocks.items c.args.number c.args.offset c.args.count c.in-Ok.address c.requires.sound c.find_bytes.ensures.placed c.in-Ok.ensures.ok s good stands
-      c.in_ok-read_bytes-in-Ok.field-0 (subst (λ system. AreRead (paged system) c.in-Ok.address c.args.count c.in_ok-read_bytes-in-Ok.field-0) c.allocator.ensures c.in_ok-read_bytes-in-Ok.ensures);
+      step_read c.args.self.now.heap c.args.self.now.blocks.items c.args.number c.args.offset c.args.count c.in-Ok.address c.requires.sound c.in-Ok.ensures.ok s good stands
+      c.in_ok-read_bytes-in-Ok.field-0 (subst (λ system. AreRead (paged system) c.in-Ok.address c.args.count c.in_ok-read_bytes-in-Ok.field-0) c.system.ensures c.in_ok-read_bytes-in-Ok.ensures);
 }
 
 pub returns-in-Err : goal.returns-in-Err

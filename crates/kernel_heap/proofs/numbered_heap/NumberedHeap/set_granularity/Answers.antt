@@ -12,8 +12,7 @@ use Rattle.kernel_heap.proofs.numbered_heap.NumberedHeap.set_granularity.Goals a
 pub returns-clause-sound : goal.returns-clause-sound
 returns-clause-sound c =
     let is = c.set_granularity.ensures in
-    laid_set c.args.self.now.heap c.set_granularity.new.self c.args.self.now.blocks.items is.system c.requires.sound (is.sound c.requires.sound.heap_sound) (is.linked c.requires.sound.heap_linked)
-    (ap (λ (h : HeapState). h.segments) is.state)
+    laid_set c.args.self.now.heap c.set_granularity.new.self c.args.self.now.blocks.items is.system c.requires.sound (ap (λ (h : HeapState). h.segments) is.state)
 
 pub returns-clause-ok : goal.returns-clause-ok
 returns-clause-ok c = λ top s good stands.

@@ -1,0 +1,69 @@
+// What is done to the system of a heap beside the heap: it stays in its state, with its regions and the order of its bins.
+ghost use Rattle.std.specs.Prelude.{◌≡◌, [], IfErr, OnOk, OnErr, length};
+ghost use Rattle.heap_model.specs.Slots.{listed_slots};
+ghost use Rattle.mapped_regions.specs.Mapped.{CanMap, IsRegionJoined, IsLeft};
+ghost use Rattle.mapped_regions.specs.UserRegions.{user_region, IsMapRefused, IsUnmapRefused, CanUnmap};
+ghost use Rattle.sound_heap.specs.Heap.{AreInBlock};
+ghost use Rattle.kernel_heap.specs.Heap.{heap_state};
+ghost use Rattle.kernel_heap.specs.Moves.{IsKeptBeside};
+ghost use Rattle.kernel_heap.specs.System.{paged};
+ghost use Rattle.kernel_heap.specs.Written.{IsWritten};
+
+use crate::paged_system::PagedSystem;
+use heap_model::{Rights, SlotList};
+use mapped_regions::{MapFault, UnmapFault};
+use sound_heap::Heap;
+
+/// Maps pages as a region of the user.
+pub(crate) fn map(
+    heap: &mut Heap<PagedSystem>,
+    start: u64,
+    pages: u64,
+    rights: Rights,
+) -> Result<(), MapFault>
+    ensures ok { OnOk result (IsRegionJoined (paged heap.old.system) (paged heap.new.system) (user_region start pages rights)) }
+    ensures can { OnOk result (CanMap (paged heap.old.system) start pages) }
+    ensures err { OnErr result (paged heap.new.system ≡ paged heap.old.system) }
+    ensures refused { IfErr result (λ fault. IsMapRefused (paged heap.old.system) start pages fault) }
+    ensures kept { IsKeptBeside heap.old heap.new }
+{
+    heap.heap.rests_outside();
+    heap.heap.order_rests_outside();
+    heap.heap.allocator_mut().map(start, pages, rights)
+}
+
+/// Unmaps a region of the user.
+pub(crate) fn unmap(heap: &mut Heap<PagedSystem>, start: u64, pages: u64) -> Result<(), UnmapFault>
+    ensures ok { OnOk result (IsLeft (paged heap.old.system) (paged heap.new.system) start pages) }
+    ensures can { OnOk result (CanUnmap (paged heap.old.system) start pages) }
+    ensures err { OnErr result (paged heap.new.system ≡ paged heap.old.system) }
+    ensures refused { IfErr result (λ fault. IsUnmapRefused (paged heap.old.system) start pages fault) }
+    ensures kept { IsKeptBeside heap.old heap.new }
+{
+    heap.heap.rests_outside();
+    heap.heap.order_rests_outside();
+    heap.heap.allocator_mut().unmap(start, pages)
+}
+
+/// Hands out the slots that the region which joined last has in large pages, if they were not handed out yet.
+pub(crate) fn take_slots(heap: &mut Heap<PagedSystem>) -> Option<SlotList>
+    ensures slots { result ≡ listed_slots (paged heap.old.system).slots }
+    ensures others { paged heap.new.system ≡ record (paged heap.old.system) { slots = [] } }
+    ensures kept { IsKeptBeside heap.old heap.new }
+{
+    heap.heap.rests_outside();
+    heap.heap.order_rests_outside();
+    heap.heap.allocator_mut().take_slots()
+}
+
+/// Puts bytes at an address of a block, and changes nothing else.
+pub(crate) fn write_bytes(heap: &mut Heap<PagedSystem>, address: u64, bytes: &[u8])
+    requires inside { AreInBlock (heap_state heap.old) address (length bytes.now) }
+    ensures written { IsWritten (paged heap.old.system) (paged heap.new.system) address bytes.now (length bytes.now) }
+    ensures kept { IsKeptBeside heap.old heap.new }
+{
+    heap.heap.blocks_are_placed();
+    heap.heap.rests_outside();
+    heap.heap.order_rests_outside();
+    heap.heap.allocator_mut().write_bytes(address, bytes);
+}
