@@ -63,7 +63,8 @@ counted_below test (suc n) at below not_so = go (cases_eq at n) (λ before. coun
     go (inr before) earlier = omega (arith, counted_suc test n, earlier (omega (arith, below, before)), at_most_one (test n))
 
 -- two tests that tell the blocks of a heap count the same
-pub has_blocks : (heap : HeapState) (test : ℕ → Bool) (count : ℕ) → ((a : ℕ) → test a ≡ true → HasBlock heap a) → ((a : ℕ) → HasBlock heap a → test a ≡ true) → count ≡ counted test (2 ^ 64) → HasBlocks heap count
+pub has_blocks : (heap : HeapState) (test : ℕ → Bool) (count : ℕ) → ((a : ℕ) → test a ≡ true → HasBlock heap a) → ((a : ℕ) → HasBlock heap a → test a ≡ true) →
+    count ≡ counted test (2 ^ 64) → HasBlocks heap count
 has_blocks heap test count to from is other tells = is ∙ sym (counted_same test other (2 ^ 64) (λ k less. go k (test k) (other k) refl refl))
   where
     go : (k : ℕ) (b c : Bool) → test k ≡ b → other k ≡ c → other k ≡ test k

@@ -47,7 +47,8 @@ marked_here base words address word value place changes =
     let bit = changes.here in
     go (nat_le base address) ((address - base) % 16 == 0) (let low = place.low in grind (arith, nat_tests)) (let whole = place.whole in grind (arith, nat_tests)) (rw (read, bit) refl)
   where
-    go : (b c : Bool) → b ≡ true → c ≡ true → has_bit (set words ((address - base) / 16 / 64) word) ((address - base) / 16) ≡ (value == 1) → (b && (c && has_bit (set words ((address - base) / 16 / 64) word) ((address - base) / 16))) ≡ (value == 1)
+    go : (b c : Bool) → b ≡ true → c ≡ true → has_bit (set words ((address - base) / 16 / 64) word) ((address - base) / 16) ≡ (value == 1) →
+        (b && (c && has_bit (set words ((address - base) / 16 / 64) word) ((address - base) / 16))) ≡ (value == 1)
     go b c low whole bit = rw (low, whole) bit
 
 pub marked_other : (base : ℕ) (words : List ℕ) (address word value a : ℕ) → HasPlace base words address → ChangesBit (get_or words ((address - base) / 16 / 64) 0) word ((address - base) / 16 % 64) value → a ≢ address →

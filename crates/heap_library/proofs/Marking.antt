@@ -66,9 +66,10 @@ resized_same old new from held size to given = go (cases_eq to from)
 
 -- ---- marks
 
-module _ (base : ℕ) (marks : List ℕ) (count : ℕ) (old new : Dlmalloc Arena) (is : IsMarked base marks count old) where
+module _ {base : ℕ} {marks : List ℕ} {count : ℕ} {old : Dlmalloc Arena} (new : Dlmalloc Arena) (is : IsMarked base marks count old) where
   -- a heap with the same blocks
-  pub kept_marked : IsSameArena old.system new.system → ((a : ℕ) → HasBlock (heap_state old) a → HasBlock (heap_state new) a) → ((a : ℕ) → HasBlock (heap_state new) a → HasBlock (heap_state old) a) → IsMarked base marks count new
+  pub kept_marked : IsSameArena old.system new.system → ((a : ℕ) → HasBlock (heap_state old) a → HasBlock (heap_state new) a) →
+      ((a : ℕ) → HasBlock (heap_state new) a → HasBlock (heap_state old) a) → IsMarked base marks count new
   kept_marked same to from = record {
     some = is.some;
     count_is = is.count_is;
@@ -123,8 +124,8 @@ module _ (base : ℕ) (marks : List ℕ) (count : ℕ) (old new : Dlmalloc Arena
 
   module _ (base' : ℕ) (marks' : List ℕ) (count' : ℕ) (base_same : base' ≡ base) (len_same : length marks' ≡ length marks) (counted_now : count' ≡ counted (is_marked base' marks') (2 ^ 64)) where
     -- a block more, and its mark
-    pub made_marked : (size align address : ℕ) → IsHandedOut regions_of word_of follows old size align address new → is_marked base' marks' address ≡ true → ((a : ℕ) → a ≢ address → is_marked base' marks' a ≡ is_marked base marks a) →
-        IsMarked base' marks' count' new
+    pub made_marked : (size align address : ℕ) → IsHandedOut regions_of word_of follows old size align address new → is_marked base' marks' address ≡ true →
+        ((a : ℕ) → a ≢ address → is_marked base' marks' a ≡ is_marked base marks a) → IsMarked base' marks' count' new
     made_marked size align address out here others = record {
       some = omega (arith, base_same, is.some);
       count_is = counted_now;
@@ -141,8 +142,8 @@ module _ (base : ℕ) (marks : List ℕ) (count : ℕ) (old new : Dlmalloc Arena
     }
 
     -- a block less, and its mark
-    pub freed_marked : (address : ℕ) → HasBlock (heap_state old) address → IsFreed regions_of word_of follows true true 1 old address new → is_marked base' marks' address ≡ false → ((a : ℕ) → a ≢ address → is_marked base' marks' a ≡ is_marked base marks a) →
-        IsMarked base' marks' count' new
+    pub freed_marked : (address : ℕ) → HasBlock (heap_state old) address → IsFreed regions_of word_of follows true true 1 old address new → is_marked base' marks' address ≡ false →
+        ((a : ℕ) → a ≢ address → is_marked base' marks' a ≡ is_marked base marks a) → IsMarked base' marks' count' new
     freed_marked address was freed here others = record {
       some = omega (arith, base_same, is.some);
       count_is = counted_now;

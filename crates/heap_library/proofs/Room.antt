@@ -96,13 +96,15 @@ served_at_room old new size align address served none = elim served [
   | inr high ↦ served_room old high.1.middle (enlarged size align) high.1.greater high.1.served (subst (λ (n : ℕ). HasNoRoom old (padded n)) (asked_high size align high.0) none)
 ]
 
-pub not_refused : (old middle : Dlmalloc Arena) (size align address : ℕ) → IsPowerOfTwo align → asked size align < limit old.granularity → IsServedAt regions_of word_of zeros follows old size align address middle → IsRefused old size align → ⊥
+pub not_refused : (old middle : Dlmalloc Arena) (size align address : ℕ) → IsPowerOfTwo align → asked size align < limit old.granularity →
+    IsServedAt regions_of word_of zeros follows old size align address middle → IsRefused old size align → ⊥
 not_refused old middle size align address power small served refused = elim refused [
   | inl no_power ↦ no_power power
   | inr others ↦ elim others [ inl large ↦ omega (arith, small, large) | inr none ↦ served_at_room old middle size align address served none ]
 ]
 
-pub resize_not_refused : (old new : Dlmalloc Arena) (from held size to : ℕ) → HasBlock (heap_state old) from → size < limit old.granularity → IsResized regions_of word_of zeros follows true true 1 old from held 16 size to new → IsRefusedResize old from size → ⊥
+pub resize_not_refused : (old new : Dlmalloc Arena) (from held size to : ℕ) → HasBlock (heap_state old) from → size < limit old.granularity →
+    IsResized regions_of word_of zeros follows true true 1 old from held 16 size to new → IsRefusedResize old from size → ⊥
 resize_not_refused old new from held size to block small resized refused = elim refused [
   | inl none ↦ none block
   | inr others ↦

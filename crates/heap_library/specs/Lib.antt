@@ -1,3 +1,5 @@
+pub mod Begun
+pub mod Calls
 pub mod Checked
 pub mod Counted
 pub mod Library

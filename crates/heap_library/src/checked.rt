@@ -63,20 +63,20 @@ fn words_for_table(rest: usize, granularity: u64) -> usize
 }
 
 impl<'a> CheckedHeap<'a> {
-    ghost use Rattle.std.specs.Prelude.{◌≡◌, ◌≢◌, ◌↔◌, ℕ, ◌+◌, ◌-◌, ◌*◌, ◌/◌, ◌%◌, ◌^◌, ◌<◌, ◌≤◌, min, true, false, [], if◌then◌else◌, Some, None, IfOk, IfErr, IfSome, IfNone, IsTrue, length, take, drop};
-    ghost use Rattle.std.specs.Int.{IsPowerOfTwo};
+    ghost use Rattle.std.specs.Prelude.{◌≡◌, ◌≢◌, ◌↔◌, ℕ, ◌+◌, ◌-◌, ◌*◌, ◌/◌, ◌%◌, ◌^◌, ◌<◌, ◌≤◌, min, true, false, [], if◌then◌else◌, Some, None, IfOk, IfErr, IsErr, IfSome, IfNone, IsTrue, length, take, drop};
     ghost use Rattle.heap_memory.specs.Words.{IsStored};
-    ghost use Rattle.dlmalloc.specs.State.{new_heap, countdown_from};
+    ghost use Rattle.dlmalloc.specs.State.{countdown_from};
     ghost use Rattle.dlmalloc.specs.Heap.{IsGranularity};
     ghost use Rattle.dlmalloc.specs.Blocks.{ArePlaced, BlocksAreApart};
-    ghost use Rattle.dlmalloc.specs.Requested.{IsHandedOut, IsServedAt, IsMemberServed};
+    ghost use Rattle.dlmalloc.specs.Requested.{IsServedAt};
     ghost use Rattle.dlmalloc.specs.Written.{IsServedCleared};
-    ghost use Rattle.dlmalloc.specs.Moved.{IsGivenSize, IsResized};
     ghost use Rattle.dlmalloc.specs.AfterFree.{IsFreed};
     ghost use Rattle.dlmalloc.specs.Shortened.{IsTrimmed};
     ghost use Rattle.dlmalloc.specs.Order.{KeepsIndex};
     ghost use Rattle.dlmalloc.specs.Served.{IsListed};
     ghost use Rattle.heap_arena.specs.Arena.{regions_of, word_of, IsAbove};
+    ghost use Rattle.heap_library.specs.Begun.{IsNewAt, IsBegun};
+    ghost use Rattle.heap_library.specs.Calls.{IsBlockGiven, IsBlockResized};
     ghost use Rattle.heap_library.specs.Library.{HasWord, IsResizeRefused};
     ghost use Rattle.sound_heap.specs.Heap.{HasBlock, usable, AreZero, IsRequestRefused};
     ghost use Rattle.heap_library.specs.Counted.{HasBlocks, counted};
@@ -96,11 +96,7 @@ impl<'a> CheckedHeap<'a> {
         requires aligned { base % 16 ≡ 0 }
         requires low { 4096 ≤ base }
         requires high { base + 8 * length words.now < 2 ^ 64 }
-        ensures state { heap_state result ≡ new_heap }
-        ensures regions { regions_of result.system ≡ [] }
-        ensures base { result.system.base ≡ base }
-        ensures top { result.system.top ≡ base }
-        ensures peak { result.system.peak ≡ base }
+        ensures new { IsNewAt base 65536 result }
         ensures words { result.system.words.now ≡ take (min (length words.entry.now) (128 * length marks.entry.now)) words.entry.now }
         ensures len { length result.system.words.now ≡ min (length words.entry.now) (128 * length marks.entry.now) }
         ensures table { result.system.table.words.now ≡ table.entry.now }
@@ -117,15 +113,7 @@ impl<'a> CheckedHeap<'a> {
         requires aligned { base % 16 ≡ 0 }
         requires low { 4096 ≤ base }
         requires high { base + 8 * length memory.now < 2 ^ 64 }
-        ensures state { heap_state result ≡ new_heap }
-        ensures regions { regions_of result.system ≡ [] }
-        ensures base { result.system.base ≡ base }
-        ensures top { result.system.top ≡ base }
-        ensures peak { result.system.peak ≡ base }
-        ensures words { result.system.words.now ≡ words_for_blocks 65536 memory.entry.now }
-        ensures len { length result.system.words.now ≡ left_for_words 65536 (length memory.entry.now) }
-        ensures table { result.system.table.words.now ≡ words_for_table 65536 memory.entry.now }
-        ensures table_len { length result.system.table.words.now ≡ table_of 65536 (length memory.entry.now) }
+        ensures begun { IsBegun memory.entry.now base 65536 result }
     {
         let count = memory.len();
         let (front, marks) = memory.split_at_mut(count - count.div_ceil(128));
@@ -140,15 +128,7 @@ impl<'a> CheckedHeap<'a> {
         requires high { base + 8 * length memory.now < 2 ^ 64 }
         requires cleared { IsCleared memory.now }
         requires granularity { IsGranularity granularity }
-        ensures state { heap_state result ≡ record new_heap { granularity = granularity } }
-        ensures regions { regions_of result.system ≡ [] }
-        ensures base { result.system.base ≡ base }
-        ensures top { result.system.top ≡ base }
-        ensures peak { result.system.peak ≡ base }
-        ensures words { result.system.words.now ≡ words_for_blocks granularity memory.entry.now }
-        ensures len { length result.system.words.now ≡ left_for_words granularity (length memory.entry.now) }
-        ensures table { result.system.table.words.now ≡ words_for_table granularity memory.entry.now }
-        ensures table_len { length result.system.table.words.now ≡ table_of granularity (length memory.entry.now) }
+        ensures begun { IsBegun memory.entry.now base granularity result }
     {
         let mut heap = CheckedHeap::over_zeros(memory, base, granularity);
         heap.set_granularity(granularity);
@@ -162,11 +142,7 @@ impl<'a> CheckedHeap<'a> {
         requires low { 4096 ≤ base }
         requires high { base + 8 * length memory.now < 2 ^ 64 }
         requires cleared { IsCleared memory.now }
-        ensures state { heap_state result ≡ new_heap }
-        ensures regions { regions_of result.system ≡ [] }
-        ensures base { result.system.base ≡ base }
-        ensures top { result.system.top ≡ base }
-        ensures peak { result.system.peak ≡ base }
+        ensures new { IsNewAt base 65536 result }
         ensures words { result.system.words.now ≡ words_for_blocks granularity memory.entry.now }
         ensures len { length result.system.words.now ≡ left_for_words granularity (length memory.entry.now) }
         ensures table { result.system.table.words.now ≡ words_for_table granularity memory.entry.now }
@@ -192,11 +168,7 @@ impl<'a> CheckedHeap<'a> {
         requires none { (address : ℕ) → is_marked marks.base marks.words.now address ≡ false }
         requires counted { marks.count ≡ counted (is_marked marks.base marks.words.now) (2 ^ 64) }
         requires room { length front.now ≤ 128 * length marks.words.now }
-        ensures state { heap_state result ≡ new_heap }
-        ensures regions { regions_of result.system ≡ [] }
-        ensures base { result.system.base ≡ base }
-        ensures top { result.system.top ≡ base }
-        ensures peak { result.system.peak ≡ base }
+        ensures new { IsNewAt base 65536 result }
         ensures words { result.system.words.now ≡ take (length front.entry.now - table_in granularity (length front.entry.now)) front.entry.now }
         ensures len { length result.system.words.now ≡ length front.entry.now - table_in granularity (length front.entry.now) }
         ensures table { result.system.table.words.now ≡ drop (length front.entry.now - table_in granularity (length front.entry.now)) front.entry.now }
@@ -220,11 +192,7 @@ impl<'a> CheckedHeap<'a> {
         requires marks_base { marks.base ≡ base }
         requires none { (address : ℕ) → is_marked marks.base marks.words.now address ≡ false }
         requires counted { marks.count ≡ counted (is_marked marks.base marks.words.now) (2 ^ 64) }
-        ensures state { heap_state result ≡ new_heap }
-        ensures regions { regions_of result.system ≡ [] }
-        ensures base { result.system.base ≡ base }
-        ensures top { result.system.top ≡ base }
-        ensures peak { result.system.peak ≡ base }
+        ensures new { IsNewAt base 65536 result }
         ensures words { result.system.words.now ≡ take (min (length words.entry.now) (128 * length marks.entry.words.now)) words.entry.now }
         ensures len { length result.system.words.now ≡ min (length words.entry.now) (128 * length marks.entry.words.now) }
         ensures table { result.system.table.words.now ≡ table.entry.now }
@@ -267,14 +235,10 @@ impl<'a> CheckedHeap<'a> {
 
     /// The address of a block of `size` bytes, at a multiple of `align` and of 16.
     pub fn malloc(&mut self, size: u64, align: u64) -> Result<u64, HeapError>
-        ensures ok { IfOk result (λ address. IsHandedOut regions_of word_of follows self.old size align address self.new) }
+        ensures ok { IfOk result (λ address. IsBlockGiven self.old size align address self.new) }
         ensures served { IfOk result (λ address. IsServedAt regions_of word_of zeros follows self.old size align address self.new) }
-        ensures member { IfOk result (λ address. IsMemberServed regions_of word_of self.old size align address) }
-        ensures enough { IfOk result (λ address. size ≤ usable (heap_state self.new) address) }
-        ensures power { IfOk result (λ address. IsPowerOfTwo align) }
         ensures err { IfErr result (λ error. IsRequestRefused regions_of word_of follows refuses denies self.old size align error self.new) }
-        ensures refused { IfErr result (λ error. IsRefused self.old size align) }
-        ensures room { IfOk result (λ address. IsRefused self.old size align → ⊥) }
+        ensures refused { IsErr result ↔ IsRefused self.old size align }
         ensures apart { BlocksAreApart (heap_state self.new) }
     {
         match self.heap.malloc(size, align) {
@@ -288,15 +252,11 @@ impl<'a> CheckedHeap<'a> {
 
     /// As `malloc`; the bytes of the block are 0.
     pub fn calloc(&mut self, size: u64, align: u64) -> Result<u64, HeapError>
-        ensures ok { IfOk result (λ address. IsHandedOut regions_of word_of follows self.old size align address self.new) }
+        ensures ok { IfOk result (λ address. IsBlockGiven self.old size align address self.new) }
         ensures served { IfOk result (λ address. IsServedCleared regions_of word_of zeros follows self.old size align address self.new) }
         ensures zeros { IfOk result (λ address. AreZero (word_of self.new.system) address size) }
-        ensures member { IfOk result (λ address. IsMemberServed regions_of word_of self.old size align address) }
-        ensures enough { IfOk result (λ address. size ≤ usable (heap_state self.new) address) }
-        ensures power { IfOk result (λ address. IsPowerOfTwo align) }
         ensures err { IfErr result (λ error. IsRequestRefused regions_of word_of follows refuses denies self.old size align error self.new) }
-        ensures refused { IfErr result (λ error. IsRefused self.old size align) }
-        ensures room { IfOk result (λ address. IsRefused self.old size align → ⊥) }
+        ensures refused { IsErr result ↔ IsRefused self.old size align }
         ensures apart { BlocksAreApart (heap_state self.new) }
     {
         match self.heap.calloc(size, align) {
@@ -311,14 +271,9 @@ impl<'a> CheckedHeap<'a> {
     /// Gives the block at `from` another size, and answers where it is then, at a multiple of 16. It keeps as many of
     /// its bytes as both sizes have. `NoBlock` if none begins there; then nothing changes.
     pub fn realloc(&mut self, from: u64, size: u64) -> Result<u64, HeapError>
-        ensures block { IfOk result (λ to. HasBlock (heap_state self.old) from) }
-        ensures resized { IfOk result (λ to. IsResized regions_of word_of zeros follows true true 1 self.old from (usable (heap_state self.old) from) 16 size to self.new) }
-        ensures ok { IfOk result (λ to. IsGivenSize regions_of word_of follows true true 1 self.old from (usable (heap_state self.old) from) 16 size to self.new) }
-        ensures member { IfOk result (λ to. to ≢ from → IsMemberServed regions_of word_of self.old size 16 to) }
-        ensures enough { IfOk result (λ to. size ≤ usable (heap_state self.new) to) }
+        ensures ok { IfOk result (λ to. IsBlockResized self.old from size to self.new) }
         ensures err { IfErr result (λ error. IsResizeRefused regions_of word_of follows refuses denies self.old from size error self.new) }
-        ensures refused { IfErr result (λ error. IsRefusedResize self.old from size) }
-        ensures room { IfOk result (λ to. IsRefusedResize self.old from size → ⊥) }
+        ensures refused { IsErr result ↔ IsRefusedResize self.old from size }
         ensures apart { BlocksAreApart (heap_state self.new) }
     {
         if !self.has_block(from) {

@@ -7,3 +7,4 @@ pub mod RangeMapped
 pub mod RangeFaults
 pub mod RangeChanged
 pub mod Ends
+mod Changed

@@ -17,11 +17,13 @@ use Rattle.paging_core.proofs.Prefixes.{walk_reach}
 use Rattle.paging_core.proofs.Ranges.{page_canonical}
 use Rattle.paging_core.proofs.Reach.{reach_in, reach_none, large_none}
 use Rattle.kernel_tables.specs.Faults.{entry_fault, split_of}
-use Rattle.kernel_tables.specs.Flush.{pages_of_range, IsFlushEnough}
+use Rattle.kernel_tables.specs.Changes.{ChangesOnly, IsRangeUnmapped, IsRangeGranted}
+use Rattle.kernel_tables.specs.Flush.{page_alone, pages_of_slot, pages_of_range}
 use Rattle.kernel_tables.specs.Ranges.{lies_in_half, lowest_unmapped, is_split, splits, change_range_fault, AreWithin}
 use Rattle.kernel_tables.specs.TableState.{TableState, leads, IsSamePlace, DoTablesStay}
 use Rattle.kernel_tables.specs.declared.faults.EntryFault.TheVariants as Entry
 use Rattle.kernel_tables.specs.declared.range_fault.RangeFault.TheVariants.{NotCanonical, NotMapped, NoFrames}
+use Rattle.kernel_tables.proofs.Changed.{same_place, same_tables, page_others, slot_others, range_only}
 use Rattle.kernel_tables.proofs.RangeFaults.{none_of_all}
 use Rattle.kernel_tables.proofs.RangeMapped.{slots_apart}
 use Rattle.kernel_tables.proofs.Sound.{LeadsOutside, same_page}
@@ -29,18 +31,6 @@ use Rattle.kernel_tables.proofs.Sound.{LeadsOutside, same_page}
 pub is_hole : (o : Option Place) → o ≡ None → IsSome o → ⊥
 is_hole None e h = cc
 is_hole (Some x) e h = cc
-
-pub same_place : (old mid new : TableState) → IsSamePlace old mid → IsSamePlace mid new → IsSamePlace old new
-same_place old mid new a b = record { root = b.root ∙ a.root; area = b.area ∙ a.area; size = b.size ∙ a.size }
-
-pub same_tables : (old mid new : TableState) → DoTablesStay old mid → DoTablesStay mid new → DoTablesStay old new
-same_tables old mid new a b = λ l n met lt is. b l n met lt (a l n met lt is)
-
--- tables that stay, seen from inside
-pub tables_seen : (old inside : TableState) (words : List ℕ) → inside ≡ old →
-    ((l n : ℕ) (met : Place) → l < 4 → reach inside.words inside.root l n ≡ Some met → reach words inside.root l n ≡ Some met) →
-    (l n : ℕ) (met : Place) → l < 4 → reach old.words old.root l n ≡ Some met → reach words inside.root l n ≡ Some met
-tables_seen old inside words view stay = λ l n met lt is. stay l n met lt (ap (λ (s : TableState). reach s.words s.root l n) view ∙ is)
 
 -- a large page that is split had no table
 pub split_stay : (old new : List ℕ) (free free' : List Bool) (root page : ℕ) → IsLargeSplit old new free free' root page →
@@ -92,19 +82,18 @@ module _ (old now : TableState) (page pages done : ℕ) (change : Place → Opti
       let b = w.1 in
       (omega arith, omega arith)
 
-  module _ (new : TableState) (place : IsSamePlace now new) (free : new.free ≡ now.free) (tables : DoTablesStay now new) where
-    pub page_changed : (IsSome (large_of now.words now.root (slot_of ((page + done) / 512))) → ⊥) →
-        ((other : ℕ) → IsTrue (is_canonical (other * 4096)) → (other ≡ page + done → ⊥) → leads new other ≡ leads now other) →
+  module _ (new : TableState) (free : new.free ≡ now.free) where
+    pub page_changed : (IsSome (large_of now.words now.root (slot_of ((page + done) / 512))) → ⊥) → ChangesOnly (page_alone (page + done)) now new →
         ((was : Place) → leads now (page + done) ≡ Some was → leads new (page + done) ≡ change was) →
         ((n : ℕ) → large_of new.words new.root n ≡ large_of now.words now.root n) → IsChangedTo old new page pages (done + 1) change
-    page_changed small elsewhere changes larges = record {
-      place = same_place old now new before.place place;
+    page_changed small only changes larges = record {
+      place = same_place old now new before.place only.place;
       free = free ∙ before.free;
-      tables = same_tables old now new before.tables tables;
+      tables = same_tables old now new before.tables only.tables;
       within = omega arith;
       changed = λ k was lt is. changed k was is (cases_lt k done) lt;
       elsewhere = λ other canonical out.
-          elsewhere other canonical (λ e. out done (omega arith) e) ∙ before.elsewhere other canonical (λ k lt e. out k (omega arith) e);
+          page_others only other canonical (λ e. out done (omega arith) e) ∙ before.elsewhere other canonical (λ k lt e. out k (omega arith) e);
       whole = λ slot lo hi some.
           let s : IsSome (large_of now.words now.root (slot_of slot)) = rw (larges (slot_of slot)) at some in
           let w = before.whole slot (omega arith) hi s in
@@ -114,7 +103,7 @@ module _ (old now : TableState) (page pages done : ℕ) (change : Place → Opti
     }
       where
         changed : (k : ℕ) (was : Place) → leads old (page + k) ≡ Some was → (k < done) ⊎ (done ≤ k) → k < done + 1 → leads new (page + k) ≡ change was
-        changed k was is (inl x) lt = elsewhere (page + k) (page_canonical page pages k range (omega arith)) (λ e. omega arith) ∙ before.changed k was x is
+        changed k was is (inl x) lt = page_others only (page + k) (page_canonical page pages k range (omega arith)) (λ e. omega arith) ∙ before.changed k was x is
         changed k was is (inr x) lt =
             let e : k ≡ done = omega arith in
             rw e (changes was (still done (omega arith) more ∙ (ap (λ j. leads old (page + j)) (sym e) ∙ is)))
@@ -125,22 +114,22 @@ module _ (old now : TableState) (page pages done : ℕ) (change : Place → Opti
         past slot some le (inr ne) = omega arith
 
     pub slot_changed : IsSome (large_of now.words now.root (slot_of ((page + done) / 512))) →
-        ((other : ℕ) → IsTrue (is_canonical (other * 4096)) → (other / 512 ≡ (page + done) / 512 → ⊥) → leads new other ≡ leads now other) →
+        ChangesOnly (pages_of_slot ((page + done) / 512)) now new →
         ((k : ℕ) (was : Place) → k < 512 → leads now (512 * ((page + done) / 512) + k) ≡ Some was → leads new (512 * ((page + done) / 512) + k) ≡ change was) →
         ((n : ℕ) → (n ≡ slot_of ((page + done) / 512) → ⊥) → large_of new.words new.root n ≡ large_of now.words now.root n) →
         IsChangedTo old new page pages (done + 512) change
-    slot_changed large elsewhere changes larges =
+    slot_changed large only changes larges =
         let b = begins_there large in
         let first = b.0 in
         let fits = b.1 in
         record {
-          place = same_place old now new before.place place;
+          place = same_place old now new before.place only.place;
           free = free ∙ before.free;
-          tables = same_tables old now new before.tables tables;
+          tables = same_tables old now new before.tables only.tables;
           within = omega arith;
           changed = λ k was lt is. changed k was is (cases_lt k done) lt;
           elsewhere = λ other canonical out.
-              elsewhere other canonical (λ e. out (other - page) (omega arith) (omega arith))
+              slot_others only other canonical (λ e. out (other - page) (omega arith) (omega arith))
               ∙ before.elsewhere other canonical (λ k lt e. out k (omega arith) e);
           whole = λ slot lo hi some. whole slot lo hi some (cases_eq slot ((page + done) / 512));
         }
@@ -149,7 +138,7 @@ module _ (old now : TableState) (page pages done : ℕ) (change : Place → Opti
         changed k was is (inl x) lt =
             let b = begins_there large in
             let first = b.0 in
-            elsewhere (page + k) (page_canonical page pages k range (omega arith)) (λ e. omega arith) ∙ before.changed k was x is
+            slot_others only (page + k) (page_canonical page pages k range (omega arith)) (λ e. omega arith) ∙ before.changed k was x is
         changed k was is (inr x) lt =
             let b = begins_there large in
             let first = b.0 in
@@ -224,15 +213,6 @@ last_split old mid page pages range first larges = go (cases_eq ((page + (pages 
         (λ e. ne (slots_apart page pages ((page + (pages - 1)) / 512) (page / 512) range (omega arith) (omega arith) (omega arith) (omega arith) e)) in
         rw (t, l) refl
 
--- pages beside the range are not flushed, and lead where they led
-pub range_flushed : (old new : TableState) (page pages : ℕ) →
-    ((other : ℕ) → IsTrue (is_canonical (other * 4096)) → ((k : ℕ) → k < pages → other ≡ page + k → ⊥) → leads new other ≡ leads old other) →
-    IsFlushEnough old new (pages_of_range page pages)
-range_flushed old new page pages elsewhere = λ other place canonical not is. elsewhere other canonical (λ k lt e. out other not k lt e) ∙ is
-  where
-    out : (other : ℕ) → pages_of_range page pages other ≡ false → (k : ℕ) → k < pages → other ≡ page + k → ⊥
-    out other not k lt e = grind (arith, nat_tests)
-
 -- a page of a large page leads into it
 slot_led : (words : List ℕ) (root page : ℕ) (large : Place) (k : ℕ) → k < 512 → large_of words root (slot_of page) ≡ Some large →
     walk_of words root (512 * page + k) ≡ Some (page_in k large)
@@ -242,7 +222,10 @@ slot_led words root page large k lt is =
     walk_reach words root (512 * page + k)
     ∙ (reach_in words root (prefix_of (512 * page + k) 4) large (ap (large_of words root) up ∙ is) ∙ ap (λ j. Some (page_in j large)) at)
 
--- the end: all pages are changed
+-- the end: all pages are changed, and only these
+pub only_range : (old now : TableState) (page pages : ℕ) (change : Place → Option Place) → IsChangedTo old now page pages pages change → ChangesOnly (pages_of_range page pages) old now
+only_range old now page pages change all = range_only page pages all.place all.tables all.elsewhere
+
 pub gone_all : (old now : TableState) (page pages : ℕ) → ((k : ℕ) → k < pages → IsSome (leads old (page + k))) → IsChangedTo old now page pages pages (λ was. None) →
     (k : ℕ) → k < pages → leads now (page + k) ≡ None
 gone_all old now page pages mapped all k lk = go (some_or_none (leads old (page + k)))
@@ -376,8 +359,15 @@ split_parts state page pages range =
     let z : (pages == 0) ≡ false = grind (arith, nat_tests) in
     rw z refl
 
-pub none_split : (state : TableState) (page : ℕ) → splits state page 0 ≡ 0
-none_split state page = refl
+none_split : (state : TableState) (page : ℕ) → free_count state.free + splits state page 0 ≡ free_count state.free
+none_split state page = omega arith
+
+-- a range of no pages is changed by nothing
+pub none_unmapped : (state : TableState) (page : ℕ) → IsRangeUnmapped state state page 0
+none_unmapped state page = record { unmapped = λ k lt. absurd (omega arith); free = none_split state page }
+
+pub none_granted : (state : TableState) (page : ℕ) (rights : Rights) → IsRangeGranted state state page 0 rights
+none_granted state page rights = record { granted = λ k lt. absurd (omega arith); free = none_split state page }
 
 -- ---- single pages
 

@@ -1,5 +1,5 @@
 -- What follows if a range is not refused.
-use Rattle.std.proofs.Common.{◌≡◌, ℕ, zero, suc, ◌+◌, ◌-◌, ◌*◌, ◌<◌, ◌≤◌, Bool, true, false, not, cond, ltb, Option, Some, None, refl, sym, ap, ◌∙◌, ◌⊎◌, inl, inr, arith}
+use Rattle.std.proofs.Common.{◌≡◌, ℕ, zero, suc, ◌+◌, ◌-◌, ◌*◌, ◌<◌, ◌≤◌, Bool, true, false, not, cond, ltb, Option, Some, None, refl, ap, ◌∙◌, ◌⊎◌, inl, inr, arith}
 use Rattle.std.proofs.lemmas.Bool.{cases_Bool}
 use Rattle.std.proofs.lemmas.Bool.Decides.{nat_tests}
 use Rattle.std.specs.Prelude.{is_some, IsTrue, ◌==◌}
@@ -10,7 +10,7 @@ use Rattle.paging_core.specs.Pool.{free_count}
 use Rattle.paging_core.specs.Walk.{Place}
 use Rattle.paging_core.specs.declared.page_table.Rights.{Rights}
 use Rattle.paging_core.proofs.Ranges.{missing_none}
-use Rattle.kernel_tables.specs.Flush.{no_page, IsFlushEnough}
+use Rattle.kernel_tables.specs.Changes.{IsRangeMapped}
 use Rattle.kernel_tables.specs.Ranges.{lies_in_half, lowest, lowest_mapped, tables_wanted, map_range_fault, becomes_large, AreSlotsLarge}
 use Rattle.kernel_tables.specs.TableState.{TableState, leads, limit_of}
 use Rattle.kernel_tables.specs.declared.range_fault.RangeFault.TheVariants.{NotCanonical, IsMapped, PastLimit, InArea, NoFrames}
@@ -72,20 +72,22 @@ no_range_fault state page pages frame some canonical none =
     go false true None false false true wanting e z = absurd (cc)
     go false true None false false false wanting e z = (refl, refl, refl, refl, refl)
 
--- a new page takes nothing from one that was mapped
-pub range_flush : (old new : TableState) (page pages : ℕ) → ((k : ℕ) → k < pages → leads old (page + k) ≡ None) →
-    ((other : ℕ) → IsTrue (is_canonical (other * 4096)) → ((k : ℕ) → k < pages → other ≡ page + k → ⊥) → leads new other ≡ leads old other) → IsFlushEnough old new no_page
-range_flush old new page pages unmapped elsewhere = λ other place canonical not is.
-    elsewhere other canonical (λ k lt e. let h : ◌≡◌ {A = Option Place} (Some place) None = sym is ∙ (ap (leads old) e ∙ unmapped k lt) in absurd (cc)) ∙ is
-
 -- ---- no page
 
-pub none_wanted : (state : TableState) (page frame : ℕ) → tables_wanted state page 0 frame ≡ 0
+none_wanted : (state : TableState) (page frame : ℕ) → tables_wanted state page 0 frame ≡ 0
 none_wanted state page frame = let z = missing_none state.words state.root page in omega arith
 
-pub none_large : (state : TableState) (page frame : ℕ) (rights : Rights) → AreSlotsLarge state state page 0 frame rights
+none_large : (state : TableState) (page frame : ℕ) (rights : Rights) → AreSlotsLarge state state page 0 frame rights
 none_large state page frame rights = λ slot canonical. let e = not_large slot (cases_Bool (becomes_large state page 0 frame slot)) in rw e refl
   where
     not_large : (slot : ℕ) → (becomes_large state page 0 frame slot ≡ true) ⊎ (becomes_large state page 0 frame slot ≡ false) → becomes_large state page 0 frame slot ≡ false
     not_large slot (inl x) = let b = becomes state page 0 frame slot x in let f = b.from in let t = b.to in absurd (omega arith)
     not_large slot (inr x) = x
+
+-- a range of no pages is mapped by nothing
+pub none_mapped : (state : TableState) (page frame : ℕ) (rights : Rights) → IsRangeMapped state state page 0 frame rights
+none_mapped state page frame rights = record {
+  mapped = λ k lt. absurd (omega arith);
+  free = (let z = none_wanted state page frame in omega arith);
+  large = none_large state page frame rights;
+}

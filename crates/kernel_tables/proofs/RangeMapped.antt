@@ -16,8 +16,11 @@ use Rattle.paging_core.proofs.LastEntry.{some_or_none}
 use Rattle.paging_core.proofs.Prefixes.{walk_reach, walk_stops, none_more, small_page}
 use Rattle.paging_core.proofs.Ranges.{page_canonical, same_number}
 use Rattle.paging_core.proofs.Reach.{reach_none}
+use Rattle.kernel_tables.specs.Changes.{ChangesOnly, IsRangeMapped}
+use Rattle.kernel_tables.specs.Flush.{page_alone, pages_of_slot, pages_of_range}
 use Rattle.kernel_tables.specs.Ranges.{becomes_large, tables_wanted, AreSlotsLarge}
-use Rattle.kernel_tables.specs.TableState.{TableState, leads, IsSamePlace, DoTablesStay}
+use Rattle.kernel_tables.specs.TableState.{TableState, leads, IsSamePlace}
+use Rattle.kernel_tables.proofs.Changed.{same_place, page_others, slot_others, range_only}
 use Rattle.kernel_tables.proofs.RangeCounts.{Spanned, spanned, absent_alike, row_less, room_above, room_page, missing_after}
 
 -- the slot becomes large
@@ -240,23 +243,19 @@ module _ (old now : TableState) (page pages frame done : ℕ) (rights : Rights)
 
   -- ---- the next step
 
-  module _ (new : TableState) (place : IsSamePlace now new) where
-    moved : IsSamePlace old new
-    moved = record { root = place.root ∙ before.place.root; area = place.area ∙ before.place.area; size = place.size ∙ before.place.size }
-
-    pub page_next : (Becomes old page pages frame ((page + done) / 512) → ⊥) →
-        ((other : ℕ) → IsTrue (is_canonical (other * 4096)) → (other ≡ page + done → ⊥) → leads new other ≡ leads now other) →
+  module _ (new : TableState) where
+    pub page_next : (Becomes old page pages frame ((page + done) / 512) → ⊥) → ChangesOnly (page_alone (page + done)) now new →
         IsPageAdded now.words new.words now.free new.free now.root (page + done) (frame + done) rights →
         missing_of new.words new.root page pages + missing_of now.words now.root (page + done) 1 ≡ missing_of now.words now.root page pages →
         IsMappedTo old new page pages frame (done + 1) rights
-    page_next not elsewhere was missing =
+    page_next not only was missing =
         let added : IsPageAdded now.words new.words now.free new.free old.root (page + done) (frame + done) rights = rw before.place.root at was in
         record {
-          place = moved;
+          place = same_place old now new before.place only.place;
           within = omega arith;
           mapped = λ k lt. mapped k lt (cases_lt k done);
           elsewhere = λ other canonical out.
-              elsewhere other canonical (λ e. out done (omega arith) e) ∙ before.elsewhere other canonical (λ k lt e. out k (omega arith) e);
+              page_others only other canonical (λ e. out done (omega arith) e) ∙ before.elsewhere other canonical (λ k lt e. out k (omega arith) e);
           no_table = λ slot b.
               let f = b.from in
               let t = b.to in
@@ -275,15 +274,15 @@ module _ (old now : TableState) (page pages frame done : ℕ) (rights : Rights)
               let c = added.count in
               let d = before.count in
               let m : missing_of new.words old.root page pages + missing_of now.words old.root (page + done) 1 ≡ missing_of now.words old.root page pages =
-              rw (place.root ∙ before.place.root, before.place.root) at missing in
+              rw (only.place.root ∙ before.place.root, before.place.root) at missing in
               omega arith;
         }
       where
         mapped : (k : ℕ) → k < done + 1 → (k < done) ⊎ (done ≤ k) → leads new (page + k) ≡ Some (granted (frame + k) rights)
-        mapped k lt (inl x) = elsewhere (page + k) (page_canonical page pages k range (omega arith)) (λ e. omega arith) ∙ before.mapped k x
+        mapped k lt (inl x) = page_others only (page + k) (page_canonical page pages k range (omega arith)) (λ e. omega arith) ∙ before.mapped k x
         mapped k lt (inr x) =
             let e : k ≡ done = omega arith in
-            rw (e, place.root) was.there
+            rw (e, only.place.root) was.there
 
         whole : (slot : ℕ) → Becomes old page pages frame slot → (512 * slot ≡ page + done) ⊎ (512 * slot ≡ page + done → ⊥) → 512 * slot < page + (done + 1) → 512 * slot + 512 ≤ page + (done + 1)
         whole slot b (inl x) lt = let e : (page + done) / 512 ≡ slot = omega arith in absurd (not (rw e b))
@@ -297,19 +296,19 @@ module _ (old now : TableState) (page pages frame done : ℕ) (rights : Rights)
             go (inr x) = omega arith
 
     pub slot_next : (run : ℕ) → 512 * run ≡ frame + done → Becomes old page pages frame ((page + done) / 512) → (page + done) % 512 ≡ 0 →
-        ((other : ℕ) → IsTrue (is_canonical (other * 4096)) → (other / 512 ≡ (page + done) / 512 → ⊥) → leads new other ≡ leads now other) →
+        ChangesOnly (pages_of_slot ((page + done) / 512)) now new →
         IsLargeAdded now.words new.words now.free new.free now.root ((page + done) / 512) run rights →
         missing_of new.words new.root page pages + missing_above now.words now.root ((page + done) / 512) ≡ missing_of now.words now.root page pages →
         IsMappedTo old new page pages frame (done + 512) rights
-    slot_next run frames mine first elsewhere was missing =
+    slot_next run frames mine first only was missing =
         let added : IsLargeAdded now.words new.words now.free new.free old.root ((page + done) / 512) run rights = rw before.place.root at was in
         let to = mine.to in
         record {
-          place = moved;
+          place = same_place old now new before.place only.place;
           within = omega arith;
           mapped = λ k lt. mapped k lt (cases_lt k done);
           elsewhere = λ other canonical out.
-              elsewhere other canonical (λ e. out (other - page) (omega arith) (omega arith))
+              slot_others only other canonical (λ e. out (other - page) (omega arith) (omega arith))
               ∙ before.elsewhere other canonical (λ k lt e. out k (omega arith) e);
           no_table = λ slot b. added.others 3 (slot_of slot) (omega arith) (λ l e. absurd (omega arith)) (λ l e. absurd (omega arith)) ∙ before.no_table slot b;
           tables = λ l n met lt is. added.stayed l n met (omega arith) (before.tables l n met lt is);
@@ -321,19 +320,19 @@ module _ (old now : TableState) (page pages frame done : ℕ) (rights : Rights)
               let c = added.count in
               let d = before.count in
               let m : missing_of new.words old.root page pages + missing_above now.words old.root ((page + done) / 512) ≡ missing_of now.words old.root page pages =
-              rw (place.root ∙ before.place.root, before.place.root) at missing in
+              rw (only.place.root ∙ before.place.root, before.place.root) at missing in
               omega arith;
         }
       where
         mapped : (k : ℕ) → k < done + 512 → (k < done) ⊎ (done ≤ k) → leads new (page + k) ≡ Some (granted (frame + k) rights)
         mapped k lt (inl x) =
             let t = mine.to in
-            elsewhere (page + k) (page_canonical page pages k range (omega arith)) (λ e. omega arith) ∙ before.mapped k x
+            slot_others only (page + k) (page_canonical page pages k range (omega arith)) (λ e. omega arith) ∙ before.mapped k x
         mapped k lt (inr x) =
             let t = was.there (k - done) (omega arith) in
             let p : page + k ≡ 512 * ((page + done) / 512) + (k - done) = omega arith in
             let f : frame + k ≡ 512 * run + (k - done) = omega arith in
-            rw (p, f, place.root) t
+            rw (p, f, only.place.root) t
 
         whole : (slot : ℕ) → Becomes old page pages frame slot → (512 * slot < page + done) ⊎ (page + done ≤ 512 * slot) → 512 * slot < page + (done + 512) → 512 * slot + 512 ≤ page + (done + 512)
         whole slot b (inl x) lt = let w = before.whole slot b x in omega arith
@@ -363,7 +362,7 @@ there_of : (o : Option Place) → (o ≡ None → ⊥) → is_none o ≡ false
 there_of None h = absurd (h refl)
 there_of (Some x) h = refl
 
-pub mapped_free : (old now : TableState) (page pages frame : ℕ) (rights : Rights) → IsCanonicalRange page pages →
+mapped_free : (old now : TableState) (page pages frame : ℕ) (rights : Rights) → IsCanonicalRange page pages →
     ((k : ℕ) → k < pages → leads old (page + k) ≡ None) → IsMappedTo old now page pages frame pages rights →
     free_count now.free + tables_wanted old page pages frame ≡ free_count old.free
 mapped_free old now page pages frame rights range unmapped all =
@@ -406,7 +405,7 @@ mapped_free old now page pages frame rights range unmapped all =
         unmapped_at k lk (walk_reach now.words old.root (page + k) ∙ reach_none now.words old.root (prefix_of (page + k) 4) (rw up none) (rw up small))
     there s k (suc (suc (suc (suc l)))) lk pos lt out none = absurd (omega arith)
 
-pub mapped_large : (old now : TableState) (page pages frame : ℕ) (rights : Rights) → IsCanonicalRange page pages → IsMappedTo old now page pages frame pages rights →
+mapped_large : (old now : TableState) (page pages frame : ℕ) (rights : Rights) → IsCanonicalRange page pages → IsMappedTo old now page pages frame pages rights →
     AreSlotsLarge old now page pages frame rights
 mapped_large old now page pages frame rights range all = λ slot canonical. rw all.place.root (go slot canonical (cases_Bool (becomes_large old page pages frame slot)))
   where
@@ -427,6 +426,14 @@ mapped_large old now page pages frame rights range all = λ slot canonical. rw a
         let large = becomes_is old page pages frame slot (rw o b) in
         let z : true ≡ false = sym large ∙ e in absurd (cc)))
 
--- no table is gone
-pub mapped_tables : (old now : TableState) (page pages frame done : ℕ) (rights : Rights) → IsMappedTo old now page pages frame done rights → DoTablesStay old now
-mapped_tables old now page pages frame done rights all = λ l n met lt is. ap (λ r. reach now.words r l n) all.place.root ∙ all.tables l n met lt is
+-- only pages of the range are changed, and no table is gone
+pub mapped_only : (old now : TableState) (page pages frame : ℕ) (rights : Rights) → IsMappedTo old now page pages frame pages rights → ChangesOnly (pages_of_range page pages) old now
+mapped_only old now page pages frame rights all = range_only page pages all.place (λ l n met lt is. ap (λ r. reach now.words r l n) all.place.root ∙ all.tables l n met lt is) all.elsewhere
+
+pub mapped_range : (old now : TableState) (page pages frame : ℕ) (rights : Rights) → IsCanonicalRange page pages → ((k : ℕ) → k < pages → leads old (page + k) ≡ None) →
+    IsMappedTo old now page pages frame pages rights → IsRangeMapped old now page pages frame rights
+mapped_range old now page pages frame rights range unmapped all = record {
+  mapped = all.mapped;
+  free = mapped_free old now page pages frame rights range unmapped all;
+  large = mapped_large old now page pages frame rights range all;
+}

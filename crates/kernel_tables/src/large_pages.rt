@@ -1,12 +1,12 @@
 //! The calls on large pages: 512 pages in a row that are mapped by one entry, to 512 frames in a row.
-ghost use Rattle.std.specs.Prelude.{◌≡◌, ℕ, ◌+◌, ◌*◌, ◌/◌, ◌<◌, ◌≤◌, ◌^◌, ◌↔◌, None, Some, IsTrue, IsSome, IfSome, OnOk, OnErr, IfErr};
+ghost use Rattle.std.specs.Prelude.{◌≡◌, ◌+◌, ◌*◌, ◌<◌, ◌≤◌, ◌^◌, ◌↔◌, None, Some, IsSome, IfSome, OnOk, OnErr};
 ghost use Rattle.std.specs.Option.{option_map};
-ghost use Rattle.paging_core.specs.Address.{is_canonical};
-ghost use Rattle.paging_core.specs.Large.{slot_of, missing_above, IsLargeAdded, IsLargeCleared};
-ghost use Rattle.paging_core.specs.Walk.{reach, large_of, place_of, granted};
+ghost use Rattle.std.specs.Result.{result_err};
+ghost use Rattle.paging_core.specs.Large.{slot_of, missing_above};
+ghost use Rattle.paging_core.specs.Walk.{reach, large_of, place_of};
+ghost use Rattle.kernel_tables.specs.Changes.{ChangesOnly, IsLargeMapped, IsLargeUnmapped};
 ghost use Rattle.kernel_tables.specs.Faults.{map_large_fault};
 ghost use Rattle.kernel_tables.specs.Flush.{no_page, pages_of_slot, IsFlushEnough};
-ghost use Rattle.kernel_tables.specs.TableState.{leads, IsSamePlace};
 
 use crate::faults::MapFault;
 use crate::tables::Tables;
@@ -69,14 +69,11 @@ impl<'a> Tables<'a> {
         frame: PhysFrame<Size2MiB>,
         rights: Rights,
     ) -> Result<(), MapFault>
-        ensures ok { OnOk result (map_large_fault self.old page frame ≡ None) }
-        ensures err { IfErr result (λ fault. map_large_fault self.old page frame ≡ Some fault) }
+        ensures fault { result_err result ≡ map_large_fault self.old page frame }
         ensures same { OnErr result (self.new ≡ self.old) }
-        ensures place { IsSamePlace self.old self.new }
-        ensures mapped { OnOk result ((k : ℕ) → k < 512 → leads self.new (512 * page + k) ≡ Some (granted (512 * frame + k) rights)) }
-        ensures elsewhere { (other : ℕ) → IsTrue (is_canonical (other * 4096)) → (other / 512 ≡ page → ⊥) → leads self.new other ≡ leads self.old other }
+        ensures only { ChangesOnly (pages_of_slot page) self.old self.new }
         ensures flush { IsFlushEnough self.old self.new no_page }
-        ensures added { OnOk result (IsLargeAdded self.old.words self.new.words self.old.free self.new.free self.old.root page frame rights) }
+        ensures mapped { OnOk result (IsLargeMapped self.old self.new page frame rights) }
     {
         match self.map_large_fault(page, frame) {
             Some(fault) => Err(fault),
@@ -99,13 +96,10 @@ impl<'a> Tables<'a> {
     pub fn unmap_large(&mut self, page: Page<Size2MiB>) -> Option<PhysFrame<Size2MiB>>
         ensures some { IsSome result ↔ IsSome (large_of self.old.words self.old.root (slot_of page)) }
         ensures same { result ≡ None → self.new ≡ self.old }
-        ensures place { IsSamePlace self.old self.new }
-        ensures free { self.new.free ≡ self.old.free }
-        ensures frame { IfSome result (λ frame. IfSome (large_of self.old.words self.old.root (slot_of page)) (λ large. 512 * frame ≡ large.frame)) }
-        ensures unmapped { IsSome result → (k : ℕ) → k < 512 → leads self.new (512 * page + k) ≡ None }
-        ensures elsewhere { (other : ℕ) → IsTrue (is_canonical (other * 4096)) → (other / 512 ≡ page → ⊥) → leads self.new other ≡ leads self.old other }
+        ensures only { ChangesOnly (pages_of_slot page) self.old self.new }
         ensures flush { IsFlushEnough self.old self.new (pages_of_slot page) }
-        ensures cleared { IsSome result → IsLargeCleared self.old.words self.new.words self.old.root page }
+        ensures free { self.new.free ≡ self.old.free }
+        ensures unmapped { IfSome result (λ frame. IsLargeUnmapped self.old self.new page (512 * frame)) }
     {
         if large_page(&self.memory, self.root, page).is_none() {
             return None;

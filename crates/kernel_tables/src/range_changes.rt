@@ -1,16 +1,18 @@
 //! The calls that change ranges of pages that are mapped.
-ghost use Rattle.std.specs.Prelude.{◌≡◌, ℕ, ◌+◌, ◌-◌, ◌*◌, ◌/◌, ◌%◌, ◌^◌, ◌<◌, ◌≤◌, true, false, None, Some, IsTrue, IsFalse, IsSome, IfSome, OnOk, OnErr, IfErr, if◌then◌else◌};
-ghost use Rattle.paging_core.specs.Address.{is_canonical, IsCanonicalRange};
+ghost use Rattle.std.specs.Prelude.{◌≡◌, ℕ, ◌+◌, ◌-◌, ◌*◌, ◌/◌, ◌%◌, ◌^◌, ◌<◌, ◌≤◌, true, false, None, Some, IsTrue, IsFalse, IsSome, IfSome, OnOk, OnErr, if◌then◌else◌};
+ghost use Rattle.std.specs.Result.{result_err};
+ghost use Rattle.paging_core.specs.Address.{IsCanonicalRange};
 ghost use Rattle.paging_core.specs.Large.{slot_of};
 ghost use Rattle.paging_core.specs.LargeChanges.{IsLargeSplit};
 ghost use Rattle.paging_core.specs.PageChanges.{removal, regrant, IsPageChanged};
 ghost use Rattle.paging_core.specs.Pool.{free_count};
 ghost use Rattle.paging_core.specs.Prefix.{prefix_of};
 ghost use Rattle.paging_core.specs.Walk.{reach, large_of, granted};
+ghost use Rattle.kernel_tables.specs.Changes.{ChangesOnly, ChangesNone, IsRangeUnmapped, IsRangeGranted};
 ghost use Rattle.kernel_tables.specs.Faults.{entry_fault, split_of};
-ghost use Rattle.kernel_tables.specs.Flush.{pages_of_range, IsFlushEnough};
+ghost use Rattle.kernel_tables.specs.Flush.{page_alone, pages_of_slot, pages_of_range, IsFlushEnough};
 ghost use Rattle.kernel_tables.specs.Ranges.{is_split, splits, change_range_fault, AreWithin};
-ghost use Rattle.kernel_tables.specs.TableState.{leads, IsSamePlace, DoTablesStay};
+ghost use Rattle.kernel_tables.specs.TableState.{leads};
 
 use crate::range_checks::slot_at;
 use crate::range_fault::RangeFault;
@@ -25,9 +27,7 @@ impl<'a> Tables<'a> {
     fn split_slot(&mut self, slot: Page<Size2MiB>)
         requires large { IsSome (large_of self.old.words self.old.root (slot_of slot)) }
         requires room { 0 < free_count self.old.free }
-        ensures place { IsSamePlace self.old self.new }
-        ensures tables { DoTablesStay self.old self.new }
-        ensures walks { (other : ℕ) → leads self.new other ≡ leads self.old other }
+        ensures none { ChangesNone self.old self.new }
         ensures split { IsLargeSplit self.old.words self.new.words self.old.free self.new.free self.old.root slot }
     {
         split_large(&mut self.memory, &mut self.free, self.root, slot);
@@ -38,9 +38,7 @@ impl<'a> Tables<'a> {
     fn split_beside(&mut self, at: Page, page: Page, pages: u64)
         requires range { IsCanonicalRange page pages }
         requires room { is_split self.old page pages (at / 512) ≡ true → 0 < free_count self.old.free }
-        ensures place { IsSamePlace self.old self.new }
-        ensures tables { DoTablesStay self.old self.new }
-        ensures walks { (other : ℕ) → leads self.new other ≡ leads self.old other }
+        ensures none { ChangesNone self.old self.new }
         ensures free { free_count self.new.free + (if is_split self.old page pages (at / 512) then 1 else 0) ≡ free_count self.old.free }
         ensures larges { (n : ℕ) → (n ≡ slot_of (at / 512) → ⊥) → large_of self.new.words self.new.root n ≡ large_of self.old.words self.old.root n }
         ensures whole { is_split self.new page pages (at / 512) ≡ false }
@@ -55,9 +53,7 @@ impl<'a> Tables<'a> {
     fn split_ends(&mut self, page: Page, pages: u64)
         requires range { IsCanonicalRange page pages }
         requires room { splits self.old page pages ≤ free_count self.old.free }
-        ensures place { IsSamePlace self.old self.new }
-        ensures tables { DoTablesStay self.old self.new }
-        ensures walks { (other : ℕ) → leads self.new other ≡ leads self.old other }
+        ensures none { ChangesNone self.old self.new }
         ensures free { free_count self.new.free + splits self.old page pages ≡ free_count self.old.free }
         ensures within { AreWithin self.new page pages }
     {
@@ -69,9 +65,7 @@ impl<'a> Tables<'a> {
     /// Gives the page, which is mapped, an entry of its own: splits the large page of which it is part. Each page leads where it led.
     pub(crate) fn own_entry(&mut self, page: Page)
         requires { entry_fault self.old page ≡ None }
-        ensures place { IsSamePlace self.old self.new }
-        ensures tables { DoTablesStay self.old self.new }
-        ensures walks { (other : ℕ) → leads self.new other ≡ leads self.old other }
+        ensures none { ChangesNone self.old self.new }
         ensures free { free_count self.new.free + split_of self.old page ≡ free_count self.old.free }
         ensures small { IsSome (reach self.new.words self.new.root 3 (prefix_of page 3)) }
         ensures same { split_of self.old page ≡ 0 → self.new ≡ self.old }
@@ -87,10 +81,8 @@ impl<'a> Tables<'a> {
     pub(crate) fn clear_page(&mut self, page: Page) -> PhysFrame
         requires mapped { IsSome (leads self.old page) }
         requires small { IsSome (reach self.old.words self.old.root 3 (prefix_of page 3)) }
-        ensures place { IsSamePlace self.old self.new }
-        ensures tables { DoTablesStay self.old self.new }
+        ensures only { ChangesOnly (page_alone page) self.old self.new }
         ensures free { self.new.free ≡ self.old.free }
-        ensures elsewhere { (other : ℕ) → IsTrue (is_canonical (other * 4096)) → (other ≡ page → ⊥) → leads self.new other ≡ leads self.old other }
         ensures unmapped { leads self.new page ≡ None }
         ensures frame { IfSome (leads self.old page) (λ was. result ≡ was.frame) }
         ensures removed { IsPageChanged self.old.words self.new.words self.old.root page removal }
@@ -106,10 +98,8 @@ impl<'a> Tables<'a> {
         ensures some { IsSome result → IsSome (leads self.old page) × (large_of self.old.words self.old.root (slot_of (page / 512)) ≡ None) }
         ensures none { result ≡ None → IsSome (leads self.old page) → IsSome (large_of self.old.words self.old.root (slot_of (page / 512))) }
         ensures same { result ≡ None → self.new ≡ self.old }
-        ensures place { IsSamePlace self.old self.new }
-        ensures tables { DoTablesStay self.old self.new }
+        ensures only { ChangesOnly (page_alone page) self.old self.new }
         ensures free { self.new.free ≡ self.old.free }
-        ensures elsewhere { (other : ℕ) → IsTrue (is_canonical (other * 4096)) → (other ≡ page → ⊥) → leads self.new other ≡ leads self.old other }
         ensures unmapped { IsSome result → leads self.new page ≡ None }
         ensures frame { IfSome result (λ frame. IfSome (leads self.old page) (λ was. frame ≡ was.frame)) }
         ensures removed { IsSome result → IsPageChanged self.old.words self.new.words self.old.root page removal }
@@ -135,10 +125,8 @@ impl<'a> Tables<'a> {
         ensures some { IsTrue result → IsSome (leads self.old page) × (large_of self.old.words self.old.root (slot_of (page / 512)) ≡ None) }
         ensures none { IsFalse result → IsSome (leads self.old page) → IsSome (large_of self.old.words self.old.root (slot_of (page / 512))) }
         ensures same { IsFalse result → self.new ≡ self.old }
-        ensures place { IsSamePlace self.old self.new }
-        ensures tables { DoTablesStay self.old self.new }
+        ensures only { ChangesOnly (page_alone page) self.old self.new }
         ensures free { self.new.free ≡ self.old.free }
-        ensures elsewhere { (other : ℕ) → IsTrue (is_canonical (other * 4096)) → (other ≡ page → ⊥) → leads self.new other ≡ leads self.old other }
         ensures granted { IsTrue result → IfSome (leads self.old page) (λ was. leads self.new page ≡ Some (granted was.frame rights)) }
         ensures changed { IsTrue result → IsPageChanged self.old.words self.new.words self.old.root page (regrant rights) }
         ensures larges { (n : ℕ) → large_of self.new.words self.new.root n ≡ large_of self.old.words self.old.root n }
@@ -167,10 +155,8 @@ impl<'a> Tables<'a> {
     /// Unmaps the large page.
     fn clear_slot(&mut self, slot: Page<Size2MiB>)
         requires { IsSome (large_of self.old.words self.old.root (slot_of slot)) }
-        ensures place { IsSamePlace self.old self.new }
-        ensures tables { DoTablesStay self.old self.new }
+        ensures only { ChangesOnly (pages_of_slot slot) self.old self.new }
         ensures free { self.new.free ≡ self.old.free }
-        ensures elsewhere { (other : ℕ) → IsTrue (is_canonical (other * 4096)) → (other / 512 ≡ slot → ⊥) → leads self.new other ≡ leads self.old other }
         ensures unmapped { (k : ℕ) → k < 512 → leads self.new (512 * slot + k) ≡ None }
         ensures larges { (n : ℕ) → (n ≡ slot_of slot → ⊥) → large_of self.new.words self.new.root n ≡ large_of self.old.words self.old.root n }
     {
@@ -181,10 +167,8 @@ impl<'a> Tables<'a> {
     pub(crate) fn grant_page(&mut self, page: Page, rights: Rights)
         requires mapped { IsSome (leads self.old page) }
         requires small { IsSome (reach self.old.words self.old.root 3 (prefix_of page 3)) }
-        ensures place { IsSamePlace self.old self.new }
-        ensures tables { DoTablesStay self.old self.new }
+        ensures only { ChangesOnly (page_alone page) self.old self.new }
         ensures free { self.new.free ≡ self.old.free }
-        ensures elsewhere { (other : ℕ) → IsTrue (is_canonical (other * 4096)) → (other ≡ page → ⊥) → leads self.new other ≡ leads self.old other }
         ensures granted { IfSome (leads self.old page) (λ was. leads self.new page ≡ Some (granted was.frame rights)) }
         ensures changed { IsPageChanged self.old.words self.new.words self.old.root page (regrant rights) }
         ensures larges { (n : ℕ) → large_of self.new.words self.new.root n ≡ large_of self.old.words self.old.root n }
@@ -195,10 +179,8 @@ impl<'a> Tables<'a> {
     /// Gives the pages of the large page these rights.
     fn grant_slot(&mut self, slot: Page<Size2MiB>, rights: Rights)
         requires { IsSome (large_of self.old.words self.old.root (slot_of slot)) }
-        ensures place { IsSamePlace self.old self.new }
-        ensures tables { DoTablesStay self.old self.new }
+        ensures only { ChangesOnly (pages_of_slot slot) self.old self.new }
         ensures free { self.new.free ≡ self.old.free }
-        ensures elsewhere { (other : ℕ) → IsTrue (is_canonical (other * 4096)) → (other / 512 ≡ slot → ⊥) → leads self.new other ≡ leads self.old other }
         ensures granted { (k : ℕ) → k < 512 → IfSome (leads self.old (512 * slot + k)) (λ was. leads self.new (512 * slot + k) ≡ Some (granted was.frame rights)) }
         ensures larges { (n : ℕ) → (n ≡ slot_of slot → ⊥) → large_of self.new.words self.new.root n ≡ large_of self.old.words self.old.root n }
     {
@@ -210,10 +192,8 @@ impl<'a> Tables<'a> {
         requires range { IsCanonicalRange page pages }
         requires mapped { (k : ℕ) → k < pages → IsSome (leads self.old (page + k)) }
         requires within { AreWithin self.old page pages }
-        ensures place { IsSamePlace self.old self.new }
-        ensures tables { DoTablesStay self.old self.new }
+        ensures only { ChangesOnly (pages_of_range page pages) self.old self.new }
         ensures free { self.new.free ≡ self.old.free }
-        ensures elsewhere { (other : ℕ) → IsTrue (is_canonical (other * 4096)) → ((k : ℕ) → k < pages → other ≡ page + k → ⊥) → leads self.new other ≡ leads self.old other }
         ensures unmapped { (k : ℕ) → k < pages → leads self.new (page + k) ≡ None }
     {
         let mut done = 0;
@@ -233,10 +213,8 @@ impl<'a> Tables<'a> {
         requires range { IsCanonicalRange page pages }
         requires mapped { (k : ℕ) → k < pages → IsSome (leads self.old (page + k)) }
         requires within { AreWithin self.old page pages }
-        ensures place { IsSamePlace self.old self.new }
-        ensures tables { DoTablesStay self.old self.new }
+        ensures only { ChangesOnly (pages_of_range page pages) self.old self.new }
         ensures free { self.new.free ≡ self.old.free }
-        ensures elsewhere { (other : ℕ) → IsTrue (is_canonical (other * 4096)) → ((k : ℕ) → k < pages → other ≡ page + k → ⊥) → leads self.new other ≡ leads self.old other }
         ensures granted { (k : ℕ) → k < pages → IfSome (leads self.old (page + k)) (λ was. leads self.new (page + k) ≡ Some (granted was.frame rights)) }
     {
         let mut done = 0;
@@ -255,15 +233,11 @@ impl<'a> Tables<'a> {
     /// entry; one that reaches over an end of the range is split in a frame of the area. The other tables stay. The
     /// pages of the range are to be flushed before their frames have another use.
     pub fn unmap_range(&mut self, page: Page, pages: u64) -> Result<(), RangeFault>
-        ensures ok { OnOk result (change_range_fault self.old page pages ≡ None) }
-        ensures err { IfErr result (λ fault. change_range_fault self.old page pages ≡ Some fault) }
+        ensures fault { result_err result ≡ change_range_fault self.old page pages }
         ensures same { OnErr result (self.new ≡ self.old) }
-        ensures place { IsSamePlace self.old self.new }
-        ensures tables { DoTablesStay self.old self.new }
-        ensures unmapped { OnOk result ((k : ℕ) → k < pages → leads self.new (page + k) ≡ None) }
-        ensures elsewhere { (other : ℕ) → IsTrue (is_canonical (other * 4096)) → ((k : ℕ) → k < pages → other ≡ page + k → ⊥) → leads self.new other ≡ leads self.old other }
+        ensures only { ChangesOnly (pages_of_range page pages) self.old self.new }
         ensures flush { IsFlushEnough self.old self.new (pages_of_range page pages) }
-        ensures free { OnOk result (free_count self.new.free + splits self.old page pages ≡ free_count self.old.free) }
+        ensures unmapped { OnOk result (IsRangeUnmapped self.old self.new page pages) }
     {
         if pages == 0 {
             return Ok(());
@@ -287,15 +261,11 @@ impl<'a> Tables<'a> {
         pages: u64,
         rights: Rights,
     ) -> Result<(), RangeFault>
-        ensures ok { OnOk result (change_range_fault self.old page pages ≡ None) }
-        ensures err { IfErr result (λ fault. change_range_fault self.old page pages ≡ Some fault) }
+        ensures fault { result_err result ≡ change_range_fault self.old page pages }
         ensures same { OnErr result (self.new ≡ self.old) }
-        ensures place { IsSamePlace self.old self.new }
-        ensures tables { DoTablesStay self.old self.new }
-        ensures granted { OnOk result ((k : ℕ) → k < pages → IfSome (leads self.old (page + k)) (λ was. leads self.new (page + k) ≡ Some (granted was.frame rights))) }
-        ensures elsewhere { (other : ℕ) → IsTrue (is_canonical (other * 4096)) → ((k : ℕ) → k < pages → other ≡ page + k → ⊥) → leads self.new other ≡ leads self.old other }
+        ensures only { ChangesOnly (pages_of_range page pages) self.old self.new }
         ensures flush { IsFlushEnough self.old self.new (pages_of_range page pages) }
-        ensures free { OnOk result (free_count self.new.free + splits self.old page pages ≡ free_count self.old.free) }
+        ensures granted { OnOk result (IsRangeGranted self.old self.new page pages rights) }
     {
         if pages == 0 {
             return Ok(());

@@ -1,15 +1,17 @@
 //! The calls on ranges of pages.
-ghost use Rattle.std.specs.Prelude.{◌≡◌, ℕ, ◌+◌, ◌*◌, ◌/◌, ◌%◌, ◌^◌, ◌<◌, ◌≤◌, false, None, Some, IsTrue, OnOk, OnErr, IfErr, ◌&&◌, ◌==◌, nat_le, is_none};
-ghost use Rattle.paging_core.specs.Address.{is_canonical, IsCanonicalRange};
+ghost use Rattle.std.specs.Prelude.{◌≡◌, ℕ, ◌+◌, ◌*◌, ◌/◌, ◌%◌, ◌^◌, ◌<◌, ◌≤◌, false, None, Some, OnOk, OnErr, ◌&&◌, ◌==◌, nat_le, is_none};
+ghost use Rattle.std.specs.Result.{result_err};
+ghost use Rattle.paging_core.specs.Address.{IsCanonicalRange};
 ghost use Rattle.paging_core.specs.Area.{in_area, area_meets};
 ghost use Rattle.paging_core.specs.Large.{slot_of, missing_above, IsSlotEmpty, IsLargeAdded};
 ghost use Rattle.paging_core.specs.Mapping.{IsPageAdded};
 ghost use Rattle.paging_core.specs.Missing.{missing_of};
 ghost use Rattle.paging_core.specs.Pool.{free_count};
-ghost use Rattle.paging_core.specs.Walk.{reach, granted};
-ghost use Rattle.kernel_tables.specs.Flush.{no_page, IsFlushEnough};
-ghost use Rattle.kernel_tables.specs.Ranges.{tables_wanted, map_range_fault, AreSlotsLarge};
-ghost use Rattle.kernel_tables.specs.TableState.{leads, limit_of, IsSamePlace, DoTablesStay};
+ghost use Rattle.paging_core.specs.Walk.{reach};
+ghost use Rattle.kernel_tables.specs.Changes.{ChangesOnly, IsRangeMapped};
+ghost use Rattle.kernel_tables.specs.Flush.{no_page, page_alone, pages_of_slot, pages_of_range, IsFlushEnough};
+ghost use Rattle.kernel_tables.specs.Ranges.{tables_wanted, map_range_fault};
+ghost use Rattle.kernel_tables.specs.TableState.{leads, limit_of};
 
 use crate::range_checks::slot_at;
 use crate::range_fault::RangeFault;
@@ -25,9 +27,7 @@ impl<'a> Tables<'a> {
         requires below { frame < limit_of self.old }
         requires outside { in_area self.old.area frame ≡ false }
         requires room { missing_of self.old.words self.old.root page 1 ≤ free_count self.old.free }
-        ensures place { IsSamePlace self.old self.new }
-        ensures tables { DoTablesStay self.old self.new }
-        ensures elsewhere { (other : ℕ) → IsTrue (is_canonical (other * 4096)) → (other ≡ page → ⊥) → leads self.new other ≡ leads self.old other }
+        ensures only { ChangesOnly (page_alone page) self.old self.new }
         ensures added { IsPageAdded self.old.words self.new.words self.old.free self.new.free self.old.root page frame rights }
         ensures missing { (first pages : ℕ) → IsCanonicalRange first pages → first ≤ page → page < first + pages →
             missing_of self.new.words self.new.root first pages + missing_of self.old.words self.old.root page 1 ≡ missing_of self.old.words self.old.root first pages }
@@ -63,9 +63,7 @@ impl<'a> Tables<'a> {
         requires below { 512 * frame + 511 < limit_of self.old }
         requires outside { area_meets self.old.area (512 * frame) 512 ≡ false }
         requires room { missing_above self.old.words self.old.root page ≤ free_count self.old.free }
-        ensures place { IsSamePlace self.old self.new }
-        ensures tables { DoTablesStay self.old self.new }
-        ensures elsewhere { (other : ℕ) → IsTrue (is_canonical (other * 4096)) → (other / 512 ≡ page → ⊥) → leads self.new other ≡ leads self.old other }
+        ensures only { ChangesOnly (pages_of_slot page) self.old self.new }
         ensures added { IsLargeAdded self.old.words self.new.words self.old.free self.new.free self.old.root page frame rights }
         ensures missing { (first pages : ℕ) → IsCanonicalRange first pages → first ≤ 512 * page → 512 * page + 512 ≤ first + pages →
             missing_of self.new.words self.new.root first pages + missing_above self.old.words self.old.root page ≡ missing_of self.old.words self.old.root first pages }
@@ -99,12 +97,8 @@ impl<'a> Tables<'a> {
         requires fits { frame + pages ≤ 2 ^ 40 }
         requires outside { area_meets self.old.area frame pages ≡ false }
         requires room { tables_wanted self.old page pages frame ≤ free_count self.old.free }
-        ensures place { IsSamePlace self.old self.new }
-        ensures tables { DoTablesStay self.old self.new }
-        ensures mapped { (k : ℕ) → k < pages → leads self.new (page + k) ≡ Some (granted (frame + k) rights) }
-        ensures elsewhere { (other : ℕ) → IsTrue (is_canonical (other * 4096)) → ((k : ℕ) → k < pages → other ≡ page + k → ⊥) → leads self.new other ≡ leads self.old other }
-        ensures free { free_count self.new.free + tables_wanted self.old page pages frame ≡ free_count self.old.free }
-        ensures large { AreSlotsLarge self.old self.new page pages frame rights }
+        ensures only { ChangesOnly (pages_of_range page pages) self.old self.new }
+        ensures mapped { IsRangeMapped self.old self.new page pages frame rights }
     {
         let mut done = 0;
         while done < pages {
@@ -131,16 +125,11 @@ impl<'a> Tables<'a> {
         frame: PhysFrame,
         rights: Rights,
     ) -> Result<(), RangeFault>
-        ensures ok { OnOk result (map_range_fault self.old page pages frame ≡ None) }
-        ensures err { IfErr result (λ fault. map_range_fault self.old page pages frame ≡ Some fault) }
+        ensures fault { result_err result ≡ map_range_fault self.old page pages frame }
         ensures same { OnErr result (self.new ≡ self.old) }
-        ensures place { IsSamePlace self.old self.new }
-        ensures tables { DoTablesStay self.old self.new }
-        ensures mapped { OnOk result ((k : ℕ) → k < pages → leads self.new (page + k) ≡ Some (granted (frame + k) rights)) }
-        ensures elsewhere { (other : ℕ) → IsTrue (is_canonical (other * 4096)) → ((k : ℕ) → k < pages → other ≡ page + k → ⊥) → leads self.new other ≡ leads self.old other }
+        ensures only { ChangesOnly (pages_of_range page pages) self.old self.new }
         ensures flush { IsFlushEnough self.old self.new no_page }
-        ensures free { OnOk result (free_count self.new.free + tables_wanted self.old page pages frame ≡ free_count self.old.free) }
-        ensures large { OnOk result (AreSlotsLarge self.old self.new page pages frame rights) }
+        ensures mapped { OnOk result (IsRangeMapped self.old self.new page pages frame rights) }
     {
         if pages == 0 {
             return Ok(());

@@ -1,15 +1,15 @@
-ghost use Rattle.std.specs.Prelude.{◌≡◌, ℕ, ◌+◌, ◌*◌, ◌/◌, ◌%◌, ◌<◌, ◌≤◌, ◌^◌, ◌↔◌, Bool, true, false, None, Some, IsTrue, IsSome, IfSome, OnOk, OnErr, IfOk, IfErr, length};
+ghost use Rattle.std.specs.Prelude.{◌≡◌, ℕ, ◌+◌, ◌*◌, ◌/◌, ◌%◌, ◌<◌, ◌≤◌, ◌^◌, ◌↔◌, Bool, true, false, None, Some, IsTrue, IsSome, IfSome, OnOk, OnErr, IfOk, length};
 ghost use Rattle.std.specs.Option.{option_map};
+ghost use Rattle.std.specs.Result.{result_err};
 ghost use Rattle.paging_core.specs.Address.{is_canonical};
 ghost use Rattle.paging_core.specs.Area.{Part};
-ghost use Rattle.paging_core.specs.Mapping.{IsPageAdded};
 ghost use Rattle.paging_core.specs.Missing.{missing_of};
-ghost use Rattle.paging_core.specs.PageChanges.{removal, regrant, IsPageChanged};
 ghost use Rattle.paging_core.specs.Pool.{free_count};
-ghost use Rattle.paging_core.specs.Walk.{place_of, granted};
+ghost use Rattle.paging_core.specs.Walk.{place_of};
+ghost use Rattle.kernel_tables.specs.Changes.{ChangesOnly, IsPageMapped, IsPageUnmapped, IsPageGranted};
 ghost use Rattle.kernel_tables.specs.Faults.{map_fault, entry_fault, split_of};
 ghost use Rattle.kernel_tables.specs.Flush.{no_page, page_alone, IsFlushEnough};
-ghost use Rattle.kernel_tables.specs.TableState.{leads, limit_of, IsSamePlace, DoTablesStay, IsWalkedAlike};
+ghost use Rattle.kernel_tables.specs.TableState.{leads, limit_of, IsWalkedAlike};
 
 use crate::faults::{EntryFault, MapFault};
 use crate::range_checks::slot_at;
@@ -111,14 +111,11 @@ impl<'a> Tables<'a> {
     /// Maps the page to the frame with the rights, and makes the tables that it misses. No entry that was present changes,
     /// so no flush is needed.
     pub fn map(&mut self, page: Page, frame: PhysFrame, rights: Rights) -> Result<(), MapFault>
-        ensures ok { OnOk result (map_fault self.old page frame ≡ None) }
-        ensures err { IfErr result (λ fault. map_fault self.old page frame ≡ Some fault) }
+        ensures fault { result_err result ≡ map_fault self.old page frame }
         ensures same { OnErr result (self.new ≡ self.old) }
-        ensures place { IsSamePlace self.old self.new }
-        ensures mapped { OnOk result (leads self.new page ≡ Some (granted frame rights)) }
-        ensures elsewhere { (other : ℕ) → IsTrue (is_canonical (other * 4096)) → (other ≡ page → ⊥) → leads self.new other ≡ leads self.old other }
+        ensures only { ChangesOnly (page_alone page) self.old self.new }
         ensures flush { IsFlushEnough self.old self.new no_page }
-        ensures added { OnOk result (IsPageAdded self.old.words self.new.words self.old.free self.new.free self.old.root page frame rights) }
+        ensures mapped { OnOk result (IsPageMapped self.old self.new page frame rights) }
     {
         match end_of_walk(&self.memory, self.root, page) {
             WalkEnd::Entry { entry, page: None } => match self.map_fault(page, 0, frame) {
@@ -180,17 +177,11 @@ impl<'a> Tables<'a> {
 
     /// Does what `unmap` does, for any page.
     fn unmap_any(&mut self, page: Page) -> Result<PhysFrame, EntryFault>
-        ensures ok { OnOk result (entry_fault self.old page ≡ None) }
-        ensures err { IfErr result (λ fault. entry_fault self.old page ≡ Some fault) }
+        ensures fault { result_err result ≡ entry_fault self.old page }
         ensures same { OnErr result (self.new ≡ self.old) }
-        ensures place { IsSamePlace self.old self.new }
-        ensures tables { DoTablesStay self.old self.new }
-        ensures free { OnOk result (free_count self.new.free + split_of self.old page ≡ free_count self.old.free) }
-        ensures frame { IfOk result (λ frame. IfSome (leads self.old page) (λ place. frame ≡ place.frame)) }
-        ensures unmapped { OnOk result (leads self.new page ≡ None) }
-        ensures elsewhere { (other : ℕ) → IsTrue (is_canonical (other * 4096)) → (other ≡ page → ⊥) → leads self.new other ≡ leads self.old other }
+        ensures only { ChangesOnly (page_alone page) self.old self.new }
         ensures flush { IsFlushEnough self.old self.new (page_alone page) }
-        ensures removed { OnOk result (split_of self.old page ≡ 0 → IsPageChanged self.old.words self.new.words self.old.root page removal) }
+        ensures unmapped { IfOk result (λ frame. IsPageUnmapped self.old self.new page frame) }
     {
         match self.entry_fault(page) {
             Some(fault) => Err(fault),
@@ -204,17 +195,11 @@ impl<'a> Tables<'a> {
     /// Ends the mapping of the page, and answers the frame to which it led. A large page of which it is part is split in a frame
     /// of the area. The other tables stay. The page is to be flushed before its frame has another use.
     pub fn unmap(&mut self, page: Page) -> Result<PhysFrame, EntryFault>
-        ensures ok { OnOk result (entry_fault self.old page ≡ None) }
-        ensures err { IfErr result (λ fault. entry_fault self.old page ≡ Some fault) }
+        ensures fault { result_err result ≡ entry_fault self.old page }
         ensures same { OnErr result (self.new ≡ self.old) }
-        ensures place { IsSamePlace self.old self.new }
-        ensures tables { DoTablesStay self.old self.new }
-        ensures free { OnOk result (free_count self.new.free + split_of self.old page ≡ free_count self.old.free) }
-        ensures frame { IfOk result (λ frame. IfSome (leads self.old page) (λ place. frame ≡ place.frame)) }
-        ensures unmapped { OnOk result (leads self.new page ≡ None) }
-        ensures elsewhere { (other : ℕ) → IsTrue (is_canonical (other * 4096)) → (other ≡ page → ⊥) → leads self.new other ≡ leads self.old other }
+        ensures only { ChangesOnly (page_alone page) self.old self.new }
         ensures flush { IsFlushEnough self.old self.new (page_alone page) }
-        ensures removed { OnOk result (split_of self.old page ≡ 0 → IsPageChanged self.old.words self.new.words self.old.root page removal) }
+        ensures unmapped { IfOk result (λ frame. IsPageUnmapped self.old self.new page frame) }
     {
         match self.clear_entry(page) {
             Some(frame) => Ok(frame),
@@ -224,16 +209,11 @@ impl<'a> Tables<'a> {
 
     /// Does what `protect` does, for any page.
     fn protect_any(&mut self, page: Page, rights: Rights) -> Result<(), EntryFault>
-        ensures ok { OnOk result (entry_fault self.old page ≡ None) }
-        ensures err { IfErr result (λ fault. entry_fault self.old page ≡ Some fault) }
+        ensures fault { result_err result ≡ entry_fault self.old page }
         ensures same { OnErr result (self.new ≡ self.old) }
-        ensures place { IsSamePlace self.old self.new }
-        ensures tables { DoTablesStay self.old self.new }
-        ensures free { OnOk result (free_count self.new.free + split_of self.old page ≡ free_count self.old.free) }
-        ensures granted { OnOk result (IfSome (leads self.old page) (λ place. leads self.new page ≡ Some (granted place.frame rights))) }
-        ensures elsewhere { (other : ℕ) → IsTrue (is_canonical (other * 4096)) → (other ≡ page → ⊥) → leads self.new other ≡ leads self.old other }
+        ensures only { ChangesOnly (page_alone page) self.old self.new }
         ensures flush { IsFlushEnough self.old self.new (page_alone page) }
-        ensures changed { OnOk result (split_of self.old page ≡ 0 → IsPageChanged self.old.words self.new.words self.old.root page (regrant rights)) }
+        ensures granted { OnOk result (IsPageGranted self.old self.new page rights) }
     {
         match self.entry_fault(page) {
             Some(fault) => Err(fault),
@@ -248,16 +228,11 @@ impl<'a> Tables<'a> {
     /// Gives the page these rights. It keeps its frame. A large page of which it is part is split in a frame of the area. The page
     /// is to be flushed.
     pub fn protect(&mut self, page: Page, rights: Rights) -> Result<(), EntryFault>
-        ensures ok { OnOk result (entry_fault self.old page ≡ None) }
-        ensures err { IfErr result (λ fault. entry_fault self.old page ≡ Some fault) }
+        ensures fault { result_err result ≡ entry_fault self.old page }
         ensures same { OnErr result (self.new ≡ self.old) }
-        ensures place { IsSamePlace self.old self.new }
-        ensures tables { DoTablesStay self.old self.new }
-        ensures free { OnOk result (free_count self.new.free + split_of self.old page ≡ free_count self.old.free) }
-        ensures granted { OnOk result (IfSome (leads self.old page) (λ place. leads self.new page ≡ Some (granted place.frame rights))) }
-        ensures elsewhere { (other : ℕ) → IsTrue (is_canonical (other * 4096)) → (other ≡ page → ⊥) → leads self.new other ≡ leads self.old other }
+        ensures only { ChangesOnly (page_alone page) self.old self.new }
         ensures flush { IsFlushEnough self.old self.new (page_alone page) }
-        ensures changed { OnOk result (split_of self.old page ≡ 0 → IsPageChanged self.old.words self.new.words self.old.root page (regrant rights)) }
+        ensures granted { OnOk result (IsPageGranted self.old self.new page rights) }
     {
         if self.grant_entry(page, rights) {
             return Ok(());

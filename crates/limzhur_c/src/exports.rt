@@ -1,17 +1,16 @@
 // What a C program calls of a heap that it began.
 ghost use Rattle.std.specs.Prelude.{◌≡◌, ◌≢◌, ◌↔◌, ◌+◌, ◌*◌, true, false, if◌then◌else◌, IsTrue};
-ghost use Rattle.std.specs.Int.{IsPowerOfTwo};
 ghost use Rattle.dlmalloc.specs.State.{countdown_from};
 ghost use Rattle.dlmalloc.specs.Heap.{IsGranularity};
 ghost use Rattle.dlmalloc.specs.Blocks.{BlocksAreApart};
-ghost use Rattle.dlmalloc.specs.Requested.{IsHandedOut, IsServedAt, IsMemberServed};
+ghost use Rattle.dlmalloc.specs.Requested.{IsServedAt};
 ghost use Rattle.dlmalloc.specs.Written.{IsServedCleared};
-ghost use Rattle.dlmalloc.specs.Moved.{IsGivenSize, IsResized};
 ghost use Rattle.dlmalloc.specs.AfterFree.{IsFreed};
 ghost use Rattle.dlmalloc.specs.Shortened.{IsTrimmed};
 ghost use Rattle.dlmalloc.specs.Order.{KeepsIndex};
 ghost use Rattle.heap_arena.specs.Arena.{regions_of, word_of, IsAbove};
 ghost use Rattle.sound_heap.specs.declared.heap_error.HeapError.{HeapError};
+ghost use Rattle.heap_library.specs.Calls.{IsBlockGiven, IsBlockResized};
 ghost use Rattle.heap_library.specs.Counted.{HasBlocks};
 ghost use Rattle.heap_library.specs.Library.{IsResizeRefused};
 ghost use Rattle.sound_heap.specs.Heap.{HasBlock, AreZero, usable, IsRequestRefused};
@@ -23,10 +22,8 @@ use crate::handle::Handle;
 /// The address of a block of `size` bytes at a multiple of `align`; 0 if it is refused.
 #[unsafe(no_mangle)]
 pub extern "C" fn limzhur_malloc(handle: &mut Handle, size: u64, align: u64) -> u64
-    ensures ok { result ≢ 0 → IsHandedOut regions_of word_of follows handle.old.heap size align result handle.new.heap }
+    ensures ok { result ≢ 0 → IsBlockGiven handle.old.heap size align result handle.new.heap }
     ensures served { result ≢ 0 → IsServedAt regions_of word_of zeros follows handle.old.heap size align result handle.new.heap }
-    ensures member { result ≢ 0 → IsMemberServed regions_of word_of handle.old.heap size align result }
-    ensures power { result ≢ 0 → IsPowerOfTwo align }
     ensures err { result ≡ 0 → (error : HeapError) × IsRequestRefused regions_of word_of follows refuses denies handle.old.heap size align error handle.new.heap }
     ensures refused { (result ≡ 0) ↔ IsRefused handle.old.heap size align }
     ensures apart { BlocksAreApart (heap_state handle.new.heap) }
@@ -40,11 +37,9 @@ pub extern "C" fn limzhur_malloc(handle: &mut Handle, size: u64, align: u64) -> 
 /// The address of a block of `size` bytes of value 0 at a multiple of `align`; 0 if it is refused.
 #[unsafe(no_mangle)]
 pub extern "C" fn limzhur_calloc(handle: &mut Handle, size: u64, align: u64) -> u64
-    ensures ok { result ≢ 0 → IsHandedOut regions_of word_of follows handle.old.heap size align result handle.new.heap }
+    ensures ok { result ≢ 0 → IsBlockGiven handle.old.heap size align result handle.new.heap }
     ensures served { result ≢ 0 → IsServedCleared regions_of word_of zeros follows handle.old.heap size align result handle.new.heap }
-    ensures member { result ≢ 0 → IsMemberServed regions_of word_of handle.old.heap size align result }
     ensures zeros { result ≢ 0 → AreZero (word_of handle.new.heap.system) result size }
-    ensures power { result ≢ 0 → IsPowerOfTwo align }
     ensures err { result ≡ 0 → (error : HeapError) × IsRequestRefused regions_of word_of follows refuses denies handle.old.heap size align error handle.new.heap }
     ensures refused { (result ≡ 0) ↔ IsRefused handle.old.heap size align }
     ensures apart { BlocksAreApart (heap_state handle.new.heap) }
@@ -59,10 +54,7 @@ pub extern "C" fn limzhur_calloc(handle: &mut Handle, size: u64, align: u64) -> 
 /// begins at the address, or the size is refused; nothing then changes.
 #[unsafe(no_mangle)]
 pub extern "C" fn limzhur_realloc(handle: &mut Handle, address: u64, size: u64) -> u64
-    ensures block { result ≢ 0 → HasBlock (heap_state handle.old.heap) address }
-    ensures resized { result ≢ 0 → IsResized regions_of word_of zeros follows true true 1 handle.old.heap address (usable (heap_state handle.old.heap) address) 16 size result handle.new.heap }
-    ensures ok { result ≢ 0 → IsGivenSize regions_of word_of follows true true 1 handle.old.heap address (usable (heap_state handle.old.heap) address) 16 size result handle.new.heap }
-    ensures member { result ≢ 0 → result ≢ address → IsMemberServed regions_of word_of handle.old.heap size 16 result }
+    ensures ok { result ≢ 0 → IsBlockResized handle.old.heap address size result handle.new.heap }
     ensures err { result ≡ 0 → (error : HeapError) × IsResizeRefused regions_of word_of follows refuses denies handle.old.heap address size error handle.new.heap }
     ensures refused { (result ≡ 0) ↔ IsRefusedResize handle.old.heap address size }
     ensures apart { BlocksAreApart (heap_state handle.new.heap) }

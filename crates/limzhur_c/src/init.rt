@@ -11,7 +11,7 @@ ghost use Rattle.dlmalloc.specs.declared.heap.Dlmalloc.{Dlmalloc};
 ghost use Rattle.heap_arena.specs.declared.arena.Arena.{Arena};
 ghost use Rattle.heap_library.specs.contracts.checked.CheckedHeap.{the_row as heap_row};
 ghost use Rattle.heap_library.specs.Checked.{IsCleared};
-ghost use Rattle.limzhur_c.specs.Begun.{IsBegun};
+ghost use Rattle.heap_library.specs.Begun.{IsBegun};
 ghost use Rattle.std.specs.Mem.{type_size};
 
 use heap_library::CheckedHeap;

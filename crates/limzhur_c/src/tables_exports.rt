@@ -1,13 +1,10 @@
 // What a C program or kernel calls of page tables that it began.
-ghost use Rattle.std.specs.Prelude.{◌≡◌, ◌≢◌, ◌⊎◌, ◌↔◌, ℕ, ◌+◌, ◌*◌, ◌/◌, ◌^◌, ◌<◌, true, false, IsTrue, IfSome, Some, None};
+ghost use Rattle.std.specs.Prelude.{◌≡◌, ◌≢◌, ◌⊎◌, ◌/◌, ◌^◌, true, false, Some, None};
 ghost use Rattle.paging_core.specs.Address.{is_canonical};
 ghost use Rattle.paging_core.specs.Pool.{free_count};
-ghost use Rattle.paging_core.specs.Large.{slot_of, IsLargeAdded, IsLargeCleared};
-ghost use Rattle.paging_core.specs.Mapping.{IsPageAdded};
-ghost use Rattle.paging_core.specs.PageChanges.{removal, regrant, IsPageChanged};
-ghost use Rattle.paging_core.specs.Walk.{granted, large_of};
-ghost use Rattle.kernel_tables.specs.Faults.{split_of};
-ghost use Rattle.kernel_tables.specs.TableState.{leads, IsSamePlace, DoTablesStay, IsWalkedAlike};
+ghost use Rattle.kernel_tables.specs.Changes.{ChangesOnly, IsPageMapped, IsPageUnmapped, IsPageGranted, IsLargeMapped, IsLargeUnmapped};
+ghost use Rattle.kernel_tables.specs.Flush.{page_alone, pages_of_slot};
+ghost use Rattle.kernel_tables.specs.TableState.{leads, IsWalkedAlike};
 ghost use Rattle.limzhur_c.specs.TablesCodes.{map_code, entry_code, map_answer, map_large_answer, unmap_large_answer, entry_answer, place_told};
 
 use crate::tables_handle::TablesHandle;
@@ -110,10 +107,8 @@ pub extern "C" fn limzhur_map(
     fetch: bool,
 ) -> u32
     ensures answer { result ≡ map_answer handle.old.tables address frame }
-    ensures mapped { result ≡ 0 → leads handle.new.tables (address / 4096) ≡ Some (granted frame (record { write = write; user = user; fetch = fetch })) }
-    ensures elsewhere { (other : ℕ) → IsTrue (is_canonical (other * 4096)) → (other ≡ address / 4096 → ⊥) → leads handle.new.tables other ≡ leads handle.old.tables other }
-    ensures added { result ≡ 0 → IsPageAdded handle.old.tables.words handle.new.tables.words handle.old.tables.free handle.new.tables.free handle.old.tables.root (address / 4096) frame (record { write = write; user = user; fetch = fetch }) }
-    ensures place { IsSamePlace handle.old.tables handle.new.tables }
+    ensures mapped { result ≡ 0 → IsPageMapped handle.old.tables handle.new.tables (address / 4096) frame (record { write = write; user = user; fetch = fetch }) }
+    ensures only { ChangesOnly (page_alone (address / 4096)) handle.old.tables handle.new.tables }
     ensures same { result ≢ 0 → handle.new.tables ≡ handle.old.tables }
 {
     let Ok(address) = VirtAddr::try_new(address) else {
@@ -138,13 +133,8 @@ pub extern "C" fn limzhur_map(
 #[unsafe(no_mangle)]
 pub extern "C" fn limzhur_unmap(handle: &mut TablesHandle, address: u64, frame: &mut u64) -> u32
     ensures answer { result ≡ entry_answer handle.old.tables address }
-    ensures frame { result ≡ 0 → IfSome (leads handle.old.tables (address / 4096)) (λ place. frame.new ≡ place.frame) }
-    ensures unmapped { result ≡ 0 → leads handle.new.tables (address / 4096) ≡ None }
-    ensures elsewhere { (other : ℕ) → IsTrue (is_canonical (other * 4096)) → (other ≡ address / 4096 → ⊥) → leads handle.new.tables other ≡ leads handle.old.tables other }
-    ensures removed { result ≡ 0 → split_of handle.old.tables (address / 4096) ≡ 0 → IsPageChanged handle.old.tables.words handle.new.tables.words handle.old.tables.root (address / 4096) removal }
-    ensures free { result ≡ 0 → free_count handle.new.tables.free + split_of handle.old.tables (address / 4096) ≡ free_count handle.old.tables.free }
-    ensures place { IsSamePlace handle.old.tables handle.new.tables }
-    ensures tables { DoTablesStay handle.old.tables handle.new.tables }
+    ensures unmapped { result ≡ 0 → IsPageUnmapped handle.old.tables handle.new.tables (address / 4096) frame.new }
+    ensures only { ChangesOnly (page_alone (address / 4096)) handle.old.tables handle.new.tables }
     ensures same { result ≢ 0 → (handle.new.tables ≡ handle.old.tables) × (frame.new ≡ frame.old) }
 {
     let Ok(address) = VirtAddr::try_new(address) else {
@@ -170,12 +160,8 @@ pub extern "C" fn limzhur_protect(
     fetch: bool,
 ) -> u32
     ensures answer { result ≡ entry_answer handle.old.tables address }
-    ensures granted { result ≡ 0 → IfSome (leads handle.old.tables (address / 4096)) (λ place. leads handle.new.tables (address / 4096) ≡ Some (granted place.frame (record { write = write; user = user; fetch = fetch }))) }
-    ensures elsewhere { (other : ℕ) → IsTrue (is_canonical (other * 4096)) → (other ≡ address / 4096 → ⊥) → leads handle.new.tables other ≡ leads handle.old.tables other }
-    ensures changed { result ≡ 0 → split_of handle.old.tables (address / 4096) ≡ 0 → IsPageChanged handle.old.tables.words handle.new.tables.words handle.old.tables.root (address / 4096) (regrant (record { write = write; user = user; fetch = fetch })) }
-    ensures free { result ≡ 0 → free_count handle.new.tables.free + split_of handle.old.tables (address / 4096) ≡ free_count handle.old.tables.free }
-    ensures place { IsSamePlace handle.old.tables handle.new.tables }
-    ensures tables { DoTablesStay handle.old.tables handle.new.tables }
+    ensures granted { result ≡ 0 → IsPageGranted handle.old.tables handle.new.tables (address / 4096) (record { write = write; user = user; fetch = fetch }) }
+    ensures only { ChangesOnly (page_alone (address / 4096)) handle.old.tables handle.new.tables }
     ensures same { result ≢ 0 → handle.new.tables ≡ handle.old.tables }
 {
     let Ok(address) = VirtAddr::try_new(address) else {
@@ -203,10 +189,8 @@ pub extern "C" fn limzhur_map_large(
     fetch: bool,
 ) -> u32
     ensures answer { result ≡ map_large_answer handle.old.tables address frame }
-    ensures mapped { result ≡ 0 → (k : ℕ) → k < 512 → leads handle.new.tables (512 * (address / 2 ^ 21) + k) ≡ Some (granted (512 * (frame / 512) + k) (record { write = write; user = user; fetch = fetch })) }
-    ensures elsewhere { (other : ℕ) → IsTrue (is_canonical (other * 4096)) → (other / 512 ≡ address / 2 ^ 21 → ⊥) → leads handle.new.tables other ≡ leads handle.old.tables other }
-    ensures added { result ≡ 0 → IsLargeAdded handle.old.tables.words handle.new.tables.words handle.old.tables.free handle.new.tables.free handle.old.tables.root (address / 2 ^ 21) (frame / 512) (record { write = write; user = user; fetch = fetch }) }
-    ensures place { IsSamePlace handle.old.tables handle.new.tables }
+    ensures mapped { result ≡ 0 → IsLargeMapped handle.old.tables handle.new.tables (address / 2 ^ 21) (frame / 512) (record { write = write; user = user; fetch = fetch }) }
+    ensures only { ChangesOnly (pages_of_slot (address / 2 ^ 21)) handle.old.tables handle.new.tables }
     ensures same { result ≢ 0 → handle.new.tables ≡ handle.old.tables }
 {
     let Ok(address) = VirtAddr::try_new(address) else {
@@ -239,12 +223,9 @@ pub extern "C" fn limzhur_unmap_large(
     frame: &mut u64,
 ) -> u32
     ensures answer { result ≡ unmap_large_answer handle.old.tables address }
-    ensures frame { result ≡ 0 → IfSome (large_of handle.old.tables.words handle.old.tables.root (slot_of (address / 2 ^ 21))) (λ large. frame.new ≡ large.frame) }
-    ensures unmapped { result ≡ 0 → (k : ℕ) → k < 512 → leads handle.new.tables (512 * (address / 2 ^ 21) + k) ≡ None }
-    ensures elsewhere { (other : ℕ) → IsTrue (is_canonical (other * 4096)) → (other / 512 ≡ address / 2 ^ 21 → ⊥) → leads handle.new.tables other ≡ leads handle.old.tables other }
-    ensures cleared { result ≡ 0 → IsLargeCleared handle.old.tables.words handle.new.tables.words handle.old.tables.root (address / 2 ^ 21) }
+    ensures unmapped { result ≡ 0 → IsLargeUnmapped handle.old.tables handle.new.tables (address / 2 ^ 21) frame.new }
     ensures free { handle.new.tables.free ≡ handle.old.tables.free }
-    ensures place { IsSamePlace handle.old.tables handle.new.tables }
+    ensures only { ChangesOnly (pages_of_slot (address / 2 ^ 21)) handle.old.tables handle.new.tables }
     ensures same { result ≢ 0 → (handle.new.tables ≡ handle.old.tables) × (frame.new ≡ frame.old) }
 {
     let Ok(address) = VirtAddr::try_new(address) else {

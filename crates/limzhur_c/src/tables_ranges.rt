@@ -1,10 +1,7 @@
 // What a C program or kernel calls of ranges of pages.
-ghost use Rattle.std.specs.Prelude.{◌≡◌, ◌≢◌, ℕ, ◌+◌, ◌*◌, ◌/◌, ◌^◌, ◌<◌, IsTrue, IfSome, Some, None};
-ghost use Rattle.paging_core.specs.Address.{is_canonical};
-ghost use Rattle.paging_core.specs.Pool.{free_count};
-ghost use Rattle.paging_core.specs.Walk.{granted};
-ghost use Rattle.kernel_tables.specs.Ranges.{tables_wanted, splits, AreSlotsLarge};
-ghost use Rattle.kernel_tables.specs.TableState.{leads, IsSamePlace, DoTablesStay};
+ghost use Rattle.std.specs.Prelude.{◌≡◌, ◌≢◌, ◌/◌, Some};
+ghost use Rattle.kernel_tables.specs.Changes.{ChangesOnly, IsRangeMapped, IsRangeUnmapped, IsRangeGranted};
+ghost use Rattle.kernel_tables.specs.Flush.{pages_of_range};
 ghost use Rattle.limzhur_c.specs.TablesCodes.{range_code, told_of, map_range_cause, change_range_cause};
 
 use crate::tables_handle::TablesHandle;
@@ -50,12 +47,8 @@ pub extern "C" fn limzhur_map_range(
 ) -> u32
     ensures answer { result ≡ range_code (map_range_cause handle.old.tables address pages frame) }
     ensures told { told.new ≡ told_of (map_range_cause handle.old.tables address pages frame) told.old }
-    ensures mapped { result ≡ 0 → (k : ℕ) → k < pages → leads handle.new.tables (address / 4096 + k) ≡ Some (granted (frame + k) (record { write = write; user = user; fetch = fetch })) }
-    ensures elsewhere { (other : ℕ) → IsTrue (is_canonical (other * 4096)) → ((k : ℕ) → k < pages → other ≡ address / 4096 + k → ⊥) → leads handle.new.tables other ≡ leads handle.old.tables other }
-    ensures free { result ≡ 0 → free_count handle.new.tables.free + tables_wanted handle.old.tables (address / 4096) pages frame ≡ free_count handle.old.tables.free }
-    ensures large { result ≡ 0 → AreSlotsLarge handle.old.tables handle.new.tables (address / 4096) pages frame (record { write = write; user = user; fetch = fetch }) }
-    ensures place { IsSamePlace handle.old.tables handle.new.tables }
-    ensures tables { DoTablesStay handle.old.tables handle.new.tables }
+    ensures mapped { result ≡ 0 → IsRangeMapped handle.old.tables handle.new.tables (address / 4096) pages frame (record { write = write; user = user; fetch = fetch }) }
+    ensures only { ChangesOnly (pages_of_range (address / 4096) pages) handle.old.tables handle.new.tables }
     ensures same { result ≢ 0 → handle.new.tables ≡ handle.old.tables }
 {
     let Ok(address) = VirtAddr::try_new(address) else {
@@ -86,11 +79,8 @@ pub extern "C" fn limzhur_unmap_range(
 ) -> u32
     ensures answer { result ≡ range_code (change_range_cause handle.old.tables address pages) }
     ensures told { told.new ≡ told_of (change_range_cause handle.old.tables address pages) told.old }
-    ensures unmapped { result ≡ 0 → (k : ℕ) → k < pages → leads handle.new.tables (address / 4096 + k) ≡ None }
-    ensures elsewhere { (other : ℕ) → IsTrue (is_canonical (other * 4096)) → ((k : ℕ) → k < pages → other ≡ address / 4096 + k → ⊥) → leads handle.new.tables other ≡ leads handle.old.tables other }
-    ensures free { result ≡ 0 → free_count handle.new.tables.free + splits handle.old.tables (address / 4096) pages ≡ free_count handle.old.tables.free }
-    ensures place { IsSamePlace handle.old.tables handle.new.tables }
-    ensures tables { DoTablesStay handle.old.tables handle.new.tables }
+    ensures unmapped { result ≡ 0 → IsRangeUnmapped handle.old.tables handle.new.tables (address / 4096) pages }
+    ensures only { ChangesOnly (pages_of_range (address / 4096) pages) handle.old.tables handle.new.tables }
     ensures same { result ≢ 0 → handle.new.tables ≡ handle.old.tables }
 {
     let Ok(address) = VirtAddr::try_new(address) else {
@@ -119,11 +109,8 @@ pub extern "C" fn limzhur_protect_range(
 ) -> u32
     ensures answer { result ≡ range_code (change_range_cause handle.old.tables address pages) }
     ensures told { told.new ≡ told_of (change_range_cause handle.old.tables address pages) told.old }
-    ensures granted { result ≡ 0 → (k : ℕ) → k < pages → IfSome (leads handle.old.tables (address / 4096 + k)) (λ place. leads handle.new.tables (address / 4096 + k) ≡ Some (granted place.frame (record { write = write; user = user; fetch = fetch }))) }
-    ensures elsewhere { (other : ℕ) → IsTrue (is_canonical (other * 4096)) → ((k : ℕ) → k < pages → other ≡ address / 4096 + k → ⊥) → leads handle.new.tables other ≡ leads handle.old.tables other }
-    ensures free { result ≡ 0 → free_count handle.new.tables.free + splits handle.old.tables (address / 4096) pages ≡ free_count handle.old.tables.free }
-    ensures place { IsSamePlace handle.old.tables handle.new.tables }
-    ensures tables { DoTablesStay handle.old.tables handle.new.tables }
+    ensures granted { result ≡ 0 → IsRangeGranted handle.old.tables handle.new.tables (address / 4096) pages (record { write = write; user = user; fetch = fetch }) }
+    ensures only { ChangesOnly (pages_of_range (address / 4096) pages) handle.old.tables handle.new.tables }
     ensures same { result ≢ 0 → handle.new.tables ≡ handle.old.tables }
 {
     let Ok(address) = VirtAddr::try_new(address) else {

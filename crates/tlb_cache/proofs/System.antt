@@ -38,6 +38,11 @@ pub map_agrees :
 map_agrees old new region entries (Ok _) joined same agrees = mapped_agrees old new region entries joined agrees
 map_agrees old new region entries (Err _) joined same agrees = subst (λ (p : Paged). Agrees p.words p.root entries) (sym same) agrees
 
+-- two facts of a call that was served
+pub both : {T E A B C : Type 0} (result : Result T E) → (A → B → C) → OnOk result A → OnOk result B → OnOk result C
+both (Ok _) join a b = join a b
+both (Err _) join a b = tt
+
 pub left_agrees : (old new : Paged) (start pages : ℕ) (list : List FlushCommand) (entries : List TlbEntry) → IsLeft old new start pages → Flushes list start pages →
     Agrees old.words old.root entries → Agrees new.words new.root (left_by_all list entries)
 left_agrees old new start pages list [] left flushes agrees = tt

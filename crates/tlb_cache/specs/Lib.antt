@@ -4,3 +4,5 @@ pub mod Pages
 pub mod Chains
 pub mod PageIndex
 pub mod Cached
+pub mod Translation
+pub mod Calls

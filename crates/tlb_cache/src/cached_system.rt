@@ -1,7 +1,7 @@
 ghost use Rattle.std.specs.Prelude.{◌≡◌, ◌+◌, ◌*◌, ◌/◌, ◌%◌, ◌^◌, ◌<◌, ◌≤◌, ◌++◌, true, [], IsTrue, IsFalse, IfOk, IfErr, OnOk, OnErr};
 ghost use Rattle.paging_core.specs.Address.{is_canonical};
-ghost use Rattle.mapped_regions.specs.Mapped.{IsPageRange, CanMap, IsRegionJoined, IsLeft};
-ghost use Rattle.mapped_regions.specs.UserRegions.{user_region, IsMapRefused, CanUnmap};
+ghost use Rattle.mapped_regions.specs.Mapped.{IsPageRange};
+ghost use Rattle.mapped_regions.specs.UserRegions.{IsMapRefused, CanUnmap};
 ghost use Rattle.paging_core.specs.Memory.{frame_count};
 ghost use Rattle.kernel_heap.specs.Config.{IsGoodWindow};
 ghost use Rattle.kernel_heap.specs.Layout.{IsNew};
@@ -47,6 +47,7 @@ pub struct CachedSystem {
 
 impl CachedSystem {
     ghost use Rattle.x86_registers.specs.Cpu.{new_cpu};
+    ghost use Rattle.tlb_cache.specs.Calls.{IsRegionMapped, IsRegionFlushed, IsStillCached};
     ghost use Rattle.tlb_cache.specs.Cached.{cached_cpu};
 
     /// A system with a window of `pages` pages from the address `base` on, and with `frames` frames, of which one holds
@@ -103,14 +104,12 @@ impl CachedSystem {
 
     /// As `PagedSystem::map`. The entries stay, as every page that was mapped does.
     pub fn map(&mut self, start: u64, pages: u64, rights: Rights) -> Result<(), MapFault>
-        ensures ok { OnOk result (IsRegionJoined (paged self.old.system) (paged self.new.system) (user_region start pages rights)) }
-        ensures can { OnOk result (CanMap (paged self.old.system) start pages) }
+        ensures mapped { OnOk result (IsRegionMapped self.old self.new start pages rights) }
         ensures err { OnErr result (paged self.new.system ≡ paged self.old.system) }
         ensures refused { IfErr result (λ fault. IsMapRefused (paged self.old.system) start pages fault) }
         ensures beside { IsBeside (paged self.old.system) (paged self.new.system) }
         ensures tlb { self.new.tlb ≡ self.old.tlb }
-        ensures cpu { self.new.cpu ≡ self.old.cpu }
-        ensures agrees { Agrees (paged self.new.system).words (paged self.new.system).root self.new.tlb.entries }
+        ensures still { IsStillCached self.old self.new }
     {
         self.system.map(start, pages, rights)
     }
@@ -118,17 +117,11 @@ impl CachedSystem {
     /// As `PagedSystem::unmap`, and flushes the pages: it hands out the commands, each of which the cache has obeyed. A
     /// refused call changes nothing, and gives no command.
     pub fn unmap(&mut self, start: u64, pages: u64) -> Result<FlushList, CachedFault>
-        ensures ok { OnOk result (IsLeft (paged self.old.system) (paged self.new.system) start pages) }
-        ensures can { OnOk result (CanUnmap (paged self.old.system) start pages) }
-        ensures err { OnErr result (paged self.new.system ≡ paged self.old.system) }
-        ensures kept { OnErr result (self.new.tlb ≡ self.old.tlb) }
+        ensures unmapped { IfOk result (λ list. IsRegionFlushed self.old self.new start pages list) }
+        ensures same { OnErr result ((paged self.new.system ≡ paged self.old.system) × (self.new.tlb ≡ self.old.tlb)) }
         ensures refused { IfErr result (λ fault. IsCachedRefused (paged self.old.system) start pages fault) }
         ensures beside { IsBeside (paged self.old.system) (paged self.new.system) }
-        ensures commands { IfOk result (λ list. list ≡ flush_of self.old.cpu start pages) }
-        ensures covered { IfOk result (λ list. Flushes list start pages) }
-        ensures flushed { OnOk result (self.new.tlb ≡ record self.old.tlb { entries = left_by_all (flush_of self.old.cpu start pages) self.old.tlb.entries }) }
-        ensures cpu { self.new.cpu ≡ self.old.cpu }
-        ensures agrees { Agrees (paged self.new.system).words (paged self.new.system).root self.new.tlb.entries }
+        ensures still { IsStillCached self.old self.new }
     {
         let Ok(list) = self.commands(start, pages) else {
             return Err(CachedFault::OutOfMemory);
@@ -149,8 +142,7 @@ impl CachedSystem {
         ensures system { paged self.new.system ≡ paged self.old.system }
         ensures canonical { IsTrue (is_canonical at) → IsLookedUp (paged self.old.system).words (paged self.old.system).root (at / 4096) self.old.tlb self.new.tlb }
         ensures kept { IsFalse (is_canonical at) → self.new.tlb ≡ self.old.tlb }
-        ensures cpu { self.new.cpu ≡ self.old.cpu }
-        ensures agrees { Agrees (paged self.new.system).words (paged self.new.system).root self.new.tlb.entries }
+        ensures still { IsStillCached self.old self.new }
     {
         let Ok(address) = VirtAddr::try_new(at) else {
             return Probed::NotCanonical;

@@ -2,7 +2,6 @@ ghost use Rattle.std.specs.Prelude.{◌≡◌, ℕ, ◌+◌, ◌-◌, ◌*◌, �
 ghost use Rattle.circular_buffer.specs.Buffer.{keep_last};
 ghost use Rattle.paging_core.specs.Address.{is_canonical};
 ghost use Rattle.paging_core.specs.Memory.{frame_count};
-ghost use Rattle.paging_core.specs.Walk.{walk_of, place_of};
 ghost use Rattle.tlb_cache.specs.Cache.{has_page, pages_of, IsAgeOf, AreDistinct, Agrees, kept, left_by};
 ghost use Rattle.tlb_cache.specs.PageIndex.{Indexes};
 ghost use Rattle.tlb_cache.specs.Covered.{covers, is_among};
@@ -65,6 +64,8 @@ impl Model for Tlb {
 }
 
 impl Tlb {
+    ghost use Rattle.tlb_cache.specs.Translation.{IsKeptAnswer, IsWalkedAnswer, IsTrueAnswer};
+
     /// A cache with room for `capacity` translations. It takes all its memory now, and has none yet (own). From 2^31
     /// places on it answers want of memory.
     pub fn new(alloc: Global, capacity: u64) -> Result<Tlb, AllocError>
@@ -104,15 +105,10 @@ impl Tlb {
     pub fn translate(&mut self, frames: &Frames, root: PhysFrame, page: Page) -> Translated
         requires { root < frame_count frames.now }
         ensures hit { result.hit ≡ has_page self.old.entries page }
-        ensures answers { IsTrue result.hit → IfSome result.mapped (λ mapped. Contains self.old.entries (record { page = page; mapped = mapped })) }
-        ensures found { IsTrue result.hit → IsSome result.mapped }
-        ensures stays { IsTrue result.hit → self.new ≡ self.old }
-        ensures walked { IsFalse result.hit → option_map place_of result.mapped ≡ walk_of frames.now root page }
-        ensures joined { IsFalse result.hit → self.new ≡ kept self.old page result.mapped }
+        ensures kept { IsTrue result.hit → IsKeptAnswer self.old self.new page result.mapped }
+        ensures walked { IsFalse result.hit → IsWalkedAnswer frames.now root self.old self.new page result.mapped }
         // If each entry is what the walk finds, so is the answer, and so is each entry then.
-        ensures same { Agrees frames.now root self.old.entries → option_map place_of result.mapped ≡ walk_of frames.now root page }
-        ensures below { Agrees frames.now root self.old.entries → IfSome result.mapped (λ mapped. mapped.frame < frame_count frames.now) }
-        ensures agrees { Agrees frames.now root self.old.entries → Agrees frames.now root self.new.entries }
+        ensures answer { Agrees frames.now root self.old.entries → IsTrueAnswer frames.now root self.new page result.mapped }
     {
         match self.kept(page) {
             Some(mapped) => Translated {

@@ -31,7 +31,7 @@ use Rattle.dlmalloc.specs.Heap.{IsGranularity}
 use Rattle.heap_library.specs.declared.checked.CheckedHeap.{CheckedHeap}
 use Rattle.heap_library.specs.contracts.checked.CheckedHeap as R-type
 use Rattle.heap_library.specs.Checked.{IsCleared}
-use Rattle.limzhur_c.specs.Begun.{IsBegun}
+use Rattle.heap_library.specs.Begun.{IsBegun}
 use Rattle.limzhur_c.specs.contracts.init.limzhur_init_with as g
 use Rattle.limzhur_c.proofs.init.limzhur_init_with.Met.{met as with_met}
 use Rattle.limzhur_c.specs.contracts.init.limzhur_init as f

@@ -34,7 +34,7 @@ use Rattle.heap_library.specs.declared.checked.CheckedHeap.{CheckedHeap}
 use Rattle.heap_library.specs.contracts.checked.CheckedHeap as R-type
 use Rattle.heap_library.specs.Checked.{IsCleared}
 use Rattle.dlmalloc.specs.Heap.{IsGranularity}
-use Rattle.limzhur_c.specs.Begun.{IsBegun}
+use Rattle.heap_library.specs.Begun.{IsBegun}
 use Rattle.limzhur_c.specs.contracts.init.begin as h
 use Rattle.limzhur_c.proofs.init.begin.Met.{met as begin_met}
 use Rattle.heap_library.proofs.checked.CheckedHeap.TheLaws.{the_row_laws}

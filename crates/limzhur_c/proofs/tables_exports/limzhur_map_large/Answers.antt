@@ -1,12 +1,14 @@
-use Rattle.std.proofs.Common.{ℕ, ◌∙◌, ◌/◌, ◌^◌, ap, subst, arith}
-use Rattle.paging_core.specs.Large.{IsLargeAdded}
-use Rattle.kernel_tables.specs.TableState.{TableState}
+use Rattle.std.proofs.Common.{◌≡◌, ◌∙◌, ◌/◌, ◌^◌, ap, arith}
 use Rattle.limzhur_c.proofs.tables_exports.limzhur_map_large.Goals as goal
+use Rattle.limzhur_c.proofs.tables_exports.limzhur_map_large.Goals.{After-map_large}
 
-pub returns-in-Ok-map_large-clause-added : goal.returns-in-Ok-map_large-clause-added
-returns-in-Ok-map_large-clause-added c = λ done.
-    subst (λ (s : TableState). IsLargeAdded s.words c.map_large.new.self.words s.free c.map_large.new.self.free s.root (c.args.address / 2 ^ 21) (c.args.frame / 512) (record { write = c.args.write; user = c.args.user; fetch = c.args.fetch })) c.open.ensures.tables
-    (subst (λ (f : ℕ). IsLargeAdded c.open.result.now.words c.map_large.new.self.words c.open.result.now.free c.map_large.new.self.free c.open.result.now.root (c.args.address / 2 ^ 21) f (record { write = c.args.write; user = c.args.user; fetch = c.args.fetch }))
-    (omega (arith, c.containing_address-run.ensures, c.new.ensures))
-    (subst (λ (p : ℕ). IsLargeAdded c.open.result.now.words c.map_large.new.self.words c.open.result.now.free c.map_large.new.self.free c.open.result.now.root p c.containing_address-run.result (record { write = c.args.write; user = c.args.user; fetch = c.args.fetch }))
-    (c.in-Ok-page.ensures.ok ∙ ap (λ a. a / 2 ^ 21) c.in-Ok.ensures.ok) c.in-Ok-map_large.ensures.added))
+page_is : (c : goal.After-map_large) → c.in-Ok-page.page ≡ c.args.address / 2 ^ 21
+page_is c = c.in-Ok-page.ensures.ok ∙ ap (λ a. a / 2 ^ 21) c.in-Ok.ensures.ok
+
+run_is : (c : goal.After-map_large) → c.containing_address-run.result ≡ c.args.frame / 512
+run_is c = omega (arith, c.containing_address-run.ensures, c.new.ensures)
+
+pub returns-in-Ok-map_large-clause-mapped : goal.returns-in-Ok-map_large-clause-mapped
+returns-in-Ok-map_large-clause-mapped c =
+    let at = (goal.at.returns-in-Ok-map_large-clause-mapped c).After-map_large in
+    λ _. rw (c.open.ensures.tables, page_is at, run_is at) at c.in-Ok-map_large.ensures.mapped

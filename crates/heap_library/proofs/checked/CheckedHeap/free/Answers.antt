@@ -19,9 +19,8 @@ clear-requires-clause-marked c =
 
 pub invariant_of-self : goal.invariant_of-self
 invariant_of-self c =
-    let marks = c.self.inside.marks in
     let block = subst (λ heap. HasBlock (heap_state heap) c.args.address) (sym c.self.view_is) (c.has_block.ensures.0 c.if-not-has_block.false) in
-    freed_marked marks.base marks.words.now marks.count c.self.inside.heap c.free.new.self c.self.invariant c.clear.new.self.base c.clear.new.self.words.now c.clear.new.self.count c.clear.ensures.base c.clear.ensures.len c.clear.ensures.counted
+    freed_marked c.free.new.self c.self.invariant c.clear.new.self.base c.clear.new.self.words.now c.clear.new.self.count c.clear.ensures.base c.clear.ensures.len c.clear.ensures.counted
     c.args.address block c.free.ensures.freed c.clear.ensures.here c.clear.ensures.others
 
 pub returns-clause-freed : goal.returns-clause-freed

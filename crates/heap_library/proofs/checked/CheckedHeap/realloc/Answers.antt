@@ -1,12 +1,11 @@
-use Rattle.std.proofs.Common.{◌∙◌, subst, sym, true, arith}
+use Rattle.std.proofs.Common.{◌∙◌, refl, subst, sym, inl, arith}
 use Rattle.dlmalloc.specs.Blocks.{BlocksAreApart}
-use Rattle.dlmalloc.specs.Requested.{IsMemberServed}
-use Rattle.dlmalloc.specs.Moved.{IsGivenSize, IsResized}
 use Rattle.heap_arena.specs.Arena.{regions_of, word_of}
+use Rattle.heap_library.specs.Calls.{IsBlockResized}
 use Rattle.heap_library.specs.Library.{IsResizeRefused}
 use Rattle.sound_heap.specs.Heap.{HasBlock, usable}
 use Rattle.sound_heap.specs.declared.heap_error.HeapError.TheVariants.{Refused}
-use Rattle.heap_library.specs.Checked.{zeros, follows, refuses, denies, heap_state}
+use Rattle.heap_library.specs.Checked.{follows, refuses, denies, heap_state}
 use Rattle.heap_library.proofs.MarkLemmas.{place_of_mark}
 use Rattle.heap_library.proofs.Marking.{resized_same, moved_unmarked, moved_marked, unresized_marked}
 use Rattle.heap_library.proofs.Room.{resize_refused_for, resize_not_refused}
@@ -31,10 +30,9 @@ mark-requires-clause-some c = let same = c.clear.ensures.base in let some = c.se
 
 pub mark-requires-clause-unmarked : goal.mark-requires-clause-unmarked
 mark-requires-clause-unmarked c =
-    let marks = c.self.inside.marks in
     let heap = c.self.inside.heap in
     let block = subst (λ heap. HasBlock (heap_state heap) c.args.from) (sym c.self.view_is) (c.has_block.ensures.0 c.if-not-has_block.false) in
-    moved_unmarked marks.base marks.words.now marks.count heap c.realloc.new.self c.self.invariant c.args.from (usable (heap_state heap) c.args.from) c.args.size c.in-Ok.to c.clear.new.self.base c.clear.new.self.words.now
+    moved_unmarked c.realloc.new.self c.self.invariant c.args.from (usable (heap_state heap) c.args.from) c.args.size c.in-Ok.to c.clear.new.self.base c.clear.new.self.words.now
     block c.in-Ok.ensures.ok c.clear.ensures.here c.clear.ensures.others
 
 pub mark-requires-clause-base : goal.mark-requires-clause-base
@@ -52,39 +50,47 @@ mark-requires-clause-room c =
 
 pub invariant_of-self : goal.invariant_of-self
 invariant_of-self c =
-    let marks = c.self.inside.marks in
     let heap = c.self.inside.heap in
     let block = subst (λ heap. HasBlock (heap_state heap) c.args.from) (sym c.self.view_is) (c.has_block.ensures.0 c.if-not-has_block.false) in
-    moved_marked marks.base marks.words.now marks.count heap c.realloc.new.self c.self.invariant c.mark.new.marks.base c.mark.new.marks.words.now c.mark.new.marks.count (c.mark.ensures.base ∙ c.clear.ensures.base) (c.mark.ensures.len ∙ c.clear.ensures.len) c.mark.ensures.counted
+    moved_marked c.realloc.new.self c.self.invariant c.mark.new.marks.base c.mark.new.marks.words.now c.mark.new.marks.count
+    (c.mark.ensures.base ∙ c.clear.ensures.base) (c.mark.ensures.len ∙ c.clear.ensures.len) c.mark.ensures.counted
     c.args.from (usable (heap_state heap) c.args.from) c.args.size c.in-Ok.to c.clear.new.self.base c.clear.new.self.words.now block c.in-Ok.ensures.ok
     c.clear.ensures.here c.clear.ensures.others c.mark.ensures.here c.mark.ensures.others
 
 pub invariant_of-self-in-Err : goal.invariant_of-self-in-Err
-invariant_of-self-in-Err c = unresized_marked c.self.inside.marks.base c.self.inside.marks.words.now c.self.inside.marks.count c.self.inside.heap c.realloc.new.self c.self.invariant c.args.from c.args.size (Refused c.in-Err.error) (c.in-Err.ensures.err, c.in-Err.ensures.tried)
-
-pub returns-in-Ok-clause-block : goal.returns-in-Ok-clause-block
-returns-in-Ok-clause-block c = c.has_block.ensures.0 c.if-not-has_block.false
-
-pub returns-in-Ok-clause-ok : goal.returns-in-Ok-clause-ok
-returns-in-Ok-clause-ok c =
-    subst (λ heap. IsGivenSize regions_of word_of follows true true 1 heap c.args.from (usable (heap_state heap) c.args.from) 16 c.args.size c.in-Ok.to c.realloc.new.self) c.self.view_is c.in-Ok.ensures.ok
-
-pub returns-in-Ok-clause-resized : goal.returns-in-Ok-clause-resized
-returns-in-Ok-clause-resized c =
-    subst (λ heap. IsResized regions_of word_of zeros follows true true 1 heap c.args.from (usable (heap_state heap) c.args.from) 16 c.args.size c.in-Ok.to c.realloc.new.self) c.self.view_is c.in-Ok.ensures.resized
-
-pub returns-in-Ok-clause-member : goal.returns-in-Ok-clause-member
-returns-in-Ok-clause-member c = λ moved. subst (λ heap. IsMemberServed regions_of word_of heap c.args.size 16 c.in-Ok.to) c.self.view_is (c.in-Ok.ensures.member moved)
+invariant_of-self-in-Err c = unresized_marked c.realloc.new.self c.self.invariant c.args.from c.args.size (Refused c.in-Err.error) (c.in-Err.ensures.err, c.in-Err.ensures.tried)
 
 pub returns-in-Err-clause-err : goal.returns-in-Err-clause-err
 returns-in-Err-clause-err c = subst (λ heap. IsResizeRefused regions_of word_of follows refuses denies heap c.args.from c.args.size (Refused c.in-Err.error) c.realloc.new.self) c.self.view_is (c.in-Err.ensures.err, c.in-Err.ensures.tried)
 
-pub returns-in-Err-clause-refused : goal.returns-in-Err-clause-refused
-returns-in-Err-clause-refused c = subst (λ heap. IsRefusedResize heap c.args.from c.args.size) c.self.view_is (resize_refused_for c.self.inside.heap c.realloc.new.self c.args.from c.args.size (Refused c.in-Err.error) (c.in-Err.ensures.err, c.in-Err.ensures.tried))
+pub returns-in-Ok-clause-ok : goal.returns-in-Ok-clause-ok
+returns-in-Ok-clause-ok c =
+    let block = c.has_block.ensures.0 c.if-not-has_block.false in
+    subst (λ heap. IsBlockResized heap c.args.from c.args.size c.in-Ok.to c.realloc.new.self) c.self.view_is
+    (record {
+      block = subst (λ heap. HasBlock (heap_state heap) c.args.from) (sym c.self.view_is) block;
+      resized = c.in-Ok.ensures.resized;
+      given = c.in-Ok.ensures.ok;
+      member = c.in-Ok.ensures.member;
+      enough = c.in-Ok.ensures.enough;
+    })
 
-pub returns-in-Ok-clause-room : goal.returns-in-Ok-clause-room
-returns-in-Ok-clause-room c = λ refused.
+pub returns-then-not-has_block-clause-refused : goal.returns-then-not-has_block-clause-refused
+returns-then-not-has_block-clause-refused c =
+    let none = c.if-not-has_block.true in
+    (λ _. inl (λ block. let there = c.has_block.ensures.1 block in absurd (cc)), λ _. refl)
+
+pub returns-in-Ok-clause-refused : goal.returns-in-Ok-clause-refused
+returns-in-Ok-clause-refused c =
     let heap = c.self.inside.heap in
     let block = subst (λ heap. HasBlock (heap_state heap) c.args.from) (sym c.self.view_is) (c.has_block.ensures.0 c.if-not-has_block.false) in
-    resize_not_refused heap c.realloc.new.self c.args.from (usable (heap_state heap) c.args.from) c.args.size c.in-Ok.to block c.in-Ok.ensures.ok.small c.in-Ok.ensures.resized
-    (subst (λ heap. IsRefusedResize heap c.args.from c.args.size) (sym c.self.view_is) refused)
+    let served = resize_not_refused heap c.realloc.new.self c.args.from (usable (heap_state heap) c.args.from) c.args.size c.in-Ok.to block c.in-Ok.ensures.ok.small c.in-Ok.ensures.resized in
+    (λ none. absurd (cc), λ refused. absurd (served (subst (λ heap. IsRefusedResize heap c.args.from c.args.size) (sym c.self.view_is) refused)))
+
+pub returns-in-Err-clause-refused : goal.returns-in-Err-clause-refused
+returns-in-Err-clause-refused c = (
+  λ _.
+      subst (λ heap. IsRefusedResize heap c.args.from c.args.size) c.self.view_is
+      (resize_refused_for c.self.inside.heap c.realloc.new.self c.args.from c.args.size (Refused c.in-Err.error) (c.in-Err.ensures.err, c.in-Err.ensures.tried)),
+  λ _. refl,
+)

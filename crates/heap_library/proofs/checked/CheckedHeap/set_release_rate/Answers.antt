@@ -9,10 +9,9 @@ use Rattle.heap_library.proofs.checked.CheckedHeap.set_release_rate.Goals as goa
 
 pub invariant_of-self : goal.invariant_of-self
 invariant_of-self c =
-    let marks = c.self.inside.marks in
     let system = c.set_release_rate.ensures.system in
     let state = c.set_release_rate.ensures.state in
-    kept_marked marks.base marks.words.now marks.count c.self.inside.heap c.set_release_rate.new.self c.self.invariant
+    kept_marked c.set_release_rate.new.self c.self.invariant
     (record { base = ap (λ (a : Arena). a.base) system; len = ap (λ (a : Arena). length a.words.now) system; table = ap (λ (a : Arena). length a.table.words.now) system })
     (same_blocks (heap_state c.self.inside.heap) (heap_state c.set_release_rate.new.self) (ap extents_in state)) (same_blocks (heap_state c.set_release_rate.new.self) (heap_state c.self.inside.heap) (sym (ap extents_in state)))
 

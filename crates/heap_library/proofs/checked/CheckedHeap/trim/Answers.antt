@@ -6,7 +6,7 @@ use Rattle.heap_library.proofs.Marking.{trimmed_marked}
 use Rattle.heap_library.proofs.checked.CheckedHeap.trim.Goals as goal
 
 pub invariant_of-self : goal.invariant_of-self
-invariant_of-self c = trimmed_marked c.self.inside.marks.base c.self.inside.marks.words.now c.self.inside.marks.count c.self.inside.heap c.trim.new.self c.self.invariant c.args.pad c.trim.result c.trim.ensures.trimmed
+invariant_of-self c = trimmed_marked c.trim.new.self c.self.invariant c.args.pad c.trim.result c.trim.ensures.trimmed
 
 pub returns : goal.returns
 returns c = record { trimmed = subst (λ heap. IsTrimmed regions_of word_of follows true true 1 heap c.args.pad c.trim.result c.trim.new.self) c.self.view_is c.trim.ensures.trimmed }

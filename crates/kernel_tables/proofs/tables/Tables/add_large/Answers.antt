@@ -2,7 +2,7 @@ use Rattle.std.proofs.Common.{◌≡◌, ◌*◌, ◌∙◌, false, ap, arith}
 use Rattle.paging_core.specs.Area.{in_area, area_meets}
 use Rattle.kernel_tables.specs.TableState.{TableState}
 use Rattle.kernel_tables.proofs.LargePages.{row_unmet, large_outside}
-use Rattle.kernel_tables.proofs.RangeChanged.{tables_seen}
+use Rattle.kernel_tables.proofs.Changed.{only_seen, other_slot}
 use Rattle.kernel_tables.proofs.tables.Tables.add_large.Goals as goal
 
 pub map_large-requires-clause-unmet : goal.map_large-requires-clause-unmet
@@ -25,8 +25,8 @@ invariant_of-self c =
           added out c.self.invariant.apart page place is;
     }
 
-pub returns-clause-tables : goal.returns-clause-tables
-returns-clause-tables c =
-    tables_seen c.args.self.now (record { words = c.self.inside.memory.words; area = c.self.inside.memory.area; root = c.self.inside.root; free = c.self.inside.free })
-    c.map_large.new.frames.words c.self.view_is
-    (λ l n met lt is. let added = c.map_large.ensures.added in added.stayed l n met (omega (arith, lt)) is)
+pub returns-clause-only : goal.returns-clause-only
+returns-clause-only c =
+    let added = c.map_large.ensures.added in
+    only_seen c.self.view_is c.map_large.ensures.area added.size (λ l n met lt is. added.stayed l n met (omega (arith, lt)) is)
+    (λ other canonical not. c.map_large.ensures.elsewhere other canonical (other_slot c.args.page other not))

@@ -4,6 +4,7 @@ use Rattle.paging_core.specs.Mapping.{IsPageAdded}
 use Rattle.paging_core.specs.Memory.{frame_count}
 use Rattle.kernel_tables.specs.TableState.{TableState}
 use Rattle.kernel_tables.proofs.Sound.{outside_used, added_outside}
+use Rattle.kernel_tables.proofs.Changed.{only_seen, other_page}
 use Rattle.kernel_tables.proofs.tables.Tables.add_page.Goals as goal
 
 pub invariant_of-self : goal.invariant_of-self
@@ -43,3 +44,17 @@ invariant_of-self-in_default c =
           ∙ added_outside c.self.inside.memory.area c.self.inside.memory.words c.map_page.new.frames.words c.self.inside.free c.map_page.new.pool c.self.inside.root c.args.page c.args.frame c.args.rights
           added out c.self.invariant.apart page place is;
     }
+
+pub returns-in-Entry-clause-only : goal.returns-in-Entry-clause-only
+returns-in-Entry-clause-only c =
+    let out : in_area c.self.inside.memory.area c.args.frame ≡ false = ap (λ (s : TableState). in_area s.area c.args.frame) c.self.view_is ∙ c.requires.outside in
+    let used = outside_used c.self.inside.memory.area c.self.inside.free (frame_count c.self.inside.memory.words) c.args.frame c.self.invariant.known out in
+    let added = c.map_at.ensures.added c.self.inside.free c.self.invariant.tree used in
+    only_seen c.self.view_is c.map_at.ensures.area added.size added.stayed
+    (λ other canonical not. c.map_at.ensures.elsewhere c.self.inside.free c.self.invariant.tree used other canonical (other_page c.args.page other not))
+
+pub returns-in_default-clause-only : goal.returns-in_default-clause-only
+returns-in_default-clause-only c =
+    let added = c.map_page.ensures.added in
+    only_seen c.self.view_is c.map_page.ensures.area added.size added.stayed
+    (λ other canonical not. c.map_page.ensures.elsewhere other canonical (other_page c.args.page other not))

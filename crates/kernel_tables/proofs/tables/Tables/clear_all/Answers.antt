@@ -3,9 +3,9 @@ use Rattle.paging_core.specs.Large.{slot_of}
 use Rattle.paging_core.specs.Walk.{large_of}
 use Rattle.std.specs.Prelude.{IsSome}
 use Rattle.kernel_tables.proofs.RangeTests.{is_there, is_nothing}
-use Rattle.kernel_tables.proofs.RangeChanged.{IsChangedTo, changed_start, still, page_changed, slot_changed, gone_all, is_hole}
+use Rattle.kernel_tables.proofs.RangeChanged.{IsChangedTo, changed_start, still, page_changed, slot_changed, only_range, gone_all, is_hole}
 use Rattle.kernel_tables.proofs.tables.Tables.clear_all.Goals as goal
-use Rattle.kernel_tables.proofs.tables.Tables.clear_all.Goals.{After-slot_at}
+use Rattle.kernel_tables.proofs.tables.Tables.clear_all.Goals.{After-slot_at, After-loop-done}
 
 pub loop-done-init : goal.loop-done-init
 loop-done-init c = changed_start c.args.self.now c.args.page c.args.pages (λ was. None) c.requires.within
@@ -27,28 +27,26 @@ loop-done-preserved-then-is_some c =
     let a = c.after-at.ensures in
     let alone = (c.clear_entry.ensures.some (is_there c.clear_entry.result (sym c.is_some.ensures ∙ c.if-is_some.true))).1 in
     page_changed c.args.self.now c.loop-done.self c.args.page c.args.pages c.loop-done.done (λ was. None) c.requires.range c.loop-done.invariant c.loop-done-test.true
-    c.clear_entry.new.self c.clear_entry.ensures.place c.clear_entry.ensures.free c.clear_entry.ensures.tables
+    c.clear_entry.new.self c.clear_entry.ensures.free
     (λ some. is_hole (large_of c.loop-done.self.words c.loop-done.self.root (slot_of ((c.args.page + c.loop-done.done) / 512))) (rw a at alone) some)
-    (rw a at c.clear_entry.ensures.elsewhere) (λ was is. rw a at (c.clear_entry.ensures.unmapped (is_there c.clear_entry.result (sym c.is_some.ensures ∙ c.if-is_some.true)))) c.clear_entry.ensures.larges
+    (rw a at c.clear_entry.ensures.only) (λ was is. rw a at (c.clear_entry.ensures.unmapped (is_there c.clear_entry.result (sym c.is_some.ensures ∙ c.if-is_some.true)))) c.clear_entry.ensures.larges
 
 pub loop-done-preserved : goal.loop-done-preserved
 loop-done-preserved c =
     let e : c.slot_at.result ≡ (c.args.page + c.loop-done.done) / 512 = c.slot_at.ensures ∙ ap (λ n. n / 512) c.after-at.ensures in
     let s = c.clear_entry.ensures.same (is_nothing c.clear_entry.result (sym c.is_some.ensures ∙ c.if-is_some.false)) in
     slot_changed c.args.self.now c.loop-done.self c.args.page c.args.pages c.loop-done.done (λ was. None) c.requires.range c.loop-done.invariant c.loop-done-test.true
-    c.clear_slot.new.self (rw s at c.clear_slot.ensures.place) (rw s at c.clear_slot.ensures.free) (rw s at c.clear_slot.ensures.tables) (large (goal.at.loop-done-preserved c).After-slot_at) (rw (s, e) at c.clear_slot.ensures.elsewhere)
+    c.clear_slot.new.self (rw s at c.clear_slot.ensures.free) (large (goal.at.loop-done-preserved c).After-slot_at) (rw (s, e) at c.clear_slot.ensures.only)
     (λ k was lt is. rw e at (c.clear_slot.ensures.unmapped k lt)) (rw (s, e) at c.clear_slot.ensures.larges)
 
-pub returns-clause-elsewhere : goal.returns-clause-elsewhere
-returns-clause-elsewhere c =
+all : (c : goal.After-loop-done) → IsChangedTo c.args.self.now c.loop-done.self c.args.page c.args.pages c.args.pages (λ was. None)
+all c =
     let w = c.loop-done.invariant.within in
     let d : c.loop-done.done ≡ c.args.pages = omega (arith, w, c.loop-done-test.false) in
-    let all : IsChangedTo c.args.self.now c.loop-done.self c.args.page c.args.pages c.args.pages (λ was. None) = rw d at c.loop-done.invariant in
-    all.elsewhere
+    rw d at c.loop-done.invariant
+
+pub returns-clause-only : goal.returns-clause-only
+returns-clause-only c = only_range c.args.self.now c.loop-done.self c.args.page c.args.pages (λ was. None) (all (goal.at.returns-clause-only c).After-loop-done)
 
 pub returns-clause-unmapped : goal.returns-clause-unmapped
-returns-clause-unmapped c =
-    let w = c.loop-done.invariant.within in
-    let d : c.loop-done.done ≡ c.args.pages = omega (arith, w, c.loop-done-test.false) in
-    let all : IsChangedTo c.args.self.now c.loop-done.self c.args.page c.args.pages c.args.pages (λ was. None) = rw d at c.loop-done.invariant in
-    gone_all c.args.self.now c.loop-done.self c.args.page c.args.pages c.requires.mapped all
+returns-clause-unmapped c = gone_all c.args.self.now c.loop-done.self c.args.page c.args.pages c.requires.mapped (all (goal.at.returns-clause-unmapped c).After-loop-done)

@@ -3,9 +3,9 @@ use Rattle.paging_core.specs.Area.{in_area}
 use Rattle.paging_core.specs.Memory.{frame_count}
 use Rattle.paging_core.specs.Walk.{large_of}
 use Rattle.paging_core.proofs.Areas.{free_stays, known_moved}
-use Rattle.kernel_tables.specs.TableState.{TableState, leads}
+use Rattle.kernel_tables.specs.TableState.{TableState}
 use Rattle.kernel_tables.proofs.LargePages.{gone_outside}
-use Rattle.kernel_tables.proofs.RangeChanged.{tables_seen}
+use Rattle.kernel_tables.proofs.Changed.{only_seen, other_slot}
 use Rattle.kernel_tables.proofs.tables.Tables.clear_slot.Goals as goal
 
 pub invariant_of-self : goal.invariant_of-self
@@ -22,10 +22,6 @@ invariant_of-self c =
           ∙ gone_outside c.self.inside.memory.area c.self.inside.memory.words c.unmap_large.new.frames.words c.self.inside.root c.args.slot all c.self.invariant.apart page place is;
     }
 
-pub returns-clause-elsewhere : goal.returns-clause-elsewhere
-returns-clause-elsewhere c = λ other canonical ne.
-    c.unmap_large.ensures.elsewhere c.self.inside.free c.self.invariant.tree other canonical ne ∙ ap (λ (s : TableState). leads s other) c.self.view_is
-
 pub returns-clause-larges : goal.returns-clause-larges
 returns-clause-larges c = λ n ne.
     let all = c.unmap_large.ensures.removed c.self.inside.free c.self.invariant.tree in
@@ -34,8 +30,8 @@ returns-clause-larges c = λ n ne.
 pub returns-clause-unmapped : goal.returns-clause-unmapped
 returns-clause-unmapped c = λ k lt. let all = c.unmap_large.ensures.removed c.self.inside.free c.self.invariant.tree in all.gone k lt
 
-pub returns-clause-tables : goal.returns-clause-tables
-returns-clause-tables c =
-    tables_seen c.args.self.now (record { words = c.self.inside.memory.words; area = c.self.inside.memory.area; root = c.self.inside.root; free = c.self.inside.free })
-    c.unmap_large.new.frames.words c.self.view_is
-    (λ l n met lt is. let all = c.unmap_large.ensures.removed c.self.inside.free c.self.invariant.tree in all.others l n (omega (arith, lt)) (λ e _. absurd (omega (arith, lt, e))) ∙ is)
+pub returns-clause-only : goal.returns-clause-only
+returns-clause-only c =
+    let all = c.unmap_large.ensures.removed c.self.inside.free c.self.invariant.tree in
+    only_seen c.self.view_is c.unmap_large.ensures.area all.size (λ l n met lt is. all.others l n (omega (arith, lt)) (λ e _. absurd (omega (arith, lt, e))) ∙ is)
+    (λ other canonical not. c.unmap_large.ensures.elsewhere c.self.inside.free c.self.invariant.tree other canonical (other_slot c.args.slot other not))

@@ -8,8 +8,9 @@ use Rattle.paging_core.specs.Walk.{place_of, large_of, walk_of, granted}
 use Rattle.paging_core.proofs.Areas.{free_stays, known_moved}
 use Rattle.kernel_tables.specs.TableState.{TableState, leads}
 use Rattle.kernel_tables.proofs.Sound.{regranted_outside}
-use Rattle.kernel_tables.proofs.RangeChanged.{tables_seen, large_there}
+use Rattle.kernel_tables.proofs.RangeChanged.{large_there}
 use Rattle.kernel_tables.proofs.Ends.{entry_alone}
+use Rattle.kernel_tables.proofs.Changed.{only_seen, other_page}
 use Rattle.kernel_tables.proofs.tables.Tables.grant_entry.Goals as goal
 
 pub invariant_of-self : goal.invariant_of-self
@@ -30,23 +31,14 @@ pub returns-in-Entry-default-Some-clause-some : goal.returns-in-Entry-default-So
 returns-in-Entry-default-Some-clause-some c = λ _.
     subst (λ (s : TableState). IsSome (leads s c.args.page) × (large_of s.words s.root (slot_of (c.args.page / 512)) ≡ None)) c.self.view_is (
       rw (sym c.in-Entry-default-Some.ensures.end.1 ∙ ap (option_map place_of) c.in-Entry-default-Some.page-is) refl,
-      entry_alone (record { words = c.self.inside.memory.words; area = c.self.inside.memory.area; root = c.self.inside.root; free = c.self.inside.free }) c.args.page c.in-Entry-default-Some.entry.table c.in-Entry-default-Some.entry.index c.in-Entry-default-Some.ensures.end.0,
+      entry_alone (record { words = c.self.inside.memory.words; area = c.self.inside.memory.area; root = c.self.inside.root; free = c.self.inside.free })
+          c.args.page c.in-Entry-default-Some.entry.table c.in-Entry-default-Some.entry.index c.in-Entry-default-Some.ensures.end.0,
     )
-
-pub returns-in-Entry-default-Some-clause-elsewhere : goal.returns-in-Entry-default-Some-clause-elsewhere
-returns-in-Entry-default-Some-clause-elsewhere c = λ other canonical ne.
-    c.protect_at.ensures.elsewhere c.self.inside.free c.self.invariant.tree other canonical ne ∙ ap (λ (s : TableState). leads s other) c.self.view_is
 
 pub returns-in-Entry-default-Some-clause-larges : goal.returns-in-Entry-default-Some-clause-larges
 returns-in-Entry-default-Some-clause-larges c = λ n.
     let all = c.protect_at.ensures.pages c.self.inside.free c.self.invariant.tree in
     all.larges n ∙ ap (λ (s : TableState). large_of s.words s.root n) c.self.view_is
-
-pub returns-in-Entry-default-Some-clause-tables : goal.returns-in-Entry-default-Some-clause-tables
-returns-in-Entry-default-Some-clause-tables c =
-    tables_seen c.args.self.now (record { words = c.self.inside.memory.words; area = c.self.inside.memory.area; root = c.self.inside.root; free = c.self.inside.free })
-    c.protect_at.new.frames.words c.self.view_is
-    (λ l n met lt is. let all = c.protect_at.ensures.pages c.self.inside.free c.self.invariant.tree in all.stayed l n (omega (arith, lt)) (λ e. absurd (omega (arith, lt, e))) ∙ is)
 
 pub returns-in-Entry-default-Some-clause-granted : goal.returns-in-Entry-default-Some-clause-granted
 returns-in-Entry-default-Some-clause-granted c = λ _.
@@ -57,3 +49,9 @@ pub returns-in-Large-clause-none : goal.returns-in-Large-clause-none
 returns-in-Large-clause-none c = λ _ some.
     subst (λ (s : TableState). IsSome (large_of s.words s.root (slot_of (c.args.page / 512)))) c.self.view_is
     (large_there c.self.inside.memory.words c.self.inside.root c.args.page (rw c.in-Large.ensures.end.1 refl) c.in-Large.ensures.end.0)
+
+pub returns-in-Entry-default-Some-clause-only : goal.returns-in-Entry-default-Some-clause-only
+returns-in-Entry-default-Some-clause-only c =
+    let all = c.protect_at.ensures.pages c.self.inside.free c.self.invariant.tree in
+    only_seen c.self.view_is c.protect_at.ensures.area all.size (λ l n met lt is. all.stayed l n (omega (arith, lt)) (λ e. absurd (omega (arith, lt, e))) ∙ is)
+    (λ other canonical not. c.protect_at.ensures.elsewhere c.self.inside.free c.self.invariant.tree other canonical (other_page c.args.page other not))

@@ -6,7 +6,7 @@ use Rattle.paging_core.specs.Walk.{large_of, walk_of, granted}
 use Rattle.paging_core.proofs.Areas.{free_stays, known_moved}
 use Rattle.kernel_tables.specs.TableState.{TableState, leads}
 use Rattle.kernel_tables.proofs.Sound.{regranted_outside}
-use Rattle.kernel_tables.proofs.RangeChanged.{tables_seen}
+use Rattle.kernel_tables.proofs.Changed.{only_seen, other_page}
 use Rattle.kernel_tables.proofs.tables.Tables.grant_page.Goals as goal
 
 pub invariant_of-self : goal.invariant_of-self
@@ -23,10 +23,6 @@ invariant_of-self c =
           ∙ regranted_outside c.self.inside.memory.area c.self.inside.memory.words c.protect_page.new.frames.words c.self.inside.root c.args.page c.args.rights all c.self.invariant.apart page place is;
     }
 
-pub returns-clause-elsewhere : goal.returns-clause-elsewhere
-returns-clause-elsewhere c = λ other canonical ne.
-    c.protect_page.ensures.elsewhere c.self.inside.free c.self.invariant.tree other canonical ne ∙ ap (λ (s : TableState). leads s other) c.self.view_is
-
 pub returns-clause-larges : goal.returns-clause-larges
 returns-clause-larges c = λ n.
     let all = c.protect_page.ensures.pages c.self.inside.free c.self.invariant.tree in
@@ -37,8 +33,8 @@ returns-clause-granted c =
     subst (λ (s : TableState). IfSome (leads s c.args.page) (λ place. walk_of c.protect_page.new.frames.words c.self.inside.root c.args.page ≡ Some (granted place.frame c.args.rights)))
     c.self.view_is (c.protect_page.ensures.granted c.self.inside.free c.self.invariant.tree)
 
-pub returns-clause-tables : goal.returns-clause-tables
-returns-clause-tables c =
-    tables_seen c.args.self.now (record { words = c.self.inside.memory.words; area = c.self.inside.memory.area; root = c.self.inside.root; free = c.self.inside.free })
-    c.protect_page.new.frames.words c.self.view_is
-    (λ l n met lt is. let all = c.protect_page.ensures.pages c.self.inside.free c.self.invariant.tree in all.stayed l n (omega (arith, lt)) (λ e. absurd (omega (arith, lt, e))) ∙ is)
+pub returns-clause-only : goal.returns-clause-only
+returns-clause-only c =
+    let all = c.protect_page.ensures.pages c.self.inside.free c.self.invariant.tree in
+    only_seen c.self.view_is c.protect_page.ensures.area all.size (λ l n met lt is. all.stayed l n (omega (arith, lt)) (λ e. absurd (omega (arith, lt, e))) ∙ is)
+    (λ other canonical not. c.protect_page.ensures.elsewhere c.self.inside.free c.self.invariant.tree other canonical (other_page c.args.page other not))

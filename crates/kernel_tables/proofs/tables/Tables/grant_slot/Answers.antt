@@ -5,7 +5,8 @@ use Rattle.paging_core.specs.Memory.{frame_count}
 use Rattle.paging_core.specs.Walk.{large_of, walk_of, granted}
 use Rattle.paging_core.proofs.Areas.{free_stays, known_moved}
 use Rattle.kernel_tables.specs.TableState.{TableState, leads}
-use Rattle.kernel_tables.proofs.RangeChanged.{tables_seen, slot_outside, slot_granted}
+use Rattle.kernel_tables.proofs.RangeChanged.{slot_outside, slot_granted}
+use Rattle.kernel_tables.proofs.Changed.{only_seen, other_slot}
 use Rattle.kernel_tables.proofs.tables.Tables.grant_slot.Goals as goal
 
 pub invariant_of-self : goal.invariant_of-self
@@ -22,10 +23,6 @@ invariant_of-self c =
           ∙ slot_outside c.self.inside.memory.area c.self.inside.memory.words c.protect_large.new.frames.words c.self.inside.root c.args.slot c.args.rights all c.self.invariant.apart page place is;
     }
 
-pub returns-clause-elsewhere : goal.returns-clause-elsewhere
-returns-clause-elsewhere c = λ other canonical ne.
-    c.protect_large.ensures.elsewhere c.self.inside.free c.self.invariant.tree other canonical ne ∙ ap (λ (s : TableState). leads s other) c.self.view_is
-
 pub returns-clause-larges : goal.returns-clause-larges
 returns-clause-larges c = λ n ne.
     let all = c.protect_large.ensures.granted c.self.inside.free c.self.invariant.tree in
@@ -37,8 +34,8 @@ returns-clause-granted c = λ k lt.
     c.self.view_is
     (slot_granted c.self.inside.memory.words c.protect_large.new.frames.words c.self.inside.root c.args.slot c.args.rights (c.protect_large.ensures.granted c.self.inside.free c.self.invariant.tree) k lt)
 
-pub returns-clause-tables : goal.returns-clause-tables
-returns-clause-tables c =
-    tables_seen c.args.self.now (record { words = c.self.inside.memory.words; area = c.self.inside.memory.area; root = c.self.inside.root; free = c.self.inside.free })
-    c.protect_large.new.frames.words c.self.view_is
-    (λ l n met lt is. let all = c.protect_large.ensures.granted c.self.inside.free c.self.invariant.tree in all.others l n (omega (arith, lt)) (λ e _. absurd (omega (arith, lt, e))) ∙ is)
+pub returns-clause-only : goal.returns-clause-only
+returns-clause-only c =
+    let all = c.protect_large.ensures.granted c.self.inside.free c.self.invariant.tree in
+    only_seen c.self.view_is c.protect_large.ensures.area all.size (λ l n met lt is. all.others l n (omega (arith, lt)) (λ e _. absurd (omega (arith, lt, e))) ∙ is)
+    (λ other canonical not. c.protect_large.ensures.elsewhere c.self.inside.free c.self.invariant.tree other canonical (other_slot c.args.slot other not))

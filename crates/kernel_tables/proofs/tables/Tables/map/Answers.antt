@@ -1,5 +1,7 @@
 use Rattle.std.proofs.Common.{◌≡◌, false, ap, sym, subst, ◌∙◌, arith}
-use Rattle.paging_core.specs.Mapping.{IsPageAdded}
+use Rattle.paging_core.specs.Pool.{is_free}
+use Rattle.kernel_tables.specs.Changes.{IsPageMapped}
+use Rattle.kernel_tables.proofs.Changed.{only_seen, other_page}
 use Rattle.paging_core.specs.WalkEnd.{IsEntryOf}
 use Rattle.kernel_tables.proofs.Ends.{nothing_missing}
 use Rattle.paging_core.specs.Area.{in_area}
@@ -7,6 +9,7 @@ use Rattle.paging_core.specs.Memory.{frame_count}
 use Rattle.kernel_tables.specs.TableState.{TableState}
 use Rattle.kernel_tables.proofs.Sound.{outside_used, added_outside, no_fault}
 use Rattle.kernel_tables.proofs.tables.Tables.map.Goals as goal
+use Rattle.kernel_tables.proofs.tables.Tables.map.Goals.{In-None}
 
 pub invariant_of-self : goal.invariant_of-self
 invariant_of-self c =
@@ -30,13 +33,37 @@ map_fault-requires-clause-missing c =
     nothing_missing c.args.self.now c.args.page c.in-Entry-default-None.entry.table c.in-Entry-default-None.entry.index
     (subst (λ (s : TableState). IsEntryOf s.words s.root c.args.page c.in-Entry-default-None.entry.table c.in-Entry-default-None.entry.index) c.self.view_is c.in-Entry-default-None.ensures.end.0)
 
-pub returns-in-None-clause-added : goal.returns-in-None-clause-added
-returns-in-None-clause-added c =
-    let out : in_area c.self.inside.memory.area c.args.frame ≡ false =
-    ap (λ (s : TableState). in_area s.area c.args.frame) c.self.view_is ∙ no_fault c.args.self.now c.args.page c.args.frame (sym c.in-None.ensures.fault) in
-    subst (λ (s : TableState). IsPageAdded s.words c.map_at.new.frames.words s.free c.self.inside.free s.root c.args.page c.args.frame c.args.rights) c.self.view_is
-    (c.map_at.ensures.added c.self.inside.free c.self.invariant.tree
-    (outside_used c.self.inside.memory.area c.self.inside.free (frame_count c.self.inside.memory.words) c.args.frame c.self.invariant.known out))
+-- the frame is none of the tables
+outside : (c : goal.In-None) → in_area c.self.inside.memory.area c.args.frame ≡ false
+outside c = ap (λ (s : TableState). in_area s.area c.args.frame) c.self.view_is ∙ no_fault c.args.self.now c.args.page c.args.frame (sym c.in-None.ensures.fault)
+
+used : (c : goal.In-None) → is_free c.self.inside.free c.args.frame ≡ false
+used c = outside_used c.self.inside.memory.area c.self.inside.free (frame_count c.self.inside.memory.words) c.args.frame c.self.invariant.known (outside c)
+
+pub returns-in-None-clause-only : goal.returns-in-None-clause-only
+returns-in-None-clause-only c =
+    let used = used (goal.at.returns-in-None-clause-only c).In-None in
+    let added = c.map_at.ensures.added c.self.inside.free c.self.invariant.tree used in
+    only_seen c.self.view_is c.map_at.ensures.area added.size added.stayed
+    (λ other canonical not. c.map_at.ensures.elsewhere c.self.inside.free c.self.invariant.tree used other canonical (other_page c.args.page other not))
+
+pub returns-in-None-clause-mapped : goal.returns-in-None-clause-mapped
+returns-in-None-clause-mapped c =
+    let added = c.map_at.ensures.added c.self.inside.free c.self.invariant.tree (used (goal.at.returns-in-None-clause-mapped c).In-None) in
+    subst (λ (s : TableState). IsPageMapped s (record { words = c.map_at.new.frames.words; area = c.map_at.new.frames.area; root = c.self.inside.root; free = c.self.inside.free }) c.args.page c.args.frame c.args.rights)
+    c.self.view_is (record { mapped = added.there; added = added })
+
+pub returns-in-None-map_fault-clause-only : goal.returns-in-None-map_fault-clause-only
+returns-in-None-map_fault-clause-only c =
+    let added = c.map_page.ensures.added in
+    only_seen c.self.view_is c.map_page.ensures.area added.size added.stayed
+    (λ other canonical not. c.map_page.ensures.elsewhere other canonical (other_page c.args.page other not))
+
+pub returns-in-None-map_fault-clause-mapped : goal.returns-in-None-map_fault-clause-mapped
+returns-in-None-map_fault-clause-mapped c =
+    let added = c.map_page.ensures.added in
+    subst (λ (s : TableState). IsPageMapped s (record { words = c.map_page.new.frames.words; area = c.map_page.new.frames.area; root = c.self.inside.root; free = c.map_page.new.pool }) c.args.page c.args.frame c.args.rights)
+    c.self.view_is (record { mapped = added.there; added = added })
 
 pub invariant_of-self-in-None-map_fault : goal.invariant_of-self-in-None-map_fault
 invariant_of-self-in-None-map_fault c =

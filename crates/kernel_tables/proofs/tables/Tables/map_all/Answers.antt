@@ -1,8 +1,9 @@
 use Rattle.std.proofs.Common.{◌≡◌, ◌+◌, ◌*◌, ◌/◌, sym, ap, ◌∙◌, arith}
 use Rattle.kernel_tables.specs.TableState.{limit_of}
 use Rattle.kernel_tables.proofs.LargePages.{row_outside, row_part}
-use Rattle.kernel_tables.proofs.RangeMapped.{mapped_tables, IsMappedTo, mapped_start, begins, begins_at, single, page_unmapped, page_room, slot_empty, slot_room, page_next, slot_next, mapped_free, mapped_large}
+use Rattle.kernel_tables.proofs.RangeMapped.{IsMappedTo, mapped_start, begins, begins_at, single, page_unmapped, page_room, slot_empty, slot_room, page_next, slot_next, mapped_only, mapped_range}
 use Rattle.kernel_tables.proofs.tables.Tables.map_all.Goals as goal
+use Rattle.kernel_tables.proofs.tables.Tables.map_all.Goals.{After-loop-done}
 
 pub loop-done-init : goal.loop-done-init
 loop-done-init c = mapped_start c.args.self.now c.args.page c.args.pages c.args.frame c.args.rights
@@ -84,8 +85,8 @@ loop-done-preserved-then-begins_large c =
     let from = b.from in
     let ends = b.to in
     slot_next c.args.self.now c.loop-done.self c.args.page c.args.pages c.args.frame c.loop-done.done c.args.rights c.requires.range c.loop-done.invariant c.loop-done-test.true
-    c.add_large.new.self c.add_large.ensures.place c.containing_address-run.result (omega (arith, at, to, s, r)) b f.0
-    (rw e at c.add_large.ensures.elsewhere) (rw e at c.add_large.ensures.added)
+    c.add_large.new.self c.containing_address-run.result (omega (arith, at, to, s, r)) b f.0
+    (rw e at c.add_large.ensures.only) (rw e at c.add_large.ensures.added)
     (rw e at (c.add_large.ensures.missing c.args.page c.args.pages c.requires.range (rw e from) (rw e ends)))
 
 pub loop-done-preserved : goal.loop-done-preserved
@@ -93,32 +94,20 @@ loop-done-preserved c =
     let a = c.after-at.ensures in
     let no' = sym (rw (c.after-at.ensures, c.after-to.ensures) at c.begins_large.ensures) ∙ c.if-begins_large.false in
     page_next c.args.self.now c.loop-done.self c.args.page c.args.pages c.args.frame c.loop-done.done c.args.rights c.requires.range c.loop-done.invariant c.loop-done-test.true
-    c.add_page.new.self c.add_page.ensures.place
+    c.add_page.new.self
     (single c.args.self.now c.loop-done.self c.args.page c.args.pages c.args.frame c.loop-done.done c.args.rights c.requires.range c.loop-done.invariant c.loop-done-test.true no')
-    (rw a at c.add_page.ensures.elsewhere) (rw (a, c.after-to.ensures) at c.add_page.ensures.added)
+    (rw a at c.add_page.ensures.only) (rw (a, c.after-to.ensures) at c.add_page.ensures.added)
     (rw a at (c.add_page.ensures.missing c.args.page c.args.pages c.requires.range (omega (arith, a)) (omega (arith, a, c.loop-done-test.true))))
 
-pub returns-clause-elsewhere : goal.returns-clause-elsewhere
-returns-clause-elsewhere c =
+all : (c : goal.After-loop-done) → IsMappedTo c.args.self.now c.loop-done.self c.args.page c.args.pages c.args.frame c.args.pages c.args.rights
+all c =
     let w = c.loop-done.invariant.within in
     let d : c.loop-done.done ≡ c.args.pages = omega (arith, w, c.loop-done-test.false) in
-    let all : IsMappedTo c.args.self.now c.loop-done.self c.args.page c.args.pages c.args.frame c.args.pages c.args.rights = rw d at c.loop-done.invariant in
-    all.elsewhere
+    rw d at c.loop-done.invariant
 
-pub returns-clause-free : goal.returns-clause-free
-returns-clause-free c =
-    let w = c.loop-done.invariant.within in
-    let d : c.loop-done.done ≡ c.args.pages = omega (arith, w, c.loop-done-test.false) in
-    let all : IsMappedTo c.args.self.now c.loop-done.self c.args.page c.args.pages c.args.frame c.args.pages c.args.rights = rw d at c.loop-done.invariant in
-    mapped_free c.args.self.now c.loop-done.self c.args.page c.args.pages c.args.frame c.args.rights c.requires.range c.requires.unmapped all
+pub returns-clause-only : goal.returns-clause-only
+returns-clause-only c = mapped_only c.args.self.now c.loop-done.self c.args.page c.args.pages c.args.frame c.args.rights (all (goal.at.returns-clause-only c).After-loop-done)
 
-pub returns-clause-large : goal.returns-clause-large
-returns-clause-large c =
-    let w = c.loop-done.invariant.within in
-    let d : c.loop-done.done ≡ c.args.pages = omega (arith, w, c.loop-done-test.false) in
-    let all : IsMappedTo c.args.self.now c.loop-done.self c.args.page c.args.pages c.args.frame c.args.pages c.args.rights = rw d at c.loop-done.invariant in
-    mapped_large c.args.self.now c.loop-done.self c.args.page c.args.pages c.args.frame c.args.rights c.requires.range all
-
-pub returns-clause-tables : goal.returns-clause-tables
-returns-clause-tables c =
-    mapped_tables c.args.self.now c.loop-done.self c.args.page c.args.pages c.args.frame c.loop-done.done c.args.rights c.loop-done.invariant
+pub returns-clause-mapped : goal.returns-clause-mapped
+returns-clause-mapped c =
+    mapped_range c.args.self.now c.loop-done.self c.args.page c.args.pages c.args.frame c.args.rights c.requires.range c.requires.unmapped (all (goal.at.returns-clause-mapped c).After-loop-done)

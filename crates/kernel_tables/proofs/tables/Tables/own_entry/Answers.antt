@@ -42,7 +42,7 @@ returns-clause-small c =
     let split = c.split_slot.ensures.split in
     let s = c.slot_at-slot.ensures in
     let e : prefix_of c.args.page 3 ≡ slot_of c.slot_at-slot.result = omega (arith, s) in
-    rw (e, c.split_slot.ensures.place.root, split.table) refl
+    rw (e, c.split_slot.ensures.none.place.root, split.table) refl
 
 pub returns-clause-same : goal.returns-clause-same
 returns-clause-same c = λ zero.

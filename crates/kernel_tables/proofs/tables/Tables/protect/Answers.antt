@@ -1,21 +1,25 @@
-use Rattle.std.proofs.Common.{ap, ◌∙◌, arith}
+use Rattle.std.proofs.Common.{ap, sym, arith}
 use Rattle.paging_core.specs.Pool.{free_count}
+use Rattle.kernel_tables.proofs.Changed.{flush_of}
 use Rattle.kernel_tables.proofs.Ends.{alone_open}
-use Rattle.kernel_tables.proofs.Flushed.{other_page}
 use Rattle.kernel_tables.proofs.RangeChanged.{not_split}
 use Rattle.kernel_tables.proofs.tables.Tables.protect.Goals as goal
 
-pub returns-then-grant_entry-clause-ok : goal.returns-then-grant_entry-clause-ok
-returns-then-grant_entry-clause-ok c =
+pub returns-then-grant_entry-clause-fault : goal.returns-then-grant_entry-clause-fault
+returns-then-grant_entry-clause-fault c =
     let some = c.grant_entry.ensures.some c.if-grant_entry.true in
-    alone_open c.args.self.now c.args.page some.0 some.1
+    sym (alone_open c.args.self.now c.args.page some.0 some.1)
 
-pub returns-then-grant_entry-clause-free : goal.returns-then-grant_entry-clause-free
-returns-then-grant_entry-clause-free c =
+pub returns-then-grant_entry-clause-flush : goal.returns-then-grant_entry-clause-flush
+returns-then-grant_entry-clause-flush c = flush_of c.grant_entry.ensures.only
+
+pub returns-then-grant_entry-clause-granted : goal.returns-then-grant_entry-clause-granted
+returns-then-grant_entry-clause-granted c =
     let some = c.grant_entry.ensures.some c.if-grant_entry.true in
     let z = not_split c.args.self.now c.args.page some.1 in
     let f = ap free_count c.grant_entry.ensures.free in
-    omega (arith, z, f)
-
-pub returns-then-grant_entry-clause-flush : goal.returns-then-grant_entry-clause-flush
-returns-then-grant_entry-clause-flush c = λ other place canonical not is. c.grant_entry.ensures.elsewhere other canonical (other_page c.args.page other not) ∙ is
+    record {
+      granted = c.grant_entry.ensures.granted c.if-grant_entry.true;
+      free = omega (arith, z, f);
+      changed = λ _. c.grant_entry.ensures.changed c.if-grant_entry.true;
+    }

@@ -25,13 +25,13 @@ returns-clause-free c =
 pub returns-clause-larges : goal.returns-clause-larges
 returns-clause-larges c = λ n ne.
     let split = c.split_slot.ensures.split in
-    let root = c.split_slot.ensures.place.root in
+    let root = c.split_slot.ensures.none.place.root in
     ap (λ r. large_of c.split_slot.new.self.words r n) root ∙ split.larges n (rw c.slot_at.ensures ne)
 
 pub returns-clause-whole : goal.returns-clause-whole
 returns-clause-whole c =
     let split = c.split_slot.ensures.split in
-    let root = c.split_slot.ensures.place.root in
+    let root = c.split_slot.ensures.none.place.root in
     let none : large_of c.split_slot.new.self.words c.split_slot.new.self.root (slot_of (c.args.at / 512)) ≡ None =
     ap (λ r. large_of c.split_slot.new.self.words r (slot_of (c.args.at / 512))) root
     ∙ (ap (λ s. large_of c.split_slot.new.self.words c.args.self.now.root (slot_of s)) (sym c.slot_at.ensures) ∙ split.no_large) in

@@ -1,9 +1,10 @@
-use Rattle.std.proofs.Common.{◌≡◌, ◌+◌, ◌-◌, ◌/◌, ◌<◌, ℕ, cond, false, refl, ◌∙◌, arith}
+use Rattle.std.proofs.Common.{◌≡◌, ◌+◌, ◌-◌, ◌/◌, ◌<◌, ℕ, cond, false, refl, arith}
 use Rattle.std.proofs.lemmas.Bool.{cases_eq}
 use Rattle.paging_core.specs.Large.{slot_of}
 use Rattle.kernel_tables.specs.Ranges.{is_split}
 use Rattle.kernel_tables.proofs.RangeMapped.{slots_apart}
-use Rattle.kernel_tables.proofs.RangeChanged.{same_tables, same_place, last_split, first_still, all_within, split_parts}
+use Rattle.kernel_tables.proofs.Changed.{none_none}
+use Rattle.kernel_tables.proofs.RangeChanged.{last_split, first_still, all_within, split_parts}
 use Rattle.kernel_tables.proofs.tables.Tables.split_ends.Goals as goal
 
 pub split_beside-requires-clause-room : goal.split_beside-requires-clause-room
@@ -20,12 +21,6 @@ split_beside-requires-2-clause-room c = λ e.
     let o : cond {A = ℕ} (is_split c.split_beside.new.self c.args.page c.args.pages ((c.args.page + (c.args.pages - 1)) / 512)) 1 0 ≡ 1 = rw e' refl in
     let f = c.split_beside.ensures.free in
     omega (arith, s, l, o, f, c.requires.room)
-
-pub returns-clause-place : goal.returns-clause-place
-returns-clause-place c = same_place c.args.self.now c.split_beside.new.self c.split_beside-2.new.self c.split_beside.ensures.place c.split_beside-2.ensures.place
-
-pub returns-clause-walks : goal.returns-clause-walks
-returns-clause-walks c = λ other. c.split_beside-2.ensures.walks other ∙ c.split_beside.ensures.walks other
 
 pub returns-clause-free : goal.returns-clause-free
 returns-clause-free c =
@@ -46,5 +41,5 @@ returns-clause-within c =
     (λ e. slots_apart c.args.page c.args.pages (c.args.page / 512) ((c.args.page + (c.args.pages - 1)) / 512) c.requires.range (omega arith) (omega arith) (omega arith) (omega arith) e))
     w
 
-pub returns-clause-tables : goal.returns-clause-tables
-returns-clause-tables c = same_tables c.args.self.now c.split_beside.new.self c.split_beside-2.new.self c.split_beside.ensures.tables c.split_beside-2.ensures.tables
+pub returns-clause-none : goal.returns-clause-none
+returns-clause-none c = none_none c.split_beside.ensures.none c.split_beside-2.ensures.none

@@ -1,10 +1,11 @@
-use Rattle.std.proofs.Common.{◌∙◌, ap, arith}
+use Rattle.std.proofs.Common.{◌*◌, ◌∙◌, ap, subst, arith}
 use Rattle.paging_core.specs.Area.{in_area}
 use Rattle.paging_core.specs.Memory.{frame_count}
 use Rattle.paging_core.proofs.Areas.{free_stays, known_moved}
-use Rattle.kernel_tables.specs.TableState.{TableState, leads}
+use Rattle.kernel_tables.specs.Changes.{IsLargeUnmapped}
+use Rattle.kernel_tables.specs.TableState.{TableState}
 use Rattle.kernel_tables.proofs.LargePages.{gone_outside}
-use Rattle.kernel_tables.proofs.Flushed.{other_slot}
+use Rattle.kernel_tables.proofs.Changed.{only_seen, flush_of, other_slot}
 use Rattle.kernel_tables.proofs.tables.Tables.unmap_large.Goals as goal
 
 pub invariant_of-self : goal.invariant_of-self
@@ -21,13 +22,17 @@ invariant_of-self c =
           ∙ gone_outside c.self.inside.memory.area c.self.inside.memory.words c.unmap_large.new.frames.words c.self.inside.root c.args.page gone c.self.invariant.apart page place is;
     }
 
-pub returns-clause-unmapped : goal.returns-clause-unmapped
-returns-clause-unmapped c = λ _ k lt.
-    let gone = c.unmap_large.ensures.removed c.self.inside.free c.self.invariant.tree in gone.gone k lt
-
-pub returns-clause-elsewhere : goal.returns-clause-elsewhere
-returns-clause-elsewhere c = λ other canonical ne.
-    c.unmap_large.ensures.elsewhere c.self.inside.free c.self.invariant.tree other canonical ne ∙ ap (λ (s : TableState). leads s other) c.self.view_is
+pub returns-clause-only : goal.returns-clause-only
+returns-clause-only c =
+    let gone = c.unmap_large.ensures.removed c.self.inside.free c.self.invariant.tree in
+    only_seen c.self.view_is c.unmap_large.ensures.area gone.size (λ l n met lt is. gone.others l n (omega (arith, lt)) (λ e _. absurd (omega (arith, lt, e))) ∙ is)
+    (λ other canonical not. c.unmap_large.ensures.elsewhere c.self.inside.free c.self.invariant.tree other canonical (other_slot c.args.page other not))
 
 pub returns-clause-flush : goal.returns-clause-flush
-returns-clause-flush c = λ other place canonical not is. returns-clause-elsewhere c other canonical (other_slot c.args.page other not) ∙ is
+returns-clause-flush c = flush_of (returns-clause-only c)
+
+pub returns-clause-unmapped : goal.returns-clause-unmapped
+returns-clause-unmapped c =
+    let gone = c.unmap_large.ensures.removed c.self.inside.free c.self.invariant.tree in
+    subst (λ (s : TableState). IsLargeUnmapped s (record { words = c.unmap_large.new.frames.words; area = c.unmap_large.new.frames.area; root = c.self.inside.root; free = c.self.inside.free }) c.args.page (512 * c.unmap_large.result))
+    c.self.view_is (record { led = c.unmap_large.ensures.frame; unmapped = gone.gone; cleared = c.unmap_large.ensures.cleared })

@@ -1,4 +1,4 @@
--- A heap as C begins it (own).
+-- A heap over an arena as it begins (own).
 use Rattle.std.specs.Prelude.{◌≡◌, ℕ, List, [], length}
 use Rattle.dlmalloc.specs.State.{new_heap}
 use Rattle.dlmalloc.specs.declared.heap.Dlmalloc.{Dlmalloc}
@@ -6,14 +6,17 @@ use Rattle.heap_arena.specs.Arena.{regions_of}
 use Rattle.heap_arena.specs.declared.arena.Arena.{Arena}
 use Rattle.heap_library.specs.Checked.{heap_state, left_for_words, table_of, words_for_blocks, words_for_table}
 
--- A heap of a granularity that has nothing yet, over the first words of a memory, which begin at an address. Words and table are
--- as they were given, and no word was ever in a grant.
-pub record IsBegun (memory : List ℕ) (address granularity : ℕ) (heap : Dlmalloc Arena) : Type 0 where
+-- A heap of a granularity that has nothing yet, over words that begin at an address. No word was ever in a grant.
+pub record IsNewAt (address granularity : ℕ) (heap : Dlmalloc Arena) : Type 0 where
   pub state : heap_state heap ≡ record new_heap { granularity = granularity }
   pub regions : regions_of heap.system ≡ []
   pub base : heap.system.base ≡ address
   pub top : heap.system.top ≡ address
   pub peak : heap.system.peak ≡ address
+
+-- So it is over the first words of one memory, and has its table there. Words and table are as they were given.
+pub record IsBegun (memory : List ℕ) (address granularity : ℕ) (heap : Dlmalloc Arena) : Type 0 where
+  pub new : IsNewAt address granularity heap
   pub words : heap.system.words.now ≡ words_for_blocks granularity memory
   pub len : length heap.system.words.now ≡ left_for_words granularity (length memory)
   pub table : heap.system.table.words.now ≡ words_for_table granularity memory
