@@ -9,7 +9,7 @@ use Rattle.heap_cells.specs.Spans.{stay_spans, held_spans}
 use Rattle.heap_cells.specs.Rows.{all_bars}
 use Rattle.heap_cells.specs.Paths.{paths_text}
 
--- the bars of the heap's regions, if a cell has so many pixels: one shade, for each cell of which a byte or more is in a region
+-- the bars of the heap's regions, in cells of this side: one shade, for each cell of which a byte or more is in a region
 unfoldable pub heap_bars : ℕ → ℕ → List Band → List Span → List Bar
 heap_bars side calls bands heap = all_bars (record { calls = calls; side = side }) 1 heap bands
 
@@ -21,7 +21,7 @@ block_bars side calls bands blocks = all_bars (record { calls = calls; side = si
 abbrev pub bars_number : ℕ → ℕ → List Band → List Span → List Span → ℕ
 bars_number side calls bands heap blocks = length (heap_bars side calls bands heap) + length (block_bars side calls bands blocks)
 
--- cells of so many pixels
+-- the cells of this side
 abbrev pub side_text : ℕ → ℕ → List Band → List Span → List Span → List ℕ
 side_text side calls bands heap blocks = paths_text side (heap_bars side calls bands heap) (block_bars side calls bands blocks)
 
@@ -36,7 +36,7 @@ unfoldable pub spans_text : ℕ → List Band → List Span → List Span → Li
 spans_text calls bands heap blocks =
     if nat_le (bars_number 2 calls bands heap blocks) 16000 then side_text 2 calls bands heap blocks else coarse_text calls bands heap blocks
 
--- The heap over a run of so many calls: the bands, and in them the heap's regions and the stays of blocks. Without calls there is
+-- The heap over a run of `calls` calls: the bands, and in them the heap's regions and the stays of blocks. Without calls there is
 -- nothing to draw.
 unfoldable pub cells_text : ℕ → List Band → List Stay → List Held → List ℕ
 cells_text calls bands stays heap = if nat_eq calls 0 then [] else spans_text calls bands (held_spans heap) (stay_spans stays)

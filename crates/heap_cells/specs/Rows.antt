@@ -21,7 +21,7 @@ rows_of scale band = band.height / scale.side
 abbrev pub row_start : Scale → Band → ℕ → ℕ
 row_start scale band row = band.low + row * (band.high - band.low) / rows_of scale band
 
--- A row, counted upwards: its part of the band's addresses, and one at least; and where its middle is, in pixels.
+-- A row, counted upwards: its part of the band's addresses, at least one; and its middle, in pixels.
 abbrev pub row_at : Scale → Band → ℕ → Row
 row_at scale band row = record {
   low = row_start scale band row;
@@ -33,7 +33,7 @@ row_at scale band row = record {
 abbrev pub row_bars : Scale → ℕ → Row → List Span → List Bar
 row_bars scale shades row spans = bars_of scale.side row.y (row_shades scale shades row spans)
 
--- the bars of so many rows of a band, from one on upwards
+-- the bars of a number of rows of a band, from one on upwards
 abbrev pub rows_from : Scale → ℕ → List Span → Band → ℕ → ℕ → List Bar
 rows_from scale shades spans band first zero = []
 rows_from scale shades spans band first (suc number) =

@@ -13,7 +13,7 @@ columns_of scale = 1024 / scale.side
 abbrev pub calls_at : Scale → ℕ → ℕ
 calls_at scale column = (column + 1) * scale.calls / columns_of scale
 
--- Of so many shades the one of a cell with `used` of its bytes: their part of the cell, rounded up.
+-- The shade of a cell of which `used` bytes are used: their part of the cell, in `shades` steps, rounded up.
 abbrev pub shade_of : ℕ → ℕ → ℕ → ℕ
 shade_of shades used bytes = (shades * min used bytes + (bytes - 1)) / bytes
 
@@ -21,7 +21,7 @@ shade_of shades used bytes = (shades * min used bytes + (bytes - 1)) / bytes
 abbrev pub cell_shade : Scale → ℕ → Row → List Span → ℕ → ℕ
 cell_shade scale shades row spans column = shade_of shades (used_in row.low row.high (calls_at scale column) spans) (row.high - row.low)
 
--- the shades of the first so many cells of a row
+-- the shades of the first cells of a row
 abbrev pub first_shades : Scale → ℕ → Row → List Span → ℕ → List ℕ
 first_shades scale shades row spans zero = []
 first_shades scale shades row spans (suc column) = first_shades scale shades row spans column ++ cell_shade scale shades row spans column ∷ []
@@ -30,7 +30,7 @@ first_shades scale shades row spans (suc column) = first_shades scale shades row
 unfoldable pub row_shades : Scale → ℕ → Row → List Span → List ℕ
 row_shades scale shades row spans = first_shades scale shades row spans (columns_of scale)
 
--- a shade of so many is the share of used bytes, rounded up: the least one that is no less
+-- a shade is the share of used bytes, rounded up: the least one that is no less
 pub record IsShare (shades used bytes : ℕ) : Type 0 where
   pub enough : shades * used ≤ shade_of shades used bytes * bytes
   pub least : (shade : ℕ) → shades * used ≤ shade * bytes → shade_of shades used bytes ≤ shade

@@ -19,7 +19,7 @@ held_span held = record { start = held.start; bytes = min (4096 * held.pages) (2
 abbrev pub held_spans : List Held → List Span
 held_spans heap = map held_span heap
 
--- Whether a span shows after so many calls: the call with which it comes has been made, and the one that ends it has not. Calls count
+-- Whether a span shows after `calls` calls: the call with which it comes has been made, and the one that ends it has not. Calls count
 -- from 0, so it shows after call k if born ≤ k < end.
 abbrev pub shows : ℕ → Span → Bool
 shows calls span = nat_lt span.born calls && nat_le calls span.end
@@ -32,6 +32,6 @@ overlap low high span = min (span.start + span.bytes) high - max span.start low
 abbrev pub spans_in : ℕ → ℕ → List Span → List Span
 spans_in low high spans = filter (λ span. nat_lt 0 (overlap low high span)) spans
 
--- the bytes from one address to another in the spans that show after so many calls
+-- the bytes from one address to another in the spans that show after `calls` calls
 abbrev pub used_in : ℕ → ℕ → ℕ → List Span → ℕ
 used_in low high calls spans = sum_by (λ span. if shows calls span then overlap low high span else 0) spans

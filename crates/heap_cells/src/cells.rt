@@ -13,7 +13,7 @@ use std::alloc::{AllocError, Global};
 /// The bars of a drawing at most, if its cells can be greater.
 const MOST: u128 = 16_000;
 
-// The bars of the heap's regions, if a cell has so many pixels.
+// The bars of the heap's regions, in cells of this side.
 #[tactic(auto, unfolding(crate::specs::Cells::heap_bars))]
 fn heap_bars(
     alloc: Global,
@@ -96,7 +96,8 @@ fn push_spans(
     push_coarse(alloc, out, calls, bands, heap, blocks)
 }
 
-/// Puts the heap over a run of so many calls at the end: in each band the heap's regions, and over them the stays of blocks.
+/// Puts the heap over a run of `calls` calls at the end: in each band the heap's regions, and over them the stays of
+/// blocks.
 #[tactic(auto, unfolding(crate::specs::Cells::cells_text))]
 pub fn push_cells(
     alloc: Global,

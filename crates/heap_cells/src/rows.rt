@@ -91,8 +91,8 @@ fn push_row(
     push_bars(bars, scale.side, row.y, &all)
 }
 
-// Puts the bars of so many rows at the end, from one on upwards. Each half of the rows is left only the spans that it
-// meets, so a span costs a step for each time that the rows can be halved, and for each row that it meets.
+// Puts the bars of a number of rows at the end, from one on upwards. Each half of the rows is left only the spans that
+// it meets, so a span costs a step for each time that the rows can be halved, and for each row that it meets.
 fn push_rows(
     alloc: Global,
     bars: &mut Vec<Bar>,

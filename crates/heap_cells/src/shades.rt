@@ -7,7 +7,7 @@ use crate::spans::Span;
 use crate::sums::{Change, changes};
 use std::alloc::{AllocError, Global};
 
-// Of so many shades the one of a cell with so many used bytes.
+// The shade of a cell with `used` used bytes, of `shades`.
 fn shade_of(shades: u128, used: u128, bytes: u128) -> u128
     requires shades { shades ≤ 4 }
     requires bytes { (1 ≤ bytes) × (bytes < 2 ^ 100) }

@@ -40,7 +40,7 @@ abbrev pub most_letters : List (List ℕ) → ℕ
 most_letters [] = 0
 most_letters (line ∷ lines) = max (min 28 (length line)) (most_letters lines)
 
--- the letters of the longest word of a line, of whose first word so many came already
+-- the letters of the longest word of a line, after some letters of its first word
 abbrev pub longest_from : ℕ → List ℕ → ℕ
 longest_from letters [] = letters
 longest_from letters (letter ∷ line) = if nat_eq letter 32 then max letters (longest_from 0 line) else longest_from (letters + 1) line
@@ -69,7 +69,7 @@ are_upright calls lines = nat_le calls 32 && (nat_le (most_words lines) 8 && nat
 abbrev pub word_class : ℕ → List ℕ
 word_class place = if nat_eq place 0 then codes "m" else codes "m faint"
 
--- a word of a line, so many below the first
+-- a word of a line; `place` is how many words stand above it
 unfoldable pub word_text : ℕ → ℕ → ℕ → List ℕ → List ℕ
 word_text x y place word = text_at (word_class place) (x + 4) (y + 13 + 14 * place) word
 
@@ -88,7 +88,7 @@ abbrev pub uprights_text : ℕ → ℕ → ℕ → ℕ → List (List ℕ) → L
 uprights_text top y calls call [] = []
 uprights_text top y calls call (line ∷ lines) = upright_text top y calls call line ++ uprights_text top y calls (call + 1) lines
 
--- The least of a number, two and five times as much, and of ten times as much so many times, that makes ten of it reach so many calls.
+-- The least step of which ten reach all calls, of 1, 2 and 5 times a power of ten, from one power on and up to a number of times.
 abbrev pub step_from : ℕ → ℕ → ℕ → ℕ
 step_from zero power calls = power
 step_from (suc times) power calls =
@@ -105,7 +105,7 @@ step_of calls = step_from 20 1 calls
 unfoldable pub tick_text : ℕ → ℕ → ℕ → ℕ → List ℕ
 tick_text top y calls call = grid_text top y calls call ++ text_at (codes "m c faint") (x_of call calls) (y + 14) (commas call)
 
--- so many ticks
+-- the ticks up to a number
 abbrev pub ticks_text : ℕ → ℕ → ℕ → ℕ → ℕ → List ℕ
 ticks_text top y calls step zero = []
 ticks_text top y calls step (suc ticks) = ticks_text top y calls step ticks ++ tick_text top y calls (step * ticks)

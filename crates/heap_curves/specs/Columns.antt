@@ -15,7 +15,7 @@ abbrev pub greatest : Counted → List Moment → ℕ
 greatest counted [] = 0
 greatest counted (moment ∷ moments) = max (bytes_of counted moment) (greatest counted moments)
 
--- how many columns so many calls have
+-- the number of columns for a number of calls
 abbrev pub columns_number : ℕ → ℕ
 columns_number calls = min calls 1024
 

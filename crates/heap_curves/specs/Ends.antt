@@ -10,7 +10,7 @@ use Rattle.heap_curves.specs.Paths.{told, height_of, floor_of}
 abbrev pub last_moment : List Moment → Moment
 last_moment moments = get_or moments (length moments - 1) (record { live = 0; heap = 0 })
 
--- the lowest base line of words that have so many lines of words below them
+-- the lowest base line of words that have `rest` lines of words below them
 abbrev pub lowest : Scale → ℕ → ℕ
 lowest scale rest = floor_of scale + 4 - 13 * rest
 

@@ -2,22 +2,14 @@
 use Rattle.std.specs.Prelude.{ℕ, zero, suc, ◌+◌, ◌-◌, ◌*◌, ◌^◌, max, Bool, ◌&&◌, nat_eq, nat_le, List, [], ◌∷◌, ◌++◌, length, codes, if◌then◌else◌}
 use Rattle.heap_history.specs.declared.history.Mapping.{Mapping}
 use Rattle.heap_history.specs.Columns.{x_of}
+use Rattle.heap_lines.specs.Written.{rights_word}
 use Rattle.heap_map.specs.Words.{hexadecimal, commas}
 use Rattle.heap_map.specs.Shapes.{text_at, rect, titled}
 use Rattle.heap_curves.specs.Addresses.{least_start, all_addresses}
-use Rattle.paging_core.specs.declared.page_table.Rights.{Rights}
 
--- a right that is granted by its letter, else a dash
-abbrev pub right_word : Bool → List ℕ → List ℕ
-right_word granted letter = if granted then letter else codes "-"
-
--- what may be done with the pages of a region
-unfoldable pub rights_words : Rights → List ℕ
-rights_words rights = codes "r" ++ (right_word rights.write (codes "w") ++ (right_word rights.user (codes "u") ++ right_word rights.fetch (codes "x")))
-
--- so many pages, with their rights
+-- the number of pages, with their rights
 unfoldable pub pages_words : Mapping → List ℕ
-pages_words user = commas user.region.pages ++ ((if nat_eq user.region.pages 1 then codes " page " else codes " pages ") ++ rights_words user.region.rights)
+pages_words user = commas user.region.pages ++ ((if nat_eq user.region.pages 1 then codes " page " else codes " pages ") ++ rights_word user.region.rights)
 
 -- the label of a region
 unfoldable pub label_words : Mapping → List ℕ
@@ -31,7 +23,7 @@ when_words user = codes ", from call " ++ (commas (user.born + 1) ++ (codes " to
 unfoldable pub region_title : Mapping → List ℕ
 region_title user = hexadecimal user.region.start ++ (codes " + " ++ (label_words user ++ when_words user))
 
--- from where to where a region is drawn: three pixels at least
+-- the left and the right edge of a region, which is at least three pixels wide
 abbrev pub region_left : ℕ → Mapping → ℕ
 region_left calls user = x_of user.born calls
 
@@ -87,7 +79,7 @@ more_words more = codes "and " ++ (commas more ++ addresses_word more)
 unfoldable pub more_text : ℕ → ℕ → List Mapping → List ℕ
 more_text y low users = if nat_eq (least_start low users) (2 ^ 64) then [] else text_at (codes "faint") 149 (y + 12) (more_words (all_addresses low users))
 
--- so many lanes at most, one below the other, and then what has none
+-- lanes up to a limit, one below the other, and then what has none
 abbrev pub lanes_from : ℕ → ℕ → ℕ → ℕ → List Mapping → List ℕ
 lanes_from zero calls y low users = more_text y low users
 lanes_from (suc lanes) calls y low users =

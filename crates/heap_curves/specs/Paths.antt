@@ -12,7 +12,7 @@ pub record IsScale (scale : Scale) : Type 0 where
   pub height : scale.height ≤ 112
   pub some : 1 ≤ scale.most
 
--- bytes that are drawn and told; no run has so many
+-- bytes as they are drawn and told: below 2 ^ 100, as those of each run are
 abbrev pub told : ℕ → ℕ
 told bytes = min bytes (2 ^ 100 - 1)
 
@@ -34,7 +34,7 @@ curve_bytes Peak column = column.peak
 unfoldable pub step_text : ℕ → ℕ → List ℕ
 step_text x height = codes "H" ++ (decimal x ++ (codes "V" ++ decimal height))
 
--- The steps of a curve of so many columns, from one on, after a line at a height.
+-- The steps of a curve from one column on, after a line at a height; `number` is that of all columns.
 abbrev pub steps_text : Curve → Scale → ℕ → ℕ → ℕ → List Column → List ℕ
 steps_text curve scale number place height [] = []
 steps_text curve scale number place height (column ∷ columns) =

@@ -1,26 +1,11 @@
 -- The calls that were refused, over a run.
 use Rattle.std.specs.Prelude.{ℕ, ◌+◌, ◌-◌, ◌*◌, ◌/◌, min, max, nat_eq, List, [], ◌∷◌, ◌++◌, length, codes, if◌then◌else◌}
-use Rattle.heap_model.specs.declared.answer.Refusal.{Refusal}
-use Rattle.heap_model.specs.declared.answer.Refusal.TheVariants.{BadAlign, TooLarge, NoSpace, NoFrames, UnknownBlock, OutOfBlock, BadRange, HeapRegion, Overlap, UnknownRegion, NotCanonical}
 use Rattle.heap_history.specs.declared.history.RefusedCall.{RefusedCall}
+use Rattle.heap_lines.specs.Written.{refusal_word}
 use Rattle.heap_map.specs.Words.{commas}
 use Rattle.heap_map.specs.Shapes.{text_at, rect, titled}
 
--- the cause of a refusal, as answers name it
-unfoldable pub cause_words : Refusal → List ℕ
-cause_words BadAlign = codes "bad-align"
-cause_words TooLarge = codes "too-large"
-cause_words NoSpace = codes "no-space"
-cause_words NoFrames = codes "no-frames"
-cause_words UnknownBlock = codes "unknown-block"
-cause_words OutOfBlock = codes "out-of-block"
-cause_words BadRange = codes "bad-range"
-cause_words HeapRegion = codes "heap-region"
-cause_words Overlap = codes "overlap"
-cause_words UnknownRegion = codes "unknown-region"
-cause_words NotCanonical = codes "not-canonical"
-
--- how many columns so many calls have: one each, and 512 at most
+-- the number of columns for a number of calls: one each, and 512 at most
 abbrev pub bars_number : ℕ → ℕ
 bars_number calls = max 1 (min calls 512)
 
@@ -32,7 +17,7 @@ bar_of calls call = min (bars_number calls - 1) (call * bars_number calls / max 
 abbrev pub bar_call : ℕ → ℕ → ℕ
 bar_call calls bar = (bar * calls + (bars_number calls - 1)) / bars_number calls
 
--- where a column begins
+-- the left edge of a column
 abbrev pub bar_left : ℕ → ℕ → ℕ
 bar_left calls bar = 144 + bar * 1024 / bars_number calls
 
@@ -40,7 +25,7 @@ bar_left calls bar = 144 + bar * 1024 / bars_number calls
 abbrev pub bar_width : ℕ → ℕ → ℕ
 bar_width calls bar = min 12 (bar_left calls (bar + 1) - bar_left calls bar)
 
--- the height of so many refused calls of all of its calls: the share of 20, rounded up
+-- the height of a column: the refused part of its calls, of 20 pixels, rounded up
 abbrev pub bar_height : ℕ → ℕ → ℕ → ℕ
 bar_height calls bar number =
     let all = max 1 (bar_call calls (bar + 1) - bar_call calls bar) in
@@ -48,7 +33,7 @@ bar_height calls bar number =
 
 -- a refused call, counted from 1, and its cause
 unfoldable pub call_title : RefusedCall → List ℕ
-call_title one = codes "call " ++ (commas (one.call + 1) ++ (codes ": " ++ cause_words one.cause))
+call_title one = codes "call " ++ (commas (one.call + 1) ++ (codes ": " ++ refusal_word one.cause))
 
 -- the calls of a column, counted from 1
 unfoldable pub span_words : ℕ → ℕ → List ℕ
@@ -57,11 +42,11 @@ span_words calls bar = commas (bar_call calls bar + 1) ++ (codes " to " ++ comma
 unfoldable pub refused_of : List ℕ
 refused_of = codes " refused of the calls "
 
--- so many refused calls of those of a column
+-- how many of the calls of a column were refused
 unfoldable pub calls_title : ℕ → ℕ → ℕ → List ℕ
 calls_title calls bar number = commas number ++ (refused_of ++ span_words calls bar)
 
--- what is said of so many refused calls of a column, of which one is the first
+-- the title of a column, by its first refused call and their number
 unfoldable pub bar_title : ℕ → RefusedCall → ℕ → List ℕ
 bar_title calls first number = if nat_eq number 1 then call_title first else calls_title calls (bar_of calls first.call) number
 
@@ -71,8 +56,8 @@ bar_text calls y first number =
     titled (codes "no") (bar_left calls (bar_of calls first.call)) (y + 20 - bar_height calls (bar_of calls first.call) number)
     (bar_width calls (bar_of calls first.call)) (bar_height calls (bar_of calls first.call) number) (bar_title calls first number)
 
--- The columns that follow when so many refused calls of one column came, of which one is the first: the next one is of that column, or
--- begins another.
+-- The columns from one on, of which the first refused call is known, and how many there were so far. The next refused call is of that
+-- column, or begins another.
 abbrev pub bars_from : ℕ → ℕ → RefusedCall → ℕ → List RefusedCall → List ℕ
 bars_from calls y first number [] = bar_text calls y first number
 bars_from calls y first number (one ∷ refused) =

@@ -203,7 +203,7 @@ fn tick_call(calls: u64, step: u128, tick: u128) -> u64
     (step * tick) as u64
 }
 
-// Puts so many ticks at the end.
+// Puts this number of ticks at the end.
 #[tactic(auto, using(crate::proofs::Loops::ticks_step, std::proofs::lemmas::Grind::common_steps))]
 fn push_ticks(
     alloc: Global,

@@ -47,7 +47,7 @@ pub fn greatest(counted: Counted, moments: &[Moment]) -> u128
     most
 }
 
-// How many columns so many calls have.
+// The number of columns for a number of calls.
 fn columns_number(calls: usize) -> usize
     ensures value { result ≡ columns_number calls }
     ensures few { result ≤ 1024 }

@@ -18,7 +18,7 @@ pub fn last_moment(moments: &[Moment]) -> Moment
     }
 }
 
-// A base line beside bytes, 13 below the one above at least if there is room for that, with room for so many lines below.
+// A base line beside bytes, with room for `rest` lines below. If there is room, it is at least 13 below the one above.
 fn beside(scale: Scale, above: u128, bytes: u128, rest: u128) -> u128
     requires scale { IsScale scale }
     requires above { above < 2 ^ 101 }

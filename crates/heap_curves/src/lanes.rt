@@ -1,29 +1,12 @@
 // The user's regions over a run.
 ghost use Rattle.std.specs.Prelude.{◌≡◌, ◌<◌, ◌≤◌, ◌+◌, ◌^◌, ◌++◌, ◌⊎◌, OnOk, string_bytes};
-ghost use Rattle.heap_curves.specs.Lanes.{right_word, rights_words, pages_words, label_words, when_words, region_title, region_left, region_right, region_width, label_text, large_text, region_text, is_drawn, regions_text, ground_text, lane_text, addresses_word, more_words, more_text, lanes_text, lanes_height};
+ghost use Rattle.heap_curves.specs.Lanes.{pages_words, label_words, when_words, region_title, region_left, region_right, region_width, label_text, large_text, region_text, is_drawn, regions_text, ground_text, lane_text, addresses_word, more_words, more_text, lanes_text, lanes_height};
 
 use crate::addresses::{NONE, all_addresses, least_start};
 use heap_history::{Mapping, x_of};
+use heap_lines::push_rights;
 use heap_map::{Area, push_address, push_commas, push_rect, push_text, push_titled};
-use paging_core::Rights;
 use std::alloc::{AllocError, Global};
-
-// A right that is granted by its letter, else a dash.
-fn right_word(granted: bool, letter: &'static str) -> &'static str
-    ensures { result.now ≡ right_word granted letter.now }
-{
-    if granted { letter } else { "-" }
-}
-
-#[tactic(auto, unfolding(crate::specs::Lanes::rights_words))]
-fn push_rights(out: &mut String, rights: Rights) -> Result<(), AllocError>
-    ensures { OnOk result (string_bytes out.new ≡ string_bytes out.old ++ rights_words rights) }
-{
-    out.push_str("r")?;
-    out.push_str(right_word(rights.write, "w"))?;
-    out.push_str(right_word(rights.user, "u"))?;
-    out.push_str(right_word(rights.fetch, "x"))
-}
 
 #[tactic(auto, unfolding(crate::specs::Lanes::pages_words))]
 fn push_pages(out: &mut String, user: Mapping) -> Result<(), AllocError>
@@ -69,7 +52,7 @@ fn push_title(out: &mut String, user: Mapping) -> Result<(), AllocError>
     push_when(out, user)
 }
 
-// From where a region is drawn.
+// The left edge of a region.
 fn region_left(calls: u64, user: Mapping) -> u128
     ensures value { result ≡ region_left calls user }
     ensures few { result < 2 ^ 81 }
@@ -77,7 +60,7 @@ fn region_left(calls: u64, user: Mapping) -> u128
     x_of(user.born, calls)
 }
 
-// To where a region is drawn: three pixels at least.
+// The right edge of a region, at least three pixels on.
 fn region_right(calls: u64, user: Mapping) -> u128
     ensures value { result ≡ region_right calls user }
     ensures few { result < 2 ^ 81 }

@@ -28,7 +28,7 @@ pub struct Scale {
     pub most: u128,
 }
 
-/// Bytes that are drawn and told; no run has so many.
+/// Bytes as they are drawn and told: below 2^100, as those of each run are.
 pub fn told(bytes: u128) -> u128
     ensures value { result ≡ told bytes }
     ensures few { result < 2 ^ 100 }

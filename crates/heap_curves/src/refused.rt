@@ -1,33 +1,13 @@
 // The calls that were refused, over a run.
 ghost use Rattle.std.specs.Prelude.{◌≡◌, ◌<◌, ◌≤◌, ◌+◌, ◌^◌, ◌++◌, OnOk, string_bytes};
-ghost use Rattle.heap_curves.specs.Refused.{cause_words, bars_number, bar_of, bar_call, bar_left, bar_width, bar_height, call_title, span_words, refused_of, calls_title, bar_title, bar_text, bars_text, refused_ground, refused_text, refused_height};
+ghost use Rattle.heap_curves.specs.Refused.{bars_number, bar_of, bar_call, bar_left, bar_width, bar_height, call_title, span_words, refused_of, calls_title, bar_title, bar_text, bars_text, refused_ground, refused_text, refused_height};
 
 use heap_history::RefusedCall;
+use heap_lines::refusal_word;
 use heap_map::{Area, push_commas, push_rect, push_text, push_titled};
-use heap_model::Refusal;
 use std::alloc::{AllocError, Global};
 
-/// The cause of a refusal, as answers name it.
-#[tactic(auto, unfolding(crate::specs::Refused::cause_words))]
-pub fn cause_words(cause: Refusal) -> &'static str
-    ensures { result.now ≡ cause_words cause }
-{
-    match cause {
-        Refusal::BadAlign => "bad-align",
-        Refusal::TooLarge => "too-large",
-        Refusal::NoSpace => "no-space",
-        Refusal::NoFrames => "no-frames",
-        Refusal::UnknownBlock => "unknown-block",
-        Refusal::OutOfBlock => "out-of-block",
-        Refusal::BadRange => "bad-range",
-        Refusal::HeapRegion => "heap-region",
-        Refusal::Overlap => "overlap",
-        Refusal::UnknownRegion => "unknown-region",
-        Refusal::NotCanonical => "not-canonical",
-    }
-}
-
-// How many columns so many calls have.
+// The number of columns for a number of calls.
 fn bars_number(calls: u64) -> u128
     ensures value { result ≡ bars_number calls }
     ensures some { 1 ≤ result }
@@ -76,7 +56,7 @@ fn bar_width(calls: u64, bar: u128) -> u128
         .min(12)
 }
 
-// The height of so many refused calls of all of its calls.
+// The height of a column with this number of refused calls.
 fn bar_height(calls: u64, bar: u128, number: u64) -> u128
     requires { bar < 512 }
     ensures value { result ≡ bar_height calls bar number }
@@ -95,7 +75,7 @@ fn push_call_title(out: &mut String, one: RefusedCall) -> Result<(), AllocError>
     out.push_str("call ")?;
     push_commas(out, u128::from(one.call) + 1)?;
     out.push_str(": ")?;
-    out.push_str(cause_words(one.cause))
+    out.push_str(refusal_word(one.cause))
 }
 
 #[tactic(auto, unfolding(crate::specs::Refused::span_words))]
@@ -125,7 +105,7 @@ fn push_calls_title(out: &mut String, calls: u64, bar: u128, number: u64) -> Res
     push_span(out, calls, bar)
 }
 
-// Puts what is said of so many refused calls of a column at the end, of which one is the first.
+// Puts the title of a column at the end: it has this number of refused calls, and this is the first.
 #[tactic(auto, unfolding(crate::specs::Refused::bar_title))]
 fn push_title(
     out: &mut String,

@@ -86,7 +86,7 @@ fn word_class(place: u128) -> &'static str
     if place == 0 { "m" } else { "m faint" }
 }
 
-// Puts a word of a line at the end, so many below the first.
+// Puts a word of a line at the end; `place` is how many words stand above it.
 #[tactic(auto, unfolding(crate::specs::Calls::word_text))]
 fn push_word(out: &mut String, x: u128, y: u128, place: u128, word: &str) -> Result<(), AllocError>
     requires x { x < 2 ^ 100 }

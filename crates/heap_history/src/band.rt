@@ -1,7 +1,7 @@
 // A band of addresses in a drawing.
 
-/// Addresses that are drawn to one scale: from `low` on to the last before `high`, upwards. A folded band shows that nothing
-/// begins or ends in it, and not where.
+/// Addresses that are drawn to one scale: from `low` on to the last before `high`, upwards. A folded band is not to
+/// scale: nothing begins or ends in it.
 #[derive(Clone, Copy, PartialEq, Eq, Debug)]
 pub struct Band {
     pub low: u128,

@@ -2,7 +2,8 @@
 ghost use Rattle.std.specs.Prelude.{◌≡◌, ◌<◌, ◌^◌};
 ghost use Rattle.heap_history.specs.Columns.{x_of};
 
-/// Where the column of a call begins, in pixels, if there are so many calls. Call `calls` is the right edge.
+/// The left edge of the column of a call, in pixels, in a drawing of `calls` calls. That of call `calls` is the right
+/// edge.
 pub fn x_of(call: u64, calls: u64) -> u128
     ensures is { result ≡ x_of call calls }
     ensures small { result < 2 ^ 80 }

@@ -6,7 +6,8 @@ use Rattle.std.specs.Fmt.{digits}
 use Rattle.std.specs.Char.{digit_value}
 use Rattle.std.specs.List.{AllByRecursion}
 use Rattle.std.specs.Str.Parse.{AllDigits, digits_value}
-use Rattle.heap_program.specs.Text.{hexadecimal, span_text, spaced}
+use Rattle.heap_lines.specs.Written.{hexadecimal}
+use Rattle.heap_program.specs.Text.{span_text, spaced}
 
 pub head_of : {x y : ℕ} {xs ys : List ℕ} → x ∷ xs ≡ y ∷ ys → x ≡ y
 head_of h = cc

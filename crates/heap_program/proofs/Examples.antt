@@ -1,5 +1,5 @@
 -- Worked values: the definitions computed on short inputs.
-use Rattle.std.proofs.Common.{◌≡◌, ◌^◌, ◌-◌, ℕ, true, false, [], ◌∷◌, ◌++◌, map, codes, refl, Some, None, lit<, lit≤}
+use Rattle.std.proofs.Common.{◌≡◌, ℕ, true, false, [], ◌∷◌, ◌++◌, map, codes, refl, Some, None, lit<, lit≤}
 use Rattle.dlmalloc_chunks.specs.declared.extent.Kind.TheVariants.{Used, Free as Binned, Victim, Top, Record, Foot}
 use Rattle.heap_model.specs.declared.call.Access.TheVariants.{Read as Reading, Write as Writing, Fetch as Fetching}
 use Rattle.heap_model.specs.declared.call.Call.TheVariants.{Malloc, Calloc, Realloc, CRealloc, Free, Write, Read, Map, Unmap, Probe, Trim, SetRate, SetGranularity, Reset, Extents}
@@ -9,41 +9,16 @@ use Rattle.std.specs.Fmt.{digits}
 use Rattle.hex.proofs.OnLiterals.{hex_on_literals}
 use Rattle.heap_model.specs.Room.{heap_region}
 use Rattle.heap_model.specs.State.{start}
-use Rattle.heap_program.specs.Grammar.{item_of}
+use Rattle.heap_lines.specs.Grammar.{item_of}
 use Rattle.heap_program.specs.declared.arguments.Command.TheVariants.{Run, Generate}
 use Rattle.kernel_heap.specs.Config.{IsGoodConfig}
 use Rattle.heap_program.specs.Command.{default_config, config_of, named_command}
 use Rattle.heap_program.specs.Generator.{drawn, first_state, pick, call_of_draws, drawn_call, state_after, numbers_given}
 use Rattle.heap_program.specs.Lines.{items_of, lines_of}
-use Rattle.heap_program.specs.Number.{number_of}
 use Rattle.heap_program.specs.Status.{status_text_of}
 use Rattle.heap_program.specs.Text.{text_of, region_line, tally_line, end_text_of}
-use Rattle.heap_program.specs.Words.{words_of}
 
--- numbers
-
-number-decimal : number_of (codes "0024") ≡ Some 24
-number-decimal = refl
-
-number-hexadecimal : number_of (codes "0xFfffFFFFFFFFffff") ≡ Some (2 ^ 64 - 1)
-number-hexadecimal = refl
-
-number-21_digits : number_of (codes "000000000000000000001") ≡ None
-number-21_digits = refl
-
-number-too_large : number_of (codes "18446744073709551616") ≡ None
-number-too_large = refl
-
-number-upper_x : number_of (codes "0X10") ≡ None
-number-upper_x = refl
-
-number-no_digit : number_of (codes "0x") ≡ None
-number-no_digit = refl
-
--- words and lines
-
-words-two_spaces : words_of (codes "malloc  3") ≡ codes "malloc" ∷ [] ∷ codes "3" ∷ []
-words-two_spaces = refl
+-- lines
 
 lines-last : lines_of (codes "a\n\nb") ≡ codes "a" ∷ [] ∷ codes "b" ∷ []
 lines-last = refl

@@ -1,6 +1,5 @@
 pub mod Blocks
 pub mod Commands
-pub mod Decoded
 pub mod Draws
 pub mod Endings
 pub mod Errors
@@ -12,11 +11,9 @@ pub mod Known
 pub mod LineLemmas
 pub mod LiveBlocks
 pub mod ProcessorRegions
-pub mod Numerals
 pub mod Powers
 pub mod Runs
 pub mod Sessions
 pub mod Spellings
 pub mod Texts
 pub mod Wholes
-pub mod WordLemmas

@@ -24,7 +24,8 @@ use Rattle.heap_model.specs.Tables.{free_frames}
 use Rattle.heap_model.specs.State.{State}
 use Rattle.heap_program.specs.Progress.{texts_of}
 use Rattle.heap_program.specs.Spelling.{ExtentFits, ReplyFits, RegionFits, RegionsFit, SlotsFit, AnswerFits, SpellsOne}
-use Rattle.heap_program.specs.Text.{hexadecimal, span_text, kind_word, spaced, extent_text, reply_text, pages_text, regions_text, region_line, heap_line, large_line, text_of, line_text, counts_line, end_text_of}
+use Rattle.heap_lines.specs.Written.{hexadecimal}
+use Rattle.heap_program.specs.Text.{span_text, kind_word, spaced, extent_text, reply_text, pages_text, regions_text, region_line, heap_line, large_line, text_of, line_text, counts_line, end_text_of}
 use Rattle.heap_program.proofs.Endings.{head_of, tail_of, told_end, digits_end, decimal_end, hex_end, span_end, Ends, items_end}
 
 -- the two numbers of a block, and what follows

@@ -15,7 +15,7 @@ use Rattle.heap_program.specs.Advanced.{Advanced}
 use Rattle.heap_program.specs.Answering.{IsAnswering}
 use Rattle.heap_program.specs.Flushed.{IsAllFlushed}
 use Rattle.heap_program.specs.Headline.{ending_of, IsFront, IsInterrupted, IsReadWhole, IsAnswered, IsStopped}
-use Rattle.heap_program.specs.Grammar.{item_of}
+use Rattle.heap_lines.specs.Grammar.{item_of}
 use Rattle.heap_program.specs.Lines.{items_of, IsOneLine}
 use Rattle.heap_model.specs.Run.{RunsTo}
 use Rattle.heap_program.specs.Progress.{texts_of, IsAt, IsEnd}

@@ -6,7 +6,7 @@ use Rattle.std.specs.declared.alloc.Global.{Global}
 use Rattle.heap_model.specs.declared.config.Config.{Config}
 use Rattle.heap_program.specs.declared.arguments.Command.{Command}
 use Rattle.heap_program.specs.declared.arguments.Command.TheVariants.{Run, Generate}
-use Rattle.heap_program.specs.Number.{number_of}
+use Rattle.heap_lines.specs.Number.{number_of}
 
 -- the configuration of a command that names none
 abbrev pub default_config : Config

@@ -8,12 +8,10 @@ pub mod Faults
 pub mod Flushed
 pub mod Generated
 pub mod Generator
-pub mod Grammar
 pub mod Headline
 pub mod Lines
 pub mod LiveBlocks
 pub mod ProcessorRegions
-pub mod Number
 pub mod Planned
 pub mod Progress
 pub mod Responses
@@ -22,4 +20,3 @@ pub mod Status
 pub mod Stop
 pub mod Streams
 pub mod Text
-pub mod Words

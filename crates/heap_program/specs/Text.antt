@@ -1,6 +1,5 @@
 -- What is printed.
 use Rattle.std.specs.Prelude.{ℕ, ◌+◌, Bool, List, [], ◌∷◌, ◌++◌, length, codes, Option, None, Some, decimal, if◌then◌else◌, true, false}
-use Rattle.std.specs.Fmt.{digits}
 use Rattle.std.specs.List.{flat_map}
 use Rattle.hex.specs.Hex.{encode_lower}
 use Rattle.dlmalloc_chunks.specs.declared.extent.Extent.{Extent}
@@ -9,18 +8,12 @@ use Rattle.dlmalloc_chunks.specs.declared.extent.Kind.TheVariants.{Used, Free, V
 use Rattle.heap_model.specs.declared.answer.Answer.{Answer}
 use Rattle.heap_model.specs.declared.answer.Reply.{Reply}
 use Rattle.heap_model.specs.declared.answer.Reply.TheVariants.{Block, Done, Bytes, Byte, Fault, Trimmed, Accepted, Released, Extents, Refused}
-use Rattle.heap_model.specs.declared.answer.Refusal.{Refusal}
-use Rattle.heap_model.specs.declared.answer.Refusal.TheVariants.{BadAlign, TooLarge, NoSpace, NoFrames, UnknownBlock, OutOfBlock, BadRange, HeapRegion, Overlap, UnknownRegion, NotCanonical}
 use Rattle.heap_model.specs.declared.region.Region.{Region}
 use Rattle.heap_model.specs.State.{State}
 use Rattle.heap_model.specs.Place.{all_regions}
 use Rattle.heap_model.specs.Tables.{free_frames}
 use Rattle.x86_flags.specs.PageFaultErrorCode.{page_fault_bits}
-use Rattle.paging_core.specs.declared.page_table.Rights.{Rights}
-
--- an address, in lower case without leading zeros
-abbrev pub hexadecimal : ℕ → List ℕ
-hexadecimal n = codes "0x" ++ digits 16 false n
+pub use Rattle.heap_lines.specs.Written.{hexadecimal, refusal_word, rights_word}
 
 -- the first address of something, and how many bytes or pages it has
 abbrev pub span_text : ℕ → ℕ → List ℕ
@@ -29,19 +22,6 @@ span_text start size = hexadecimal start ++ (codes "+" ++ decimal size)
 -- the texts of the items, a space before each
 abbrev pub spaced : {A : Type 0} → (A → List ℕ) → List A → List ℕ
 spaced text items = flat_map (λ item. codes " " ++ text item) items
-
-abbrev pub refusal_word : Refusal → List ℕ
-refusal_word BadAlign = codes "bad-align"
-refusal_word TooLarge = codes "too-large"
-refusal_word NoSpace = codes "no-space"
-refusal_word NoFrames = codes "no-frames"
-refusal_word UnknownBlock = codes "unknown-block"
-refusal_word OutOfBlock = codes "out-of-block"
-refusal_word BadRange = codes "bad-range"
-refusal_word HeapRegion = codes "heap-region"
-refusal_word Overlap = codes "overlap"
-refusal_word UnknownRegion = codes "unknown-region"
-refusal_word NotCanonical = codes "not-canonical"
 
 -- bytes as two lower case digits each, after a space if there are bytes
 abbrev pub bytes_text : List ℕ → List ℕ
@@ -105,17 +85,9 @@ unfoldable pub line_text : Option Answer → List ℕ
 line_text None = codes "bad line\n"
 line_text (Some answer) = text_of answer
 
--- a letter if the right is granted
-abbrev pub right_text : Bool → List ℕ → List ℕ
-right_text granted letter = if granted then letter else codes "-"
-
--- reading is always granted; then writes, user accesses and fetches
-abbrev pub rights_text : Rights → List ℕ
-rights_text rights = codes "r" ++ (right_text rights.write (codes "w") ++ (right_text rights.user (codes "u") ++ right_text rights.fetch (codes "x")))
-
 -- whose pages they are; of the user's, the rights too
 abbrev pub owner_text : Region → List ℕ
-owner_text region = if region.heap then codes "heap" else codes "user " ++ rights_text region.rights
+owner_text region = if region.heap then codes "heap" else codes "user " ++ rights_word region.rights
 
 abbrev pub region_line : Region → List ℕ
 region_line region = codes "region " ++ (pages_text region ++ (codes " " ++ (owner_text region ++ codes "\n")))

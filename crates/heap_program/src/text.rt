@@ -4,32 +4,14 @@ ghost use Rattle.std.specs.List.{flat_map};
 ghost use Rattle.heap_model.specs.State.{State};
 ghost use Rattle.heap_model.specs.Machine.{Stands};
 ghost use Rattle.kernel_heap.specs.Machine.{seen};
-ghost use Rattle.heap_program.specs.Text.{text_of, reply_text, bytes_text, refusal_word, truth_word, span_text, spaced, hexadecimal, kind_word, extent_text, pages_text, regions_text, heap_line, large_line, right_text, rights_text, owner_text, region_line, counts_line, tally_line, end_text_of};
+ghost use Rattle.heap_lines.specs.Written.{hexadecimal};
+ghost use Rattle.heap_program.specs.Text.{text_of, reply_text, bytes_text, truth_word, span_text, spaced, kind_word, extent_text, pages_text, regions_text, heap_line, large_line, owner_text, region_line, counts_line, tally_line, end_text_of};
 
 use crate::digits::{push_block, push_digits};
 use bitflags::Flags;
-use kernel_heap::{
-    Answer, Bytes, Extent, Kind, Machine, Refusal, Region, RegionList, Reply, Rights, SlotList,
-};
+use heap_lines::{push_rights, refusal_word};
+use kernel_heap::{Answer, Bytes, Extent, Kind, Machine, Region, RegionList, Reply, SlotList};
 use std::alloc::{AllocError, Global};
-
-fn refusal_word(why: Refusal) -> &'static str
-    ensures { result.now ≡ refusal_word why }
-{
-    match why {
-        Refusal::BadAlign => "bad-align",
-        Refusal::TooLarge => "too-large",
-        Refusal::NoSpace => "no-space",
-        Refusal::NoFrames => "no-frames",
-        Refusal::UnknownBlock => "unknown-block",
-        Refusal::OutOfBlock => "out-of-block",
-        Refusal::BadRange => "bad-range",
-        Refusal::HeapRegion => "heap-region",
-        Refusal::Overlap => "overlap",
-        Refusal::UnknownRegion => "unknown-region",
-        Refusal::NotCanonical => "not-canonical",
-    }
-}
 
 fn truth_word(truth: bool) -> &'static str
     ensures { result.now ≡ truth_word truth }
@@ -211,12 +193,6 @@ pub fn text_of(alloc: Global, answer: &Answer) -> Result<Bytes, AllocError>
     Ok(Bytes::from_vec(out.into_bytes()))
 }
 
-fn right(granted: bool, letter: &'static str) -> &'static str
-    ensures { result.now ≡ right_text granted letter.now }
-{
-    if granted { letter } else { "-" }
-}
-
 /// Puts whose a region is at the end, and of the user's the rights.
 pub fn push_owner(out: &mut String, region: Region) -> Result<(), AllocError>
     ensures { OnOk result (string_bytes out.new ≡ string_bytes out.old ++ owner_text region) }
@@ -224,10 +200,8 @@ pub fn push_owner(out: &mut String, region: Region) -> Result<(), AllocError>
     if region.heap {
         return out.push_str("heap");
     }
-    let write = right(region.rights.write, "w");
-    let user = right(region.rights.user, "u");
-    let fetch = right(region.rights.fetch, "x");
-    write!(out, "user r{write}{user}{fetch}")
+    out.push_str("user ")?;
+    push_rights(out, region.rights)
 }
 
 fn push_region_line(out: &mut String, region: Region) -> Result<(), AllocError>

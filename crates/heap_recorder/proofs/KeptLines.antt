@@ -5,7 +5,8 @@ use Rattle.std.proofs.lemmas.Bool.Decides.{nat_tests}
 use Rattle.std.proofs.lemmas.List.{map-append, append-nil}
 use Rattle.heap_model.specs.declared.answer.Answer.{Answer}
 use Rattle.heap_model.specs.declared.call.Call.{Call}
-use Rattle.heap_recorder.specs.Lines.{call_line, lines_after, lines_of}
+use Rattle.heap_lines.specs.CallLine.{call_line}
+use Rattle.heap_recorder.specs.Lines.{lines_after, lines_of}
 use Rattle.heap_recorder.specs.Run.{Notes, nothing, noted, notes_from, moment, bytes_after, LinesAreTheCalls}
 use Rattle.heap_recorder.specs.Sizes.{sizes_after}
 

@@ -13,7 +13,7 @@ is_mapped mapping = nat_eq mapping.end 0
 abbrev pub begins_at : ℕ → Mapping → Bool
 begins_at start mapping = is_mapped mapping && nat_eq mapping.region.start start
 
--- a region that a call maps, with so many large pages
+-- a region that a call maps, with its number of large pages
 abbrev pub new_mapping : ℕ → Region → ℕ → Mapping
 new_mapping call region large = record { region = region; large = large; born = call; end = 0 }
 
@@ -36,11 +36,11 @@ unmapped_if call start pages mapping = if begins_at start mapping && nat_eq mapp
 abbrev pub unmapped : ℕ → ℕ → ℕ → List Mapping → List Mapping
 unmapped call start pages mappings = map (unmapped_if call start pages) mappings
 
--- a region, if the run has so many calls: one that is still mapped ends with them
+-- a region of a run of `calls` calls: one that is still mapped ends with them
 abbrev pub closed : ℕ → Mapping → Mapping
 closed calls mapping = if is_mapped mapping then ended calls mapping else mapping
 
--- the regions of a run of so many calls
+-- the regions of a run of `calls` calls
 abbrev pub mappings_at_end : ℕ → List Mapping → List Mapping
 mappings_at_end calls mappings = map (closed calls) mappings
 

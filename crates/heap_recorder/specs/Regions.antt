@@ -55,6 +55,6 @@ gone_after call (held ∷ more) list =
 abbrev pub regions_after : ℕ → List Region → RegionNotes → RegionNotes
 regions_after call list notes = record { now = now_after call notes.now list; gone = notes.gone ++ gone_after call notes.now list }
 
--- all regions of a run of so many calls: those that ended, and those that the heap has at the end
+-- all regions of a run of `calls` calls: those that ended, and those that the heap has at the end
 abbrev pub regions_at_end : ℕ → RegionNotes → List Held
 regions_at_end calls notes = notes.gone ++ map (ended calls) notes.now

@@ -75,7 +75,7 @@ abbrev pub larges_after : ℕ → Bool → List ℕ → List LargePage → List 
 larges_after call true slots large = large
 larges_after call false slots large = large ++ map (large_page call) (take (200 - length large) slots)
 
--- the bytes of the heap's regions, modulo 2 ^ 128: no heap has so many
+-- the bytes of the heap's regions, modulo 2 ^ 128, which is more than any heap has
 abbrev pub bytes_after : Option (List Region) → ℕ → ℕ
 bytes_after None bytes = bytes
 bytes_after (Some list) bytes = 4096 * total_pages list % 2 ^ 128

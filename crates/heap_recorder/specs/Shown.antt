@@ -32,7 +32,7 @@ lies address size (Some block) = nat_eq block.address address && nat_eq block.si
 abbrev pub has_block : State → ℕ → ℕ → ℕ → Bool
 has_block s number address size = lies address size (block_at s.blocks number)
 
--- the state after so many calls
+-- the state after `count` calls
 abbrev pub state_after : State → List Call → List Answer → ℕ → State
 state_after s calls answers zero = s
 state_after s [] answers (suc count) = s
@@ -50,7 +50,7 @@ abbrev pub EachBlockIsDrawnOnce : Type 0
 EachBlockIsDrawnOnce =
     (config : Config) (calls : List Call) (answers : List Answer) → IsAllowedRun (start config) (map Some calls) (map Some answers) → AreStays (start config) calls answers (history_of calls answers).stays
 
--- whether a region of the heap begins at the address and has so many pages
+-- whether a region of the heap begins at the address and has this number of pages
 abbrev pub is_part : ℕ → ℕ → Held → Bool
 is_part start pages held = nat_eq held.start start && nat_eq held.pages pages
 
@@ -62,7 +62,7 @@ shows_part call start pages held = nat_le held.born call && (nat_lt call held.en
 abbrev pub is_region : ℕ → ℕ → Region → Bool
 is_region start pages region = nat_eq region.start start && nat_eq region.pages pages
 
--- After each call, as many regions that are noted show with a first address and so many pages as the heap has such regions.
+-- After each call, for each first address and number of pages, as many of the noted regions show as the heap has such regions.
 abbrev pub AreParts : State → List Call → List Answer → List Held → Type 0
 AreParts s calls answers heap =
     (call start pages : ℕ) → call < length calls →

@@ -8,7 +8,7 @@ use Rattle.heap_model.specs.declared.call.Call.TheVariants.{Malloc, Calloc, Real
 use Rattle.heap_model.specs.declared.answer.Reply.{Reply}
 use Rattle.heap_model.specs.declared.answer.Reply.TheVariants.{Block, Done, Released}
 
--- so many blocks began, and these are their stays, in the order in which they began; one that goes on has no end yet
+-- how many blocks began, and their stays, in the order in which they began; one that goes on has no end yet
 pub record StayNotes : Type 0 where
   pub begun : ℕ
   pub stays : List Stay
@@ -81,10 +81,10 @@ stays_after call (Free number) Done notes = freed call number notes
 stays_after call Reset (Released bytes) notes = all_ended call notes
 stays_after call made reply notes = notes
 
--- a stay, if the run has so many calls: one that no call ended ends with them
+-- a stay of a run of `calls` calls: one that no call ended ends with them
 abbrev pub closed : ℕ → Stay → Stay
 closed calls stay = if goes_on stay then ended calls Live stay else stay
 
--- the stays of a run of so many calls
+-- the stays of a run of `calls` calls
 abbrev pub stays_at_end : ℕ → StayNotes → List Stay
 stays_at_end calls notes = map (closed calls) notes.stays

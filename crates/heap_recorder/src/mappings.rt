@@ -82,7 +82,7 @@ fn close(mappings: &mut Vec<Mapping>, calls: u64)
 #[derive(Drop)]
 pub struct Mappings {
     mappings: Vec<Mapping>,
-    // By the start of a region, where among them the last one is that was mapped there.
+    // By the start of a region, the place among them of the last one that was mapped there.
     places: BTreeMap<u64, u64>,
 }
 
@@ -125,7 +125,7 @@ impl Mappings {
         begins_at(start, mapping)
     }
 
-    /// Notes that a call mapped a region, with so many large pages.
+    /// Notes that a call mapped a region, with this number of large pages.
     pub fn map(&mut self, call: u64, region: Region, large: u64) -> Result<(), AllocError>
         ensures { OnOk result (self.new ≡ mapped call region large self.old) }
     {
@@ -156,7 +156,7 @@ impl Mappings {
         self.mappings[place as usize] = unmapped_if(call, start, pages, mapping);
     }
 
-    /// The regions of a run of so many calls.
+    /// The regions of a run of `calls` calls.
     pub fn finish(self, calls: u64) -> MappingList
         ensures { result ≡ mappings_at_end calls self }
     {

@@ -119,7 +119,7 @@ fn push_gone(
     Ok(())
 }
 
-// The regions that the heap has at the end of a run of so many calls.
+// The regions that the heap has at the end of a run of `calls` calls.
 fn end_all(gone: &mut Vec<Held>, now: &[Held], calls: u64) -> Result<(), AllocError>
     ensures { OnOk result (gone.new.items ≡ gone.old.items ++ map (ended calls) now.now) }
 {
@@ -184,7 +184,7 @@ impl Regions {
         Ok(())
     }
 
-    /// The regions of a run of so many calls.
+    /// The regions of a run of `calls` calls.
     pub fn finish(self, calls: u64) -> Result<HeldList, AllocError>
         ensures { IfOk result (λ list. list ≡ regions_at_end calls self) }
     {

@@ -140,7 +140,7 @@ fn close(stays: &mut Vec<Stay>, calls: u64)
 #[derive(Drop)]
 pub struct Stays {
     stays: Vec<Stay>,
-    // By number, where among the stays the last one of a block is.
+    // By number, the place among the stays of the last one of a block.
     places: Vec<u64>,
     // None before this place goes on.
     first: u64,
@@ -246,7 +246,7 @@ impl Stays {
         Ok(())
     }
 
-    /// The stays of a run of so many calls.
+    /// The stays of a run of `calls` calls.
     pub fn finish(self, calls: u64) -> StayList
         ensures { result ≡ stays_at_end calls self }
     {

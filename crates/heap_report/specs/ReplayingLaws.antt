@@ -12,7 +12,7 @@ some-append : {A : Type 0} (a b : List A) → map Some (a ++ b) ≡ map Some a +
 some-append [] b = refl
 some-append (x ∷ a) b = ap (λ (l : List (Option _)). Some x ∷ l) (some-append a b)
 
--- one run behind another
+-- one run after another
 pub calls_on : (s m e : State) (a b : List Call) (x y : List Answer) → RunsTo s (map Some a) (map Some x) m → RunsTo m (map Some b) (map Some y) e → RunsTo s (map Some (a ++ b)) (map Some (x ++ y)) e
 calls_on s m e a b x y h k =
     subst (λ (items : List (Option Call)). RunsTo s items (map Some (x ++ y)) e) (sym (some-append a b))
@@ -24,7 +24,7 @@ peak_start s [] answers = omega arith
 peak_start s (call ∷ calls) [] = omega arith
 peak_start s (call ∷ calls) (answer ∷ answers) = omega arith
 
--- the greatest sum over one run and another behind it
+-- the greatest sum over one run and another after it
 pub peak-append : (s e : State) (a b : List Call) (x y : List Answer) → RunsTo s (map Some a) (map Some x) e → peak s (a ++ b) (x ++ y) ≡ max (peak s a x) (peak e b y)
 peak-append s e [] b [] y run =
     let same : peak e b y ≡ peak s b y = ap (λ (m : State). peak m b y) run.last in

@@ -29,7 +29,7 @@ tick_text band address =
     if nat_lt address band.high && (nat_le (band.y + 22) (place_of band address) && nat_le (place_of band address + 16) (band.y + band.height))
     then rect (codes "line") 138 (place_of band address) 6 1 ++ beside_text (place_of band address + 4) (hexadecimal address) else []
 
--- so many ticks, at multiples of a step, from the lowest address on
+-- a number of ticks, at multiples of a step, from the lowest address on
 abbrev pub ticks_text : Band → ℕ → ℕ → List ℕ
 ticks_text band step zero = []
 ticks_text band step (suc ticks) = ticks_text band step ticks ++ tick_text band ((band.low / step + ticks) * step)

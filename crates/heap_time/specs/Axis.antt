@@ -76,13 +76,13 @@ is_too_great left size = nat_lt 1344 left && nat_lt left (5 * size)
 abbrev pub folded_to : Range → Folds
 folded_to range = record { size = size_of range; start = range.low }
 
--- so many ranges more are folded, the greatest first, while it is too great
+-- more ranges are folded, up to a number of them, the greatest first, as long as it is too great
 abbrev pub folds_from : ℕ → Folds → List Range → Folds
 folds_from zero folds ranges = folds
 folds_from (suc times) folds ranges =
     if is_too_great (scaled_bytes folds ranges) (size_of (greatest folds ranges)) then folds_from times (folded_to (greatest folds ranges)) ranges else folds
 
--- no range is folded: none has so many bytes
+-- no range is folded: none has 2 ^ 64 bytes
 abbrev pub no_folds : Folds
 no_folds = record { size = 2 ^ 64; start = 0 }
 
@@ -105,7 +105,7 @@ spans_from folds start next (range ∷ ranges) =
 unfoldable pub spans_of : Folds → ℕ → List Range → List Span
 spans_of folds first ranges = spans_from folds first first ranges
 
--- how high a span is drawn, if so many bytes are to scale, in 336 pixels together
+-- the height of a span, if `left` bytes are to scale, in 336 pixels together
 unfoldable pub height_of : ℕ → Span → ℕ
 height_of left span = if span.folded then 16 else max 16 (min 336 ((span.high - span.low) * 336 / max 1 left / 8 * 8))
 

@@ -8,11 +8,11 @@ use Rattle.heap_time.specs.Covers.{bottom_in, top_in}
 abbrev pub IsBand : Band → Type 0
 IsBand band = (band.low < 2 ^ 64) × ((band.high < 2 ^ 64) × ((band.y < 2 ^ 80) × (band.height ≤ 336)))
 
--- how many pixels so many bytes of a band have
+-- the height of some bytes of a band, in pixels
 unfoldable pub pixels_of : Band → ℕ → ℕ
 pixels_of band bytes = bytes * band.height / max 1 (band.high - band.low)
 
--- where an address of a band is: upwards from its ground
+-- the height of an address of a band, upwards from its ground
 unfoldable pub place_of : Band → ℕ → ℕ
 place_of band address = band.y + band.height - pixels_of band (address - band.low)
 

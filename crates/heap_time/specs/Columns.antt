@@ -21,7 +21,7 @@ moment_text below column call (Some moment) = titled (codes "none") (144 + 16 * 
 unfoldable pub column_text : ℕ → List Moment → ℕ → List ℕ
 column_text below moments column = moment_text below column (last_call (length moments) column) (slice_get moments (last_call (length moments) column))
 
--- so many columns
+-- the first columns
 abbrev pub columns_text : ℕ → List Moment → ℕ → List ℕ
 columns_text below moments zero = []
 columns_text below moments (suc columns) = columns_text below moments columns ++ column_text below moments columns

@@ -26,7 +26,7 @@ short_label stay = decimal stay.block ++ (codes ": " ++ (commas stay.size ++ cod
 unfoldable pub long_label : Stay → List ℕ
 long_label stay = codes "block " ++ short_label stay
 
--- the first of the two and the number alone that fits so many pixels, a letter being 8 wide at most
+-- the first of the two and the number alone that fits this width, a letter being at most 8 wide
 unfoldable pub label_at : ℕ → ℕ → ℕ → Stay → List ℕ
 label_at x y width stay =
     if nat_le (8 * length (long_label stay) + 8) width then text_at (letters stay.ending) x y (long_label stay)

@@ -20,7 +20,7 @@ bar_text calls band cover title =
     titled (codes "l") (x_of cover.born calls) (place_of band (top_in band cover)) 4
     (max 1 (place_of band (bottom_in band cover) - place_of band (top_in band cover) - 1)) title
 
--- where a large page begins to be one, if a band has an address of it
+-- a bar at the call with which a large page becomes one, if a band has an address of it
 unfoldable pub mark_text : ℕ → LargePage → Band → List ℕ
 mark_text calls large band = if meets band (large_cover calls large) then bar_text calls band (large_cover calls large) (large_title large) else []
 

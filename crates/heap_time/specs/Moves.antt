@@ -1,4 +1,4 @@
--- Arrows from where a block lay to where it was moved.
+-- Arrows from the place that a block left to the one that it was moved to.
 use Rattle.std.specs.Prelude.{ℕ, ◌+◌, ◌/◌, Bool, true, false, ◌&&◌, nat_eq, nat_lt, nat_le, List, [], ◌∷◌, ◌++◌, codes, decimal, if◌then◌else◌}
 use Rattle.std.specs.List.{flat_map}
 use Rattle.heap_history.specs.declared.band.Band.{Band}
@@ -28,7 +28,7 @@ middle_of stay = stay.address + stay.size / 2
 unfoldable pub is_within : ℕ → Band → Bool
 is_within address band = nat_le band.low address && nat_le address band.high
 
--- where an address is, in the highest band that has it
+-- the height of an address, in the highest band that has it
 abbrev pub height_at : ℕ → List Band → ℕ
 height_at address [] = 84
 height_at address (band ∷ bands) = if is_within address band then place_of band address else height_at address bands

@@ -5,7 +5,7 @@ ghost use Rattle.heap_time.specs.Bands.{IsBand, pixels_of, place_of, tallness};
 use crate::covers::{Cover, bottom_in, top_in};
 use heap_history::Band;
 
-/// How many pixels so many bytes of a band have.
+/// The height of some bytes of a band, in pixels.
 #[tactic(auto, unfolding(crate::specs::Bands::pixels_of))]
 pub fn pixels_of(band: Band, bytes: u128) -> u128
     requires band { IsBand band }

@@ -49,7 +49,7 @@ pub fn held_cover(held: Held) -> Cover
     }
 }
 
-/// What a large page covers, in a run of so many calls.
+/// What a large page covers, in a run of `calls` calls.
 pub fn large_cover(calls: u64, large: LargePage) -> Cover
     ensures { result ≡ large_cover calls large }
 {

@@ -102,7 +102,7 @@ pub fn scaled_bytes(folds: Folds, ranges: &[Range]) -> u128
     bytes
 }
 
-// Whether a range of this size is folded, if so many bytes are not.
+// Whether a range of this size is too great to stay to scale, if `left` bytes are to scale.
 fn is_too_great(left: u128, size: u64) -> bool
     ensures { result ≡ is_too_great left size }
 {

@@ -41,7 +41,7 @@ fn push_long(out: &mut String, stay: Stay) -> Result<(), AllocError>
     push_short(out, stay)
 }
 
-// Puts the label of a stay at the end that fits so many pixels, if one does.
+// Puts the label of a stay at the end that fits this width, if one does.
 #[tactic(auto, unfolding(crate::specs::Labels::label_at))]
 fn push_label(
     alloc: Global,

@@ -1,4 +1,4 @@
-// Arrows from where a block lay to where it was moved.
+// Arrows from the place that a block left to the one that it was moved to.
 ghost use Rattle.std.specs.Prelude.{◌≡◌, ◌<◌, ◌^◌, ◌++◌, OnOk, string_bytes};
 ghost use Rattle.std.specs.Bool.{OnTrue};
 ghost use Rattle.std.specs.List.{All, flat_map};

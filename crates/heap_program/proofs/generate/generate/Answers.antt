@@ -1,7 +1,9 @@
-use Rattle.std.proofs.Common.{string_bytes, sym, subst}
+use Rattle.std.proofs.Common.{◌≡◌, ◌⊎◌, string_bytes, sym, subst}
 use Rattle.heap_program.specs.Progress.{IsAt}
 use Rattle.heap_program.proofs.Draws.{all_drawn, whole_text, none_generated, part_generated, all_generated}
-use Rattle.heap_program.proofs.Errors.{on_err}
+use Rattle.heap_program.proofs.Errors.{if_err, on_err}
+use Rattle.heap_program.specs.declared.run.Stop.{Stop}
+use Rattle.heap_program.specs.declared.run.Stop.TheVariants.{Memory, WriteFault}
 use Rattle.kernel_heap.specs.declared.machine.Machine.{Machine}
 use Rattle.heap_program.proofs.generate.generate.Goals as goal
 
@@ -24,6 +26,12 @@ returns-in_err-write_out-clause-stopped g c = on_err c.from_residual-in_err-writ
     let part = c.in_err-write_out.ensures.err in
     part_generated s c.args.seed c.args.count drawing w out (g.K.Sink.taken c.args.sink.now) (g.K.Sink.taken c.write_out.new.sink) part.0
     (whole_text s c.args.seed c.args.count drawing w (string_bytes c.new-output.result) (string_bytes c.push_tally.new.out) out c.new-output.ensures.bytes c.in_ok-push_tally.ensures (c.in_ok-push_end.ensures w.state w.at.stands)) part.1)
+
+pub returns-in_err-write_out-clause-which : goal.returns-in_err-write_out-clause-which
+returns-in_err-write_out-clause-which g c =
+    let of = c.in_err-write_out in
+    if_err c.from_residual-in_err-write_out.result (λ stop. stop ≡ of.field-0.0) c.from_residual-in_err-write_out.ensures.1
+    (λ stop made. subst (λ (s : Stop). s ≡ Memory ⊎ s ≡ WriteFault) (sym made) of.ensures.which)
 
 pub returns-clause-generated : goal.returns-clause-generated
 returns-clause-generated g c s at =
