@@ -3,3 +3,4 @@ pub mod Joins
 pub mod Larges
 pub mod Slots
 pub mod Pictures
+pub mod Whose

@@ -1,6 +1,7 @@
 pub mod Drawn
 pub mod Large
 pub mod Lines
+pub mod Owners
 pub mod Picture
 pub mod Regions
 pub mod Style

@@ -9,15 +9,15 @@ use Rattle.heap_model.specs.State.{State}
 use Rattle.kernel_heap.specs.declared.machine.Machine.{Machine}
 use Rattle.kernel_heap.specs.Machine.{system_of}
 use Rattle.kernel_heap.specs.System.{paged}
-use Rattle.heap_tables.specs.Joining.{lines_of}
 use Rattle.heap_tables.specs.Tables.{tables_text, tables_height}
+use Rattle.heap_picture.specs.Owners.{lines_in}
 use Rattle.heap_picture.specs.Picture.{head_text}
 
--- the drawing of a memory and its root
+-- the drawing of a memory, its root, and its regions
 unfoldable pub drawing_of : List ℕ → Paged → List ℕ
 drawing_of style p =
-    head_text style (tables_height (length (lines_of p.words p.root)))
-    ++ (tables_text (lines_of p.words p.root) (frame_count p.words) ++ codes "</svg>\n")
+    head_text style (tables_height (length (lines_in p)))
+    ++ (tables_text (lines_in p) (frame_count p.words) ++ codes "</svg>\n")
 
 -- The drawing of the last machine of a run: of its memory, from the root on that its processor has.
 abbrev pub tables_of : List ℕ → Machine → State → ℕ → ℕ → List Extent → List Call → List Answer → List ℕ

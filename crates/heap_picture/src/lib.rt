@@ -6,11 +6,12 @@
 mod large;
 mod laws;
 mod lines;
+mod owners;
 mod picture;
 mod regions;
 mod style;
 mod tables;
 mod timing;
 
-pub use laws::each_region_is_in_one_line;
+pub use laws::{each_page_has_its_owner, each_region_is_in_one_line};
 pub use picture::{Picture, picture_main};

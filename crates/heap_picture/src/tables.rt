@@ -5,9 +5,10 @@ ghost use Rattle.heap_model.specs.State.{State};
 ghost use Rattle.heap_picture.specs.Style.{style};
 ghost use Rattle.heap_picture.specs.Tables.{drawing_of, tables_of};
 
+use crate::owners::lines_in;
 use crate::picture::push_head;
 use heap_report::Tell;
-use heap_tables::{push_tables, table_lines, tables_height};
+use heap_tables::{push_tables, tables_height};
 use kernel_heap::{Answer, Call, Extent, Machine, PagedSystem};
 use std::alloc::{AllocError, Global};
 
@@ -16,7 +17,7 @@ fn push_drawing(alloc: Global, out: &mut String, system: &PagedSystem) -> Result
     ensures { OnOk result (string_bytes out.new ≡ string_bytes out.old ++ drawing_of style (paged system.now)) }
 {
     let frames = system.frames();
-    let lines = table_lines(alloc, frames, system.root())?;
+    let lines = lines_in(alloc, system)?;
     push_head(out, tables_height(lines.len()))?;
     push_tables(alloc, out, &lines, frames.count())?;
     out.push_str("</svg>\n")

@@ -4,7 +4,7 @@ use Rattle.std.specs.Prelude.{count_by}
 use Rattle.std.proofs.lemmas.List.Sums.{sum_by-append}
 use Rattle.heap_tables.specs.declared.lines.Line.{Line}
 use Rattle.heap_tables.specs.declared.uses.Use.{Use}
-use Rattle.heap_tables.specs.declared.uses.Use.TheVariants.{Table, Large, Page, Free}
+use Rattle.heap_tables.specs.declared.uses.Use.TheVariants.{Table, Large, HeapPage, UserPage, Free}
 use Rattle.heap_tables.specs.Uses.{use_of, uses_of, same_use, number_of, EachFrameIsCountedOnce}
 
 -- one frame more
@@ -12,10 +12,11 @@ more : (kind : Use) (uses : List Use) (one : Use) → number_of kind (uses ++ on
 more kind uses one = sum_by-append (λ x. cond (same_use kind x) 1 0) uses (one ∷ [])
 
 -- is counted for one use
-one_use : (one : Use) → number_of Table (one ∷ []) + number_of Large (one ∷ []) + number_of Page (one ∷ []) + number_of Free (one ∷ []) ≡ 1
+one_use : (one : Use) → number_of Table (one ∷ []) + number_of Large (one ∷ []) + number_of HeapPage (one ∷ []) + number_of UserPage (one ∷ []) + number_of Free (one ∷ []) ≡ 1
 one_use Table = refl
 one_use Large = refl
-one_use Page = refl
+one_use HeapPage = refl
+one_use UserPage = refl
 one_use Free = refl
 
 pub counted_once : EachFrameIsCountedOnce
@@ -26,7 +27,8 @@ counted_once lines (suc frames) =
     let before = counted_once lines frames in
     let t = more Table uses one in
     let l = more Large uses one in
-    let p = more Page uses one in
+    let h = more HeapPage uses one in
+    let u = more UserPage uses one in
     let f = more Free uses one in
     let this = one_use one in
-    omega (arith, before, t, l, p, f, this)
+    omega (arith, before, t, l, h, u, f, this)

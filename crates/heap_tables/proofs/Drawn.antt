@@ -4,6 +4,7 @@ use Rattle.std.specs.Prelude.{if◌then◌else◌}
 use Rattle.std.proofs.lemmas.Bool.Decides.{nat_tests}
 use Rattle.std.proofs.lemmas.List.{append-nil, drop_all}
 use Rattle.heap_tables.specs.declared.lines.Line.{Line}
+use Rattle.heap_tables.specs.declared.owners.Owner.TheVariants.{Heap}
 use Rattle.heap_tables.specs.declared.uses.Use.{Use}
 use Rattle.heap_tables.specs.Rows.{row_text}
 use Rattle.heap_tables.specs.Tables.{rows_text}
@@ -44,7 +45,7 @@ uses_number lines (suc frames) = length-append (uses_of lines frames) (use_of fr
 
 -- what a frame is used for, by the lines from one on
 pub use_step : (frame : ℕ) (lines : List Line) (i : ℕ) → i < length lines →
-    use_of frame (drop i lines) ≡ (if has_frame frame (get_or lines i (record { steps = 0; index = 0; page = 0; end = 0; frame = 0; rights = record { write = false; user = false; fetch = false } })) then use_in (get_or lines i (record { steps = 0; index = 0; page = 0; end = 0; frame = 0; rights = record { write = false; user = false; fetch = false } })) else use_of frame (drop (i + 1) lines))
+    use_of frame (drop i lines) ≡ (if has_frame frame (get_or lines i (record { steps = 0; index = 0; page = 0; end = 0; frame = 0; owner = Heap; rights = record { write = false; user = false; fetch = false } })) then use_in (get_or lines i (record { steps = 0; index = 0; page = 0; end = 0; frame = 0; owner = Heap; rights = record { write = false; user = false; fetch = false } })) else use_of frame (drop (i + 1) lines))
 use_step frame lines i within = ap (use_of frame) (rest_at lines i none within)
 
 pub use_last : (frame : ℕ) (lines : List Line) (i : ℕ) → length lines ≤ i → use_of frame (drop i lines) ≡ Free

@@ -6,21 +6,25 @@ use Rattle.std.proofs.lemmas.Bool.Decides.{nat_tests}
 use Rattle.std.proofs.lemmas.List.{drop_all}
 use Rattle.paging_core.specs.Walk.{walk_of}
 use Rattle.heap_tables.specs.declared.lines.Line.{Line}
+use Rattle.heap_tables.specs.declared.owners.Owned.{Owned}
+use Rattle.heap_tables.specs.declared.owners.Owner.{Owner}
+use Rattle.heap_tables.specs.declared.owners.Owner.TheVariants.{Heap, User}
+use Rattle.heap_tables.specs.Owners.{owner_of, same_owner}
 use Rattle.heap_tables.specs.Joining.{same, same_rights, goes_on, with_next, lines_from, joined}
-use Rattle.heap_tables.specs.Walked.{place_in, IsWalked, has_page, AreGreatest}
+use Rattle.heap_tables.specs.Walked.{place_in, IsWalked, IsOwned, has_page, AreGreatest}
 
 -- what is taken for a line where there is none
 abbrev pub none : Line
-none = record { steps = 0; index = 0; page = 0; end = 0; frame = 0; rights = record { write = false; user = false; fetch = false } }
+none = record { steps = 0; index = 0; page = 0; end = 0; frame = 0; owner = Heap; rights = record { write = false; user = false; fetch = false } }
 
 pub rest_at : (lines : List Line) (i : ℕ) (d : Line) → i < length lines → drop i lines ≡ get_or lines i d ∷ drop (i + 1) lines
 rest_at lines i d within = drop-cons lines i d within ∙ ap (λ (n : ℕ). get_or lines i d ∷ drop n lines) (sym (add-one i))
 
 -- how the lines go on at one
 pub lines_step : (line : Line) (lines : List Line) (i : ℕ) → i < length lines →
-    lines_from line (drop i lines) ≡ (if goes_on line (get_or lines i (record { steps = 0; index = 0; page = 0; end = 0; frame = 0; rights = record { write = false; user = false; fetch = false } }))
-    then lines_from (with_next line (get_or lines i (record { steps = 0; index = 0; page = 0; end = 0; frame = 0; rights = record { write = false; user = false; fetch = false } }))) (drop (i + 1) lines)
-    else line ∷ lines_from (get_or lines i (record { steps = 0; index = 0; page = 0; end = 0; frame = 0; rights = record { write = false; user = false; fetch = false } })) (drop (i + 1) lines))
+    lines_from line (drop i lines) ≡ (if goes_on line (get_or lines i (record { steps = 0; index = 0; page = 0; end = 0; frame = 0; owner = Heap; rights = record { write = false; user = false; fetch = false } }))
+    then lines_from (with_next line (get_or lines i (record { steps = 0; index = 0; page = 0; end = 0; frame = 0; owner = Heap; rights = record { write = false; user = false; fetch = false } }))) (drop (i + 1) lines)
+    else line ∷ lines_from (get_or lines i (record { steps = 0; index = 0; page = 0; end = 0; frame = 0; owner = Heap; rights = record { write = false; user = false; fetch = false } })) (drop (i + 1) lines))
 lines_step line lines i within = ap (lines_from line) (rest_at lines i none within)
 
 -- none is behind the last
@@ -56,12 +60,19 @@ same_is true false is = absurd (let wrong : false ≡ true = is in cc)
 same_is false true is = absurd (let wrong : false ≡ true = is in cc)
 same_is false false is = refl
 
+same_owner_is : (one other : Owner) → same_owner one other ≡ true → one ≡ other
+same_owner_is Heap Heap is = refl
+same_owner_is Heap User is = absurd (let wrong : false ≡ true = is in cc)
+same_owner_is User Heap is = absurd (let wrong : false ≡ true = is in cc)
+same_owner_is User User is = refl
+
 -- what it is that a line goes on
 record GoesOn (line next : Line) : Type 0 where
   pub some : line.page < line.end
   pub more : next.page < next.end
   pub behind : line.end ≡ next.page
   pub frames : line.frame + (line.end - line.page) ≡ next.frame
+  pub owner : line.owner ≡ next.owner
   pub write : line.rights.write ≡ next.rights.write
   pub user : line.rights.user ≡ next.rights.user
   pub fetch : line.rights.fetch ≡ next.rights.fetch
@@ -76,21 +87,24 @@ goes line next is =
     let w = same line.rights.write next.rights.write in
     let u = same line.rights.user next.rights.user in
     let f = same line.rights.fetch next.rights.fetch in
-    let r = w && (u && f) in
+    let o = same_owner line.owner next.owner in
+    let r = o && (w && (u && f)) in
     let is1 = right_true a (b && (c && (d && (e && r)))) is in
     let is2 = right_true b (c && (d && (e && r))) is1 in
     let is3 = right_true c (d && (e && r)) is2 in
     let is4 = right_true d (e && r) is3 in
     let is5 = right_true e r is4 in
-    let is6 = right_true w (u && f) is5 in
+    let is6 = right_true o (w && (u && f)) is5 in
+    let is7 = right_true w (u && f) is6 in
     record {
       some = less_number line.page line.end (left_true a (b && (c && (d && (e && r)))) is);
       more = less_number next.page next.end (left_true b (c && (d && (e && r))) is1);
       behind = same_number line.end next.page (left_true c (d && (e && r)) is2);
       frames = same_number (line.frame + (line.end - line.page)) next.frame (left_true d (e && r) is3);
-      write = same_is line.rights.write next.rights.write (left_true w (u && f) is5);
-      user = same_is line.rights.user next.rights.user (left_true u f is6);
-      fetch = same_is line.rights.fetch next.rights.fetch (right_true u f is6);
+      owner = same_owner_is line.owner next.owner (left_true o (w && (u && f)) is5);
+      write = same_is line.rights.write next.rights.write (left_true w (u && f) is6);
+      user = same_is line.rights.user next.rights.user (left_true u f is7);
+      fetch = same_is line.rights.fetch next.rights.fetch (right_true u f is7);
     }
 
 -- what a line says with the pages of the next one is what both say
@@ -111,21 +125,37 @@ joined_walked words root line next on first second page from to = go (nat_lt pag
         ∙ ap (λ (b : Bool). Some (record { frame = line.frame + (page - line.page); write = line.rights.write; user = b; fetch = next.rights.fetch })) (sym on.user)
         ∙ ap (λ (b : Bool). Some (record { frame = line.frame + (page - line.page); write = line.rights.write; user = line.rights.user; fetch = b })) (sym on.fetch)
 
-walked_from : (words : List ℕ) (root : ℕ) (line : Line) (lines : List Line) → IsWalked words root line → AllByRecursion (IsWalked words root) lines → AllByRecursion (IsWalked words root) (lines_from line lines)
-walked_from words root line [] first rest = (first, tt)
-walked_from words root line (next ∷ lines) first rest =
-    go (goes_on line next) refl (λ joined. walked_from words root (with_next line next) lines joined rest.1) (walked_from words root next lines rest.0 rest.1)
+-- the owner of both is that of the pages of both
+joined_owned : (regions : List Owned) (line next : Line) → GoesOn line next → IsOwned regions line → IsOwned regions next → IsOwned regions (with_next line next)
+joined_owned regions line next on first second page from to = go (nat_lt page line.end) refl
   where
-    go : (b : Bool) → goes_on line next ≡ b →
-        (IsWalked words root (with_next line next) → AllByRecursion (IsWalked words root) (lines_from (with_next line next) lines)) →
-        AllByRecursion (IsWalked words root) (lines_from next lines) →
-        AllByRecursion (IsWalked words root) (if b then lines_from (with_next line next) lines else line ∷ lines_from next lines)
-    go true is joined other = joined (joined_walked words root line next (goes line next is) first rest.0)
+    go : (b : Bool) → nat_lt page line.end ≡ b → owner_of regions page ≡ line.owner
+    go true before = first page from (less_number page line.end before)
+    go false behind =
+        let next_is = on.behind in
+        let at : next.page ≤ page = grind (arith, nat_tests, behind, next_is) in
+        second page at to ∙ sym on.owner
+
+-- what holds of two lines as one if it holds of both, holds of all that are joined
+all_from : (P : Line → Type 0) (line : Line) (lines : List Line) → ((a b : Line) → GoesOn a b → P a → P b → P (with_next a b)) → P line → AllByRecursion P lines → AllByRecursion P (lines_from line lines)
+all_from P line [] both first rest = (first, tt)
+all_from P line (next ∷ lines) both first rest =
+    go (goes_on line next) refl (λ joined. all_from P (with_next line next) lines both joined rest.1) (all_from P next lines both rest.0 rest.1)
+  where
+    go : (b : Bool) → goes_on line next ≡ b → (P (with_next line next) → AllByRecursion P (lines_from (with_next line next) lines)) → AllByRecursion P (lines_from next lines) →
+        AllByRecursion P (if b then lines_from (with_next line next) lines else line ∷ lines_from next lines)
+    go true is joined other = joined (both line next (goes line next is) first rest.0)
     go false is joined other = (first, other)
 
+all_joined : (P : Line → Type 0) (lines : List Line) → ((a b : Line) → GoesOn a b → P a → P b → P (with_next a b)) → AllByRecursion P lines → AllByRecursion P (joined lines)
+all_joined P [] both all = tt
+all_joined P (line ∷ lines) both all = all_from P line lines both all.0 all.1
+
 pub walked_joined : (words : List ℕ) (root : ℕ) (lines : List Line) → AllByRecursion (IsWalked words root) lines → AllByRecursion (IsWalked words root) (joined lines)
-walked_joined words root [] all = tt
-walked_joined words root (line ∷ lines) all = walked_from words root line lines all.0 all.1
+walked_joined words root lines all = all_joined (IsWalked words root) lines (joined_walked words root) all
+
+pub owned_joined : (regions : List Owned) (lines : List Line) → AllByRecursion (IsOwned regions) lines → AllByRecursion (IsOwned regions) (joined lines)
+owned_joined regions lines all = all_joined (IsOwned regions) lines (joined_owned regions) all
 
 -- what lies in a line and the next lies in both as one
 joined_has : (page a b c d : ℕ) → a < b → b ≡ c → c < d → (nat_le a page && nat_lt page d) ≡ ((nat_le a page && nat_lt page b) || (nat_le c page && nat_lt page d))
@@ -156,7 +186,7 @@ begins_alike x line next on =
     let behind = on.behind in
     let more = on.more in
     let same : nat_lt line.page next.end ≡ nat_lt line.page line.end = grind (arith, nat_tests, some, behind, more) in
-    ap (λ (b : Bool). nat_lt x.page x.end && (b && (nat_eq x.end line.page && (nat_eq (x.frame + (x.end - x.page)) line.frame && (nat_eq x.steps line.steps && same_rights x.rights line.rights))))) same
+    ap (λ (b : Bool). nat_lt x.page x.end && (b && (nat_eq x.end line.page && (nat_eq (x.frame + (x.end - x.page)) line.frame && (nat_eq x.steps line.steps && (same_owner x.owner line.owner && same_rights x.rights line.rights)))))) same
 
 -- no line is left that goes on the one before it
 record AreEnded (line : Line) (lines : List Line) : Type 0 where

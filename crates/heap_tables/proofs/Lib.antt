@@ -1,6 +1,8 @@
+pub mod Belonging
 pub mod Counted
 pub mod Drawn
 pub mod EachPage
+pub mod Halves
 pub mod Joins
 pub mod Numbers
 pub mod Squares

@@ -2,21 +2,22 @@
 use Rattle.std.proofs.Common.{◌≡◌, ◌<◌, ◌≤◌, ℕ, zero, suc, ◌+◌, ◌-◌, ◌%◌, List, [], ◌∷◌, ◌++◌, refl, ◌∙◌, ap, arith}
 use Rattle.paging_core.specs.Walk.{Place}
 use Rattle.heap_tables.specs.declared.lines.Line.{Line}
+use Rattle.heap_tables.specs.declared.owners.Owned.{Owned}
 use Rattle.heap_tables.specs.Lines.{line_of, first_page, entries_lines, lines_under}
 
 -- a page
-pub under_page : (words : List ℕ) (number : ℕ) (place : Place) → lines_under words 0 number place ≡ line_of 4 (number % 512) number (number + 1) place ∷ []
+pub under_page : (words : List ℕ) (regions : List Owned) (number : ℕ) (place : Place) → lines_under words regions 0 number place ≡ line_of regions 4 (number % 512) number (number + 1) place ∷ []
 unfolding lines_under
-under_page words number place = refl
+under_page words regions number place = refl
 
 -- a table, and what its entries lead to
-pub under_table : (words : List ℕ) (left number : ℕ) (place : Place) → 1 ≤ left →
-    lines_under words left number place ≡ line_of (4 - left) (number % 512) (first_page left number) (first_page left number) place ∷ entries_lines words (lines_under words (left - 1)) (4 - left) number place 512
+pub under_table : (words : List ℕ) (regions : List Owned) (left number : ℕ) (place : Place) → 1 ≤ left →
+    lines_under words regions left number place ≡ line_of regions (4 - left) (number % 512) (first_page left number) (first_page left number) place ∷ entries_lines words regions (lines_under words regions (left - 1)) (4 - left) number place 512
 unfolding lines_under
-under_table words zero number place some = absurd (omega (arith, some))
-under_table words (suc left) number place some =
+under_table words regions zero number place some = absurd (omega (arith, some))
+under_table words regions (suc left) number place some =
     let more : 3 - left ≡ 4 - suc left = omega arith in
     let less : left ≡ suc left - 1 = omega arith in
     let first = first_page (suc left) number in
-    ap (λ (n : ℕ). line_of n (number % 512) first first place ∷ entries_lines words (lines_under words left) n number place 512) more
-    ∙ ap (λ (m : ℕ). line_of (4 - suc left) (number % 512) first first place ∷ entries_lines words (lines_under words m) (4 - suc left) number place 512) less
+    ap (λ (n : ℕ). line_of regions n (number % 512) first first place ∷ entries_lines words regions (lines_under words regions left) n number place 512) more
+    ∙ ap (λ (m : ℕ). line_of regions (4 - suc left) (number % 512) first first place ∷ entries_lines words regions (lines_under words regions m) (4 - suc left) number place 512) less

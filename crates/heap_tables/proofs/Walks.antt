@@ -8,6 +8,7 @@ use Rattle.paging_core.specs.Walk.{Place, step, large_step, large_from, large_of
 use Rattle.paging_core.proofs.Reach.{reach_suc, reach_last, reach_in, reach_none, large_is}
 use Rattle.paging_core.proofs.Prefixes.{prefix_parent, prefix_more, walk_reach, walk_stops, none_more, reach_root}
 use Rattle.heap_tables.specs.declared.lines.Line.{Line}
+use Rattle.heap_tables.specs.declared.owners.Owned.{Owned}
 use Rattle.heap_tables.specs.Lines.{line_of, large_lines, lines_below, large_entry_of, entry_lines, entries_lines, first_page, lines_under, entry_lines_of}
 use Rattle.heap_tables.specs.Walked.{place_in, IsWalked, has_page}
 
@@ -53,51 +54,33 @@ all_both P [] ys front back = back
 all_both P (x ∷ xs) ys front back = (front.0, all_both P xs ys front.1 back)
 
 -- what holds of what each entry leads to holds of all
-pub entries_all : (P : Line → Type 0) (words : List ℕ) (below : ℕ → Place → List Line) (level number : ℕ) (table : Place) (count : ℕ) →
-    ((index : ℕ) → index < count → AllByRecursion P (entry_lines words below level number table index)) → AllByRecursion P (entries_lines words below level number table count)
-entries_all P words below level number table zero each = tt
-entries_all P words below level number table (suc count) each =
-    all_both P (entries_lines words below level number table count) (entry_lines words below level number table count)
-    (entries_all P words below level number table count (λ index less. each index (omega (arith, less)))) (each count (omega arith))
+pub entries_all : (P : Line → Type 0) (words : List ℕ) (regions : List Owned) (below : ℕ → Place → List Line) (level number : ℕ) (table : Place) (count : ℕ) →
+    ((index : ℕ) → index < count → AllByRecursion P (entry_lines words regions below level number table index)) → AllByRecursion P (entries_lines words regions below level number table count)
+entries_all P words regions below level number table zero each = tt
+entries_all P words regions below level number table (suc count) each =
+    all_both P (entries_lines words regions below level number table count) (entry_lines words regions below level number table count)
+    (entries_all P words regions below level number table count (λ index less. each index (omega (arith, less)))) (each count (omega arith))
 
--- the walk of a page, by its low 36 bits
-pub walk_low : (words : List ℕ) (root page : ℕ) → page < 2 ^ 36 → walk_of words root page ≡ reach words root 4 page
-unfolding walk_of
-walk_low words root page low = ap (reach words root 4) (let e : page % 2 ^ 36 ≡ page = omega (arith, low) in e)
+-- the lines that a walk from a root can meet: those of tables, of pages, and of large pages
+pub record HoldsOfMet (P : Line → Type 0) (words : List ℕ) (regions : List Owned) (root : ℕ) : Type 0 where
+  pub tables : (steps index page : ℕ) (place : Place) → P (line_of regions steps index page page place)
+  pub pages : (number : ℕ) (place : Place) → number < 2 ^ 36 → reach words root 4 number ≡ Some place → P (line_of regions 4 (number % 512) number (number + 1) place)
+  pub larges : (number : ℕ) (large : Place) → number < 2 ^ 27 → large_of words root number ≡ Some large → P (line_of regions 3 (number % 512) (512 * number) (512 * number + 512) large)
 
--- a page that is met is where its line says
-page_walked : (words : List ℕ) (root number : ℕ) (place : Place) → number < 2 ^ 36 → reach words root 4 number ≡ Some place → IsWalked words root (line_of 4 (number % 512) number (number + 1) place)
-page_walked words root number place low met page from to =
-    let same : page ≡ number = omega (arith, from, to) in
-    let here : place.frame ≡ place.frame + (page - number) = omega (arith, from, to) in
-    walk_low words root page (omega (arith, same, low))
-    ∙ ap (reach words root 4) same
-    ∙ met
-    ∙ ap (λ (f : ℕ). Some (record { frame = f; write = place.write; user = place.user; fetch = place.fetch })) here
-
--- and so is each page of a large page
-large_walked : (words : List ℕ) (root number : ℕ) (large : Place) → number < 2 ^ 27 → large_of words root number ≡ Some large →
-    IsWalked words root (line_of 3 (number % 512) (512 * number) (512 * number + 512) large)
-large_walked words root number large low met page from to =
-    let q : page / 512 ≡ number = omega (arith, from, to) in
-    let r : page % 512 ≡ page - 512 * number = omega (arith, from, to) in
-    walk_low words root page (omega (arith, to, low))
-    ∙ reach_in words root page large (ap (large_of words root) q ∙ met)
-    ∙ ap (λ (k : ℕ). Some (record { frame = large.frame + k; write = large.write; user = large.user; fetch = large.fetch })) r
-
-larges_walked : (words : List ℕ) (root number : ℕ) (o : Option Place) → number < 2 ^ 27 → large_of words root number ≡ o → AllByRecursion (IsWalked words root) (large_lines number o)
-larges_walked words root number None low met = tt
-larges_walked words root number (Some large) low met = (large_walked words root number large low met, tt)
+larges_hold : (P : Line → Type 0) (words : List ℕ) (regions : List Owned) (root number : ℕ) (o : Option Place) → HoldsOfMet P words regions root → number < 2 ^ 27 → large_of words root number ≡ o →
+    AllByRecursion P (large_lines regions number o)
+larges_hold P words regions root number None holds low met = tt
+larges_hold P words regions root number (Some large) holds low met = (holds.larges number large low met, tt)
 
 -- the large page that an entry maps, if its table is one of the third step
-entry_large : (words : List ℕ) (root l number index : ℕ) (table : Place) → l ≤ 3 → index < 512 → number < 512 ^ (3 - l) → reach words root (3 - l) number ≡ Some table →
-    AllByRecursion (IsWalked words root) (large_lines (512 * number + index) (large_entry_of words (3 - l) table index))
-entry_large words root zero number index table low within few met = tt
-entry_large words root (suc zero) number index table low within few met =
-    larges_walked words root (512 * number + index) (large_step words table index) (omega (arith, within, few)) (large_met words root number index table within met)
-entry_large words root (suc (suc zero)) number index table low within few met = tt
-entry_large words root (suc (suc (suc zero))) number index table low within few met = tt
-entry_large words root (suc (suc (suc (suc l)))) number index table low within few met = absurd (omega arith)
+entry_large : (P : Line → Type 0) (words : List ℕ) (regions : List Owned) (root l number index : ℕ) (table : Place) → HoldsOfMet P words regions root → l ≤ 3 → index < 512 → number < 512 ^ (3 - l) →
+    reach words root (3 - l) number ≡ Some table → AllByRecursion P (large_lines regions (512 * number + index) (large_entry_of words (3 - l) table index))
+entry_large P words regions root zero number index table holds low within few met = tt
+entry_large P words regions root (suc zero) number index table holds low within few met =
+    larges_hold P words regions root (512 * number + index) (large_step words table index) holds (omega (arith, within, few)) (large_met words root number index table within met)
+entry_large P words regions root (suc (suc zero)) number index table holds low within few met = tt
+entry_large P words regions root (suc (suc (suc zero))) number index table holds low within few met = tt
+entry_large P words regions root (suc (suc (suc (suc l)))) number index table holds low within few met = absurd (omega arith)
 
 pub few_more : (l number index : ℕ) → l ≤ 3 → index < 512 → number < 512 ^ (3 - l) → 512 * number + index < 512 ^ (4 - l)
 few_more zero number index low within few = omega (arith, within, few)
@@ -106,25 +89,57 @@ few_more (suc (suc zero)) number index low within few = omega (arith, within, fe
 few_more (suc (suc (suc zero))) number index low within few = omega (arith, within, few)
 few_more (suc (suc (suc (suc l)))) number index low within few = absurd (omega (arith, low))
 
-below_walked : (words : List ℕ) (root l number : ℕ) (o : Option Place) → reach words root (4 - l) number ≡ o →
-    ((place : Place) → reach words root (4 - l) number ≡ Some place → AllByRecursion (IsWalked words root) (lines_under words l number place)) →
-    AllByRecursion (IsWalked words root) (lines_below (lines_under words l) number o)
-below_walked words root l number None met each = tt
-below_walked words root l number (Some place) met each = each place met
+below_hold : (P : Line → Type 0) (words : List ℕ) (regions : List Owned) (root l number : ℕ) (o : Option Place) → reach words root (4 - l) number ≡ o →
+    ((place : Place) → reach words root (4 - l) number ≡ Some place → AllByRecursion P (lines_under words regions l number place)) →
+    AllByRecursion P (lines_below (lines_under words regions l) number o)
+below_hold P words regions root l number None met each = tt
+below_hold P words regions root l number (Some place) met each = each place met
 
--- what is below a place that is met is walked
-pub under_walked : (words : List ℕ) (root left number : ℕ) (place : Place) → left ≤ 4 → number < 512 ^ (4 - left) → reach words root (4 - left) number ≡ Some place →
-    AllByRecursion (IsWalked words root) (lines_under words left number place)
+-- what holds of the lines that a walk can meet holds of all that is below a place that is met
+pub under_hold : (P : Line → Type 0) (words : List ℕ) (regions : List Owned) (root left number : ℕ) (place : Place) → HoldsOfMet P words regions root → left ≤ 4 → number < 512 ^ (4 - left) →
+    reach words root (4 - left) number ≡ Some place → AllByRecursion P (lines_under words regions left number place)
 unfolding lines_under
-under_walked words root zero number place low few met = (page_walked words root number place (omega (arith, few)) met, tt)
-under_walked words root (suc left) number place low few met =
+under_hold P words regions root zero number place holds low few met = (holds.pages number place (omega (arith, few)) met, tt)
+under_hold P words regions root (suc left) number place holds low few met =
     let e : 4 - suc left ≡ 3 - left = omega arith in
     let few' = subst (λ (n : ℕ). number < 512 ^ n) e few in
     let met' = subst (λ (n : ℕ). reach words root n number ≡ Some place) e met in (
-      (λ page from to. absurd (omega (arith, from, to))),
-      entries_all (IsWalked words root) words (lines_under words left) (3 - left) number place 512 (λ index within.
-          all_both (IsWalked words root) (large_lines (512 * number + index) (large_entry_of words (3 - left) place index)) (lines_below (lines_under words left) (512 * number + index) (step words (3 - left) place index))
-          (entry_large words root left number index place (omega (arith, low)) within few' met')
-          (below_walked words root left (512 * number + index) (step words (3 - left) place index) (step_met words root left number index place (omega (arith, low)) within met')
-          (λ next arrived. under_walked words root left (512 * number + index) next (omega (arith, low)) (few_more left number index (omega (arith, low)) within few') arrived))),
+      holds.tables (3 - left) (number % 512) (first_page (suc left) number) place,
+      entries_all P words regions (lines_under words regions left) (3 - left) number place 512 (λ index within.
+          all_both P (large_lines regions (512 * number + index) (large_entry_of words (3 - left) place index)) (lines_below (lines_under words regions left) (512 * number + index) (step words (3 - left) place index))
+          (entry_large P words regions root left number index place holds (omega (arith, low)) within few' met')
+          (below_hold P words regions root left (512 * number + index) (step words (3 - left) place index) (step_met words root left number index place (omega (arith, low)) within met')
+          (λ next arrived. under_hold P words regions root left (512 * number + index) next holds (omega (arith, low)) (few_more left number index (omega (arith, low)) within few') arrived))),
     )
+
+-- the walk of a page, by its low 36 bits
+pub walk_low : (words : List ℕ) (root page : ℕ) → page < 2 ^ 36 → walk_of words root page ≡ reach words root 4 page
+unfolding walk_of
+walk_low words root page low = ap (reach words root 4) (let e : page % 2 ^ 36 ≡ page = omega (arith, low) in e)
+
+-- a page that is met is where its line says
+page_walked : (words : List ℕ) (regions : List Owned) (root number : ℕ) (place : Place) → number < 2 ^ 36 → reach words root 4 number ≡ Some place → IsWalked words root (line_of regions 4 (number % 512) number (number + 1) place)
+page_walked words regions root number place low met page from to =
+    let same : page ≡ number = omega (arith, from, to) in
+    let here : place.frame ≡ place.frame + (page - number) = omega (arith, from, to) in
+    walk_low words root page (omega (arith, same, low))
+    ∙ ap (reach words root 4) same
+    ∙ met
+    ∙ ap (λ (f : ℕ). Some (record { frame = f; write = place.write; user = place.user; fetch = place.fetch })) here
+
+-- and so is each page of a large page
+large_walked : (words : List ℕ) (regions : List Owned) (root number : ℕ) (large : Place) → number < 2 ^ 27 → large_of words root number ≡ Some large →
+    IsWalked words root (line_of regions 3 (number % 512) (512 * number) (512 * number + 512) large)
+large_walked words regions root number large low met page from to =
+    let q : page / 512 ≡ number = omega (arith, from, to) in
+    let r : page % 512 ≡ page - 512 * number = omega (arith, from, to) in
+    walk_low words root page (omega (arith, to, low))
+    ∙ reach_in words root page large (ap (large_of words root) q ∙ met)
+    ∙ ap (λ (k : ℕ). Some (record { frame = large.frame + k; write = large.write; user = large.user; fetch = large.fetch })) r
+
+pub all_walked : (words : List ℕ) (regions : List Owned) (root : ℕ) → HoldsOfMet (IsWalked words root) words regions root
+all_walked words regions root = record {
+  tables = λ steps index page place other from to. absurd (omega (arith, from, to));
+  pages = page_walked words regions root;
+  larges = large_walked words regions root;
+}

@@ -2,7 +2,9 @@
 use Rattle.std.specs.Prelude.{◌≡◌, ℕ, ◌+◌, ◌-◌, Bool, true, false, not, ◌&&◌, nat_eq, nat_lt, List, [], ◌∷◌, if◌then◌else◌}
 use Rattle.paging_core.specs.declared.page_table.Rights.{Rights}
 use Rattle.heap_tables.specs.declared.lines.Line.{Line}
+use Rattle.heap_tables.specs.declared.owners.Owned.{Owned}
 use Rattle.heap_tables.specs.Lines.{entry_lines_of}
+use Rattle.heap_tables.specs.Owners.{same_owner}
 
 abbrev pub same : Bool → Bool → Bool
 same true other = other
@@ -11,15 +13,17 @@ same false other = not other
 abbrev pub same_rights : Rights → Rights → Bool
 same_rights one other = same one.write other.write && (same one.user other.user && same one.fetch other.fetch)
 
--- Whether pages go on where those of a line end: they are met after as many entries, their frames go on too, and the rights are equal.
+-- Whether pages go on where those of a line end: they are met after as many entries, their frames go on too, and they have one owner
+-- and equal rights.
 abbrev pub goes_on : Line → Line → Bool
 goes_on line next =
     nat_lt line.page line.end && (nat_lt next.page next.end && (nat_eq line.end next.page
-    && (nat_eq (line.frame + (line.end - line.page)) next.frame && (nat_eq line.steps next.steps && same_rights line.rights next.rights))))
+    && (nat_eq (line.frame + (line.end - line.page)) next.frame && (nat_eq line.steps next.steps
+    && (same_owner line.owner next.owner && same_rights line.rights next.rights)))))
 
 -- a line with the pages of the next one
 abbrev pub with_next : Line → Line → Line
-with_next line next = record { steps = line.steps; index = line.index; page = line.page; end = next.end; frame = line.frame; rights = line.rights }
+with_next line next = record { steps = line.steps; index = line.index; page = line.page; end = next.end; frame = line.frame; owner = line.owner; rights = line.rights }
 
 -- the lines from one on that has begun
 abbrev pub lines_from : Line → List Line → List Line
@@ -32,5 +36,5 @@ joined [] = []
 joined (line ∷ lines) = lines_from line lines
 
 -- The lines of page tables. Those of a table stand between its own and that of the next table, so what is joined is of one table.
-abbrev pub lines_of : List ℕ → ℕ → List Line
-lines_of words root = joined (entry_lines_of words root)
+abbrev pub lines_of : List ℕ → List Owned → ℕ → List Line
+lines_of words regions root = joined (entry_lines_of words regions root)

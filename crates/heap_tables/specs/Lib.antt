@@ -1,5 +1,6 @@
 pub mod Joining
 pub mod Lines
+pub mod Owners
 pub mod Rows
 pub mod Tables
 pub mod Uses

@@ -4,6 +4,9 @@ use Rattle.paging_core.specs.declared.page_table.Rights.{Rights}
 use Rattle.heap_map.specs.Words.{hexadecimal, commas}
 use Rattle.heap_map.specs.Shapes.{text_at, rect, titled}
 use Rattle.heap_tables.specs.declared.lines.Line.{Line}
+use Rattle.heap_tables.specs.declared.owners.Owner.{Owner}
+use Rattle.heap_tables.specs.declared.owners.Owner.TheVariants.{Heap, User}
+use Rattle.heap_tables.specs.Owners.{address_of}
 
 -- how many pages a line maps
 abbrev pub pages_of : Line → ℕ
@@ -25,13 +28,18 @@ entries_of line = if is_table line then 1 else if is_large line then pages_of li
 abbrev pub frames_of : Line → ℕ
 frames_of line = max 1 (pages_of line)
 
--- the address of a page by the low 36 bits of its number: bits 48 to 63 are as bit 47
-abbrev pub address_of : ℕ → ℕ
-address_of page = if nat_lt (page % 2 ^ 36) (2 ^ 35) then page % 2 ^ 36 * 4096 else page % 2 ^ 36 * 4096 + (2 ^ 64 - 2 ^ 48)
+-- whose the pages are, as a word and as the class of a rectangle
+abbrev pub owner_words : Owner → List ℕ
+owner_words Heap = codes "heap"
+owner_words User = codes "user"
 
--- its colour, as the class of a rectangle: a table, large pages, pages
+abbrev pub owner_class : Owner → List ℕ
+owner_class Heap = codes "u"
+owner_class User = codes "w"
+
+-- its colour, as the class of a rectangle: that of a table, or of the owner of the pages
 abbrev pub line_class : Line → List ℕ
-line_class line = if is_table line then codes "o" else if is_large line then codes "l" else codes "u"
+line_class line = if is_table line then codes "o" else owner_class line.owner
 
 -- so many large pages, or pages
 unfoldable pub pages_words : Line → List ℕ
@@ -51,11 +59,16 @@ right_words granted letter = if granted then letter else codes "-"
 unfoldable pub rights_words : Rights → List ℕ
 rights_words rights = codes "r" ++ (right_words rights.write (codes "w") ++ (right_words rights.user (codes "u") ++ right_words rights.fetch (codes "x")))
 
--- the frames
+-- the frames, from the first to the last
+unfoldable pub frames_range : Line → List ℕ
+frames_range line =
+    if nat_eq (frames_of line) 1 then commas line.frame
+    else commas line.frame ++ (codes " to " ++ commas (line.frame + frames_of line - 1))
+
+-- the same with a word for them
 unfoldable pub frames_words : Line → List ℕ
 frames_words line =
-    if nat_eq (frames_of line) 1 then codes "frame " ++ commas line.frame
-    else codes "frames " ++ (commas line.frame ++ (codes " to " ++ commas (line.frame + frames_of line - 1)))
+    if nat_eq (frames_of line) 1 then codes "frame " ++ frames_range line else codes "frames " ++ frames_range line
 
 -- the entries of its table
 unfoldable pub entries_words : Line → List ℕ
@@ -63,9 +76,19 @@ entries_words line =
     if nat_eq (entries_of line) 1 then codes "entry " ++ commas line.index
     else codes "entries " ++ (commas line.index ++ (codes " to " ++ commas (line.index + entries_of line - 1)))
 
+-- whose the pages are; of a table nothing is said
+unfoldable pub whose_words : Line → List ℕ
+whose_words line = if is_table line then [] else owner_words line.owner ++ codes " "
+
 -- what is said of a line
 unfoldable pub line_title : Line → List ℕ
-line_title line = line_words line ++ (codes ", " ++ (rights_words line.rights ++ (codes ", " ++ frames_words line)))
+line_title line = line_words line ++ (codes ", " ++ (whose_words line ++ (rights_words line.rights ++ (codes ", " ++ frames_words line))))
+
+-- a mark of a line in its colour, with a title; the lower half has that of large pages, if it is a line of these
+unfoldable pub mark_text : ℕ → ℕ → ℕ → ℕ → Line → List ℕ → List ℕ
+mark_text x y width height line title =
+    titled (line_class line) x y width height title
+    ++ (if is_table line then [] else if is_large line then titled (codes "l") x (y + height / 2) width (height / 2) title else [])
 
 -- a thin line below each of so many tables on the way
 abbrev pub guides_text : ℕ → ℕ → List ℕ
@@ -76,19 +99,27 @@ guides_text y (suc steps) = guides_text y steps ++ rect (codes "line") (30 + 24 
 abbrev pub left_of : Line → ℕ
 left_of line = 24 + 24 * line.steps
 
+-- whose the pages are, in a row
+unfoldable pub owner_text : ℕ → Line → List ℕ
+owner_text y line = if is_table line then [] else text_at (codes "m") 362 (y + 15) (owner_words line.owner)
+
+-- what is said in a row, a column each
+unfoldable pub said_text : ℕ → Line → List ℕ
+said_text y line =
+    text_at (codes "m") (left_of line + 20) (y + 15) (line_words line)
+    ++ (owner_text y line
+    ++ (text_at (codes "m faint") 416 (y + 15) (rights_words line.rights) ++ text_at (codes "m faint") 466 (y + 15) (frames_range line)))
+
 -- what stands in a row
 unfoldable pub words_text : ℕ → Line → List ℕ
-words_text y line =
-    titled (line_class line) (left_of line) (y + 4) 12 14 (line_title line)
-    ++ (text_at (codes "m") (left_of line + 20) (y + 15) (line_words line)
-    ++ (text_at (codes "m faint") 372 (y + 15) (rights_words line.rights) ++ text_at (codes "m faint") 412 (y + 15) (frames_words line)))
+words_text y line = mark_text (left_of line) (y + 4) 12 14 line (line_title line) ++ said_text y line
 
 -- which entries of their table they are; a table has 512, each a pixel wide
 unfoldable pub strip_text : ℕ → Line → List ℕ
 strip_text y line =
     if nat_eq line.steps 0 then []
     else text_at (codes "m e faint") 756 (y + 15) (entries_words line)
-    ++ (rect (codes "line") 768 (y + 8) 512 6 ++ titled (line_class line) (768 + line.index) (y + 5) (entries_of line) 12 (entries_words line))
+    ++ (rect (codes "line") 768 (y + 8) 512 6 ++ mark_text (768 + line.index) (y + 5) (entries_of line) 12 line (entries_words line))
 
 -- a row at a height
 unfoldable pub row_text : ℕ → Line → List ℕ

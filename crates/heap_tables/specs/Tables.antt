@@ -5,7 +5,7 @@ use Rattle.heap_map.specs.Words.{commas}
 use Rattle.heap_map.specs.Shapes.{text_at, rect, titled}
 use Rattle.heap_tables.specs.declared.lines.Line.{Line}
 use Rattle.heap_tables.specs.declared.uses.Use.{Use}
-use Rattle.heap_tables.specs.declared.uses.Use.TheVariants.{Table, Large, Page, Free}
+use Rattle.heap_tables.specs.declared.uses.Use.TheVariants.{Table, Large, HeapPage, UserPage, Free}
 use Rattle.heap_tables.specs.Rows.{pages_of, row_text}
 use Rattle.heap_tables.specs.Uses.{uses_of, same_use, number_of}
 
@@ -49,8 +49,9 @@ title_words = codes "The page tables after a run"
 unfoldable pub columns_text : List ℕ
 columns_text =
     text_at (codes "q") 24 76 lines_heading
-    ++ (text_at (codes "q") 372 76 (codes "rights")
-    ++ (text_at (codes "q") 424 76 (codes "frames") ++ text_at (codes "q") 768 76 entries_heading))
+    ++ (text_at (codes "q") 362 76 (codes "owner")
+    ++ (text_at (codes "q") 416 76 (codes "rights")
+    ++ (text_at (codes "q") 466 76 (codes "frames") ++ text_at (codes "q") 768 76 entries_heading)))
 
 -- what stands above the rows
 unfoldable pub heading_text : List ℕ
@@ -60,13 +61,15 @@ heading_text = text_at (codes "h") 24 40 title_words ++ columns_text
 abbrev pub use_class : Use → List ℕ
 use_class Table = codes "o"
 use_class Large = codes "l"
-use_class Page = codes "u"
+use_class HeapPage = codes "u"
+use_class UserPage = codes "w"
 use_class Free = codes "line"
 
 abbrev pub use_words : Use → List ℕ
 use_words Table = codes "tables"
 use_words Large = codes "in large pages"
-use_words Page = codes "pages"
+use_words HeapPage = codes "pages of the heap"
+use_words UserPage = codes "pages of the user"
 use_words Free = codes "free"
 
 -- so many frames of a use
@@ -80,14 +83,16 @@ count_text x y kind uses = rect (use_class kind) x (y - 10) 12 12 ++ text_at (co
 unfoldable pub legend_text : ℕ → List Use → List ℕ
 legend_text y uses =
     text_at (codes "q") 24 y (codes "Frames")
-    ++ (count_text 104 y Table uses ++ (count_text 304 y Page uses ++ (count_text 504 y Large uses ++ count_text 744 y Free uses)))
+    ++ (count_text 104 y Table uses
+    ++ (count_text 272 y HeapPage uses ++ (count_text 506 y UserPage uses ++ (count_text 740 y Large uses ++ count_text 952 y Free uses))))
 
--- the first of these uses that some frames have: a table, a large page, a page, and else none
+-- the first of these uses that some frames have: a table, a large page, a page of the user, one of the heap, and else none
 abbrev pub main_use : List Use → Use
 main_use uses =
     if list_any (same_use Table) uses then Table
     else if list_any (same_use Large) uses then Large
-    else if list_any (same_use Page) uses then Page else Free
+    else if list_any (same_use UserPage) uses then UserPage
+    else if list_any (same_use HeapPage) uses then HeapPage else Free
 
 -- so many frames, doubled so many times while there are more than 1,024 squares of them
 abbrev pub square_grown : ℕ → ℕ → ℕ → ℕ

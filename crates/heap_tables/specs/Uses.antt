@@ -1,13 +1,20 @@
 -- The frames of a memory, by their use.
 use Rattle.std.specs.Prelude.{◌≡◌, ℕ, zero, suc, ◌+◌, Bool, true, false, ◌&&◌, nat_le, nat_lt, List, [], ◌∷◌, ◌++◌, length, count_by, if◌then◌else◌}
 use Rattle.heap_tables.specs.declared.lines.Line.{Line}
+use Rattle.heap_tables.specs.declared.owners.Owner.{Owner}
+use Rattle.heap_tables.specs.declared.owners.Owner.TheVariants.{Heap, User}
 use Rattle.heap_tables.specs.declared.uses.Use.{Use}
-use Rattle.heap_tables.specs.declared.uses.Use.TheVariants.{Table, Large, Page, Free}
+use Rattle.heap_tables.specs.declared.uses.Use.TheVariants.{Table, Large, HeapPage, UserPage, Free}
 use Rattle.heap_tables.specs.Rows.{frames_of, is_table, is_large}
+
+-- a page of an owner
+abbrev pub page_of : Owner → Use
+page_of Heap = HeapPage
+page_of User = UserPage
 
 -- what a line uses its frames for
 abbrev pub use_in : Line → Use
-use_in line = if is_table line then Table else if is_large line then Large else Page
+use_in line = if is_table line then Table else if is_large line then Large else page_of line.owner
 
 -- whether a frame is one of a line
 abbrev pub has_frame : ℕ → Line → Bool
@@ -26,21 +33,11 @@ uses_of lines (suc frames) = uses_of lines frames ++ use_of frames lines ∷ []
 -- whether two uses are the same
 abbrev pub same_use : Use → Use → Bool
 same_use Table Table = true
-same_use Table Large = false
-same_use Table Page = false
-same_use Table Free = false
-same_use Large Table = false
 same_use Large Large = true
-same_use Large Page = false
-same_use Large Free = false
-same_use Page Table = false
-same_use Page Large = false
-same_use Page Page = true
-same_use Page Free = false
-same_use Free Table = false
-same_use Free Large = false
-same_use Free Page = false
+same_use HeapPage HeapPage = true
+same_use UserPage UserPage = true
 same_use Free Free = true
+same_use one other = false
 
 -- how many frames are used so
 abbrev pub number_of : Use → List Use → ℕ
@@ -49,4 +46,5 @@ number_of kind uses = count_by (same_use kind) uses
 -- each frame is counted once
 abbrev pub EachFrameIsCountedOnce : Type 0
 EachFrameIsCountedOnce = (lines : List Line) (frames : ℕ) →
-    number_of Table (uses_of lines frames) + number_of Large (uses_of lines frames) + number_of Page (uses_of lines frames) + number_of Free (uses_of lines frames) ≡ frames
+    number_of Table (uses_of lines frames) + number_of Large (uses_of lines frames) + number_of HeapPage (uses_of lines frames) + number_of UserPage (uses_of lines frames)
+    + number_of Free (uses_of lines frames) ≡ frames

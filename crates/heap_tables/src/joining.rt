@@ -3,6 +3,7 @@ ghost use Rattle.std.specs.Prelude.{◌≡◌, IfOk};
 ghost use Rattle.heap_tables.specs.Joining.{same, same_rights, goes_on, with_next, joined};
 
 use crate::lines::Line;
+use crate::owners::same_owner;
 use paging_core::Rights;
 use std::alloc::{AllocError, Global};
 
@@ -28,7 +29,9 @@ fn goes_on(line: Line, next: Line) -> bool
             && (line.end == next.page
                 && (u128::from(line.frame) + u128::from(line.end - line.page)
                     == u128::from(next.frame)
-                    && (line.steps == next.steps && same_rights(line.rights, next.rights)))))
+                    && (line.steps == next.steps
+                        && (same_owner(line.owner, next.owner)
+                            && same_rights(line.rights, next.rights))))))
 }
 
 // A line with the pages of the next one.
@@ -41,6 +44,7 @@ fn with_next(line: Line, next: Line) -> Line
         page: line.page,
         end: next.end,
         frame: line.frame,
+        owner: line.owner,
         rights: line.rights,
     }
 }

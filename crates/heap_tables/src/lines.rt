@@ -1,4 +1,5 @@
 // The lines of page tables.
+use crate::owners::Owner;
 use paging_core::Rights;
 
 /// A table, or what entries of a table map that follow each other.
@@ -15,6 +16,8 @@ pub struct Line {
     pub end: u64,
     /// The first frame.
     pub frame: u64,
+    /// Whose the page `page` is, and each other page that is mapped there.
+    pub owner: Owner,
     /// What all entries on the way grant.
     pub rights: Rights,
 }

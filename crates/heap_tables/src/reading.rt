@@ -5,11 +5,13 @@ ghost use Rattle.paging_core.specs.Memory.{frame_count};
 ghost use Rattle.paging_core.specs.Walk.{place_of, step, top};
 ghost use Rattle.heap_tables.specs.Lines.{line_of, large_lines, large_entry_of, first_page, entry_lines, entries_lines, lines_under, entry_lines_of};
 ghost use Rattle.heap_tables.specs.Joining.{lines_of};
-ghost use Rattle.heap_tables.specs.Walked.{AreWalked, AreLines};
+ghost use Rattle.heap_tables.specs.Owners.{AreAscending};
+ghost use Rattle.heap_tables.specs.Walked.{AreWalked, AreOwned, AreLines};
 
 use crate::entries::{large_entry_of, next};
 use crate::joining::joined;
 use crate::lines::Line;
+use crate::owners::{Owned, owner_of};
 use paging_core::{Frames, Mapped, PhysFrame, Rights};
 use std::alloc::{AllocError, Global};
 
@@ -25,30 +27,24 @@ fn top(frame: PhysFrame) -> Mapped
     }
 }
 
-// Puts the line of a place at the end, at which a walk arrives.
-fn push_line(
-    lines: &mut Vec<Line>,
-    steps: u32,
-    index: u64,
-    page: u64,
-    end: u64,
-    place: &Mapped,
-) -> Result<(), AllocError>
-    ensures { OnOk result (lines.new.items ≡ lines.old.items ++ line_of steps index page end (place_of place.now) ∷ []) }
+// The line of a place at which a walk arrives.
+fn line_of(regions: &[Owned], steps: u32, index: u64, page: u64, end: u64, place: &Mapped) -> Line
+    requires { AreAscending regions.now }
+    ensures { result ≡ line_of regions.now steps index page end (place_of place.now) }
 {
-    lines.push(Line {
+    Line {
         steps,
         index,
         page,
         end,
         frame: place.frame.number(),
+        owner: owner_of(regions, page),
         rights: Rights {
             write: place.write,
             user: place.user,
             fetch: place.fetch,
         },
-    })?;
-    Ok(())
+    }
 }
 
 // The first page below a place at which so many entries more lead to pages.
@@ -67,14 +63,22 @@ fn first_page(left: u32, number: u64) -> u64
 }
 
 // Puts the line of a large page at the end, if there is one.
-fn push_large(lines: &mut Vec<Line>, number: u64, large: Option<Mapped>) -> Result<(), AllocError>
-    requires { number < 2 ^ 36 }
-    ensures { OnOk result (lines.new.items ≡ lines.old.items ++ large_lines number (option_map place_of large)) }
+fn push_large(
+    lines: &mut Vec<Line>,
+    regions: &[Owned],
+    number: u64,
+    large: Option<Mapped>,
+) -> Result<(), AllocError>
+    requires ascending { AreAscending regions.now }
+    requires number { number < 2 ^ 36 }
+    ensures { OnOk result (lines.new.items ≡ lines.old.items ++ large_lines regions.now number (option_map place_of large)) }
 {
     match large {
         Some(place) => {
             let page = 512 * number;
-            push_line(lines, 3, number % 512, page, page + 512, &place)
+            let line = line_of(regions, 3, number % 512, page, page + 512, &place);
+            lines.push(line)?;
+            Ok(())
         }
         None => Ok(()),
     }
@@ -98,23 +102,25 @@ fn below_of(left: u32, number: u64, index: u64) -> u64
 fn push_entry(
     lines: &mut Vec<Line>,
     frames: &Frames,
+    regions: &[Owned],
     left: u32,
     number: u64,
     table: &Mapped,
     index: u64,
 ) -> Result<(), AllocError>
+    requires ascending { AreAscending regions.now }
     requires left { (1 ≤ left) × (left ≤ 4) }
     requires number { number < 512 ^ (4 - left) }
     requires table { table.now.frame < frame_count frames.now }
     requires index { index < 512 }
-    ensures { OnOk result (lines.new.items ≡ lines.old.items ++ entry_lines frames.now (lines_under frames.now (left - 1)) (4 - left) number (place_of table.now) index) }
+    ensures { OnOk result (lines.new.items ≡ lines.old.items ++ entry_lines frames.now regions.now (lines_under frames.now regions.now (left - 1)) (4 - left) number (place_of table.now) index) }
 {
     let level = 4 - left;
     let below = below_of(left, number, index);
     let large = large_entry_of(frames, level, table, index as u16);
-    push_large(lines, below, large)?;
+    push_large(lines, regions, below, large)?;
     match next(frames, level, table, index as u16) {
-        Some(place) => push_under(lines, frames, left - 1, below, &place),
+        Some(place) => push_under(lines, frames, regions, left - 1, below, &place),
         None => Ok(()),
     }
 }
@@ -125,35 +131,46 @@ fn push_entry(
 fn push_under(
     lines: &mut Vec<Line>,
     frames: &Frames,
+    regions: &[Owned],
     left: u32,
     number: u64,
     place: &Mapped,
 ) -> Result<(), AllocError>
+    requires ascending { AreAscending regions.now }
     requires left { left ≤ 4 }
     requires number { number < 512 ^ (4 - left) }
     requires place { place.now.frame < frame_count frames.now }
-    ensures { OnOk result (lines.new.items ≡ lines.old.items ++ lines_under frames.now left number (place_of place.now)) }
+    ensures { OnOk result (lines.new.items ≡ lines.old.items ++ lines_under frames.now regions.now left number (place_of place.now)) }
 {
     if left == 0 {
-        return push_line(lines, 4, number % 512, number, number + 1, place);
+        lines.push(line_of(regions, 4, number % 512, number, number + 1, place))?;
+        return Ok(());
     }
     let page = first_page(left, number);
-    push_line(lines, 4 - left, number % 512, page, page, place)?;
+    lines.push(line_of(regions, 4 - left, number % 512, page, page, place))?;
     for index in 0..512 {
-        push_entry(lines, frames, left, number, place, index)?;
+        push_entry(lines, frames, regions, left, number, place, index)?;
     }
     Ok(())
 }
 
 /// The lines of page tables: the root and each table, and below it what its entries lead to, in order. What a line says of
-/// its pages is what [`paging_core::walk`] finds, and a page in no line is not mapped.
-pub fn table_lines(alloc: Global, frames: &Frames, root: PhysFrame) -> Result<Vec<Line>, AllocError>
-    requires { root < frame_count frames.now }
-    ensures lines { IfOk result (λ lines. lines.items ≡ lines_of frames.now root) }
+/// its pages is what [`paging_core::walk`] finds, and a page in no line is not mapped. By regions of ascending addresses a
+/// line says whose its pages are, if the pages of each large page have one owner.
+pub fn table_lines(
+    alloc: Global,
+    frames: &Frames,
+    regions: &[Owned],
+    root: PhysFrame,
+) -> Result<Vec<Line>, AllocError>
+    requires root { root < frame_count frames.now }
+    requires ascending { AreAscending regions.now }
+    ensures lines { IfOk result (λ lines. lines.items ≡ lines_of frames.now regions.now root) }
     ensures walked { IfOk result (λ lines. AreWalked frames.now root lines.items) }
+    ensures owned { IfOk result (λ lines. AreOwned frames.now regions.now root lines.items) }
 {
     let mut lines = Vec::new(alloc);
-    push_under(&mut lines, frames, 4, 0, &top(root))?;
+    push_under(&mut lines, frames, regions, 4, 0, &top(root))?;
     let all = joined(alloc, &lines)?;
     Ok(all)
 }

@@ -1,8 +1,9 @@
 // Lines of page tables as rows of a drawing.
 ghost use Rattle.std.specs.Prelude.{◌≡◌, ◌<◌, ◌+◌, ◌-◌, ◌^◌, ◌++◌, OnOk, string_bytes};
-ghost use Rattle.heap_tables.specs.Rows.{pages_of, is_table, is_large, entries_of, frames_of, address_of, line_class, pages_words, line_words, right_words, rights_words, frames_words, entries_words, line_title, guides_text, left_of, words_text, strip_text, row_text};
+ghost use Rattle.heap_tables.specs.Rows.{pages_of, is_table, is_large, entries_of, frames_of, owner_words, owner_class, line_class, pages_words, line_words, right_words, rights_words, frames_range, frames_words, entries_words, whose_words, line_title, mark_text, guides_text, left_of, owner_text, said_text, words_text, strip_text, row_text};
 
 use crate::lines::Line;
+use crate::owners::{Owner, address_of};
 use heap_map::{Area, push_address, push_commas, push_rect, push_text, push_titled};
 use paging_core::Rights;
 use std::alloc::{AllocError, Global};
@@ -48,15 +49,23 @@ pub fn frames_of(line: Line) -> u64
     pages_of(line).max(1)
 }
 
-// The address of a page.
-fn address_of(page: u64) -> u64
-    ensures { result ≡ address_of page }
+// Whose pages are, as a word.
+fn owner_words(owner: Owner) -> &'static str
+    ensures { result.now ≡ owner_words owner }
 {
-    let low = page % 0x10_0000_0000;
-    if low < 0x8_0000_0000 {
-        low * 4096
-    } else {
-        low * 4096 + 0xffff_0000_0000_0000
+    match owner {
+        Owner::Heap => "heap",
+        Owner::User => "user",
+    }
+}
+
+// The colour of an owner's pages.
+fn owner_class(owner: Owner) -> &'static str
+    ensures { result.now ≡ owner_class owner }
+{
+    match owner {
+        Owner::Heap => "u",
+        Owner::User => "w",
     }
 }
 
@@ -66,10 +75,8 @@ pub fn line_class(line: Line) -> &'static str
 {
     if is_table(line) {
         "o"
-    } else if is_large(line) {
-        "l"
     } else {
-        "u"
+        owner_class(line.owner)
     }
 }
 
@@ -129,19 +136,29 @@ fn last_of(first: u64, count: u64) -> u128
     (u128::from(first) + u128::from(count)).saturating_sub(1)
 }
 
+#[tactic(auto, unfolding(crate::specs::Rows::frames_range))]
+fn push_frames_range(out: &mut String, line: Line) -> Result<(), AllocError>
+    ensures { OnOk result (string_bytes out.new ≡ string_bytes out.old ++ frames_range line) }
+{
+    let frames = frames_of(line);
+    if frames == 1 {
+        return push_commas(out, u128::from(line.frame));
+    }
+    push_commas(out, u128::from(line.frame))?;
+    out.push_str(" to ")?;
+    push_commas(out, last_of(line.frame, frames))
+}
+
 #[tactic(auto, unfolding(crate::specs::Rows::frames_words))]
 fn push_frames(out: &mut String, line: Line) -> Result<(), AllocError>
     ensures { OnOk result (string_bytes out.new ≡ string_bytes out.old ++ frames_words line) }
 {
-    let frames = frames_of(line);
-    if frames == 1 {
+    if frames_of(line) == 1 {
         out.push_str("frame ")?;
-        return push_commas(out, u128::from(line.frame));
+        return push_frames_range(out, line);
     }
     out.push_str("frames ")?;
-    push_commas(out, u128::from(line.frame))?;
-    out.push_str(" to ")?;
-    push_commas(out, last_of(line.frame, frames))
+    push_frames_range(out, line)
 }
 
 #[tactic(auto, unfolding(crate::specs::Rows::entries_words))]
@@ -159,15 +176,52 @@ fn push_entries(out: &mut String, line: Line) -> Result<(), AllocError>
     push_commas(out, last_of(line.index, entries))
 }
 
+// Puts whose the pages of a line are at the end.
+#[tactic(auto, unfolding(crate::specs::Rows::whose_words))]
+fn push_whose(out: &mut String, line: Line) -> Result<(), AllocError>
+    ensures { OnOk result (string_bytes out.new ≡ string_bytes out.old ++ whose_words line) }
+{
+    if is_table(line) {
+        return Ok(());
+    }
+    out.push_str(owner_words(line.owner))?;
+    out.push_str(" ")
+}
+
 #[tactic(auto, unfolding(crate::specs::Rows::line_title))]
 fn push_title(out: &mut String, line: Line) -> Result<(), AllocError>
     ensures { OnOk result (string_bytes out.new ≡ string_bytes out.old ++ line_title line) }
 {
     push_line_words(out, line)?;
     out.push_str(", ")?;
+    push_whose(out, line)?;
     push_rights(out, line.rights)?;
     out.push_str(", ")?;
     push_frames(out, line)
+}
+
+// Puts a mark of a line at the end. Its lower half shows large pages.
+#[tactic(auto, unfolding(crate::specs::Rows::mark_text))]
+fn push_mark(out: &mut String, area: Area, line: Line, title: &str) -> Result<(), AllocError>
+    requires y { area.y < 2 ^ 110 }
+    requires height { area.height < 2 ^ 100 }
+    ensures { OnOk result (string_bytes out.new ≡ string_bytes out.old ++ mark_text area.x area.y area.width area.height line title.now) }
+{
+    push_titled(out, line_class(line), area, title)?;
+    if is_table(line) {
+        return Ok(());
+    }
+    if !is_large(line) {
+        return Ok(());
+    }
+    let half = area.height / 2;
+    let lower = Area {
+        x: area.x,
+        y: area.y + half,
+        width: area.width,
+        height: half,
+    };
+    push_titled(out, "l", lower, title)
 }
 
 // Puts a thin line below each of so many tables at the end.
@@ -195,31 +249,52 @@ fn left_of(line: Line) -> u128
     24 + 24 * u128::from(line.steps)
 }
 
+// Puts whose the pages are at the end.
+#[tactic(auto, unfolding(crate::specs::Rows::owner_text))]
+fn push_owner(out: &mut String, y: u128, line: Line) -> Result<(), AllocError>
+    requires { y < 2 ^ 100 }
+    ensures { OnOk result (string_bytes out.new ≡ string_bytes out.old ++ owner_text y line) }
+{
+    if is_table(line) {
+        return Ok(());
+    }
+    push_text(out, "m", 362, y + 15, owner_words(line.owner))
+}
+
+// Puts what is said in a row at the end.
+#[tactic(auto, unfolding(crate::specs::Rows::said_text))]
+fn push_said(alloc: Global, out: &mut String, y: u128, line: Line) -> Result<(), AllocError>
+    requires { y < 2 ^ 100 }
+    ensures { OnOk result (string_bytes out.new ≡ string_bytes out.old ++ said_text y line) }
+{
+    let mut words = String::new(alloc);
+    push_line_words(&mut words, line)?;
+    push_text(out, "m", left_of(line) + 20, y + 15, words.as_str())?;
+    push_owner(out, y, line)?;
+    let mut rights = String::new(alloc);
+    push_rights(&mut rights, line.rights)?;
+    push_text(out, "m faint", 416, y + 15, rights.as_str())?;
+    let mut frames = String::new(alloc);
+    push_frames_range(&mut frames, line)?;
+    push_text(out, "m faint", 466, y + 15, frames.as_str())
+}
+
 // Puts what stands in a row at the end.
 #[tactic(auto, unfolding(crate::specs::Rows::words_text))]
 fn push_words(alloc: Global, out: &mut String, y: u128, line: Line) -> Result<(), AllocError>
     requires { y < 2 ^ 100 }
     ensures { OnOk result (string_bytes out.new ≡ string_bytes out.old ++ words_text y line) }
 {
-    let left = left_of(line);
     let area = Area {
-        x: left,
+        x: left_of(line),
         y: y + 4,
         width: 12,
         height: 14,
     };
     let mut title = String::new(alloc);
     push_title(&mut title, line)?;
-    push_titled(out, line_class(line), area, title.as_str())?;
-    let mut words = String::new(alloc);
-    push_line_words(&mut words, line)?;
-    push_text(out, "m", left + 20, y + 15, words.as_str())?;
-    let mut rights = String::new(alloc);
-    push_rights(&mut rights, line.rights)?;
-    push_text(out, "m faint", 372, y + 15, rights.as_str())?;
-    let mut frames = String::new(alloc);
-    push_frames(&mut frames, line)?;
-    push_text(out, "m faint", 412, y + 15, frames.as_str())
+    push_mark(out, area, line, title.as_str())?;
+    push_said(alloc, out, y, line)
 }
 
 // Puts the entries of a line at the end, as a part of their table.
@@ -247,7 +322,7 @@ fn push_strip(alloc: Global, out: &mut String, y: u128, line: Line) -> Result<()
         width: u128::from(entries_of(line)),
         height: 12,
     };
-    push_titled(out, line_class(line), area, entries.as_str())
+    push_mark(out, area, line, entries.as_str())
 }
 
 /// Puts a row at the end.

@@ -106,8 +106,9 @@ fn push_columns(out: &mut String) -> Result<(), AllocError>
     ensures { OnOk result (string_bytes out.new ≡ string_bytes out.old ++ columns_text) }
 {
     push_text(out, "q", 24, 76, lines_heading())?;
-    push_text(out, "q", 372, 76, "rights")?;
-    push_text(out, "q", 424, 76, "frames")?;
+    push_text(out, "q", 362, 76, "owner")?;
+    push_text(out, "q", 416, 76, "rights")?;
+    push_text(out, "q", 466, 76, "frames")?;
     push_text(out, "q", 768, 76, entries_heading())
 }
 
@@ -127,7 +128,8 @@ fn use_class(of: Use) -> &'static str
     match of {
         Use::Table => "o",
         Use::Large => "l",
-        Use::Page => "u",
+        Use::HeapPage => "u",
+        Use::UserPage => "w",
         Use::Free => "line",
     }
 }
@@ -139,7 +141,8 @@ fn use_words(of: Use) -> &'static str
     match of {
         Use::Table => "tables",
         Use::Large => "in large pages",
-        Use::Page => "pages",
+        Use::HeapPage => "pages of the heap",
+        Use::UserPage => "pages of the user",
         Use::Free => "free",
     }
 }
@@ -187,9 +190,10 @@ fn push_legend(alloc: Global, out: &mut String, y: u128, uses: &[Use]) -> Result
 {
     push_text(out, "q", 24, y, "Frames")?;
     push_count(alloc, out, 104, y, Use::Table, uses)?;
-    push_count(alloc, out, 304, y, Use::Page, uses)?;
-    push_count(alloc, out, 504, y, Use::Large, uses)?;
-    push_count(alloc, out, 744, y, Use::Free, uses)
+    push_count(alloc, out, 272, y, Use::HeapPage, uses)?;
+    push_count(alloc, out, 506, y, Use::UserPage, uses)?;
+    push_count(alloc, out, 740, y, Use::Large, uses)?;
+    push_count(alloc, out, 952, y, Use::Free, uses)
 }
 
 // Whether some frames are used so.
@@ -205,7 +209,7 @@ fn are_some(uses: &[Use], of: Use) -> bool
     false
 }
 
-// The first use that some frames have, of a table, a large page and a page.
+// The first use that some frames have, of a table, a large page, a page of the user and one of the heap.
 fn main_use(uses: &[Use]) -> Use
     ensures { result ≡ main_use uses.now }
 {
@@ -213,8 +217,10 @@ fn main_use(uses: &[Use]) -> Use
         Use::Table
     } else if are_some(uses, Use::Large) {
         Use::Large
-    } else if are_some(uses, Use::Page) {
-        Use::Page
+    } else if are_some(uses, Use::UserPage) {
+        Use::UserPage
+    } else if are_some(uses, Use::HeapPage) {
+        Use::HeapPage
     } else {
         Use::Free
     }

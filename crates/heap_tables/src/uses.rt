@@ -1,8 +1,9 @@
 // The frames of a memory, by their use.
 ghost use Rattle.std.specs.Prelude.{◌≡◌, ◌≤◌, IfOk};
-ghost use Rattle.heap_tables.specs.Uses.{use_in, has_frame, use_of, uses_of, same_use, number_of};
+ghost use Rattle.heap_tables.specs.Uses.{page_of, use_in, has_frame, use_of, uses_of, same_use, number_of};
 
 use crate::lines::Line;
+use crate::owners::Owner;
 use crate::rows::{frames_of, is_large, is_table};
 use std::alloc::{AllocError, Global};
 
@@ -13,10 +14,22 @@ pub enum Use {
     Table,
     /// In a large page.
     Large,
-    /// For a page.
-    Page,
+    /// For a page of the heap.
+    HeapPage,
+    /// For a page of the user.
+    UserPage,
     /// For nothing that a walk meets.
     Free,
+}
+
+// A page of an owner.
+fn page_of(owner: Owner) -> Use
+    ensures { result ≡ page_of owner }
+{
+    match owner {
+        Owner::Heap => Use::HeapPage,
+        Owner::User => Use::UserPage,
+    }
 }
 
 // What a line uses its frames for.
@@ -28,7 +41,7 @@ fn use_in(line: Line) -> Use
     } else if is_large(line) {
         Use::Large
     } else {
-        Use::Page
+        page_of(line.owner)
     }
 }
 
@@ -71,7 +84,8 @@ pub fn same_use(one: Use, other: Use) -> bool
     match one {
         Use::Table => other == Use::Table,
         Use::Large => other == Use::Large,
-        Use::Page => other == Use::Page,
+        Use::HeapPage => other == Use::HeapPage,
+        Use::UserPage => other == Use::UserPage,
         Use::Free => other == Use::Free,
     }
 }

@@ -30,10 +30,12 @@ consists of, its free chunks by size, and the regions of the heap and the user
 with their large pages. A browser shows at each extent what it is.
 
 The page tables: a line for the root, for each table, and below it for what its
-entries map, which is the greatest run of pages with frames one after the other
-and equal rights. At the right of a line is its part of the 512 entries of its
-table. Below are the frames of the memory by their use: a square has the colour
-of the first that it has of a table, a large page and a page.
+entries map, which is the greatest run of pages with frames one after the other,
+of one owner and with equal rights. Pages of the heap are blue and those of the
+user green; the lower half of a line of large pages is orange. At the right of a
+line is its part of the 512 entries of its table. Below are the frames of the
+memory by their use: a square has the colour of the first that it has of a table,
+a large page, a page of the user and one of the heap.
 
 The heap over the run: calls go from left to right, addresses upwards. A block is
 drawn from the call that gave it to the call that ended it, over the regions

@@ -149,6 +149,61 @@ fn a_run_is_drawn_over_its_calls(rt: HostRuntime) -> Result<(), Fail> {
     )
 }
 
+/// The words of a run whose page tables are drawn.
+fn tables_words(alloc: Global, of: &[&str]) -> Result<Vec<String>, AllocError> {
+    let mut words = Vec::new(alloc);
+    for word in of {
+        let mut taken = String::new(alloc);
+        taken.push_str(word)?;
+        words.push(taken)?;
+    }
+    Ok(words)
+}
+
+/// Pages of the user and of the heap one after the other, with frames one after the other and equal rights: the last tables are
+/// there from the first call on, and so each later call takes a frame for its page alone.
+#[test]
+fn a_change_of_owner_begins_a_line(rt: HostRuntime) -> Result<(), Fail> {
+    let words = tables_words(
+        rt.alloc(),
+        ["tables", "0x401000", "3", "4096", "64", "4095"].as_slice(),
+    )?;
+    expect_parts_of(
+        &rt,
+        rt.alloc(),
+        words.as_slice(),
+        b"map 0x404000 1 r---\nmap 0x400000 1 rw--\nmalloc 24\n".as_slice(),
+        &[
+            "<rect class=\"w\" x=\"120\" y=\"188\" width=\"12\" height=\"14\"><title>0x400000 + 1 page, user rw--, frame 5</title></rect>\n<text class=\"m\" x=\"140\" y=\"199\">0x400000 + 1 page</text>\n<text class=\"m\" x=\"362\" y=\"199\">user</text>\n<text class=\"m faint\" x=\"416\" y=\"199\">rw--</text>\n<text class=\"m faint\" x=\"466\" y=\"199\">5</text>\n",
+            "<rect class=\"u\" x=\"120\" y=\"210\" width=\"12\" height=\"14\"><title>0x401000 + 1 page, heap rw--, frame 6</title></rect>\n",
+            "<rect class=\"line\" x=\"768\" y=\"214\" width=\"512\" height=\"6\"/>\n<rect class=\"u\" x=\"769\" y=\"211\" width=\"1\" height=\"12\"><title>entry 1</title></rect>\n",
+            "<rect class=\"w\" x=\"120\" y=\"232\" width=\"12\" height=\"14\"><title>0x404000 + 1 page, user r---, frame 1</title></rect>\n",
+            ">4 tables</text>\n<rect class=\"u\" x=\"272\" y=\"276\" width=\"12\" height=\"12\"/>\n<text class=\"p\" x=\"290\" y=\"286\">1 pages of the heap</text>\n<rect class=\"w\" x=\"506\" y=\"276\" width=\"12\" height=\"12\"/>\n<text class=\"p\" x=\"524\" y=\"286\">2 pages of the user</text>\n",
+            ">0 in large pages</text>\n",
+            ">57 free</text>\n",
+            "<rect class=\"w\" x=\"69\" y=\"298\" width=\"8\" height=\"8\"><title>frames 5 to 5: pages of the user</title></rect>\n<rect class=\"u\" x=\"78\" y=\"298\" width=\"8\" height=\"8\"><title>frames 6 to 6: pages of the heap</title></rect>\n",
+        ],
+    )
+}
+
+/// A large page of the heap has the colours of both. Its 512 frames are taken first, and those of its tables then.
+#[test]
+fn a_large_page_has_an_owner(rt: HostRuntime) -> Result<(), Fail> {
+    let words = tables_words(rt.alloc(), ["tables"].as_slice())?;
+    expect_parts_of(
+        &rt,
+        rt.alloc(),
+        words.as_slice(),
+        b"malloc 2500000\n".as_slice(),
+        &[
+            "<rect class=\"u\" x=\"96\" y=\"166\" width=\"12\" height=\"14\"><title>0x400000 + 1 large page, heap rw--, frames 512 to 1,023</title></rect>\n<rect class=\"l\" x=\"96\" y=\"173\" width=\"12\" height=\"7\"><title>0x400000 + 1 large page, heap rw--, frames 512 to 1,023</title></rect>\n<text class=\"m\" x=\"116\" y=\"177\">0x400000 + 1 large page</text>\n<text class=\"m\" x=\"362\" y=\"177\">heap</text>\n",
+            ">512 in large pages</text>\n",
+            ">112 pages of the heap</text>\n",
+            ">0 pages of the user</text>\n",
+        ],
+    )
+}
+
 #[test]
 fn an_empty_heap_has_a_picture(rt: HostRuntime) -> Result<(), Fail> {
     let (reported, sink) = outcome(rt.alloc(), b"".as_slice())?;
