@@ -5,14 +5,16 @@
 #include <signal.h>
 #include <sys/time.h>
 
-static volatile sig_atomic_t good, all;
+/* Handlers run in several threads at a time. */
+static _Atomic int good, all;
 
 static void on_alarm(int signal) {
     (void)signal;
     pid_t child = fork();
     if (child == 0) _exit(0);
+    bool well = ended_well(child);
+    good += well;
     all++;
-    good += ended_well(child);
 }
 
 static void *allocate(void *is_good) {
