@@ -22,6 +22,7 @@
 #include <stdbool.h>
 #include <stdint.h>
 #include <sys/syscall.h>
+#include <time.h>
 #include <unistd.h>
 #if __has_include(<sys/single_threaded.h>)
 #include <sys/single_threaded.h>
@@ -130,10 +131,16 @@ static void leave_lock(enum entry entry) {
 static void lock_behind_streams(uint64_t thread) {
     _IO_list_lock();
     for (unsigned looks = 1; !takes(0, thread); looks++) {
-        bool lets_go = looks % (LOOKS * LOOKS) == 0;
-        if (lets_go) _IO_list_unlock();
-        if (looks % LOOKS == 0) sched_yield();
-        if (lets_go) _IO_list_lock();
+        if (looks % (LOOKS * LOOKS) == 0) {
+            /* It sleeps, since a thread that is woken for the list has to take it before this one takes it again. */
+            int number = errno;
+            _IO_list_unlock();
+            nanosleep(&(struct timespec){.tv_nsec = 100000}, NULL);
+            _IO_list_lock();
+            errno = number;
+        } else if (looks % LOOKS == 0) {
+            sched_yield();
+        }
         __builtin_ia32_pause();
     }
     holds_streams = true;
