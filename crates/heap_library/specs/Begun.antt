@@ -14,7 +14,7 @@ pub record IsNewAt (address granularity : ℕ) (heap : Dlmalloc Arena) : Type 0 
   pub top : heap.system.top ≡ address
   pub peak : heap.system.peak ≡ address
 
--- So it is over the first words of one memory, and has its table there. Words and table are as they were given.
+-- The same over one memory: its first words are for blocks, and the table stands after them. Words and table are as they were given.
 pub record IsBegun (memory : List ℕ) (address granularity : ℕ) (heap : Dlmalloc Arena) : Type 0 where
   pub new : IsNewAt address granularity heap
   pub words : heap.system.words.now ≡ words_for_blocks granularity memory

@@ -53,7 +53,8 @@ pub record IsLargeUnmapped (old new : TableState) (page frame : ℕ) : Type 0 wh
   pub unmapped : (k : ℕ) → k < 512 → leads new (512 * page + k) ≡ None
   pub cleared : IsLargeCleared old.words new.words old.root page
 
--- The pages lead to frames in a row with the rights. So many frames were taken for tables, and so are the slots that became large.
+-- The pages lead to frames in a row with the rights. As many frames were taken as tables were wanted. Exactly the slots
+-- that became large are large, besides those that were before.
 pub record IsRangeMapped (old new : TableState) (page pages frame : ℕ) (rights : Rights) : Type 0 where
   pub mapped : (k : ℕ) → k < pages → leads new (page + k) ≡ Some (granted (frame + k) rights)
   pub free : free_count new.free + tables_wanted old page pages frame ≡ free_count old.free

@@ -13,7 +13,8 @@ use Rattle.dlmalloc.specs.Heap.{state_of, IsGranularity}
 use Rattle.dlmalloc.specs.Requested.{IsHandedOut}
 use Rattle.dlmalloc.specs.declared.heap.Dlmalloc.{Dlmalloc}
 use Rattle.object_pool.specs.Bytes.{bytes_at, AreGranted, IsWritten}
-use Rattle.object_pool.specs.Pool.{place_of, bytes_of, AreInBlock, IsLaidOut, KeepsOthers, PlacesAreApart, StaysInState}
+use Rattle.sound_heap.specs.Heap.{AreInBlock}
+use Rattle.object_pool.specs.Pool.{place_of, bytes_of, IsLaidOut, KeepsOthers, PlacesAreApart, StaysInState}
 use Rattle.object_pool.proofs.ByteRuns.{bytes_same, bytes_are}
 use Rattle.object_pool.proofs.HeapBlocks.{handed_keeps, handed_fresh, written_keeps}
 use Rattle.object_pool.proofs.Numbers.{lt_or_le, same_or_other}
@@ -72,7 +73,7 @@ module _ {A : Type 0} (regions : A → List Grant) (word : A → ℕ → ℕ) (h
       let end = place_ends index in
       record {
         block = slice_index slabs (index / 64);
-        held = 64 * size;
+        size = 64 * size;
         is = slab_block index less;
         low = omega (arith, is);
         within = omega (arith, is, many, end);

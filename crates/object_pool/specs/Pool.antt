@@ -5,7 +5,6 @@ use Rattle.heap_memory.specs.declared.grant.GrantFault.{GrantFault}
 use Rattle.heap_memory.specs.Events.{Event}
 use Rattle.dlmalloc_chunks.specs.Request.{padded}
 use Rattle.dlmalloc.specs.declared.heap.Dlmalloc.{Dlmalloc}
-use Rattle.dlmalloc.specs.State.{HeapState}
 use Rattle.dlmalloc.specs.Heap.{state_of}
 use Rattle.dlmalloc.specs.Blocks.{IsBlock}
 use Rattle.dlmalloc.specs.Grown.{IsAsItWas}
@@ -30,14 +29,6 @@ place_of slabs size index = slice_index slabs (index / 64) + size * (index % 64)
 -- the bytes at the place of a slot
 abbrev pub bytes_of : {A : Type 0} → (A → ℕ → ℕ) → Dlmalloc A → List ℕ → ℕ → ℕ → List ℕ
 bytes_of word heap slabs size index = bytes_at (word heap.system) (place_of slabs size index) size
-
--- this many bytes from an address on are in one block
-pub record AreInBlock (heap : HeapState) (address count : ℕ) : Type 0 where
-  pub block : ℕ
-  pub held : ℕ
-  pub is : IsBlock heap block held
-  pub low : block ≤ address
-  pub within : address + count ≤ block + held
 
 -- no slab begins at an address
 abbrev pub IsNoSlab : List ℕ → ℕ → Type 0
