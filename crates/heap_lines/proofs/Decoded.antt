@@ -1,5 +1,5 @@
 -- Digits and their bytes.
-use Rattle.std.proofs.Common.{◌≡◌, ℕ, zero, suc, ◌+◌, ◌-◌, ◌*◌, ◌%◌, ◌<◌, ◌≤◌, inl, inr, Bool, true, false, ◌&&◌, T, eqb, cond, List, length, get_or, Option, Some, None, Result, Ok, Err, refl, sym, ◌∙◌, ap, arith, eq-zero-or-pos, eqb→eq}
+use Rattle.std.proofs.Common.{◌≡◌, ℕ, zero, suc, ◌+◌, ◌-◌, ◌*◌, ◌%◌, ◌<◌, ◌≤◌, inl, inr, Bool, true, false, ◌&&◌, T, eqb, List, length, get_or, drop, Option, Some, None, is_some, Result, Ok, Err, refl, sym, ◌∙◌, ap, arith, eq-zero-or-pos, eqb→eq}
 use native.Mathlib.Decide.{dec_lt}
 use Rattle.std.proofs.lemmas.Bool.{false≢true}
 use lib.Ieee.Fits.{and_l, and_r}
@@ -7,6 +7,8 @@ use Rattle.std.specs.Prelude.{nat_lt}
 use Rattle.std.specs.Result.{result_ok}
 use Rattle.hex.specs.Hex.{decode_of, decode_pairs, hex_digit_value, pair_value}
 use Rattle.hex.specs.declared.error.FromHexError.{FromHexError}
+use Rattle.hex.proofs.Pairs.{cons_byte, drop-pair, decode_pairs-ok_pair, decode_pairs-err_pair}
+use Rattle.std.proofs.lemmas.List.{drop_all}
 use Rattle.heap_lines.specs.declared.decode.TheConstants.{VALUES}
 
 -- a digit's value, and 255 where it is none
@@ -84,3 +86,60 @@ decode_even s n even = grind (arith)
 
 pub odd_none : (s : List ℕ) → (length s % 2 ≡ 0 → ⊥) → None ≡ result_ok (decode_of s)
 odd_none s odd = grind (arith)
+
+-- ---- whether all are digits
+
+-- whether digits have bytes, the first of them at index i
+abbrev pub has_bytes : ℕ → List ℕ → Bool
+has_bytes i s = is_some (result_ok (decode_pairs i s))
+
+same_cons : (v : ℕ) (r : Result (List ℕ) FromHexError) → is_some (result_ok (cons_byte v r)) ≡ is_some (result_ok r)
+same_cons v (Ok rest) = refl
+same_cons v (Err e) = refl
+
+pub even_pairs : (s : List ℕ) → length s % 2 ≡ 0 → decode_of s ≡ decode_pairs 0 s
+even_pairs s even = grind (arith)
+
+none_is : {A : Type 0} (o : Option A) → is_some o ≡ false → o ≡ None
+none_is None is = refl
+none_is (Some x) is = absurd (false≢true (sym is))
+
+pub none_decoded : (o : Option (List ℕ)) → false ≡ is_some o → None ≡ o
+none_decoded o is = sym (none_is o (sym is))
+
+bad_pair : (o : Option ℕ) (r : Result ℕ FromHexError) → o ≡ result_ok r → is_some o ≡ false → (e : FromHexError) × (r ≡ Err e)
+bad_pair o r same is = err_of r (sym same ∙ none_is o is)
+
+good_pair : (o : Option ℕ) (r : Result ℕ FromHexError) → o ≡ result_ok r → is_some o ≡ true → (v : ℕ) × (r ≡ Ok v)
+good_pair None r same is = absurd (false≢true is)
+good_pair (Some v) r same is = (v, ok_of r v (sym same))
+
+-- the two digits at a place
+abbrev pub pair_at : List ℕ → ℕ → Result ℕ FromHexError
+pair_at s k = pair_value (get_or s (2 * k) 0) (get_or s (2 * k + 1) 0) (2 * k)
+
+pub digits_step : (s : List ℕ) (k : ℕ) (o : Option ℕ) → 2 * k + 1 < length s → o ≡ result_ok (pair_at s k) → is_some o ≡ true
+    → has_bytes 0 s ≡ has_bytes (2 * k) (drop (2 * k) s)
+    → has_bytes 0 s ≡ has_bytes (2 * (k + 1)) (drop (2 * (k + 1)) s)
+digits_step s k o fits same is inv =
+    let rest : List ℕ = drop (2 * (k + 1)) s in
+    let two : 2 * k + 2 ≡ 2 * (k + 1) = omega arith in
+    let good = good_pair o (pair_at s k) same is in
+    inv
+    ∙ ap (has_bytes (2 * k)) (drop-pair s k fits)
+    ∙ ap (λ (r : Result (List ℕ) FromHexError). is_some (result_ok r)) (decode_pairs-ok_pair (2 * k) (get_or s (2 * k) 0) (get_or s (2 * k + 1) 0) good.0 rest good.1)
+    ∙ same_cons good.0 (decode_pairs (2 * k + 2) rest)
+    ∙ ap (λ (n : ℕ). has_bytes n rest) two
+
+pub digits_err : (s : List ℕ) (k : ℕ) (o : Option ℕ) → 2 * k + 1 < length s → o ≡ result_ok (pair_at s k) → is_some o ≡ false
+    → has_bytes 0 s ≡ has_bytes (2 * k) (drop (2 * k) s)
+    → has_bytes 0 s ≡ false
+digits_err s k o fits same is inv =
+    let bad = bad_pair o (pair_at s k) same is in
+    inv
+    ∙ ap (has_bytes (2 * k)) (drop-pair s k fits)
+    ∙ ap (λ (r : Result (List ℕ) FromHexError). is_some (result_ok r)) (decode_pairs-err_pair (2 * k) (get_or s (2 * k) 0) (get_or s (2 * k + 1) 0) bad.0 (drop (2 * (k + 1)) s) bad.1)
+
+pub digits_done : (s : List ℕ) (k : ℕ) → length s ≤ 2 * k → has_bytes 0 s ≡ has_bytes (2 * k) (drop (2 * k) s) → has_bytes 0 s ≡ true
+unfolding decode_pairs
+digits_done s k all inv = inv ∙ ap (has_bytes (2 * k)) (drop_all (2 * k) s all)

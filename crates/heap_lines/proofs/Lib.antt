@@ -6,3 +6,4 @@ pub mod Numerals
 pub mod Printed
 pub mod Sought
 pub mod WordLemmas
+pub mod Writes

@@ -1,5 +1,5 @@
 -- The call that a line asks for.
-use Rattle.std.specs.Prelude.{ℕ, Bool, true, false, List, [], ◌∷◌, length, Option, Some, None, if◌then◌else◌, ◌==◌, nat_lt, codes}
+use Rattle.std.specs.Prelude.{ℕ, Bool, true, false, List, [], ◌∷◌, length, Option, Some, None, if◌then◌else◌, ◌==◌, nat_lt, codes, ⊤}
 use Rattle.std.specs.Option.{option_map}
 use Rattle.std.specs.Result.{result_ok}
 use Rattle.std.specs.Str.{bytes_eq}
@@ -162,3 +162,8 @@ call_of (name ∷ arguments) =
 -- the call of a line of at most 8192 bytes; None is a bad line
 unfoldable pub item_of : List ℕ → Option Call
 item_of line = if nat_lt 8192 (length line) then None else call_of (words_of line)
+
+-- a `write`, and no other call
+abbrev pub IsWrite : Option Call → Type 0
+IsWrite (Some (Write block offset bytes)) = ⊤
+IsWrite item = ⊥

@@ -1,5 +1,5 @@
 // Bytes that are written as two hexadecimal digits each.
-ghost use Rattle.std.specs.Prelude.{◌≡◌, ℕ, ◌*◌, ◌<◌, length, Some, None, IfOk, IfSome, if◌then◌else◌};
+ghost use Rattle.std.specs.Prelude.{◌≡◌, ℕ, ◌*◌, ◌%◌, ◌<◌, length, Some, None, is_some, IfOk, OnErr, IfSome, IsSome, if◌then◌else◌};
 ghost use Rattle.std.specs.Result.{result_ok};
 ghost use Rattle.hex.specs.Hex.{decode_of, hex_digit_value, pair_value};
 
@@ -55,16 +55,37 @@ fn decode_into(digits: &[u8], bytes: &mut [u8]) -> bool
     true
 }
 
-/// The bytes that are written as two digits each, of either case. An `Err` says that the host had too little memory for
-/// them.
-#[tactic(auto, using(crate::proofs::Decoded::odd_none))]
+// Whether all are digits.
+fn are_digits(digits: &[u8]) -> bool
+    requires { length digits.now % 2 ≡ 0 }
+    ensures { result ≡ is_some (result_ok (decode_of digits.now)) }
+{
+    for k in 0..digits.len() / 2 {
+        if pair(digits[2 * k], digits[2 * k + 1]).is_none() {
+            return false;
+        }
+    }
+    true
+}
+
+/// The bytes that are written as two digits each, of either case. An `Err` says that all are digits, and that the host
+/// had too little memory for the bytes.
+#[tactic(auto, using(crate::proofs::Decoded::odd_none, crate::proofs::Decoded::none_decoded))]
 pub fn decode(alloc: Global, digits: &[u8]) -> Result<Option<Bytes>, AllocError>
-    ensures { IfOk result (λ bytes. bytes ≡ result_ok (decode_of digits.now)) }
+    ensures bytes { IfOk result (λ bytes. bytes ≡ result_ok (decode_of digits.now)) }
+    ensures err { OnErr result (IsSome (result_ok (decode_of digits.now))) }
 {
     if digits.len() % 2 != 0 {
         return Ok(None);
     }
-    let mut bytes = vec![in alloc; 0u8; digits.len() / 2]?;
+    // Digits that are none are found without memory too.
+    let Ok(mut bytes) = vec![in alloc; 0u8; digits.len() / 2] else {
+        return if are_digits(digits) {
+            Err(AllocError)
+        } else {
+            Ok(None)
+        };
+    };
     if decode_into(digits, bytes.as_mut_slice()) {
         Ok(Some(Bytes::from_vec(bytes)))
     } else {

@@ -1,6 +1,6 @@
 // The call that a line asks for.
-ghost use Rattle.std.specs.Prelude.{◌≡◌, IfOk, MatchOption, Some, None};
-ghost use Rattle.heap_lines.specs.Grammar.{one_number, two_numbers, request_of, malloc_of, calloc_of, realloc_of, c_realloc_of, free_of, bytes_of, write_call, write_of, read_of, right_of, rights_of_letters, map_of, unmap_of, access_of, user_of, probe_of, trim_of, rate_of, granularity_of, alone, call_of, item_of};
+ghost use Rattle.std.specs.Prelude.{◌≡◌, IfOk, OnErr, IsSome, MatchOption, Some, None};
+ghost use Rattle.heap_lines.specs.Grammar.{one_number, two_numbers, request_of, malloc_of, calloc_of, realloc_of, c_realloc_of, free_of, bytes_of, write_call, write_of, read_of, right_of, rights_of_letters, map_of, unmap_of, access_of, user_of, probe_of, trim_of, rate_of, granularity_of, alone, call_of, item_of, IsWrite};
 ghost use Rattle.heap_lines.specs.Words.{words_of};
 
 use crate::decode::decode;
@@ -106,7 +106,8 @@ fn read(words: &mut Words<'_>) -> Option<Call>
 
 // The bytes that a word writes, two digits each.
 fn bytes(alloc: Global, word: &[u8]) -> Result<Option<Bytes>, AllocError>
-    ensures { IfOk result (λ bytes. bytes ≡ bytes_of word.now) }
+    ensures bytes { IfOk result (λ bytes. bytes ≡ bytes_of word.now) }
+    ensures err { OnErr result (IsSome (bytes_of word.now)) }
 {
     if word.is_empty() {
         return Ok(None);
@@ -127,8 +128,10 @@ fn write_words<'a>(words: &mut Words<'a>) -> Option<(u64, u64, &'a [u8])>
     }
 }
 
+#[tactic(auto, using(crate::proofs::Writes::asks_to_write))]
 fn write(alloc: Global, words: &mut Words<'_>) -> Result<Option<Call>, AllocError>
-    ensures { IfOk result (λ call. call ≡ write_of words.old) }
+    ensures call { IfOk result (λ call. call ≡ write_of words.old) }
+    ensures err { OnErr result (IsWrite (write_of words.old)) }
 {
     let Some((block, offset, digits)) = write_words(words) else {
         return Ok(None);
@@ -267,7 +270,8 @@ fn alone(words: &mut Words<'_>, call: Call) -> Option<Call>
 }
 
 fn call_of(alloc: Global, line: &[u8]) -> Result<Option<Call>, AllocError>
-    ensures { IfOk result (λ call. call ≡ call_of (words_of line.now)) }
+    ensures call { IfOk result (λ call. call ≡ call_of (words_of line.now)) }
+    ensures err { OnErr result (IsWrite (call_of (words_of line.now))) }
 {
     let mut words = Words::new(line);
     let Some(name) = words.next_word() else {
@@ -309,11 +313,12 @@ fn call_of(alloc: Global, line: &[u8]) -> Result<Option<Call>, AllocError>
 }
 
 /// The call that a line asks for, without its line feed. `None` exactly if the line is outside the
-/// grammar or longer than 8192 bytes. An `Err` says that the host had too little memory for the bytes of a
-/// `write`.
+/// grammar or longer than 8192 bytes. An `Err` says that the line asks for a `write`, and that the host had too little
+/// memory for its bytes: no other line needs any.
 #[tactic(auto, unfolding(crate::specs::Grammar::item_of))]
 pub fn parse_call(alloc: Global, line: &[u8]) -> Result<Option<Call>, AllocError>
-    ensures { IfOk result (λ call. call ≡ item_of line.now) }
+    ensures call { IfOk result (λ call. call ≡ item_of line.now) }
+    ensures err { OnErr result (IsWrite (item_of line.now)) }
 {
     if line.len() > LONGEST_LINE {
         return Ok(None);

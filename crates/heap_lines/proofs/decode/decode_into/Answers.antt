@@ -1,4 +1,4 @@
-use Rattle.std.proofs.Common.{◌*◌, length, get_or, slice_index, ◌+◌, sym, ap, ◌∙◌, arith}
+use Rattle.std.proofs.Common.{◌*◌, length, sym, ap, ◌∙◌, arith}
 use Rattle.std.specs.Result.{result_ok}
 use Rattle.hex.proofs.Pairs.{decode_start, decode_step, decode_err, decode_done}
 use Rattle.heap_lines.proofs.Decoded.{decode_even, ok_of, err_of}
