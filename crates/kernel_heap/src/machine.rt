@@ -79,7 +79,8 @@ impl Model for Machine {
 
 impl Machine {
     ghost use Rattle.kernel_heap.specs.System.{paged};
-    ghost use Rattle.sound_heap.specs.Heap.{fresh_heap};
+    ghost use Rattle.sound_heap.specs.Heap.{fresh_heap, IsIntact};
+    ghost use Rattle.kernel_heap.specs.Heap.{regions, word};
     ghost use Rattle.kernel_heap.specs.Machine.{seen, system_of, heap_of};
     ghost use Rattle.kernel_heap.specs.Kept.{is_always_answered, lasting_pages, AreRunsUsedFor, leaves_all, IsReachedByte};
     ghost use Rattle.kernel_heap.specs.Moves.{HeapMoves, IsStill};
@@ -120,6 +121,14 @@ impl Machine {
         ensures { result.now ≡ self.now.cpu }
     {
         &self.cpu
+    }
+
+    /// The heap is sound, and its bins hold its free extents: what the order of its free chunks, in `heap` of
+    /// [`Machine::step`], begins with.
+    pub fn is_intact(&self)
+        ensures { IsIntact regions word self.now.heap.heap }
+    {
+        self.heap.heap.is_intact();
     }
 
     /// Serves a call. The answer is allowed in each good state for which the machine stands, and afterwards the
