@@ -1,6 +1,8 @@
 -- The call for the extents.
 use Rattle.std.proofs.Common.{◌≡◌, ℕ, List, inl, inr, Option, None, refl, sym, ◌∙◌, ap, subst}
 use Rattle.std.specs.Prelude.{sum}
+use Rattle.dlmalloc.specs.Served.{IsListed as IsListOf}
+use Rattle.dlmalloc.specs.declared.heap.Dlmalloc.{Dlmalloc}
 use Rattle.dlmalloc_chunks.specs.declared.extent.Extent.{Extent}
 use Rattle.heap_model.specs.declared.answer.Answer.{Answer}
 use Rattle.heap_model.specs.declared.answer.Reply.{Reply}
@@ -11,9 +13,13 @@ use Rattle.heap_model.specs.State.{State}
 use Rattle.heap_model.specs.Answer.{IsAllowed, IsReply, after, changed, new_pages, slots_of, with_regions}
 use Rattle.heap_model.specs.Extents.{IsTiling}
 use Rattle.kernel_heap.specs.declared.machine.Machine.{Machine}
+use Rattle.kernel_heap.specs.declared.paged_system.PagedSystem.{PagedSystem}
+use Rattle.kernel_heap.specs.Heap.{word}
+use Rattle.kernel_heap.specs.Moves.{HeapMoves}
 use Rattle.heap_program.specs.Progress.{IsAt}
 use Rattle.heap_report.specs.declared.listed.Listed.{Listed}
 use Rattle.heap_report.specs.declared.replay.Replay.{Replay}
+use Rattle.heap_report.specs.Extents.{AreTheHeapsExtents}
 use Rattle.heap_report.specs.Listed.{IsListed}
 use Rattle.heap_report.specs.Replaying.{IsAnswered}
 use Rattle.heap_report.proofs.Serving.{answered_one}
@@ -49,6 +55,12 @@ lists_extents s answer allowed =
     let same = same_state s answer.reply listing.extents answer.regions (slots_of answer.large) listing.lists listing.none in
     record { extents = listing.extents; lists = listing.lists; tiles = subst (λ (e : State). IsTiling e listing.extents) (sym same) listing.tiles }
 
+-- the heap listed them, and is as it was
+listed_by : (old new : Machine) (answer : Answer) (extents : List Extent) → HeapMoves old.heap Extents answer.reply answer.large new.heap → answer.reply ≡ Listing extents → AreTheHeapsExtents new extents
+listed_by old new answer extents moves lists =
+    let listed : HeapMoves old.heap Extents (Listing extents) answer.large new.heap = subst (λ (r : Reply). HeapMoves old.heap Extents r answer.large new.heap) lists moves in
+    subst (λ (heap : Dlmalloc PagedSystem). IsListOf word heap extents) (sym listed.0) listed.1
+
 pub extents_same : (xs ys : List Extent) → Listing xs ≡ Listing ys → xs ≡ ys
 extents_same xs ys same = cc
 
@@ -59,12 +71,14 @@ listed_from replay served answer listed is found machine sums top = λ s follows
     let one = answered_one s replay served served Extents answer follows least is refl refl refl in
     let list = lists_extents s answer (is.step s follows.at).allowed in
     let same : listed.extents ≡ list.extents = found list.extents list.lists in
+    let lists : answer.reply ≡ Listing listed.extents = list.lists ∙ ap (λ (l : List Extent). Listing l) (sym same) in
     record {
       answer = answer;
       state = after s Extents answer;
       run = one.run;
-      lists = list.lists ∙ ap (λ (l : List Extent). Listing l) (sym same);
+      lists = lists;
       tiles = subst (λ (l : List Extent). IsTiling (after s Extents answer) l) (sym same) list.tiles;
+      of_heap = subst (λ (m : Machine). AreTheHeapsExtents m listed.extents) (sym machine) (listed_by replay.machine served.machine answer listed.extents is.moves lists);
       at = subst (λ (m : Machine). IsAt m (after s Extents answer)) (sym machine) one.follows.at;
       live_is = sums ∙ ap sum one.follows.sizes;
       peak_is = top ∙ one.peak_is;

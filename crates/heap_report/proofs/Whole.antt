@@ -20,6 +20,7 @@ use Rattle.heap_program.proofs.Known.{appends_nothing, consumes_nothing}
 use Rattle.heap_report.specs.declared.listed.Listed.{Listed}
 use Rattle.heap_report.specs.declared.noted.Noted.{Noted}
 use Rattle.heap_report.specs.Calls.{calls_in, calls_of}
+use Rattle.heap_report.specs.Extents.{AreTheHeapsExtents}
 use Rattle.heap_report.specs.Listed.{IsListed}
 use Rattle.heap_report.specs.Live.{live, peak}
 use Rattle.heap_report.specs.Noting.{IsBegunWith, IsNoted, IsReplaying}
@@ -46,6 +47,7 @@ pub record IsWhole {T : Type 0} (keeps : T → List Call → List Answer → Typ
   pub answers : List Answer
   pub state : State
   pub replay : IsReplayOf s input answers state listed.extents
+  pub of_heap : AreTheHeapsExtents listed.machine listed.extents
   pub at : IsAt listed.machine state
   pub live_is : listed.live ≡ live state
   pub peak_is : listed.peak ≡ peak s (calls_of input) answers
@@ -77,6 +79,7 @@ whole keeps s machine first end listed input at none begins served lists =
         tiles = e.tiles;
         good = e.at.good;
       };
+      of_heap = e.of_heap;
       at = e.at;
       live_is = e.live_is;
       peak_is = top;
@@ -147,6 +150,7 @@ part_written keeps text s first last kept listed line output l l1 t t1 t2 n k h 
     replay = w.replay;
     machine = listed.machine;
     stands = w.at.stands;
+    of_heap = w.of_heap;
     more = drop k output;
     is = take-append-drop k output ∙ is;
   });
@@ -164,6 +168,7 @@ told keeps text s first last kept listed line output l l1 t t1 t2 flushed n h do
   written = subst (Appends t t2) is (appends_behind t t1 t2 output (silent_read keeps first last line l l1 t t1 n h) written);
   flushed_all = all;
   stands = w.at.stands;
+  of_heap = w.of_heap;
 }
 
 -- nothing was read or written

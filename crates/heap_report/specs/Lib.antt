@@ -1,4 +1,5 @@
 pub mod Calls
+pub mod Extents
 pub mod Listed
 pub mod Live
 pub mod Moments

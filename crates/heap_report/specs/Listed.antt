@@ -10,6 +10,7 @@ use Rattle.heap_model.specs.Run.{RunsTo}
 use Rattle.heap_program.specs.Progress.{IsAt}
 use Rattle.heap_report.specs.declared.listed.Listed.{Listed}
 use Rattle.heap_report.specs.declared.replay.Replay.{Replay}
+use Rattle.heap_report.specs.Extents.{AreTheHeapsExtents}
 use Rattle.heap_report.specs.Live.{live, peak}
 use Rattle.heap_report.specs.Replaying.{Follows}
 
@@ -20,13 +21,15 @@ pub record EndsWith (answers : List Answer) (extents : List Extent) : Type 0 whe
   pub split : answers ≡ earlier ++ last ∷ []
   pub listed : last.reply ≡ Listing extents
 
--- From the state s the extents were asked for: they tile the heap, and the sums are those of the run.
+-- From the state s the extents were asked for: they are those of the heap of the machine that is handed on, and tile the state's
+-- heap, and the sums are those of the run.
 pub record IsListedFrom (s : State) (replay : Replay) (listed : Listed) : Type 0 where
   pub answer : Answer
   pub state : State
   pub run : RunsTo s (Some Extents ∷ []) (Some answer ∷ []) state
   pub lists : answer.reply ≡ Listing listed.extents
   pub tiles : IsTiling state listed.extents
+  pub of_heap : AreTheHeapsExtents listed.machine listed.extents
   pub at : IsAt listed.machine state
   pub live_is : listed.live ≡ live state
   pub peak_is : listed.peak ≡ max replay.peak (peak s (Extents ∷ []) (answer ∷ []))

@@ -7,6 +7,7 @@ use Rattle.heap_model.specs.Machine.{IsStep}
 use Rattle.heap_model.specs.Run.{RunsTo}
 use Rattle.kernel_heap.specs.declared.machine.Machine.{Machine}
 use Rattle.kernel_heap.specs.Machine.{seen}
+use Rattle.kernel_heap.specs.Moves.{HeapMoves}
 use Rattle.heap_program.specs.Progress.{IsAt}
 use Rattle.heap_recorder.specs.Sizes.{sizes_after}
 use Rattle.heap_report.specs.declared.replay.Replay.{Replay}
@@ -25,9 +26,11 @@ pub record IsServedFrom (s : State) (old : Replay) (calls : List Call) (new : Re
   pub follows : Follows state new
   pub peak_is : new.peak ≡ max old.peak (peak s calls answers)
 
--- The replay answered a call: as is allowed from each state for which its machine stood. The sizes and the peak are kept.
+-- The replay answered a call: as is allowed from each state for which its machine stood. Its heap moved as the answer tells, and the
+-- sizes and the peak are kept.
 pub record IsAnswered (old : Replay) (call : Call) (answer : Answer) (new : Replay) : Type 0 where
   pub step : (s : State) → IsAt old.machine s → IsStep s call answer (seen new.machine)
+  pub moves : HeapMoves old.machine.heap call answer.reply answer.large new.machine.heap
   pub sizes : new.sizes ≡ sizes_after old.sizes call answer.reply
   pub peak_is : new.peak ≡ max old.peak (sum new.sizes)
 

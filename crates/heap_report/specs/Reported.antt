@@ -14,6 +14,7 @@ use Rattle.heap_program.specs.Flushed.{IsAllFlushed}
 use Rattle.heap_program.specs.Headline.{IsReadWhole}
 use Rattle.heap_program.specs.Lines.{items_of}
 use Rattle.heap_report.specs.Calls.{calls_in, calls_of}
+use Rattle.heap_report.specs.Extents.{AreTheHeapsExtents}
 use Rattle.heap_report.specs.Listed.{EndsWith}
 use Rattle.heap_report.specs.Live.{live, peak}
 
@@ -49,8 +50,9 @@ pub record IsTold (text : EndText) (s : State) (had left before after : Option (
   -- the text is written, and flushed
   pub written : Appends before after (text_of_run text machine s input answers state extents replay.last.earlier)
   pub flushed_all : IsAllFlushed after flushed
-  -- the machine stands for the last state
+  -- the machine stands for the last state, and the extents are those of its heap
   pub stands : Stands (seen machine) state
+  pub of_heap : AreTheHeapsExtents machine extents
 
 -- a front of the text of a run over an input that was read whole
 pub record IsFrontOfText (text : EndText) (s : State) (had left : Option (List ℕ)) (front : List ℕ) : Type 0 where
@@ -63,6 +65,7 @@ pub record IsFrontOfText (text : EndText) (s : State) (had left : Option (List �
   pub more : List ℕ
   pub machine : Machine
   pub stands : Stands (seen machine) state
+  pub of_heap : AreTheHeapsExtents machine extents
   pub is : front ++ more ≡ text_of_run text machine s input answers state extents replay.last.earlier
 
 -- A run that stopped before its end: nothing is written, or a front of its text. It took at most one piece of 4096 bytes more than

@@ -11,7 +11,9 @@ use std::alloc::{AllocError, Global};
 /// A run whose last call asked for the extents.
 #[derive(Drop)]
 pub struct Listed {
+    /// The machine after that call.
     pub machine: Machine,
+    /// The extents of its heap.
     pub extents: ExtentList,
     /// The bytes that are live.
     pub(crate) live: u128,

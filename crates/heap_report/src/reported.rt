@@ -10,7 +10,7 @@ pub struct Reported {
     pub status: u8,
     /// The machine as it was at the end, if the status is 0.
     pub machine: Option<Machine>,
-    /// The extents of the heap at the end, if the status is 0.
+    /// The extents of its heap, each with the use that the heap has for it, if the status is 0.
     pub extents: Option<ExtentList>,
 }
 
