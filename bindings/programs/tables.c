@@ -117,6 +117,12 @@ static void use_a_large_page(struct limzhur_tables *tables) {
     wants(limzhur_protect(tables, address, false, false, false) == LIMZHUR_NO_FRAMES, "a page of it, with no frame for a table");
     wants(limzhur_unmap_large(tables, address, &told) == LIMZHUR_DONE && told == run, "its end");
     wants(!limzhur_lookup(tables, address, &place), "after its end");
+    for (int right = 0; right < 3; right++) {
+        struct limzhur_place wanted = {run, right == 0, right == 1, right == 2};
+        wants(limzhur_map_large(tables, address, run, wanted.write, wanted.user, wanted.fetch) == LIMZHUR_DONE, "a large page of one right");
+        wants(limzhur_lookup(tables, address, &place) && is_same(place, wanted), "its right");
+        wants(limzhur_unmap_large(tables, address, &told) == LIMZHUR_DONE && told == run, "its end");
+    }
     wants(limzhur_map(tables, address, run, true, false, false) == LIMZHUR_NO_FRAMES, "a page there");
 }
 

@@ -90,7 +90,7 @@ module _ {base : ℕ} {marks : List ℕ} {count : ℕ} {old : Dlmalloc Arena} (n
   pub unresized_marked : (address size : ℕ) (error : HeapError) → IsResizeRefused regions_of word_of follows refuses denies old address size error new → IsMarked base marks count new
   unresized_marked address size BadAlign refused = absurd refused
   unresized_marked address size NoBlock refused = subst (IsMarked base marks count) (sym refused.1) is
-  unresized_marked address size (Refused error) refused = same_marked refused.0.same.followed.same refused.0.same.state
+  unresized_marked address size (Refused error) refused = same_marked refused.1.same.followed.same refused.1.same.state
 
   pub trimmed_marked : (pad : ℕ) (answer : _) → IsTrimmed regions_of word_of follows true true 1 old pad answer new → IsMarked base marks count new
   trimmed_marked pad answer trimmed =

@@ -35,9 +35,9 @@ refused_for old new size align (Refused (System fault)) is =
 pub resize_refused_for : (old new : Dlmalloc Arena) (address size : ℕ) (error : HeapError) → IsResizeRefused regions_of word_of follows refuses denies old address size error new → IsRefusedResize old address size
 resize_refused_for old new address size BadAlign is = absurd is
 resize_refused_for old new address size NoBlock is = inl is.0
-resize_refused_for old new address size (Refused TooLarge) is = inr (inl is.0.refused)
+resize_refused_for old new address size (Refused TooLarge) is = inr (inl is.1.refused)
 resize_refused_for old new address size (Refused (System fault)) is =
-    let why = is.0.refused.1 in inr (inr (is.1 (λ same. cc), record { none_chosen = why.none_chosen; arena_full = why.denied.1 }))
+    let why = is.1.refused.1 in inr (inr (is.2 (λ same. cc), record { none_chosen = why.none_chosen; arena_full = why.denied.1 }))
 
 -- ---- what was granted had room
 

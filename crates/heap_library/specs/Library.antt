@@ -20,10 +20,12 @@ pub record HasWord (heap : HeapState) (address offset : ℕ) : Type 0 where
   pub within : offset + 8 ≤ usable heap address
   pub aligned : offset % 8 ≡ 0
 
--- Why the block at an address does not get this many bytes, and that all is as it was: it cannot have them where it stands, and
--- a new block for them is refused.
+-- Why the block at an address does not get this many bytes, and that all is as it was: there is none; or there is one, but a new
+-- block for them is refused, and if they are not too many, it cannot have them where it stands either.
 abbrev pub IsResizeRefused : {A : Type 0} → (A → List Grant) → (A → ℕ → ℕ) → (A → List Event → A → Type 0) → (A → A → Type 0) → (A → ℕ → GrantFault → Type 0) → Dlmalloc A → ℕ → ℕ → HeapError → Dlmalloc A → Type 0
 IsResizeRefused regions word follows refuses denies old address size BadAlign new = ⊥
 IsResizeRefused regions word follows refuses denies old address size NoBlock new = (HasBlock (state_of word old) address → ⊥) × (new ≡ old)
 IsResizeRefused regions word follows refuses denies old address size (Refused error) new =
-    IsRefusedWith regions word follows refuses denies old size error new × (error ≢ TooLarge → in_place (state_of word old) (address - 16) (padded size) ≡ None)
+    HasBlock (state_of word old) address
+    × IsRefusedWith regions word follows refuses denies old size error new
+    × (error ≢ TooLarge → in_place (state_of word old) (address - 16) (padded size) ≡ None)

@@ -78,7 +78,7 @@ impl<'a> CheckedHeap<'a> {
     ghost use Rattle.heap_library.specs.Begun.{IsNewAt, IsBegun};
     ghost use Rattle.heap_library.specs.Calls.{IsBlockGiven, IsBlockResized};
     ghost use Rattle.heap_library.specs.Library.{HasWord, IsResizeRefused};
-    ghost use Rattle.sound_heap.specs.Heap.{HasBlock, usable, AreZero, IsRequestRefused};
+    ghost use Rattle.sound_heap.specs.Heap.{HasBlock, usable, AreZero, IsIntact, IsRequestRefused};
     ghost use Rattle.heap_library.specs.Counted.{HasBlocks, counted};
     ghost use Rattle.heap_library.specs.Checked.{zeros, follows, refuses, denies, heap_state, table_in, table_of, left_for_words, words_for_blocks, words_for_table, IsCleared};
     ghost use Rattle.heap_library.specs.Marks.{is_marked};
@@ -120,8 +120,8 @@ impl<'a> CheckedHeap<'a> {
         CheckedHeap::over_front(front, Marks::new(marks, base), base, GRANULARITY)
     }
 
-    /// As `over`, with a granularity, if the words for the marks are 0 already: no word is touched. The table has a
-    /// place for each granularity of bytes.
+    /// As `over`, with a granularity, if the words for the marks are 0 already. So words, table and marks are as they
+    /// were given. The table has a place for each granularity of bytes.
     pub fn over_cleared(memory: &'a mut [u64], base: u64, granularity: u64) -> CheckedHeap<'a>
         requires aligned { base % 16 ≡ 0 }
         requires low { 4096 ≤ base }
@@ -135,7 +135,7 @@ impl<'a> CheckedHeap<'a> {
         heap
     }
 
-    /// So is this one, whose granularity is that of a new heap still.
+    /// As `over_cleared`, but the heap still has the granularity of a new one. The table has its length.
     #[tactic(auto, using(crate::proofs::Cleared::clear_rest, crate::proofs::MemoryParts::blocks_of_front, crate::proofs::MemoryParts::table_of_front))]
     fn over_zeros(memory: &'a mut [u64], base: u64, granularity: u64) -> CheckedHeap<'a>
         requires aligned { base % 16 ≡ 0 }
@@ -391,5 +391,26 @@ impl<'a> CheckedHeap<'a> {
         ensures { IfOk result (λ list. IsListed word_of self.now list) }
     {
         self.heap.extents(alloc)
+    }
+
+    /// The heap is sound, and its bins hold its free extents. With this the clauses about the order of free chunks begin.
+    pub fn is_intact(&self)
+        ensures { IsIntact regions_of word_of self.now }
+    {
+        self.heap.is_intact();
+    }
+
+    /// Each block is at a multiple of 16, and its bytes are granted; if it has none, one is.
+    pub fn blocks_are_placed(&self)
+        ensures { ArePlaced (regions_of self.now.system) (heap_state self.now) }
+    {
+        self.heap.blocks_are_placed();
+    }
+
+    /// Two blocks have no byte in common, with one byte for a block that has none.
+    pub fn blocks_are_apart(&self)
+        ensures { BlocksAreApart (heap_state self.now) }
+    {
+        self.heap.blocks_are_apart();
     }
 }

@@ -26,7 +26,8 @@ fn add<'a, const N: usize>(
     heap.allocator_mut().add(arena)
 }
 
-/// Has a heap take a further arena, from which blocks are served if the others have no room. Blocks stay where they are,
+/// Has a heap take a further arena. What the heap asks for is granted by the first arena, by ascending address, that has
+/// room for it: one at a low address is asked before those that the heap already had above it. Blocks stay where they are,
 /// and keep their bytes, and all of the heap but its arenas is as it was. An arena that is not taken comes back with the
 /// reason, and nothing changes then.
 pub fn add_arena<'a, const N: usize>(

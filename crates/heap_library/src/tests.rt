@@ -84,6 +84,10 @@ fn addresses_are_looked_at(rt: HostRuntime) -> Result<(), Fail> {
                 Err(HeapError::Refused(MallocError::TooLarge)),
             ),
         ),
+        (
+            "too large, where none begins",
+            Call::Realloc(0x10020, u64::MAX, Err(HeapError::NoBlock)),
+        ),
         ("no room", Call::Malloc(40000, 16, Err(no_space))),
         ("another place", Call::Realloc(0x10010, 9000, Ok(0x100c0))),
         ("with its words", Call::Load(0x100c0, 96, Some(77))),

@@ -2,7 +2,7 @@
 ghost use Rattle.std.specs.Prelude.{◌≡◌, ◌≢◌, ◌↔◌, ◌+◌, ◌*◌, true, false, if◌then◌else◌, IsTrue};
 ghost use Rattle.dlmalloc.specs.State.{countdown_from};
 ghost use Rattle.dlmalloc.specs.Heap.{IsGranularity};
-ghost use Rattle.dlmalloc.specs.Blocks.{BlocksAreApart};
+ghost use Rattle.dlmalloc.specs.Blocks.{ArePlaced, BlocksAreApart};
 ghost use Rattle.dlmalloc.specs.Requested.{IsServedAt};
 ghost use Rattle.dlmalloc.specs.Written.{IsServedCleared};
 ghost use Rattle.dlmalloc.specs.AfterFree.{IsFreed};
@@ -13,7 +13,7 @@ ghost use Rattle.sound_heap.specs.declared.heap_error.HeapError.{HeapError};
 ghost use Rattle.heap_library.specs.Calls.{IsBlockGiven, IsBlockResized};
 ghost use Rattle.heap_library.specs.Counted.{HasBlocks};
 ghost use Rattle.heap_library.specs.Library.{IsResizeRefused};
-ghost use Rattle.sound_heap.specs.Heap.{HasBlock, AreZero, usable, IsRequestRefused};
+ghost use Rattle.sound_heap.specs.Heap.{HasBlock, AreZero, usable, IsIntact, IsRequestRefused};
 ghost use Rattle.heap_library.specs.Checked.{zeros, follows, refuses, denies, heap_state};
 ghost use Rattle.heap_library.specs.Room.{IsRefused, IsRefusedResize};
 
@@ -129,15 +129,19 @@ pub struct Stats {
     pub blocks: u64,
 }
 
-/// Says what a heap holds.
+/// Says what a heap holds. The heap of any handle is intact, and its blocks are placed.
 #[unsafe(no_mangle)]
 pub extern "C" fn limzhur_stats(handle: &mut Handle, stats: &mut Stats)
     ensures top { handle.old.heap.system.base + stats.new.used ≡ handle.old.heap.system.top }
     ensures above { IsAbove handle.old.heap.system (handle.old.heap.system.base + stats.new.used) }
     ensures blocks { HasBlocks (heap_state handle.old.heap) stats.new.blocks }
+    ensures intact { IsIntact regions_of word_of handle.old.heap }
+    ensures placed { ArePlaced (regions_of handle.old.heap.system) (heap_state handle.old.heap) }
     ensures same { handle.new.heap ≡ handle.old.heap }
 {
     let heap = handle.open();
+    heap.is_intact();
+    heap.blocks_are_placed();
     *stats = Stats {
         used: 8 * heap.used() as u64,
         blocks: heap.blocks(),

@@ -58,10 +58,15 @@ invariant_of-self c =
     c.clear.ensures.here c.clear.ensures.others c.mark.ensures.here c.mark.ensures.others
 
 pub invariant_of-self-in-Err : goal.invariant_of-self-in-Err
-invariant_of-self-in-Err c = unresized_marked c.realloc.new.self c.self.invariant c.args.from c.args.size (Refused c.in-Err.error) (c.in-Err.ensures.err, c.in-Err.ensures.tried)
+invariant_of-self-in-Err c =
+    let block = subst (λ heap. HasBlock (heap_state heap) c.args.from) (sym c.self.view_is) (c.has_block.ensures.0 c.if-not-has_block.false) in
+    unresized_marked c.realloc.new.self c.self.invariant c.args.from c.args.size (Refused c.in-Err.error) (block, c.in-Err.ensures.err, c.in-Err.ensures.tried)
 
 pub returns-in-Err-clause-err : goal.returns-in-Err-clause-err
-returns-in-Err-clause-err c = subst (λ heap. IsResizeRefused regions_of word_of follows refuses denies heap c.args.from c.args.size (Refused c.in-Err.error) c.realloc.new.self) c.self.view_is (c.in-Err.ensures.err, c.in-Err.ensures.tried)
+returns-in-Err-clause-err c =
+    let block = subst (λ heap. HasBlock (heap_state heap) c.args.from) (sym c.self.view_is) (c.has_block.ensures.0 c.if-not-has_block.false) in
+    subst (λ heap. IsResizeRefused regions_of word_of follows refuses denies heap c.args.from c.args.size (Refused c.in-Err.error) c.realloc.new.self) c.self.view_is
+    (block, c.in-Err.ensures.err, c.in-Err.ensures.tried)
 
 pub returns-in-Ok-clause-ok : goal.returns-in-Ok-clause-ok
 returns-in-Ok-clause-ok c =
@@ -90,7 +95,8 @@ returns-in-Ok-clause-refused c =
 pub returns-in-Err-clause-refused : goal.returns-in-Err-clause-refused
 returns-in-Err-clause-refused c = (
   λ _.
+      let block = subst (λ heap. HasBlock (heap_state heap) c.args.from) (sym c.self.view_is) (c.has_block.ensures.0 c.if-not-has_block.false) in
       subst (λ heap. IsRefusedResize heap c.args.from c.args.size) c.self.view_is
-      (resize_refused_for c.self.inside.heap c.realloc.new.self c.args.from c.args.size (Refused c.in-Err.error) (c.in-Err.ensures.err, c.in-Err.ensures.tried)),
+      (resize_refused_for c.self.inside.heap c.realloc.new.self c.args.from c.args.size (Refused c.in-Err.error) (block, c.in-Err.ensures.err, c.in-Err.ensures.tried)),
   λ _. refl,
 )
