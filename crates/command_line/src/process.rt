@@ -1,10 +1,9 @@
 // What programs over lines share: their arguments, the texts that they print of themselves, and the end.
 ghost use Rattle.std.specs.Prelude.{◌≡◌, ◌≢◌, ◌<◌, ◌≤◌, OnOk, IsErrOf, drop};
-ghost use Rattle.std.specs.Io.KnownBytes.{Appends};
 ghost use Rattle.std.specs.IoError.{error_kind};
 ghost use Rattle.std.specs.Process.{exit_status};
 ghost use Rattle.heap_program.specs.Faults.{HasRisen};
-ghost use Rattle.command_line.specs.Process.{IsShown, status_line};
+ghost use Rattle.command_line.specs.Process.{IsShown, IsTold};
 
 use heap_program::{Sink, SinkFault, status_text, write_text};
 use std::io::ErrorKind;
@@ -51,10 +50,10 @@ pub fn show<K: Sink>(sink: &mut K, text: &str) -> u8
     }
 }
 
-// Writes the line that tells what a status means.
+// Writes the line that tells what a status means, and flushes it.
 fn tell<E: Sink>(errors: &mut E, status: u8) -> Result<(), SinkFault>
     requires few { status ≤ 8 }
-    ensures told { OnOk result (Appends (E.taken errors.old) (E.taken errors.new) (status_line status)) }
+    ensures told { OnOk result (IsTold (E.taken errors.old) (E.taken errors.new) (E.flushed errors.new) status) }
     ensures cause { IsErrOf result SinkFault.Failed → HasRisen (E.faults errors.old) (E.faults errors.new) }
     ensures memory { ((e : E) → E.needs_memory e → ⊥) → ¬ (IsErrOf result SinkFault.OutOfMemory) }
 {
@@ -62,13 +61,14 @@ fn tell<E: Sink>(errors: &mut E, status: u8) -> Result<(), SinkFault>
     write_text(errors, "\n")
 }
 
-/// Ends with a status, and tells what it means if it is not 0. If that text cannot be written, the status is the same.
+/// Ends with a status, and tells what it means if it is not 0: the line is written and flushed. If it cannot be, the status
+/// is the same.
 pub fn exit_with<E: Sink>(errors: &mut E, status: u8) -> ExitCode
     requires few { status ≤ 8 }
     ensures status { exit_status result ≡ status }
     ensures silent { status ≡ 0 → errors.new ≡ errors.old }
     ensures told { 0 < status → ((e : E) → E.needs_memory e → ⊥) → ¬ (HasRisen (E.faults errors.old) (E.faults errors.new)) →
-        Appends (E.taken errors.old) (E.taken errors.new) (status_line status) }
+        IsTold (E.taken errors.old) (E.taken errors.new) (E.flushed errors.new) status }
 {
     if status != 0 {
         let _ = tell(errors, status);
