@@ -1,17 +1,13 @@
 -- Rows, one below the other, and the frames below them.
-use Rattle.std.proofs.Common.{◌≡◌, ◌≤◌, ◌<◌, ℕ, zero, suc, ◌+◌, ◌-◌, ◌*◌, ◌/◌, Bool, true, false, nat_lt, List, [], ◌∷◌, ◌++◌, length, get_or, take, drop, refl, sym, ◌∙◌, ap, arith, append_assoc, length-append}
-use Rattle.std.specs.Prelude.{if◌then◌else◌}
-use Rattle.std.proofs.lemmas.Bool.Decides.{nat_tests}
+use Rattle.std.proofs.Common.{◌≡◌, ◌≤◌, ◌<◌, ℕ, zero, suc, ◌+◌, ◌-◌, ◌*◌, ◌/◌, List, [], ◌∷◌, ◌++◌, length, get_or, take, drop, refl, sym, ◌∙◌, ap, arith, append_assoc, length-append}
 use Rattle.std.proofs.lemmas.List.{append-nil, drop_all}
 use Rattle.heap_tables.specs.declared.lines.Line.{Line}
-use Rattle.heap_tables.specs.declared.owners.Owner.TheVariants.{Heap}
 use Rattle.heap_tables.specs.declared.uses.Use.{Use}
 use Rattle.heap_tables.specs.Rows.{row_text}
 use Rattle.heap_tables.specs.Tables.{rows_text}
-use Rattle.heap_tables.specs.declared.uses.Use.TheVariants.{Free}
-use Rattle.heap_tables.specs.Uses.{has_frame, use_in, use_of, uses_of}
+use Rattle.heap_tables.specs.Uses.{use_of, uses_of}
 use Rattle.std.proofs.Math.Nat.{mul-le-mul_left, mul-div-le}
-use Rattle.heap_tables.proofs.Joins.{none, rest_at}
+use Rattle.heap_tables.proofs.Joins.{rest_at}
 
 rows_more : (y : ℕ) (lines : List Line) (i : ℕ) (d : Line) → i < length lines → rows_text y (drop i lines) ≡ row_text y (get_or lines i d) ++ rows_text (y + 22) (drop (i + 1) lines)
 rows_more y lines i d within = ap (rows_text y) (rest_at lines i d within)
@@ -43,15 +39,7 @@ pub uses_number : (lines : List Line) (frames : ℕ) → length (uses_of lines f
 uses_number lines zero = refl
 uses_number lines (suc frames) = length-append (uses_of lines frames) (use_of frames lines ∷ []) ∙ (let more = uses_number lines frames in omega (arith, more))
 
--- what a frame is used for, by the lines from one on
-pub use_step : (frame : ℕ) (lines : List Line) (i : ℕ) → i < length lines →
-    use_of frame (drop i lines) ≡ (if has_frame frame (get_or lines i (record { steps = 0; index = 0; page = 0; end = 0; frame = 0; owner = Heap; rights = record { write = false; user = false; fetch = false } })) then use_in (get_or lines i (record { steps = 0; index = 0; page = 0; end = 0; frame = 0; owner = Heap; rights = record { write = false; user = false; fetch = false } })) else use_of frame (drop (i + 1) lines))
-use_step frame lines i within = ap (use_of frame) (rest_at lines i none within)
-
-pub use_last : (frame : ℕ) (lines : List Line) (i : ℕ) → length lines ≤ i → use_of frame (drop i lines) ≡ Free
-use_last frame lines i all = ap (use_of frame) (drop_all i lines all)
-
--- the frames of a square that is one of so many exist
+-- each square has a first frame
 pub square_within : (of number frames : ℕ) → 1 ≤ of → number < (frames + (of - 1)) / of → of * number < frames
 square_within of number frames some less =
     let more : number + 1 ≤ (frames + (of - 1)) / of = omega (arith, less) in

@@ -8,7 +8,7 @@ use Rattle.heap_tables.specs.declared.owners.Owner.{Owner}
 use Rattle.heap_tables.specs.declared.owners.Owner.TheVariants.{Heap, User}
 use Rattle.heap_tables.specs.Owners.{end_of, has_address, owner_at, AreAscending}
 
--- what is taken for a region where there is none
+-- what is taken for a region if there is none
 abbrev pub none : Owned
 none = record { start = 0; pages = 0; owner = Heap }
 
@@ -98,7 +98,7 @@ half_within regions some = omega (arith, some)
 rest_is : (regions : List Owned) (i : ℕ) → take (length regions - i) (drop i regions) ≡ drop i regions
 rest_is regions i = let long = length-drop i regions in take_all (length regions - i) (drop i regions) (omega (arith, long))
 
--- what is behind the middle, and what is before it
+-- what is after the middle, and what is before it
 abbrev pub upper : List Owned → List Owned
 upper regions = take (length regions - (length regions / 2 + 1)) (drop (length regions / 2 + 1) regions)
 

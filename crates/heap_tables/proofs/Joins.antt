@@ -1,4 +1,4 @@
--- Lines, where those that go on are one.
+-- Lines, in which those that go on are one.
 use Rattle.std.proofs.Common.{◌≡◌, ◌<◌, ◌≤◌, ℕ, ◌+◌, ◌-◌, Bool, true, false, ◌&&◌, ◌||◌, List, [], ◌∷◌, Some, nat_eq, nat_le, nat_lt, length, get_or, drop, refl, sym, ◌∙◌, ap, arith, add-one, drop-cons}
 use Rattle.std.specs.Prelude.{if◌then◌else◌}
 use Rattle.std.specs.List.{list_any, AllByRecursion}
@@ -13,7 +13,7 @@ use Rattle.heap_tables.specs.Owners.{owner_of, same_owner}
 use Rattle.heap_tables.specs.Joining.{same, same_rights, goes_on, with_next, lines_from, joined}
 use Rattle.heap_tables.specs.Walked.{place_in, IsWalked, IsOwned, has_page, AreGreatest}
 
--- what is taken for a line where there is none
+-- what is taken for a line if there is none
 abbrev pub none : Line
 none = record { steps = 0; index = 0; page = 0; end = 0; frame = 0; owner = Heap; rights = record { write = false; user = false; fetch = false } }
 
@@ -27,7 +27,7 @@ pub lines_step : (line : Line) (lines : List Line) (i : ℕ) → i < length line
     else line ∷ lines_from (get_or lines i (record { steps = 0; index = 0; page = 0; end = 0; frame = 0; owner = Heap; rights = record { write = false; user = false; fetch = false } })) (drop (i + 1) lines))
 lines_step line lines i within = ap (lines_from line) (rest_at lines i none within)
 
--- none is behind the last
+-- none is after the last
 pub lines_last : (line : Line) (lines : List Line) (i : ℕ) → length lines ≤ i → lines_from line (drop i lines) ≡ line ∷ []
 lines_last line lines i all = ap (lines_from line) (drop_all i lines all)
 
@@ -179,7 +179,7 @@ pub has_joined : (page : ℕ) (lines : List Line) → list_any (has_page page) (
 has_joined page [] = refl
 has_joined page (line ∷ lines) = has_from page line lines
 
--- a line with the pages of the next one goes on just where it does
+-- what goes on in a line with the pages of the next one is what goes on in the line
 begins_alike : (x line next : Line) → GoesOn line next → goes_on x (with_next line next) ≡ goes_on x line
 begins_alike x line next on =
     let some = on.some in

@@ -5,6 +5,7 @@ pub mod EachPage
 pub mod Halves
 pub mod Joins
 pub mod Numbers
+pub mod Painted
 pub mod Squares
 pub mod Steps
 pub mod Under

@@ -1,4 +1,4 @@
--- The lines of page tables, where entries that go on are one line.
+-- The lines of page tables, in which entries that go on are one line.
 use Rattle.std.specs.Prelude.{◌≡◌, ℕ, ◌+◌, ◌-◌, Bool, true, false, not, ◌&&◌, nat_eq, nat_lt, List, [], ◌∷◌, if◌then◌else◌}
 use Rattle.paging_core.specs.declared.page_table.Rights.{Rights}
 use Rattle.heap_tables.specs.declared.lines.Line.{Line}
@@ -13,8 +13,8 @@ same false other = not other
 abbrev pub same_rights : Rights → Rights → Bool
 same_rights one other = same one.write other.write && (same one.user other.user && same one.fetch other.fetch)
 
--- Whether pages go on where those of a line end: they are met after as many entries, their frames go on too, and they have one owner
--- and equal rights.
+-- Whether the pages of a line go on in the next one: they are met after equally many entries, their frames go on too, and they have
+-- one owner and equal rights.
 abbrev pub goes_on : Line → Line → Bool
 goes_on line next =
     nat_lt line.page line.end && (nat_lt next.page next.end && (nat_eq line.end next.page

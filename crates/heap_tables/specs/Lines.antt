@@ -6,7 +6,7 @@ use Rattle.heap_tables.specs.declared.lines.Line.{Line}
 use Rattle.heap_tables.specs.declared.owners.Owned.{Owned}
 use Rattle.heap_tables.specs.Owners.{owner_of}
 
--- the line of a place at which a walk arrives after so many entries, the last of which has this index
+-- the line of a place at which a walk arrives after `steps` entries, the last of which has this index
 abbrev pub line_of : List Owned → ℕ → ℕ → ℕ → ℕ → Place → Line
 line_of regions steps index page end place = record { steps = steps; index = index; page = page; end = end; frame = place.frame; owner = owner_of regions page; rights = record { write = place.write; user = place.user; fetch = place.fetch } }
 
@@ -30,17 +30,17 @@ entry_lines words regions below level number table index =
     large_lines regions (512 * number + index) (large_entry_of words level table index)
     ++ lines_below below (512 * number + index) (step words level table index)
 
--- what the first so many entries lead to
+-- what the first `count` entries lead to
 abbrev pub entries_lines : List ℕ → List Owned → (ℕ → Place → List Line) → ℕ → ℕ → Place → ℕ → List Line
 entries_lines words regions below level number table zero = []
 entries_lines words regions below level number table (suc count) =
     entries_lines words regions below level number table count ++ entry_lines words regions below level number table count
 
--- the first page below a place at which so many entries more lead to pages
+-- the first page below a place from which `left` more entries lead to a page
 abbrev pub first_page : ℕ → ℕ → ℕ
 first_page left number = number * 512 ^ left
 
--- A place at which so many entries more lead to pages, and what is below it: a page, or a table and what its 512 entries lead to.
+-- A place from which `left` more entries lead to a page, and what is below it: a page, or a table and what its 512 entries lead to.
 unfoldable pub lines_under : List ℕ → List Owned → ℕ → ℕ → Place → List Line
 lines_under words regions zero number place = line_of regions 4 (number % 512) number (number + 1) place ∷ []
 lines_under words regions (suc left) number place =

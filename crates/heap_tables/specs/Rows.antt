@@ -1,6 +1,6 @@
 -- A line of page tables as a row of a drawing.
 use Rattle.std.specs.Prelude.{ℕ, zero, suc, ◌+◌, ◌-◌, ◌*◌, ◌/◌, ◌%◌, ◌^◌, max, Bool, ◌&&◌, nat_eq, nat_lt, nat_le, List, [], ◌∷◌, ◌++◌, codes, if◌then◌else◌}
-use Rattle.paging_core.specs.declared.page_table.Rights.{Rights}
+use Rattle.heap_lines.specs.Written.{rights_word}
 use Rattle.heap_map.specs.Words.{hexadecimal, commas}
 use Rattle.heap_map.specs.Shapes.{text_at, rect, titled}
 use Rattle.heap_tables.specs.declared.lines.Line.{Line}
@@ -41,7 +41,7 @@ owner_class User = codes "w"
 abbrev pub line_class : Line → List ℕ
 line_class line = if is_table line then codes "o" else owner_class line.owner
 
--- so many large pages, or pages
+-- how many large pages, or pages
 unfoldable pub pages_words : Line → List ℕ
 pages_words line =
     commas (entries_of line) ++ (if is_large line then (if nat_eq (entries_of line) 1 then codes " large page" else codes " large pages") else (if nat_eq (entries_of line) 1 then codes " page" else codes " pages"))
@@ -51,13 +51,6 @@ unfoldable pub line_words : Line → List ℕ
 line_words line =
     if is_table line then (if nat_eq line.steps 0 then codes "root table" else codes "table from " ++ hexadecimal (address_of line.page))
     else hexadecimal (address_of line.page) ++ (codes " + " ++ pages_words line)
-
--- a right, by its letter, or that it is not granted
-abbrev pub right_words : Bool → List ℕ → List ℕ
-right_words granted letter = if granted then letter else codes "-"
-
-unfoldable pub rights_words : Rights → List ℕ
-rights_words rights = codes "r" ++ (right_words rights.write (codes "w") ++ (right_words rights.user (codes "u") ++ right_words rights.fetch (codes "x")))
 
 -- the frames, from the first to the last
 unfoldable pub frames_range : Line → List ℕ
@@ -82,7 +75,7 @@ whose_words line = if is_table line then [] else owner_words line.owner ++ codes
 
 -- what is said of a line
 unfoldable pub line_title : Line → List ℕ
-line_title line = line_words line ++ (codes ", " ++ (whose_words line ++ (rights_words line.rights ++ (codes ", " ++ frames_words line))))
+line_title line = line_words line ++ (codes ", " ++ (whose_words line ++ (rights_word line.rights ++ (codes ", " ++ frames_words line))))
 
 -- a mark of a line in its colour, with a title; the lower half has that of large pages, if it is a line of these
 unfoldable pub mark_text : ℕ → ℕ → ℕ → ℕ → Line → List ℕ → List ℕ
@@ -90,7 +83,7 @@ mark_text x y width height line title =
     titled (line_class line) x y width height title
     ++ (if is_table line then [] else if is_large line then titled (codes "l") x (y + height / 2) width (height / 2) title else [])
 
--- a thin line below each of so many tables on the way
+-- a thin line below each table on the way
 abbrev pub guides_text : ℕ → ℕ → List ℕ
 guides_text y zero = []
 guides_text y (suc steps) = guides_text y steps ++ rect (codes "line") (30 + 24 * steps) y 1 22
@@ -108,7 +101,7 @@ unfoldable pub said_text : ℕ → Line → List ℕ
 said_text y line =
     text_at (codes "m") (left_of line + 20) (y + 15) (line_words line)
     ++ (owner_text y line
-    ++ (text_at (codes "m faint") 416 (y + 15) (rights_words line.rights) ++ text_at (codes "m faint") 466 (y + 15) (frames_range line)))
+    ++ (text_at (codes "m faint") 416 (y + 15) (rights_word line.rights) ++ text_at (codes "m faint") 466 (y + 15) (frames_range line)))
 
 -- what stands in a row
 unfoldable pub words_text : ℕ → Line → List ℕ

@@ -22,9 +22,13 @@ rows_shown lines = if nat_le lines 200 then lines else 199
 abbrev pub rows_number : ℕ → ℕ
 rows_number lines = min lines 200
 
--- how many lines there are more, and their pages
+-- this many pages
+unfoldable pub number_words : ℕ → List ℕ
+number_words pages = commas pages ++ (if nat_eq pages 1 then codes " page" else codes " pages")
+
+-- how many lines there are more, at least two, and their pages
 unfoldable pub more_words : ℕ → ℕ → List ℕ
-more_words lines pages = codes "and " ++ (commas lines ++ (codes " lines more, of " ++ (commas pages ++ codes " pages")))
+more_words lines pages = codes "and " ++ (commas lines ++ (codes " lines more, of " ++ number_words pages))
 
 unfoldable pub more_text : ℕ → List Line → List ℕ
 more_text y lines = if nat_eq (length lines) 0 then [] else text_at (codes "faint") 24 (y + 15) (more_words (length lines) (sum_by pages_of lines))
@@ -57,7 +61,7 @@ columns_text =
 unfoldable pub heading_text : List ℕ
 heading_text = text_at (codes "h") 24 40 title_words ++ columns_text
 
--- the colour of a use, as the class of a rectangle, and what it is called
+-- the colour of a use, as the class of a rectangle
 abbrev pub use_class : Use → List ℕ
 use_class Table = codes "o"
 use_class Large = codes "l"
@@ -65,6 +69,7 @@ use_class HeapPage = codes "u"
 use_class UserPage = codes "w"
 use_class Free = codes "line"
 
+-- what frames of a use are called, and what one frame is
 abbrev pub use_words : Use → List ℕ
 use_words Table = codes "tables"
 use_words Large = codes "in large pages"
@@ -72,9 +77,16 @@ use_words HeapPage = codes "pages of the heap"
 use_words UserPage = codes "pages of the user"
 use_words Free = codes "free"
 
--- so many frames of a use
+abbrev pub one_words : Use → List ℕ
+one_words Table = codes "table"
+one_words Large = codes "in a large page"
+one_words HeapPage = codes "page of the heap"
+one_words UserPage = codes "page of the user"
+one_words Free = codes "free"
+
+-- this many frames of a use
 unfoldable pub count_words : Use → ℕ → List ℕ
-count_words kind number = commas number ++ (codes " " ++ use_words kind)
+count_words kind number = commas number ++ (codes " " ++ (if nat_eq number 1 then one_words kind else use_words kind))
 
 -- a use in the legend, at a place, with its frames
 unfoldable pub count_text : ℕ → ℕ → Use → List Use → List ℕ
@@ -94,7 +106,7 @@ main_use uses =
     else if list_any (same_use UserPage) uses then UserPage
     else if list_any (same_use HeapPage) uses then HeapPage else Free
 
--- so many frames, doubled so many times while there are more than 1,024 squares of them
+-- the frames of a square, doubled this many times, while there are more than 1,024 squares of them
 abbrev pub square_grown : ℕ → ℕ → ℕ → ℕ
 square_grown zero of frames = of
 square_grown (suc times) of frames = square_grown times (if nat_lt (1024 * of) frames then 2 * of else of) frames
@@ -103,17 +115,19 @@ square_grown (suc times) of frames = square_grown times (if nat_lt (1024 * of) f
 unfoldable pub square_frames : ℕ → ℕ
 square_frames frames = square_grown 22 1 frames
 
--- what is said of a square
+-- what is said of a square: of its one frame, or of the frames from one to another
 unfoldable pub square_title : ℕ → ℕ → Use → List ℕ
-square_title first last kind = codes "frames " ++ (commas first ++ (codes " to " ++ (commas last ++ (codes ": " ++ use_words kind))))
+square_title first last kind =
+    if nat_eq first last then codes "frame " ++ (commas first ++ (codes ": " ++ one_words kind))
+    else codes "frames " ++ (commas first ++ (codes " to " ++ (commas last ++ (codes ": " ++ use_words kind))))
 
--- the frames from one on, so many of them at most, as a square
+-- a square by its number: the first has the first frames, this many of them, and the last one what is left
 unfoldable pub square_text : ℕ → ℕ → ℕ → List Use → List ℕ
 square_text y of number uses =
     titled (use_class (main_use (take of (drop (of * number) uses)))) (24 + 9 * (number % 128)) (y + 9 * (number / 128)) 8 8
     (square_title (of * number) (min (of * number + of) (length uses) - 1) (main_use (take of (drop (of * number) uses))))
 
--- so many squares
+-- the first squares, this many of them
 abbrev pub squares_text : ℕ → ℕ → List Use → ℕ → List ℕ
 squares_text y of uses zero = []
 squares_text y of uses (suc squares) = squares_text y of uses squares ++ square_text y of squares uses
@@ -137,10 +151,10 @@ frames_text y uses =
 abbrev pub below_rows : ℕ → ℕ
 below_rows lines = 96 + 22 * rows_number lines + 36
 
--- the height of the drawing of so many lines: there are at most eight rows of squares
+-- the height of the drawing, by the number of its lines: there are at most eight rows of squares
 abbrev pub tables_height : ℕ → ℕ
 tables_height lines = below_rows lines + 12 + 72 + 16
 
--- the drawing of page tables that have these lines, in a memory of so many frames
+-- the drawing of page tables that have these lines, in a memory with this many frames
 unfoldable pub tables_text : List Line → ℕ → List ℕ
 tables_text lines frames = heading_text ++ (list_text lines ++ frames_text (below_rows (length lines)) (uses_of lines frames))

@@ -25,7 +25,7 @@ abbrev pub use_of : ℕ → List Line → Use
 use_of frame [] = Free
 use_of frame (line ∷ lines) = if has_frame frame line then use_in line else use_of frame lines
 
--- each of the first so many frames
+-- what each of the first `frames` frames is used for
 abbrev pub uses_of : List Line → ℕ → List Use
 uses_of lines zero = []
 uses_of lines (suc frames) = uses_of lines frames ++ use_of frames lines ∷ []

@@ -36,7 +36,7 @@ HaveOneOwner words regions root = (number index : ℕ) → number < 2 ^ 27 → i
 abbrev pub AreOwned : List ℕ → List Owned → ℕ → List Line → Type 0
 AreOwned words regions root lines = HaveOneOwner words regions root → AllByRecursion (IsOwned regions) lines
 
--- no line goes on where the one before it ends: the lines are as great as can be
+-- no line goes on in the next one: the lines are as great as can be
 abbrev pub AreGreatest : List Line → Type 0
 AreGreatest [] = ⊤
 AreGreatest (line ∷ []) = ⊤

@@ -43,8 +43,8 @@ fn follow(frames: &Frames, from: Mapped, entry: u64) -> Option<Mapped>
     Some(to)
 }
 
-/// To the next table, or from the last one to a page: one step of a walk, from a table that was met after so many. None
-/// also where the entry maps a large page.
+/// To the next table, or from the last one to a page: one step of a walk, from a table that was met after `level` steps.
+/// None also if the entry maps a large page.
 #[tactic(auto, unfolding(paging_core::specs::Walk::step))]
 pub fn next(frames: &Frames, level: u32, table: &Mapped, index: u16) -> Option<Mapped>
     requires table { table.now.frame < frame_count frames.now }
@@ -83,7 +83,7 @@ fn large_at(frames: &Frames, table: &Mapped, index: u16) -> Option<Mapped>
     }
 }
 
-/// The large page that an entry maps, of a table that was met after so many entries.
+/// The large page that an entry maps, of a table that was met after `level` entries.
 pub fn large_entry_of(frames: &Frames, level: u32, table: &Mapped, index: u16) -> Option<Mapped>
     requires table { table.now.frame < frame_count frames.now }
     requires index { index < 512 }

@@ -20,7 +20,7 @@ pub fn same_rights(one: Rights, other: Rights) -> bool
     same(one.write, other.write) && (same(one.user, other.user) && same(one.fetch, other.fetch))
 }
 
-// Whether pages go on where those of a line end.
+// Whether the pages of a line go on in the next one.
 fn goes_on(line: Line, next: Line) -> bool
     ensures { result ≡ goes_on line next }
 {
@@ -49,7 +49,7 @@ fn with_next(line: Line, next: Line) -> Line
     }
 }
 
-/// The lines, where those that go on are one.
+/// The lines, in which those that go on are one.
 #[tactic(auto, using(crate::proofs::Joins::lines_step, crate::proofs::Joins::lines_last, crate::proofs::Joins::lines_first, std::proofs::lemmas::Grind::common_steps))]
 pub fn joined(alloc: Global, lines: &[Line]) -> Result<Vec<Line>, AllocError>
     ensures { IfOk result (λ all. all.items ≡ joined lines.now) }

@@ -10,7 +10,7 @@ pub fn each_page_is_in_its_line()
 {}
 
 /// Each frame is counted for one use: the counts of tables, of large pages, of pages of the heap and of the user, and of free
-/// frames are together as many as there are frames.
+/// frames add up to the number of frames.
 pub fn each_frame_is_counted_once()
     ensures { EachFrameIsCountedOnce }
 {}

@@ -12,7 +12,7 @@ pub struct Line {
     pub index: u64,
     /// The number of the first page below: its low 36 bits.
     pub page: u64,
-    /// The number of the page behind the last one that is mapped there. In the line of a table it is `page`.
+    /// The number of the page after the last one that is mapped there. In the line of a table it is `page`.
     pub end: u64,
     /// The first frame.
     pub frame: u64,

@@ -47,7 +47,7 @@ fn line_of(regions: &[Owned], steps: u32, index: u64, page: u64, end: u64, place
     }
 }
 
-// The first page below a place at which so many entries more lead to pages.
+// The first page below a place from which `left` more entries lead to a page.
 fn first_page(left: u32, number: u64) -> u64
     requires left { left ≤ 4 }
     requires number { number < 512 ^ (4 - left) }
@@ -84,7 +84,7 @@ fn push_large(
     }
 }
 
-// The indices of a table and of an entry of it, as a number in base 512; from the table so many entries lead to pages.
+// The indices of a table and of an entry of it, as a number in base 512. From the table `left` entries lead to a page.
 fn below_of(left: u32, number: u64, index: u64) -> u64
     requires left { (1 ≤ left) × (left ≤ 4) }
     requires number { number < 512 ^ (4 - left) }
@@ -97,7 +97,7 @@ fn below_of(left: u32, number: u64, index: u64) -> u64
     below
 }
 
-// Puts what an entry leads to at the end, of a table from which so many entries lead to pages.
+// Puts what an entry leads to at the end, of a table from which `left` entries lead to a page.
 #[cycle(under)]
 fn push_entry(
     lines: &mut Vec<Line>,

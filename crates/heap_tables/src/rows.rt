@@ -1,11 +1,11 @@
 // Lines of page tables as rows of a drawing.
 ghost use Rattle.std.specs.Prelude.{◌≡◌, ◌<◌, ◌+◌, ◌-◌, ◌^◌, ◌++◌, OnOk, string_bytes};
-ghost use Rattle.heap_tables.specs.Rows.{pages_of, is_table, is_large, entries_of, frames_of, owner_words, owner_class, line_class, pages_words, line_words, right_words, rights_words, frames_range, frames_words, entries_words, whose_words, line_title, mark_text, guides_text, left_of, owner_text, said_text, words_text, strip_text, row_text};
+ghost use Rattle.heap_tables.specs.Rows.{pages_of, is_table, is_large, entries_of, frames_of, owner_words, owner_class, line_class, pages_words, line_words, frames_range, frames_words, entries_words, whose_words, line_title, mark_text, guides_text, left_of, owner_text, said_text, words_text, strip_text, row_text};
 
 use crate::lines::Line;
 use crate::owners::{Owner, address_of};
+use heap_lines::push_rights;
 use heap_map::{Area, push_address, push_commas, push_rect, push_text, push_titled};
-use paging_core::Rights;
 use std::alloc::{AllocError, Global};
 
 /// How many pages a line maps.
@@ -112,24 +112,7 @@ fn push_line_words(out: &mut String, line: Line) -> Result<(), AllocError>
     push_pages_words(out, line)
 }
 
-// The letter of a right, if it is granted.
-fn right_words(granted: bool, letter: &'static str) -> &'static str
-    ensures { result.now ≡ right_words granted letter.now }
-{
-    if granted { letter } else { "-" }
-}
-
-#[tactic(auto, unfolding(crate::specs::Rows::rights_words))]
-fn push_rights(out: &mut String, rights: Rights) -> Result<(), AllocError>
-    ensures { OnOk result (string_bytes out.new ≡ string_bytes out.old ++ rights_words rights) }
-{
-    let write = right_words(rights.write, "w");
-    let user = right_words(rights.user, "u");
-    let fetch = right_words(rights.fetch, "x");
-    write!(out, "r{write}{user}{fetch}")
-}
-
-// The last of so many numbers from one on.
+// The last of `count` numbers from `first` on.
 fn last_of(first: u64, count: u64) -> u128
     ensures { result ≡ first + count - 1 }
 {
@@ -224,7 +207,7 @@ fn push_mark(out: &mut String, area: Area, line: Line, title: &str) -> Result<()
     push_titled(out, "l", lower, title)
 }
 
-// Puts a thin line below each of so many tables at the end.
+// Puts a thin line below each table on the way at the end; there are `steps` of them.
 #[tactic(auto, using(crate::proofs::Steps::guides_step, std::proofs::lemmas::Grind::common_steps))]
 fn push_guides(out: &mut String, y: u128, steps: u32) -> Result<(), AllocError>
     ensures { OnOk result (string_bytes out.new ≡ string_bytes out.old ++ guides_text y steps) }

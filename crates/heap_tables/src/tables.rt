@@ -3,7 +3,7 @@ ghost use Rattle.std.specs.Prelude.{◌≡◌, ◌<◌, ◌≤◌, ◌+◌, ◌^
 ghost use Rattle.std.specs.List.{sum_by, list_any};
 ghost use Rattle.heap_tables.specs.Rows.{pages_of};
 ghost use Rattle.heap_tables.specs.Uses.{number_of, same_use, uses_of};
-ghost use Rattle.heap_tables.specs.Tables.{rows_text, rows_shown, rows_number, more_words, more_text, list_text, lines_heading, entries_heading, title_words, columns_text, heading_text, use_class, use_words, count_words, count_text, legend_text, main_use, square_grown, square_frames, square_title, square_text, squares_text, squares_number, scale_words, frames_text, below_rows, tables_height, tables_text};
+ghost use Rattle.heap_tables.specs.Tables.{rows_text, rows_shown, rows_number, number_words, more_words, more_text, list_text, lines_heading, entries_heading, title_words, columns_text, heading_text, use_class, use_words, one_words, count_words, count_text, legend_text, main_use, square_grown, square_frames, square_title, square_text, squares_text, squares_number, scale_words, frames_text, below_rows, tables_height, tables_text};
 
 use crate::lines::Line;
 use crate::rows::{pages_of, push_row};
@@ -44,6 +44,17 @@ fn all_pages(lines: &[Line]) -> u128
     pages
 }
 
+#[tactic(auto, unfolding(crate::specs::Tables::number_words))]
+fn push_number_words(out: &mut String, pages: u128) -> Result<(), AllocError>
+    ensures { OnOk result (string_bytes out.new ≡ string_bytes out.old ++ number_words pages) }
+{
+    push_commas(out, pages)?;
+    if pages == 1 {
+        return out.push_str(" page");
+    }
+    out.push_str(" pages")
+}
+
 #[tactic(auto, unfolding(crate::specs::Tables::more_words))]
 fn push_more_words(out: &mut String, lines: u128, pages: u128) -> Result<(), AllocError>
     ensures { OnOk result (string_bytes out.new ≡ string_bytes out.old ++ more_words lines pages) }
@@ -51,8 +62,7 @@ fn push_more_words(out: &mut String, lines: u128, pages: u128) -> Result<(), All
     out.push_str("and ")?;
     push_commas(out, lines)?;
     out.push_str(" lines more, of ")?;
-    push_commas(out, pages)?;
-    out.push_str(" pages")
+    push_number_words(out, pages)
 }
 
 // Puts how many lines there are more at the end, if there are any.
@@ -134,7 +144,7 @@ fn use_class(of: Use) -> &'static str
     }
 }
 
-// What a use is called.
+// What frames of a use are called.
 fn use_words(of: Use) -> &'static str
     ensures { result.now ≡ use_words of }
 {
@@ -147,13 +157,30 @@ fn use_words(of: Use) -> &'static str
     }
 }
 
+// What one frame of a use is called.
+fn one_words(of: Use) -> &'static str
+    ensures { result.now ≡ one_words of }
+{
+    match of {
+        Use::Table => "table",
+        Use::Large => "in a large page",
+        Use::HeapPage => "page of the heap",
+        Use::UserPage => "page of the user",
+        Use::Free => "free",
+    }
+}
+
 #[tactic(auto, unfolding(crate::specs::Tables::count_words))]
 fn push_count_words(out: &mut String, of: Use, number: u64) -> Result<(), AllocError>
     ensures { OnOk result (string_bytes out.new ≡ string_bytes out.old ++ count_words of number) }
 {
     push_commas(out, u128::from(number))?;
     out.push_str(" ")?;
-    out.push_str(use_words(of))
+    out.push_str(if number == 1 {
+        one_words(of)
+    } else {
+        use_words(of)
+    })
 }
 
 // Puts a use in the legend at the end, with its frames.
@@ -255,6 +282,12 @@ fn square_frames(frames: usize) -> usize
 fn push_square_title(out: &mut String, first: u128, last: u128, of: Use) -> Result<(), AllocError>
     ensures { OnOk result (string_bytes out.new ≡ string_bytes out.old ++ square_title first last of) }
 {
+    if first == last {
+        out.push_str("frame ")?;
+        push_commas(out, first)?;
+        out.push_str(": ")?;
+        return out.push_str(one_words(of));
+    }
     out.push_str("frames ")?;
     push_commas(out, first)?;
     out.push_str(" to ")?;
@@ -263,7 +296,7 @@ fn push_square_title(out: &mut String, first: u128, last: u128, of: Use) -> Resu
     out.push_str(use_words(of))
 }
 
-// So many frames at most, from one on.
+// The frames from one on, at most this many of them.
 #[tactic(auto, using(std::proofs::lemmas::Grind::common_steps))]
 fn part_of(uses: &[Use], first: usize, of: usize) -> &[Use]
     requires { first ≤ length uses.now }
@@ -356,7 +389,7 @@ fn push_frames(alloc: Global, out: &mut String, y: u128, uses: &[Use]) -> Result
     push_squares(alloc, out, y + 12, of, uses)
 }
 
-/// The height of the drawing of so many lines.
+/// The height of the drawing, by the number of its lines.
 pub fn tables_height(lines: usize) -> u128
     ensures value { result ≡ tables_height lines }
 {
@@ -371,8 +404,8 @@ fn below_rows(lines: usize) -> u128
     96 + 22 * (lines as u128).min(200) + 36
 }
 
-/// Puts the drawing of page tables at the end, by their lines: a row for each, and below them the frames of a memory of so
-/// many, by their use.
+/// Puts the drawing of page tables at the end, by their lines: a row for each, and below them the frames of the memory, by
+/// their use. `frames` is how many frames the memory has.
 #[tactic(auto, unfolding(crate::specs::Tables::tables_text), using(crate::proofs::Drawn::uses_number))]
 pub fn push_tables(
     alloc: Global,

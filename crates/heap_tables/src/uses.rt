@@ -1,6 +1,7 @@
 // The frames of a memory, by their use.
-ghost use Rattle.std.specs.Prelude.{◌≡◌, ◌≤◌, IfOk};
-ghost use Rattle.heap_tables.specs.Uses.{page_of, use_in, has_frame, use_of, uses_of, same_use, number_of};
+ghost use Rattle.std.specs.Prelude.{◌≡◌, ◌≤◌, List, ◌∷◌, length, IfOk};
+ghost use Rattle.heap_tables.specs.declared.lines.Line.{Line};
+ghost use Rattle.heap_tables.specs.Uses.{page_of, use_in, uses_of, same_use, number_of};
 
 use crate::lines::Line;
 use crate::owners::Owner;
@@ -45,34 +46,25 @@ fn use_in(line: Line) -> Use
     }
 }
 
-// Whether a frame is one of a line.
-fn has_frame(line: Line, frame: u64) -> bool
-    ensures { result ≡ has_frame frame line }
+// Paints the frames of a line that exist with its use, over that of the lines after it.
+fn paint(uses: &mut [Use], line: Line)
+    ensures { (lines : List Line) → uses.old ≡ uses_of lines (length uses.old) → uses.new ≡ uses_of (line ∷ lines) (length uses.old) }
 {
-    line.frame <= frame && u128::from(frame) < u128::from(line.frame) + u128::from(frames_of(line))
+    let frames = uses.len() as u64;
+    let first = line.frame.min(frames);
+    let end = line.frame.saturating_add(frames_of(line)).min(frames);
+    uses[first as usize..end as usize].fill(use_in(line));
 }
 
-// What a frame is used for.
-#[tactic(auto, using(crate::proofs::Drawn::use_step, crate::proofs::Drawn::use_last, std::proofs::lemmas::Grind::common_steps))]
-fn use_of(lines: &[Line], frame: u64) -> Use
-    ensures { result ≡ use_of frame lines.now }
-{
-    for line in lines {
-        if has_frame(*line, frame) {
-            return use_in(*line);
-        }
-    }
-    Use::Free
-}
-
-/// What each of the first so many frames is used for.
-#[tactic(auto, using(crate::proofs::Steps::uses_step, std::proofs::lemmas::Grind::common_steps))]
+/// What each frame of a memory is used for. The lines are painted from the last to the first, so that of several that have
+/// a frame the first one says its use. `frames` is how many frames the memory has.
+#[tactic(auto, using(crate::proofs::Painted::none_left, std::proofs::lemmas::Grind::common_steps))]
 pub fn uses_of(alloc: Global, lines: &[Line], frames: u32) -> Result<Vec<Use>, AllocError>
     ensures { IfOk result (λ uses. uses.items ≡ uses_of lines.now frames) }
 {
-    let mut uses = Vec::new(alloc);
-    for frame in 0..frames {
-        uses.push(use_of(lines, u64::from(frame)))?;
+    let mut uses = vec![in alloc; Use::Free; frames as usize]?;
+    for place in (0..lines.len()).rev() {
+        paint(&mut uses, lines[place]);
     }
     Ok(uses)
 }
