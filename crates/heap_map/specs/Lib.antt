@@ -1,7 +1,9 @@
+pub mod Blocks
 pub mod Cells
 pub mod Classes
 pub mod Composition
 pub mod Histogram
+pub mod Labels
 pub mod Map
 pub mod Marks
 pub mod Pieces

@@ -1,6 +1,7 @@
 -- The map of a heap: its figures, its rows, what it consists of, and its free chunks by size.
-use Rattle.std.specs.Prelude.{ℕ, ◌+◌, ◌*◌, ◌/◌, List, ◌++◌, length, codes}
+use Rattle.std.specs.Prelude.{ℕ, ◌+◌, ◌*◌, ◌/◌, List, ◌++◌, length, codes, Option}
 use Rattle.dlmalloc_chunks.specs.declared.extent.Extent.{Extent}
+use Rattle.heap_map.specs.declared.blocks.NamedBlock.{NamedBlock}
 use Rattle.heap_map.specs.Words.{exactly}
 use Rattle.heap_map.specs.Shapes.{text_at, rect}
 use Rattle.heap_map.specs.Pieces.{row_bytes, map_lines}
@@ -54,14 +55,15 @@ map_words = codes "The heap after a run"
 unfoldable pub front_text : ℕ → ℕ → List Extent → List ℕ
 front_text live peak extents = text_at (codes "h") 24 40 map_words ++ tiles_text live peak extents
 
--- the map with a row of so many bytes, of the bytes that are live and were at most, and of all extents
-unfoldable pub rows_map : ℕ → ℕ → ℕ → List Extent → List ℕ
-rows_map row live peak extents = front_text live peak extents ++ (scale_text row ++ rows_text row extents)
+-- the map with a row of so many bytes, of the live blocks that are at addresses, of the bytes that are live and were at most, and of
+-- all extents
+unfoldable pub rows_map : (ℕ → Option NamedBlock) → ℕ → ℕ → ℕ → List Extent → List ℕ
+rows_map blocks row live peak extents = front_text live peak extents ++ (scale_text row ++ rows_text blocks row extents)
 
 -- what stands below it
 unfoldable pub parts_text : ℕ → ℕ → List Extent → List ℕ
 parts_text y live extents = composition_text y live extents ++ histogram_text y extents
 
 -- all of it
-unfoldable pub map_text : ℕ → ℕ → List Extent → List ℕ
-map_text live peak extents = rows_map (row_bytes extents) live peak extents ++ parts_text (below_lines (lines_number extents)) live extents
+unfoldable pub map_text : (ℕ → Option NamedBlock) → ℕ → ℕ → List Extent → List ℕ
+map_text blocks live peak extents = rows_map blocks (row_bytes extents) live peak extents ++ parts_text (below_lines (lines_number extents)) live extents

@@ -1,8 +1,10 @@
 // The map of a heap.
 ghost use Rattle.std.specs.Prelude.{◌≡◌, ◌<◌, ◌≤◌, ◌^◌, ◌++◌, IfOk, OnOk, string_bytes};
 ghost use Rattle.dlmalloc_chunks.specs.Tiling.{AreInSegments};
+ghost use Rattle.heap_map.specs.Blocks.{named};
 ghost use Rattle.heap_map.specs.Map.{thin_words, row_words, quarter_words, quarter_text, quarters_text, ruler_text, scale_text, below_lines, lines_number, map_words, front_text, rows_map, parts_text, map_text};
 
+use crate::blocks::NamedBlock;
 use crate::composition::push_composition;
 use crate::histogram::push_histogram;
 use crate::pieces::{map_lines, row_bytes};
@@ -12,6 +14,7 @@ use crate::tiles::push_tiles;
 use crate::words::push_exactly;
 use dlmalloc_chunks::Extent;
 use std::alloc::{AllocError, Global};
+use std::collections::BTreeMap;
 
 // What the rows and the thin lines are.
 #[tactic(auto, unfolding(crate::specs::Map::thin_words))]
@@ -114,6 +117,7 @@ fn push_front(
 fn push_rows_map(
     alloc: Global,
     out: &mut String,
+    blocks: &BTreeMap<u128, NamedBlock>,
     row: u128,
     live: u128,
     peak: u128,
@@ -121,11 +125,11 @@ fn push_rows_map(
 ) -> Result<(), AllocError>
     requires segments { AreInSegments extents.now }
     requires row { (512 ≤ row) × (row ≤ 2 ^ 53) }
-    ensures { OnOk result (string_bytes out.new ≡ string_bytes out.old ++ rows_map row live peak extents.now) }
+    ensures { OnOk result (string_bytes out.new ≡ string_bytes out.old ++ rows_map (named blocks.now) row live peak extents.now) }
 {
     push_front(alloc, out, live, peak, extents)?;
     push_scale(alloc, out, row)?;
-    push_rows(alloc, out, row, extents)
+    push_rows(alloc, out, blocks, row, extents)
 }
 
 #[tactic(auto, unfolding(crate::specs::Map::parts_text))]
@@ -153,22 +157,23 @@ pub fn lines_number(alloc: Global, extents: &[Extent]) -> Result<u64, AllocError
     map_lines(alloc, row, extents)
 }
 
-/// Puts the map of a heap at the end, of the bytes that are live and were at most, and of its extents: its figures, its
-/// rows, what it consists of, and its free chunks by size. It is 1304 pixels wide, and below it is free from
-/// `394 + 23 * lines_number` on.
+/// Puts the map of a heap at the end, of its live blocks by their addresses, of the bytes that are live and were at most, and of
+/// its extents: its figures, its rows, what it consists of, and its free chunks by size. It is 1304 pixels wide, and below
+/// it is free from `394 + 23 * lines_number` on.
 #[tactic(auto, unfolding(crate::specs::Map::map_text))]
 pub fn push_map(
     alloc: Global,
     out: &mut String,
+    blocks: &BTreeMap<u128, NamedBlock>,
     live: u128,
     peak: u128,
     extents: &[Extent],
 ) -> Result<(), AllocError>
     requires { AreInSegments extents.now }
-    ensures { OnOk result (string_bytes out.new ≡ string_bytes out.old ++ map_text live peak extents.now) }
+    ensures { OnOk result (string_bytes out.new ≡ string_bytes out.old ++ map_text (named blocks.now) live peak extents.now) }
 {
     let row = row_bytes(alloc, extents)?;
     let lines = u128::from(lines_number(alloc, extents)?);
-    push_rows_map(alloc, out, row, live, peak, extents)?;
+    push_rows_map(alloc, out, blocks, row, live, peak, extents)?;
     push_parts(alloc, out, 194 + 23 * lines, live, extents)
 }

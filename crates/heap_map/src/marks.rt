@@ -1,69 +1,53 @@
 // What is said of the extents of a row.
 ghost use Rattle.std.specs.Prelude.{◌≡◌, ◌<◌, ◌≤◌, ◌+◌, ◌^◌, ◌++◌, IfOk, OnOk, string_bytes};
-ghost use Rattle.heap_map.specs.Marks.{extent_title, long_label, short_label, label_text, offset, first_cell, mark_text, piece_text, marks_text, counts_text, row_title};
+ghost use Rattle.heap_map.specs.Blocks.{named};
+ghost use Rattle.heap_map.specs.Marks.{asked_words, held_words, extent_title, offset, first_cell, mark_text, piece_text, marks_text, counts_text, row_title};
 
+use crate::blocks::{NamedBlock, block_in};
 use crate::cells::held_in;
-use crate::classes::{Class, kind_words, letters};
+use crate::classes::{Class, kind_words};
+use crate::labels::push_label;
 use crate::pieces::Piece;
-use crate::shapes::{Area, push_rect, push_text, push_titled};
+use crate::shapes::{Area, push_rect, push_titled};
 use crate::words::{push_address, push_commas};
 use dlmalloc_chunks::Extent;
 use std::alloc::{AllocError, Global};
+use std::collections::BTreeMap;
 
-/// Puts the address of an extent, what it is, and its bytes at the end.
+// Puts a block's number and the bytes that were asked for at the end.
+#[tactic(auto, unfolding(crate::specs::Marks::asked_words))]
+fn push_asked(out: &mut String, block: NamedBlock) -> Result<(), AllocError>
+    ensures { OnOk result (string_bytes out.new ≡ string_bytes out.old ++ asked_words block) }
+{
+    let number = block.number;
+    write!(out, "block {number}, ")?;
+    push_commas(out, u128::from(block.size))
+}
+
+fn push_held(out: &mut String, block: Option<NamedBlock>, extent: Extent) -> Result<(), AllocError>
+    ensures { OnOk result (string_bytes out.new ≡ string_bytes out.old ++ held_words block extent) }
+{
+    match block {
+        Some(block) => push_asked(out, block),
+        None => out.push_str(kind_words(extent.kind)),
+    }
+}
+
+/// Puts the address of an extent, what it holds, and its bytes at the end. The block is that which it holds, if it is a live one.
 #[tactic(auto, unfolding(crate::specs::Marks::extent_title))]
-pub fn push_title(out: &mut String, extent: Extent) -> Result<(), AllocError>
-    ensures { OnOk result (string_bytes out.new ≡ string_bytes out.old ++ extent_title extent) }
+pub fn push_title(
+    out: &mut String,
+    block: Option<NamedBlock>,
+    extent: Extent,
+) -> Result<(), AllocError>
+    ensures { OnOk result (string_bytes out.new ≡ string_bytes out.old ++ extent_title block extent) }
 {
     push_address(out, extent.at)?;
     out.push_str(": ")?;
-    out.push_str(kind_words(extent.kind))?;
+    push_held(out, block, extent)?;
     out.push_str(" of ")?;
     push_commas(out, u128::from(extent.size))?;
     out.push_str(" bytes")
-}
-
-#[tactic(auto, unfolding(crate::specs::Marks::long_label))]
-fn push_long(out: &mut String, extent: Extent) -> Result<(), AllocError>
-    ensures { OnOk result (string_bytes out.new ≡ string_bytes out.old ++ long_label extent) }
-{
-    out.push_str(kind_words(extent.kind))?;
-    out.push_str(" ")?;
-    push_commas(out, u128::from(extent.size))?;
-    out.push_str(" B")
-}
-
-#[tactic(auto, unfolding(crate::specs::Marks::short_label))]
-fn push_short(out: &mut String, extent: Extent) -> Result<(), AllocError>
-    ensures { OnOk result (string_bytes out.new ≡ string_bytes out.old ++ short_label extent) }
-{
-    push_commas(out, u128::from(extent.size))?;
-    out.push_str(" B")
-}
-
-/// Puts the label of an extent at the end that fits so many pixels, if one does.
-#[tactic(auto, unfolding(crate::specs::Marks::label_text))]
-pub fn push_label(
-    alloc: Global,
-    out: &mut String,
-    x: u128,
-    y: u128,
-    width: u128,
-    extent: Extent,
-) -> Result<(), AllocError>
-    ensures { OnOk result (string_bytes out.new ≡ string_bytes out.old ++ label_text x y width extent) }
-{
-    let mut long = String::new(alloc);
-    push_long(&mut long, extent)?;
-    if 8 * long.len() as u128 + 8 <= width {
-        return push_text(out, letters(extent.kind), x, y, long.as_str());
-    }
-    let mut short = String::new(alloc);
-    push_short(&mut short, extent)?;
-    if 8 * short.len() as u128 + 8 <= width {
-        return push_text(out, letters(extent.kind), x, y, short.as_str());
-    }
-    Ok(())
 }
 
 // Where an address is in a row.
@@ -90,6 +74,7 @@ fn first_cell(cell: u128, offset: u128) -> u128
 fn push_mark(
     alloc: Global,
     out: &mut String,
+    blocks: &BTreeMap<u128, NamedBlock>,
     base: u128,
     y: u128,
     first: u128,
@@ -98,7 +83,7 @@ fn push_mark(
 ) -> Result<(), AllocError>
     requires y { y < 2 ^ 100 }
     requires cells { (first ≤ last) × (last ≤ 2 ^ 55) }
-    ensures { OnOk result (string_bytes out.new ≡ string_bytes out.old ++ mark_text base y first last piece) }
+    ensures { OnOk result (string_bytes out.new ≡ string_bytes out.old ++ mark_text (named blocks.now) base y first last piece) }
 {
     let x = 144 + 2 * first;
     let width = 2 * (last - first);
@@ -117,11 +102,12 @@ fn push_mark(
         width,
         height: 18,
     };
+    let block = block_in(blocks, piece.of);
     let mut title = String::new(alloc);
-    push_title(&mut title, piece.of)?;
+    push_title(&mut title, block, piece.of)?;
     push_titled(out, "none", area, title.as_str())?;
     if piece.start == u128::from(piece.of.at) {
-        return push_label(alloc, out, x + 5, y + 13, width, piece.of);
+        return push_label(alloc, out, x + 5, y + 13, width, block, piece.of);
     }
     Ok(())
 }
@@ -131,6 +117,7 @@ fn push_mark(
 fn push_piece(
     alloc: Global,
     out: &mut String,
+    blocks: &BTreeMap<u128, NamedBlock>,
     row: u128,
     base: u128,
     y: u128,
@@ -138,13 +125,13 @@ fn push_piece(
 ) -> Result<(), AllocError>
     requires row { (512 ≤ row) × (row ≤ 2 ^ 53) }
     requires y { y < 2 ^ 100 }
-    ensures { OnOk result (string_bytes out.new ≡ string_bytes out.old ++ piece_text row base y piece) }
+    ensures { OnOk result (string_bytes out.new ≡ string_bytes out.old ++ piece_text (named blocks.now) row base y piece) }
 {
     let cell = row / 512;
     let first = first_cell(cell, offset(row, base, piece.start));
     let last = offset(row, base, piece.end) / cell;
     if first + 4 <= last {
-        return push_mark(alloc, out, base, y, first, last, piece);
+        return push_mark(alloc, out, blocks, base, y, first, last, piece);
     }
     Ok(())
 }
@@ -154,6 +141,7 @@ fn push_piece(
 pub fn push_marks(
     alloc: Global,
     out: &mut String,
+    blocks: &BTreeMap<u128, NamedBlock>,
     row: u128,
     base: u128,
     y: u128,
@@ -161,10 +149,10 @@ pub fn push_marks(
 ) -> Result<(), AllocError>
     requires row { (512 ≤ row) × (row ≤ 2 ^ 53) }
     requires y { y < 2 ^ 100 }
-    ensures { OnOk result (string_bytes out.new ≡ string_bytes out.old ++ marks_text row base y line.now) }
+    ensures { OnOk result (string_bytes out.new ≡ string_bytes out.old ++ marks_text (named blocks.now) row base y line.now) }
 {
     for piece in line {
-        push_piece(alloc, out, row, base, y, *piece)?;
+        push_piece(alloc, out, blocks, row, base, y, *piece)?;
     }
     Ok(())
 }

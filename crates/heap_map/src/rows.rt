@@ -2,17 +2,21 @@
 ghost use Rattle.std.specs.Prelude.{◌≡◌, ◌<◌, ◌≤◌, ◌^◌, ◌++◌, codes, OnOk, string_bytes};
 ghost use Rattle.heap_map.specs.Words.{hexadecimal};
 ghost use Rattle.heap_map.specs.Shapes.{text_at};
+ghost use Rattle.heap_map.specs.Blocks.{named};
 ghost use Rattle.heap_map.specs.Pieces.{lines_of};
 ghost use Rattle.heap_map.specs.Rows.{colour, rows_words, whole_text, row_base, used_words, beside_text, row_text, first_piece, line_text, lines_text, rows_text};
 
+use crate::blocks::{NamedBlock, block_in};
 use crate::cells::{held_in, push_cells};
 use crate::classes::Class;
-use crate::marks::{push_label, push_marks, push_row_title, push_title};
+use crate::labels::push_label;
+use crate::marks::{push_marks, push_row_title, push_title};
 use crate::pieces::{Piece, is_in_row, line_start, pieces_of};
 use crate::shapes::{Area, push_text, push_titled};
 use crate::words::{push_address, push_commas, push_percent};
 use dlmalloc_chunks::{Extent, Kind};
 use std::alloc::{AllocError, Global};
+use std::collections::BTreeMap;
 
 /// The last address.
 const LAST: u128 = 0xffff_ffff_ffff_ffff;
@@ -56,6 +60,7 @@ fn push_place(alloc: Global, out: &mut String, y: u128, address: u128) -> Result
 fn push_whole(
     alloc: Global,
     out: &mut String,
+    blocks: &BTreeMap<u128, NamedBlock>,
     row: u128,
     base: u128,
     y: u128,
@@ -64,7 +69,7 @@ fn push_whole(
     requires row { 512 ≤ row }
     requires base { base < 2 ^ 64 }
     requires y { y < 2 ^ 100 }
-    ensures { OnOk result (string_bytes out.new ≡ string_bytes out.old ++ whole_text row base y piece) }
+    ensures { OnOk result (string_bytes out.new ≡ string_bytes out.old ++ whole_text (named blocks.now) row base y piece) }
 {
     push_place(alloc, out, y + 13, base)?;
     let area = Area {
@@ -73,11 +78,12 @@ fn push_whole(
         width: 1024,
         height: 14,
     };
+    let block = block_in(blocks, piece.of);
     let mut title = String::new(alloc);
-    push_title(&mut title, piece.of)?;
+    push_title(&mut title, block, piece.of)?;
     push_titled(out, colour(piece.of.kind), area, title.as_str())?;
     if piece.start == u128::from(piece.of.at) {
-        push_label(alloc, out, 149, y + 13, 1024, piece.of)?;
+        push_label(alloc, out, 149, y + 13, 1024, block, piece.of)?;
     }
     let mut words = String::new(alloc);
     push_rows_words(&mut words, piece.end.saturating_sub(piece.start) / row)?;
@@ -145,6 +151,7 @@ fn push_beside(
 fn push_row(
     alloc: Global,
     out: &mut String,
+    blocks: &BTreeMap<u128, NamedBlock>,
     row: u128,
     base: u128,
     y: u128,
@@ -153,11 +160,11 @@ fn push_row(
     requires row { (512 ≤ row) × (row ≤ 2 ^ 53) }
     requires base { base < 2 ^ 64 }
     requires y { y < 2 ^ 90 }
-    ensures { OnOk result (string_bytes out.new ≡ string_bytes out.old ++ row_text row base y line.now) }
+    ensures { OnOk result (string_bytes out.new ≡ string_bytes out.old ++ row_text (named blocks.now) row base y line.now) }
 {
     push_cells(out, row / 512, base, y, line)?;
     push_beside(alloc, out, row, base, y, line)?;
-    push_marks(alloc, out, row, base, y, line)
+    push_marks(alloc, out, blocks, row, base, y, line)
 }
 
 // The first piece of a line.
@@ -182,20 +189,21 @@ fn first_piece(line: &[Piece]) -> Piece
 fn push_line(
     alloc: Global,
     out: &mut String,
+    blocks: &BTreeMap<u128, NamedBlock>,
     row: u128,
     y: u128,
     line: &[Piece],
 ) -> Result<(), AllocError>
     requires row { (512 ≤ row) × (row ≤ 2 ^ 53) }
     requires y { y < 2 ^ 90 }
-    ensures { OnOk result (string_bytes out.new ≡ string_bytes out.old ++ line_text row y line.now) }
+    ensures { OnOk result (string_bytes out.new ≡ string_bytes out.old ++ line_text (named blocks.now) row y line.now) }
 {
     let base = row_base(row, line);
     let piece = first_piece(line);
     if piece.end.saturating_sub(piece.start) >= row {
-        return push_whole(alloc, out, row, base, y, piece);
+        return push_whole(alloc, out, blocks, row, base, y, piece);
     }
-    push_row(alloc, out, row, base, y, line)
+    push_row(alloc, out, blocks, row, base, y, line)
 }
 
 // Puts the lines of pieces at the end.
@@ -203,11 +211,12 @@ fn push_line(
 fn push_lines(
     alloc: Global,
     out: &mut String,
+    blocks: &BTreeMap<u128, NamedBlock>,
     row: u128,
     pieces: &[Piece],
 ) -> Result<(), AllocError>
     requires row { (512 ≤ row) × (row ≤ 2 ^ 53) }
-    ensures { OnOk result (string_bytes out.new ≡ string_bytes out.old ++ lines_text row 0 (lines_of row pieces.now)) }
+    ensures { OnOk result (string_bytes out.new ≡ string_bytes out.old ++ lines_text (named blocks.now) row 0 (lines_of row pieces.now)) }
 {
     if pieces.is_empty() {
         return Ok(());
@@ -216,25 +225,26 @@ fn push_lines(
     for next in 1..pieces.len() {
         let line = &pieces[from..next];
         if !is_in_row(row, line, pieces[next]) {
-            push_line(alloc, out, row, 166 + 23 * above, line)?;
+            push_line(alloc, out, blocks, row, 166 + 23 * above, line)?;
             above += 1;
             from = next;
         }
     }
-    push_line(alloc, out, row, 166 + 23 * above, &pieces[from..])
+    push_line(alloc, out, blocks, row, 166 + 23 * above, &pieces[from..])
 }
 
-/// Puts all lines of a map at the end.
+/// Puts all lines of a map at the end, with the live blocks by their addresses.
 #[tactic(auto, unfolding(crate::specs::Rows::rows_text))]
 pub fn push_rows(
     alloc: Global,
     out: &mut String,
+    blocks: &BTreeMap<u128, NamedBlock>,
     row: u128,
     extents: &[Extent],
 ) -> Result<(), AllocError>
     requires row { (512 ≤ row) × (row ≤ 2 ^ 53) }
-    ensures { OnOk result (string_bytes out.new ≡ string_bytes out.old ++ rows_text row extents.now) }
+    ensures { OnOk result (string_bytes out.new ≡ string_bytes out.old ++ rows_text (named blocks.now) row extents.now) }
 {
     let pieces = pieces_of(alloc, row, extents)?;
-    push_lines(alloc, out, row, &pieces)
+    push_lines(alloc, out, blocks, row, &pieces)
 }

@@ -5,8 +5,6 @@ use Rattle.std.proofs.lemmas.List.{append-nil, drop_all}
 use Rattle.dlmalloc_chunks.specs.declared.extent.Extent.{Extent}
 use Rattle.heap_history.specs.declared.history.History.{History}
 use Rattle.paging_core.specs.Pool.{free_count}
-use Rattle.heap_model.specs.declared.answer.Answer.{Answer}
-use Rattle.heap_model.specs.declared.call.Call.{Call}
 use Rattle.heap_model.specs.declared.region.Region.{Region}
 use Rattle.heap_model.specs.State.{State, total_pages}
 use Rattle.heap_model.specs.Place.{all_regions}
@@ -18,10 +16,11 @@ use Rattle.kernel_heap.specs.declared.paged_system.PagedSystem.{PagedSystem}
 use Rattle.heap_program.specs.Progress.{IsAt}
 use Rattle.heap_time.specs.Time.{time_text, time_height}
 use Rattle.heap_map.specs.Map.{map_text, lines_number, below_lines}
+use Rattle.heap_picture.specs.Blocks.{blocks_at_end}
 use Rattle.heap_picture.specs.Large.{larges_in}
 use Rattle.heap_picture.specs.Lines.{region_lines, most_pages}
 use Rattle.heap_picture.specs.Regions.{line_words, bar_text, larges_text, line_text, lines_text, lines_shown, more_text, list_text, heading_text, regions_text}
-use Rattle.heap_picture.specs.Picture.{picture_of, head_text}
+use Rattle.heap_picture.specs.Picture.{map_of, head_text}
 use Rattle.heap_picture.specs.Timing.{timing_of}
 use Rattle.heap_picture.proofs.Joins.{rest_at}
 
@@ -102,13 +101,13 @@ regions_whole machine s y system list lines frames tables old one new at is list
     ∙ ap (λ (n : ℕ). old ++ (heading_text y (free_frames s) n ++ list_text s.large (y + 26) (region_lines (all_regions s)))) count
 
 -- the head, the map, the regions, and the end of the document
-pub picture_whole : (style : List ℕ) (machine : Machine) (s : State) (live peak : ℕ) (extents : List Extent) (calls : List Call) (answers : List Answer) (lines : ℕ) (old one two three new : List ℕ) → lines ≡ lines_number extents →
-    one ≡ old ++ head_text style (194 + 23 * lines + 210) → two ≡ one ++ map_text live peak extents → three ≡ two ++ regions_text (194 + 23 * lines) s → new ≡ three ++ codes "</svg>\n" →
-    new ≡ old ++ picture_of style machine s live peak extents calls answers
-unfolding picture_of
-picture_whole style machine s live peak extents calls answers lines old one two three new are first second third last =
+pub picture_whole : (style : List ℕ) (s : State) (live peak : ℕ) (extents : List Extent) (history : History) (lines : ℕ) (old one two three new : List ℕ) → lines ≡ lines_number extents →
+    one ≡ old ++ head_text style (194 + 23 * lines + 210) → two ≡ one ++ map_text (blocks_at_end history) live peak extents → three ≡ two ++ regions_text (194 + 23 * lines) s → new ≡ three ++ codes "</svg>\n" →
+    new ≡ old ++ map_of style s live peak extents history
+unfolding map_of
+picture_whole style s live peak extents history lines old one two three new are first second third last =
     let head = head_text style (194 + 23 * lines + 210) in
-    let map = map_text live peak extents in
+    let map = map_text (blocks_at_end history) live peak extents in
     let regions = regions_text (194 + 23 * lines) s in
     let end = codes "</svg>\n" in
     last

@@ -1,3 +1,4 @@
+pub mod Blocks
 pub mod Drawn
 pub mod Large
 pub mod Lines

@@ -1,11 +1,14 @@
 -- The picture of a run.
 use Rattle.std.specs.Prelude.{ℕ, ◌+◌, List, ◌++◌, codes, decimal}
 use Rattle.dlmalloc_chunks.specs.declared.extent.Extent.{Extent}
+use Rattle.heap_history.specs.declared.history.History.{History}
 use Rattle.heap_model.specs.declared.answer.Answer.{Answer}
 use Rattle.heap_model.specs.declared.call.Call.{Call}
 use Rattle.heap_model.specs.State.{State}
 use Rattle.kernel_heap.specs.declared.machine.Machine.{Machine}
 use Rattle.heap_map.specs.Map.{map_text, lines_number, below_lines}
+use Rattle.heap_recorder.specs.Run.{history_of}
+use Rattle.heap_picture.specs.Blocks.{blocks_at_end}
 use Rattle.heap_picture.specs.Regions.{regions_text}
 
 -- the width and height, twice
@@ -17,8 +20,12 @@ svg_text height =
 unfoldable pub head_text : List ℕ → ℕ → List ℕ
 head_text style height = svg_text height ++ style
 
--- The picture of the last state of a run, of the bytes that are live in it and were at most, and of its extents.
-unfoldable pub picture_of : List ℕ → Machine → State → ℕ → ℕ → List Extent → List Call → List Answer → List ℕ
-picture_of style machine s live peak extents calls answers =
+-- The picture of a state, of the bytes that are live in it and were at most, of its extents, and of the blocks that a run leaves.
+unfoldable pub map_of : List ℕ → State → ℕ → ℕ → List Extent → History → List ℕ
+map_of style s live peak extents history =
     head_text style (below_lines (lines_number extents) + 210)
-    ++ (map_text live peak extents ++ (regions_text (below_lines (lines_number extents)) s ++ codes "</svg>\n"))
+    ++ (map_text (blocks_at_end history) live peak extents ++ (regions_text (below_lines (lines_number extents)) s ++ codes "</svg>\n"))
+
+-- The picture of the last state of the run with these calls and answers.
+abbrev pub picture_of : List ℕ → Machine → State → ℕ → ℕ → List Extent → List Call → List Answer → List ℕ
+picture_of style machine s live peak extents calls answers = map_of style s live peak extents (history_of calls answers)

@@ -1,21 +1,25 @@
 // The picture of a run.
-ghost use Rattle.std.specs.Prelude.{◌≡◌, ◌≤◌, ◌^◌, ◌<◌, ◌++◌, ⊤, map, string_bytes, OnOk};
+ghost use Rattle.std.specs.Prelude.{◌≡◌, ◌≤◌, ◌^◌, ◌<◌, ◌++◌, map, string_bytes, OnOk};
 ghost use Rattle.std.specs.Str.{bytes_eq};
 ghost use Rattle.dlmalloc_chunks.specs.Tiling.{AreInSegments};
 ghost use Rattle.heap_model.specs.State.{State};
 ghost use Rattle.heap_program.specs.Progress.{IsAt};
+ghost use Rattle.heap_recorder.specs.Run.{IsRecordOf};
 ghost use Rattle.heap_report.specs.Telling.{Tells};
 ghost use Rattle.heap_picture.specs.Drawn.{HasDrawn, run_words, drawing_for};
-ghost use Rattle.heap_picture.specs.Picture.{picture_of, svg_text, head_text};
+ghost use Rattle.heap_picture.specs.Picture.{map_of, picture_of, svg_text, head_text};
 ghost use Rattle.heap_picture.specs.Style.{style};
 
+use crate::blocks::push_named_map;
 use crate::regions::push_regions;
 use crate::style::style;
 use crate::tables::Tables;
 use crate::timing::Timing;
 use command_line::Command;
-use heap_map::{lines_number, push_map};
+use heap_history::History;
+use heap_map::lines_number;
 use heap_program::{Sink, Source};
+use heap_recorder::Recorder;
 use heap_report::{Reported, Tell, tell_main};
 use kernel_heap::{Answer, Call, Extent, Machine};
 use std::alloc::{AllocError, Global};
@@ -39,21 +43,46 @@ pub fn push_head(out: &mut String, height: u128) -> Result<(), AllocError>
     out.push_str(style())
 }
 
-/// The picture of a run as its text.
+// Puts the map at the end of the heap that a run leaves, with the regions of its last machine.
+fn push_drawn(
+    alloc: Global,
+    out: &mut String,
+    machine: &Machine,
+    history: &History,
+    live: u128,
+    peak: u128,
+    extents: &[Extent],
+) -> Result<(), AllocError>
+    requires { AreInSegments extents.now }
+    ensures { OnOk result ((s : State) → IsAt machine.now s → string_bytes out.new ≡ string_bytes out.old ++ map_of style s live peak extents.now history.now) }
+{
+    let lines = lines_number(alloc, extents)?;
+    let below = 194 + 23 * u128::from(lines);
+    push_head(out, below + 210)?;
+    push_named_map(alloc, out, history, live, peak, extents)?;
+    push_regions(alloc, out, below, machine)?;
+    out.push_str("</svg>\n")
+}
+
+/// The picture of a run as its text. The run is recorded as it is replayed, for the numbers of its live blocks.
 #[derive(Drop)]
-pub struct Picture;
+pub struct Picture {
+    recorder: Recorder,
+}
 
 impl Tell for Picture {
-    ghost keeps = { λ picture calls answers. ⊤ };
+    ghost keeps = { λ picture calls answers. IsRecordOf picture.recorder calls answers };
 
     ghost text = { picture_of style };
 
-    fn new(_alloc: Global) -> Picture {
-        Picture
+    fn new(alloc: Global) -> Picture {
+        Picture {
+            recorder: Recorder::new(alloc),
+        }
     }
 
-    fn note(&mut self, _call: &Call, _answer: &Answer) -> Result<(), AllocError> {
-        Ok(())
+    fn note(&mut self, call: &Call, answer: &Answer) -> Result<(), AllocError> {
+        self.recorder.note(call, answer)
     }
 
     fn push(
@@ -65,12 +94,9 @@ impl Tell for Picture {
         peak: u128,
         extents: &[Extent],
     ) -> Result<(), AllocError> {
-        let lines = lines_number(alloc, extents)?;
-        let below = 194 + 23 * u128::from(lines);
-        push_head(output, below + 210)?;
-        push_map(alloc, output, live, peak, extents)?;
-        push_regions(alloc, output, below, machine)?;
-        output.push_str("</svg>\n")
+        let Picture { recorder } = self;
+        let history = recorder.history()?;
+        push_drawn(alloc, output, machine, &history, live, peak, extents)
     }
 }
 

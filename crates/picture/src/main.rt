@@ -27,7 +27,8 @@ are one thin line. A row has 512 cells: a cell is blue from the ground up as far
 as its bytes are in blocks, and above that it has the colour of most of its
 other bytes. Above the rows are the figures of the heap; below them is what it
 consists of, its free chunks by size, and the regions of the heap and the user
-with their large pages. A browser shows at each extent what it is.
+with their large pages. A browser shows at each extent what it is, and at a
+block its number and the bytes that were asked for.
 
 The page tables: a line for the root, for each table, and below it for what its
 entries map, which is the greatest run of pages with frames one after the other,

@@ -55,15 +55,15 @@ fn two_hundred_calls(alloc: Global) -> Result<String, AllocError> {
     Ok(calls)
 }
 
-/// What the map calls an extent.
+/// How the map begins what it says of an extent.
 fn words_of(kind: Kind) -> &'static str {
     match kind {
-        Kind::Used => "block",
-        Kind::Free => "free",
-        Kind::Victim => "victim",
-        Kind::Top => "top",
-        Kind::Record => "record",
-        Kind::Foot => "foot",
+        Kind::Used => "block ",
+        Kind::Free => "free of ",
+        Kind::Victim => "victim of ",
+        Kind::Top => "top of ",
+        Kind::Record => "record of ",
+        Kind::Foot => "foot of ",
     }
 }
 
@@ -77,7 +77,7 @@ fn expect_drawn(
 ) -> Result<usize, Fail> {
     let mut title = String::new(alloc);
     let (at, words) = (extent.at, words_of(extent.kind));
-    write!(title, "<title>0x{at:x}: {words} of ")?;
+    write!(title, "<title>0x{at:x}: {words}")?;
     let Some(at) = find(text, last, title.as_bytes()) else {
         panic!(rt; "an extent is not drawn in its place");
     };
@@ -125,6 +125,45 @@ fn expect_parts_of(
 
 fn expect_parts(rt: &impl Abort, alloc: Global, calls: &[u8], parts: &[&str]) -> Result<(), Fail> {
     expect_parts_of(rt, alloc, &[], calls, parts)
+}
+
+/// Blocks have their numbers and the bytes that were asked for, each at the place of its chunk, and freed ones have none. Of the
+/// labels that fits which is the longest.
+#[test]
+fn blocks_have_their_names(rt: HostRuntime) -> Result<(), Fail> {
+    expect_parts(
+        &rt,
+        rt.alloc(),
+        b"malloc 1000\nmalloc 24\nmalloc 24\nmalloc 100\nmalloc 8\nfree 3\nrealloc 4 20\n".as_slice(),
+        &[
+            "<rect class=\"u\" x=\"144\" y=\"168\" width=\"1024\" height=\"14\"><title>0x400000: block 0, 1,000 of 1,008 bytes</title></rect>\n<text class=\"m in\" x=\"149\" y=\"179\">block 0: 1,008 B</text>\n",
+            "<rect class=\"none\" x=\"144\" y=\"189\" width=\"992\" height=\"18\"><title>0x400000: block 0, 1,000 of 1,008 bytes</title></rect>\n<rect class=\"paper\" x=\"1136\" y=\"189\" width=\"1\" height=\"18\"/>\n<rect class=\"none\" x=\"1136\" y=\"189\" width=\"32\" height=\"18\"><title>0x4003f0: block 1, 24 of 32 bytes</title></rect>\n<text class=\"m in\" x=\"1141\" y=\"202\">1</text>\n",
+            "<rect class=\"none\" x=\"144\" y=\"212\" width=\"32\" height=\"18\"><title>0x4003f0: block 1, 24 of 32 bytes</title></rect>\n<rect class=\"paper\" x=\"176\" y=\"212\" width=\"1\" height=\"18\"/>\n<rect class=\"none\" x=\"176\" y=\"212\" width=\"64\" height=\"18\"><title>0x400410: block 2, 24 of 32 bytes</title></rect>\n<text class=\"m in\" x=\"181\" y=\"225\">2: 32 B</text>\n",
+            "<rect class=\"none\" x=\"240\" y=\"212\" width=\"224\" height=\"18\"><title>0x400430: free of 112 bytes</title></rect>\n<text class=\"m on\" x=\"245\" y=\"225\">free 112 B</text>\n",
+            "<rect class=\"none\" x=\"464\" y=\"212\" width=\"64\" height=\"18\"><title>0x4004a0: block 4, 20 of 32 bytes</title></rect>\n<text class=\"m in\" x=\"469\" y=\"225\">4: 32 B</text>\n",
+        ],
+    )
+}
+
+/// A block that was moved has its name at its new place alone, and the next block after a reset has a number of its own.
+#[test]
+fn names_follow_blocks(rt: HostRuntime) -> Result<(), Fail> {
+    expect_parts(
+        &rt,
+        rt.alloc(),
+        b"malloc 24\nmalloc 24\nrealloc 0 2000\n".as_slice(),
+        &[
+            "<rect class=\"none\" x=\"144\" y=\"166\" width=\"64\" height=\"18\"><title>0x400000: free of 32 bytes</title></rect>\n<text class=\"m on\" x=\"149\" y=\"179\">32 B</text>\n",
+            "<rect class=\"none\" x=\"208\" y=\"166\" width=\"64\" height=\"18\"><title>0x400020: block 1, 24 of 32 bytes</title></rect>\n<text class=\"m in\" x=\"213\" y=\"179\">1: 32 B</text>\n",
+            "<rect class=\"none\" x=\"272\" y=\"166\" width=\"896\" height=\"18\"><title>0x400040: block 0, 2,000 of 2,016 bytes</title></rect>\n<text class=\"m in\" x=\"277\" y=\"179\">block 0: 2,016 B</text>\n",
+        ],
+    )?;
+    expect_parts(
+        &rt,
+        rt.alloc(),
+        b"malloc 24\nreset\nmalloc 40\n".as_slice(),
+        &["<title>0x400000: block 1, 40 of 48 bytes</title>"],
+    )
 }
 
 /// The lines of a drawing by hand, of ten calls.
@@ -178,10 +217,10 @@ fn a_change_of_owner_begins_a_line(rt: HostRuntime) -> Result<(), Fail> {
             "<rect class=\"u\" x=\"120\" y=\"210\" width=\"12\" height=\"14\"><title>0x401000 + 1 page, heap rw--, frame 6</title></rect>\n",
             "<rect class=\"line\" x=\"768\" y=\"214\" width=\"512\" height=\"6\"/>\n<rect class=\"u\" x=\"769\" y=\"211\" width=\"1\" height=\"12\"><title>entry 1</title></rect>\n",
             "<rect class=\"w\" x=\"120\" y=\"232\" width=\"12\" height=\"14\"><title>0x404000 + 1 page, user r---, frame 1</title></rect>\n",
-            ">4 tables</text>\n<rect class=\"u\" x=\"272\" y=\"276\" width=\"12\" height=\"12\"/>\n<text class=\"p\" x=\"290\" y=\"286\">1 pages of the heap</text>\n<rect class=\"w\" x=\"506\" y=\"276\" width=\"12\" height=\"12\"/>\n<text class=\"p\" x=\"524\" y=\"286\">2 pages of the user</text>\n",
+            ">4 tables</text>\n<rect class=\"u\" x=\"272\" y=\"276\" width=\"12\" height=\"12\"/>\n<text class=\"p\" x=\"290\" y=\"286\">1 page of the heap</text>\n<rect class=\"w\" x=\"506\" y=\"276\" width=\"12\" height=\"12\"/>\n<text class=\"p\" x=\"524\" y=\"286\">2 pages of the user</text>\n",
             ">0 in large pages</text>\n",
             ">57 free</text>\n",
-            "<rect class=\"w\" x=\"69\" y=\"298\" width=\"8\" height=\"8\"><title>frames 5 to 5: pages of the user</title></rect>\n<rect class=\"u\" x=\"78\" y=\"298\" width=\"8\" height=\"8\"><title>frames 6 to 6: pages of the heap</title></rect>\n",
+            "<rect class=\"w\" x=\"69\" y=\"298\" width=\"8\" height=\"8\"><title>frame 5: page of the user</title></rect>\n<rect class=\"u\" x=\"78\" y=\"298\" width=\"8\" height=\"8\"><title>frame 6: page of the heap</title></rect>\n",
         ],
     )
 }

@@ -1,11 +1,10 @@
-use Rattle.std.proofs.Common.{◌++◌, ◌∙◌, codes, string_bytes}
+use Rattle.std.proofs.Common.{◌++◌, ◌∙◌, ap, string_bytes}
 use Rattle.std.proofs.lemmas.Result.{on_ok_weaker}
+use Rattle.heap_history.specs.declared.history.History.{History}
+use Rattle.heap_picture.specs.Picture.{map_of}
 use Rattle.heap_picture.specs.Style.{style}
-use Rattle.heap_picture.proofs.Pictures.{pushed, picture_whole}
 use Rattle.heap_picture.proofs.picture.PictureTell.push.Goals as goal
 
 pub returns : goal.returns
-returns c = on_ok_weaker c.push_str.result (λ last. λ s calls answers at kept.
-    picture_whole style c.args.machine.now s c.args.live c.args.peak c.args.extents.now calls answers c.from.result (string_bytes c.args.output.now) (string_bytes c.push_head.new.out) (string_bytes c.push_map.new.out)
-    (string_bytes c.push_regions.new.out) (string_bytes c.push_str.new.self) (c.from.ensures ∙ c.in_ok-lines.ensures) c.in_ok-push_head.ensures c.in_ok-push_map.ensures (c.in_ok-push_regions.ensures s at) last)
-    (pushed c.push_str.result (string_bytes c.push_str.new.self) (string_bytes c.push_regions.new.out ++ codes "</svg>\n") (string_bytes c.push_regions.new.out) c.push_str.ensures.bytes)
+returns c = on_ok_weaker c.push_drawn.result (λ put. λ s calls answers at kept.
+    put s at ∙ ap (λ (h : History). string_bytes c.args.output.now ++ map_of style s c.args.live c.args.peak c.args.extents.now h) (c.in_ok-history.ensures.records calls answers kept)) c.push_drawn.ensures

@@ -1,0 +1,41 @@
+-- The live blocks that a run leaves, by their addresses.
+use Rattle.std.specs.Prelude.{◌≡◌, ◌↔◌, ℕ, Bool, ◌&&◌, nat_eq, nat_le, nat_lt, List, [], ◌∷◌, length, map, Option, Some, None, IsTrue, if◌then◌else◌}
+use Rattle.heap_history.specs.declared.history.History.{History}
+use Rattle.heap_history.specs.declared.history.Stay.{Stay}
+use Rattle.heap_model.specs.declared.answer.Answer.{Answer}
+use Rattle.heap_model.specs.declared.call.Call.{Call}
+use Rattle.heap_model.specs.declared.config.Config.{Config}
+use Rattle.heap_model.specs.Run.{IsAllowedRun, last_state}
+use Rattle.heap_model.specs.State.{start}
+use Rattle.heap_map.specs.declared.blocks.NamedBlock.{NamedBlock}
+use Rattle.heap_recorder.specs.Run.{history_of}
+use Rattle.heap_recorder.specs.Shown.{has_block}
+
+-- whether a stay is there after the last of so many calls: it began with one of them, and none ended it
+abbrev pub remains : ℕ → Stay → Bool
+remains calls stay = nat_lt stay.born calls && nat_le calls stay.end
+
+-- what the block of a stay is called
+abbrev pub name_of : Stay → NamedBlock
+name_of stay = record { number = stay.block; size = stay.size }
+
+-- The blocks at addresses, with that of one stay more, if it is there after so many calls.
+abbrev pub with_block : ℕ → Stay → (ℕ → Option NamedBlock) → ℕ → Option NamedBlock
+with_block calls stay blocks address = if remains calls stay && nat_eq stay.address address then Some (name_of stay) else blocks address
+
+-- the block at an address after so many calls
+abbrev pub block_at_end : ℕ → List Stay → ℕ → Option NamedBlock
+block_at_end calls [] address = None
+block_at_end calls (stay ∷ stays) address = with_block calls stay (block_at_end calls stays) address
+
+-- the blocks that a run leaves
+abbrev pub blocks_at_end : History → ℕ → Option NamedBlock
+blocks_at_end history address = block_at_end (length history.moments) history.stays address
+
+-- The map of a run calls the block at an address by a number and a size exactly if in the last state that number's block is live, at the
+-- address and with the size.
+abbrev pub EachBlockHasItsName : Type 0
+EachBlockHasItsName =
+    (config : Config) (calls : List Call) (answers : List Answer) → IsAllowedRun (start config) (map Some calls) (map Some answers) →
+    (address : ℕ) (block : NamedBlock) →
+    (blocks_at_end (history_of calls answers) address ≡ Some block) ↔ IsTrue (has_block (last_state (start config) (map Some calls) (map Some answers)) block.number address block.size)
