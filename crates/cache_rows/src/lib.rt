@@ -6,4 +6,6 @@ mod cache;
 #[cfg(test)]
 mod checks;
 #[cfg(test)]
+mod fault_words;
+#[cfg(test)]
 mod random_calls;

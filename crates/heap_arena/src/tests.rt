@@ -143,3 +143,17 @@ fn reason(answer: &Result<(), (AddFault, Arena<'_>)>) -> Option<AddFault> {
         Err((fault, _)) => Some(*fault),
     }
 }
+
+#[test]
+fn refused_arenas_have_their_words(rt: HostRuntime) -> Result<(), Fail> {
+    let table = [
+        (AddFault::InUse, "the arena is in use"),
+        (AddFault::Overlaps, "the arena overlaps another one"),
+        (AddFault::NoPlace, "no place for a further arena"),
+    ];
+    for (fault, words) in table {
+        let text = format!(in rt.alloc(); "{fault}")?;
+        assert_eq!(rt; text.as_str(), words);
+    }
+    Ok(())
+}

@@ -4,6 +4,8 @@
 #[cfg(test)]
 mod checks;
 #[cfg(test)]
+mod fault_words;
+#[cfg(test)]
 mod plain;
 #[cfg(test)]
 mod plain_map;

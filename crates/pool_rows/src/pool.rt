@@ -3,7 +3,7 @@ ghost use Rattle.std.specs.Prelude.{◌≡◌, ◌<◌, ◌≤◌, IfOk, OnOk, l
 use crate::checks::same;
 use heap_memory::{FlatStep, FlatSystem};
 use object_pool::{GrantFault, Key, Pool, PoolFault};
-use sound_heap::Heap;
+use sound_heap::{Heap, HeapError};
 use std::alloc::{AllocError, Global};
 use std::process::Abort;
 use std::test::Fail;
@@ -393,6 +393,18 @@ fn faults_have_texts(rt: HostRuntime) -> Result<(), Fail> {
         (PoolFault::Full, "full"),
         (PoolFault::Heap(GrantFault::NoSpace), "no space"),
         (PoolFault::OutOfMemory, "out of memory"),
+    ];
+    for (fault, text) in table.iter() {
+        same(&rt, format!(in rt.alloc(); "{fault}")?.as_str(), *text);
+    }
+    Ok(())
+}
+
+#[test]
+fn refusals_of_its_heap_have_texts(rt: HostRuntime) -> Result<(), Fail> {
+    let table = [
+        (HeapError::BadAlign, "bad alignment"),
+        (HeapError::NoBlock, "no block"),
     ];
     for (fault, text) in table.iter() {
         same(&rt, format!(in rt.alloc(); "{fault}")?.as_str(), *text);

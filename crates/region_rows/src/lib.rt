@@ -4,6 +4,8 @@
 #[cfg(test)]
 mod checks;
 #[cfg(test)]
+mod fault_words;
+#[cfg(test)]
 mod random_ranges;
 #[cfg(test)]
 mod regions;

@@ -8,6 +8,8 @@ mod checks;
 #[cfg(test)]
 mod copies;
 #[cfg(test)]
+mod fault_words;
+#[cfg(test)]
 mod halves;
 #[cfg(test)]
 mod pages;
