@@ -7,7 +7,8 @@ pub enum CachedFault {
     /// The system refuses it.
     #[error("{0}")]
     Unmap(UnmapFault),
-    /// The host had too little memory for the commands.
+    /// The host had too little memory for the commands. This may come in place of `HeapRegion` or `UnknownRegion`, but not
+    /// of `BadRange`, and only if there are at least as many frames as pages were to be unmapped.
     #[error("out of memory")]
     OutOfMemory,
 }

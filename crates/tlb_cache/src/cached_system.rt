@@ -52,7 +52,8 @@ impl CachedSystem {
 
     /// A system with a window of `pages` pages from the address `base` on, and with `frames` frames, of which one holds
     /// the root table; a cache with room for `capacity` translations; and a processor whose `INVLPGB` takes at most
-    /// `count_max` pages. Nothing is mapped, and nothing kept (own). From 2^31 translations on it answers want of memory.
+    /// `count_max` pages. Nothing is mapped, and nothing kept (own). From 2^31 translations on it always answers want of
+    /// memory; below it may too, if the host has too little.
     pub fn new(
         alloc: Global,
         base: u64,

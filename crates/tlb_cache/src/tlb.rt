@@ -67,7 +67,7 @@ impl Tlb {
     ghost use Rattle.tlb_cache.specs.Translation.{IsKeptAnswer, IsWalkedAnswer, IsTrueAnswer};
 
     /// A cache with room for `capacity` translations. It takes all its memory now, and has none yet (own). From 2^31
-    /// places on it answers want of memory.
+    /// places on it always answers want of memory; below it may too, if the host has too little.
     pub fn new(alloc: Global, capacity: u64) -> Result<Tlb, AllocError>
         requires { 0 < capacity }
         ensures empty { IfOk result (λ tlb. tlb ≡ record { entries = []; capacity = capacity }) }
