@@ -23,9 +23,10 @@ Usage: heap run [BASE PAGES GRANULARITY FRAMES RATE]
 
   run   answers each line of standard input on standard output, then prints the
         regions, the free frames and the page tables. The heap has PAGES pages
-        from BASE on, asks for multiples of GRANULARITY bytes, over FRAMES
-        frames, and frees RATE large chunks between two release passes. The
-        default is 0x400000 1024 65536 1024 4095.
+        from BASE on, over FRAMES frames of memory. It asks for multiples of
+        GRANULARITY bytes, and looks for idle memory to give back each time
+        that RATE large chunks were freed. The default is
+        0x400000 1024 65536 1024 4095.
   gen   draws COUNT calls from SEED, at most 1000000, in place of lines, then
         prints how many calls there were, how many numbers they gave and how
         many were refused, and then what run prints at its end.
@@ -64,8 +65,8 @@ The lines of `heap run`, and their answers:
                             more than PAD bytes free at the heap's end:
                             `trimmed true` if some went back, else
                             `trimmed false`
-  rate N                    has N large chunks freed between two release passes
-                            from then on: `done`
+  rate N                    from then on looks for idle memory to give back each
+                            time that N large chunks were freed: `done`
   granularity N             has the heap ask for multiples of N bytes, a power
                             of two of at least 16: `accepted true`, or
                             `accepted false`, and then nothing changes
