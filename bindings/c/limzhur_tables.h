@@ -4,22 +4,22 @@
  * The tables lie in an area of frames, which is theirs for good. Their pages lead to any other frames below a limit: memory
  * that the kernel uses as it likes, or devices. Two pages may lead to one frame. Nothing in the area is ever mapped.
  *
- * Every function is proved from what stands here as "C keeps". Nothing checks C, so C has to keep it:
+ * Every function is proved under the conditions that stand here as "C keeps". Nothing checks C, so C has to keep them:
  *   - The room and the words of the area are the tables' from limzhur_tables_init on. C neither writes nor reads them but
  *     by these calls. A processor may walk them at any time: each entry has its accessed bit, and each entry of a page its
  *     dirty bit, so no walk writes to them.
- *   - A handle leads to one set of tables, and each has one handle. No two calls run at the same time. There is no lock:
- *     the caller has it, and with it may call from any thread.
+ *   - A handle leads to one set of tables, and each set has one handle. No two calls run at the same time. There is no lock
+ *     here; with a lock of its own the caller may call from any thread.
  *
  * What the tables mean is where each page leads. A processor whose CR3 has the root's address finds just that, whatever
  * else its memory holds: that is proved over the words of the entries, for a processor's own walk with its reserved bits.
  *
  * What has to be flushed (INVLPG, on each processor that uses the tables): nothing after limzhur_map, limzhur_map_large and
  * limzhur_map_range; the page after limzhur_unmap and limzhur_protect; the 2 MiB after limzhur_unmap_large; the pages of the range
- * after limzhur_unmap_range and limzhur_protect_range. A frame has another use only after that. Every other page leads where it led.
+ * after limzhur_unmap_range and limzhur_protect_range. Give a frame another use only after that. Every other page leads where it led.
  *
- * A large page maps 2 MiB by one entry. Where a call changes a part of it, it is split first: a table in one of the area's frames
- * maps its 512 pages as they were. Tables stay for good, also those of no page.
+ * A large page maps 2 MiB by one entry. If a call changes a part of it, the call splits it first: a table in one of the area's
+ * frames maps its 512 pages as they were. Tables stay for good, even if no page is left in them.
  *
  * What the processor needs: EFER.NXE (bit 11), since a page without the right to fetch has bit 63 in its entry; and CR0.WP
  * (bit 16), if the right to write is to mean something to the kernel itself. While a call runs the words of the area have to
@@ -40,7 +40,7 @@
 extern "C" {
 #endif
 
-/* Bytes that are room enough for the state of page tables, at a multiple of 8. */
+/* Enough bytes for the state of page tables, at a multiple of 8. */
 #define LIMZHUR_TABLES_ROOM 128
 
 /* A handle: it leads to the state of page tables. */
@@ -56,28 +56,31 @@ struct limzhur_place {
     bool fetch;
 };
 
-/* What calls answer. Of several reasons the first in this order is told, and then nothing is changed. */
+/*
+ * What calls answer: 0, or a reason, and then nothing is changed. If several hold, the answer is the first of them in this
+ * order: NOT_CANONICAL, MISALIGNED, IS_MAPPED or NOT_MAPPED, HAS_TABLE, PAST_LIMIT, IN_AREA, NO_FRAMES.
+ */
 enum limzhur_tables_answer {
     LIMZHUR_DONE = 0,
     /* Bits 47 to 63 of the address differ, or the range ends in another half than it begins. */
     LIMZHUR_NOT_CANONICAL = 1,
     /* The page to be mapped is mapped. */
     LIMZHUR_IS_MAPPED = 2,
-    /* The frame is not below the limit. A frame of 2^40 and more is told so before anything is looked at. */
+    /* The frame is not below the limit. If it is 2^40 or more, only the address's own NOT_CANONICAL and MISALIGNED go before. */
     LIMZHUR_PAST_LIMIT = 3,
     /* The frame is one of the area. */
     LIMZHUR_IN_AREA = 4,
     /* Fewer frames are left than tables are missing. */
     LIMZHUR_NO_FRAMES = 5,
-    /* The page to be changed is not mapped. */
+    /* The page to be changed is not mapped; for limzhur_unmap_large, no one entry maps the 2 MiB. */
     LIMZHUR_NOT_MAPPED = 6,
     /* The 2 MiB to be mapped by one entry have a table: a page of them was mapped before. */
     LIMZHUR_HAS_TABLE = 7,
-    /* The address is no multiple of 2 MiB, or the frame none of 512. This is told after LIMZHUR_NOT_CANONICAL. */
+    /* The address is no multiple of 2 MiB, or the frame none of 512. */
     LIMZHUR_MISALIGNED = 8,
 };
 
-/* How many bytes of room the state takes: at most LIMZHUR_TABLES_ROOM. */
+/* How many bytes of room the state takes. That they are at most LIMZHUR_TABLES_ROOM is tested, not proved. */
 size_t limzhur_tables_room(void);
 
 /*
@@ -94,18 +97,19 @@ void limzhur_tables_init(void *room, uint64_t *words, size_t count, uint64_t fir
 /* The frame of the root table: CR3 has 4096 times it. */
 uint64_t limzhur_tables_root(struct limzhur_tables *tables);
 
-/* How many frames are left for tables. A page needs at most three, and none if a page of the same 2 MiB was mapped. */
+/* How many frames are left for tables. A page needs at most three, and none if the same 2 MiB have a table. The split of a large
+ * page needs one. */
 uint64_t limzhur_tables_left(struct limzhur_tables *tables);
 
-/* Tells where the page of an address leads. False if it is not mapped, or the address not canonical; nothing is then told. */
+/* Puts into `place` where the page of an address leads. False if it is not mapped, or the address not canonical; `place` then stays. */
 bool limzhur_lookup(struct limzhur_tables *tables, uint64_t address, struct limzhur_place *place);
 
-/* Maps the page of an address to a frame, with the tables that it misses. Nothing is to be flushed. */
+/* Maps the page of an address to a frame, and makes the tables that it lacks. Nothing is to be flushed. */
 uint32_t limzhur_map(struct limzhur_tables *tables, uint64_t address, uint64_t frame, bool write, bool user, bool fetch);
 
 /*
- * Ends the mapping of the page of an address, and tells its frame. The page is to be flushed. LIMZHUR_NO_FRAMES: it lies in a large
- * page, and no frame is left for the table of that.
+ * Ends the mapping of the page of an address, and puts its frame into `frame`. The page is to be flushed. LIMZHUR_NO_FRAMES: it lies
+ * in a large page, and no frame is left for the table that splits this.
  */
 uint32_t limzhur_unmap(struct limzhur_tables *tables, uint64_t address, uint64_t *frame);
 
@@ -116,19 +120,20 @@ uint32_t limzhur_unmap(struct limzhur_tables *tables, uint64_t address, uint64_t
 uint32_t limzhur_protect(struct limzhur_tables *tables, uint64_t address, bool write, bool user, bool fetch);
 
 /*
- * Maps the 2 MiB from an address on to the 512 frames from `frame` on, by one entry, with the tables above it that are missing.
- * LIMZHUR_IS_MAPPED says that one entry maps them already; a frame that is told is one of the 512. Nothing is to be flushed.
+ * Maps the 2 MiB from an address on to the 512 frames from `frame` on, by one entry, and makes the tables above it that are missing.
+ * LIMZHUR_IS_MAPPED: one entry maps them already. LIMZHUR_PAST_LIMIT and LIMZHUR_IN_AREA: one of the 512 frames is so. Nothing is to
+ * be flushed.
  */
 uint32_t limzhur_map_large(struct limzhur_tables *tables, uint64_t address, uint64_t frame, bool write, bool user, bool fetch);
 
-/* Ends the mapping of the 2 MiB from an address on, which one entry maps, and tells the first of their frames. They are to be
- * flushed. */
+/* Ends the mapping of the 2 MiB from an address on, which one entry maps, and puts the first of their frames into `frame`. They are
+ * to be flushed. */
 uint32_t limzhur_unmap_large(struct limzhur_tables *tables, uint64_t address, uint64_t *frame);
 
 /*
- * Ranges: `pages` pages, from that of an address on. What is refused changes nothing, whichever page it is refused for. A range
- * of no pages is refused for its address or its frame alone. `told` has, after LIMZHUR_IS_MAPPED and LIMZHUR_NOT_MAPPED, the address of
- * the lowest such page; after LIMZHUR_NO_FRAMES how many frames are wanting; and else what it had.
+ * Ranges: `pages` pages, from that of an address on. A refused call changes nothing, whichever page it is refused for. A range
+ * of no pages is refused for its address or its frame alone. After LIMZHUR_IS_MAPPED and LIMZHUR_NOT_MAPPED `told` has the address of
+ * the lowest such page, and after LIMZHUR_NO_FRAMES how many frames are missing; else it stays.
  */
 
 /*
