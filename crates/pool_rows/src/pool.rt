@@ -1,6 +1,7 @@
 ghost use Rattle.std.specs.Prelude.{◌≡◌, ◌<◌, ◌≤◌, IfOk, OnOk, length};
 
 use crate::checks::same;
+use dlmalloc::MallocError;
 use heap_memory::{FlatStep, FlatSystem};
 use object_pool::{GrantFault, Key, Pool, PoolFault};
 use sound_heap::{Heap, HeapError};
@@ -405,6 +406,11 @@ fn refusals_of_its_heap_have_texts(rt: HostRuntime) -> Result<(), Fail> {
     let table = [
         (HeapError::BadAlign, "bad alignment"),
         (HeapError::NoBlock, "no block"),
+        (HeapError::Refused(MallocError::TooLarge), "too large"),
+        (
+            HeapError::Refused(MallocError::System(GrantFault::NoSpace)),
+            "no space",
+        ),
     ];
     for (fault, text) in table.iter() {
         same(&rt, format!(in rt.alloc(); "{fault}")?.as_str(), *text);
