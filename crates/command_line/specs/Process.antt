@@ -19,6 +19,6 @@ abbrev pub status_line : ℕ → List ℕ
 status_line status = status_text_of status ++ codes "\n"
 
 -- What a status means was told: its line is written, and flushed.
-pub record IsTold (before after : Option (List ℕ)) (flushed : Option ℕ) (status : ℕ) : Type 0 where
+pub record IsStatusTold (before after : Option (List ℕ)) (flushed : Option ℕ) (status : ℕ) : Type 0 where
   pub line : Appends before after (status_line status)
   pub flushed_all : IsAllFlushed after flushed

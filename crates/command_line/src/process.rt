@@ -3,7 +3,7 @@ ghost use Rattle.std.specs.Prelude.{◌≡◌, ◌≢◌, ◌<◌, ◌≤◌, On
 ghost use Rattle.std.specs.IoError.{error_kind};
 ghost use Rattle.std.specs.Process.{exit_status};
 ghost use Rattle.heap_program.specs.Faults.{HasRisen};
-ghost use Rattle.command_line.specs.Process.{IsShown, IsTold};
+ghost use Rattle.command_line.specs.Process.{IsShown, IsStatusTold};
 
 use heap_program::{Sink, SinkFault, status_text, write_text};
 use std::io::ErrorKind;
@@ -53,7 +53,7 @@ pub fn show<K: Sink>(sink: &mut K, text: &str) -> u8
 // Writes the line that tells what a status means, and flushes it.
 fn tell<E: Sink>(errors: &mut E, status: u8) -> Result<(), SinkFault>
     requires few { status ≤ 8 }
-    ensures told { OnOk result (IsTold (E.taken errors.old) (E.taken errors.new) (E.flushed errors.new) status) }
+    ensures told { OnOk result (IsStatusTold (E.taken errors.old) (E.taken errors.new) (E.flushed errors.new) status) }
     ensures cause { IsErrOf result SinkFault.Failed → HasRisen (E.faults errors.old) (E.faults errors.new) }
     ensures memory { ((e : E) → E.needs_memory e → ⊥) → ¬ (IsErrOf result SinkFault.OutOfMemory) }
 {
@@ -68,7 +68,7 @@ pub fn exit_with<E: Sink>(errors: &mut E, status: u8) -> ExitCode
     ensures status { exit_status result ≡ status }
     ensures silent { status ≡ 0 → errors.new ≡ errors.old }
     ensures told { 0 < status → ((e : E) → E.needs_memory e → ⊥) → ¬ (HasRisen (E.faults errors.old) (E.faults errors.new)) →
-        IsTold (E.taken errors.old) (E.taken errors.new) (E.flushed errors.new) status }
+        IsStatusTold (E.taken errors.old) (E.taken errors.new) (E.flushed errors.new) status }
 {
     if status != 0 {
         let _ = tell(errors, status);

@@ -2,7 +2,7 @@
 ghost use Rattle.std.specs.Prelude.{◌≡◌, ◌<◌, ◌≤◌, IfOk, IfErr, drop};
 ghost use Rattle.std.specs.Process.{exit_status};
 ghost use Rattle.heap_program.specs.Faults.{HasRisen};
-ghost use Rattle.command_line.specs.Process.{IsTold};
+ghost use Rattle.command_line.specs.Process.{IsStatusTold};
 ghost use Rattle.command_line.specs.Served.{IsServed, IsUnread};
 ghost use Rattle.heap_program.specs.Streams.{streams};
 
@@ -48,7 +48,7 @@ pub fn program<C: Command, S: Source, K: Sink, E: Sink>(
     ensures few { exit_status result ≤ 8 }
     ensures silent { exit_status result ≡ 0 → errors.new ≡ errors.old }
     ensures told { 0 < exit_status result → ((e : E) → E.needs_memory e → ⊥) → ¬ (HasRisen (E.faults errors.old) (E.faults errors.new)) →
-        IsTold (E.taken errors.old) (E.taken errors.new) (E.flushed errors.new) (exit_status result) }
+        IsStatusTold (E.taken errors.old) (E.taken errors.new) (E.flushed errors.new) (exit_status result) }
 {
     let status = match &arguments {
         Ok(all) => serve::<C, S, K>(alloc, pages, words_of(all), source, sink),
