@@ -3,13 +3,13 @@ use Rattle.std.specs.Prelude.{ℕ, zero, suc, ◌+◌, ◌-◌, ◌*◌, ◌^◌
 use Rattle.heap_history.specs.declared.history.Mapping.{Mapping}
 use Rattle.heap_history.specs.Columns.{x_of}
 use Rattle.heap_lines.specs.Written.{rights_word}
-use Rattle.heap_map.specs.Words.{hexadecimal, commas}
+use Rattle.heap_map.specs.Words.{hexadecimal, commas, counted}
 use Rattle.heap_map.specs.Shapes.{text_at, rect, titled}
 use Rattle.heap_curves.specs.Addresses.{least_start, all_addresses}
 
 -- the number of pages, with their rights
 unfoldable pub pages_words : Mapping → List ℕ
-pages_words user = commas user.region.pages ++ ((if nat_eq user.region.pages 1 then codes " page " else codes " pages ") ++ rights_word user.region.rights)
+pages_words user = counted (codes "page") user.region.pages ++ (codes " " ++ rights_word user.region.rights)
 
 -- the label of a region
 unfoldable pub label_words : Mapping → List ℕ

@@ -5,16 +5,15 @@ ghost use Rattle.heap_curves.specs.Lanes.{pages_words, label_words, when_words, 
 use crate::addresses::{NONE, all_addresses, least_start};
 use heap_history::{Mapping, x_of};
 use heap_lines::push_rights;
-use heap_map::{Area, push_address, push_commas, push_rect, push_text, push_titled};
+use heap_map::{Area, push_address, push_commas, push_counted, push_rect, push_text, push_titled};
 use std::alloc::{AllocError, Global};
 
 #[tactic(auto, unfolding(crate::specs::Lanes::pages_words))]
 fn push_pages(out: &mut String, user: Mapping) -> Result<(), AllocError>
     ensures { OnOk result (string_bytes out.new ≡ string_bytes out.old ++ pages_words user) }
 {
-    let pages = user.region.pages;
-    push_commas(out, u128::from(pages))?;
-    out.push_str(if pages == 1 { " page " } else { " pages " })?;
+    push_counted(out, "page", u128::from(user.region.pages))?;
+    out.push_str(" ")?;
     push_rights(out, user.region.rights)
 }
 

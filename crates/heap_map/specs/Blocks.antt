@@ -8,8 +8,8 @@ use Rattle.heap_map.specs.declared.classes.Class.TheVariants.{Block}
 use Rattle.heap_map.specs.Classes.{is_in}
 
 -- the block at an address, of a map that has them
-abbrev pub named : BTreeMap ℕ NamedBlock → ℕ → Option NamedBlock
-named blocks address = get nat_cmp blocks address
+abbrev pub named_at : BTreeMap ℕ NamedBlock → ℕ → Option NamedBlock
+named_at blocks address = get nat_cmp blocks address
 
 -- the address of the block that an extent in use holds: 16 bytes after the extent's own
 abbrev pub block_address : Extent → ℕ

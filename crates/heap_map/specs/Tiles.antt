@@ -3,7 +3,7 @@ use Rattle.std.specs.Prelude.{ℕ, ◌+◌, ◌-◌, ◌*◌, ◌/◌, List, ◌
 use Rattle.dlmalloc_chunks.specs.declared.extent.Extent.{Extent}
 use Rattle.heap_figures.specs.Figures.{bytes_of, greatest_of}
 use Rattle.heap_figures.specs.declared.counting.Part.TheVariants.{Used, Free}
-use Rattle.heap_map.specs.Words.{commas, percent, about}
+use Rattle.heap_map.specs.Words.{commas, counted, percent, about}
 use Rattle.heap_map.specs.Shapes.{text_at, rect}
 use Rattle.heap_map.specs.Totals.{total_of, scattered}
 
@@ -19,7 +19,7 @@ live_tiles live peak = tile_text 0 (commas live) (codes "bytes live") ++ tile_te
 
 -- the pages of a heap
 unfoldable pub heap_words : ℕ → List ℕ
-heap_words total = codes "heap: " ++ (commas (total / 4096) ++ codes " pages")
+heap_words total = codes "heap: " ++ counted (codes "page") (total / 4096)
 
 -- the bytes of the heap
 unfoldable pub heap_tile : ℕ → List ℕ

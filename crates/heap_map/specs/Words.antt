@@ -1,5 +1,5 @@
 -- Numbers as words.
-use Rattle.std.specs.Prelude.{ℕ, ◌*◌, ◌/◌, ◌%◌, ◌^◌, List, ◌++◌, codes, decimal, false, nat_lt, nat_eq, if◌then◌else◌}
+use Rattle.std.specs.Prelude.{ℕ, ◌*◌, ◌/◌, ◌%◌, ◌^◌, List, [], ◌++◌, codes, decimal, false, nat_lt, nat_eq, if◌then◌else◌}
 use Rattle.std.specs.Fmt.{digits}
 
 -- an address, in lower case without leading zeros
@@ -17,6 +17,10 @@ commas n =
     else if nat_lt n 1000000 then decimal (n / 1000) ++ group_text n
     else if nat_lt n 1000000000 then decimal (n / 1000000) ++ (group_text (n / 1000) ++ group_text n)
     else decimal (n / 1000000000) ++ (group_text (n / 1000000) ++ (group_text (n / 1000) ++ group_text n))
+
+-- a number of things, as `1 page` or `2,000 pages`
+unfoldable pub counted : List ℕ → ℕ → List ℕ
+counted thing n = commas n ++ (codes " " ++ (thing ++ (if nat_eq n 1 then [] else codes "s")))
 
 -- a number of tenths
 unfoldable pub tenths : ℕ → List ℕ

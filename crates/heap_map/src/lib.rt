@@ -26,4 +26,4 @@ pub use blocks::NamedBlock;
 pub use laws::{cells_are_their_bytes, lines_are_the_heap};
 pub use map::{lines_number, push_map};
 pub use shapes::{Area, push_rect, push_text, push_titled};
-pub use words::{push_about, push_address, push_commas};
+pub use words::{push_about, push_address, push_commas, push_counted};

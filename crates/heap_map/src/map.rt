@@ -1,7 +1,7 @@
 // The map of a heap.
 ghost use Rattle.std.specs.Prelude.{◌≡◌, ◌<◌, ◌≤◌, ◌^◌, ◌++◌, IfOk, OnOk, string_bytes};
 ghost use Rattle.dlmalloc_chunks.specs.Tiling.{AreInSegments};
-ghost use Rattle.heap_map.specs.Blocks.{named};
+ghost use Rattle.heap_map.specs.Blocks.{named_at};
 ghost use Rattle.heap_map.specs.Map.{thin_words, row_words, quarter_words, quarter_text, quarters_text, ruler_text, scale_text, below_lines, lines_number, map_words, front_text, rows_map, parts_text, map_text};
 
 use crate::blocks::NamedBlock;
@@ -125,7 +125,7 @@ fn push_rows_map(
 ) -> Result<(), AllocError>
     requires segments { AreInSegments extents.now }
     requires row { (512 ≤ row) × (row ≤ 2 ^ 53) }
-    ensures { OnOk result (string_bytes out.new ≡ string_bytes out.old ++ rows_map (named blocks.now) row live peak extents.now) }
+    ensures { OnOk result (string_bytes out.new ≡ string_bytes out.old ++ rows_map (named_at blocks.now) row live peak extents.now) }
 {
     push_front(alloc, out, live, peak, extents)?;
     push_scale(alloc, out, row)?;
@@ -170,7 +170,7 @@ pub fn push_map(
     extents: &[Extent],
 ) -> Result<(), AllocError>
     requires { AreInSegments extents.now }
-    ensures { OnOk result (string_bytes out.new ≡ string_bytes out.old ++ map_text (named blocks.now) live peak extents.now) }
+    ensures { OnOk result (string_bytes out.new ≡ string_bytes out.old ++ map_text (named_at blocks.now) live peak extents.now) }
 {
     let row = row_bytes(alloc, extents)?;
     let lines = u128::from(lines_number(alloc, extents)?);

@@ -1,6 +1,6 @@
 // What is said of the extents of a row.
 ghost use Rattle.std.specs.Prelude.{◌≡◌, ◌<◌, ◌≤◌, ◌+◌, ◌^◌, ◌++◌, IfOk, OnOk, string_bytes};
-ghost use Rattle.heap_map.specs.Blocks.{named};
+ghost use Rattle.heap_map.specs.Blocks.{named_at};
 ghost use Rattle.heap_map.specs.Marks.{asked_words, held_words, extent_title, offset, first_cell, mark_text, piece_text, marks_text, counts_text, row_title};
 
 use crate::blocks::{NamedBlock, block_in};
@@ -9,7 +9,7 @@ use crate::classes::{Class, kind_words};
 use crate::labels::push_label;
 use crate::pieces::Piece;
 use crate::shapes::{Area, push_rect, push_titled};
-use crate::words::{push_address, push_commas};
+use crate::words::{push_address, push_commas, push_counted};
 use dlmalloc_chunks::Extent;
 use std::alloc::{AllocError, Global};
 use std::collections::BTreeMap;
@@ -83,7 +83,7 @@ fn push_mark(
 ) -> Result<(), AllocError>
     requires y { y < 2 ^ 100 }
     requires cells { (first ≤ last) × (last ≤ 2 ^ 55) }
-    ensures { OnOk result (string_bytes out.new ≡ string_bytes out.old ++ mark_text (named blocks.now) base y first last piece) }
+    ensures { OnOk result (string_bytes out.new ≡ string_bytes out.old ++ mark_text (named_at blocks.now) base y first last piece) }
 {
     let x = 144 + 2 * first;
     let width = 2 * (last - first);
@@ -125,7 +125,7 @@ fn push_piece(
 ) -> Result<(), AllocError>
     requires row { (512 ≤ row) × (row ≤ 2 ^ 53) }
     requires y { y < 2 ^ 100 }
-    ensures { OnOk result (string_bytes out.new ≡ string_bytes out.old ++ piece_text (named blocks.now) row base y piece) }
+    ensures { OnOk result (string_bytes out.new ≡ string_bytes out.old ++ piece_text (named_at blocks.now) row base y piece) }
 {
     let cell = row / 512;
     let first = first_cell(cell, offset(row, base, piece.start));
@@ -149,7 +149,7 @@ pub fn push_marks(
 ) -> Result<(), AllocError>
     requires row { (512 ≤ row) × (row ≤ 2 ^ 53) }
     requires y { y < 2 ^ 100 }
-    ensures { OnOk result (string_bytes out.new ≡ string_bytes out.old ++ marks_text (named blocks.now) row base y line.now) }
+    ensures { OnOk result (string_bytes out.new ≡ string_bytes out.old ++ marks_text (named_at blocks.now) row base y line.now) }
 {
     for piece in line {
         push_piece(alloc, out, blocks, row, base, y, *piece)?;
@@ -162,8 +162,8 @@ pub fn push_marks(
 fn push_counts(out: &mut String, number: u128, used: u128, row: u128) -> Result<(), AllocError>
     ensures { OnOk result (string_bytes out.new ≡ string_bytes out.old ++ counts_text number used row) }
 {
-    push_commas(out, number)?;
-    out.push_str(" extents, ")?;
+    push_counted(out, "extent", number)?;
+    out.push_str(", ")?;
     push_commas(out, used)?;
     out.push_str(" of ")?;
     push_commas(out, row)?;

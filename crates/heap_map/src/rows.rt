@@ -2,7 +2,7 @@
 ghost use Rattle.std.specs.Prelude.{◌≡◌, ◌<◌, ◌≤◌, ◌^◌, ◌++◌, codes, OnOk, string_bytes};
 ghost use Rattle.heap_map.specs.Words.{hexadecimal};
 ghost use Rattle.heap_map.specs.Shapes.{text_at};
-ghost use Rattle.heap_map.specs.Blocks.{named};
+ghost use Rattle.heap_map.specs.Blocks.{named_at};
 ghost use Rattle.heap_map.specs.Pieces.{lines_of};
 ghost use Rattle.heap_map.specs.Rows.{colour, rows_words, whole_text, row_base, used_words, beside_text, row_text, first_piece, line_text, lines_text, rows_text};
 
@@ -69,7 +69,7 @@ fn push_whole(
     requires row { 512 ≤ row }
     requires base { base < 2 ^ 64 }
     requires y { y < 2 ^ 100 }
-    ensures { OnOk result (string_bytes out.new ≡ string_bytes out.old ++ whole_text (named blocks.now) row base y piece) }
+    ensures { OnOk result (string_bytes out.new ≡ string_bytes out.old ++ whole_text (named_at blocks.now) row base y piece) }
 {
     push_place(alloc, out, y + 13, base)?;
     let area = Area {
@@ -160,7 +160,7 @@ fn push_row(
     requires row { (512 ≤ row) × (row ≤ 2 ^ 53) }
     requires base { base < 2 ^ 64 }
     requires y { y < 2 ^ 90 }
-    ensures { OnOk result (string_bytes out.new ≡ string_bytes out.old ++ row_text (named blocks.now) row base y line.now) }
+    ensures { OnOk result (string_bytes out.new ≡ string_bytes out.old ++ row_text (named_at blocks.now) row base y line.now) }
 {
     push_cells(out, row / 512, base, y, line)?;
     push_beside(alloc, out, row, base, y, line)?;
@@ -196,7 +196,7 @@ fn push_line(
 ) -> Result<(), AllocError>
     requires row { (512 ≤ row) × (row ≤ 2 ^ 53) }
     requires y { y < 2 ^ 90 }
-    ensures { OnOk result (string_bytes out.new ≡ string_bytes out.old ++ line_text (named blocks.now) row y line.now) }
+    ensures { OnOk result (string_bytes out.new ≡ string_bytes out.old ++ line_text (named_at blocks.now) row y line.now) }
 {
     let base = row_base(row, line);
     let piece = first_piece(line);
@@ -216,7 +216,7 @@ fn push_lines(
     pieces: &[Piece],
 ) -> Result<(), AllocError>
     requires row { (512 ≤ row) × (row ≤ 2 ^ 53) }
-    ensures { OnOk result (string_bytes out.new ≡ string_bytes out.old ++ lines_text (named blocks.now) row 0 (lines_of row pieces.now)) }
+    ensures { OnOk result (string_bytes out.new ≡ string_bytes out.old ++ lines_text (named_at blocks.now) row 0 (lines_of row pieces.now)) }
 {
     if pieces.is_empty() {
         return Ok(());
@@ -243,7 +243,7 @@ pub fn push_rows(
     extents: &[Extent],
 ) -> Result<(), AllocError>
     requires row { (512 ≤ row) × (row ≤ 2 ^ 53) }
-    ensures { OnOk result (string_bytes out.new ≡ string_bytes out.old ++ rows_text (named blocks.now) row extents.now) }
+    ensures { OnOk result (string_bytes out.new ≡ string_bytes out.old ++ rows_text (named_at blocks.now) row extents.now) }
 {
     let pieces = pieces_of(alloc, row, extents)?;
     push_lines(alloc, out, blocks, row, &pieces)

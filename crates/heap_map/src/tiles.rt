@@ -5,7 +5,7 @@ ghost use Rattle.heap_map.specs.Totals.{total_of};
 ghost use Rattle.heap_map.specs.Tiles.{tile_text, live_tiles, heap_words, heap_tile, used_tile, free_tiles, tiles_text};
 
 use crate::shapes::{Area, push_rect, push_text};
-use crate::words::{push_about, push_commas, push_percent};
+use crate::words::{push_about, push_commas, push_counted, push_percent};
 use dlmalloc_chunks::Extent;
 use heap_figures::{Part, count_part, greatest_free};
 use std::alloc::{AllocError, Global};
@@ -56,8 +56,7 @@ fn push_heap_words(out: &mut String, total: u128) -> Result<(), AllocError>
     ensures { OnOk result (string_bytes out.new ≡ string_bytes out.old ++ heap_words total) }
 {
     out.push_str("heap: ")?;
-    push_commas(out, total / 4096)?;
-    out.push_str(" pages")
+    push_counted(out, "page", total / 4096)
 }
 
 #[tactic(auto, unfolding(crate::specs::Tiles::heap_tile))]

@@ -1,6 +1,6 @@
 // Numbers as words.
 ghost use Rattle.std.specs.Prelude.{◌≡◌, ◌<◌, ◌^◌, ◌++◌, OnOk, string_bytes};
-ghost use Rattle.heap_map.specs.Words.{hexadecimal, group_text, commas, tenths, permille, percent, about, exactly};
+ghost use Rattle.heap_map.specs.Words.{hexadecimal, group_text, commas, counted, tenths, permille, percent, about, exactly};
 
 use std::alloc::AllocError;
 
@@ -44,6 +44,20 @@ pub fn push_commas(out: &mut String, number: u128) -> Result<(), AllocError>
     push_group(out, number / 1_000_000)?;
     push_group(out, number / 1_000)?;
     push_group(out, number)
+}
+
+/// Puts a number of things at the end, as `1 page` or `2,000 pages`.
+#[tactic(auto, unfolding(crate::specs::Words::counted))]
+pub fn push_counted(out: &mut String, thing: &str, number: u128) -> Result<(), AllocError>
+    ensures { OnOk result (string_bytes out.new ≡ string_bytes out.old ++ counted thing.now number) }
+{
+    push_commas(out, number)?;
+    out.push_str(" ")?;
+    out.push_str(thing)?;
+    if number == 1 {
+        return Ok(());
+    }
+    out.push_str("s")
 }
 
 /// Puts a number of tenths at the end.

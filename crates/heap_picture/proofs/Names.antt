@@ -1,11 +1,12 @@
 -- The blocks that a run leaves have their names.
 use Rattle.std.proofs.Common.{◌≡◌, ◌<◌, ℕ, suc, ◌+◌, ◌-◌, Bool, true, false, ◌&&◌, nat_eq, nat_le, nat_lt, List, [], ◌∷◌, length, length-append, map, inl, inr, Option, None, Some, refl, sym, ◌∙◌, ap, arith}
-use Rattle.std.specs.Prelude.{◌↔◌, IsTrue, if◌then◌else◌, cond}
+use Rattle.std.specs.Prelude.{◌↔◌, IsTrue, find, if◌then◌else◌, cond}
+use Rattle.std.specs.Option.{option_map}
 use Rattle.std.specs.BTreeMap.{BTreeMap, get, is_at}
 use Rattle.std.specs.Ordering.{nat_cmp}
 use Rattle.std.proofs.lemmas.Bool.Decides.{nat_tests}
 use Rattle.heap_history.specs.declared.history.Stay.{Stay}
-use Rattle.heap_map.specs.Blocks.{named}
+use Rattle.heap_map.specs.Blocks.{named_at}
 use Rattle.heap_map.specs.declared.blocks.NamedBlock.{NamedBlock}
 use Rattle.heap_model.specs.declared.answer.Answer.{Answer}
 use Rattle.heap_model.specs.declared.call.Call.{Call}
@@ -15,7 +16,7 @@ use Rattle.heap_model.specs.State.{State, Block, block_at, start}
 use Rattle.heap_recorder.specs.Run.{Notes, nothing, noted, notes_from, moment, bytes_after, history_of}
 use Rattle.heap_recorder.specs.Shown.{shown, shows, lies, has_block, state_after, EachBlockIsDrawnOnce}
 use Rattle.heap_recorder.specs.Sizes.{sizes_after}
-use Rattle.heap_picture.specs.Blocks.{remains, name_of, with_block, block_at_end, EachBlockHasItsName}
+use Rattle.heap_picture.specs.Blocks.{remains, remains_at, name_of, block_at_end, EachBlockHasItsName}
 
 -- ---- a map of the blocks
 
@@ -24,17 +25,25 @@ same_test a b = grind (arith, nat_tests)
 
 -- the block of a stay that is there is put at its address
 pub block_put : (calls : ℕ) (stay : Stay) (old new : BTreeMap ℕ NamedBlock) (key : ℕ) (value : NamedBlock) → remains calls stay ≡ true → key ≡ stay.address → value ≡ name_of stay →
-    ((q : ℕ) → get nat_cmp new q ≡ cond (is_at (nat_cmp key) q) (Some value) (get nat_cmp old q)) → (address : ℕ) → named new address ≡ with_block calls stay (named old) address
+    ((q : ℕ) → get nat_cmp new q ≡ cond (is_at (nat_cmp key) q) (Some value) (get nat_cmp old q)) → (address : ℕ) → named_at new address ≡ (if remains_at calls address stay then Some (name_of stay) else named_at old address)
 block_put calls stay old new key value there key_is value_is put address =
     put address
-    ∙ ap (λ (k : ℕ). if is_at (nat_cmp k) address then Some value else named old address) key_is
-    ∙ ap (λ (b : NamedBlock). if is_at (nat_cmp stay.address) address then Some b else named old address) value_is
-    ∙ ap (λ (t : Bool). if t then Some (name_of stay) else named old address) (same_test stay.address address)
-    ∙ sym (ap (λ (t : Bool). if t && nat_eq stay.address address then Some (name_of stay) else named old address) there)
+    ∙ ap (λ (k : ℕ). if is_at (nat_cmp k) address then Some value else named_at old address) key_is
+    ∙ ap (λ (b : NamedBlock). if is_at (nat_cmp stay.address) address then Some b else named_at old address) value_is
+    ∙ ap (λ (t : Bool). if t then Some (name_of stay) else named_at old address) (same_test stay.address address)
+    ∙ sym (ap (λ (t : Bool). if t && nat_eq stay.address address then Some (name_of stay) else named_at old address) there)
 
 -- and no other
-pub block_passed : (calls : ℕ) (stay : Stay) (old : BTreeMap ℕ NamedBlock) → remains calls stay ≡ false → (address : ℕ) → named old address ≡ with_block calls stay (named old) address
-block_passed calls stay old gone address = sym (ap (λ (t : Bool). if t && nat_eq stay.address address then Some (name_of stay) else named old address) gone)
+pub block_passed : (calls : ℕ) (stay : Stay) (old : BTreeMap ℕ NamedBlock) → remains calls stay ≡ false → (address : ℕ) → named_at old address ≡ (if remains_at calls address stay then Some (name_of stay) else named_at old address)
+block_passed calls stay old gone address = sym (ap (λ (t : Bool). if t && nat_eq stay.address address then Some (name_of stay) else named_at old address) gone)
+
+-- one stay more, at the front
+pub block_step : (calls : ℕ) (stay : Stay) (stays : List Stay) (address : ℕ) → block_at_end calls (stay ∷ stays) address ≡ (if remains_at calls address stay then Some (name_of stay) else block_at_end calls stays address)
+block_step calls stay stays address = go (remains_at calls address stay)
+  where
+    go : (b : Bool) → option_map name_of (cond b (Some stay) (find (remains_at calls address) stays)) ≡ (if b then Some (name_of stay) else block_at_end calls stays address)
+    go true = refl
+    go false = refl
 
 -- ---- what shows after the last call
 
@@ -59,7 +68,7 @@ abbrev bit : Bool → ℕ
 bit b = if b then 1 else 0
 
 -- a stay that is there shows
-there_shows : (calls : ℕ) (stay : Stay) (address : ℕ) → 0 < calls → (remains calls stay && nat_eq stay.address address) ≡ true → shows (calls - 1) stay.block address stay.size stay ≡ true
+there_shows : (calls : ℕ) (stay : Stay) (address : ℕ) → 0 < calls → remains_at calls address stay ≡ true → shows (calls - 1) stay.block address stay.size stay ≡ true
 there_shows calls stay address some there =
     let born = left_true (nat_lt stay.born calls) (nat_le calls stay.end) (left_true (remains calls stay) (nat_eq stay.address address) there) in
     let end = right_true (nat_lt stay.born calls) (nat_le calls stay.end) (left_true (remains calls stay) (nat_eq stay.address address) there) in
@@ -67,7 +76,7 @@ there_shows calls stay address some there =
     grind (arith, nat_tests, some, born, end, at)
 
 -- and one that shows is there
-shows_there : (calls number address size : ℕ) (stay : Stay) → 0 < calls → shows (calls - 1) number address size stay ≡ true → (remains calls stay && nat_eq stay.address address) ≡ true
+shows_there : (calls number address size : ℕ) (stay : Stay) → 0 < calls → shows (calls - 1) number address size stay ≡ true → remains_at calls address stay ≡ true
 shows_there calls number address size stay some is =
     let born = left_true (nat_le stay.born (calls - 1)) (nat_lt (calls - 1) stay.end && (nat_eq stay.block number && (nat_eq stay.address address && nat_eq stay.size size))) is in
     let rest = right_true (nat_le stay.born (calls - 1)) (nat_lt (calls - 1) stay.end && (nat_eq stay.block number && (nat_eq stay.address address && nat_eq stay.size size))) is in
@@ -79,9 +88,9 @@ shows_there calls number address size stay some is =
 -- the block at an address is that of a stay which shows
 found_shows : (calls : ℕ) (stays : List Stay) (address : ℕ) (block : NamedBlock) → 0 < calls → block_at_end calls stays address ≡ Some block → 0 < shown (shows (calls - 1) block.number address block.size) stays
 found_shows calls [] address block some is = absurd (none_some block is)
-found_shows calls (stay ∷ stays) address block some is = go (remains calls stay && nat_eq stay.address address) refl (found_shows calls stays address block some) is
+found_shows calls (stay ∷ stays) address block some is = go (remains_at calls address stay) refl (found_shows calls stays address block some) (sym (block_step calls stay stays address) ∙ is)
   where
-    go : (b : Bool) → (remains calls stay && nat_eq stay.address address) ≡ b → (block_at_end calls stays address ≡ Some block → 0 < shown (shows (calls - 1) block.number address block.size) stays) →
+    go : (b : Bool) → remains_at calls address stay ≡ b → (block_at_end calls stays address ≡ Some block → 0 < shown (shows (calls - 1) block.number address block.size) stays) →
         (if b then Some (name_of stay) else block_at_end calls stays address) ≡ Some block → 0 < bit (shows (calls - 1) block.number address block.size stay) + shown (shows (calls - 1) block.number address block.size) stays
     go true there on is =
         (let same = some_is (name_of stay) block is in
@@ -93,13 +102,15 @@ found_shows calls (stay ∷ stays) address block some is = go (remains calls sta
 -- and where a stay shows there is a block
 shows_found : (calls : ℕ) (stays : List Stay) (number address size : ℕ) → 0 < calls → 0 < shown (shows (calls - 1) number address size) stays → (block : NamedBlock) × (block_at_end calls stays address ≡ Some block)
 shows_found calls [] number address size some less = absurd (omega (arith, less))
-shows_found calls (stay ∷ stays) number address size some less = go (remains calls stay && nat_eq stay.address address) refl (shows_found calls stays number address size some)
+shows_found calls (stay ∷ stays) number address size some less =
+    let found = go (remains_at calls address stay) refl (shows_found calls stays number address size some) in
+    (found.0, block_step calls stay stays address ∙ found.1)
   where
-    rest : (v : Bool) → shows (calls - 1) number address size stay ≡ v → (remains calls stay && nat_eq stay.address address) ≡ false → 0 < bit v + shown (shows (calls - 1) number address size) stays → 0 < shown (shows (calls - 1) number address size) stays
+    rest : (v : Bool) → shows (calls - 1) number address size stay ≡ v → remains_at calls address stay ≡ false → 0 < bit v + shown (shows (calls - 1) number address size) stays → 0 < shown (shows (calls - 1) number address size) stays
     rest true is other less = absurd (let wrong : true ≡ false = sym (shows_there calls number address size stay some is) ∙ other in cc)
     rest false is other less = omega (arith, less)
 
-    go : (b : Bool) → (remains calls stay && nat_eq stay.address address) ≡ b → (0 < shown (shows (calls - 1) number address size) stays → (block : NamedBlock) × (block_at_end calls stays address ≡ Some block)) →
+    go : (b : Bool) → remains_at calls address stay ≡ b → (0 < shown (shows (calls - 1) number address size) stays → (block : NamedBlock) × (block_at_end calls stays address ≡ Some block)) →
         (block : NamedBlock) × ((if b then Some (name_of stay) else block_at_end calls stays address) ≡ Some block)
     go true there on = (name_of stay, refl)
     go false other on = on (rest (shows (calls - 1) number address size stay) refl other less)

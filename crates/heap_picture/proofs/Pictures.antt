@@ -20,7 +20,7 @@ use Rattle.heap_picture.specs.Blocks.{blocks_at_end}
 use Rattle.heap_picture.specs.Large.{larges_in}
 use Rattle.heap_picture.specs.Lines.{region_lines, most_pages}
 use Rattle.heap_picture.specs.Regions.{line_words, bar_text, larges_text, line_text, lines_text, lines_shown, more_text, list_text, heading_text, regions_text}
-use Rattle.heap_picture.specs.Picture.{map_of, head_text}
+use Rattle.heap_picture.specs.Picture.{map_document, head_text}
 use Rattle.heap_picture.specs.Timing.{timing_of}
 use Rattle.heap_picture.proofs.Joins.{rest_at}
 
@@ -103,8 +103,8 @@ regions_whole machine s y system list lines frames tables old one new at is list
 -- the head, the map, the regions, and the end of the document
 pub picture_whole : (style : List ℕ) (s : State) (live peak : ℕ) (extents : List Extent) (history : History) (lines : ℕ) (old one two three new : List ℕ) → lines ≡ lines_number extents →
     one ≡ old ++ head_text style (194 + 23 * lines + 210) → two ≡ one ++ map_text (blocks_at_end history) live peak extents → three ≡ two ++ regions_text (194 + 23 * lines) s → new ≡ three ++ codes "</svg>\n" →
-    new ≡ old ++ map_of style s live peak extents history
-unfolding map_of
+    new ≡ old ++ map_document style s live peak extents history
+unfolding map_document
 picture_whole style s live peak extents history lines old one two three new are first second third last =
     let head = head_text style (194 + 23 * lines + 210) in
     let map = map_text (blocks_at_end history) live peak extents in

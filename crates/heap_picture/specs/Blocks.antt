@@ -1,5 +1,6 @@
 -- The live blocks that a run leaves, by their addresses.
-use Rattle.std.specs.Prelude.{◌≡◌, ◌↔◌, ℕ, Bool, ◌&&◌, nat_eq, nat_le, nat_lt, List, [], ◌∷◌, length, map, Option, Some, None, IsTrue, if◌then◌else◌}
+use Rattle.std.specs.Prelude.{◌≡◌, ◌↔◌, ℕ, Bool, ◌&&◌, nat_eq, nat_le, nat_lt, List, length, map, find, Option, Some, IsTrue}
+use Rattle.std.specs.Option.{option_map}
 use Rattle.heap_history.specs.declared.history.History.{History}
 use Rattle.heap_history.specs.declared.history.Stay.{Stay}
 use Rattle.heap_model.specs.declared.answer.Answer.{Answer}
@@ -11,7 +12,7 @@ use Rattle.heap_map.specs.declared.blocks.NamedBlock.{NamedBlock}
 use Rattle.heap_recorder.specs.Run.{history_of}
 use Rattle.heap_recorder.specs.Shown.{has_block}
 
--- whether a stay is there after the last of so many calls: it began with one of them, and none ended it
+-- whether a stay is there after the last of `calls` calls: it began with one of them, and none ended it
 abbrev pub remains : ℕ → Stay → Bool
 remains calls stay = nat_lt stay.born calls && nat_le calls stay.end
 
@@ -19,14 +20,13 @@ remains calls stay = nat_lt stay.born calls && nat_le calls stay.end
 abbrev pub name_of : Stay → NamedBlock
 name_of stay = record { number = stay.block; size = stay.size }
 
--- The blocks at addresses, with that of one stay more, if it is there after so many calls.
-abbrev pub with_block : ℕ → Stay → (ℕ → Option NamedBlock) → ℕ → Option NamedBlock
-with_block calls stay blocks address = if remains calls stay && nat_eq stay.address address then Some (name_of stay) else blocks address
+-- whether a stay is at an address then
+abbrev pub remains_at : ℕ → ℕ → Stay → Bool
+remains_at calls address stay = remains calls stay && nat_eq stay.address address
 
--- the block at an address after so many calls
+-- the block at an address after these calls: that of the first stay which is there
 abbrev pub block_at_end : ℕ → List Stay → ℕ → Option NamedBlock
-block_at_end calls [] address = None
-block_at_end calls (stay ∷ stays) address = with_block calls stay (block_at_end calls stays) address
+block_at_end calls stays address = option_map name_of (find (remains_at calls address) stays)
 
 -- the blocks that a run leaves
 abbrev pub blocks_at_end : History → ℕ → Option NamedBlock

@@ -21,11 +21,11 @@ unfoldable pub head_text : List ℕ → ℕ → List ℕ
 head_text style height = svg_text height ++ style
 
 -- The picture of a state, of the bytes that are live in it and were at most, of its extents, and of the blocks that a run leaves.
-unfoldable pub map_of : List ℕ → State → ℕ → ℕ → List Extent → History → List ℕ
-map_of style s live peak extents history =
+unfoldable pub map_document : List ℕ → State → ℕ → ℕ → List Extent → History → List ℕ
+map_document style s live peak extents history =
     head_text style (below_lines (lines_number extents) + 210)
     ++ (map_text (blocks_at_end history) live peak extents ++ (regions_text (below_lines (lines_number extents)) s ++ codes "</svg>\n"))
 
 -- The picture of the last state of the run with these calls and answers.
 abbrev pub picture_of : List ℕ → Machine → State → ℕ → ℕ → List Extent → List Call → List Answer → List ℕ
-picture_of style machine s live peak extents calls answers = map_of style s live peak extents (history_of calls answers)
+picture_of style machine s live peak extents calls answers = map_document style s live peak extents (history_of calls answers)

@@ -5,20 +5,16 @@ use Rattle.heap_model.specs.State.{State, total_pages}
 use Rattle.heap_model.specs.Place.{all_regions}
 use Rattle.heap_model.specs.Tables.{free_frames}
 use Rattle.heap_program.specs.Text.{pages_text, owner_text}
-use Rattle.heap_map.specs.Words.{hexadecimal, commas}
+use Rattle.heap_map.specs.Words.{hexadecimal, commas, counted}
 use Rattle.heap_map.specs.Shapes.{text_at, rect, titled}
 use Rattle.heap_picture.specs.Large.{larges_in}
 use Rattle.heap_picture.specs.Lines.{region_lines, most_pages}
-
--- so many pages
-unfoldable pub pages_words : ℕ → List ℕ
-pages_words pages = commas pages ++ (if nat_eq pages 1 then codes " page" else codes " pages")
 
 -- the address of a line, its pages, and whose they are
 unfoldable pub line_words : ℕ → Region → List ℕ
 line_words y line =
     text_at (codes "m") 912 y (hexadecimal line.start)
-    ++ (text_at (codes "m e") 1120 y (pages_words line.pages) ++ text_at (codes "m e faint") 1280 y (owner_text line))
+    ++ (text_at (codes "m e") 1120 y (counted (codes "page") line.pages) ++ text_at (codes "m e faint") 1280 y (owner_text line))
 
 -- the pixels of so many pages of the most that a line has: 3 at least, and 368 at most
 abbrev pub bar_width : ℕ → ℕ → ℕ
@@ -62,7 +58,7 @@ lines_shown lines = if nat_le lines 7 then lines else 6
 
 -- how many lines there are more, and their pages
 unfoldable pub more_words : ℕ → ℕ → List ℕ
-more_words lines pages = codes "and " ++ (commas lines ++ (codes " more, of " ++ (commas pages ++ codes " pages")))
+more_words lines pages = codes "and " ++ (commas lines ++ (codes " more, of " ++ counted (codes "page") pages))
 
 unfoldable pub more_text : ℕ → List Region → List ℕ
 more_text y lines = if nat_eq (length lines) 0 then [] else text_at (codes "faint") 912 y (more_words (length lines) (total_pages lines))

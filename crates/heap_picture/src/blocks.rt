@@ -1,9 +1,9 @@
 // The live blocks that a run leaves, by their addresses.
-ghost use Rattle.std.specs.Prelude.{◌≡◌, ◌++◌, ℕ, IfOk, OnOk, string_bytes};
+ghost use Rattle.std.specs.Prelude.{◌≡◌, ◌++◌, ℕ, Some, IfOk, OnOk, if◌then◌else◌, string_bytes};
 ghost use Rattle.dlmalloc_chunks.specs.Tiling.{AreInSegments};
-ghost use Rattle.heap_map.specs.Blocks.{named};
+ghost use Rattle.heap_map.specs.Blocks.{named_at};
 ghost use Rattle.heap_map.specs.Map.{map_text};
-ghost use Rattle.heap_picture.specs.Blocks.{remains, name_of, with_block, block_at_end, blocks_at_end};
+ghost use Rattle.heap_picture.specs.Blocks.{remains, remains_at, name_of, block_at_end, blocks_at_end};
 
 use heap_history::{History, Stay};
 use heap_map::{NamedBlock, push_map};
@@ -11,7 +11,7 @@ use kernel_heap::Extent;
 use std::alloc::{AllocError, Global};
 use std::collections::BTreeMap;
 
-// Whether a stay is there after the last of so many calls.
+// Whether a stay is there after the last of `calls` calls.
 fn remains(calls: u64, stay: Stay) -> bool
     ensures { result ≡ remains calls stay }
 {
@@ -28,13 +28,13 @@ fn name_of(stay: Stay) -> NamedBlock
     }
 }
 
-// Notes the block of a stay at its address, if it is there after the last of so many calls.
+// Notes the block of a stay at its address, if it is there after the last of `calls` calls.
 fn note_block(
     blocks: &mut BTreeMap<u128, NamedBlock>,
     calls: u64,
     stay: Stay,
 ) -> Result<(), AllocError>
-    ensures { OnOk result ((address : ℕ) → named blocks.new address ≡ with_block calls stay (named blocks.old) address) }
+    ensures { OnOk result ((address : ℕ) → named_at blocks.new address ≡ (if remains_at calls address stay then Some (name_of stay) else named_at blocks.old address)) }
 {
     if !remains(calls, stay) {
         return Ok(());
@@ -43,13 +43,14 @@ fn note_block(
     Ok(())
 }
 
-// The blocks that remain after so many calls, by their addresses. Of two at one address it is the first.
+// The blocks that remain after the last of `calls` calls, by their addresses. Of two at one address it is the first.
+#[tactic(auto, using(crate::proofs::Names::block_step))]
 fn end_blocks(
     alloc: Global,
     calls: u64,
     stays: &[Stay],
 ) -> Result<BTreeMap<u128, NamedBlock>, AllocError>
-    ensures { IfOk result (λ blocks. (address : ℕ) → named blocks address ≡ block_at_end calls stays.now address) }
+    ensures { IfOk result (λ blocks. (address : ℕ) → named_at blocks address ≡ block_at_end calls stays.now address) }
 {
     let mut blocks = BTreeMap::new(alloc);
     for place in 0..stays.len() {

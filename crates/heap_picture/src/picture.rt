@@ -7,7 +7,7 @@ ghost use Rattle.heap_program.specs.Progress.{IsAt};
 ghost use Rattle.heap_recorder.specs.Run.{IsRecordOf};
 ghost use Rattle.heap_report.specs.Telling.{Tells};
 ghost use Rattle.heap_picture.specs.Drawn.{HasDrawn, run_words, drawing_for};
-ghost use Rattle.heap_picture.specs.Picture.{map_of, picture_of, svg_text, head_text};
+ghost use Rattle.heap_picture.specs.Picture.{map_document, picture_of, svg_text, head_text};
 ghost use Rattle.heap_picture.specs.Style.{style};
 
 use crate::blocks::push_named_map;
@@ -54,7 +54,7 @@ fn push_drawn(
     extents: &[Extent],
 ) -> Result<(), AllocError>
     requires { AreInSegments extents.now }
-    ensures { OnOk result ((s : State) → IsAt machine.now s → string_bytes out.new ≡ string_bytes out.old ++ map_of style s live peak extents.now history.now) }
+    ensures { OnOk result ((s : State) → IsAt machine.now s → string_bytes out.new ≡ string_bytes out.old ++ map_document style s live peak extents.now history.now) }
 {
     let lines = lines_number(alloc, extents)?;
     let below = 194 + 23 * u128::from(lines);

@@ -2,25 +2,14 @@
 ghost use Rattle.std.specs.Prelude.{◌≡◌, ◌≤◌, ◌<◌, ◌^◌, ◌++◌, length, OnOk, string_bytes};
 ghost use Rattle.heap_model.specs.State.{State, total_pages};
 ghost use Rattle.heap_program.specs.Progress.{IsAt};
-ghost use Rattle.heap_picture.specs.Regions.{pages_words, line_words, bar_width, line_class, line_title, bar_text, larges_words, larges_text, line_text, lines_text, lines_shown, more_words, more_text, list_text, free_front, free_words, frames_words, heading_text, regions_text};
+ghost use Rattle.heap_picture.specs.Regions.{line_words, bar_width, line_class, line_title, bar_text, larges_words, larges_text, line_text, lines_text, lines_shown, more_words, more_text, list_text, free_front, free_words, frames_words, heading_text, regions_text};
 
 use crate::large::larges_in;
 use crate::lines::{most_pages, region_lines, total_pages};
-use heap_map::{Area, push_address, push_commas, push_rect, push_text, push_titled};
+use heap_map::{Area, push_address, push_commas, push_counted, push_rect, push_text, push_titled};
 use heap_program::{push_owner, push_pages};
 use kernel_heap::{Machine, Region};
 use std::alloc::{AllocError, Global};
-
-#[tactic(auto, unfolding(crate::specs::Regions::pages_words))]
-fn push_pages_words(out: &mut String, pages: u64) -> Result<(), AllocError>
-    ensures { OnOk result (string_bytes out.new ≡ string_bytes out.old ++ pages_words pages) }
-{
-    push_commas(out, u128::from(pages))?;
-    if pages == 1 {
-        return out.push_str(" page");
-    }
-    out.push_str(" pages")
-}
 
 // Puts the address of a line at the end, its pages, and whose they are.
 #[tactic(auto, unfolding(crate::specs::Regions::line_words))]
@@ -31,7 +20,7 @@ fn push_line_words(alloc: Global, out: &mut String, y: u128, line: Region) -> Re
     push_address(&mut address, line.start)?;
     push_text(out, "m", 912, y, address.as_str())?;
     let mut pages = String::new(alloc);
-    push_pages_words(&mut pages, line.pages)?;
+    push_counted(&mut pages, "page", u128::from(line.pages))?;
     push_text(out, "m e", 1120, y, pages.as_str())?;
     let mut owner = String::new(alloc);
     push_owner(&mut owner, line)?;
@@ -182,8 +171,7 @@ fn push_more_words(out: &mut String, lines: u128, pages: u128) -> Result<(), All
     out.push_str("and ")?;
     push_commas(out, lines)?;
     out.push_str(" more, of ")?;
-    push_commas(out, pages)?;
-    out.push_str(" pages")
+    push_counted(out, "page", pages)
 }
 
 // Puts how many lines there are more at the end, if there are any.

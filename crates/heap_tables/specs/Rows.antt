@@ -1,7 +1,7 @@
 -- A line of page tables as a row of a drawing.
 use Rattle.std.specs.Prelude.{ℕ, zero, suc, ◌+◌, ◌-◌, ◌*◌, ◌/◌, ◌%◌, ◌^◌, max, Bool, ◌&&◌, nat_eq, nat_lt, nat_le, List, [], ◌∷◌, ◌++◌, codes, if◌then◌else◌}
 use Rattle.heap_lines.specs.Written.{rights_word}
-use Rattle.heap_map.specs.Words.{hexadecimal, commas}
+use Rattle.heap_map.specs.Words.{hexadecimal, commas, counted}
 use Rattle.heap_map.specs.Shapes.{text_at, rect, titled}
 use Rattle.heap_tables.specs.declared.lines.Line.{Line}
 use Rattle.heap_tables.specs.declared.owners.Owner.{Owner}
@@ -43,8 +43,7 @@ line_class line = if is_table line then codes "o" else owner_class line.owner
 
 -- how many large pages, or pages
 unfoldable pub pages_words : Line → List ℕ
-pages_words line =
-    commas (entries_of line) ++ (if is_large line then (if nat_eq (entries_of line) 1 then codes " large page" else codes " large pages") else (if nat_eq (entries_of line) 1 then codes " page" else codes " pages"))
+pages_words line = counted (if is_large line then codes "large page" else codes "page") (entries_of line)
 
 -- what a line is: a table, by the first address below it, or an address and the pages from there on
 unfoldable pub line_words : Line → List ℕ

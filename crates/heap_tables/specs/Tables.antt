@@ -1,7 +1,7 @@
 -- The drawing of page tables: a row for each line, and below them the frames of the memory by their use.
 use Rattle.std.specs.Prelude.{ℕ, zero, suc, ◌+◌, ◌-◌, ◌*◌, ◌/◌, ◌%◌, ◌^◌, min, max, nat_eq, nat_lt, nat_le, List, [], ◌∷◌, ◌++◌, length, take, drop, codes, if◌then◌else◌}
 use Rattle.std.specs.List.{list_any, sum_by}
-use Rattle.heap_map.specs.Words.{commas}
+use Rattle.heap_map.specs.Words.{commas, counted}
 use Rattle.heap_map.specs.Shapes.{text_at, rect, titled}
 use Rattle.heap_tables.specs.declared.lines.Line.{Line}
 use Rattle.heap_tables.specs.declared.uses.Use.{Use}
@@ -22,13 +22,9 @@ rows_shown lines = if nat_le lines 200 then lines else 199
 abbrev pub rows_number : ℕ → ℕ
 rows_number lines = min lines 200
 
--- this many pages
-unfoldable pub number_words : ℕ → List ℕ
-number_words pages = commas pages ++ (if nat_eq pages 1 then codes " page" else codes " pages")
-
 -- how many lines there are more, at least two, and their pages
 unfoldable pub more_words : ℕ → ℕ → List ℕ
-more_words lines pages = codes "and " ++ (commas lines ++ (codes " lines more, of " ++ number_words pages))
+more_words lines pages = codes "and " ++ (commas lines ++ (codes " lines more, of " ++ counted (codes "page") pages))
 
 unfoldable pub more_text : ℕ → List Line → List ℕ
 more_text y lines = if nat_eq (length lines) 0 then [] else text_at (codes "faint") 24 (y + 15) (more_words (length lines) (sum_by pages_of lines))

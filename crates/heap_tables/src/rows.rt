@@ -5,7 +5,7 @@ ghost use Rattle.heap_tables.specs.Rows.{pages_of, is_table, is_large, entries_o
 use crate::lines::Line;
 use crate::owners::{Owner, address_of};
 use heap_lines::push_rights;
-use heap_map::{Area, push_address, push_commas, push_rect, push_text, push_titled};
+use heap_map::{Area, push_address, push_commas, push_counted, push_rect, push_text, push_titled};
 use std::alloc::{AllocError, Global};
 
 /// How many pages a line maps.
@@ -84,16 +84,8 @@ pub fn line_class(line: Line) -> &'static str
 fn push_pages_words(out: &mut String, line: Line) -> Result<(), AllocError>
     ensures { OnOk result (string_bytes out.new ≡ string_bytes out.old ++ pages_words line) }
 {
-    let entries = entries_of(line);
-    push_commas(out, u128::from(entries))?;
-    if is_large(line) {
-        return out.push_str(if entries == 1 {
-            " large page"
-        } else {
-            " large pages"
-        });
-    }
-    out.push_str(if entries == 1 { " page" } else { " pages" })
+    let thing = if is_large(line) { "large page" } else { "page" };
+    push_counted(out, thing, u128::from(entries_of(line)))
 }
 
 #[tactic(auto, unfolding(crate::specs::Rows::line_words))]

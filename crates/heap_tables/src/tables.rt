@@ -3,12 +3,12 @@ ghost use Rattle.std.specs.Prelude.{◌≡◌, ◌<◌, ◌≤◌, ◌+◌, ◌^
 ghost use Rattle.std.specs.List.{sum_by, list_any};
 ghost use Rattle.heap_tables.specs.Rows.{pages_of};
 ghost use Rattle.heap_tables.specs.Uses.{number_of, same_use, uses_of};
-ghost use Rattle.heap_tables.specs.Tables.{rows_text, rows_shown, rows_number, number_words, more_words, more_text, list_text, lines_heading, entries_heading, title_words, columns_text, heading_text, use_class, use_words, one_words, count_words, count_text, legend_text, main_use, square_grown, square_frames, square_title, square_text, squares_text, squares_number, scale_words, frames_text, below_rows, tables_height, tables_text};
+ghost use Rattle.heap_tables.specs.Tables.{rows_text, rows_shown, rows_number, more_words, more_text, list_text, lines_heading, entries_heading, title_words, columns_text, heading_text, use_class, use_words, one_words, count_words, count_text, legend_text, main_use, square_grown, square_frames, square_title, square_text, squares_text, squares_number, scale_words, frames_text, below_rows, tables_height, tables_text};
 
 use crate::lines::Line;
 use crate::rows::{pages_of, push_row};
 use crate::uses::{Use, number_of, same_use, uses_of};
-use heap_map::{Area, push_commas, push_rect, push_text, push_titled};
+use heap_map::{Area, push_commas, push_counted, push_rect, push_text, push_titled};
 use std::alloc::{AllocError, Global};
 
 // Puts rows at the end, one below the other.
@@ -44,17 +44,6 @@ fn all_pages(lines: &[Line]) -> u128
     pages
 }
 
-#[tactic(auto, unfolding(crate::specs::Tables::number_words))]
-fn push_number_words(out: &mut String, pages: u128) -> Result<(), AllocError>
-    ensures { OnOk result (string_bytes out.new ≡ string_bytes out.old ++ number_words pages) }
-{
-    push_commas(out, pages)?;
-    if pages == 1 {
-        return out.push_str(" page");
-    }
-    out.push_str(" pages")
-}
-
 #[tactic(auto, unfolding(crate::specs::Tables::more_words))]
 fn push_more_words(out: &mut String, lines: u128, pages: u128) -> Result<(), AllocError>
     ensures { OnOk result (string_bytes out.new ≡ string_bytes out.old ++ more_words lines pages) }
@@ -62,7 +51,7 @@ fn push_more_words(out: &mut String, lines: u128, pages: u128) -> Result<(), All
     out.push_str("and ")?;
     push_commas(out, lines)?;
     out.push_str(" lines more, of ")?;
-    push_number_words(out, pages)
+    push_counted(out, "page", pages)
 }
 
 // Puts how many lines there are more at the end, if there are any.

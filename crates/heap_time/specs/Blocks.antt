@@ -6,7 +6,7 @@ use Rattle.heap_history.specs.declared.history.Stay.{Stay}
 use Rattle.heap_history.specs.declared.history.Held.{Held}
 use Rattle.heap_history.specs.declared.history.Ending.{Ending}
 use Rattle.heap_history.specs.declared.history.Ending.TheVariants.{Live, Freed, Reset, Moved, Resized}
-use Rattle.heap_map.specs.Words.{hexadecimal, commas}
+use Rattle.heap_map.specs.Words.{hexadecimal, commas, counted}
 use Rattle.heap_map.specs.Shapes.{titled}
 use Rattle.heap_time.specs.declared.covers.Cover.{Cover}
 use Rattle.heap_time.specs.Covers.{stay_cover, held_cover, bottom_in, top_in, meets}
@@ -41,7 +41,7 @@ until_words end Resized = end_words end Resized
 
 -- the block of a stay, and its bytes
 unfoldable pub block_words : Stay → List ℕ
-block_words stay = codes "block " ++ (decimal stay.block ++ (codes ": " ++ (commas stay.size ++ codes " bytes at ")))
+block_words stay = codes "block " ++ (decimal stay.block ++ (codes ": " ++ (counted (codes "byte") stay.size ++ codes " at ")))
 
 -- its address, and its calls
 unfoldable pub calls_words : Stay → List ℕ
@@ -53,7 +53,7 @@ stay_title stay = block_words stay ++ calls_words stay
 
 -- the address of a region, and its pages
 unfoldable pub pages_words : Held → List ℕ
-pages_words held = hexadecimal held.start ++ (codes " + " ++ (commas held.pages ++ codes " pages"))
+pages_words held = hexadecimal held.start ++ (codes " + " ++ counted (codes "page") held.pages)
 
 -- what is said of a region of the heap
 unfoldable pub held_title : Held → List ℕ

@@ -1,17 +1,24 @@
 -- What is said of 64 columns of the run.
 use Rattle.std.specs.Prelude.{ℕ, zero, suc, ◌+◌, ◌-◌, ◌*◌, ◌/◌, List, [], ◌++◌, codes, Option, Some, None, slice_get, length}
 use Rattle.heap_history.specs.declared.history.Moment.{Moment}
-use Rattle.heap_map.specs.Words.{commas}
+use Rattle.heap_map.specs.Words.{commas, counted}
 use Rattle.heap_map.specs.Shapes.{titled}
 
 -- the last call of a column
 abbrev pub last_call : ℕ → ℕ → ℕ
 last_call calls column = (column + 1) * calls / 64 - 1
 
--- the bytes after a call
+-- the bytes that are live at a moment
+unfoldable pub live_words : Moment → List ℕ
+live_words moment = counted (codes "byte") moment.live ++ codes " live, "
+
+-- and those in heap regions
+unfoldable pub moment_words : Moment → List ℕ
+moment_words moment = live_words moment ++ (commas moment.heap ++ codes " bytes in heap regions")
+
+-- both, after a call
 unfoldable pub moment_title : ℕ → Moment → List ℕ
-moment_title call moment =
-    codes "after call " ++ (commas (call + 1) ++ (codes ": " ++ (commas moment.live ++ (codes " bytes live, " ++ (commas moment.heap ++ codes " bytes in heap regions")))))
+moment_title call moment = codes "after call " ++ (commas (call + 1) ++ (codes ": " ++ moment_words moment))
 
 abbrev pub moment_text : ℕ → ℕ → ℕ → Option Moment → List ℕ
 moment_text below column call None = []

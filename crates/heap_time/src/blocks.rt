@@ -6,7 +6,7 @@ ghost use Rattle.heap_time.specs.Blocks.{stay_class, ending_words, end_words, un
 use crate::covers::{Cover, bottom_in, held_cover, meets, stay_cover, top_in};
 use crate::shapes::{push_view, region_words};
 use heap_history::{Band, Ending, Held, Stay};
-use heap_map::{Area, push_address, push_commas, push_titled};
+use heap_map::{Area, push_address, push_commas, push_counted, push_titled};
 use std::alloc::{AllocError, Global};
 
 // The colour of a stay.
@@ -63,8 +63,8 @@ fn push_block(out: &mut String, stay: Stay) -> Result<(), AllocError>
 {
     let block = stay.block;
     write!(out, "block {block}: ")?;
-    push_commas(out, u128::from(stay.size))?;
-    out.push_str(" bytes at ")
+    push_counted(out, "byte", u128::from(stay.size))?;
+    out.push_str(" at ")
 }
 
 #[tactic(auto, unfolding(crate::specs::Blocks::calls_words))]
@@ -93,8 +93,7 @@ fn push_pages(out: &mut String, held: Held) -> Result<(), AllocError>
 {
     push_address(out, held.start)?;
     out.push_str(" + ")?;
-    push_commas(out, u128::from(held.pages))?;
-    out.push_str(" pages")
+    push_counted(out, "page", u128::from(held.pages))
 }
 
 // Puts what is said of a region of the heap at the end.

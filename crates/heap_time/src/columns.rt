@@ -1,9 +1,9 @@
 // What is said of columns of the run.
 ghost use Rattle.std.specs.Prelude.{◌≡◌, ◌<◌, ◌^◌, ◌++◌, OnOk, string_bytes};
-ghost use Rattle.heap_time.specs.Columns.{last_call, moment_title, column_text, columns_text};
+ghost use Rattle.heap_time.specs.Columns.{last_call, live_words, moment_words, moment_title, column_text, columns_text};
 
 use heap_history::Moment;
-use heap_map::{Area, push_commas, push_titled};
+use heap_map::{Area, push_commas, push_counted, push_titled};
 use std::alloc::{AllocError, Global};
 
 // The last call of a column, of 64.
@@ -15,7 +15,26 @@ fn last_call(calls: usize, column: usize) -> usize
     end.saturating_sub(1) as usize
 }
 
-// Puts the bytes after a call at the end.
+// Puts the bytes that are live at a moment at the end.
+#[tactic(auto, unfolding(crate::specs::Columns::live_words))]
+fn push_live(out: &mut String, moment: Moment) -> Result<(), AllocError>
+    ensures { OnOk result (string_bytes out.new ≡ string_bytes out.old ++ live_words moment) }
+{
+    push_counted(out, "byte", moment.live)?;
+    out.push_str(" live, ")
+}
+
+// Puts these and those in heap regions at the end.
+#[tactic(auto, unfolding(crate::specs::Columns::moment_words))]
+fn push_moment(out: &mut String, moment: Moment) -> Result<(), AllocError>
+    ensures { OnOk result (string_bytes out.new ≡ string_bytes out.old ++ moment_words moment) }
+{
+    push_live(out, moment)?;
+    push_commas(out, moment.heap)?;
+    out.push_str(" bytes in heap regions")
+}
+
+// Puts both after a call at the end.
 #[tactic(auto, unfolding(crate::specs::Columns::moment_title))]
 fn push_title(out: &mut String, call: usize, moment: Moment) -> Result<(), AllocError>
     ensures { OnOk result (string_bytes out.new ≡ string_bytes out.old ++ moment_title call moment) }
@@ -23,10 +42,7 @@ fn push_title(out: &mut String, call: usize, moment: Moment) -> Result<(), Alloc
     out.push_str("after call ")?;
     push_commas(out, call as u128 + 1)?;
     out.push_str(": ")?;
-    push_commas(out, moment.live)?;
-    out.push_str(" bytes live, ")?;
-    push_commas(out, moment.heap)?;
-    out.push_str(" bytes in heap regions")
+    push_moment(out, moment)
 }
 
 // Puts a column at the end.

@@ -1,5 +1,5 @@
 use Rattle.std.proofs.Common.{◌≡◌, ◌<◌, ◌-◌, ◌++◌, take, drop, string_bytes}
-use Rattle.heap_map.specs.Blocks.{named}
+use Rattle.heap_map.specs.Blocks.{named_at}
 use Rattle.heap_map.specs.Pieces.{lines_from, lines_of}
 use Rattle.heap_map.specs.Rows.{lines_text}
 use Rattle.heap_map.proofs.rows.push_lines.Given as goal
@@ -7,6 +7,6 @@ use Rattle.heap_map.proofs.rows.push_lines.Given as goal
 abbrev pub invariant-loop-next : goal.invariant-loop-next
 invariant-loop-next l = record {
   place : l.from < l.next;
-  rest : string_bytes l.out ++ lines_text (named l.blocks) l.row l.above (lines_from l.row (take (l.next - l.from) (drop l.from l.pieces)) (drop l.next l.pieces)) ≡ string_bytes l.fn.out ++ lines_text (named l.blocks) l.row 0 (lines_of l.row l.pieces);
+  rest : string_bytes l.out ++ lines_text (named_at l.blocks) l.row l.above (lines_from l.row (take (l.next - l.from) (drop l.from l.pieces)) (drop l.next l.pieces)) ≡ string_bytes l.fn.out ++ lines_text (named_at l.blocks) l.row 0 (lines_of l.row l.pieces);
   few : l.above < l.next;
 }

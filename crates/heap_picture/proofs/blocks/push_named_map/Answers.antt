@@ -2,7 +2,7 @@ use Rattle.std.proofs.Common.{◌≡◌, ◌++◌, ◌∙◌, ℕ, List, ap, len
 use Rattle.std.specs.Prelude.{Option}
 use Rattle.std.proofs.lemmas.Result.{on_ok_weaker}
 use Rattle.heap_history.specs.declared.history.Stay.{Stay}
-use Rattle.heap_map.specs.Blocks.{named}
+use Rattle.heap_map.specs.Blocks.{named_at}
 use Rattle.heap_map.specs.Map.{map_text}
 use Rattle.heap_map.specs.declared.blocks.NamedBlock.{NamedBlock}
 use Rattle.heap_picture.specs.Blocks.{block_at_end, blocks_at_end}
@@ -11,7 +11,7 @@ use Rattle.heap_picture.proofs.blocks.push_named_map.Goals as goal
 pub returns : goal.returns
 returns c =
     let history = c.args.history.now in
-    let left : (address : ℕ) → named c.in_ok-blocks.blocks address ≡ blocks_at_end history address = λ address.
+    let left : (address : ℕ) → named_at c.in_ok-blocks.blocks address ≡ blocks_at_end history address = λ address.
     c.in_ok-blocks.ensures address
     ∙ ap (λ (n : ℕ). block_at_end n c.as_slice.result.now address) c.len.ensures
     ∙ ap (λ (stays : List Stay). block_at_end (length history.moments) stays address) c.as_slice.ensures in
