@@ -6,6 +6,7 @@ use Rattle.heap_program.specs.declared.arguments.Command.TheVariants.{Run, Gener
 use Rattle.heap_program.specs.declared.ended.Ended.{Ended}
 use Rattle.heap_program.specs.Command.{command_of}
 use Rattle.heap_program.specs.Done.{IsRunDone, IsGenerationDone, IsStatusOf}
+use Rattle.heap_program.specs.Stepped.{AreSteps}
 use Rattle.heap_program.specs.Streams.{Streams}
 
 -- The words were done over a source and a sink, each as it was and as it then is: a command ended so.
@@ -15,4 +16,5 @@ pub record IsDone {S K : Type 0} (streams : Streams S K) (words : List (String G
   pub machine : IsSome ended.machine ↔ (status ≡ 0)
   pub run : (config : Config) → command_of words ≡ Some (Run config) → IsRunDone streams config source source' sink sink' ended
   pub generated : (seed count : ℕ) (config : Config) → command_of words ≡ Some (Generate seed count config) → IsGenerationDone streams seed count config source source' sink sink' ended
+  pub steps : AreSteps streams (command_of words) source source' sink sink' ended.machine
   pub statuses : IsStatusOf streams (command_of words) source source' sink sink' status

@@ -1,10 +1,12 @@
 -- The words of a command, and the status at which it ends.
-use Rattle.std.proofs.Common.{◌≡◌, ◌≢◌, ◌≤◌, ◌<◌, ◌+◌, ◌^◌, ◌⊎◌, ℕ, List, [], ◌∷◌, length, map, refl, arith, Option, Some, None, Ok, Err}
+use Rattle.std.proofs.Common.{◌≡◌, ◌≢◌, ◌≤◌, ◌<◌, ◌+◌, ◌^◌, ◌⊎◌, ℕ, List, [], ◌∷◌, length, map, refl, subst, arith, Option, Some, None, Ok, Err}
 use Rattle.std.specs.Prelude.{String, string_bytes, ◌↔◌, IfSome, IsErrOf, unwrap_or}
 use Rattle.std.specs.declared.alloc.Global.{Global}
 use Rattle.heap_model.specs.declared.config.Config.{Config}
 use Rattle.kernel_heap.specs.Config.{IsGoodConfig}
 use Rattle.kernel_heap.specs.declared.machine.Machine.{Machine}
+use Rattle.heap_program.specs.declared.arguments.Command.{Command}
+use Rattle.heap_program.specs.declared.arguments.Command.TheVariants.{Run, Generate}
 use Rattle.heap_program.specs.Command.{config_of}
 use Rattle.heap_program.specs.Status.{TellsRefusal}
 use Rattle.heap_program.specs.Stop.{status_of}
@@ -21,6 +23,23 @@ other_words (v ∷ w ∷ x ∷ y ∷ []) some others = refl
 other_words (v ∷ w ∷ x ∷ y ∷ z ∷ []) some others = absurd (others refl)
 other_words (v ∷ w ∷ x ∷ y ∷ z ∷ more ∷ words) some others = refl
 
+-- a command has one configuration
+pub same_run : (command : Option Command) (a b : Config) → command ≡ Some (Run a) → command ≡ Some (Run b) → (P : Config → Type 0) → P a → P b
+same_run command a b first second P holds = let same : a ≡ b = cc in subst P same holds
+
+pub same_generate :
+    (command : Option Command) (i m : ℕ) (a : Config) (j n : ℕ) (b : Config) → command ≡ Some (Generate i m a) → command ≡ Some (Generate j n b) →
+    (P : ℕ → ℕ → Config → Type 0) → P i m a → P j n b
+same_generate command i m a j n b first second P holds =
+    let seed : i ≡ j = cc in
+    let count : m ≡ n = cc in
+    let config : a ≡ b = cc in
+    subst (λ (k : ℕ). P k n b) seed (subst (λ (k : ℕ). P i k b) count (subst (λ (k : Config). P i m k) config holds))
+
+-- it is of one kind
+pub one_kind : (command : Option Command) (a : Config) (j n : ℕ) (b : Config) → command ≡ Some (Run a) → command ≡ Some (Generate j n b) → ⊥
+one_kind command a j n b first second = cc
+
 -- the statuses that are left of those up to 8
 statuses_left : (n : ℕ) → n ≤ 8 → n ≢ 1 → n ≢ 2 → n ≢ 3 → n ≢ 4 → n ≢ 6 → n ≢ 7 → (n ≡ 0) ⊎ (n ≡ 5) ⊎ (n ≡ 8)
 statuses_left n most one two three four six seven = grind arith
@@ -32,6 +51,15 @@ complete_status config status most one tells good six seven =
   where
     none : config.frames ≡ 0 → 0 < config.frames → ⊥
     none is some = absurd (omega (arith, is, some))
+
+-- a machine was made, so no status tells that there is none
+pub made_status : (config : Config) → IsGoodConfig config → TellsRefusal config 0
+made_status config good = record {
+  window = (λ is. absurd (omega (arith, is)), λ bad. absurd (bad good.window));
+  granularity = (λ is. absurd (omega (arith, is)), λ bad. absurd (bad.1 good.granularity));
+  frames = (λ is. absurd (omega (arith, is)), λ bad. absurd (let none = bad.2 in let some = good.frames in omega (arith, none, some)));
+  good = λ which. good;
+}
 
 -- a run that ended well was not too long
 pub ok_status : (left : Option (List ℕ)) (machine : Machine) (Q : List ℕ → Type 0) → IfSome left (λ input. IsErrOf {E = Stop} (Ok machine) TooLong ↔ Q input) → IfSome left (λ input. ◌≡◌ {A = ℕ} 0 8 ↔ Q input)

@@ -7,12 +7,16 @@ use Rattle.heap_model.specs.declared.call.Call.{Call}
 use Rattle.heap_model.specs.State.{State}
 use Rattle.heap_model.specs.Run.{RunsTo}
 use Rattle.heap_model.proofs.Runs.{runs_none, run_on}
+use Rattle.kernel_heap.specs.declared.machine.Machine.{Machine}
+use Rattle.kernel_heap.specs.Steps.{StepsTo}
+use Rattle.kernel_heap.proofs.Steps.{steps_on}
 use Rattle.heap_program.specs.declared.generate.Drawing.{Drawing}
 use Rattle.heap_program.specs.Drawing.{HasDrawnOne, HasDrawn}
 use Rattle.heap_program.specs.Flushed.{IsAllFlushed}
-use Rattle.heap_program.specs.Generated.{AreDrawn, generated_text, IsGenerated, IsGenerationStopped}
+use Rattle.heap_program.specs.Generated.{AreDrawn, generated_text, IsGenerationStopped}
 use Rattle.heap_program.specs.Generator.{first_state, drawn_call, refusals, drawn_calls, blocks_given, refused_count}
 use Rattle.heap_program.specs.Progress.{IsAt}
+use Rattle.heap_program.specs.Stepped.{IsGeneratedBy}
 use Rattle.heap_program.specs.Text.{tally_line, end_text_of}
 use Rattle.heap_program.proofs.Known.{appends_nothing}
 
@@ -38,6 +42,7 @@ drawn_none s drawing at = record {
   refused = omega arith;
   state = s;
   run = runs_none s;
+  steps = refl;
   at = at;
 }
 
@@ -48,6 +53,8 @@ drawn_more s old mid new count h k =
     let before = drawn_calls old.state old.given h.answers in
     let last : List Answer = k.answer ∷ [] in
     let one : drawn_calls old.state old.given (h.answers ++ last) ≡ before ++ call ∷ [] = h.calls last in
+    let calls = sym (ap (map Some) one ∙ some-append before call) in
+    let answers = sym (answers-append h.answers k.answer) in
     record {
       answers = h.answers ++ last;
       counted = let len = length-append h.answers last in let counted = h.counted in omega (arith, len, counted);
@@ -63,22 +70,26 @@ drawn_more s old mid new count h k =
           ∙ (λ i. blocks_given (sym k.next i) (sym k.given i) rest);
       refused = let sum = refused-append h.answers k.answer in let first = h.refused in let then = k.refused in omega (arith, sum, first, then);
       state = k.state;
-      run = subst (λ (calls : List (Option Call)). RunsTo s calls (map Some (h.answers ++ last)) k.state) (sym (ap (map Some) one ∙ some-append before call))
-          (subst (λ (answers : List (Option Answer)). RunsTo s (map Some before ++ Some call ∷ []) answers k.state) (sym (answers-append h.answers k.answer))
+      run = subst (λ (calls : List (Option Call)). RunsTo s calls (map Some (h.answers ++ last)) k.state) calls
+          (subst (λ (answers : List (Option Answer)). RunsTo s (map Some before ++ Some call ∷ []) answers k.state) answers
           (run_on s h.state k.state (map Some before) (Some call ∷ []) (map Some h.answers) (Some k.answer ∷ []) h.run k.run));
+      steps = subst (λ (calls : List (Option Call)). StepsTo old.machine calls (map Some (h.answers ++ last)) new.machine) calls
+          (subst (λ (answers : List (Option Answer)). StepsTo old.machine (map Some before ++ Some call ∷ []) answers new.machine) answers
+          (steps_on old.machine mid.machine new.machine (map Some before) (Some call ∷ []) (map Some h.answers) (Some k.answer ∷ []) h.steps k.steps));
       at = k.at;
     }
 
 -- what stands once all calls came
-pub record IsWhole (s : State) (seed count : ℕ) (drawing : Drawing) : Type 0 where
+pub record IsWhole (s : State) (first : Machine) (seed count : ℕ) (drawing : Drawing) : Type 0 where
   pub answers : List Answer
   pub state : State
   pub counted : length answers ≡ count
   pub drawn : AreDrawn s seed answers state
+  pub steps : StepsTo first (map Some (drawn_calls (first_state seed) 0 answers)) (map Some answers) drawing.machine
   pub tally : tally_line count drawing.given drawing.refused ≡ tally_line (length answers) (blocks_given (first_state seed) 0 answers) (refused_count answers)
   pub at : IsAt drawing.machine state
 
-pub all_drawn : (s : State) (seed count : ℕ) (old new : Drawing) → old.state ≡ first_state seed → old.given ≡ 0 → old.refused ≡ 0 → HasDrawn s old new count → IsWhole s seed count new
+pub all_drawn : (s : State) (seed count : ℕ) (old new : Drawing) → old.state ≡ first_state seed → old.given ≡ 0 → old.refused ≡ 0 → HasDrawn s old new count → IsWhole s old.machine seed count new
 all_drawn s seed count old new first zero unrefused h =
     let calls : drawn_calls old.state old.given h.answers ≡ drawn_calls (first_state seed) 0 h.answers = (λ i. drawn_calls (first i) (zero i) h.answers) in
     let given : new.given ≡ blocks_given (first_state seed) 0 h.answers = sym (h.given []) ∙ (λ i. blocks_given (first i) (zero i) (append-nil h.answers i)) in
@@ -88,13 +99,14 @@ all_drawn s seed count old new first zero unrefused h =
       state = h.state;
       counted = h.counted;
       drawn = subst (λ (c : List Call). RunsTo s (map Some c) (map Some h.answers) h.state) calls h.run;
+      steps = subst (λ (c : List Call). StepsTo old.machine (map Some c) (map Some h.answers) new.machine) calls h.steps;
       tally = λ i. tally_line (sym h.counted i) (given i) (refused i);
       at = h.at;
     }
 
 -- the counts, and the end text after them
-pub whole_text : (s : State) (seed count : ℕ) (drawing : Drawing) (w : IsWhole s seed count drawing) (empty told out : List ℕ) → empty ≡ [] → told ≡ empty ++ tally_line count drawing.given drawing.refused → out ≡ told ++ end_text_of w.state → out ≡ generated_text seed w.answers w.state
-whole_text s seed count drawing w empty told out none counts end =
+pub whole_text : (s : State) (first : Machine) (seed count : ℕ) (drawing : Drawing) (w : IsWhole s first seed count drawing) (empty told out : List ℕ) → empty ≡ [] → told ≡ empty ++ tally_line count drawing.given drawing.refused → out ≡ told ++ end_text_of w.state → out ≡ generated_text seed w.answers w.state
+whole_text s first seed count drawing w empty told out none counts end =
     end ∙ ap (λ (text : List ℕ). text ++ end_text_of w.state) (counts ∙ ap (λ (text : List ℕ). text ++ tally_line count drawing.given drawing.refused) none ∙ w.tally)
 
 -- nothing was written
@@ -102,22 +114,25 @@ pub none_generated : (s : State) (seed count : ℕ) (taken : Option (List ℕ)) 
 none_generated s seed count taken = record { text = []; written = appends_nothing taken; front = inl refl }
 
 -- a front of the text was written
-pub part_generated : (s : State) (seed count : ℕ) (drawing : Drawing) (w : IsWhole s seed count drawing) (out : List ℕ) (before after : Option (List ℕ)) (n : ℕ) → out ≡ generated_text seed w.answers w.state → Appends before after (take n out) → IsGenerationStopped s seed count before after
-part_generated s seed count drawing w out before after n is written = record {
+pub part_generated : (s : State) (first : Machine) (seed count : ℕ) (drawing : Drawing) (w : IsWhole s first seed count drawing) (out : List ℕ) (before after : Option (List ℕ)) (n : ℕ) → out ≡ generated_text seed w.answers w.state → Appends before after (take n out) → IsGenerationStopped s seed count before after
+part_generated s first seed count drawing w out before after n is written = record {
   text = take n out;
   written = written;
   front = inr (record { answers = w.answers; state = w.state; counted = w.counted; drawn = w.drawn; more = drop n out; front = take-append-drop n out ∙ is });
 }
 
 -- all of it was
-pub all_generated : (s : State) (seed count : ℕ) (drawing : Drawing) (w : IsWhole s seed count drawing) (out : List ℕ) (before after : Option (List ℕ)) (flushed : Option ℕ) → out ≡ generated_text seed w.answers w.state → Appends before after out → IsAllFlushed after flushed → IsGenerated s seed count before after flushed drawing.machine
-all_generated s seed count drawing w out before after flushed is written all = record {
-  answers = w.answers;
-  state = w.state;
-  counted = w.counted;
-  drawn = w.drawn;
-  written = subst (Appends before after) is written;
-  flushed_all = all;
-  good = w.at.good;
-  stands = w.at.stands;
+pub all_generated : (s : State) (first : Machine) (seed count : ℕ) (drawing : Drawing) (w : IsWhole s first seed count drawing) (out : List ℕ) (before after : Option (List ℕ)) (flushed : Option ℕ) → out ≡ generated_text seed w.answers w.state → Appends before after out → IsAllFlushed after flushed → IsGeneratedBy first s seed count before after flushed drawing.machine
+all_generated s first seed count drawing w out before after flushed is written all = record {
+  run = record {
+    answers = w.answers;
+    state = w.state;
+    counted = w.counted;
+    drawn = w.drawn;
+    written = subst (Appends before after) is written;
+    flushed_all = all;
+    good = w.at.good;
+    stands = w.at.stands;
+  };
+  steps = w.steps;
 }

@@ -9,9 +9,9 @@ use Rattle.paging_core.specs.ProcessorWalk.{Outcome, NotPresent, Reserved, AtPag
 use Rattle.paging_core.specs.Plain.{ArePlain}
 use Rattle.paging_core.proofs.ProcessorWalk.{walks_alike}
 use Rattle.paging_core.specs.declared.page_table.Rights.{Rights}
-use Rattle.heap_model.specs.declared.answer.Answer.{Answer}
+use Rattle.heap_model.specs.declared.config.Config.{Config}
 use Rattle.heap_model.specs.declared.region.Region.{Region}
-use Rattle.heap_model.specs.State.{State, Block, is_within, block_at, cell_at, cover}
+use Rattle.heap_model.specs.State.{State, Block, is_within, block_at, cell_at, cover, start}
 use Rattle.heap_model.specs.Room.{heap_rights}
 use Rattle.heap_model.specs.Run.{IsGood, IsWhole, IsHeapRegion}
 use Rattle.heap_model.specs.Machine.{Seen, Stands, rights_of}
@@ -19,6 +19,7 @@ use Rattle.heap_model.proofs.Regions.{within_canonical}
 use Rattle.kernel_heap.specs.declared.machine.Machine.{Machine}
 use Rattle.kernel_heap.specs.Machine.{seen}
 use Rattle.heap_program.specs.Generated.{IsGenerated}
+use Rattle.heap_program.specs.Stepped.{IsGeneratedByNew}
 use Rattle.heap_program.specs.LiveBlocks.{IsHeld, HoldsBlocks, HoldsEachBlock}
 
 abbrev region_rights : Option Region → Option Rights
@@ -106,8 +107,8 @@ holds_blocks m s good stands = record {
 
 -- ---- the machine at the end of a run
 
-pub generated_live : (machine : Option Machine) (s : State) (seed count : ℕ) (before after : Option (List ℕ)) (flushed : Option ℕ) →
-    IfSome machine (λ m. IsGenerated s seed count before after flushed m) →
-    IfSome machine (λ m. (run : IsGenerated s seed count before after flushed m) × HoldsBlocks (seen m) run.state.blocks)
-generated_live None s seed count before after flushed done = tt
-generated_live (Some m) s seed count before after flushed done = (done, holds_blocks (seen m) done.state done.good done.stands)
+pub generated_live : (machine : Option Machine) (config : Config) (seed count : ℕ) (before after : Option (List ℕ)) (flushed : Option ℕ) →
+    IfSome machine (IsGeneratedByNew config seed count before after flushed) →
+    IfSome machine (λ m. (run : IsGenerated (start config) seed count before after flushed m) × HoldsBlocks (seen m) run.state.blocks)
+generated_live None config seed count before after flushed done = tt
+generated_live (Some m) config seed count before after flushed done = let run = done.2.run in (run, holds_blocks (seen m) run.state run.good run.stands)

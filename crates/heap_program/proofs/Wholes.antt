@@ -14,18 +14,21 @@ use Rattle.heap_program.specs.declared.run.Stop.TheVariants.{Memory, ReadFault, 
 use Rattle.heap_program.specs.Advanced.{Advanced}
 use Rattle.heap_program.specs.Answering.{IsAnswering}
 use Rattle.heap_program.specs.Flushed.{IsAllFlushed}
-use Rattle.heap_program.specs.Headline.{ending_of, IsFront, IsInterrupted, IsReadWhole, IsAnswered, IsStopped}
+use Rattle.heap_program.specs.Headline.{ending_of, IsFront, IsInterrupted, IsReadWhole, IsStopped}
 use Rattle.heap_lines.specs.Grammar.{item_of}
 use Rattle.heap_program.specs.Lines.{items_of, IsOneLine}
 use Rattle.heap_model.specs.Run.{RunsTo}
 use Rattle.heap_program.specs.Progress.{texts_of, IsAt, IsEnd}
 use Rattle.heap_program.specs.Responses.{Responded, IsFrontOf, HasCaughtUp, HasHeld}
+use Rattle.heap_program.specs.Stepped.{IsAnsweredBy}
 use Rattle.heap_program.specs.Stop.{IsFreshSession, HasRead, HasClosed, HasPart, HasStopped}
 use Rattle.heap_program.specs.Text.{line_text, end_text_of}
 use Rattle.heap_program.proofs.Fits.{run_fits, length-items}
 use Rattle.heap_program.proofs.Known.{appends_nothing, appends_more, consumes_nothing, consumes_more, consumes_keeps}
 use Rattle.heap_program.proofs.LineLemmas.{items-whole, items-none}
 use Rattle.heap_model.proofs.Runs.{runs_none, run_on}
+use Rattle.kernel_heap.specs.Steps.{StepsTo}
+use Rattle.kernel_heap.proofs.Steps.{steps_on}
 use Rattle.heap_program.proofs.Runs.{responded_more}
 
 module _ {R : Type 0} (responds : R → List (Option Call) → List ℕ → R → Type 0) where
@@ -168,8 +171,8 @@ pub front_none : (s : State) (bytes : List ℕ) → IsFront s bytes []
 front_none s bytes = record { items = []; others = items_of bytes; split = refl; answers = []; state = s; run = runs_none s; more = ending_of (items_of bytes) s; front = refl }
 
 -- a front of the texts and the end text
-pub front_end : (s : State) (bytes whole : List ℕ) (machine : Machine) (front more : List ℕ) → IsEnd s bytes whole machine → front ++ more ≡ whole → IsFront s bytes front
-front_end s bytes whole machine front more k split = record {
+pub front_end : (s : State) (bytes whole : List ℕ) (old machine : Machine) (front more : List ℕ) → IsEnd s old bytes whole machine → front ++ more ≡ whole → IsFront s bytes front
+front_end s bytes whole old machine front more k split = record {
   items = items_of bytes;
   others = [];
   split = sym (append-nil (items_of bytes));
@@ -234,7 +237,7 @@ front_last s machine last bytes told line part at a k =
     }
 
 -- some bytes are answered, and then the rest
-end_after : (s : State) (machine last end : Machine) (bytes told line text : List ℕ) (at : IsAt machine s) (a : Responded IsAnswering machine [] bytes told line last) → IsEnd (a.responses s at).state line text end → IsEnd s bytes (told ++ text) end
+end_after : (s : State) (machine last end : Machine) (bytes told line text : List ℕ) (at : IsAt machine s) (a : Responded IsAnswering machine [] bytes told line last) → IsEnd (a.responses s at).state last line text end → IsEnd s machine bytes (told ++ text) end
 end_after s machine last end bytes told line text at a k =
     let b = a.responses s at in
     let items : items_of bytes ≡ a.items ++ items_of line =
@@ -243,21 +246,22 @@ end_after s machine last end bytes told line text at a k =
       answers = b.answers ++ k.answers;
       state = k.state;
       run = subst (λ (l : List (Option Call)). RunsTo s l (b.answers ++ k.answers) k.state) (sym items) (run_on s b.state k.state a.items (items_of line) b.answers k.answers b.run k.run);
+      steps = subst (λ (l : List (Option Call)). StepsTo machine l (b.answers ++ k.answers) end) (sym items) (steps_on machine last end a.items (items_of line) b.answers k.answers b.steps k.steps);
       at = k.at;
       text = texts_more b.answers k.answers told text (end_text_of k.state) b.text k.text;
     }
 
 -- a front of the last texts went out
-pub part_written : (s : State) (line whole out : List ℕ) (machine : Machine) (t t1 : Option (List ℕ)) (n : ℕ) → out ≡ whole → IsEnd s line whole machine → Appends t t1 (take n out) → HasPart s line t t1
-part_written s line whole out machine t t1 n same end appended = record {
+pub part_written : (s : State) (line whole out : List ℕ) (old machine : Machine) (t t1 : Option (List ℕ)) (n : ℕ) → out ≡ whole → IsEnd s old line whole machine → Appends t t1 (take n out) → HasPart s line t t1
+part_written s line whole out old machine t t1 n same end appended = record {
   told = take n out;
   appended = appended;
-  front = front_end s line whole machine (take n out) (drop n out) end (take-append-drop n out ∙ same);
+  front = front_end s line whole old machine (take n out) (drop n out) end (take-append-drop n out ∙ same);
 }
 
 -- all of them did
-pub closed : (s : State) (line whole out : List ℕ) (machine : Machine) (t t1 : Option (List ℕ)) → out ≡ whole → IsEnd s line whole machine → Appends t t1 out → HasClosed s machine line t t1
-closed s line whole out machine t t1 same end appended = record { told = whole; appended = subst (Appends t t1) same appended; end = end }
+pub closed : (s : State) (line whole out : List ℕ) (old machine : Machine) (t t1 : Option (List ℕ)) → out ≡ whole → IsEnd s old line whole machine → Appends t t1 out → HasClosed s old machine line t t1
+closed s line whole out old machine t t1 same end appended = record { told = whole; appended = subst (Appends t t1) same appended; end = end }
 
 -- a stop that is not for a long input
 pub of_sink : (stop : Stop) → (stop ≡ Memory) ⊎ (stop ≡ WriteFault) → stop ≡ TooLong → ⊥
@@ -279,20 +283,23 @@ read_whole (Some xs) (Some ys) bytes consumed end =
 
 -- the last line and the end text close the run
 pub answered : (s : State) (machine last end : Machine) (line : List ℕ) (l l1 t t1 t2 : Option (List ℕ)) (flushed : Option ℕ) (n : ℕ) (at : IsAt machine s) (h : HasRead IsAnswering machine last line l l1 t t1 n) → length s.blocks ≡ 0 → n ≤ 2 ^ 30 → IsAtEnd l1
-    → HasClosed (h.responded.responses s at).state end line t1 t2 → IsAllFlushed t2 flushed → IsAnswered s l l1 t t2 flushed end
+    → HasClosed (h.responded.responses s at).state last end line t1 t2 → IsAllFlushed t2 flushed → IsAnsweredBy machine s l l1 t t2 flushed end
 answered s machine last end line l l1 t t1 t2 flushed n at h first short done k all =
     let e = end_after s machine last end h.bytes h.told line k.told at h.responded k.end in
     record {
-      input = h.bytes;
-      read = read_whole l l1 h.bytes h.consumed done;
-      answers = e.answers;
-      state = e.state;
-      run = e.run;
-      fit = run_fits s (items_of h.bytes) e.answers (let items = length-items h.bytes in omega (arith, items, first, h.counted, short)) e.run.run;
-      written = subst (Appends t t2) e.text (appends_more t t1 t2 h.told k.told h.appended k.appended);
-      flushed_all = all;
-      good = e.at.good;
-      stands = e.at.stands;
+      run = record {
+        input = h.bytes;
+        read = read_whole l l1 h.bytes h.consumed done;
+        answers = e.answers;
+        state = e.state;
+        run = e.run;
+        fit = run_fits s (items_of h.bytes) e.answers (let items = length-items h.bytes in omega (arith, items, first, h.counted, short)) e.run.run;
+        written = subst (Appends t t2) e.text (appends_more t t1 t2 h.told k.told h.appended k.appended);
+        flushed_all = all;
+        good = e.at.good;
+        stands = e.at.stands;
+      };
+      steps = e.steps;
     }
 
 -- what is seen of a stop

@@ -17,4 +17,4 @@ pub record Advanced {R : Type 0} (responds : R → List (Option Call) → List �
 pub record IsFinished (s : State) (old new : Session Machine) : Type 0 where
   pub told : List ℕ
   pub output : string_bytes new.output ≡ string_bytes old.output ++ told
-  pub end : IsEnd s old.line told new.responder
+  pub end : IsEnd s old.responder old.line told new.responder

@@ -3,6 +3,7 @@ use Rattle.std.specs.Prelude.{◌≡◌, ℕ, ◌+◌, List, [], ◌∷◌, ◌+
 use Rattle.heap_model.specs.declared.answer.Answer.{Answer}
 use Rattle.heap_model.specs.State.{State}
 use Rattle.heap_model.specs.Run.{RunsTo}
+use Rattle.kernel_heap.specs.Steps.{StepsTo}
 use Rattle.heap_program.specs.declared.generate.Drawing.{Drawing}
 use Rattle.heap_program.specs.Generator.{drawn_call, state_after, numbers_given, refusals, drawn_calls, blocks_given, refused_count}
 use Rattle.heap_program.specs.Progress.{IsAt}
@@ -15,6 +16,7 @@ pub record HasDrawnOne (s : State) (old new : Drawing) : Type 0 where
   pub refused : new.refused ≡ old.refused + refusals answer.reply
   pub state : State
   pub run : RunsTo s (Some (drawn_call old.state old.given) ∷ []) (Some answer ∷ []) state
+  pub steps : StepsTo old.machine (Some (drawn_call old.state old.given) ∷ []) (Some answer ∷ []) new.machine
   pub at : IsAt new.machine state
 
 -- From the state s, `count` calls more were drawn and answered.
@@ -26,4 +28,5 @@ pub record HasDrawn (s : State) (old new : Drawing) (count : ℕ) : Type 0 where
   pub refused : new.refused ≡ old.refused + refused_count answers
   pub state : State
   pub run : RunsTo s (map Some (drawn_calls old.state old.given answers)) (map Some answers) state
+  pub steps : StepsTo old.machine (map Some (drawn_calls old.state old.given answers)) (map Some answers) new.machine
   pub at : IsAt new.machine state

@@ -17,6 +17,7 @@ pub mod Progress
 pub mod Responses
 pub mod Spelling
 pub mod Status
+pub mod Stepped
 pub mod Stop
 pub mod Streams
 pub mod Text

@@ -7,6 +7,7 @@ use Rattle.heap_model.specs.Run.{IsGood, RunsTo}
 use Rattle.heap_model.specs.Machine.{Stands}
 use Rattle.kernel_heap.specs.declared.machine.Machine.{Machine}
 use Rattle.kernel_heap.specs.Machine.{seen}
+use Rattle.kernel_heap.specs.Steps.{StepsTo}
 use Rattle.heap_program.specs.Lines.{items_of}
 use Rattle.heap_program.specs.Text.{line_text, end_text_of}
 
@@ -19,10 +20,11 @@ pub record IsAt (machine : Machine) (s : State) : Type 0 where
   pub good : IsGood s
   pub stands : Stands (seen machine) s
 
--- From the state s all the bytes are answered: the texts of the answers, and then the end text of the last state.
-pub record IsEnd (s : State) (bytes told : List ℕ) (machine : Machine) : Type 0 where
+-- From the state s and a machine all the bytes are answered: the texts of the answers, and then the end text of the last state.
+pub record IsEnd (s : State) (old : Machine) (bytes told : List ℕ) (new : Machine) : Type 0 where
   pub answers : List (Option Answer)
   pub state : State
   pub run : RunsTo s (items_of bytes) answers state
-  pub at : IsAt machine state
+  pub steps : StepsTo old (items_of bytes) answers new
+  pub at : IsAt new state
   pub text : told ≡ texts_of answers ++ end_text_of state

@@ -40,10 +40,10 @@ pub record HasRead {R : Type 0} (responds : R → List (Option Call) → List �
   pub responded : Responded responds old [] bytes told line new
 
 -- From the state s the line that had begun is answered, and the end text went to the sink too.
-pub record HasClosed (s : State) (machine : Machine) (line : List ℕ) (before after : Option (List ℕ)) : Type 0 where
+pub record HasClosed (s : State) (old new : Machine) (line : List ℕ) (before after : Option (List ℕ)) : Type 0 where
   pub told : List ℕ
   pub appended : Appends before after told
-  pub end : IsEnd s line told machine
+  pub end : IsEnd s old line told new
 
 -- Only a front of that went to the sink.
 pub record HasPart (s : State) (line : List ℕ) (before after : Option (List ℕ)) : Type 0 where

@@ -1,9 +1,10 @@
 // The command of the program.
-ghost use Rattle.std.specs.Prelude.{◌≡◌, ℕ, Some, None, ◌↔◌, IsSome};
+ghost use Rattle.std.specs.Prelude.{◌≡◌, ℕ, Some, None, ◌↔◌, IsSome, IfSome};
 ghost use Rattle.heap_model.specs.declared.config.Config.{Config};
 ghost use Rattle.heap_program.specs.declared.arguments.Command.TheVariants.{Run, Generate};
 ghost use Rattle.heap_program.specs.Command.{command_of};
 ghost use Rattle.heap_program.specs.Done.{IsRunDone, IsGenerationDone, IsStatusOf};
+ghost use Rattle.heap_program.specs.Stepped.{IsAnsweredByNew, AreSteps};
 ghost use Rattle.heap_program.specs.Streams.{streams};
 
 use crate::arguments::{Command, command_of};
@@ -25,6 +26,7 @@ fn run_new<S: Source, K: Sink>(
     ensures machine { IsSome result.machine ↔ (result.status ≡ 0) }
     ensures run { IsRunDone (streams S.left S.faults K.taken K.flushed K.faults) config.now source.old source.new sink.old sink.new result }
     ensures status { IsStatusOf (streams S.left S.faults K.taken K.flushed K.faults) (Some (Run config.now)) source.old source.new sink.old sink.new result.status }
+    ensures steps { IfSome result.machine (IsAnsweredByNew config.now (S.left source.old) (S.left source.new) (K.taken sink.old) (K.taken sink.new) (K.flushed sink.new)) }
 {
     let machine = match Machine::new(alloc, config) {
         Ok(machine) => machine,
@@ -80,6 +82,9 @@ pub fn heap_main<S: Source, K: Sink>(
     // At status 0 `gen` has answered the calls that it drew, each as is allowed, and written the counts and the end text.
     ensures generated { (seed count : ℕ) (config : Config) → command_of words.now ≡ Some (Generate seed count config) →
         IsGenerationDone (streams S.left S.faults K.taken K.flushed K.faults) seed count config source.old source.new sink.old sink.new result }
+
+    // The answers of both are steps of one new machine, so all that a step promises holds of each.
+    ensures steps { AreSteps (streams S.left S.faults K.taken K.flushed K.faults) (command_of words.now) source.old source.new sink.old sink.new result.machine }
 
     // When each status comes, and what was not touched then.
     ensures status { IsStatusOf (streams S.left S.faults K.taken K.flushed K.faults) (command_of words.now) source.old source.new sink.old sink.new result.status }

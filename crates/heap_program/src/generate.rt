@@ -3,10 +3,11 @@ ghost use Rattle.std.specs.Prelude.{◌≡◌, ◌≢◌, ◌≤◌, ◌<◌, �
 ghost use Rattle.heap_model.specs.State.{State, start};
 ghost use Rattle.heap_program.specs.Drawing.{HasDrawnOne, HasDrawn};
 ghost use Rattle.heap_program.specs.Faults.{HasRisen};
-ghost use Rattle.heap_program.specs.Generated.{IsGenerated, IsGenerationStopped};
+ghost use Rattle.heap_program.specs.Generated.{IsGenerationStopped};
 ghost use Rattle.heap_program.specs.Generator.{first_state, numbers_given, refusals};
 ghost use Rattle.heap_program.specs.Status.{TellsRefusal};
 ghost use Rattle.heap_program.specs.Progress.{IsAt};
+ghost use Rattle.heap_program.specs.Stepped.{IsGeneratedBy, IsGeneratedByNew};
 ghost use Rattle.heap_program.specs.declared.run.Stop.TheVariants.{Memory, WriteFault};
 
 use crate::ended::{Ended, ended_early, refusal_status, status_of};
@@ -107,7 +108,7 @@ fn generate<K: Sink>(
 ) -> Result<Machine, Stop>
     requires { count ≤ 1000000 }
     ensures generated { IfOk result (λ last. (s : State) → IsAt machine s →
-        IsGenerated s seed count (K.taken sink.old) (K.taken sink.new) (K.flushed sink.new) last) }
+        IsGeneratedBy machine s seed count (K.taken sink.old) (K.taken sink.new) (K.flushed sink.new) last) }
     ensures stopped { OnErr result ((s : State) → IsAt machine s → IsGenerationStopped s seed count (K.taken sink.old) (K.taken sink.new)) }
     ensures which { IfErr result (λ stop. (stop ≡ Memory) ⊎ (stop ≡ WriteFault)) }
     ensures write_cause { IsErrOf result WriteFault → HasRisen (K.faults sink.old) (K.faults sink.new) }
@@ -132,8 +133,7 @@ pub fn generate_new<K: Sink>(
 ) -> Ended
     requires { count ≤ 1000000 }
     ensures machine { IsSome result.machine ↔ (result.status ≡ 0) }
-    ensures generated { IfSome result.machine (λ machine.
-        IsGenerated (start config.now) seed count (K.taken sink.old) (K.taken sink.new) (K.flushed sink.new) machine) }
+    ensures generated { IfSome result.machine (IsGeneratedByNew config.now seed count (K.taken sink.old) (K.taken sink.new) (K.flushed sink.new)) }
     ensures stopped { 5 ≤ result.status → IsGenerationStopped (start config.now) seed count (K.taken sink.old) (K.taken sink.new) }
     ensures statuses { (result.status ≢ 1) × (result.status ≢ 6) × (result.status ≤ 7) }
     ensures refused { TellsRefusal config.now result.status }

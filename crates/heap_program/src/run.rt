@@ -6,7 +6,8 @@ ghost use Rattle.heap_program.specs.Faults.{HasRisen};
 ghost use Rattle.heap_program.specs.Flushed.{IsAllFlushed, IsUpToDate};
 ghost use Rattle.heap_program.specs.Progress.{IsAt};
 ghost use Rattle.heap_program.specs.Stop.{stop_of, IsFreshSession, HasRead, HasClosed, HasPart, HasStopped};
-ghost use Rattle.heap_program.specs.Headline.{IsAnswered, IsInterrupted, IsStopped};
+ghost use Rattle.heap_program.specs.Headline.{IsInterrupted, IsStopped};
+ghost use Rattle.heap_program.specs.Stepped.{IsAnsweredBy};
 ghost use Rattle.heap_program.specs.declared.run.Stop.TheVariants.{Memory, ReadFault, WriteFault, TooLong};
 
 use crate::respond::Respond;
@@ -148,7 +149,7 @@ pub fn read_all<R: Respond + Drop, S: Source, K: Sink>(
 fn close<K: Sink>(session: &mut Session<Machine>, sink: &mut K) -> Result<(), Stop>
     requires { string_bytes session.old.output ≡ [] }
     ensures ok { OnOk result ((s : State) → IsAt session.old.responder s →
-        HasClosed s session.new.responder session.old.line (K.taken sink.old) (K.taken sink.new)) }
+        HasClosed s session.old.responder session.new.responder session.old.line (K.taken sink.old) (K.taken sink.new)) }
     ensures flushed { OnOk result (IsAllFlushed (K.taken sink.new) (K.flushed sink.new)) }
     ensures err { OnErr result ((s : State) → IsAt session.old.responder s →
         HasPart s session.old.line (K.taken sink.old) (K.taken sink.new)) }
@@ -168,7 +169,7 @@ pub fn run<S: Source, K: Sink>(
     sink: &mut K,
 ) -> Result<Machine, Stop>
     ensures answered { IfOk result (λ last. (s : State) → IsAt machine s → s.blocks ≡ [] →
-        IsAnswered s (S.left source.old) (S.left source.new) (K.taken sink.old) (K.taken sink.new) (K.flushed sink.new) last) }
+        IsAnsweredBy machine s (S.left source.old) (S.left source.new) (K.taken sink.old) (K.taken sink.new) (K.flushed sink.new) last) }
     ensures stopped { OnErr result ((s : State) → IsAt machine s →
         IsStopped s (S.left source.old) (S.left source.new) (K.taken sink.old) (K.taken sink.new)) }
     ensures too_long { IfSome (S.left source.old) (λ input.

@@ -1,5 +1,5 @@
 -- The call for the extents.
-use Rattle.std.proofs.Common.{◌≡◌, ℕ, List, inl, inr, Option, None, refl, sym, ◌∙◌, ap, subst}
+use Rattle.std.proofs.Common.{◌≡◌, ℕ, List, [], ◌∷◌, inl, inr, Option, None, Some, refl, sym, ◌∙◌, ap, subst}
 use Rattle.std.specs.Prelude.{sum}
 use Rattle.dlmalloc.specs.Served.{IsListed as IsListOf}
 use Rattle.dlmalloc.specs.declared.heap.Dlmalloc.{Dlmalloc}
@@ -16,6 +16,7 @@ use Rattle.kernel_heap.specs.declared.machine.Machine.{Machine}
 use Rattle.kernel_heap.specs.declared.paged_system.PagedSystem.{PagedSystem}
 use Rattle.kernel_heap.specs.Heap.{word}
 use Rattle.kernel_heap.specs.Moves.{HeapMoves}
+use Rattle.kernel_heap.specs.Steps.{StepsTo}
 use Rattle.heap_program.specs.Progress.{IsAt}
 use Rattle.heap_report.specs.declared.listed.Listed.{Listed}
 use Rattle.heap_report.specs.declared.replay.Replay.{Replay}
@@ -69,16 +70,17 @@ pub listed_from : (replay served : Replay) (answer : Answer) (listed : Listed) �
     → listed.machine ≡ served.machine → listed.live ≡ sum served.sizes → listed.peak ≡ served.peak → IsListed replay listed
 listed_from replay served answer listed is found machine sums top = λ s follows least.
     let one = answered_one s replay served served Extents answer follows least is refl refl refl in
-    let list = lists_extents s answer (is.step s follows.at).allowed in
+    let list = lists_extents s answer (is.stepped.allowed s follows.at.good follows.at.stands).allowed in
     let same : listed.extents ≡ list.extents = found list.extents list.lists in
     let lists : answer.reply ≡ Listing listed.extents = list.lists ∙ ap (λ (l : List Extent). Listing l) (sym same) in
     record {
       answer = answer;
       state = after s Extents answer;
       run = one.run;
+      steps = subst (λ (m : Machine). StepsTo replay.machine (Some Extents ∷ []) (Some answer ∷ []) m) (sym machine) one.steps;
       lists = lists;
       tiles = subst (λ (l : List Extent). IsTiling (after s Extents answer) l) (sym same) list.tiles;
-      of_heap = subst (λ (m : Machine). AreTheHeapsExtents m listed.extents) (sym machine) (listed_by replay.machine served.machine answer listed.extents is.moves lists);
+      of_heap = subst (λ (m : Machine). AreTheHeapsExtents m listed.extents) (sym machine) (listed_by replay.machine served.machine answer listed.extents is.stepped.heap lists);
       at = subst (λ (m : Machine). IsAt m (after s Extents answer)) (sym machine) one.follows.at;
       live_is = sums ∙ ap sum one.follows.sizes;
       peak_is = top ∙ one.peak_is;

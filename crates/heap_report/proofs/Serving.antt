@@ -9,6 +9,8 @@ use Rattle.heap_model.specs.Machine.{IsStep}
 use Rattle.heap_model.specs.Run.{RunsTo}
 use Rattle.kernel_heap.specs.declared.machine.Machine.{Machine}
 use Rattle.kernel_heap.specs.Machine.{seen}
+use Rattle.kernel_heap.specs.Steps.{StepsTo}
+use Rattle.kernel_heap.proofs.Steps.{step_one}
 use Rattle.heap_program.specs.Progress.{IsAt}
 use Rattle.heap_report.specs.declared.replay.Replay.{Replay}
 use Rattle.heap_report.specs.Live.{block_size, live, peak, sizes_of}
@@ -25,18 +27,20 @@ highest before first last sum_now now least top same = omega (arith, least, top,
 -- what is so after a call that was answered: the run of it, and that the sizes and the peak are kept
 pub record IsOne (s : State) (old : Replay) (call : Call) (answer : Answer) (new : Replay) : Type 0 where
   pub run : RunsTo s (Some call ∷ []) (Some answer ∷ []) (after s call answer)
+  pub steps : StepsTo old.machine (Some call ∷ []) (Some answer ∷ []) new.machine
   pub follows : Follows (after s call answer) new
   pub peak_is : new.peak ≡ max old.peak (peak s (call ∷ []) (answer ∷ []))
 
 pub answered_one : (s : State) (old middle new : Replay) (call : Call) (answer : Answer) → Follows s old → live s ≤ old.peak → IsAnswered old call answer middle → new.machine ≡ middle.machine → new.sizes ≡ middle.sizes → new.peak ≡ middle.peak → IsOne s old call answer new
 answered_one s old middle new call answer follows least is machine same top =
-    let step : IsStep s call answer (seen new.machine) = subst (λ (m : Machine). IsStep s call answer (seen m)) (sym machine) (is.step s follows.at) in
+    let step : IsStep s call answer (seen new.machine) = subst (λ (m : Machine). IsStep s call answer (seen m)) (sym machine) (is.stepped.allowed s follows.at.good follows.at.stands) in
     let sizes_is : new.sizes ≡ sizes_of (after s call answer) =
     same ∙ is.sizes ∙ ap (λ (l : List ℕ). sizes_after l call answer.reply) follows.sizes ∙ sym (kept_sizes s call answer step.allowed) in
     let sum_is : sum new.sizes ≡ live (after s call answer) = ap sum sizes_is in
     let most : new.peak ≡ max old.peak (sum new.sizes) = top ∙ is.peak_is ∙ ap (λ (l : List ℕ). max old.peak (sum l)) (sym same) in
     record {
       run = record { run = ((step.allowed, step.good), tt); last = refl };
+      steps = subst (λ (m : Machine). StepsTo old.machine (Some call ∷ []) (Some answer ∷ []) m) (sym machine) (step_one old.machine middle.machine call answer is.stepped);
       follows = record { at = record { good = step.good; stands = step.stands }; sizes = sizes_is };
       peak_is = highest old.peak (live s) (live (after s call answer)) (sum new.sizes) new.peak least most sum_is;
     }
@@ -51,6 +55,7 @@ noted_one keeps old new middle call answer is machine same top noted s follows l
         answers = answer ∷ [];
         state = after s call answer;
         run = one.run;
+        steps = one.steps;
         follows = one.follows;
         peak_is = one.peak_is;
       };

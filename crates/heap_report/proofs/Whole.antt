@@ -9,6 +9,7 @@ use Rattle.heap_model.specs.declared.call.Call.TheVariants.{Extents}
 use Rattle.heap_model.specs.State.{State}
 use Rattle.heap_model.specs.Run.{RunsTo}
 use Rattle.kernel_heap.specs.declared.machine.Machine.{Machine}
+use Rattle.kernel_heap.specs.Steps.{StepsTo}
 use Rattle.heap_program.specs.declared.run.Stop.{Stop}
 use Rattle.heap_program.specs.Flushed.{IsAllFlushed}
 use Rattle.heap_program.specs.Headline.{IsReadWhole}
@@ -25,7 +26,7 @@ use Rattle.heap_report.specs.Listed.{IsListed}
 use Rattle.heap_report.specs.Live.{live, peak}
 use Rattle.heap_report.specs.Noting.{IsBegunWith, IsNoted, IsReplaying}
 use Rattle.heap_report.specs.NotingLaws.{replaying_on}
-use Rattle.heap_report.specs.ReplayingLaws.{calls_on, peak-append, peak_end}
+use Rattle.heap_report.specs.ReplayingLaws.{calls_on, steps_joined, peak-append, peak_end}
 use Rattle.heap_report.specs.Reported.{IsReplayOf, IsTold, IsToldInPart, text_of_run}
 use Rattle.heap_report.proofs.Serving.{begun_follows, none_live}
 
@@ -43,10 +44,11 @@ served_input keeps first last end line l l1 t t1 n before after h k =
     subst (λ (l : List (Option Call)). IsNoted keeps first (calls_in l) end) (sym items) both.replayed
 
 -- and then the extents were asked for
-pub record IsWhole {T : Type 0} (keeps : T → List Call → List Answer → Type 0) (s : State) (input : List ℕ) (kept : T) (listed : Listed) : Type 0 where
+pub record IsWhole {T : Type 0} (keeps : T → List Call → List Answer → Type 0) (s : State) (machine : Machine) (input : List ℕ) (kept : T) (listed : Listed) : Type 0 where
   pub answers : List Answer
   pub state : State
   pub replay : IsReplayOf s input answers state listed.extents
+  pub steps : StepsTo machine (map Some (calls_of input)) (map Some answers) listed.machine
   pub of_heap : AreTheHeapsExtents listed.machine listed.extents
   pub at : IsAt listed.machine state
   pub live_is : listed.live ≡ live state
@@ -57,7 +59,7 @@ pub record IsWhole {T : Type 0} (keeps : T → List Call → List Answer → Typ
 joined_peak : (before first last both middle now : ℕ) → now ≡ max middle last → middle ≡ max before first → before ≡ 0 → both ≡ max first last → now ≡ both
 joined_peak before first last both middle now top up none joined = omega (arith, top, up, none, joined)
 
-pub whole : {T : Type 0} (keeps : T → List Call → List Answer → Type 0) (s : State) (machine : Machine) (first end : Noted T) (listed : Listed) (input : List ℕ) → IsAt machine s → s.blocks ≡ [] → IsBegunWith keeps machine first → IsNoted keeps first (calls_in (items_of input)) end → IsListed end.replay listed → IsWhole keeps s input end.kept listed
+pub whole : {T : Type 0} (keeps : T → List Call → List Answer → Type 0) (s : State) (machine : Machine) (first end : Noted T) (listed : Listed) (input : List ℕ) → IsAt machine s → s.blocks ≡ [] → IsBegunWith keeps machine first → IsNoted keeps first (calls_in (items_of input)) end → IsListed end.replay listed → IsWhole keeps s machine input end.kept listed
 whole keeps s machine first end listed input at none begins served lists =
     let begun = begins.begun in
     let calls = calls_in (items_of input) in
@@ -79,6 +81,8 @@ whole keeps s machine first end listed input at none begins served lists =
         tiles = e.tiles;
         good = e.at.good;
       };
+      steps = subst (λ (m : Machine). StepsTo m (map Some (calls_of input)) (map Some (k.answers ++ e.answer ∷ [])) listed.machine) begun.machine_is
+          (steps_joined first.replay.machine end.replay.machine listed.machine calls (Extents ∷ []) k.answers (e.answer ∷ []) k.steps e.steps);
       of_heap = e.of_heap;
       at = e.at;
       live_is = e.live_is;
@@ -87,10 +91,10 @@ whole keeps s machine first end listed input at none begins served lists =
     }
 
 -- the text of the run is the one pushed
-pub text_is : {T : Type 0} (keeps : T → List Call → List Answer → Type 0) (text : Text) (s : State) (input : List ℕ) (kept : T) (listed : Listed) (extents : List Extent) (output before : List ℕ) (w : IsWhole keeps s input kept listed) → extents ≡ listed.extents →
+pub text_is : {T : Type 0} (keeps : T → List Call → List Answer → Type 0) (text : Text) (s : State) (machine : Machine) (input : List ℕ) (kept : T) (listed : Listed) (extents : List Extent) (output before : List ℕ) (w : IsWhole keeps s machine input kept listed) → extents ≡ listed.extents →
     ((e : State) (calls : List Call) (answers : List Answer) → IsAt listed.machine e → keeps kept calls answers → output ≡ before ++ text listed.machine e listed.live listed.peak extents calls answers) → before ≡ []
     → output ≡ text_of_run text listed.machine s input w.answers w.state listed.extents w.replay.last.earlier
-text_is keeps text s input kept listed extents output before w same pushed empty =
+text_is keeps text s machine input kept listed extents output before w same pushed empty =
     let calls = calls_in (items_of input) in
     let earlier = w.replay.last.earlier in
     pushed w.state calls earlier w.at w.keeping
@@ -133,9 +137,9 @@ part_read keeps text s first last line l l1 t t1 n h short =
     record { taken = h.bytes; read = h.consumed; short = omega (arith, h.counted, short); front = []; written = silent_read keeps first last line l l1 t t1 n h; is = inl refl }
 
 -- one that stopped as it wrote
-pub part_written : {T : Type 0} (keeps : T → List Call → List Answer → Type 0) (text : Text) (s : State) (first last : Noted T) (kept : T) (listed : Listed) (line output : List ℕ) (l l1 t t1 t2 : Option (List ℕ)) (n k : ℕ) (h : HasRead (IsReplaying keeps) first last line l l1 t t1 n) → n ≤ 2 ^ 30 → IsAtEnd l1 → (w : IsWhole keeps s h.bytes kept listed)
+pub part_written : {T : Type 0} (keeps : T → List Call → List Answer → Type 0) (text : Text) (s : State) (machine : Machine) (first last : Noted T) (kept : T) (listed : Listed) (line output : List ℕ) (l l1 t t1 t2 : Option (List ℕ)) (n k : ℕ) (h : HasRead (IsReplaying keeps) first last line l l1 t t1 n) → n ≤ 2 ^ 30 → IsAtEnd l1 → (w : IsWhole keeps s machine h.bytes kept listed)
     → output ≡ text_of_run text listed.machine s h.bytes w.answers w.state listed.extents w.replay.last.earlier → Appends t1 t2 (take k output) → IsToldInPart text s l l1 t t2
-part_written keeps text s first last kept listed line output l l1 t t1 t2 n k h short done w is written = record {
+part_written keeps text s machine first last kept listed line output l l1 t t1 t2 n k h short done w is written = record {
   taken = h.bytes;
   read = h.consumed;
   short = omega (arith, h.counted, short);
@@ -157,14 +161,15 @@ part_written keeps text s first last kept listed line output l l1 t t1 t2 n k h 
 }
 
 -- one that ended well
-pub told : {T : Type 0} (keeps : T → List Call → List Answer → Type 0) (text : Text) (s : State) (first last : Noted T) (kept : T) (listed : Listed) (line output : List ℕ) (l l1 t t1 t2 : Option (List ℕ)) (flushed : Option ℕ) (n : ℕ) (h : HasRead (IsReplaying keeps) first last line l l1 t t1 n) → IsAtEnd l1 → (w : IsWhole keeps s h.bytes kept listed)
-    → output ≡ text_of_run text listed.machine s h.bytes w.answers w.state listed.extents w.replay.last.earlier → Appends t1 t2 output → IsAllFlushed t2 flushed → IsTold text s l l1 t t2 flushed listed.machine listed.extents
-told keeps text s first last kept listed line output l l1 t t1 t2 flushed n h done w is written all = record {
+pub told : {T : Type 0} (keeps : T → List Call → List Answer → Type 0) (text : Text) (s : State) (machine : Machine) (first last : Noted T) (kept : T) (listed : Listed) (line output : List ℕ) (l l1 t t1 t2 : Option (List ℕ)) (flushed : Option ℕ) (n : ℕ) (h : HasRead (IsReplaying keeps) first last line l l1 t t1 n) → IsAtEnd l1 → (w : IsWhole keeps s machine h.bytes kept listed)
+    → output ≡ text_of_run text listed.machine s h.bytes w.answers w.state listed.extents w.replay.last.earlier → Appends t1 t2 output → IsAllFlushed t2 flushed → IsTold text s machine l l1 t t2 flushed listed.machine listed.extents
+told keeps text s machine first last kept listed line output l l1 t t1 t2 flushed n h done w is written all = record {
   input = h.bytes;
   read = read_whole l l1 h.bytes h.consumed done;
   answers = w.answers;
   state = w.state;
   replay = w.replay;
+  steps = w.steps;
   written = subst (Appends t t2) is (appends_behind t t1 t2 output (silent_read keeps first last line l l1 t t1 n h) written);
   flushed_all = all;
   stands = w.at.stands;

@@ -7,6 +7,7 @@ use Rattle.heap_model.specs.declared.call.Call.TheVariants.{Extents}
 use Rattle.heap_model.specs.Extents.{IsTiling}
 use Rattle.heap_model.specs.State.{State}
 use Rattle.heap_model.specs.Run.{RunsTo}
+use Rattle.kernel_heap.specs.Steps.{StepsTo}
 use Rattle.heap_program.specs.Progress.{IsAt}
 use Rattle.heap_report.specs.declared.listed.Listed.{Listed}
 use Rattle.heap_report.specs.declared.replay.Replay.{Replay}
@@ -27,6 +28,7 @@ pub record IsListedFrom (s : State) (replay : Replay) (listed : Listed) : Type 0
   pub answer : Answer
   pub state : State
   pub run : RunsTo s (Some Extents ∷ []) (Some answer ∷ []) state
+  pub steps : StepsTo replay.machine (Some Extents ∷ []) (Some answer ∷ []) listed.machine
   pub lists : answer.reply ≡ Listing listed.extents
   pub tiles : IsTiling state listed.extents
   pub of_heap : AreTheHeapsExtents listed.machine listed.extents

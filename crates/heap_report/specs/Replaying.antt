@@ -3,11 +3,9 @@ use Rattle.std.specs.Prelude.{◌≡◌, max, sum, List, [], map, Some}
 use Rattle.heap_model.specs.declared.answer.Answer.{Answer}
 use Rattle.heap_model.specs.declared.call.Call.{Call}
 use Rattle.heap_model.specs.State.{State}
-use Rattle.heap_model.specs.Machine.{IsStep}
 use Rattle.heap_model.specs.Run.{RunsTo}
 use Rattle.kernel_heap.specs.declared.machine.Machine.{Machine}
-use Rattle.kernel_heap.specs.Machine.{seen}
-use Rattle.kernel_heap.specs.Moves.{HeapMoves}
+use Rattle.kernel_heap.specs.Steps.{HasStepped, StepsTo}
 use Rattle.heap_program.specs.Progress.{IsAt}
 use Rattle.heap_recorder.specs.Sizes.{sizes_after}
 use Rattle.heap_report.specs.declared.replay.Replay.{Replay}
@@ -18,19 +16,19 @@ pub record Follows (s : State) (replay : Replay) : Type 0 where
   pub at : IsAt replay.machine s
   pub sizes : replay.sizes ≡ sizes_of s
 
--- From the state s the calls were served, each by an answer that is allowed; the sizes and the peak are kept.
+-- From the state s the calls were served, each by an answer that is allowed and that the machine's step gave; the sizes and the peak
+-- are kept.
 pub record IsServedFrom (s : State) (old : Replay) (calls : List Call) (new : Replay) : Type 0 where
   pub answers : List Answer
   pub state : State
   pub run : RunsTo s (map Some calls) (map Some answers) state
+  pub steps : StepsTo old.machine (map Some calls) (map Some answers) new.machine
   pub follows : Follows state new
   pub peak_is : new.peak ≡ max old.peak (peak s calls answers)
 
--- The replay answered a call: as is allowed from each state for which its machine stood. Its heap moved as the answer tells, and the
--- sizes and the peak are kept.
+-- The replay answered a call: its machine took the step, and the sizes and the peak are kept.
 pub record IsAnswered (old : Replay) (call : Call) (answer : Answer) (new : Replay) : Type 0 where
-  pub step : (s : State) → IsAt old.machine s → IsStep s call answer (seen new.machine)
-  pub moves : HeapMoves old.machine.heap call answer.reply answer.large new.machine.heap
+  pub stepped : HasStepped old.machine call answer new.machine
   pub sizes : new.sizes ≡ sizes_after old.sizes call answer.reply
   pub peak_is : new.peak ≡ max old.peak (sum new.sizes)
 

@@ -10,6 +10,7 @@ use Rattle.heap_model.specs.Run.{IsGood, RunsTo}
 use Rattle.heap_model.specs.Machine.{Stands}
 use Rattle.kernel_heap.specs.declared.machine.Machine.{Machine}
 use Rattle.kernel_heap.specs.Machine.{seen}
+use Rattle.kernel_heap.specs.Steps.{StepsTo}
 use Rattle.heap_program.specs.Flushed.{IsAllFlushed}
 use Rattle.heap_program.specs.Headline.{IsReadWhole}
 use Rattle.heap_program.specs.Lines.{items_of}
@@ -37,9 +38,9 @@ abbrev pub text_of_run : EndText → Machine → State → List ℕ → List Ans
 text_of_run text machine s input answers state extents earlier =
     text machine state (live state) (peak s (calls_of input) answers) extents (calls_in (items_of input)) earlier
 
--- A run that ended well. The source had the input and, after it, has `left`; the sink had taken `before`, and then `after`, of
+-- A run of a machine that ended well. The source had the input and, after it, has `left`; the sink had taken `before`, and then `after`, of
 -- which `flushed` is flushed.
-pub record IsTold (text : EndText) (s : State) (had left before after : Option (List ℕ)) (flushed : Option ℕ) (machine : Machine) (extents : List Extent) : Type 0 where
+pub record IsTold (text : EndText) (s : State) (first : Machine) (had left before after : Option (List ℕ)) (flushed : Option ℕ) (machine : Machine) (extents : List Extent) : Type 0 where
   -- the source is read to its end
   pub input : List ℕ
   pub read : IsReadWhole had left input
@@ -47,6 +48,8 @@ pub record IsTold (text : EndText) (s : State) (had left before after : Option (
   pub answers : List Answer
   pub state : State
   pub replay : IsReplayOf s input answers state extents
+  -- and each is the one that the machine's own step gave
+  pub steps : StepsTo first (map Some (calls_of input)) (map Some answers) machine
   -- the text is written, and flushed
   pub written : Appends before after (text_of_run text machine s input answers state extents replay.last.earlier)
   pub flushed_all : IsAllFlushed after flushed

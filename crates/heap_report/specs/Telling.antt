@@ -4,7 +4,9 @@ use Rattle.std.specs.Io.KnownBytes.{Appends}
 use Rattle.dlmalloc_chunks.specs.declared.extent.Extent.{Extent}
 use Rattle.heap_model.specs.State.{State, start}
 use Rattle.heap_model.specs.declared.config.Config.{Config}
+use Rattle.kernel_heap.specs.declared.machine.Machine.{Machine}
 use Rattle.kernel_heap.specs.Config.{IsGoodConfig}
+use Rattle.kernel_heap.specs.Steps.{IsNewMachine}
 use Rattle.heap_program.specs.Command.{config_of}
 use Rattle.heap_program.specs.Faults.{HasRisen}
 use Rattle.heap_program.specs.Status.{TellsRefusal}
@@ -14,12 +16,12 @@ use Rattle.heap_report.specs.Reported.{EndText, IsTold, IsToldInPart}
 -- Under a configuration. The source had the input, and `left` after it; the sink had taken `before`, and then `after`, of which
 -- `flushed` is flushed. The counts are those of the faults, of the source and of the sink, before and after.
 pub record TellsOf (text : EndText) (config : Config) (had left before after : Option (List ℕ)) (flushed : Option ℕ) (reads reads' writes writes' : ℕ) (reported : Reported) : Type 0 where
-  -- at status 0 the machine and the extents are handed on; the source is read to its end, and the text is written
+  -- at status 0 the machine, which was new, and the extents are handed on; the source is read to its end, and the text is written
   pub machine : IsSome reported.machine ↔ (reported.status ≡ 0)
   pub extents : IsSome reported.extents ↔ (reported.status ≡ 0)
   pub told :
       IfSome reported.machine (λ machine. IfSome reported.extents (λ extents.
-      IsTold text (start config) had left before after flushed machine extents))
+      (first : Machine) × IsNewMachine config first × IsTold text (start config) first had left before after flushed machine extents))
   -- statuses 2 to 4 tell why no machine could be made
   pub refused : TellsRefusal config reported.status
   -- from 5 on a front of such a text is written, or nothing: at 6 and 8 nothing

@@ -3,29 +3,39 @@ use Rattle.std.proofs.Common.{List, [], ◌∷◌, ◌++◌, map, Some, Option, 
 use Rattle.std.proofs.lemmas.List.{map-append}
 use Rattle.heap_model.specs.declared.call.Call.{Call}
 use Rattle.heap_model.specs.declared.answer.Answer.{Answer}
-use Rattle.heap_model.specs.State.{State}
+use Rattle.heap_model.specs.declared.config.Config.{Config}
+use Rattle.heap_model.specs.State.{State, start}
 use Rattle.heap_model.specs.Answer.{after}
-use Rattle.heap_model.specs.Run.{IsGood, RunsTo}
-use Rattle.heap_model.specs.Machine.{Stands, IsStep}
+use Rattle.heap_model.specs.Run.{RunsTo}
 use Rattle.heap_model.proofs.Runs.{runs_none, run_on}
-use Rattle.kernel_heap.specs.Machine.{seen}
 use Rattle.kernel_heap.specs.Runs.{AreServed}
+use Rattle.kernel_heap.specs.Steps.{IsNewMachine, HasStepped, StepsTo}
 use Rattle.kernel_heap.specs.declared.machine.Machine.{Machine}
+use Rattle.kernel_heap.proofs.Steps.{step_one, steps_on}
 
 -- no call
-pub served_none : (s : State) (machine : Machine) → IsGood s → Stands (seen machine) s → AreServed s [] [] machine
-served_none s machine good stands = record { state = s; run = runs_none s; good = good; stands = stands }
+pub served_none : (config : Config) (machine : Machine) → IsNewMachine config machine → AreServed config [] [] machine
+served_none config machine new = record { first = machine; new = new; steps = refl; state = start config; run = runs_none (start config); good = new.good; stands = new.stands }
 
 -- one more
-pub served_more : (s : State) (calls : List Call) (answers : List Answer) (old new : Machine) (call : Call) (answer : Answer) (h : AreServed s calls answers old) → IsStep h.state call answer (seen new) → AreServed s (calls ++ call ∷ []) (answers ++ answer ∷ []) new
-served_more s calls answers old new call answer h step =
+pub served_more : (config : Config) (calls : List Call) (answers : List Answer) (old new : Machine) (call : Call) (answer : Answer) → AreServed config calls answers old → HasStepped old call answer new → AreServed config (calls ++ call ∷ []) (answers ++ answer ∷ []) new
+served_more config calls answers old new call answer h stepped =
+    let s = start config in
+    let step = stepped.allowed h.state h.good h.stands in
     let next = after h.state call answer in
     let one : RunsTo h.state (Some call ∷ []) (Some answer ∷ []) next = record { run = ((step.allowed, step.good), tt); last = refl } in
-    let all = run_on s h.state next (map Some calls) (Some call ∷ []) (map Some answers) (Some answer ∷ []) h.run one in
+    let items = sym (map-append Some calls (call ∷ [])) in
+    let given = sym (map-append Some answers (answer ∷ [])) in
     record {
+      first = h.first;
+      new = h.new;
+      steps = subst (λ (items : List (Option Call)). StepsTo h.first items (map Some (answers ++ answer ∷ [])) new) items
+          (subst (λ (given : List (Option Answer)). StepsTo h.first (map Some calls ++ Some call ∷ []) given new) given
+          (steps_on h.first old new (map Some calls) (Some call ∷ []) (map Some answers) (Some answer ∷ []) h.steps (step_one old new call answer stepped)));
       state = next;
-      run = subst (λ (items : List (Option Call)). RunsTo s items (map Some (answers ++ answer ∷ [])) next) (sym (map-append Some calls (call ∷ [])))
-          (subst (λ (given : List (Option Answer)). RunsTo s (map Some calls ++ Some call ∷ []) given next) (sym (map-append Some answers (answer ∷ []))) all);
+      run = subst (λ (items : List (Option Call)). RunsTo s items (map Some (answers ++ answer ∷ [])) next) items
+          (subst (λ (given : List (Option Answer)). RunsTo s (map Some calls ++ Some call ∷ []) given next) given
+          (run_on s h.state next (map Some calls) (Some call ∷ []) (map Some answers) (Some answer ∷ []) h.run one));
       good = step.good;
       stands = step.stands;
     }

@@ -10,6 +10,7 @@ pub mod StillRuns
 pub mod Bytes
 pub mod ByteRuns
 pub mod WordRuns
+pub mod Steps
 pub mod Calls
 pub mod Granted
 pub mod Allocated

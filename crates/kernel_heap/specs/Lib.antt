@@ -17,6 +17,7 @@ pub mod Refusing
 pub mod Blocks
 pub mod Kept
 pub mod Moves
+pub mod Steps
 pub mod Written
 pub mod Runs
 pub mod FlatWindow

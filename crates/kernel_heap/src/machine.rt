@@ -1,8 +1,5 @@
 // The machine: a numbered heap over a paged system, which is always sound, and the registers of the processor.
-ghost use Rattle.std.specs.Prelude.{◌≡◌, ℕ, IsTrue, IfOk, IfErr, IsOk, OnOk, OnErr};
-ghost use Rattle.heap_model.specs.State.{State, start};
-ghost use Rattle.heap_model.specs.Run.{IsGood};
-ghost use Rattle.heap_model.specs.Machine.{Stands, IsStep};
+ghost use Rattle.std.specs.Prelude.{◌≡◌, IsTrue, IfOk, IfErr, IsOk, OnOk, OnErr};
 ghost use Rattle.x86_registers.specs.Cr3.{root_of};
 ghost use Rattle.kernel_heap.specs.Config.{IsGoodConfig, IsConfigRefused};
 ghost use Rattle.kernel_heap.specs.Registers.{machine_cpu, cpu_after};
@@ -78,30 +75,28 @@ impl Model for Machine {
 }
 
 impl Machine {
-    ghost use Rattle.kernel_heap.specs.System.{paged};
-    ghost use Rattle.sound_heap.specs.Heap.{fresh_heap, IsIntact};
+    ghost use Rattle.sound_heap.specs.Heap.{IsIntact};
     ghost use Rattle.kernel_heap.specs.Heap.{regions, word};
-    ghost use Rattle.kernel_heap.specs.Machine.{seen, system_of, heap_of};
-    ghost use Rattle.kernel_heap.specs.Kept.{is_always_answered, lasting_pages, AreRunsUsedFor, leaves_all, IsReachedByte};
-    ghost use Rattle.kernel_heap.specs.Moves.{HeapMoves, IsStill};
+    ghost use Rattle.kernel_heap.specs.Machine.{system_of};
+    ghost use Rattle.kernel_heap.specs.Kept.{is_always_answered};
+    ghost use Rattle.kernel_heap.specs.Steps.{IsNewMachine, HasStepped, HasNotStepped};
 
     /// A machine with the configuration's window, granularity and frames. A configuration from which none can be
     /// made is refused before any memory is taken.
     pub fn new(alloc: Global, config: &Config) -> Result<Self, RunError>
-        ensures stands { IfOk result (λ machine. Stands (seen machine) (start config.now)) }
-        ensures heap { IfOk result (λ machine. heap_of machine.heap ≡ fresh_heap config.now.granularity config.now.rate) }
-        ensures registers { IfOk result (λ machine. machine.cpu ≡ machine_cpu (paged (system_of machine.heap)).root) }
-        ensures good { OnOk result (IsGood (start config.now)) }
+        ensures new { IfOk result (λ machine. IsNewMachine config.now machine) }
         ensures accepted { OnOk result (IsGoodConfig config.now) }
         ensures refused { IfErr result (λ error. IsConfigRefused config.now error) }
     {
         check(config)?;
         let system = PagedSystem::new(alloc, config.base, config.pages, config.frames)?;
         let cpu = registers(system.root());
+        let heap = Heap::with_settings(system, config.granularity, config.rate);
+        heap.is_intact();
         Ok(Machine {
             heap: NumberedHeap {
                 alloc,
-                heap: Heap::with_settings(system, config.granularity, config.rate),
+                heap,
                 blocks: NumberedBlocks::new(alloc),
                 list: Vec::new(alloc),
             },
@@ -123,36 +118,25 @@ impl Machine {
         &self.cpu
     }
 
-    /// The heap is sound, and its bins hold its free extents: what the order of its free chunks, in `heap` of
-    /// [`Machine::step`], begins with.
+    /// The heap is sound, and its bins hold its free extents. What [`Machine::step`] says of the order of free chunks
+    /// begins with that.
     pub fn is_intact(&self)
         ensures { IsIntact regions word self.now.heap.heap }
     {
         self.heap.heap.is_intact();
     }
 
-    /// Serves a call. The answer is allowed in each good state for which the machine stands, and afterwards the
-    /// machine stands for the state that the answer leaves. An `Err` leaves the machine as it was. A write, an unmap, a
-    /// probe and a setting take no memory, and are always answered.
+    /// Serves a call. The answer is allowed in each good state for which the machine stands, the machine then stands for
+    /// the state that the answer leaves, and its heap, slots and registers moved as the answer tells. An `Err` leaves the
+    /// machine as it was. A write, an unmap, a probe and a setting take no memory, and are always answered.
     #[inline(always)]
     pub fn step(&mut self, call: &Call) -> Result<Answer, AllocError>
-        ensures ok { (s : State) → IsGood s → Stands (seen self.old) s → IfOk result (λ answer. IsStep s call.now answer (seen self.new)) }
-        ensures err { OnErr result (seen self.new ≡ seen self.old) }
-        ensures heap { IfOk result (λ answer. HeapMoves self.old.heap call.now answer.reply answer.large self.new.heap) }
-        ensures heap_err { OnErr result (IsStill self.old.heap.heap self.new.heap.heap) }
-        // A refused call, one that only looks, a fault and a setting that is not accepted leave each byte, block and region as it was.
-        ensures kept { IfOk result (λ answer. IsTrue (leaves_all answer.reply) → seen self.new ≡ seen self.old) }
-        // After a map, or a block that was granted new pages, each slot that lies whole among the new pages and had no table is
-        // mapped by one entry, or no run of frames is free.
-        ensures runs { (s : State) → IsGood s → Stands (seen self.old) s → IfOk result (λ answer. AreRunsUsedFor (paged (system_of self.old.heap)) (paged (system_of self.new.heap)) (lasting_pages s call.now answer)) }
-        // A fault writes CR2, and nothing else changes a register.
-        ensures registers { IfOk result (λ answer. self.new.cpu ≡ cpu_after self.old.cpu call.now answer.reply) }
-        ensures registers_err { OnErr result (self.new.cpu ≡ self.old.cpu) }
-        // A byte that a probe shows is the one that the walk reaches.
-        ensures reached { IfOk result (λ answer. IsReachedByte (paged (system_of self.new.heap)) call.now answer.reply) }
+        ensures ok { IfOk result (λ answer. HasStepped self.old call.now answer self.new) }
+        ensures err { OnErr result (HasNotStepped self.old self.new) }
         ensures answered { IsTrue (is_always_answered call.now) → IsOk result }
     {
         let served = self.heap.serve(call);
+        self.heap.heap.is_intact();
         if let Ok(answer) = &served {
             note_fault(&mut self.cpu, call, &answer.reply);
         }

@@ -1,6 +1,5 @@
 // Calls as values, served one after the other.
 ghost use Rattle.std.specs.Prelude.{IfOk, IfErr, OnOk};
-ghost use Rattle.heap_model.specs.State.{start};
 ghost use Rattle.kernel_heap.specs.Config.{IsGoodConfig, IsConfigRefused};
 ghost use Rattle.kernel_heap.specs.Runs.{AreServed};
 
@@ -19,7 +18,7 @@ pub struct Run {
 /// Serves the calls with a new machine. Each answer is allowed in the state that the answers before it determine, and
 /// the machine stands for the last state.
 pub fn run_calls(alloc: Global, config: &Config, calls: &CallList) -> Result<Run, RunError>
-    ensures served { IfOk result (λ run. AreServed (start config.now) calls.now run.answers run.machine) }
+    ensures served { IfOk result (λ run. AreServed config.now calls.now run.answers run.machine) }
     ensures accepted { OnOk result (IsGoodConfig config.now) }
     ensures refused { IfErr result (λ error. IsConfigRefused config.now error) }
 {

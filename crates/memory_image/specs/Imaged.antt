@@ -1,16 +1,15 @@
 -- What the command does with its words.
 use Rattle.std.specs.Prelude.{◌≡◌, ◌≤◌, ◌<◌, ◌+◌, ◌^◌, ◌⊎◌, ◌↔◌, ℕ, List, [], ◌++◌, length, unwrap_or, Option, Some, None, IsSome, IfSome}
 use Rattle.std.specs.Io.KnownBytes.{Appends}
-use Rattle.heap_model.specs.State.{start}
 use Rattle.heap_model.specs.declared.config.Config.{Config}
 use Rattle.kernel_heap.specs.Config.{IsGoodConfig}
 use Rattle.kernel_heap.specs.declared.machine.Machine.{Machine}
+use Rattle.kernel_heap.specs.Steps.{IsNewMachine}
 use Rattle.heap_program.specs.Command.{config_of}
 use Rattle.heap_program.specs.Faults.{HasRisen}
 use Rattle.heap_program.specs.Flushed.{IsAllFlushed}
 use Rattle.heap_program.specs.Headline.{IsReadWhole}
 use Rattle.heap_program.specs.Lines.{items_of}
-use Rattle.heap_program.specs.Progress.{IsAt}
 use Rattle.heap_program.specs.Status.{TellsRefusal}
 use Rattle.memory_image.specs.declared.imaged.Imaged.{Imaged}
 use Rattle.memory_image.specs.Image.{image_text}
@@ -31,9 +30,9 @@ pub record IsImaged (first : Machine) (had left before after : Option (List ℕ)
 
 -- Under a configuration. The counts are those of the faults, of the source and of the sink, before and after.
 pub record ImagesOf (config : Config) (had left before after : Option (List ℕ)) (flushed : Option ℕ) (reads reads' writes writes' : ℕ) (imaged : Imaged) : Type 0 where
-  -- at status 0 the machine is handed on, which a new one became that stands for the state at the start
+  -- at status 0 the machine is handed on, which a new one became
   pub machine : IsSome imaged.machine ↔ (imaged.status ≡ 0)
-  pub image : IfSome imaged.machine (λ last. (first : Machine) × IsAt first (start config) × IsImaged first had left before after flushed last)
+  pub image : IfSome imaged.machine (λ last. (first : Machine) × IsNewMachine config first × IsImaged first had left before after flushed last)
   -- statuses 2 to 4 say why no machine could be made
   pub refused : TellsRefusal config imaged.status
   -- at 6 the source failed, at 7 the sink, and at 8 the input is too long; and 5 is what is left, for want of memory

@@ -1,13 +1,42 @@
-use Rattle.std.proofs.Common.{rules, arith, ◌≡◌, Some, IfSome, inl, inr, refl, sym, subst}
-use Rattle.heap_model.specs.State.{start}
-use Rattle.heap_program.specs.declared.arguments.Command.TheVariants.{Generate}
+use Rattle.std.proofs.Common.{rules, arith, ℕ, ◌≡◌, Some, IfSome, inl, inr, refl, sym, subst}
+use Rattle.heap_model.specs.declared.config.Config.{Config}
+use Rattle.heap_program.specs.declared.arguments.Command.TheVariants.{Run, Generate}
 use Rattle.heap_program.specs.Command.{command_of}
 use Rattle.heap_program.specs.Done.{IsStatusOf}
-use Rattle.heap_program.specs.Generated.{IsGenerated}
+use Rattle.heap_program.specs.Stepped.{IsAnsweredByNew, IsGeneratedByNew}
 use Rattle.heap_program.specs.Streams.{streams}
-use Rattle.heap_program.proofs.Commands.{complete_status, unread_long}
+use Rattle.heap_program.proofs.Commands.{complete_status, unread_long, same_run, same_generate, one_kind}
 use Rattle.heap_program.proofs.LiveBlocks.{generated_live}
 use Rattle.heap_program.proofs.command.heap_main.Goals as goal
+
+-- the steps of a machine that was new
+pub returns-in-Some-Run-clause-steps : goal.returns-in-Some-Run-clause-steps
+returns-in-Some-Run-clause-steps g c =
+    let left = g.S.Source.left in
+    let taken = g.K.Sink.taken in
+    let words = command_of c.args.words.now in
+    let known : words ≡ Some (Run c.in-Some-Run.config) = (let value = c.command_of.ensures.value in let some = c.in-Some-Run.is in let what = c.in-Some-Run.field-0-is in cc) in
+    record {
+      run = λ config is.
+          same_run words c.in-Some-Run.config config known is
+          (λ (k : Config). IfSome c.run_new.result.machine (IsAnsweredByNew k (left c.args.source.now) (left c.run_new.new.source) (taken c.args.sink.now) (taken c.run_new.new.sink) (g.K.Sink.flushed c.run_new.new.sink)))
+          c.run_new.ensures.steps;
+      generated = λ seed count config is. absurd (one_kind words c.in-Some-Run.config seed count config known is);
+    }
+
+pub returns-in-Some-Generate-clause-steps : goal.returns-in-Some-Generate-clause-steps
+returns-in-Some-Generate-clause-steps g c =
+    let taken = g.K.Sink.taken in
+    let words = command_of c.args.words.now in
+    let it = c.in-Some-Generate in
+    let known : words ≡ Some (Generate it.seed it.count it.config) = (let value = c.command_of.ensures.value in let some = c.in-Some-Generate.is in let what = c.in-Some-Generate.field-0-is in cc) in
+    record {
+      run = λ config is. absurd (one_kind words config it.seed it.count it.config is known);
+      generated = λ seed count config is.
+          same_generate words it.seed it.count it.config seed count config known is
+          (λ (i n : ℕ) (k : Config). IfSome c.generate_new.result.machine (IsGeneratedByNew k i n (taken c.args.sink.now) (taken c.generate_new.new.sink) (g.K.Sink.flushed c.generate_new.new.sink)))
+          c.generate_new.ensures.generated;
+    }
 
 -- what calls that are drawn leave, with where the live blocks lie
 pub returns-in-Some-Generate-clause-generated : goal.returns-in-Some-Generate-clause-generated
@@ -15,9 +44,14 @@ returns-in-Some-Generate-clause-generated g c = λ seed count config is.
     let taken = g.K.Sink.taken in
     let flushed = g.K.Sink.flushed c.generate_new.new.sink in
     let statuses = c.generate_new.ensures.statuses in
-    let done : IfSome c.generate_new.result.machine (λ m. IsGenerated (start config) seed count (taken c.args.sink.now) (taken c.generate_new.new.sink) flushed m) = search rules in
+    let words = command_of c.args.words.now in
+    let it = c.in-Some-Generate in
+    let known : words ≡ Some (Generate it.seed it.count it.config) = (let value = c.command_of.ensures.value in let some = c.in-Some-Generate.is in let what = c.in-Some-Generate.field-0-is in cc) in
+    let done : IfSome c.generate_new.result.machine (IsGeneratedByNew config seed count (taken c.args.sink.now) (taken c.generate_new.new.sink) flushed) =
+    same_generate words it.seed it.count it.config seed count config known is
+    (λ (i n : ℕ) (k : Config). IfSome c.generate_new.result.machine (IsGeneratedByNew k i n (taken c.args.sink.now) (taken c.generate_new.new.sink) flushed)) c.generate_new.ensures.generated in
     record {
-      generated = generated_live c.generate_new.result.machine (start config) seed count (taken c.args.sink.now) (taken c.generate_new.new.sink) flushed done;
+      generated = generated_live c.generate_new.result.machine config seed count (taken c.args.sink.now) (taken c.generate_new.new.sink) flushed done;
       stopped = search rules;
       unread = (refl, statuses.2, statuses.1);
     }

@@ -1,7 +1,7 @@
-use Rattle.std.proofs.Common.{rules, arith, ℕ, List, [], ◌<◌, ◌+◌, ◌^◌, length, refl, ◌∙◌}
+use Rattle.std.proofs.Common.{rules, arith, ℕ, List, [], ◌<◌, ◌+◌, ◌^◌, length, inl, inr, refl, ◌∙◌}
 use Rattle.std.specs.Prelude.{unwrap_or}
 use Rattle.heap_model.specs.State.{start}
-use Rattle.heap_program.proofs.Commands.{ok_status, stop_status, complete_status}
+use Rattle.heap_program.proofs.Commands.{made_status, ok_status, stop_status, complete_status}
 use Rattle.heap_program.proofs.LiveBlocks.{holds_blocks}
 use Rattle.heap_program.proofs.Wholes.{seen_first}
 use Rattle.heap_program.proofs.command.run_new.Goals as goal
@@ -31,32 +31,32 @@ returns-in-Err-clause-status g c = record {
 -- the run ended well
 pub returns-in-Ok-run-clause-run : goal.returns-in-Ok-run-clause-run
 returns-in-Ok-run-clause-run g c =
-    let run = c.in-Ok-run.ensures.answered (start c.args.config.now) (record { good = c.in-Ok.ensures.good; stands = c.in-Ok.ensures.stands }) refl in
+    let new = c.in-Ok.ensures.new in
+    let run = (c.in-Ok-run.ensures.answered (start c.args.config.now) (record { good = new.good; stands = new.stands }) refl).run in
     record {
       answered = (run, holds_blocks _ run.state run.good run.stands);
-      stopped = search rules;
-      caught_up = search rules;
-      caught_up_long = search rules;
+      stopped = λ late. absurd (omega (arith, late));
+      caught_up = λ six. absurd (omega (arith, six));
+      caught_up_long = λ eight. absurd (omega (arith, eight));
     }
+
+pub returns-in-Ok-run-clause-steps : goal.returns-in-Ok-run-clause-steps
+returns-in-Ok-run-clause-steps g c =
+    let new = c.in-Ok.ensures.new in
+    (c.in-Ok.machine, new, c.in-Ok-run.ensures.answered (start c.args.config.now) (record { good = new.good; stands = new.stands }) refl)
 
 pub returns-in-Ok-run-clause-status : goal.returns-in-Ok-run-clause-status
 returns-in-Ok-run-clause-status g c =
     let left = g.S.Source.left in
-    let good = c.in-Ok.ensures.accepted in
     record {
       few = search rules;
       usage = search rules;
-      refused = record {
-        window = (λ is. absurd (omega (arith, is)), λ bad. absurd (bad good.window));
-        granularity = (λ is. absurd (omega (arith, is)), λ bad. absurd (bad.1 good.granularity));
-        frames = (λ is. absurd (omega (arith, is)), λ bad. absurd (let none = bad.2 in let some = good.frames in omega (arith, none, some)));
-        good = λ which. good;
-      };
+      refused = made_status c.args.config.now c.in-Ok.ensures.accepted;
       untouched = search rules;
       read_fault = search rules;
       write_fault = search rules;
       too_long = ok_status (left c.args.source.now) c.in-Ok-run.machine (λ (input : List ℕ). 2 ^ 30 + length (unwrap_or (left c.run.new.source) []) < length input) c.in-Ok-run.ensures.too_long;
-      flushed = search rules;
+      flushed = λ which. absurd (elim which [ inl six ↦ omega (arith, six) | inr eight ↦ omega (arith, eight) ]);
       complete = search rules;
     }
 
@@ -66,9 +66,9 @@ returns-in-Err-run-clause-run g c =
     let fresh = c.in-Ok.ensures in
     record {
       answered = search rules;
-      stopped = λ late. c.in-Err-run.ensures.stopped (start c.args.config.now) (record { good = fresh.good; stands = fresh.stands });
-      caught_up = λ six. c.in-Err-run.ensures.at_fault (search rules) (start c.args.config.now) (record { good = fresh.good; stands = fresh.stands });
-      caught_up_long = λ eight. c.in-Err-run.ensures.at_length (search rules) (start c.args.config.now) (record { good = fresh.good; stands = fresh.stands });
+      stopped = λ late. c.in-Err-run.ensures.stopped (start c.args.config.now) (record { good = fresh.new.good; stands = fresh.new.stands });
+      caught_up = λ six. c.in-Err-run.ensures.at_fault (search rules) (start c.args.config.now) (record { good = fresh.new.good; stands = fresh.new.stands });
+      caught_up_long = λ eight. c.in-Err-run.ensures.at_length (search rules) (start c.args.config.now) (record { good = fresh.new.good; stands = fresh.new.stands });
     }
 
 pub returns-in-Err-run-clause-status : goal.returns-in-Err-run-clause-status

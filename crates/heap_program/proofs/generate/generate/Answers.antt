@@ -1,5 +1,6 @@
 use Rattle.std.proofs.Common.{◌≡◌, ◌⊎◌, string_bytes, sym, subst}
 use Rattle.heap_program.specs.Progress.{IsAt}
+use Rattle.heap_program.specs.Stepped.{IsGeneratedBy}
 use Rattle.heap_program.proofs.Draws.{all_drawn, whole_text, none_generated, part_generated, all_generated}
 use Rattle.heap_program.proofs.Errors.{if_err, on_err}
 use Rattle.heap_program.specs.declared.run.Stop.{Stop}
@@ -24,8 +25,8 @@ returns-in_err-write_out-clause-stopped g c = on_err c.from_residual-in_err-writ
     (c.in_ok-draw_calls.ensures s (subst (λ (m : Machine). IsAt m s) (sym first.machine) at)) in
     let out = string_bytes c.push_end.new.out in
     let part = c.in_err-write_out.ensures.err in
-    part_generated s c.args.seed c.args.count drawing w out (g.K.Sink.taken c.args.sink.now) (g.K.Sink.taken c.write_out.new.sink) part.0
-    (whole_text s c.args.seed c.args.count drawing w (string_bytes c.new-output.result) (string_bytes c.push_tally.new.out) out c.new-output.ensures.bytes c.in_ok-push_tally.ensures (c.in_ok-push_end.ensures w.state w.at.stands)) part.1)
+    part_generated s c.new-drawing.result.machine c.args.seed c.args.count drawing w out (g.K.Sink.taken c.args.sink.now) (g.K.Sink.taken c.write_out.new.sink) part.0
+    (whole_text s c.new-drawing.result.machine c.args.seed c.args.count drawing w (string_bytes c.new-output.result) (string_bytes c.push_tally.new.out) out c.new-output.ensures.bytes c.in_ok-push_tally.ensures (c.in_ok-push_end.ensures w.state w.at.stands)) part.1)
 
 pub returns-in_err-write_out-clause-which : goal.returns-in_err-write_out-clause-which
 returns-in_err-write_out-clause-which g c =
@@ -40,6 +41,7 @@ returns-clause-generated g c s at =
     let w = all_drawn s c.args.seed c.args.count c.new-drawing.result drawing first.state first.given first.refused
     (c.in_ok-draw_calls.ensures s (subst (λ (m : Machine). IsAt m s) (sym first.machine) at)) in
     let out = string_bytes c.push_end.new.out in
-    all_generated s c.args.seed c.args.count drawing w out (g.K.Sink.taken c.args.sink.now) (g.K.Sink.taken c.write_out.new.sink) (g.K.Sink.flushed c.write_out.new.sink)
-    (whole_text s c.args.seed c.args.count drawing w (string_bytes c.new-output.result) (string_bytes c.push_tally.new.out) out c.new-output.ensures.bytes c.in_ok-push_tally.ensures (c.in_ok-push_end.ensures w.state w.at.stands))
-    c.in_ok-write_out.ensures.ok c.in_ok-write_out.ensures.flushed
+    subst (λ (m : Machine). IsGeneratedBy m s c.args.seed c.args.count (g.K.Sink.taken c.args.sink.now) (g.K.Sink.taken c.write_out.new.sink) (g.K.Sink.flushed c.write_out.new.sink) drawing.machine) first.machine
+    (all_generated s c.new-drawing.result.machine c.args.seed c.args.count drawing w out (g.K.Sink.taken c.args.sink.now) (g.K.Sink.taken c.write_out.new.sink) (g.K.Sink.flushed c.write_out.new.sink)
+    (whole_text s c.new-drawing.result.machine c.args.seed c.args.count drawing w (string_bytes c.new-output.result) (string_bytes c.push_tally.new.out) out c.new-output.ensures.bytes c.in_ok-push_tally.ensures (c.in_ok-push_end.ensures w.state w.at.stands))
+    c.in_ok-write_out.ensures.ok c.in_ok-write_out.ensures.flushed)

@@ -1,5 +1,11 @@
 use Rattle.heap_model.specs.State.{start}
+use Rattle.heap_program.proofs.Commands.{made_status}
 use Rattle.heap_program.proofs.generate.generate_new.Goals as goal
 
 pub returns-in-Ok-generate-clause-generated : goal.returns-in-Ok-generate-clause-generated
-returns-in-Ok-generate-clause-generated g c = c.in-Ok-generate.ensures.generated (start c.args.config.now) (record { good = c.in-Ok.ensures.good; stands = c.in-Ok.ensures.stands })
+returns-in-Ok-generate-clause-generated g c =
+    let new = c.in-Ok.ensures.new in
+    (c.in-Ok.machine, new, c.in-Ok-generate.ensures.generated (start c.args.config.now) (record { good = new.good; stands = new.stands }))
+
+pub returns-in-Ok-generate-clause-refused : goal.returns-in-Ok-generate-clause-refused
+returns-in-Ok-generate-clause-refused g c = made_status c.args.config.now c.in-Ok.ensures.accepted

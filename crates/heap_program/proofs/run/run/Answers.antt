@@ -1,5 +1,7 @@
-use Rattle.std.proofs.Common.{Err, List, Option, length, ap}
+use Rattle.std.proofs.Common.{Err, List, Option, length, ap, subst}
 use Rattle.heap_model.specs.State.{Block}
+use Rattle.kernel_heap.specs.declared.machine.Machine.{Machine}
+use Rattle.heap_program.specs.Stepped.{IsAnsweredBy}
 use Rattle.heap_program.specs.declared.run.Stop.{Stop}
 use Rattle.heap_program.specs.declared.run.Stop.TheVariants.{ReadFault, TooLong}
 use Rattle.heap_program.proofs.Errors.{on_err}
@@ -62,8 +64,9 @@ returns-clause-answered g c s at none =
     let h = c.in_ok-read_all.ensures.ok in
     let first = begun s c.new-session.result c.args.machine c.new-session.ensures.responder at in
     let b = h.responded.responses s first in
-    answered s c.new-session.result.responder c.read_all.new.session.responder c.close.new.session.responder c.read_all.new.session.line (left c.args.source.now) (left c.read_all.new.source) (taken c.args.sink.now) (taken c.read_all.new.sink) (taken c.close.new.sink) (g.K.Sink.flushed c.close.new.sink) c.in_ok-read_all.field-0
-    first h (ap (λ (blocks : List (Option Block)). length blocks) none) c.in_ok-read_all.ensures.short c.in_ok-read_all.ensures.end (c.in_ok-close.ensures.ok b.state b.at) c.in_ok-close.ensures.flushed
+    subst (λ (m : Machine). IsAnsweredBy m s (left c.args.source.now) (left c.read_all.new.source) (taken c.args.sink.now) (taken c.close.new.sink) (g.K.Sink.flushed c.close.new.sink) c.close.new.session.responder) c.new-session.ensures.responder
+    (answered s c.new-session.result.responder c.read_all.new.session.responder c.close.new.session.responder c.read_all.new.session.line (left c.args.source.now) (left c.read_all.new.source) (taken c.args.sink.now) (taken c.read_all.new.sink) (taken c.close.new.sink) (g.K.Sink.flushed c.close.new.sink) c.in_ok-read_all.field-0
+    first h (ap (λ (blocks : List (Option Block)). length blocks) none) c.in_ok-read_all.ensures.short c.in_ok-read_all.ensures.end (c.in_ok-close.ensures.ok b.state b.at) c.in_ok-close.ensures.flushed)
 
 pub returns-clause-too_long : goal.returns-clause-too_long
 returns-clause-too_long g c =

@@ -1,7 +1,7 @@
-use Rattle.std.proofs.Common.{rules, arith, ℕ, List, [], ◌<◌, ◌+◌, ◌^◌, length, inl, refl, ◌∙◌}
+use Rattle.std.proofs.Common.{rules, arith, ℕ, List, [], ◌<◌, ◌+◌, ◌^◌, length, inl, inr, refl, ◌∙◌}
 use Rattle.std.specs.Prelude.{unwrap_or}
 use Rattle.heap_model.specs.State.{start}
-use Rattle.heap_program.proofs.Commands.{complete_status}
+use Rattle.heap_program.proofs.Commands.{made_status, complete_status}
 use Rattle.heap_report.proofs.Lengths.{ok_status, stop_status}
 use Rattle.heap_report.proofs.Whole.{part_first}
 use Rattle.heap_report.proofs.tell.tell_new.Goals as goal
@@ -22,27 +22,21 @@ returns-in-Err-clause-tells g c = record {
 }
 
 pub tell_run-requires : goal.tell_run-requires
-tell_run-requires g c = (start c.args.config.now, record { good = c.in-Ok.ensures.good; stands = c.in-Ok.ensures.stands }, refl)
+tell_run-requires g c = (start c.args.config.now, record { good = c.in-Ok.ensures.new.good; stands = c.in-Ok.ensures.new.stands }, refl)
 
 -- the run was told of
 pub returns-in-Ok-tell_run-clause-tells : goal.returns-in-Ok-tell_run-clause-tells
 returns-in-Ok-tell_run-clause-tells g c =
     let left = g.S.Source.left in
-    let good = c.in-Ok.ensures.accepted in
     record {
       machine = search rules;
       extents = search rules;
-      told = c.in-Ok-tell_run.ensures.told (start c.args.config.now) (record { good = c.in-Ok.ensures.good; stands = c.in-Ok.ensures.stands }) refl;
-      refused = record {
-        window = (λ is. absurd (omega (arith, is)), λ bad. absurd (bad good.window));
-        granularity = (λ is. absurd (omega (arith, is)), λ bad. absurd (bad.1 good.granularity));
-        frames = (λ is. absurd (omega (arith, is)), λ bad. absurd (let none = bad.2 in let some = good.frames in omega (arith, none, some)));
-        good = λ which. good;
-      };
-      part = search rules;
-      silent = search rules;
-      read_fault = search rules;
-      write_fault = search rules;
+      told = (c.in-Ok.machine, c.in-Ok.ensures.new, c.in-Ok-tell_run.ensures.told (start c.args.config.now) (record { good = c.in-Ok.ensures.new.good; stands = c.in-Ok.ensures.new.stands }) refl);
+      refused = made_status c.args.config.now c.in-Ok.ensures.accepted;
+      part = λ late. absurd (omega (arith, late));
+      silent = λ which. absurd (elim which [ inl six ↦ omega (arith, six) | inr eight ↦ omega (arith, eight) ]);
+      read_fault = λ six. absurd (omega (arith, six));
+      write_fault = λ seven. absurd (omega (arith, seven));
       too_long = ok_status (left c.args.source.now) c.in-Ok-tell_run.listed (λ (input : List ℕ). 2 ^ 30 + length (unwrap_or (left c.tell_run.new.source) []) < length input) c.in-Ok-tell_run.ensures.too_long;
       complete = λ good unread unwritten. inl refl;
     }
@@ -56,7 +50,7 @@ returns-in-Err-tell_run-clause-tells g c =
       extents = search rules;
       told = search rules;
       refused = search rules;
-      part = λ late. c.in-Err-tell_run.ensures.part (start c.args.config.now) (record { good = c.in-Ok.ensures.good; stands = c.in-Ok.ensures.stands }) refl;
+      part = λ late. c.in-Err-tell_run.ensures.part (start c.args.config.now) (record { good = c.in-Ok.ensures.new.good; stands = c.in-Ok.ensures.new.stands }) refl;
       silent = search rules;
       read_fault = search rules;
       write_fault = search rules;

@@ -111,8 +111,8 @@ returns-in_err-write_out-clause-part g c = on_err c.from_residual-in_err-write_o
     let served = served_input g.T.Tell.keeps first last.responder end last.line (left c.args.source.now) (left c.read_all.new.source) (taken c.args.sink.now) (taken c.read_all.new.sink) c.in_ok-read_all.field-0 (string_bytes last.output) (string_bytes c.end.new.self.output) h c.in_ok-end.ensures in
     let w = whole g.T.Tell.keeps s c.args.machine first end listed h.bytes at none begun served c.in_ok-listed.ensures in
     let part = c.in_err-write_out.ensures.err in
-    part_written g.T.Tell.keeps g.T.Tell.text s first last.responder end.kept listed last.line (string_bytes c.push.new.output) (left c.args.source.now) (left c.read_all.new.source) (taken c.args.sink.now) (taken c.read_all.new.sink) (taken c.write_out.new.sink) c.in_ok-read_all.field-0 part.0
-    h c.in_ok-read_all.ensures.short c.in_ok-read_all.ensures.end w (text_is g.T.Tell.keeps g.T.Tell.text s h.bytes end.kept listed c.as_slice.result.now (string_bytes c.push.new.output) (string_bytes c.new-output.result) w c.as_slice.ensures c.in_ok-push.ensures (search rules)) part.1)
+    part_written g.T.Tell.keeps g.T.Tell.text s c.args.machine first last.responder end.kept listed last.line (string_bytes c.push.new.output) (left c.args.source.now) (left c.read_all.new.source) (taken c.args.sink.now) (taken c.read_all.new.sink) (taken c.write_out.new.sink) c.in_ok-read_all.field-0 part.0
+    h c.in_ok-read_all.ensures.short c.in_ok-read_all.ensures.end w (text_is g.T.Tell.keeps g.T.Tell.text s c.args.machine h.bytes end.kept listed c.as_slice.result.now (string_bytes c.push.new.output) (string_bytes c.new-output.result) w c.as_slice.ensures c.in_ok-push.ensures (search rules)) part.1)
 
 pub returns-in_err-write_out-clause-silent : goal.returns-in_err-write_out-clause-silent
 returns-in_err-write_out-clause-silent g c which =
@@ -147,8 +147,8 @@ returns-clause-told g c s at none =
     let begun = subst (λ noted. IsBegunWith g.T.Tell.keeps c.args.machine noted) (sym c.new-session.ensures.responder) c.new.ensures in
     let served = served_input g.T.Tell.keeps first last.responder end last.line (left c.args.source.now) (left c.read_all.new.source) (taken c.args.sink.now) (taken c.read_all.new.sink) c.in_ok-read_all.field-0 (string_bytes last.output) (string_bytes c.end.new.self.output) h c.in_ok-end.ensures in
     let w = whole g.T.Tell.keeps s c.args.machine first end listed h.bytes at none begun served c.in_ok-listed.ensures in
-    told g.T.Tell.keeps g.T.Tell.text s first last.responder end.kept listed last.line (string_bytes c.push.new.output) (left c.args.source.now) (left c.read_all.new.source) (taken c.args.sink.now) (taken c.read_all.new.sink) (taken c.write_out.new.sink) (g.K.Sink.flushed c.write_out.new.sink) c.in_ok-read_all.field-0
-    h c.in_ok-read_all.ensures.end w (text_is g.T.Tell.keeps g.T.Tell.text s h.bytes end.kept listed c.as_slice.result.now (string_bytes c.push.new.output) (string_bytes c.new-output.result) w c.as_slice.ensures c.in_ok-push.ensures (search rules)) c.in_ok-write_out.ensures.ok c.in_ok-write_out.ensures.flushed
+    told g.T.Tell.keeps g.T.Tell.text s c.args.machine first last.responder end.kept listed last.line (string_bytes c.push.new.output) (left c.args.source.now) (left c.read_all.new.source) (taken c.args.sink.now) (taken c.read_all.new.sink) (taken c.write_out.new.sink) (g.K.Sink.flushed c.write_out.new.sink) c.in_ok-read_all.field-0
+    h c.in_ok-read_all.ensures.end w (text_is g.T.Tell.keeps g.T.Tell.text s c.args.machine h.bytes end.kept listed c.as_slice.result.now (string_bytes c.push.new.output) (string_bytes c.new-output.result) w c.as_slice.ensures c.in_ok-push.ensures (search rules)) c.in_ok-write_out.ensures.ok c.in_ok-write_out.ensures.flushed
 
 pub returns-clause-too_long : goal.returns-clause-too_long
 returns-clause-too_long g c =

@@ -1,6 +1,6 @@
 use Rattle.std.proofs.Common.{rules, arith, ℕ, List, [], ◌<◌, ◌+◌, ◌^◌, length, inl, refl, ◌∙◌}
 use Rattle.std.specs.Prelude.{unwrap_or}
-use Rattle.heap_program.proofs.Commands.{complete_status, ok_status, stop_status}
+use Rattle.heap_program.proofs.Commands.{made_status, complete_status, ok_status, stop_status}
 use Rattle.memory_image.proofs.command.image_new.Goals as goal
 
 -- no machine was made
@@ -19,18 +19,12 @@ returns-in-Err-clause-images g c = record {
 pub returns-in-Ok-image_run-clause-images : goal.returns-in-Ok-image_run-clause-images
 returns-in-Ok-image_run-clause-images g c =
     let left = g.S.Source.left in
-    let good = c.in-Ok.ensures.accepted in
     record {
       machine = search rules;
-      image = (c.in-Ok.machine, record { good = c.in-Ok.ensures.good; stands = c.in-Ok.ensures.stands }, c.in-Ok-image_run.ensures.imaged);
-      refused = record {
-        window = (λ is. absurd (omega (arith, is)), λ bad. absurd (bad good.window));
-        granularity = (λ is. absurd (omega (arith, is)), λ bad. absurd (bad.1 good.granularity));
-        frames = (λ is. absurd (omega (arith, is)), λ bad. absurd (let none = bad.2 in let some = good.frames in omega (arith, none, some)));
-        good = λ which. good;
-      };
-      read_fault = search rules;
-      write_fault = search rules;
+      image = (c.in-Ok.machine, c.in-Ok.ensures.new, c.in-Ok-image_run.ensures.imaged);
+      refused = made_status c.args.config.now c.in-Ok.ensures.accepted;
+      read_fault = λ six. absurd (omega (arith, six));
+      write_fault = λ seven. absurd (omega (arith, seven));
       too_long = ok_status (left c.args.source.now) c.in-Ok-image_run.machine (λ (input : List ℕ). 2 ^ 30 + length (unwrap_or (left c.image_run.new.source) []) < length input) c.in-Ok-image_run.ensures.too_long;
       complete = λ good unread unwritten. inl refl;
     }

@@ -2,6 +2,8 @@ use Rattle.std.proofs.Common.{ℕ, ◌+◌, [], ◌∷◌, Some, refl, ◌∙◌
 use Rattle.heap_model.specs.declared.call.Call.{Call}
 use Rattle.heap_model.specs.Answer.{after}
 use Rattle.heap_model.specs.Run.{RunsTo}
+use Rattle.kernel_heap.specs.Steps.{StepsTo}
+use Rattle.kernel_heap.proofs.Steps.{step_one}
 use Rattle.heap_program.specs.Generator.{numbers_given}
 use Rattle.heap_program.proofs.generate.Drawing.draw_call.Goals as goal
 
@@ -11,7 +13,7 @@ returns-clause-drawn c =
     let answer = c.in_ok-answer.answer in
     let same = c.in_ok-call.ensures.0 in
     λ s at.
-    let st = c.in_ok-answer.ensures.ok s at.good at.stands in
+    let st = c.in_ok-answer.ensures.ok.allowed s at.good at.stands in
     record {
       answer = answer;
       next = c.in_ok-call.ensures.1;
@@ -19,5 +21,6 @@ returns-clause-drawn c =
       refused = ap (λ (n : ℕ). c.args.self.now.refused + n) c.refusals.ensures;
       state = after s call answer;
       run = subst (λ (k : Call). RunsTo s (Some k ∷ []) (Some answer ∷ []) (after s call answer)) same (record { run = ((st.allowed, st.good), tt); last = refl });
+      steps = subst (λ (k : Call). StepsTo c.args.self.now.machine (Some k ∷ []) (Some answer ∷ []) c.step.new.self) same (step_one c.args.self.now.machine c.step.new.self call answer c.in_ok-answer.ensures.ok);
       at = record { good = st.good; stands = st.stands };
     }

@@ -11,5 +11,5 @@ returns c = on_ok_weaker c.push_end.result (λ written s at.
     record {
       told = h.told ++ last;
       output = written a.state a.at.stands ∙ ap (λ (l : List ℕ). l ++ last) h.output ∙ append_assoc (string_bytes c.args.self.now.output) h.told last;
-      end = record { answers = a.answers; state = a.state; run = a.run; at = a.at; text = ap (λ (l : List ℕ). l ++ last) a.text };
+      end = record { answers = a.answers; state = a.state; run = a.run; steps = a.steps; at = a.at; text = ap (λ (l : List ℕ). l ++ last) a.text };
     }) c.push_end.ensures

@@ -1,33 +1,25 @@
-use Rattle.std.proofs.Common.{◌≡◌, subst, sym}
-use Rattle.std.proofs.lemmas.Result.{IfOk-weaker}
-use Rattle.x86_registers.specs.Cr3.{root_of}
-use Rattle.heap_model.specs.Machine.{Stands}
+use Rattle.std.proofs.Common.{◌≡◌, rules, IfOk, refl, subst}
+use Rattle.std.specs.Prelude.{OnErr}
 use Rattle.kernel_heap.specs.Parts.{Parts}
-use Rattle.kernel_heap.specs.Machine.{seen, seen_with, system_of}
-use Rattle.kernel_heap.specs.Kept.{lasting_pages, AreRunsUsedFor}
-use Rattle.std.specs.Prelude.{IfOk, OnErr}
-use Rattle.kernel_heap.specs.Moves.{IsStill}
-use Rattle.kernel_heap.specs.System.{paged}
+use Rattle.kernel_heap.specs.Registers.{cpu_after}
+use Rattle.kernel_heap.specs.Steps.{HasStepped, HasNotStepped}
+use Rattle.kernel_heap.proofs.Steps.{stepped, not_stepped}
 use Rattle.kernel_heap.proofs.machine.Machine.step.Goals as goal
 
 -- the root stays the frame in CR3
 pub returns-in-Ok-clause-ok : goal.returns-in-Ok-clause-ok
-returns-in-Ok-clause-ok c = λ s good stands.
-    rw c.note_fault.ensures.root
-    (c.serve-served.ensures.ok (root_of c.self.inside.cpu.cr3) s good (subst (λ (parts : Parts). Stands (seen parts) s) (sym c.self.view_is) stands))
+returns-in-Ok-clause-ok c =
+    let old : Parts = record { heap = c.self.inside.heap; cpu = c.self.inside.cpu } in
+    let new : Parts = record { heap = c.serve-served.new.self; cpu = c.note_fault.new.cpu } in
+    let call = c.args.call.now in
+    let registers : IfOk c.serve-served.result (λ answer. new.cpu ≡ cpu_after old.cpu call answer.reply) = search rules in
+    let serve = c.serve-served.ensures in
+    subst (λ (parts : Parts). IfOk c.serve-served.result (λ answer. HasStepped parts call answer new)) c.self.view_is
+    (stepped old new call c.serve-served.result c.note_fault.ensures.root c.is_intact.ensures serve.ok serve.runs serve.heap serve.kept registers serve.reached)
 
-pub returns-in-Ok-clause-runs : goal.returns-in-Ok-clause-runs
-returns-in-Ok-clause-runs c = λ s good stands.
-    subst (λ (parts : Parts). IfOk c.serve-served.result (λ answer. AreRunsUsedFor (paged (system_of parts.heap)) (paged (system_of c.serve-served.new.self)) (lasting_pages s c.args.call.now answer))) c.self.view_is
-    (c.serve-served.ensures.runs (root_of c.self.inside.cpu.cr3) s good (subst (λ (parts : Parts). Stands (seen parts) s) (sym c.self.view_is) stands))
-
-pub returns-in-Ok-clause-kept : goal.returns-in-Ok-clause-kept
-returns-in-Ok-clause-kept c =
-    IfOk-weaker c.serve-served.result _ _ (λ answer kept told.
-    rw c.note_fault.ensures.root
-    (subst (λ (parts : Parts). seen_with (root_of c.self.inside.cpu.cr3) c.serve-served.new.self ≡ seen parts) c.self.view_is (kept told (root_of c.self.inside.cpu.cr3))))
-    c.serve-served.ensures.kept
-
-pub returns-in_default-clause-heap_err : goal.returns-in_default-clause-heap_err
-returns-in_default-clause-heap_err c =
-    subst (λ (parts : Parts). OnErr c.serve-served.result (IsStill parts.heap.heap c.serve-served.new.self.heap)) c.self.view_is c.serve-served.ensures.heap_err
+pub returns-in_default-clause-err : goal.returns-in_default-clause-err
+returns-in_default-clause-err c =
+    let old : Parts = record { heap = c.self.inside.heap; cpu = c.self.inside.cpu } in
+    let new : Parts = record { heap = c.serve-served.new.self; cpu = c.self.inside.cpu } in
+    subst (λ (parts : Parts). OnErr c.serve-served.result (HasNotStepped parts new)) c.self.view_is
+    (not_stepped old new c.args.call.now c.serve-served.result refl c.serve-served.ensures.err c.serve-served.ensures.heap_err)

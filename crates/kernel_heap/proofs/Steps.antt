@@ -1,0 +1,62 @@
+-- Steps of a machine, one after another.
+use Rattle.std.proofs.Common.{◌≡◌, ℕ, List, [], ◌∷◌, ◌++◌, Option, Some, None, IfOk, IfErr, Result, Ok, Err, refl, sym, ◌∙◌, ap, subst}
+use Rattle.std.specs.Prelude.{OnErr}
+use Rattle.std.specs.declared.alloc.AllocError.{AllocError}
+use Rattle.heap_model.specs.declared.answer.Answer.{Answer}
+use Rattle.heap_model.specs.declared.call.Call.{Call}
+use Rattle.heap_model.specs.Machine.{Stands, IsStep}
+use Rattle.heap_model.specs.Run.{IsGood}
+use Rattle.heap_model.specs.State.{State}
+use Rattle.x86_registers.specs.Cr3.{root_of}
+use Rattle.x86_registers.specs.declared.cpu.Cpu.{Cpu}
+use Rattle.sound_heap.specs.Heap.{IsIntact}
+use Rattle.kernel_heap.specs.Heap.{regions, word}
+use Rattle.kernel_heap.specs.Kept.{lasting_pages, AreRunsUsedFor, IsSeenAsBefore, IsReachedByte}
+use Rattle.kernel_heap.specs.Machine.{seen_with, system_of}
+use Rattle.kernel_heap.specs.Moves.{HeapMoves, IsStill}
+use Rattle.kernel_heap.specs.Parts.{Parts}
+use Rattle.kernel_heap.specs.Registers.{cpu_after}
+use Rattle.kernel_heap.specs.Steps.{HasStepped, HasNotStepped, StepsTo}
+use Rattle.kernel_heap.specs.System.{paged}
+
+module _ (old new : Parts) (call : Call) where
+  -- a numbered heap that served a call over the root in CR3
+  pub stepped : (result : Result Answer AllocError) → new.cpu.cr3 ≡ old.cpu.cr3 → IsIntact regions word new.heap.heap →
+      ((top : ℕ) (s : State) → IsGood s → Stands (seen_with top old.heap) s → IfOk result (λ answer. IsStep s call answer (seen_with top new.heap))) →
+      ((top : ℕ) (s : State) → IsGood s → Stands (seen_with top old.heap) s → IfOk result (λ answer. AreRunsUsedFor (paged (system_of old.heap)) (paged (system_of new.heap)) (lasting_pages s call answer))) →
+      IfOk result (λ answer. HeapMoves old.heap call answer.reply answer.large new.heap) → IfOk result (λ answer. IsSeenAsBefore answer.reply old.heap new.heap) →
+      IfOk result (λ answer. new.cpu ≡ cpu_after old.cpu call answer.reply) → IfOk result (λ answer. IsReachedByte (paged (system_of new.heap)) call answer.reply) →
+      IfOk result (λ answer. HasStepped old call answer new)
+  stepped (Ok answer) root intact allowed runs heap kept registers reached =
+      let top : root_of new.cpu.cr3 ≡ root_of old.cpu.cr3 = ap root_of root in
+      record {
+        allowed = λ s good stands. subst (λ (top : ℕ). IsStep s call answer (seen_with top new.heap)) (sym top) (allowed (root_of old.cpu.cr3) s good stands);
+        heap = heap;
+        intact = intact;
+        kept = λ told. ap (λ (top : ℕ). seen_with top new.heap) top ∙ kept told (root_of old.cpu.cr3);
+        runs = λ s good stands. runs (root_of old.cpu.cr3) s good stands;
+        registers = registers;
+        reached = reached;
+      }
+  stepped (Err error) root intact allowed runs heap kept registers reached = tt
+
+  -- and one that could not
+  pub not_stepped : (result : Result Answer AllocError) → new.cpu ≡ old.cpu → ((top : ℕ) → OnErr result (seen_with top new.heap ≡ seen_with top old.heap)) → OnErr result (IsStill old.heap.heap new.heap.heap) →
+      OnErr result (HasNotStepped old new)
+  not_stepped (Ok answer) registers same still = tt
+  not_stepped (Err error) registers same still = record {
+    same = ap (λ (top : ℕ). seen_with top new.heap) (ap (λ (cpu : Cpu). root_of cpu.cr3) registers) ∙ same (root_of old.cpu.cr3);
+    still = still;
+    registers = registers;
+  }
+
+-- steps, and then others from the last machine
+pub steps_on : (x y z : Parts) (a b : List (Option Call)) (t u : List (Option Answer)) → StepsTo x a t y → StepsTo y b u z → StepsTo x (a ++ b) (t ++ u) z
+steps_on x y z [] b [] u one two = subst (λ (m : Parts). StepsTo m b u z) one two
+steps_on x y z (item ∷ a) b (answer ∷ t) u one two = (one.0, one.1, steps_on one.0 y z a b t u one.2 two)
+steps_on x y z [] b (answer ∷ t) u one two = absurd one
+steps_on x y z (item ∷ a) b [] u one two = absurd one
+
+-- one step
+pub step_one : (x y : Parts) (call : Call) (answer : Answer) → HasStepped x call answer y → StepsTo x (Some call ∷ []) (Some answer ∷ []) y
+step_one x y call answer step = (y, step, refl)
