@@ -12,7 +12,7 @@ use Rattle.heap_map.specs.Shapes.{rect}
 abbrev pub held_in : Class → ℕ → ℕ → List Piece → ℕ
 held_in class low high line = sum_by (λ piece. if is_in class piece.of.kind then min piece.end high - max piece.start low else 0) line
 
--- of so many bytes of a cell, the pixels, rounded up; a cell has 18
+-- the pixels of some bytes of a cell, rounded up; a cell has 18
 abbrev pub pixels : ℕ → ℕ → ℕ
 pixels bytes cell = min 18 ((18 * bytes + (cell - 1)) / cell)
 

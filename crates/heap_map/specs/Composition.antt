@@ -8,7 +8,7 @@ use Rattle.heap_map.specs.Classes.{class_name, class_place, class_words, number_
 use Rattle.heap_map.specs.Shapes.{text_at, rect, titled}
 use Rattle.heap_map.specs.Totals.{total_of}
 
--- where so many of all bytes end in a bar of 392 pixels
+-- where the first `bytes` of all bytes end in a bar of 392 pixels
 abbrev pub bar_end : ℕ → ℕ → ℕ
 bar_end bytes total = min 392 (392 * bytes / max 1 total)
 
@@ -16,7 +16,7 @@ bar_end bytes total = min 392 (392 * bytes / max 1 total)
 unfoldable pub part_title : Class → ℕ → List ℕ
 part_title class bytes = class_words class ++ (codes ": " ++ (commas bytes ++ codes " bytes"))
 
--- the part of the bar that a class has behind so many other bytes, one pixel at least
+-- the part of the bar that a class has after the bytes of others, one pixel at least
 unfoldable pub part_text : ℕ → Class → ℕ → ℕ → ℕ → List ℕ
 part_text y class before bytes total =
     if nat_eq bytes 0 then []
@@ -30,7 +30,7 @@ class_line y class number bytes total =
     ++ (text_at (codes "m e") 268 y (commas number)
     ++ (text_at (codes "m e") 360 y (commas bytes) ++ text_at (codes "m e faint") 416 y (percent (min bytes total) total))))
 
--- a class, behind so many other bytes
+-- a class, after the bytes of others
 unfoldable pub class_text : ℕ → Class → ℕ → List Extent → List ℕ
 class_text y class before extents =
     part_text y class before (bytes_in class extents) (total_of extents)
@@ -42,7 +42,7 @@ unasked_text y live extents =
     text_at (codes "faint") 44 y (codes "in blocks, not asked for")
     ++ text_at (codes "m e faint") 360 y (commas (bytes_in Block extents - live))
 
--- the classes, one behind the other
+-- the classes, one after the other
 unfoldable pub classes_text : ℕ → List Extent → List ℕ
 classes_text y extents =
     class_text y Block 0 extents

@@ -7,7 +7,7 @@ use Rattle.heap_map.specs.Words.{commas, exactly}
 use Rattle.heap_map.specs.Classes.{is_in}
 use Rattle.heap_map.specs.Shapes.{text_at, rect, titled}
 
--- whether an extent is a chunk in a bin with so many bytes, and fewer than twice as many; from 1 MiB on there is no such end
+-- whether an extent is a chunk in a bin with `low` bytes or more, and fewer than twice as many; from 1 MiB on there is no such end
 abbrev pub is_between : ℕ → Extent → Bool
 is_between low extent = is_in Binned extent.kind && (nat_le low extent.size && (nat_le 1048576 low || nat_lt extent.size (2 * low)))
 
@@ -19,7 +19,7 @@ chunks_from low extents = count_by (is_between low) extents
 abbrev pub next_low : ℕ → ℕ
 next_low low = if nat_lt low 1048576 then 2 * low else low
 
--- the most that there are of one power of two, of so many from one on, or so many
+-- the most chunks that a power of two has, of `bars` powers from one on, or `most` if that is more
 abbrev pub most_from : ℕ → ℕ → ℕ → List Extent → ℕ
 most_from zero low most extents = most
 most_from (suc bars) low most extents = most_from bars (next_low low) (max (chunks_from low extents) most) extents
@@ -47,7 +47,7 @@ bar_text x floor low number most =
     else titled (codes "f") (x + 2) (floor - bar_height number most) 19 (bar_height number most) (bar_title low number)
     ++ text_at (codes "m c") (x + 11) (floor - bar_height number most - 4) (commas number)
 
--- so many bars from a power of two on
+-- the given number of bars, from a power of two on
 abbrev pub bars_from : ℕ → ℕ → ℕ → ℕ → ℕ → List Extent → List ℕ
 bars_from zero x floor low most extents = []
 bars_from (suc bars) x floor low most extents = bar_text x floor low (chunks_from low extents) most ++ bars_from bars (x + 23) floor (next_low low) most extents

@@ -21,11 +21,11 @@ number_label block extent = decimal block.number ++ (codes ": " ++ size_label ex
 unfoldable pub block_label : NamedBlock → Extent → List ℕ
 block_label block extent = codes "block " ++ number_label block extent
 
--- whether words fit so many pixels, a letter being 8 wide at most
+-- whether words fit a width in pixels, a letter being 8 wide at most
 abbrev pub fits : ℕ → List ℕ → Bool
 fits width words = nat_le (8 * length words + 8) width
 
--- the first of the labels of a live block that fits so many pixels: both, or its number and bytes, or its number alone
+-- the first of the labels of a live block that fits a width in pixels: both, or its number and bytes, or its number alone
 unfoldable pub name_text : ℕ → ℕ → ℕ → NamedBlock → Extent → List ℕ
 name_text x y width block extent =
     if fits width (block_label block extent) then text_at (letters extent.kind) x y (block_label block extent)

@@ -39,7 +39,7 @@ ruler_text row = quarters_text row ++ (text_at (codes "e faint") 134 158 (codes 
 unfoldable pub scale_text : ℕ → List ℕ
 scale_text row = text_at (codes "faint") 24 136 (row_words row) ++ ruler_text row
 
--- the base line of what is below so many lines
+-- the base line of what is below this many lines
 abbrev pub below_lines : ℕ → ℕ
 below_lines lines = 194 + 23 * lines
 
@@ -55,7 +55,7 @@ map_words = codes "The heap after a run"
 unfoldable pub front_text : ℕ → ℕ → List Extent → List ℕ
 front_text live peak extents = text_at (codes "h") 24 40 map_words ++ tiles_text live peak extents
 
--- the map with a row of so many bytes, of the live blocks that are at addresses, of the bytes that are live and were at most, and of
+-- the map with rows of `row` bytes, of the live blocks that are at addresses, of the bytes that are live and were at most, and of
 -- all extents
 unfoldable pub rows_map : (ℕ → Option NamedBlock) → ℕ → ℕ → ℕ → List Extent → List ℕ
 rows_map blocks row live peak extents = front_text live peak extents ++ (scale_text row ++ rows_text blocks row extents)

@@ -1,4 +1,4 @@
--- The lines of a map. A row has so many bytes of addresses, and begins at a multiple of them.
+-- The lines of a map. A row has `row` bytes of addresses, and begins at a multiple of them.
 use Rattle.std.specs.Prelude.{ℕ, zero, suc, ◌+◌, ◌-◌, ◌*◌, ◌/◌, ◌%◌, ◌^◌, ◌≡◌, ◌<◌, min, max, Bool, ◌&&◌, nat_eq, nat_lt, nat_le, List, [], ◌∷◌, ◌++◌, length, if◌then◌else◌}
 use Rattle.std.specs.List.{flat_map, sum_by, AllByRecursion}
 use Rattle.dlmalloc_chunks.specs.declared.extent.Extent.{Extent}
@@ -42,7 +42,7 @@ abbrev pub lines_of : ℕ → List Piece → List (List Piece)
 lines_of row [] = []
 lines_of row (piece ∷ pieces) = lines_from row (piece ∷ []) pieces
 
--- the lines of a map whose rows have so many bytes
+-- the lines of a map whose rows have `row` bytes
 abbrev pub map_lines : ℕ → List Extent → List (List Piece)
 map_lines row extents = lines_of row (pieces_of row extents)
 
@@ -58,7 +58,7 @@ most_row = 2 ^ 52
 abbrev pub most_lines : ℕ
 most_lines = 20
 
--- A row of so many bytes, doubled while it takes too many lines, so many times at most.
+-- A row of some bytes, doubled while it takes too many lines, but at most this many times.
 abbrev pub row_grown : ℕ → ℕ → List Extent → ℕ
 row_grown zero row extents = row
 row_grown (suc times) row extents =

@@ -23,7 +23,7 @@ colour Top = codes "t"
 colour Record = codes "o"
 colour Foot = codes "o"
 
--- so many rows
+-- this many rows
 unfoldable pub rows_words : ℕ → List ℕ
 rows_words rows = commas rows ++ (if nat_eq rows 1 then codes " row" else codes " rows")
 
@@ -64,7 +64,7 @@ line_text blocks row y line =
     if nat_le row ((first_piece line).end - (first_piece line).start) then whole_text blocks row (row_base row line) y (first_piece line)
     else row_text blocks row (row_base row line) y line
 
--- the lines, below so many others
+-- the lines, below this many others
 abbrev pub lines_text : (ℕ → Option NamedBlock) → ℕ → ℕ → List (List Piece) → List ℕ
 lines_text blocks row above [] = []
 lines_text blocks row above (line ∷ lines) = line_text blocks row (166 + 23 * above) line ++ lines_text blocks row (above + 1) lines

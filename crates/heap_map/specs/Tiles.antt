@@ -7,7 +7,7 @@ use Rattle.heap_map.specs.Words.{commas, counted, percent, about}
 use Rattle.heap_map.specs.Shapes.{text_at, rect}
 use Rattle.heap_map.specs.Totals.{total_of, scattered}
 
--- a number over words, behind so many other tiles
+-- a number over words, after `before` other tiles
 unfoldable pub tile_text : ℕ → List ℕ → List ℕ → List ℕ
 tile_text before number words =
     rect (codes "panel") (24 + 210 * before) 56 206 54

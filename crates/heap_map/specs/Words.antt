@@ -6,7 +6,7 @@ use Rattle.std.specs.Fmt.{digits}
 abbrev pub hexadecimal : ℕ → List ℕ
 hexadecimal n = codes "0x" ++ digits 16 false n
 
--- three digits behind a comma: those of the last thousand of a number
+-- three digits after a comma: those of the last thousand of a number
 unfoldable pub group_text : ℕ → List ℕ
 group_text n = codes "," ++ (decimal (n / 100 % 10) ++ (decimal (n / 10 % 10) ++ decimal (n % 10)))
 

@@ -46,7 +46,7 @@ pub fn held_in(line: &[Piece], class: Class, low: u128, high: u128) -> u128
     bytes
 }
 
-// Of so many bytes of a cell, the pixels.
+// The pixels of some bytes of a cell.
 fn pixels(bytes: u128, cell: u128) -> u128
     requires bytes { bytes < 2 ^ 120 }
     requires cell { (1 ≤ cell) × (cell < 2 ^ 100) }

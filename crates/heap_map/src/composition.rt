@@ -22,7 +22,7 @@ fn class_bytes(extents: &[Extent], class: Class) -> u128
     bytes_in(extents, class)
 }
 
-// Where so many of all bytes end in the bar.
+// Where the first `bytes` of all bytes end in the bar.
 fn bar_end(bytes: u128, total: u128) -> u128
     requires { bytes < 2 ^ 119 }
     ensures value { result ≡ bar_end bytes total }
@@ -106,7 +106,7 @@ fn push_class_line(
     push_text(out, "m e faint", 416, y, share.as_str())
 }
 
-// Puts a class at the end, behind so many other bytes.
+// Puts a class at the end, after the bytes of others.
 #[tactic(auto, unfolding(crate::specs::Composition::class_text))]
 fn push_class(
     alloc: Global,
@@ -157,7 +157,7 @@ fn push_unasked(
     push_text(out, "m e faint", 360, y, bytes.as_str())
 }
 
-// Puts the classes at the end, one behind the other.
+// Puts the classes at the end, one after the other.
 #[tactic(auto, unfolding(crate::specs::Composition::classes_text))]
 fn push_classes(
     alloc: Global,

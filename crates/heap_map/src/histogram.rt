@@ -8,10 +8,10 @@ use crate::words::{push_commas, push_exactly};
 use dlmalloc_chunks::Extent;
 use std::alloc::{AllocError, Global};
 
-/// From so many bytes on there is one bar.
+/// From this many bytes on there is one bar.
 const LAST: u64 = 1_048_576;
 
-// Whether an extent is a chunk in a bin with so many bytes, and fewer than twice as many.
+// Whether an extent is a chunk in a bin with `low` bytes or more, and fewer than twice as many.
 fn is_between(low: u64, extent: Extent) -> bool
     requires { low < 2 ^ 40 }
     ensures { result ≡ is_between low extent }

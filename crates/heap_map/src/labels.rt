@@ -43,14 +43,14 @@ fn push_block(out: &mut String, block: NamedBlock, extent: Extent) -> Result<(),
     push_number(out, block, extent)
 }
 
-// Whether words fit so many pixels.
+// Whether words fit a width in pixels.
 fn fits(width: u128, words: &str) -> bool
     ensures { result ≡ fits width words.now }
 {
     8 * words.len() as u128 + 8 <= width
 }
 
-// Puts the label of a live block at the end that fits so many pixels, if one does.
+// Puts the label of a live block at the end that fits the width, if one does.
 #[tactic(auto, unfolding(crate::specs::Labels::name_text))]
 fn push_name_label(
     alloc: Global,
@@ -82,7 +82,7 @@ fn push_name_label(
     Ok(())
 }
 
-// Puts the label of another extent at the end that fits so many pixels, if one does.
+// Puts the label of another extent at the end that fits the width, if one does.
 #[tactic(auto, unfolding(crate::specs::Labels::kind_text))]
 fn push_kind_label(
     alloc: Global,
@@ -107,7 +107,7 @@ fn push_kind_label(
     Ok(())
 }
 
-/// Puts the label of an extent at the end that fits so many pixels, if one does.
+/// Puts the label of an extent at the end that fits a width in pixels, if one does.
 pub fn push_label(
     alloc: Global,
     out: &mut String,

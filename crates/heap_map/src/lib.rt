@@ -1,6 +1,6 @@
 //! The map of a heap, as parts of an SVG document.
 //!
-//! A row has so many bytes of addresses, and as few as it takes for the map to have at most 20 lines; rows that lie wholly
+//! Each row has equally many bytes of addresses, as few as it takes for the map to have at most 20 lines; rows that lie wholly
 //! in one extent are one thin line. A row has 512 cells: a cell is blue from the ground up as far as its bytes are in
 //! blocks, and above that it has the colour of most of its other bytes. Each extent that has four cells or more to itself
 //! has a gap before it, a title that a browser shows, and a label where one fits; a live block is called by its number. Around

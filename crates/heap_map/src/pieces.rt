@@ -121,7 +121,7 @@ pub fn map_lines(alloc: Global, row: u128, extents: &[Extent]) -> Result<u64, Al
 /// The bytes from which on a row grows no more.
 const MOST_ROW: u128 = 0x10_0000_0000_0000;
 
-// Whether a row grows that takes so many lines.
+// Whether a row grows that takes this many lines.
 fn grows(row: u128, lines: u64) -> bool
     ensures { result ≡ (nat_lt row most_row && nat_lt most_lines lines) }
 {

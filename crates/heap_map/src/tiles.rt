@@ -22,7 +22,7 @@ pub fn total_of(extents: &[Extent]) -> u128
     used + (free + overhead)
 }
 
-// Puts a number over words at the end, behind so many other tiles.
+// Puts a number over words at the end, after `before` other tiles.
 #[tactic(auto, unfolding(crate::specs::Tiles::tile_text))]
 fn push_tile(out: &mut String, before: u128, number: &str, words: &str) -> Result<(), AllocError>
     requires { before ≤ 5 }

@@ -11,7 +11,7 @@ pub fn push_address(out: &mut String, address: u64) -> Result<(), AllocError>
     write!(out, "0x{address:x}")
 }
 
-// Puts the last three digits of a number at the end, behind a comma.
+// Puts the last three digits of a number at the end, after a comma.
 #[tactic(auto, unfolding(crate::specs::Words::group_text))]
 fn push_group(out: &mut String, number: u128) -> Result<(), AllocError>
     ensures { OnOk result (string_bytes out.new ≡ string_bytes out.old ++ group_text number) }

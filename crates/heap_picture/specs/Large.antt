@@ -4,7 +4,7 @@ use Rattle.heap_model.specs.declared.region.Region.{Region}
 use Rattle.heap_model.specs.State.{end_of}
 use Rattle.heap_model.specs.Slots.{has_slot}
 
--- how many of so many slots from an address on are large pages
+-- how many of this many slots from an address on are large pages
 unfoldable pub larges_from : List ℕ → ℕ → ℕ → ℕ
 larges_from large start zero = 0
 larges_from large start (suc slots) = larges_from large start slots + (if has_slot large (start + 2097152 * slots) then 1 else 0)

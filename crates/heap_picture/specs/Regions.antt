@@ -16,7 +16,7 @@ line_words y line =
     text_at (codes "m") 912 y (hexadecimal line.start)
     ++ (text_at (codes "m e") 1120 y (counted (codes "page") line.pages) ++ text_at (codes "m e faint") 1280 y (owner_text line))
 
--- the pixels of so many pages of the most that a line has: 3 at least, and 368 at most
+-- the pixels of `pages` pages, if a line has at most `most`: 3 at least, and 368 at most
 abbrev pub bar_width : ℕ → ℕ → ℕ
 bar_width pages most = min 368 (max 3 (368 * pages / max 1 most))
 
@@ -32,7 +32,7 @@ line_title line = pages_text line ++ (codes " " ++ owner_text line)
 unfoldable pub bar_text : ℕ → ℕ → Region → List ℕ
 bar_text y most line = rect (codes "line") 912 (y + 5) 368 4 ++ titled (line_class line) 912 (y + 5) (bar_width line.pages most) 4 (line_title line)
 
--- so many large pages
+-- a number of large pages
 unfoldable pub larges_words : ℕ → List ℕ
 larges_words larges = commas larges ++ codes " large"
 

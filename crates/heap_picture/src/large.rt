@@ -51,7 +51,7 @@ fn is_large(machine: &Machine, slot: u128) -> bool
     }
 }
 
-// How many of so many slots from an address on are large pages.
+// How many of the slots from an address on are large pages.
 fn larges_from(machine: &Machine, start: u128, slots: u128) -> u128
     requires start { start < 2 ^ 100 }
     requires slots { slots < 2 ^ 100 }

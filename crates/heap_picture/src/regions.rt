@@ -27,7 +27,7 @@ fn push_line_words(alloc: Global, out: &mut String, y: u128, line: Region) -> Re
     push_text(out, "m e faint", 1280, y, owner.as_str())
 }
 
-// The pixels of so many pages of the most that a line has.
+// The pixels of `pages` pages, if a line has at most `most`.
 fn bar_width(pages: u128, most: u64) -> u128
     requires { pages < 2 ^ 110 }
     ensures { result ≡ bar_width pages most }
