@@ -20,7 +20,8 @@ pub record IsPut (old new : List (Interval ℕ × Rights)) (first end : ℕ) (ri
   pub pages : (any : ℕ) → rights_in new any ≡ cond (nat_le first any && nat_lt any end) (Some rights) (rights_in old any)
   pub begins : (any : ℕ) → (any ≡ first → ⊥) → begins_at new any ≡ begins_at old any
 
-put_inside : (first end any : ℕ) (rights : Rights) (front back : List (Interval ℕ × Rights)) → Follow 0 front first → Follow end back (2 ^ 52) → (t : Bool) → (nat_le first any && nat_lt any end) ≡ t →
+put_inside : (first end any : ℕ) (rights : Rights) (front back : List (Interval ℕ × Rights)) → Follow 0 front first →
+    Follow end back (2 ^ 52) → (t : Bool) → (nat_le first any && nat_lt any end) ≡ t →
     rights_in (front ++ (record { start = first; end = end }, rights) ∷ back) any ≡ cond t (Some rights) (rights_in (front ++ back) any)
 put_inside first end any rights front back f g true is =
     let above : first ≤ any = grind (arith, nat_tests, is) in
@@ -35,9 +36,11 @@ put es new first end rights f some within clear is = by_split (clear_split first
   by_split : IsSplit first end es (2 ^ 52) → IsPut es new first end rights
   by_split s =
       let x : Interval ℕ × Rights = (record { start = first; end = end }, rights) in
-      let whole : new ≡ s.front ++ x ∷ s.back = is ∙ (ap (with_entry (by_ends nat_cmp) x) s.whole ∙ entry_between x 0 s.front s.back end (2 ^ 52) s.before some s.behind) in
+      let whole : new ≡ s.front ++ x ∷ s.back = is ∙ (ap (with_entry (by_ends nat_cmp) x) s.whole
+      ∙ entry_between x 0 s.front s.back end (2 ^ 52) s.before some s.behind) in
       record {
-        follow = subst (λ (ys : List (Interval ℕ × Rights)). Follow 0 ys (2 ^ 52)) (sym whole) (follow_append 0 first s.front (x ∷ s.back) (2 ^ 52) s.before (omega arith, some, s.behind));
+        follow = subst (λ (ys : List (Interval ℕ × Rights)). Follow 0 ys (2 ^ 52)) (sym whole)
+            (follow_append 0 first s.front (x ∷ s.back) (2 ^ 52) s.before (omega arith, some, s.behind));
         pages = λ any. ap (λ (ys : List (Interval ℕ × Rights)). rights_in ys any) whole
             ∙ (put_inside first end any rights s.front s.back s.before s.behind (nat_le first any && nat_lt any end) refl
             ∙ ap (λ (ys : List (Interval ℕ × Rights)). cond (nat_le first any && nat_lt any end) (Some rights) (rights_in ys any)) (sym s.whole));
@@ -45,23 +48,29 @@ put es new first end rights f some within clear is = by_split (clear_split first
             (let t : (first == any) ≡ false = grind (arith, nat_tests, other) in
             let more : begins_at (x ∷ s.back) any ≡ begins_at s.back any = rw t refl in
             ap (λ (ys : List (Interval ℕ × Rights)). begins_at ys any) whole
-            ∙ (begins_append s.front (x ∷ s.back) any ∙ (ap (λ b. begins_at s.front any || b) more ∙ (sym (begins_append s.front s.back any) ∙ ap (λ (ys : List (Interval ℕ × Rights)). begins_at ys any) (sym s.whole)))));
+            ∙ (begins_append s.front (x ∷ s.back) any ∙ (ap (λ b. begins_at s.front any || b) more
+            ∙ (sym (begins_append s.front s.back any) ∙ ap (λ (ys : List (Interval ℕ × Rights)). begins_at ys any)
+            (sym s.whole)))));
       }
 
-outside_rights : (es new : List (Interval ℕ × Rights)) (first end any : ℕ) (rights : Rights) → IsPut es new first end rights → (any < first) ⊎ (end ≤ any) → rights_in new any ≡ rights_in es any
+outside_rights : (es new : List (Interval ℕ × Rights)) (first end any : ℕ) (rights : Rights) →
+    IsPut es new first end rights → (any < first) ⊎ (end ≤ any) → rights_in new any ≡ rights_in es any
 outside_rights es new first end any rights p side = p.pages any ∙ (let t = test side in rw t refl) where
   test : (any < first) ⊎ (end ≤ any) → (nat_le first any && nat_lt any end) ≡ false
   test (inl h) = grind (arith, nat_tests)
   test (inr h) = grind (arith, nat_tests)
 
 -- away from the ends of the run, the runs are as long as before
-away : (es new : List (Interval ℕ × Rights)) (first end before : ℕ) (rights : Rights) → Follow 0 es (2 ^ 52) → AreLongest es → AreClear es first end → IsPut es new first end rights →
+away : (es new : List (Interval ℕ × Rights)) (first end before : ℕ) (rights : Rights) → Follow 0 es (2 ^ 52) →
+    AreLongest es → AreClear es first end → IsPut es new first end rights →
     (before + 1 ≡ first → ⊥) → (before + 1 ≡ end → ⊥) → IsLongestAfter new before
 away es new first end before rights f longest clear p not_first not_end begins same =
     let was : begins_at es (before + 1) ≡ true = sym (p.begins (before + 1) not_first) ∙ begins in
     let behind : (before + 1 < first) ⊎ (end ≤ before + 1) = side was (cases_lt (before + 1) first) (cases_lt (before + 1) end) in
-    longest before was (sym (outside_rights es new first end before rights p (less behind)) ∙ (same ∙ outside_rights es new first end (before + 1) rights p behind)) where
-      side : begins_at es (before + 1) ≡ true → (before + 1 < first) ⊎ (first ≤ before + 1) → (before + 1 < end) ⊎ (end ≤ before + 1) → (before + 1 < first) ⊎ (end ≤ before + 1)
+    longest before was (sym (outside_rights es new first end before rights p (less behind))
+    ∙ (same ∙ outside_rights es new first end (before + 1) rights p behind)) where
+      side : begins_at es (before + 1) ≡ true → (before + 1 < first) ⊎ (first ≤ before + 1) →
+          (before + 1 < end) ⊎ (end ≤ before + 1) → (before + 1 < first) ⊎ (end ≤ before + 1)
       side was (inl h) r = inl h
       side was (inr h) (inr k) = inr k
       side was (inr h) (inl k) = absurd (begins_mapped 0 es (2 ^ 52) (before + 1) f was (clear (before + 1) h k))
@@ -70,7 +79,8 @@ away es new first end before rights f longest clear p not_first not_end begins s
       less (inl h) = inl (omega (arith, h))
       less (inr h) = inr (omega (arith, h, not_end))
 
-pub added : (es one two new : List (Interval ℕ × Rights)) (first end : ℕ) (rights : Rights) → Follow 0 es (2 ^ 52) → AreLongest es → AreClear es first end → IsPut es one first end rights →
+pub added : (es one two new : List (Interval ℕ × Rights)) (first end : ℕ) (rights : Rights) → Follow 0 es (2 ^ 52) →
+    AreLongest es → AreClear es first end → IsPut es one first end rights →
     AreRunsJoined one two end → AreRunsJoined two new first → IsAdded es new first end rights
 added es one two new first end rights f longest clear p j k = record {
   follow = k.follow;
@@ -83,11 +93,15 @@ added es one two new first end rights f longest clear p j k = record {
     go true is = inl (grind (arith, nat_tests, is))
     go false is = inr (λ h. grind (arith, nat_tests, is, h))
 
-  at_put : (before : ℕ) → (before + 1 ≡ first → ⊥) → (before + 1 ≡ end) ⊎ (before + 1 ≡ end → ⊥) → begins_at two (before + 1) ≡ true → rights_in two before ≡ rights_in two (before + 1) → ⊥
+  at_put : (before : ℕ) → (before + 1 ≡ first → ⊥) → (before + 1 ≡ end) ⊎ (before + 1 ≡ end → ⊥) →
+      begins_at two (before + 1) ≡ true → rights_in two before ≡ rights_in two (before + 1) → ⊥
   at_put before not_first (inl is) begins same = j.joined before is begins same
   at_put before not_first (inr other) begins same =
-      away es one first end before rights f longest clear p not_first other (j.begins (before + 1) begins) (sym (j.rights before) ∙ (same ∙ j.rights (before + 1)))
+      away es one first end before rights f longest clear p not_first other (j.begins (before + 1) begins)
+      (sym (j.rights before) ∙ (same ∙ j.rights (before + 1)))
 
-  at_end : (before : ℕ) → (before + 1 ≡ first) ⊎ (before + 1 ≡ first → ⊥) → begins_at new (before + 1) ≡ true → rights_in new before ≡ rights_in new (before + 1) → ⊥
+  at_end : (before : ℕ) → (before + 1 ≡ first) ⊎ (before + 1 ≡ first → ⊥) → begins_at new (before + 1) ≡ true →
+      rights_in new before ≡ rights_in new (before + 1) → ⊥
   at_end before (inl is) begins same = k.joined before is begins same
-  at_end before (inr other) begins same = at_put before other (cases_eq (before + 1) end) (k.begins (before + 1) begins) (sym (k.rights before) ∙ (same ∙ k.rights (before + 1)))
+  at_end before (inr other) begins same = at_put before other (cases_eq (before + 1) end) (k.begins (before + 1) begins)
+      (sym (k.rights before) ∙ (same ∙ k.rights (before + 1)))

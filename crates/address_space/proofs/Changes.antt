@@ -23,7 +23,8 @@ equal_itself i = grind (arith, nat_tests)
 -- ---- the pairs after a change
 
 -- one more, between those that begin before it and those that begin after it
-pub entry_between : (x : Interval ℕ × Rights) (from : ℕ) (front back : List (Interval ℕ × Rights)) (next to : ℕ) → Follow from front x.0.start → x.0.start < next → Follow next back to →
+pub entry_between : (x : Interval ℕ × Rights) (from : ℕ) (front back : List (Interval ℕ × Rights)) (next to : ℕ) →
+    Follow from front x.0.start → x.0.start < next → Follow next back to →
     with_entry (by_ends nat_cmp) x (front ++ back) ≡ front ++ x ∷ back
 entry_between x from [] [] next to f h g = refl
 entry_between x from [] (e ∷ back) next to f h g = let order = less x.0 e.0 (omega (arith, h, g.0)) in rw order refl
@@ -41,13 +42,15 @@ without_between e from (x ∷ front) back f =
     rw order (ap (λ ys. x ∷ ys) (without_between e x.0.end front back f.2))
 
 -- no pair after is changed
-end_behind : (i : Interval ℕ) (end next : ℕ) (back : List (Interval ℕ × Rights)) (to : ℕ) → i.start < next → Follow next back to → map (with_end nat_cmp i end) back ≡ back
+end_behind : (i : Interval ℕ) (end next : ℕ) (back : List (Interval ℕ × Rights)) (to : ℕ) → i.start < next →
+    Follow next back to → map (with_end nat_cmp i end) back ≡ back
 end_behind i end next [] to h g = refl
 end_behind i end next (e ∷ back) to h g =
     let order = less i e.0 (omega (arith, h, g.0)) in
     rw order (ap (λ ys. e ∷ ys) (end_behind i end e.0.end back to (omega (arith, h, g.0, g.1)) g.2))
 
-pub end_between : (e : Interval ℕ × Rights) (end from : ℕ) (front back : List (Interval ℕ × Rights)) (next to : ℕ) → Follow from front e.0.start → e.0.start < next → Follow next back to →
+pub end_between : (e : Interval ℕ × Rights) (end from : ℕ) (front back : List (Interval ℕ × Rights)) (next to : ℕ) →
+    Follow from front e.0.start → e.0.start < next → Follow next back to →
     map (with_end nat_cmp e.0 end) (front ++ e ∷ back) ≡ front ++ (record { start = e.0.start; end = end }, e.1) ∷ back
 end_between e end from [] back next to f h g =
     let order = equal_itself e.0 in rw order (ap (λ ys. (record { start = e.0.start; end = end }, e.1) ∷ ys) (end_behind e.0 end next back to h g))
@@ -63,11 +66,13 @@ own_before i e h q = grind (arith, nat_tests)
 own_after : (i e : Interval ℕ) → i.start < e.start → nat_cmp i.start e.start ≡ Equal → ⊥
 own_after i e h q = grind (arith, nat_tests)
 
-own_behind : (i : Interval ℕ) (next : ℕ) (back : List (Interval ℕ × Rights)) (to : ℕ) → i.start < next → Follow next back to → AllItems (HasOwnStart nat_cmp i) back
+own_behind : (i : Interval ℕ) (next : ℕ) (back : List (Interval ℕ × Rights)) (to : ℕ) → i.start < next →
+    Follow next back to → AllItems (HasOwnStart nat_cmp i) back
 own_behind i next [] to h g = tt
 own_behind i next (e ∷ back) to h g = ((λ q. absurd (own_after i e.0 (omega (arith, h, g.0)) q)), own_behind i e.0.end back to (omega (arith, h, g.0, g.1)) g.2)
 
-pub own_between : (e : Interval ℕ × Rights) (from : ℕ) (front back : List (Interval ℕ × Rights)) (next to : ℕ) → Follow from front e.0.start → e.0.start < next → Follow next back to →
+pub own_between : (e : Interval ℕ × Rights) (from : ℕ) (front back : List (Interval ℕ × Rights)) (next to : ℕ) →
+    Follow from front e.0.start → e.0.start < next → Follow next back to →
     AllItems (HasOwnStart nat_cmp e.0) (front ++ e ∷ back)
 own_between e from [] back next to f h g = ((λ q. equal_itself e.0), own_behind e.0 next back to h g)
 own_between e from (x ∷ front) back next to f h g =
@@ -79,14 +84,18 @@ own_between e from (x ∷ front) back next to f h g =
 pub rights_append : (front back : List (Interval ℕ × Rights)) (page : ℕ) → rights_in (front ++ back) page ≡ or_else (rights_in front page) (rights_in back page)
 rights_append [] back page = refl
 rights_append (e ∷ front) back page = by_test (holds page e) refl (rights_append front back page) where
-  by_test : (t : Bool) → holds page e ≡ t → rights_in (front ++ back) page ≡ or_else (rights_in front page) (rights_in back page) → rights_in ((e ∷ front) ++ back) page ≡ or_else (rights_in (e ∷ front) page) (rights_in back page)
+  by_test : (t : Bool) → holds page e ≡ t → rights_in (front ++ back) page ≡ or_else (rights_in front page)
+      (rights_in back page) → rights_in ((e ∷ front) ++ back) page ≡ or_else (rights_in (e ∷ front) page)
+      (rights_in back page)
   by_test true is rest = rw is refl
   by_test false is rest = rw is rest
 
 pub begins_append : (front back : List (Interval ℕ × Rights)) (page : ℕ) → begins_at (front ++ back) page ≡ (begins_at front page || begins_at back page)
 begins_append [] back page = refl
 begins_append (e ∷ front) back page = by_test (e.0.start == page) refl (begins_append front back page) where
-  by_test : (t : Bool) → (e.0.start == page) ≡ t → begins_at (front ++ back) page ≡ (begins_at front page || begins_at back page) → begins_at ((e ∷ front) ++ back) page ≡ (begins_at (e ∷ front) page || begins_at back page)
+  by_test : (t : Bool) → (e.0.start == page) ≡ t → begins_at (front ++ back)
+      page ≡ (begins_at front page || begins_at back page) → begins_at ((e ∷ front) ++ back)
+      page ≡ (begins_at (e ∷ front) page || begins_at back page)
   by_test true is rest = rw is refl
   by_test false is rest = rw is rest
 

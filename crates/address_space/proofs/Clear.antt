@@ -29,10 +29,12 @@ or_first {A} a b x h k = rw h k
 pub split_clear : (first end : ℕ) (es : List (Interval ℕ × Rights)) (to : ℕ) → IsSplit first end es to → AreClear es first end
 split_clear first end es to s page h k =
     ap (λ (x : List (Interval ℕ × Rights)). rights_in x page) s.whole
-    ∙ (rights_append s.front s.back page ∙ or_none (rights_in s.front page) (rights_in s.back page) (none_above 0 s.front first page s.before h) (none_below end s.back to page s.behind k))
+    ∙ (rights_append s.front s.back page ∙ or_none (rights_in s.front page) (rights_in s.back page)
+    (none_above 0 s.front first page s.before h) (none_below end s.back to page s.behind k))
 
 -- if the last run that begins before the end reaches no further than the first page
-pub split_last : (first end : ℕ) (es : List (Interval ℕ × Rights)) (to : ℕ) (e : Interval ℕ × Rights) → IsLast end 0 es to e → e.0.end ≤ first → IsSplit first end es to
+pub split_last : (first end : ℕ) (es : List (Interval ℕ × Rights)) (to : ℕ) (e : Interval ℕ × Rights) →
+    IsLast end 0 es to e → e.0.end ≤ first → IsSplit first end es to
 split_last first end es to e i h = record {
   front = i.front ++ e ∷ [];
   back = i.back;
@@ -45,14 +47,17 @@ pub split_none : (first end : ℕ) (es : List (Interval ℕ × Rights)) (to : �
 split_none first end es to f = record { front = []; back = es; whole = refl; before = omega arith; behind = f }
 
 -- a page of the last run
-pub last_holds : (at : ℕ) (es : List (Interval ℕ × Rights)) (to : ℕ) (e : Interval ℕ × Rights) (page : ℕ) → IsLast at 0 es to e → e.0.start ≤ page → page < e.0.end → rights_in es page ≡ Some e.1
+pub last_holds : (at : ℕ) (es : List (Interval ℕ × Rights)) (to : ℕ) (e : Interval ℕ × Rights) (page : ℕ) →
+    IsLast at 0 es to e → e.0.start ≤ page → page < e.0.end → rights_in es page ≡ Some e.1
 last_holds at es to e page i h k =
     let here : rights_in (e ∷ i.back) page ≡ Some e.1 = (let t = holds_inside page e h k in rw t refl) in
     ap (λ (x : List (Interval ℕ × Rights)). rights_in x page) i.whole
-    ∙ (rights_append i.front (e ∷ i.back) page ∙ or_first (rights_in i.front page) (rights_in (e ∷ i.back) page) e.1 (none_above 0 i.front e.0.start page i.before h) here)
+    ∙ (rights_append i.front (e ∷ i.back) page ∙ or_first (rights_in i.front page) (rights_in (e ∷ i.back) page) e.1
+    (none_above 0 i.front e.0.start page i.before h) here)
 
 -- clear pages leave the last run before them
-pub clear_last : (first end : ℕ) (es : List (Interval ℕ × Rights)) (to : ℕ) (e : Interval ℕ × Rights) → first < end → IsLast end 0 es to e → AreClear es first end → e.0.end ≤ first
+pub clear_last : (first end : ℕ) (es : List (Interval ℕ × Rights)) (to : ℕ) (e : Interval ℕ × Rights) → first < end →
+    IsLast end 0 es to e → AreClear es first end → e.0.end ≤ first
 clear_last first end es to e some i clear = go (cases_lt first e.0.end) (cases_lt first e.0.start) where
   at : (page : ℕ) → first ≤ page → page < end → e.0.start ≤ page → page < e.0.end → ⊥
   at page a b c d = let no : None ≡ Some e.1 = sym (clear page a b) ∙ last_holds end es to e page i c d in absurd (cc)
@@ -62,7 +67,8 @@ clear_last first end es to e some i clear = go (cases_lt first e.0.end) (cases_l
   go (inl h) (inl k) = absurd (at e.0.start (omega (arith, k)) i.starts (omega arith) i.some)
   go (inl h) (inr k) = absurd (at first (omega arith) some k h)
 
-pub clear_split : (first end : ℕ) (es : List (Interval ℕ × Rights)) (to : ℕ) → first < end → end ≤ to → Follow 0 es to → AreClear es first end → IsSplit first end es to
+pub clear_split : (first end : ℕ) (es : List (Interval ℕ × Rights)) (to : ℕ) → first < end → end ≤ to → Follow 0 es to →
+    AreClear es first end → IsSplit first end es to
 clear_split first end es to some within f clear = go (last (starts_below nat_cmp end) es) refl where
   go : (o : Option (Interval ℕ × Rights)) → last (starts_below nat_cmp end) es ≡ o → IsSplit first end es to
   go None is = split_none first end es to (none_last end 0 es to f within is)

@@ -18,21 +18,26 @@ use Rattle.address_space.specs.Space.{rights_of_place}
 use Rattle.address_space.proofs.Mapped.{canonical_in}
 
 -- no table is at the frame of a page
-pub no_table : (words : List ℕ) (root : ℕ) (free : List Bool) (l n m f : ℕ) (place : Place) → IsTree words root free → l < 4 → reach words root l n ≡ Some (top f) → reach words root 4 m ≡ Some place → place.frame ≡ f → ⊥
+pub no_table : (words : List ℕ) (root : ℕ) (free : List Bool) (l n m f : ℕ) (place : Place) → IsTree words root free →
+    l < 4 → reach words root l n ≡ Some (top f) → reach words root 4 m ≡ Some place → place.frame ≡ f → ⊥
 no_table words root free l n m f place tree less table at same =
     let d = tree.distinct l n 4 m (top f) place (omega (arith, less)) (omega arith) (λ _ _. refl) table at (sym same) in
     let four = d.0 in
     omega (arith, four, less)
 
 -- a table is met at one prefix
-pub one_table : (words : List ℕ) (root : ℕ) (free : List Bool) (l n k m f : ℕ) → IsTree words root free → l < 4 → k < 4 → reach words root l n ≡ Some (top f) → reach words root k m ≡ Some (top f) → (l ≡ k) × (n ≡ m)
-one_table words root free l n k m f tree less few table at = tree.distinct l n k m (top f) (top f) (omega (arith, less)) (omega (arith, few)) (λ _ _. refl) table at refl
+pub one_table : (words : List ℕ) (root : ℕ) (free : List Bool) (l n k m f : ℕ) → IsTree words root free → l < 4 → k < 4 →
+    reach words root l n ≡ Some (top f) → reach words root k m ≡ Some (top f) → (l ≡ k) × (n ≡ m)
+one_table words root free l n k m f tree less few table at = tree.distinct l n k m (top f) (top f) (omega (arith, less))
+    (omega (arith, few)) (λ _ _. refl) table at refl
 
 -- two pages have two frames
-pub page_apart : (words : List ℕ) (root : ℕ) (free : List Bool) (a b : ℕ) (p q : Place) → IsTree words root free → IsTrue (is_canonical (a * 4096)) → IsTrue (is_canonical (b * 4096)) → (a ≡ b → ⊥) →
+pub page_apart : (words : List ℕ) (root : ℕ) (free : List Bool) (a b : ℕ) (p q : Place) → IsTree words root free →
+    IsTrue (is_canonical (a * 4096)) → IsTrue (is_canonical (b * 4096)) → (a ≡ b → ⊥) →
     walk_of words root a ≡ Some p → walk_of words root b ≡ Some q → p.frame ≡ q.frame → ⊥
 page_apart words root free a b p q tree ca cb apart at_a at_b same =
-    let d = tree.distinct 4 (prefix_of a 4) 4 (prefix_of b 4) p q (omega arith) (omega arith) (λ _ _. refl) (sym (walk_reach words root a) ∙ at_a) (sym (walk_reach words root b) ∙ at_b) same in
+    let d = tree.distinct 4 (prefix_of a 4) 4 (prefix_of b 4) p q (omega arith) (omega arith) (λ _ _. refl)
+    (sym (walk_reach words root a) ∙ at_a) (sym (walk_reach words root b) ∙ at_b) same in
     let number = d.1 in
     apart (same_number a b ca cb (omega (arith, number)))
 
@@ -47,7 +52,9 @@ pub same_place : (o : Option Place) (a b : Place) → o ≡ Some a → o ≡ Som
 unfolding from_some
 same_place o a b h k = ap (λ (p : Option Place). from_some p a) (sym h ∙ k)
 
-frames_of : (old one : List ℕ) (o p : Option Place) (s t : Place) → o ≡ Some s → p ≡ Some t → IfSome o (λ source. IfSome p (λ target. IsFrameCopied old one source.frame target.frame)) → IsFrameCopied old one s.frame t.frame
+frames_of : (old one : List ℕ) (o p : Option Place) (s t : Place) → o ≡ Some s → p ≡ Some t →
+    IfSome o (λ source. IfSome p (λ target. IsFrameCopied old one source.frame target.frame)) →
+    IsFrameCopied old one s.frame t.frame
 frames_of old one o p s t a b h = rw b at (rw a at h)
 
 only_in : (page n : ℕ) → among page 1 n ≡ true → only page n ≡ true
@@ -75,7 +82,8 @@ module _ (old one new : List ℕ) (root source target : ℕ) (rights : Rights) (
   met : reach one root 4 (prefix_of target 4) ≡ Some t
   met = walks 4 (prefix_of target 4) (omega arith) ∙ (sym (walk_reach old root target) ∙ at_t)
 
-  pub one_words : (k i : ℕ) (s' t' : Place) → k < 1 → i < 512 → walk_of old root (source + k) ≡ Some s' → walk_of old root (target + k) ≡ Some t' → word_at new t'.frame i ≡ word_at old s'.frame i
+  pub one_words : (k i : ℕ) (s' t' : Place) → k < 1 → i < 512 → walk_of old root (source + k) ≡ Some s' →
+      walk_of old root (target + k) ≡ Some t' → word_at new t'.frame i ≡ word_at old s'.frame i
   one_words k i s' t' less small at at' =
       let from : source ≡ source + k = omega (arith, less) in
       let to : target ≡ target + k = omega (arith, less) in
@@ -85,7 +93,9 @@ module _ (old one new : List ℕ) (root source target : ℕ) (rights : Rights) (
       ∙ (changed.words t.frame i small (λ n table. absurd (no_table one root free 3 n (prefix_of target 4) t.frame t tree (omega arith) table met refl))
       ∙ (copied.copied i small ∙ ap (λ (p : Place). word_at old p.frame i) is_s))
 
-  pub one_entries : (n i f : ℕ) (place : Place) → i < 512 → among target 1 (512 * n + i) ≡ true → reach old root 3 n ≡ Some (top f) → reach new root 4 (512 * n + i) ≡ Some place → word_at new f i ≡ page_entry place.frame (rights_of_place place)
+  pub one_entries : (n i f : ℕ) (place : Place) → i < 512 → among target 1 (512 * n + i) ≡ true →
+      reach old root 3 n ≡ Some (top f) → reach new root 4 (512 * n + i) ≡ Some place →
+      word_at new f i ≡ page_entry place.frame (rights_of_place place)
   one_entries n i f place small g table at =
       let here = only_in target (512 * n + i) g in
       let q = changed.mapped (512 * n + i) here in
@@ -107,7 +117,8 @@ run_after a p b n is h =
     let less : nat_lt n b ≡ true = grind (arith, nat_tests, high, is) in
     ap (λ (x : Bool). not x && nat_lt n (b + 1)) less
 
-run_either : (a p b n : ℕ) → b ≡ a + p → (not (nat_lt n a) && nat_lt n (a + (p + 1))) ≡ true → (not (nat_lt n a) && nat_lt n (a + p)) ≡ false → (not (nat_lt n b) && nat_lt n (b + 1)) ≡ true
+run_either : (a p b n : ℕ) → b ≡ a + p → (not (nat_lt n a) && nat_lt n (a + (p + 1))) ≡ true →
+    (not (nat_lt n a) && nat_lt n (a + p)) ≡ false → (not (nat_lt n b) && nat_lt n (b + 1)) ≡ true
 run_either a p b n is h k =
     let low : a ≤ n = grind (arith, nat_tests, h) in
     let high : n < a + (p + 1) = grind (arith, nat_tests, h) in
@@ -116,7 +127,8 @@ run_either a p b n is h k =
     let below : nat_lt n (b + 1) ≡ true = grind (arith, nat_tests, high, is) in
     ap (λ (x : Bool). not x && nat_lt n (b + 1)) above ∙ below
 
-run_neither : (a p b n : ℕ) → b ≡ a + p → (not (nat_lt n a) && nat_lt n (a + (p + 1))) ≡ false → ((not (nat_lt n a) && nat_lt n (a + p)) ≡ false) × ((not (nat_lt n b) && nat_lt n (b + 1)) ≡ false)
+run_neither : (a p b n : ℕ) → b ≡ a + p → (not (nat_lt n a) && nat_lt n (a + (p + 1))) ≡ false →
+    ((not (nat_lt n a) && nat_lt n (a + p)) ≡ false) × ((not (nat_lt n b) && nat_lt n (b + 1)) ≡ false)
 run_neither a p b n is h = go (nat_lt n a) refl where
   go : (u : Bool) → nat_lt n a ≡ u → ((not (nat_lt n a) && nat_lt n (a + p)) ≡ false) × ((not (nat_lt n b) && nat_lt n (b + 1)) ≡ false)
   go true u =
@@ -167,14 +179,17 @@ module _ (old one new : List ℕ) (root from pages to source target : ℕ) (free
   here : (j : ℕ) → j < 1 → to + pages ≡ target + j
   here j few = omega (arith, few, t)
 
-  pub more_words : (k i : ℕ) (source' target' : Place) → k < pages + 1 → i < 512 → walk_of old root (from + k) ≡ Some source' → walk_of old root (to + k) ≡ Some target' → word_at new target'.frame i ≡ word_at old source'.frame i
+  pub more_words : (k i : ℕ) (source' target' : Place) → k < pages + 1 → i < 512 →
+      walk_of old root (from + k) ≡ Some source' → walk_of old root (to + k) ≡ Some target' →
+      word_at new target'.frame i ≡ word_at old source'.frame i
   more_words k i p q less small at_p at_q = go (cases_lt k pages) where
     go : (k < pages) ⊎ (pages ≤ k) → word_at new q.frame i ≡ word_at old p.frame i
     go (inl h) =
         let now = c.frames (prefix_of (to + k) 4) q (sym (walk_reach old root (to + k)) ∙ at_q) in
         let found : walk_of one root (to + k) ≡ Some now.0 = walk_reach one root (to + k) ∙ now.1 in
         d.others q.frame i small
-        (λ j r few at same. page_apart one root free (to + k) (to + pages) now.0 r tree (canonical_to k (omega (arith, h))) (canonical_to pages (omega arith)) (λ is. omega (arith, h, is)) found
+        (λ j r few at same. page_apart one root free (to + k) (to + pages) now.0 r tree (canonical_to k (omega (arith, h)))
+        (canonical_to pages (omega arith)) (λ is. omega (arith, h, is)) found
         (ap (walk_of one root) (here j few) ∙ at) (now.2 ∙ sym same))
         (λ n table. absurd (no_table one root free 3 n (prefix_of (to + k) 4) q.frame now.0 tree (omega arith) table now.1 now.2))
         ∙ c.words k i p q h small at_p at_q
@@ -184,11 +199,15 @@ module _ (old one new : List ℕ) (root from pages to source target : ℕ) (free
         let to_is : to + pages ≡ to + k = omega (arith, h, less) in
         let found_p : walk_of one root (source + 0) ≡ Some p =
         ap (walk_of one root) first ∙ (c.elsewhere (from + pages) canonical_source (λ j few is. apart j few is) ∙ (ap (walk_of old root) from_is ∙ at_p)) in
-        let found_q : walk_of one root (target + 0) ≡ Some q = ap (walk_of one root) (sym (here 0 (omega arith))) ∙ (last_walk ∙ (ap (walk_of old root) to_is ∙ at_q)) in
+        let found_q : walk_of one root (target + 0) ≡ Some q = ap (walk_of one root) (sym (here 0 (omega arith)))
+        ∙ (last_walk ∙ (ap (walk_of old root) to_is ∙ at_q)) in
         d.words 0 i p q (omega arith) small found_p found_q
         ∙ c.others p.frame i small
-        (λ j r few at same. page_apart old root free (from + pages) (to + j) p r was canonical_source (canonical_to j (omega (arith, few))) (λ is. apart j few is) (ap (walk_of old root) from_is ∙ at_p) at (sym same))
-        (λ n table. absurd (no_table old root free 3 n (prefix_of (from + k) 4) p.frame p was (omega arith) table (sym (walk_reach old root (from + k)) ∙ at_p) refl))
+        (λ j r few at same. page_apart old root free (from + pages) (to + j) p r was canonical_source
+        (canonical_to j (omega (arith, few))) (λ is. apart j few is) (ap (walk_of old root) from_is ∙ at_p) at
+        (sym same))
+        (λ n table. absurd (no_table old root free 3 n (prefix_of (from + k) 4) p.frame p was (omega arith) table
+        (sym (walk_reach old root (from + k)) ∙ at_p) refl))
 
   after : (n : ℕ) → among to pages n ≡ true → among target 1 n ≡ false
   after n h = run_after (prefix_of to 4) pages (prefix_of target 4) n next h
@@ -199,14 +218,18 @@ module _ (old one new : List ℕ) (root from pages to source target : ℕ) (free
   neither : (n : ℕ) → among to (pages + 1) n ≡ false → (among to pages n ≡ false) × (among target 1 n ≡ false)
   neither n h = run_neither (prefix_of to 4) pages (prefix_of target 4) n next h
 
-  pub more_entries : (n i f : ℕ) (place : Place) → i < 512 → among to (pages + 1) (512 * n + i) ≡ true → reach old root 3 n ≡ Some (top f) → reach new root 4 (512 * n + i) ≡ Some place → word_at new f i ≡ page_entry place.frame (rights_of_place place)
+  pub more_entries : (n i f : ℕ) (place : Place) → i < 512 → among to (pages + 1) (512 * n + i) ≡ true →
+      reach old root 3 n ≡ Some (top f) → reach new root 4 (512 * n + i) ≡ Some place →
+      word_at new f i ≡ page_entry place.frame (rights_of_place place)
   more_entries n i f place small g table at = go (among to pages (512 * n + i)) refl where
     go : (b : Bool) → among to pages (512 * n + i) ≡ b → word_at new f i ≡ page_entry place.frame (rights_of_place place)
     go true h =
         let out = after (512 * n + i) h in
         d.others f i small
-        (λ j r few found same. no_table one root free 3 n (prefix_of (target + j) 4) f r tree (omega arith) (tables n f table) (sym (walk_reach one root (target + j)) ∙ found) same)
-        (λ m other. (let is = (one_table one root free 3 m 3 n f tree (omega arith) (omega arith) other (tables n f table)).1 in ap (λ (x : ℕ). among target 1 (512 * x + i)) is ∙ out))
+        (λ j r few found same. no_table one root free 3 n (prefix_of (target + j) 4) f r tree (omega arith)
+        (tables n f table) (sym (walk_reach one root (target + j)) ∙ found) same)
+        (λ m other. (let is = (one_table one root free 3 m 3 n f tree (omega arith) (omega arith) other
+        (tables n f table)).1 in ap (λ (x : ℕ). among target 1 (512 * x + i)) is ∙ out))
         ∙ c.entries n i f place small h table (sym (d.outside (512 * n + i) out) ∙ at)
     go false h = d.entries n i f place small (either (512 * n + i) g h) (tables n f table) at
 

@@ -29,7 +29,8 @@ count_split r first (suc a) b =
     let five = count_split r (first + 1) a b in
     omega (arith, one, two, three, four, five)
 
-pub count_same : (r s : ℕ → Option Rights) (first pages : ℕ) → ((page : ℕ) → first ≤ page → page < first + pages → r page ≡ s page) → mapped_count r first pages ≡ mapped_count s first pages
+pub count_same : (r s : ℕ → Option Rights) (first pages : ℕ) → ((page : ℕ) → first ≤ page → page < first + pages →
+    r page ≡ s page) → mapped_count r first pages ≡ mapped_count s first pages
 count_same r s first zero same = count_zero r first ∙ sym (count_zero s first)
 count_same r s first (suc pages) same =
     let here : one_if (r first) ≡ one_if (s first) = ap one_if (same first (omega arith) (omega arith)) in
@@ -45,7 +46,8 @@ one_of (Some a) h = refl
 none_of : (o : Option Rights) → o ≡ None → one_if o ≡ 0
 none_of o h = rw h refl
 
-pub count_full : (r : ℕ → Option Rights) (first pages : ℕ) → ((page : ℕ) → first ≤ page → page < first + pages → IsSome (r page)) → mapped_count r first pages ≡ pages
+pub count_full : (r : ℕ → Option Rights) (first pages : ℕ) → ((page : ℕ) → first ≤ page → page < first + pages →
+    IsSome (r page)) → mapped_count r first pages ≡ pages
 count_full r first zero all = count_zero r first
 count_full r first (suc pages) all =
     let here = one_of (r first) (all first (omega arith) (omega arith)) in

@@ -45,19 +45,23 @@ else_out {A} first end any a b h = let t = test_out first end any h in rw t refl
 
 -- ---- one run alone
 
-one_holds : (start end page : ℕ) (rights : Rights) (more : List (Interval ℕ × Rights)) → start ≤ page → page < end → rights_in (run_of start end rights ∷ more) page ≡ Some rights
+one_holds : (start end page : ℕ) (rights : Rights) (more : List (Interval ℕ × Rights)) → start ≤ page → page < end →
+    rights_in (run_of start end rights ∷ more) page ≡ Some rights
 one_holds start end page rights more h k = let t = holds_inside page (run_of start end rights) h k in rw t refl
 
-one_misses : (start end page : ℕ) (rights : Rights) (more : List (Interval ℕ × Rights)) → (page < start) ⊎ (end ≤ page) → rights_in (run_of start end rights ∷ more) page ≡ rights_in more page
+one_misses : (start end page : ℕ) (rights : Rights) (more : List (Interval ℕ × Rights)) → (page < start) ⊎ (end ≤ page) →
+    rights_in (run_of start end rights ∷ more) page ≡ rights_in more page
 one_misses start end page rights more h = let t = test_out start end page h in rw t refl
 
-one_begins : (start end page : ℕ) (rights : Rights) (more : List (Interval ℕ × Rights)) → begins_at (run_of start end rights ∷ more) page ≡ true → (page ≡ start) ⊎ (begins_at more page ≡ true)
+one_begins : (start end page : ℕ) (rights : Rights) (more : List (Interval ℕ × Rights)) →
+    begins_at (run_of start end rights ∷ more) page ≡ true → (page ≡ start) ⊎ (begins_at more page ≡ true)
 one_begins start end page rights more h = go (start == page) refl where
   go : (t : Bool) → (start == page) ≡ t → (page ≡ start) ⊎ (begins_at more page ≡ true)
   go true is = inl (grind (arith, nat_tests, is))
   go false is = inr (rw is at h)
 
-one_apart : (start end page : ℕ) (rights : Rights) (more : List (Interval ℕ × Rights)) → (start < page → end ≤ page) → crosses more page ≡ false → crosses (run_of start end rights ∷ more) page ≡ false
+one_apart : (start end page : ℕ) (rights : Rights) (more : List (Interval ℕ × Rights)) → (start < page → end ≤ page) →
+    crosses more page ≡ false → crosses (run_of start end rights ∷ more) page ≡ false
 one_apart start end page rights more h rest = go (nat_lt start page && nat_lt page end) refl where
   go : (t : Bool) → (nat_lt start page && nat_lt page end) ≡ t → crosses (run_of start end rights ∷ more) page ≡ false
   go true is =
@@ -71,7 +75,8 @@ no_begin page h = absurd (cc)
 
 -- ---- a cut
 
-pub cut_short : (old new : List (Interval ℕ × Rights)) (start end from : ℕ) (rights : Rights) (i : Interval ℕ) → HasRun old start end rights → start < from → from < end → i.start ≡ start → i.end ≡ end →
+pub cut_short : (old new : List (Interval ℕ × Rights)) (start end from : ℕ) (rights : Rights) (i : Interval ℕ) →
+    HasRun old start end rights → start < from → from < end → i.start ≡ start → i.end ≡ end →
     new ≡ map (with_end nat_cmp i from) old → IsCut old new from end
 cut_short old new start end from rights i h above below s e is = record {
   follow = replaced_follow old new start end end rights (run_of start from rights ∷ []) r;
@@ -81,7 +86,14 @@ cut_short old new start end from rights i h above below s e is = record {
       (one_apart start from any rights [] (λ k. let out = run_apart old start end rights any h a k in omega (arith, out, below)) refl);
 } where
   r : IsReplaced old new start end end rights (run_of start from rights ∷ [])
-  r = record { run = h; whole = shortened old new start end end from rights i (among old start end rights h) s e is; order = omega arith; follow = (omega arith, above, omega (arith, below)); behind = h.behind }
+  r = record {
+    run = h;
+    whole = shortened old new start end end from rights i (among old start end rights h) s e is;
+    order =
+        omega arith;
+    follow = (omega arith, above, omega (arith, below));
+    behind = h.behind;
+  }
 
   by_side : (any : ℕ) → ((start ≤ any) × (any < end)) ⊎ ((any < start) ⊎ (end ≤ any)) → ((from ≤ any) × (any < end)) ⊎ ((any < from) ⊎ (end ≤ any)) →
       rights_in new any ≡ cond (nat_le from any && nat_lt any end) None (rights_in old any)
@@ -90,10 +102,12 @@ cut_short old new start end from rights i h above below s e is = record {
       ∙ (one_misses start from any rights [] (inr l.0) ∙ sym (then_in from end any None (rights_in old any) l.0 l.1))
   by_side any (inl k) (inr (inl l)) =
       replaced_inside old new start end end rights (run_of start from rights ∷ []) any r k.0 k.1
-      ∙ (one_holds start from any rights [] k.0 l ∙ (sym (run_rights old start end rights any h k.0 k.1) ∙ sym (else_out from end any None (rights_in old any) (inl l))))
+      ∙ (one_holds start from any rights [] k.0 l ∙ (sym (run_rights old start end rights any h k.0 k.1)
+      ∙ sym (else_out from end any None (rights_in old any) (inl l))))
   by_side any (inl k) (inr (inr l)) = absurd (omega (arith, k.1, l))
   by_side any (inr (inl k)) l =
-      replaced_outside old new start end end rights (run_of start from rights ∷ []) any r (inl k) ∙ sym (else_out from end any None (rights_in old any) (inl (omega (arith, k, above))))
+      replaced_outside old new start end end rights (run_of start from rights ∷ []) any r (inl k)
+      ∙ sym (else_out from end any None (rights_in old any) (inl (omega (arith, k, above))))
   by_side any (inr (inr k)) l =
       replaced_outside old new start end end rights (run_of start from rights ∷ []) any r (inr k) ∙ sym (else_out from end any None (rights_in old any) (inr k))
 
@@ -104,7 +118,8 @@ cut_short old new start end from rights i h above below s e is = record {
     at (inl k) = ap (begins_at old) k ∙ run_begins old start end rights h
     at (inr k) = absurd (no_begin any k)
 
-pub cut_whole : (old new : List (Interval ℕ × Rights)) (start end from : ℕ) (rights : Rights) (i : Interval ℕ) → HasRun old start end rights → start ≡ from → i.start ≡ start → i.end ≡ end →
+pub cut_whole : (old new : List (Interval ℕ × Rights)) (start end from : ℕ) (rights : Rights) (i : Interval ℕ) →
+    HasRun old start end rights → start ≡ from → i.start ≡ start → i.end ≡ end →
     new ≡ without_key (by_ends nat_cmp) i old → IsCut old new from end
 cut_whole old new start end from rights i h at s e is = record {
   follow = replaced_follow old new start end end rights [] r;
@@ -113,11 +128,21 @@ cut_whole old new start end from rights i h at s e is = record {
   apart = λ any a. replaced_apart old new start end end rights [] any r a refl;
 } where
   r : IsReplaced old new start end end rights []
-  r = record { run = h; whole = deleted old new h.front h.back start end rights i h.whole h.before s e is; order = omega arith; follow = (let k = h.some in omega (arith, k)); behind = h.behind }
+  r = record {
+    run = h;
+    whole = deleted old new h.front h.back start end rights i h.whole h.before s e is;
+    order =
+        omega arith;
+    follow = (let k = h.some in omega (arith, k));
+    behind = h.behind;
+  }
 
-  by_side : (any : ℕ) → ((start ≤ any) × (any < end)) ⊎ ((any < start) ⊎ (end ≤ any)) → rights_in new any ≡ cond (nat_le from any && nat_lt any end) None (rights_in old any)
-  by_side any (inl k) = replaced_inside old new start end end rights [] any r k.0 k.1 ∙ sym (then_in from end any None (rights_in old any) (omega (arith, k.0, at)) k.1)
-  by_side any (inr (inl k)) = replaced_outside old new start end end rights [] any r (inl k) ∙ sym (else_out from end any None (rights_in old any) (inl (omega (arith, k, at))))
+  by_side : (any : ℕ) → ((start ≤ any) × (any < end)) ⊎ ((any < start) ⊎ (end ≤ any)) →
+      rights_in new any ≡ cond (nat_le from any && nat_lt any end) None (rights_in old any)
+  by_side any (inl k) = replaced_inside old new start end end rights [] any r k.0 k.1
+      ∙ sym (then_in from end any None (rights_in old any) (omega (arith, k.0, at)) k.1)
+  by_side any (inr (inl k)) = replaced_outside old new start end end rights [] any r (inl k)
+      ∙ sym (else_out from end any None (rights_in old any) (inl (omega (arith, k, at))))
   by_side any (inr (inr k)) = replaced_outside old new start end end rights [] any r (inr k) ∙ sym (else_out from end any None (rights_in old any) (inr k))
 
   begin : (any : ℕ) → (begins_at [] any ≡ true) ⊎ (begins_at old any ≡ true) → begins_at old any ≡ true
@@ -130,7 +155,8 @@ pub record IsSet (old new : List (Interval ℕ × Rights)) (first end : ℕ) (ri
   pub set : IsRunSet old new first end rights
   pub keeps : KeepsApart old new
 
-pub split_set : (old new : List (Interval ℕ × Rights)) (start end page : ℕ) (rights new_rights : Rights) (h : HasRun old start end rights) → start < page → page < end →
+pub split_set : (old new : List (Interval ℕ × Rights)) (start end page : ℕ) (rights new_rights : Rights)
+    (h : HasRun old start end rights) → start < page → page < end →
     new ≡ h.front ++ run_of start page rights ∷ run_of page end new_rights ∷ h.back → IsSet old new page end new_rights
 split_set old new start end page rights new_rights h above below is = record {
   set = record {
@@ -147,7 +173,8 @@ split_set old new start end page rights new_rights h above below is = record {
   };
   keeps = record {
     apart = λ any a. replaced_apart old new start end end rights two any r a
-        (one_apart start page any rights (run_of page end new_rights ∷ []) (λ k. let out = run_apart old start end rights any h a k in omega (arith, out, below))
+        (one_apart start page any rights (run_of page end new_rights ∷ [])
+        (λ k. let out = run_apart old start end rights any h a k in omega (arith, out, below))
         (one_apart page end any new_rights [] (λ k. run_apart old start end rights any h a (omega (arith, k, above))) refl));
   };
 } where
@@ -165,10 +192,13 @@ split_set old new start end page rights new_rights h above below is = record {
       ∙ (one_holds page end any new_rights [] l.0 l.1 ∙ sym (then_in page end any (Some new_rights) (rights_in old any) l.0 l.1)))
   by_side any (inl k) (inr (inl l)) =
       replaced_inside old new start end end rights two any r k.0 k.1
-      ∙ (one_holds start page any rights (run_of page end new_rights ∷ []) k.0 l ∙ (sym (run_rights old start end rights any h k.0 k.1) ∙ sym (else_out page end any (Some new_rights) (rights_in old any) (inl l))))
+      ∙ (one_holds start page any rights (run_of page end new_rights ∷ []) k.0 l
+      ∙ (sym (run_rights old start end rights any h k.0 k.1) ∙ sym (else_out page end any (Some new_rights)
+      (rights_in old any) (inl l))))
   by_side any (inl k) (inr (inr l)) = absurd (omega (arith, k.1, l))
   by_side any (inr (inl k)) l =
-      replaced_outside old new start end end rights two any r (inl k) ∙ sym (else_out page end any (Some new_rights) (rights_in old any) (inl (omega (arith, k, above))))
+      replaced_outside old new start end end rights two any r (inl k) ∙ sym
+      (else_out page end any (Some new_rights) (rights_in old any) (inl (omega (arith, k, above))))
   by_side any (inr (inr k)) l =
       replaced_outside old new start end end rights two any r (inr k) ∙ sym (else_out page end any (Some new_rights) (rights_in old any) (inr k))
 
@@ -184,7 +214,8 @@ split_set old new start end page rights new_rights h above below is = record {
     at (inr k) = at_second (one_begins page end any new_rights [] k)
 
 -- one run, with other rights or a later end, in the place of one
-pub one_set : (old new : List (Interval ℕ × Rights)) (start end to : ℕ) (rights new_rights : Rights) (h : HasRun old start end rights) → end ≤ to → Follow to h.back (2 ^ 52) →
+pub one_set : (old new : List (Interval ℕ × Rights)) (start end to : ℕ) (rights new_rights : Rights)
+    (h : HasRun old start end rights) → end ≤ to → Follow to h.back (2 ^ 52) →
     new ≡ h.front ++ run_of start to new_rights ∷ h.back → IsRunSet old new start to new_rights
 one_set old new start end to rights new_rights h order behind is = record {
   run = record { front = h.front; back = h.back; whole = is; before = h.before; some = (let k = h.some in omega (arith, k, order)); behind = behind };
@@ -194,11 +225,13 @@ one_set old new start end to rights new_rights h order behind is = record {
   r : IsReplaced old new start end to rights (run_of start to new_rights ∷ [])
   r = record { run = h; whole = is; order = order; follow = (omega arith, (let k = h.some in omega (arith, k, order)), omega arith); behind = behind }
 
-  by_side : (any : ℕ) → ((start ≤ any) × (any < to)) ⊎ ((any < start) ⊎ (to ≤ any)) → rights_in new any ≡ cond (nat_le start any && nat_lt any to) (Some new_rights) (rights_in old any)
+  by_side : (any : ℕ) → ((start ≤ any) × (any < to)) ⊎ ((any < start) ⊎ (to ≤ any)) →
+      rights_in new any ≡ cond (nat_le start any && nat_lt any to) (Some new_rights) (rights_in old any)
   by_side any (inl k) =
       replaced_inside old new start end to rights (run_of start to new_rights ∷ []) any r k.0 k.1
       ∙ (one_holds start to any new_rights [] k.0 k.1 ∙ sym (then_in start to any (Some new_rights) (rights_in old any) k.0 k.1))
-  by_side any (inr k) = replaced_outside old new start end to rights (run_of start to new_rights ∷ []) any r k ∙ sym (else_out start to any (Some new_rights) (rights_in old any) k)
+  by_side any (inr k) = replaced_outside old new start end to rights (run_of start to new_rights ∷ []) any r k
+      ∙ sym (else_out start to any (Some new_rights) (rights_in old any) k)
 
   begin : (any : ℕ) → (begins_at (run_of start to new_rights ∷ []) any ≡ true) ⊎ (begins_at old any ≡ true) → (any ≡ start) ⊎ (begins_at old any ≡ true)
   begin any (inr o) = inr o
@@ -219,7 +252,8 @@ run_set old new start end rights new_rights h is = record {
 }
 
 -- runs after free pages
-pub follow_up : (from at : ℕ) (es : List (Interval ℕ × Rights)) (to : ℕ) → Follow from es to → at ≤ to → ((page : ℕ) → from ≤ page → page < at → rights_in es page ≡ None) → Follow at es to
+pub follow_up : (from at : ℕ) (es : List (Interval ℕ × Rights)) (to : ℕ) → Follow from es to → at ≤ to →
+    ((page : ℕ) → from ≤ page → page < at → rights_in es page ≡ None) → Follow at es to
 follow_up from at [] to f le free = le
 follow_up from at (e ∷ es) to f le free = go (cases_lt e.0.start at) where
   go : (e.0.start < at) ⊎ (at ≤ e.0.start) → Follow at (e ∷ es) to
@@ -231,13 +265,16 @@ follow_up from at (e ∷ es) to f le free = go (cases_lt e.0.start at) where
 
 -- ---- no run goes on over a page
 
-pub parted_by : (old new : List (Interval ℕ × Rights)) (start end page : ℕ) (rights : Rights) → HasRun old start end rights → start < page → IsRunSet old new page end rights → IsParted old new page
+pub parted_by : (old new : List (Interval ℕ × Rights)) (start end page : ℕ) (rights : Rights) →
+    HasRun old start end rights → start < page → IsRunSet old new page end rights → IsParted old new page
 parted_by old new start end page rights h above s = record {
   follow = run_follow new page end rights s.run;
   pages = λ any. s.pages any ∙ by_side any (side_of page end any);
   begins = s.begins;
   apart = start_apart new page end rights s.run;
 } where
-  by_side : (any : ℕ) → ((page ≤ any) × (any < end)) ⊎ ((any < page) ⊎ (end ≤ any)) → cond (nat_le page any && nat_lt any end) (Some rights) (rights_in old any) ≡ rights_in old any
-  by_side any (inl k) = then_in page end any (Some rights) (rights_in old any) k.0 k.1 ∙ sym (run_rights old start end rights any h (omega (arith, k.0, above)) k.1)
+  by_side : (any : ℕ) → ((page ≤ any) × (any < end)) ⊎ ((any < page) ⊎ (end ≤ any)) →
+      cond (nat_le page any && nat_lt any end) (Some rights) (rights_in old any) ≡ rights_in old any
+  by_side any (inl k) = then_in page end any (Some rights) (rights_in old any) k.0 k.1
+      ∙ sym (run_rights old start end rights any h (omega (arith, k.0, above)) k.1)
   by_side any (inr k) = else_out page end any (Some rights) (rights_in old any) k

@@ -23,7 +23,8 @@ passed_on rights write user at page end r p more pages is = record {
   by_page any from below (inl before) = p.granted any from before
   by_page any from below (inr behind) = ap (denies write user) (pages (any / 4096) behind below) ∙ is
 
-pub denied_at : (rights : ℕ → Option Rights) (write user : Bool) (at count page byte code : ℕ) (o : Option Rights) → IsPassed rights write user at page → page ≤ (at + (count - 1)) / 4096 → 0 < count →
+pub denied_at : (rights : ℕ → Option Rights) (write user : Bool) (at count page byte code : ℕ) (o : Option Rights) →
+    IsPassed rights write user at page → page ≤ (at + (count - 1)) / 4096 → 0 < count →
     byte / 4096 ≡ page → at ≤ byte → ((any : ℕ) → at ≤ any → any < byte → any / 4096 < page) → ((any : ℕ) → page ≤ any / 4096 → at ≤ any → byte ≤ any) →
     rights page ≡ o → denies write user o ≡ true → code ≡ fault_code write user o → IsDenied rights write user at count byte code
 denied_at rights write user at count page byte code o p last some here from first within is denied code_is =
@@ -37,5 +38,6 @@ denied_at rights write user at count page byte code o p last some here from firs
       code_is = code_is ∙ sym (ap (fault_code write user) same);
     }
 
-pub all_granted : (rights : ℕ → Option Rights) (write user : Bool) (at count page : ℕ) → IsPassed rights write user at page → 0 < count → (at + (count - 1)) / 4096 < page → IsGranted rights write user at count
+pub all_granted : (rights : ℕ → Option Rights) (write user : Bool) (at count page : ℕ) →
+    IsPassed rights write user at page → 0 < count → (at + (count - 1)) / 4096 < page → IsGranted rights write user at count
 all_granted rights write user at count page p some over any from below = p.granted any from (omega (arith, some, over, below))

@@ -28,7 +28,8 @@ use Rattle.address_space.proofs.CopiedWords.{one_words, one_entries, one_others,
 
 -- ---- one page
 
-granted_as : (o w : Option Place) (rights : Rights) → IsSome o → IfSome o (λ place. w ≡ Some (granted place.frame rights)) → option_map rights_of_place w ≡ Some rights
+granted_as : (o w : Option Place) (rights : Rights) → IsSome o → IfSome o (λ place. w ≡ Some (granted place.frame rights)) →
+    option_map rights_of_place w ≡ Some rights
 granted_as None w rights some is = absurd (cc)
 granted_as (Some place) w rights some is = ap (option_map rights_of_place) is
 
@@ -66,11 +67,13 @@ pub record IsOneCopied (old one new : List ℕ) (root source target : ℕ) (plac
   pub at_target : walk_of old root target ≡ Some to
   pub frames : IfSome (walk_of old root source) (λ s. IfSome (walk_of old root target) (λ t. IsFrameCopied old one s.frame t.frame))
 
-pub one_copied : (old one new : List ℕ) (root source target : ℕ) (place : Place) → IsOneCopied old one new root source target place → ArePagesCopied old new root source 1 target
+pub one_copied : (old one new : List ℕ) (root source target : ℕ) (place : Place) →
+    IsOneCopied old one new root source target place → ArePagesCopied old new root source 1 target
 one_copied old one new root source target place c = record {
   size = c.changed.size ∙ c.size;
   tree = λ free t. c.tree_on free (c.tree free t);
-  tables = λ level number less. c.changed.stayed level number (omega (arith, less)) (λ four. absurd (omega (arith, less, four))) ∙ c.walks level number (omega (arith, less));
+  tables = λ level number less. c.changed.stayed level number (omega (arith, less))
+      (λ four. absurd (omega (arith, less, four))) ∙ c.walks level number (omega (arith, less));
   larges = λ slot. c.changed.larges slot ∙ c.larges slot;
   outside = λ number out. c.changed.stayed 4 number (omega arith) (λ four. only_among target number out) ∙ c.walks 4 number (omega arith);
   frames = λ number met at. by_only number met (c.walks 4 number (omega arith) ∙ at) (only target number) refl;
@@ -78,11 +81,15 @@ one_copied old one new root source target place c = record {
   rights = λ k less. first_rights k (omega (arith, less));
   copied = λ k offset less small. first_byte k offset (omega (arith, less)) small;
   bytes = λ address canonical out. c.bytes address ∙ c.others address canonical (λ is. out 0 (omega arith) (omega (arith, is)));
-  words = one_words old one new root source target (rights_of_place place) c.free (c.tree c.free c.was) c.walks c.frames place c.at_source c.to c.at_target c.changed;
-  entries = one_entries old one new root source target (rights_of_place place) c.free (c.tree c.free c.was) c.walks c.frames place c.at_source c.to c.at_target c.changed;
-  others = one_others old one new root source target (rights_of_place place) c.free (c.tree c.free c.was) c.walks c.frames place c.at_source c.to c.at_target c.changed;
+  words = one_words old one new root source target (rights_of_place place) c.free (c.tree c.free c.was) c.walks c.frames
+      place c.at_source c.to c.at_target c.changed;
+  entries = one_entries old one new root source target (rights_of_place place) c.free (c.tree c.free c.was) c.walks c.frames
+      place c.at_source c.to c.at_target c.changed;
+  others = one_others old one new root source target (rights_of_place place) c.free (c.tree c.free c.was) c.walks c.frames
+      place c.at_source c.to c.at_target c.changed;
 } where
-  by_only : (number : ℕ) (met : Place) → reach one root 4 number ≡ Some met → (t : Bool) → only target number ≡ t → (now : Place) × (reach new root 4 number ≡ Some now) × (now.frame ≡ met.frame)
+  by_only : (number : ℕ) (met : Place) → reach one root 4 number ≡ Some met → (t : Bool) → only target number ≡ t →
+      (now : Place) × (reach new root 4 number ≡ Some now) × (now.frame ≡ met.frame)
   by_only number met at true is = (granted met.frame (rights_of_place place), c.changed.changed number met is at, refl)
   by_only number met at false is = (met, c.changed.stayed 4 number (omega arith) (λ four. is) ∙ at, refl)
 
@@ -91,13 +98,16 @@ one_copied old one new root source target place c = record {
       let t : target + k ≡ target = omega (arith, zero) in
       let s : source + k ≡ source = omega (arith, zero) in
       let given = granted_as (walk_of one root target) (walk_of new root target) (rights_of_place place) c.mapped c.gave in
-      let from : option_map rights_of_place (walk_of old root source) ≡ Some (rights_of_place place) = ap (option_map rights_of_place) (sym (walk_same old one root source c.walks) ∙ c.there) in
-      ap (λ (p : ℕ). option_map rights_of_place (walk_of new root p)) t ∙ (given ∙ (sym from ∙ ap (λ (p : ℕ). option_map rights_of_place (walk_of old root p)) (sym s)))
+      let from : option_map rights_of_place (walk_of old root source) ≡ Some (rights_of_place place) =
+      ap (option_map rights_of_place) (sym (walk_same old one root source c.walks) ∙ c.there) in
+      ap (λ (p : ℕ). option_map rights_of_place (walk_of new root p)) t
+      ∙ (given ∙ (sym from ∙ ap (λ (p : ℕ). option_map rights_of_place (walk_of old root p)) (sym s)))
 
   first_byte : (k offset : ℕ) → k ≡ 0 → offset < 4096 → reached new root (4096 * (target + k) + offset) ≡ reached old root (4096 * (source + k) + offset)
   first_byte k offset zero small =
       reached_same new root (4096 * (target + k) + offset) (4096 * target + offset) (omega (arith, zero))
-      ∙ (c.bytes (4096 * target + offset) ∙ (c.copied offset small ∙ reached_same old root (4096 * source + offset) (4096 * (source + k) + offset) (omega (arith, zero))))
+      ∙ (c.bytes (4096 * target + offset) ∙ (c.copied offset small ∙ reached_same old root (4096 * source + offset)
+      (4096 * (source + k) + offset) (omega (arith, zero))))
 
 -- ---- page after page
 
@@ -120,8 +130,11 @@ none_copied words root from to = record {
   no_page : (n i : ℕ) → among to 0 (512 * n + i) ≡ true → ⊥
   no_page n i g = (let none : among to 0 (512 * n + i) ≡ false = grind (arith, nat_tests) in absurd (cc))
 
-pub more_copied : (old one new : List ℕ) (root from pages to source target : ℕ) (free : List Bool) → IsTree old root free → IsCanonicalRange to (pages + 1) → IsTrue (is_canonical ((from + pages) * 4096)) → ((k : ℕ) → k < pages → from + pages ≡ to + k → ⊥) →
-    source ≡ from + pages → target ≡ to + pages → ArePagesCopied old one root from pages to → ArePagesCopied one new root source 1 target → ArePagesCopied old new root from (pages + 1) to
+pub more_copied : (old one new : List ℕ) (root from pages to source target : ℕ) (free : List Bool) → IsTree old root free →
+    IsCanonicalRange to (pages + 1) → IsTrue (is_canonical ((from + pages) * 4096)) →
+    ((k : ℕ) → k < pages → from + pages ≡ to + k → ⊥) →
+    source ≡ from + pages → target ≡ to + pages → ArePagesCopied old one root from pages to →
+    ArePagesCopied one new root source 1 target → ArePagesCopied old new root from (pages + 1) to
 more_copied old one new root from pages to source target free was range canonical_source apart s t c d = record {
   size = d.size ∙ c.size;
   tree = λ free tr. d.tree free (c.tree free tr);
@@ -129,20 +142,27 @@ more_copied old one new root from pages to source target free was range canonica
   larges = λ slot. d.larges slot ∙ c.larges slot;
   outside = λ number out. (let parts = among_parts to target pages 1 number range t out in d.outside number parts.1 ∙ c.outside number parts.0);
   frames = λ number place at. later number place (c.frames number place at);
-  elsewhere = λ other canonical out. d.elsewhere other canonical (λ k less is. out pages (omega arith) (omega (arith, less, is, t))) ∙ c.elsewhere other canonical (λ k less is. out k (omega (arith, less)) is);
+  elsewhere = λ other canonical out. d.elsewhere other canonical (λ k less is.
+      out pages (omega arith) (omega (arith, less, is, t))) ∙ c.elsewhere other canonical
+      (λ k less is. out k (omega (arith, less)) is);
   rights = λ k less. by_rights k (cases_lt k pages) less;
   copied = λ k offset less small. by_byte k offset (cases_lt k pages) less small;
-  bytes = λ address canonical out. d.bytes address canonical (λ k less is. out pages (omega arith) (omega (arith, less, is, t))) ∙ c.bytes address canonical (λ k less is. out k (omega (arith, less)) is);
+  bytes = λ address canonical out. d.bytes address canonical (λ k less is.
+      out pages (omega arith) (omega (arith, less, is, t))) ∙ c.bytes address canonical
+      (λ k less is. out k (omega (arith, less)) is);
   words = more_words old one new root from pages to source target free was range canonical_source apart s t c d;
   entries = more_entries old one new root from pages to source target free was range canonical_source apart s t c d;
   others = more_others old one new root from pages to source target free was range canonical_source apart s t c d;
 } where
-  later : (number : ℕ) (place : Place) → (now : Place) × (reach one root 4 number ≡ Some now) × (now.frame ≡ place.frame) → (now : Place) × (reach new root 4 number ≡ Some now) × (now.frame ≡ place.frame)
+  later : (number : ℕ) (place : Place) → (now : Place) × (reach one root 4 number ≡ Some now) × (now.frame ≡ place.frame) →
+      (now : Place) × (reach new root 4 number ≡ Some now) × (now.frame ≡ place.frame)
   later number place met = (let next = d.frames number met.0 met.1 in (next.0, next.1, next.2 ∙ met.2))
 
-  by_rights : (k : ℕ) → (k < pages) ⊎ (pages ≤ k) → k < pages + 1 → option_map rights_of_place (walk_of new root (to + k)) ≡ option_map rights_of_place (walk_of old root (from + k))
+  by_rights : (k : ℕ) → (k < pages) ⊎ (pages ≤ k) → k < pages + 1 → option_map rights_of_place
+      (walk_of new root (to + k)) ≡ option_map rights_of_place (walk_of old root (from + k))
   by_rights k (inl h) less =
-      ap (option_map rights_of_place) (d.elsewhere (to + k) (canonical_in to (pages + 1) (to + k) range (omega arith) (omega (arith, less))) (λ j few is. omega (arith, few, is, t, h))) ∙ c.rights k h
+      ap (option_map rights_of_place) (d.elsewhere (to + k) (canonical_in to (pages + 1) (to + k) range (omega arith)
+      (omega (arith, less))) (λ j few is. omega (arith, few, is, t, h))) ∙ c.rights k h
   by_rights k (inr h) less =
       let last : to + k ≡ target + 0 = omega (arith, h, less, t) in
       let first : source + 0 ≡ from + pages = omega (arith, s) in
@@ -161,7 +181,8 @@ more_copied old one new root from pages to source target free was range canonica
   page_of : (page offset : ℕ) → offset < 4096 → (4096 * page + offset) / 4096 ≡ page
   page_of page offset small = omega (arith, small)
 
-  by_byte : (k offset : ℕ) → (k < pages) ⊎ (pages ≤ k) → k < pages + 1 → offset < 4096 → reached new root (4096 * (to + k) + offset) ≡ reached old root (4096 * (from + k) + offset)
+  by_byte : (k offset : ℕ) → (k < pages) ⊎ (pages ≤ k) → k < pages + 1 → offset < 4096 →
+      reached new root (4096 * (to + k) + offset) ≡ reached old root (4096 * (from + k) + offset)
   by_byte k offset (inl h) less small =
       d.bytes (4096 * (to + k) + offset) (half (to + k) offset small (canonical_in to (pages + 1) (to + k) range (omega arith) (omega (arith, less))))
       (λ j few is. (let p = page_of (to + k) offset small in omega (arith, few, is, p, t, h)))
@@ -170,12 +191,14 @@ more_copied old one new root from pages to source target free was range canonica
       reached_same new root (4096 * (to + k) + offset) (4096 * (target + 0) + offset) (omega (arith, h, less, t))
       ∙ (d.copied 0 offset (omega arith) small
       ∙ (reached_same one root (4096 * (source + 0) + offset) (4096 * (from + pages) + offset) (omega (arith, s))
-      ∙ (c.bytes (4096 * (from + pages) + offset) (half (from + pages) offset small canonical_source) (λ j few is. apart j few (let p = page_of (from + pages) offset small in sym p ∙ is))
+      ∙ (c.bytes (4096 * (from + pages) + offset) (half (from + pages) offset small canonical_source)
+      (λ j few is. apart j few (let p = page_of (from + pages) offset small in sym p ∙ is))
       ∙ reached_same old root (4096 * (from + pages) + offset) (4096 * (from + k) + offset) (omega (arith, h, less)))))
 
 -- ---- the space after it
 
-pub record AreDuplicated (old : Tables) (one words : List ℕ) (free : List Bool) (runs : List (Interval ℕ × Rights)) (from pages to : ℕ) (rights : Rights) : Type 0 where
+pub record AreDuplicated (old : Tables) (one words : List ℕ) (free : List Bool) (runs : List (Interval ℕ × Rights))
+    (from pages to : ℕ) (rights : Rights) : Type 0 where
   pub kept : AreTablesKept old
   pub source : IsCanonicalRange from pages
   pub target : IsCanonicalRange to pages
@@ -183,7 +206,8 @@ pub record AreDuplicated (old : Tables) (one words : List ℕ) (free : List Bool
   pub clear : (page : ℕ) → to ≤ page → page < to + pages → rights_in old.runs page ≡ None
   pub added : IsRangeAdded old.words one old.free free old.root to pages rights
   pub known : FreeBelow free (frame_count one)
-  pub elsewhere : (other : ℕ) → IsTrue (is_canonical (other * 4096)) → ((k : ℕ) → k < pages → other ≡ to + k → ⊥) → walk_of one old.root other ≡ walk_of old.words old.root other
+  pub elsewhere : (other : ℕ) → IsTrue (is_canonical (other * 4096)) → ((k : ℕ) → k < pages → other ≡ to + k → ⊥) →
+      walk_of one old.root other ≡ walk_of old.words old.root other
   pub bytes : (address : ℕ) → IsSome (walk_of old.words old.root (address / 4096)) → reached one old.root address ≡ reached old.words old.root address
   pub copied : ArePagesCopied one words old.root from pages to
   pub runs_copied : AreCopied old.runs runs from pages to
@@ -193,12 +217,16 @@ gone None h some = absurd (cc)
 gone (Some a) h some = let no : Some a ≡ None = h in absurd (cc)
 
 -- no page is both of the source and of the target
-pub ranges_apart : (runs : List (Interval ℕ × Rights)) (from pages to j k : ℕ) → ((page : ℕ) → from ≤ page → page < from + pages → IsSome (rights_in runs page)) → ((page : ℕ) → to ≤ page → page < to + pages → rights_in runs page ≡ None) →
+pub ranges_apart : (runs : List (Interval ℕ × Rights)) (from pages to j k : ℕ) →
+    ((page : ℕ) → from ≤ page → page < from + pages → IsSome (rights_in runs page)) →
+    ((page : ℕ) → to ≤ page → page < to + pages → rights_in runs page ≡ None) →
     j < pages → k < pages → from + j ≡ to + k → ⊥
 ranges_apart runs from pages to j k full clear h l is =
-    gone (rights_in runs (to + k)) (clear (to + k) (omega arith) (omega (arith, l))) (subst (λ (p : ℕ). IsSome (rights_in runs p)) is (full (from + j) (omega arith) (omega (arith, h))))
+    gone (rights_in runs (to + k)) (clear (to + k) (omega arith) (omega (arith, l)))
+    (subst (λ (p : ℕ). IsSome (rights_in runs p)) is (full (from + j) (omega arith) (omega (arith, h))))
 
-pub duplicated_kept : (old : Tables) (one words : List ℕ) (free : List Bool) (runs : List (Interval ℕ × Rights)) (from pages to : ℕ) (rights : Rights) → AreDuplicated old one words free runs from pages to rights →
+pub duplicated_kept : (old : Tables) (one words : List ℕ) (free : List Bool) (runs : List (Interval ℕ × Rights))
+    (from pages to : ℕ) (rights : Rights) → AreDuplicated old one words free runs from pages to rights →
     AreTablesKept (record { words = words; root = old.root; free = free; runs = runs })
 duplicated_kept old one words free runs from pages to rights m =
     let count : frame_count words ≡ frame_count old.words = ap (λ n. n / 512) (m.copied.size ∙ m.added.size) in
@@ -216,11 +244,15 @@ duplicated_kept old one words free runs from pages to rights m =
       follow = m.runs_copied.follow;
       longest = m.runs_copied.longest;
     } where
-      is_there : (page : ℕ) → ((to ≤ page) × (page < to + pages)) ⊎ ((page < to) ⊎ (to + pages ≤ page)) → IsSome (rights_in runs page) → IsTrue (is_canonical (page * 4096))
+      is_there : (page : ℕ) → ((to ≤ page) × (page < to + pages)) ⊎ ((page < to) ⊎ (to + pages ≤ page)) →
+          IsSome (rights_in runs page) → IsTrue (is_canonical (page * 4096))
       is_there page (inl k) some = canonical_in to pages page m.target k.0 k.1
-      is_there page (inr k) some = m.kept.canonical page (subst IsSome (m.runs_copied.pages_are page ∙ else_out to (to + pages) page (rights_in old.runs (page - to + from)) (rights_in old.runs page) k) some)
+      is_there page (inr k) some = m.kept.canonical page (subst IsSome (m.runs_copied.pages_are page
+          ∙ else_out to (to + pages) page (rights_in old.runs (page - to + from)) (rights_in old.runs page) k) some)
 
-      finds : (page : ℕ) → IsTrue (is_canonical (page * 4096)) → ((to ≤ page) × (page < to + pages)) ⊎ ((page < to) ⊎ (to + pages ≤ page)) → option_map rights_of_place (walk_of words old.root page) ≡ rights_in runs page
+      finds : (page : ℕ) → IsTrue (is_canonical (page * 4096)) →
+          ((to ≤ page) × (page < to + pages)) ⊎ ((page < to) ⊎ (to + pages ≤ page)) →
+          option_map rights_of_place (walk_of words old.root page) ≡ rights_in runs page
       finds page canonical (inl k) =
           let at : to + (page - to) ≡ page = omega (arith, k.0) in
           let few : page - to < pages = omega (arith, k.0, k.1) in
@@ -228,12 +260,17 @@ duplicated_kept old one words free runs from pages to rights m =
           let there = canonical_in from pages (from + (page - to)) m.source (omega arith) (omega (arith, few)) in
           ap (λ (p : ℕ). option_map rights_of_place (walk_of words old.root p)) (sym at)
           ∙ (m.copied.rights (page - to) few
-          ∙ (ap (option_map rights_of_place) (m.elsewhere (from + (page - to)) there (λ j less is. ranges_apart old.runs from pages to (page - to) j m.full m.clear few less is))
+          ∙ (ap (option_map rights_of_place) (m.elsewhere (from + (page - to)) there
+          (λ j less is. ranges_apart old.runs from pages to (page - to) j m.full m.clear few less is))
           ∙ (m.kept.found (from + (page - to)) there
-          ∙ (ap (rights_in old.runs) source ∙ sym (m.runs_copied.pages_are page ∙ then_in to (to + pages) page (rights_in old.runs (page - to + from)) (rights_in old.runs page) k.0 k.1)))))
+          ∙ (ap (rights_in old.runs) source ∙ sym (m.runs_copied.pages_are page
+          ∙ then_in to (to + pages) page (rights_in old.runs (page - to + from)) (rights_in old.runs page) k.0 k.1)))))
       finds page canonical (inr k) =
-          ap (option_map rights_of_place) (m.copied.elsewhere page canonical (λ j less is. not_among to pages page j k less is) ∙ m.elsewhere page canonical (λ j less is. not_among to pages page j k less is))
-          ∙ (m.kept.found page canonical ∙ sym (m.runs_copied.pages_are page ∙ else_out to (to + pages) page (rights_in old.runs (page - to + from)) (rights_in old.runs page) k))
+          ap (option_map rights_of_place) (m.copied.elsewhere page canonical
+          (λ j less is. not_among to pages page j k less is) ∙ m.elsewhere page canonical
+          (λ j less is. not_among to pages page j k less is))
+          ∙ (m.kept.found page canonical ∙ sym (m.runs_copied.pages_are page
+          ∙ else_out to (to + pages) page (rights_in old.runs (page - to + from)) (rights_in old.runs page) k))
 
       unmet_one : (frame : ℕ) → ((level number : ℕ) (met : Place) → level ≤ 4 → reach words old.root level number ≡ Some met → met.frame ≡ frame → ⊥) →
           (level number : ℕ) (met : Place) → level ≤ 4 → reach one old.root level number ≡ Some met → met.frame ≡ frame → ⊥
@@ -249,7 +286,8 @@ duplicated_kept old one words free runs from pages to rights m =
           (level number : ℕ) (met : Place) → level ≤ 4 → reach old.words old.root level number ≡ Some met → met.frame ≡ frame → ⊥
       unmet_old frame unmet level number met le at same = unmet_one frame unmet level number met le (m.added.stayed level number met le at) same
 
-pub duplicated_map : (old : Tables) (one words : List ℕ) (free : List Bool) (runs : List (Interval ℕ × Rights)) (from pages to : ℕ) (rights : Rights) → AreDuplicated old one words free runs from pages to rights →
+pub duplicated_map : (old : Tables) (one words : List ℕ) (free : List Bool) (runs : List (Interval ℕ × Rights))
+    (from pages to : ℕ) (rights : Rights) → AreDuplicated old one words free runs from pages to rights →
     IsMap (map_of (record { words = words; root = old.root; free = free; runs = runs })) (duplicated from pages to (map_of old))
 duplicated_map old one words free runs from pages to rights m = record {
   rights = m.runs_copied.pages_are;
@@ -261,11 +299,14 @@ duplicated_map old one words free runs from pages to rights m = record {
       ap (λ (n : ℕ). n == 0 || n == 2 ^ 17 - 1) same ∙ h
 
   -- a byte of the target is that of the source
-  moved : (address : ℕ) → to ≤ address / 4096 → address / 4096 < to + pages → reached words old.root address ≡ reached old.words old.root (address - 4096 * to + 4096 * from)
+  moved : (address : ℕ) → to ≤ address / 4096 → address / 4096 < to + pages →
+      reached words old.root address ≡ reached old.words old.root (address - 4096 * to + 4096 * from)
   moved address h k =
       let few : address / 4096 - to < pages = omega (arith, h, k) in
       let source : (address - 4096 * to + 4096 * from) / 4096 ≡ from + (address / 4096 - to) = omega (arith, h) in
-      let there : IsSome (walk_of old.words old.root (from + (address / 4096 - to))) = mapped_walks old (from + (address / 4096 - to)) m.kept (m.full (from + (address / 4096 - to)) (omega arith) (omega (arith, few))) in
+      let there : IsSome (walk_of old.words old.root (from + (address / 4096 - to))) =
+      mapped_walks old (from + (address / 4096 - to)) m.kept (m.full (from + (address / 4096 - to)) (omega arith)
+      (omega (arith, few))) in
       reached_same words old.root address (4096 * (to + (address / 4096 - to)) + address % 4096) (omega (arith, h))
       ∙ (m.copied.copied (address / 4096 - to) (address % 4096) few (omega arith)
       ∙ (reached_same one old.root (4096 * (from + (address / 4096 - to)) + address % 4096) (address - 4096 * to + 4096 * from) (omega (arith, h))
@@ -281,19 +322,30 @@ duplicated_map old one words free runs from pages to rights m = record {
 
   by_side : (address : ℕ) → ((to ≤ address / 4096) × (address / 4096 < to + pages)) ⊎ ((address / 4096 < to) ⊎ (to + pages ≤ address / 4096)) →
       cond (is_some (rights_in runs (address / 4096))) (reached words old.root address) None
-      ≡ cond (is_among to pages (address / 4096)) (cond (is_some (rights_in old.runs ((address - 4096 * to + 4096 * from) / 4096))) (reached old.words old.root (address - 4096 * to + 4096 * from)) None)
+      ≡ cond (is_among to pages (address / 4096)) (cond (is_some (rights_in old.runs
+      ((address - 4096 * to + 4096 * from) / 4096))) (reached old.words old.root (address - 4096 * to + 4096 * from))
+      None)
       (cond (is_some (rights_in old.runs (address / 4096))) (reached old.words old.root address) None)
   by_side address (inl k) =
       let page : (address - 4096 * to + 4096 * from) / 4096 ≡ address / 4096 - to + from = omega (arith, k.0) in
-      byte_out (rights_in runs (address / 4096)) (rights_in old.runs ((address - 4096 * to + 4096 * from) / 4096)) (reached words old.root address) (reached old.words old.root (address - 4096 * to + 4096 * from))
-      (m.runs_copied.pages_are (address / 4096) ∙ (then_in to (to + pages) (address / 4096) (rights_in old.runs (address / 4096 - to + from)) (rights_in old.runs (address / 4096)) k.0 k.1 ∙ ap (rights_in old.runs) (sym page)))
+      byte_out (rights_in runs (address / 4096)) (rights_in old.runs ((address - 4096 * to + 4096 * from) / 4096))
+      (reached words old.root address) (reached old.words old.root (address - 4096 * to + 4096 * from))
+      (m.runs_copied.pages_are (address / 4096) ∙ (then_in to (to + pages) (address / 4096)
+      (rights_in old.runs (address / 4096 - to + from)) (rights_in old.runs (address / 4096)) k.0 k.1
+      ∙ ap (rights_in old.runs) (sym page)))
       (moved address k.0 k.1)
-      ∙ sym (then_in to (to + pages) (address / 4096) (cond (is_some (rights_in old.runs ((address - 4096 * to + 4096 * from) / 4096))) (reached old.words old.root (address - 4096 * to + 4096 * from)) None)
+      ∙ sym (then_in to (to + pages) (address / 4096) (cond (is_some (rights_in old.runs
+      ((address - 4096 * to + 4096 * from) / 4096))) (reached old.words old.root (address - 4096 * to + 4096 * from))
+      None)
       (cond (is_some (rights_in old.runs (address / 4096))) (reached old.words old.root address) None) k.0 k.1)
   by_side address (inr k) =
-      ap (λ (o : Option Rights). cond (is_some o) (reached words old.root address) None) (m.runs_copied.pages_are (address / 4096) ∙ else_out to (to + pages) (address / 4096) (rights_in old.runs (address / 4096 - to + from)) (rights_in old.runs (address / 4096)) k)
+      ap (λ (o : Option Rights). cond (is_some o) (reached words old.root address) None)
+      (m.runs_copied.pages_are (address / 4096) ∙ else_out to (to + pages) (address / 4096)
+      (rights_in old.runs (address / 4096 - to + from)) (rights_in old.runs (address / 4096)) k)
       ∙ (kept_byte address k (rights_in old.runs (address / 4096)) refl
-      ∙ sym (else_out to (to + pages) (address / 4096) (cond (is_some (rights_in old.runs ((address - 4096 * to + 4096 * from) / 4096))) (reached old.words old.root (address - 4096 * to + 4096 * from)) None)
+      ∙ sym (else_out to (to + pages) (address / 4096) (cond (is_some (rights_in old.runs
+      ((address - 4096 * to + 4096 * from) / 4096))) (reached old.words old.root (address - 4096 * to + 4096 * from))
+      None)
       (cond (is_some (rights_in old.runs (address / 4096))) (reached old.words old.root address) None) k))
 
 walk_is : (words : List ℕ) (root page : ℕ) → walk_of words root page ≡ reach words root 4 (prefix_of page 4)
@@ -327,7 +379,8 @@ page_of_number to pages n one h =
     let high : n < prefix_of to 4 + pages = grind (arith, nat_tests, h) in
     (n - prefix_of to 4, omega (arith, low, high), omega (arith, one, low, high))
 
-pub duplicated_is : (old new : Tables) (one : List ℕ) (from pages to : ℕ) (rights : Rights) → AreDuplicated old one new.words new.free new.runs from pages to rights → new.root ≡ old.root →
+pub duplicated_is : (old new : Tables) (one : List ℕ) (from pages to : ℕ) (rights : Rights) →
+    AreDuplicated old one new.words new.free new.runs from pages to rights → new.root ≡ old.root →
     IsMap (map_of new) (duplicated from pages to (map_of old)) → AreWordsCopied old new from pages to → IsDuplicated old new from pages to
 duplicated_is old new one from pages to rights m root map words = record {
   map = map;
@@ -347,31 +400,40 @@ duplicated_is old new one from pages to rights m root map words = record {
     missed : (k : ℕ) → k < pages → walk_of old.words old.root (to + k) ≡ Some place → ⊥
     missed k less found =
         let there = canonical_in to pages (to + k) m.target (omega arith) (omega (arith, less)) in
-        let no : Some (rights_of_place place) ≡ None = ap (option_map rights_of_place) (sym found) ∙ (m.kept.found (to + k) there ∙ m.clear (to + k) (omega arith) (omega (arith, less))) in absurd (cc)
+        let no : Some (rights_of_place place) ≡ None = ap (option_map rights_of_place) (sym found)
+        ∙ (m.kept.found (to + k) there ∙ m.clear (to + k) (omega arith) (omega (arith, less))) in absurd (cc)
 
-  by_level : (l n : ℕ) → l ≤ 4 → ((k : ℕ) → k < pages → n ≡ prefix_of (to + k) l → ⊥) → (l < 4) ⊎ (4 ≤ l) → reach new.words old.root l n ≡ reach old.words old.root l n
+  by_level : (l n : ℕ) → l ≤ 4 → ((k : ℕ) → k < pages → n ≡ prefix_of (to + k) l → ⊥) → (l < 4) ⊎ (4 ≤ l) →
+      reach new.words old.root l n ≡ reach old.words old.root l n
   by_level l n le out (inl h) = m.copied.tables l n h ∙ m.added.others l n le out
   by_level l n le out (inr h) =
       let four : 4 ≡ l = omega (arith, h, le) in
       subst (λ (i : ℕ). reach new.words old.root i n ≡ reach old.words old.root i n) four
-      (m.copied.outside n (not_in n (λ k less is. out k less (is ∙ ap (prefix_of (to + k)) four))) ∙ m.added.others 4 n (omega arith) (λ k less is. out k less (is ∙ ap (prefix_of (to + k)) four)))
+      (m.copied.outside n (not_in n (λ k less is. out k less (is ∙ ap (prefix_of (to + k)) four)))
+      ∙ m.added.others 4 n (omega arith) (λ k less is. out k less (is ∙ ap (prefix_of (to + k)) four)))
 
   by_met : (l n : ℕ) (place : Place) → l ≤ 4 → reach old.words old.root l n ≡ Some place → (l < 4) ⊎ (4 ≤ l) → reach new.words old.root l n ≡ Some place
   by_met l n place le at (inl h) = m.copied.tables l n h ∙ m.added.stayed l n place le at
   by_met l n place le at (inr h) =
       let four : l ≡ 4 = omega (arith, h, le) in
       let was : reach old.words old.root 4 n ≡ Some place = subst (λ (i : ℕ). reach old.words old.root i n ≡ Some place) four at in
-      subst (λ (i : ℕ). reach new.words old.root i n ≡ Some place) (sym four) (m.copied.outside n (not_mapped n place was) ∙ m.added.stayed 4 n place (omega arith) was)
+      subst (λ (i : ℕ). reach new.words old.root i n ≡ Some place) (sym four)
+      (m.copied.outside n (not_mapped n place was) ∙ m.added.stayed 4 n place (omega arith) was)
 
 -- ---- the pages before they are copied
 
-pub source_mapped : (old : Tables) (one : List ℕ) (from pages to k : ℕ) → AreTablesKept old → IsCanonicalRange from pages → ((page : ℕ) → from ≤ page → page < from + pages → IsSome (rights_in old.runs page)) →
+pub source_mapped : (old : Tables) (one : List ℕ) (from pages to k : ℕ) → AreTablesKept old → IsCanonicalRange from pages →
+    ((page : ℕ) → from ≤ page → page < from + pages → IsSome (rights_in old.runs page)) →
     ((page : ℕ) → to ≤ page → page < to + pages → rights_in old.runs page ≡ None) →
-    ((other : ℕ) → IsTrue (is_canonical (other * 4096)) → ((k : ℕ) → k < pages → other ≡ to + k → ⊥) → walk_of one old.root other ≡ walk_of old.words old.root other) →
+    ((other : ℕ) → IsTrue (is_canonical (other * 4096)) → ((k : ℕ) → k < pages → other ≡ to + k → ⊥) →
+    walk_of one old.root other ≡ walk_of old.words old.root other) →
     k < pages → IsSome (walk_of one old.root (from + k))
 source_mapped old one from pages to k kept source full clear elsewhere less =
-    subst IsSome (sym (elsewhere (from + k) (canonical_in from pages (from + k) source (omega arith) (omega (arith, less))) (λ j few is. ranges_apart old.runs from pages to k j full clear less few is)))
+    subst IsSome (sym (elsewhere (from + k) (canonical_in from pages (from + k) source (omega arith) (omega (arith, less)))
+    (λ j few is. ranges_apart old.runs from pages to k j full clear less few is)))
     (mapped_walks old (from + k) kept (full (from + k) (omega arith) (omega (arith, less))))
 
-pub target_mapped : (old one : List ℕ) (free free' : List Bool) (root first pages k : ℕ) (rights : Rights) → IsRangeAdded old one free free' root first pages rights → k < pages → IsSome (walk_of one root (first + k))
-target_mapped old one free free' root first pages k rights added less = let new = added.mapped k less in is_some_of (walk_of one root (first + k)) (granted new.frame rights) new.found
+pub target_mapped : (old one : List ℕ) (free free' : List Bool) (root first pages k : ℕ) (rights : Rights) →
+    IsRangeAdded old one free free' root first pages rights → k < pages → IsSome (walk_of one root (first + k))
+target_mapped old one free free' root first pages k rights added less = let new = added.mapped k less in
+    is_some_of (walk_of one root (first + k)) (granted new.frame rights) new.found

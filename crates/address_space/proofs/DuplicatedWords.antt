@@ -40,9 +40,11 @@ module _ (old new : Tables) (one : List ℕ) (from pages to : ℕ) (rights : Rig
   step_same l n less = m.copied.tables (l + 1) n (omega (arith, less))
 
   -- no word of a table is changed if no target page is at its entry
-  word_same : (l n f i : ℕ) → l < 4 → i < 512 → reach one old.root l n ≡ Some (top f) → (l ≡ 3 → among to pages (512 * n + i) ≡ false) → word_at new.words f i ≡ word_at one f i
+  word_same : (l n f i : ℕ) → l < 4 → i < 512 → reach one old.root l n ≡ Some (top f) →
+      (l ≡ 3 → among to pages (512 * n + i) ≡ false) → word_at new.words f i ≡ word_at one f i
   word_same l n f i less small table out = m.copied.others f i small
-      (λ k p few at same. no_table one old.root new.free l n (prefix_of (to + k) 4) f p m.added.tree less table (sym (walk_reach one old.root (to + k)) ∙ at) same)
+      (λ k p few at same. no_table one old.root new.free l n (prefix_of (to + k) 4) f p m.added.tree less table
+      (sym (walk_reach one old.root (to + k)) ∙ at) same)
       (λ n' other.
       let is = one_table one old.root new.free 3 n' l n f m.added.tree (omega arith) less other table in
       let three = is.0 in
@@ -86,11 +88,14 @@ module _ (old new : Tables) (one : List ℕ) (from pages to : ℕ) (rights : Rig
         ∙ m.added.entries.old_words l n f i less small table (sym (step_same l (512 * n + i) h) ∙ same)
     go (inr h) =
         let four : l + 1 ≡ 4 = omega (arith, h, less) in
-        let at : reach new.words old.root 4 (512 * n + i) ≡ reach old.words old.root 4 (512 * n + i) = subst (λ (k : ℕ). reach new.words old.root k (512 * n + i) ≡ reach old.words old.root k (512 * n + i)) four same in
+        let at : reach new.words old.root 4 (512 * n + i) ≡ reach old.words old.root 4 (512 * n + i) =
+        subst (λ (k : ℕ). reach new.words old.root k (512 * n + i) ≡ reach old.words old.root k (512 * n + i)) four same
+        in
         let out = out_of (512 * n + i) at in
         let unchanged : reach one old.root 4 (512 * n + i) ≡ reach old.words old.root 4 (512 * n + i) = sym (m.copied.outside (512 * n + i) out) ∙ at in
         word_same l n f i less small there (λ three. out)
-        ∙ m.added.entries.old_words l n f i less small table (subst (λ (k : ℕ). reach one old.root k (512 * n + i) ≡ reach old.words old.root k (512 * n + i)) (sym four) unchanged)
+        ∙ m.added.entries.old_words l n f i less small table (subst (λ (k : ℕ).
+        reach one old.root k (512 * n + i) ≡ reach old.words old.root k (512 * n + i)) (sym four) unchanged)
 
   blank : (l n f i : ℕ) → l < 4 → i < 512 → reach old.words old.root l n ≡ None → reach new.words old.root l n ≡ Some (top f) →
       reach new.words old.root (l + 1) (512 * n + i) ≡ None → word_at new.words f i ≡ 0
@@ -105,7 +110,8 @@ module _ (old new : Tables) (one : List ℕ) (from pages to : ℕ) (rights : Rig
         let out = out_where_gone (512 * n + i) at in
         let unchanged : reach one old.root 4 (512 * n + i) ≡ None = sym (m.copied.outside (512 * n + i) out) ∙ at in
         word_same l n f i less small (now l n f less table) (λ three. out)
-        ∙ m.added.entries.blank l n f i less small missed (now l n f less table) (subst (λ (k : ℕ). reach one old.root k (512 * n + i) ≡ None) (sym four) unchanged)
+        ∙ m.added.entries.blank l n f i less small missed (now l n f less table)
+        (subst (λ (k : ℕ). reach one old.root k (512 * n + i) ≡ None) (sym four) unchanged)
 
   table_words : (l n f i made : ℕ) → l < 3 → i < 512 → reach new.words old.root l n ≡ Some (top f) → reach old.words old.root (l + 1) (512 * n + i) ≡ None →
       reach new.words old.root (l + 1) (512 * n + i) ≡ Some (top made) → word_at new.words f i ≡ table_entry made
@@ -121,34 +127,39 @@ module _ (old new : Tables) (one : List ℕ) (from pages to : ℕ) (rights : Rig
     go true h = m.copied.entries n i f place small h (now 3 n f (omega arith) table) at
     go false h = absurd (some_none (reach new.words old.root 4 (512 * n + i)) place at (other_page (512 * n + i) h ∙ missed))
 
-  others : (f i : ℕ) → i < 512 → is_free old.free f ≡ false → ((l n : ℕ) → l < 4 → reach old.words old.root l n ≡ Some (top f) → ⊥) → word_at new.words f i ≡ word_at old.words f i
-  others f i small used unmet = m.copied.others f i small (λ k p few at same. no_page k p few at same) (λ n table. absurd (not_a_table n table)) ∙ m.added.words f i small used unmet where
-    no_page : (k : ℕ) (p : Place) → k < pages → walk_of one old.root (to + k) ≡ Some p → p.frame ≡ f → ⊥
-    no_page k p few at same =
-        let page = m.added.mapped k few in
-        let is = same_place (walk_of one old.root (to + k)) (granted page.frame rights) p page.found at in
-        let no : true ≡ false = sym page.was_free ∙ (ap (λ (x : Place). is_free old.free x.frame) is ∙ (ap (is_free old.free) same ∙ used)) in absurd (cc)
+  others : (f i : ℕ) → i < 512 → is_free old.free f ≡ false → ((l n : ℕ) → l < 4 →
+      reach old.words old.root l n ≡ Some (top f) → ⊥) → word_at new.words f i ≡ word_at old.words f i
+  others f i small used unmet = m.copied.others f i small (λ k p few at same. no_page k p few at same)
+      (λ n table. absurd (not_a_table n table)) ∙ m.added.words f i small used unmet where
+        no_page : (k : ℕ) (p : Place) → k < pages → walk_of one old.root (to + k) ≡ Some p → p.frame ≡ f → ⊥
+        no_page k p few at same =
+            let page = m.added.mapped k few in
+            let is = same_place (walk_of one old.root (to + k)) (granted page.frame rights) p page.found at in
+            let no : true ≡ false = sym page.was_free ∙ (ap (λ (x : Place). is_free old.free x.frame) is ∙ (ap (is_free old.free) same ∙ used)) in absurd (cc)
 
-    not_a_table : (n : ℕ) → reach one old.root 3 n ≡ Some (top f) → ⊥
-    not_a_table n table = go (reach old.words old.root 3 n) refl where
-      go : (o : Option Place) → reach old.words old.root 3 n ≡ o → ⊥
-      go None missed = (let free = m.added.made 3 n (top f) (omega arith) missed table in let no : true ≡ false = sym free ∙ used in absurd (cc))
-      go (Some met) at =
-          let is = same_place (reach one old.root 3 n) met (top f) (m.added.stayed 3 n met (omega arith) at) table in
-          unmet 3 n (omega arith) (at ∙ ap (λ (p : Place). Some p) is)
+        not_a_table : (n : ℕ) → reach one old.root 3 n ≡ Some (top f) → ⊥
+        not_a_table n table = go (reach old.words old.root 3 n) refl where
+          go : (o : Option Place) → reach old.words old.root 3 n ≡ o → ⊥
+          go None missed = (let free = m.added.made 3 n (top f) (omega arith) missed table in let no : true ≡ false = sym free ∙ used in absurd (cc))
+          go (Some met) at =
+              let is = same_place (reach one old.root 3 n) met (top f) (m.added.stayed 3 n met (omega arith) at) table in
+              unmet 3 n (omega arith) (at ∙ ap (λ (p : Place). Some p) is)
 
   still_free : (f i : ℕ) → i < 512 → is_free new.free f ≡ true → word_at new.words f i ≡ word_at old.words f i
-  still_free f i small free = m.copied.others f i small (λ k p few at same. no_page k p few at same) (λ n table. absurd (not_a_table n table)) ∙ m.added.free_words f i small free where
-    no_page : (k : ℕ) (p : Place) → k < pages → walk_of one old.root (to + k) ≡ Some p → p.frame ≡ f → ⊥
-    no_page k p few at same =
-        let page = m.added.mapped k few in
-        let is = same_place (walk_of one old.root (to + k)) (granted page.frame rights) p page.found at in
-        let no : true ≡ false = sym free ∙ (ap (is_free new.free) (sym same) ∙ (ap (λ (x : Place). is_free new.free x.frame) (sym is) ∙ page.taken)) in absurd (cc)
+  still_free f i small free = m.copied.others f i small (λ k p few at same. no_page k p few at same)
+      (λ n table. absurd (not_a_table n table)) ∙ m.added.free_words f i small free where
+        no_page : (k : ℕ) (p : Place) → k < pages → walk_of one old.root (to + k) ≡ Some p → p.frame ≡ f → ⊥
+        no_page k p few at same =
+            let page = m.added.mapped k few in
+            let is = same_place (walk_of one old.root (to + k)) (granted page.frame rights) p page.found at in
+            let no : true ≡ false = sym free ∙ (ap (is_free new.free) (sym same)
+            ∙ (ap (λ (x : Place). is_free new.free x.frame) (sym is) ∙ page.taken)) in absurd (cc)
 
-    not_a_table : (n : ℕ) → reach one old.root 3 n ≡ Some (top f) → ⊥
-    not_a_table n table = let used = m.added.tree.used 3 n (top f) (omega arith) table in let no : true ≡ false = sym free ∙ used in absurd (cc)
+        not_a_table : (n : ℕ) → reach one old.root 3 n ≡ Some (top f) → ⊥
+        not_a_table n table = let used = m.added.tree.used 3 n (top f) (omega arith) table in let no : true ≡ false = sym free ∙ used in absurd (cc)
 
-  copied : (k i : ℕ) (source target : Place) → k < pages → i < 512 → walk_of old.words old.root (from + k) ≡ Some source → walk_of new.words old.root (to + k) ≡ Some target →
+  copied : (k i : ℕ) (source target : Place) → k < pages → i < 512 → walk_of old.words old.root (from + k) ≡ Some source →
+      walk_of new.words old.root (to + k) ≡ Some target →
       word_at new.words target.frame i ≡ word_at old.words source.frame i
   copied k i source target less small at_s at_t =
       let page = m.added.mapped k less in
@@ -161,4 +172,13 @@ module _ (old new : Tables) (one : List ℕ) (from pages to : ℕ) (rights : Rig
       ∙ m.added.bytes_stay (from + k) source i at_s small)
 
   pub duplicated_words : AreWordsCopied old new from pages to
-  duplicated_words = record { copied = copied; old_words = old_words; blank = blank; table_words = table_words; page_words = page_words; others = others; still_free = still_free }
+  duplicated_words = record {
+    copied = copied;
+    old_words = old_words;
+    blank = blank;
+    table_words = table_words;
+    page_words =
+        page_words;
+    others = others;
+    still_free = still_free;
+  }

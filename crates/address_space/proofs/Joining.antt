@@ -24,13 +24,15 @@ without_second runs start page end m =
     ∙ (without_between r 0 (m.front ++ l ∷ []) m.back (follow_append 0 start m.front (l ∷ []) page m.before (omega arith, m.first, omega arith))
     ∙ append_assoc m.front (l ∷ []) m.back)
 
-pub own_first : (runs rest : List (Interval ℕ × Rights)) (start page end : ℕ) (m : AreMeeting runs start page end) → rest ≡ m.front ++ (record { start = start; end = page }, m.rights) ∷ m.back →
+pub own_first : (runs rest : List (Interval ℕ × Rights)) (start page end : ℕ) (m : AreMeeting runs start page end) →
+    rest ≡ m.front ++ (record { start = start; end = page }, m.rights) ∷ m.back →
     AllItems (HasOwnStart nat_cmp (record { start = start; end = page })) rest
 own_first runs rest start page end m is =
     subst (λ (es : List (Interval ℕ × Rights)). AllItems (HasOwnStart nat_cmp (record { start = start; end = page })) es) (sym is)
     (own_between (record { start = start; end = page }, m.rights) 0 m.front m.back end (2 ^ 52) m.before (omega (arith, m.first, m.second)) m.behind)
 
-pub with_first : (runs rest : List (Interval ℕ × Rights)) (start page end : ℕ) (m : AreMeeting runs start page end) → rest ≡ m.front ++ (record { start = start; end = page }, m.rights) ∷ m.back →
+pub with_first : (runs rest : List (Interval ℕ × Rights)) (start page end : ℕ) (m : AreMeeting runs start page end) →
+    rest ≡ m.front ++ (record { start = start; end = page }, m.rights) ∷ m.back →
     map (with_end nat_cmp (record { start = start; end = page }) end) rest ≡ m.front ++ (record { start = start; end = end }, m.rights) ∷ m.back
 with_first runs rest start page end m is =
     ap (map (with_end nat_cmp (record { start = start; end = page }) end)) is
@@ -39,7 +41,8 @@ with_first runs rest start page end m is =
 -- ---- what the one run is
 
 same_rights : (start page end any : ℕ) (rights : Rights) (back : List (Interval ℕ × Rights)) → start < page → page < end →
-    rights_in ((record { start = start; end = end }, rights) ∷ back) any ≡ rights_in ((record { start = start; end = page }, rights) ∷ (record { start = page; end = end }, rights) ∷ back) any
+    rights_in ((record { start = start; end = end }, rights) ∷ back) any ≡ rights_in
+    ((record { start = start; end = page }, rights) ∷ (record { start = page; end = end }, rights) ∷ back) any
 same_rights start page end any rights back h k = grind (arith, nat_tests)
 
 fewer_begin : (front back : List (Interval ℕ × Rights)) (start page end any : ℕ) (rights : Rights) →
@@ -47,7 +50,8 @@ fewer_begin : (front back : List (Interval ℕ × Rights)) (start page end any :
     begins_at (front ++ (record { start = start; end = page }, rights) ∷ (record { start = page; end = end }, rights) ∷ back) any ≡ true
 fewer_begin front back start page end any rights h =
     begins_append front ((record { start = start; end = page }, rights) ∷ (record { start = page; end = end }, rights) ∷ back) any
-    ∙ go (begins_at front any) (start == any) (page == any) (begins_at back any) (sym (begins_append front ((record { start = start; end = end }, rights) ∷ back) any) ∙ h) where
+    ∙ go (begins_at front any) (start == any) (page == any) (begins_at back any)
+    (sym (begins_append front ((record { start = start; end = end }, rights) ∷ back) any) ∙ h) where
       go : (a b c d : Bool) → (a || (cond b true d)) ≡ true → (a || cond b true (cond c true d)) ≡ true
       go true b c d k = refl
       go false true c d k = refl
@@ -55,16 +59,20 @@ fewer_begin front back start page end any rights h =
       go false false false d k = k
 
 -- no run begins at the page
-none_begins : (front back : List (Interval ℕ × Rights)) (e : Interval ℕ × Rights) (page : ℕ) → begins_at front page ≡ false → e.0.start < page → begins_at back page ≡ false → begins_at (front ++ e ∷ back) page ≡ false
+none_begins : (front back : List (Interval ℕ × Rights)) (e : Interval ℕ × Rights) (page : ℕ) →
+    begins_at front page ≡ false → e.0.start < page → begins_at back page ≡ false →
+    begins_at (front ++ e ∷ back) page ≡ false
 none_begins front back e page h k l =
     let t : (e.0.start == page) ≡ false = grind (arith, nat_tests, k) in
     begins_append front (e ∷ back) page ∙ rw h (rw t l)
 
-pub joined : (runs new : List (Interval ℕ × Rights)) (start page end : ℕ) (m : AreMeeting runs start page end) → new ≡ m.front ++ (record { start = start; end = end }, m.rights) ∷ m.back → AreRunsJoined runs new page
+pub joined : (runs new : List (Interval ℕ × Rights)) (start page end : ℕ) (m : AreMeeting runs start page end) →
+    new ≡ m.front ++ (record { start = start; end = end }, m.rights) ∷ m.back → AreRunsJoined runs new page
 joined runs new start page end m is =
     subst (λ (es : List (Interval ℕ × Rights)). AreRunsJoined runs es page) (sym is)
     (record {
-      follow = follow_append 0 start m.front ((record { start = start; end = end }, m.rights) ∷ m.back) (2 ^ 52) m.before (omega arith, omega (arith, m.first, m.second), m.behind);
+      follow = follow_append 0 start m.front ((record { start = start; end = end }, m.rights) ∷ m.back) (2 ^ 52) m.before
+          (omega arith, omega (arith, m.first, m.second), m.behind);
       rights = λ any. rights_append m.front ((record { start = start; end = end }, m.rights) ∷ m.back) any
           ∙ (ap (or_else (rights_in m.front any)) (same_rights start page end any m.rights m.back m.first m.second)
           ∙ (sym (rights_append m.front ((record { start = start; end = page }, m.rights) ∷ (record { start = page; end = end }, m.rights) ∷ m.back) any)
@@ -90,46 +98,58 @@ longest_none runs page none before at h same =
     let no : true ≡ false = sym h ∙ n in absurd (cc)
 
 -- no run begins at the page after the last one before it
-pub none_at : (page : ℕ) (runs : List (Interval ℕ × Rights)) (e : Interval ℕ × Rights) (i : IsLast page 0 runs (2 ^ 52) e) → begins_at i.back page ≡ false → begins_at runs page ≡ false
+pub none_at : (page : ℕ) (runs : List (Interval ℕ × Rights)) (e : Interval ℕ × Rights) (i : IsLast page 0 runs (2 ^ 52) e) →
+    begins_at i.back page ≡ false → begins_at runs page ≡ false
 none_at page runs e i none =
     ap (λ (es : List (Interval ℕ × Rights)). begins_at es page) i.whole
     ∙ none_begins i.front i.back e page (none_begins_above 0 i.front e.0.start page i.before (omega (arith, i.starts))) i.starts none
 
-all_with : (at : ℕ) (front : List (Interval ℕ × Rights)) (e : Interval ℕ × Rights) → AllItems (λ e. e.0.start < at) front → e.0.start < at → AllItems (λ e. e.0.start < at) (front ++ e ∷ [])
+all_with : (at : ℕ) (front : List (Interval ℕ × Rights)) (e : Interval ℕ × Rights) → AllItems (λ e. e.0.start < at) front →
+    e.0.start < at → AllItems (λ e. e.0.start < at) (front ++ e ∷ [])
 all_with at [] e h k = (k, tt)
 all_with at (x ∷ front) e h k = (h.0, all_with at front e h.1 k)
 
 -- the first run from the page on, after the last one before it
-pub next_is : (page : ℕ) (runs : List (Interval ℕ × Rights)) (e : Interval ℕ × Rights) (i : IsLast page 0 runs (2 ^ 52) e) → first (starts_from nat_cmp page) runs ≡ first (starts_from nat_cmp page) i.back
+pub next_is : (page : ℕ) (runs : List (Interval ℕ × Rights)) (e : Interval ℕ × Rights) (i : IsLast page 0 runs (2 ^ 52) e) →
+    first (starts_from nat_cmp page) runs ≡ first (starts_from nat_cmp page) i.back
 next_is page runs e i =
     ap (first (starts_from nat_cmp page)) (i.whole ∙ sym (append_assoc i.front (e ∷ []) i.back))
     ∙ past_front page (i.front ++ e ∷ []) i.back (all_with page i.front e (all_before 0 i.front e.0.start page i.before (omega (arith, i.starts))) i.starts)
 
-pub none_next : (page : ℕ) (runs : List (Interval ℕ × Rights)) (e : Interval ℕ × Rights) (i : IsLast page 0 runs (2 ^ 52) e) → first (starts_from nat_cmp page) runs ≡ None → begins_at runs page ≡ false
+pub none_next : (page : ℕ) (runs : List (Interval ℕ × Rights)) (e : Interval ℕ × Rights)
+    (i : IsLast page 0 runs (2 ^ 52) e) → first (starts_from nat_cmp page) runs ≡ None → begins_at runs page ≡ false
 none_next page runs e i h =
-    none_at page runs e i (ap (λ (es : List (Interval ℕ × Rights)). begins_at es page) (none_is page i.back (2 ^ 52) i.behind (sym (next_is page runs e i) ∙ h)))
+    none_at page runs e i (ap (λ (es : List (Interval ℕ × Rights)). begins_at es page)
+    (none_is page i.back (2 ^ 52) i.behind (sym (next_is page runs e i) ∙ h)))
 
 -- the last run before the page goes on after it
-pub none_over : (page : ℕ) (runs : List (Interval ℕ × Rights)) (e : Interval ℕ × Rights) (i : IsLast page 0 runs (2 ^ 52) e) → page < e.0.end → begins_at runs page ≡ false
+pub none_over : (page : ℕ) (runs : List (Interval ℕ × Rights)) (e : Interval ℕ × Rights)
+    (i : IsLast page 0 runs (2 ^ 52) e) → page < e.0.end → begins_at runs page ≡ false
 none_over page runs e i h = none_at page runs e i (none_begins_below e.0.end i.back (2 ^ 52) page i.next h)
 
 -- or ends before it
-pub longest_gap : (page : ℕ) (runs : List (Interval ℕ × Rights)) (e : Interval ℕ × Rights) → Follow 0 runs (2 ^ 52) → (i : IsLast page 0 runs (2 ^ 52) e) → e.0.end < page → IsMeeting runs page None
+pub longest_gap : (page : ℕ) (runs : List (Interval ℕ × Rights)) (e : Interval ℕ × Rights) → Follow 0 runs (2 ^ 52) →
+    (i : IsLast page 0 runs (2 ^ 52) e) → e.0.end < page → IsMeeting runs page None
 longest_gap page runs e f i h before at begins same =
     let whole : runs ≡ (i.front ++ e ∷ []) ++ i.back = i.whole ∙ sym (append_assoc i.front (e ∷ []) i.back) in
     let follow : Follow 0 (i.front ++ e ∷ []) e.0.end = follow_append 0 e.0.start i.front (e ∷ []) e.0.end i.before (omega arith, i.some, omega arith) in
     let gone : rights_in runs before ≡ None = ap (λ (es : List (Interval ℕ × Rights)). rights_in es before) whole
-    ∙ (rights_append (i.front ++ e ∷ []) i.back before ∙ or_none (rights_in (i.front ++ e ∷ []) before) (rights_in i.back before) (none_above 0 (i.front ++ e ∷ []) e.0.end before follow (omega (arith, h, at))) (none_below page i.back (2 ^ 52) before i.behind (omega (arith, at)))) in
+    ∙ (rights_append (i.front ++ e ∷ []) i.back before ∙ or_none (rights_in (i.front ++ e ∷ []) before)
+    (rights_in i.back before) (none_above 0 (i.front ++ e ∷ []) e.0.end before follow (omega (arith, h, at)))
+    (none_below page i.back (2 ^ 52) before i.behind (omega (arith, at)))) in
     begins_mapped 0 runs (2 ^ 52) (before + 1) f begins (sym same ∙ gone)
 
 -- the next run begins after it
-pub none_later : (page : ℕ) (runs : List (Interval ℕ × Rights)) (e next : Interval ℕ × Rights) (i : IsLast page 0 runs (2 ^ 52) e) → first (starts_from nat_cmp page) runs ≡ Some next → (next.0.start ≡ page → ⊥) → begins_at runs page ≡ false
+pub none_later : (page : ℕ) (runs : List (Interval ℕ × Rights)) (e next : Interval ℕ × Rights)
+    (i : IsLast page 0 runs (2 ^ 52) e) → first (starts_from nat_cmp page) runs ≡ Some next → (next.0.start ≡ page → ⊥) →
+    begins_at runs page ≡ false
 none_later page runs e next i h other =
     let head = head_is page i.back (2 ^ 52) next i.behind (sym (next_is page runs e i) ∙ h) in
     let f : Follow page (next ∷ head.0) (2 ^ 52) = subst (λ (es : List (Interval ℕ × Rights)). Follow page es (2 ^ 52)) head.1 i.behind in
     let above : page < next.0.start = omega (arith, f.0, other) in
     let g : Follow next.0.start (next ∷ head.0) (2 ^ 52) = (omega arith, f.1, f.2) in
-    none_at page runs e i (ap (λ (es : List (Interval ℕ × Rights)). begins_at es page) head.1 ∙ none_begins_below next.0.start (next ∷ head.0) (2 ^ 52) page g above)
+    none_at page runs e i (ap (λ (es : List (Interval ℕ × Rights)). begins_at es page) head.1
+    ∙ none_begins_below next.0.start (next ∷ head.0) (2 ^ 52) page g above)
 
 -- if both meet at the page
 pub record AreBeside (page : ℕ) (runs : List (Interval ℕ × Rights)) (e next : Interval ℕ × Rights) : Type 0 where
@@ -141,7 +161,8 @@ pub record AreBeside (page : ℕ) (runs : List (Interval ℕ × Rights)) (e next
   pub second : page < next.0.end
   pub behind : Follow next.0.end rest (2 ^ 52)
 
-pub beside : (page : ℕ) (runs : List (Interval ℕ × Rights)) (e next : Interval ℕ × Rights) (i : IsLast page 0 runs (2 ^ 52) e) → first (starts_from nat_cmp page) runs ≡ Some next → AreBeside page runs e next
+pub beside : (page : ℕ) (runs : List (Interval ℕ × Rights)) (e next : Interval ℕ × Rights)
+    (i : IsLast page 0 runs (2 ^ 52) e) → first (starts_from nat_cmp page) runs ≡ Some next → AreBeside page runs e next
 beside page runs e next i h =
     let head = head_is page i.back (2 ^ 52) next i.behind (sym (next_is page runs e i) ∙ h) in
     let f : Follow page (next ∷ head.0) (2 ^ 52) = subst (λ (es : List (Interval ℕ × Rights)). Follow page es (2 ^ 52)) head.1 i.behind in
@@ -156,7 +177,8 @@ beside page runs e next i h =
     }
 
 -- with equal rights they are a meeting
-pub meeting : (page : ℕ) (runs : List (Interval ℕ × Rights)) (e next : Interval ℕ × Rights) → AreBeside page runs e next → e.0.end ≡ page → next.0.start ≡ page → e.1 ≡ next.1 → AreMeeting runs e.0.start page next.0.end
+pub meeting : (page : ℕ) (runs : List (Interval ℕ × Rights)) (e next : Interval ℕ × Rights) → AreBeside page runs e next →
+    e.0.end ≡ page → next.0.start ≡ page → e.1 ≡ next.1 → AreMeeting runs e.0.start page next.0.end
 meeting page runs e next b left right same = record {
   front = b.front;
   back = b.rest;
@@ -172,13 +194,18 @@ meeting page runs e next b left right same = record {
 }
 
 -- with others they are not
-pub longest_beside : (page : ℕ) (runs : List (Interval ℕ × Rights)) (e next : Interval ℕ × Rights) → Follow 0 runs (2 ^ 52) → IsLast page 0 runs (2 ^ 52) e → AreBeside page runs e next → e.0.end ≡ page → next.0.start ≡ page → (e.1 ≡ next.1 → ⊥) → IsMeeting runs page None
+pub longest_beside : (page : ℕ) (runs : List (Interval ℕ × Rights)) (e next : Interval ℕ × Rights) →
+    Follow 0 runs (2 ^ 52) → IsLast page 0 runs (2 ^ 52) e → AreBeside page runs e next → e.0.end ≡ page →
+    next.0.start ≡ page → (e.1 ≡ next.1 → ⊥) → IsMeeting runs page None
 longest_beside page runs e next f i b left right other before at begins same =
     let first_rights : rights_in runs before ≡ Some e.1 = last_holds page runs (2 ^ 52) e before i (omega (arith, at, i.starts)) (omega (arith, at, left)) in
     let whole : runs ≡ (b.front ++ e ∷ []) ++ next ∷ b.rest = b.whole ∙ sym (append_assoc b.front (e ∷ []) (next ∷ b.rest)) in
     let follow : Follow 0 (b.front ++ e ∷ []) e.0.end = follow_append 0 e.0.start b.front (e ∷ []) e.0.end b.before (omega arith, i.some, omega arith) in
-    let here : rights_in (next ∷ b.rest) (before + 1) ≡ Some next.1 = (let t = holds_inside (before + 1) next (omega (arith, at, right)) (omega (arith, at, b.second)) in rw t refl) in
+    let here : rights_in (next ∷ b.rest) (before + 1) ≡ Some next.1 = (let t =
+    holds_inside (before + 1) next (omega (arith, at, right)) (omega (arith, at, b.second)) in rw t refl) in
     let second_rights : rights_in runs (before + 1) ≡ Some next.1 = ap (λ (es : List (Interval ℕ × Rights)). rights_in es (before + 1)) whole
-    ∙ (rights_append (b.front ++ e ∷ []) (next ∷ b.rest) (before + 1) ∙ or_first (rights_in (b.front ++ e ∷ []) (before + 1)) (rights_in (next ∷ b.rest) (before + 1)) next.1 (none_above 0 (b.front ++ e ∷ []) e.0.end (before + 1) follow (omega (arith, at, left))) here) in
+    ∙ (rights_append (b.front ++ e ∷ []) (next ∷ b.rest) (before + 1) ∙ or_first
+    (rights_in (b.front ++ e ∷ []) (before + 1)) (rights_in (next ∷ b.rest) (before + 1)) next.1
+    (none_above 0 (b.front ++ e ∷ []) e.0.end (before + 1) follow (omega (arith, at, left))) here) in
     let both : Some e.1 ≡ Some next.1 = sym first_rights ∙ (same ∙ second_rights) in
     other (cc)

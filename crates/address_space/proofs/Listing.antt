@@ -18,7 +18,8 @@ pub record Listed (at : ℕ) (es : List (Interval ℕ × Rights)) (items : List 
   pub follow : Follow at back to
   pub items_are : items ≡ areas_of front
 
-all_later : (at later : ℕ) (front : List (Interval ℕ × Rights)) (e : Interval ℕ × Rights) → at ≤ later → e.0.start < later → AllItems (λ e. e.0.start < at) front → AllItems (λ e. e.0.start < later) (front ++ e ∷ [])
+all_later : (at later : ℕ) (front : List (Interval ℕ × Rights)) (e : Interval ℕ × Rights) → at ≤ later → e.0.start < later →
+    AllItems (λ e. e.0.start < at) front → AllItems (λ e. e.0.start < later) (front ++ e ∷ [])
 all_later at later [] e h k a = (k, tt)
 all_later at later (x ∷ front) e h k a = (omega (arith, h, a.0), all_later at later front e h k a.1)
 
@@ -29,7 +30,8 @@ areas_more (x ∷ front) e = ap (λ rs. area_of x ∷ rs) (areas_more front e)
 pub listed_none : (es : List (Interval ℕ × Rights)) (items : List Area) (to : ℕ) → Follow 0 es to → items ≡ [] → Listed 0 es items to
 listed_none es items to f h = record { front = []; back = es; whole = refl; before = tt; follow = f; items_are = h }
 
-pub listed_all : (at : ℕ) (es : List (Interval ℕ × Rights)) (items : List Area) (to : ℕ) → Listed at es items to → first (starts_from nat_cmp at) es ≡ None → items ≡ areas_of es
+pub listed_all : (at : ℕ) (es : List (Interval ℕ × Rights)) (items : List Area) (to : ℕ) → Listed at es items to →
+    first (starts_from nat_cmp at) es ≡ None → items ≡ areas_of es
 listed_all at es items to l h =
     let gone = none_is at l.back to l.follow (sym (past_front at l.front l.back l.before) ∙ (sym (ap (first (starts_from nat_cmp at)) l.whole) ∙ h)) in
     l.items_are ∙ ap areas_of (sym (append-nil l.front) ∙ (ap (λ b. l.front ++ b) (sym gone) ∙ sym l.whole))
@@ -40,7 +42,8 @@ pub record IsListedOn (at : ℕ) (es : List (Interval ℕ × Rights)) (items : L
   pub some : next.0.start < next.0.end
   pub within : next.0.end ≤ to
 
-pub listed_on : (at : ℕ) (es : List (Interval ℕ × Rights)) (items : List Area) (to : ℕ) (next : Interval ℕ × Rights) → Listed at es items to → first (starts_from nat_cmp at) es ≡ Some next → IsListedOn at es items to next
+pub listed_on : (at : ℕ) (es : List (Interval ℕ × Rights)) (items : List Area) (to : ℕ) (next : Interval ℕ × Rights) →
+    Listed at es items to → first (starts_from nat_cmp at) es ≡ Some next → IsListedOn at es items to next
 listed_on at es items to next l h =
     let head = head_is at l.back to next l.follow (sym (past_front at l.front l.back l.before) ∙ (sym (ap (first (starts_from nat_cmp at)) l.whole) ∙ h)) in
     let rest = head.0 in

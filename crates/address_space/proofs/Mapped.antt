@@ -48,16 +48,19 @@ pub is_some_of : {A : Type 0} (o : Option A) (a : A) → o ≡ Some a → IsSome
 is_some_of {A} o a h = rw h refl
 
 pub walks : (t : Tables) (page : ℕ) (rights : Rights) → AreTablesKept t → rights_in t.runs page ≡ Some rights → IsSome (walk_of t.words t.root page)
-walks t page rights kept is = some_of rights_of_place (walk_of t.words t.root page) rights (kept.found page (kept.canonical page (is_some_of (rights_in t.runs page) rights is)) ∙ is)
+walks t page rights kept is = some_of rights_of_place (walk_of t.words t.root page) rights
+    (kept.found page (kept.canonical page (is_some_of (rights_in t.runs page) rights is)) ∙ is)
 
 -- a page that is mapped has an entry in the table of its slot, if there are no large pages
-pub by_table : (words : List ℕ) (root page : ℕ) → ((slot : ℕ) → large_of words root slot ≡ None) → IsSome (walk_of words root page) → IsSome (reach words root 3 (prefix_of page 3))
+pub by_table : (words : List ℕ) (root page : ℕ) → ((slot : ℕ) → large_of words root slot ≡ None) →
+    IsSome (walk_of words root page) → IsSome (reach words root 3 (prefix_of page 3))
 by_table words root page no_large some = go (walk_of words root page) refl some
   where
     go : (o : Option Place) → walk_of words root page ≡ o → IsSome o → IsSome (reach words root 3 (prefix_of page 3))
     go None is none = absurd (cc)
     go (Some place) is some = elim (either_way words root (prefix_of page 4) place (sym (walk_reach words root page) ∙ is)) [
-      | inl e ↦ (let number : prefix_of page 4 / 512 ≡ prefix_of page 3 = omega arith in is_some_of (reach words root 3 (prefix_of page 3)) e.table (ap (reach words root 3) (sym number) ∙ e.met))
+      | inl e ↦ (let number : prefix_of page 4 / 512 ≡ prefix_of page 3 = omega arith in
+          is_some_of (reach words root 3 (prefix_of page 3)) e.table (ap (reach words root 3) (sym number) ∙ e.met))
       | inr l ↦ absurd (let none = no_large (prefix_of page 4 / 512) in let no : None ≡ Some l.large = sym none ∙ l.met in cc)
     ]
 
@@ -68,12 +71,14 @@ pub record AreMapped (old : Tables) (words : List ℕ) (free : List Bool) (runs 
   pub range : IsCanonicalRange first pages
   pub added : IsRangeAdded old.words words old.free free old.root first pages rights
   pub known : FreeBelow free (frame_count words)
-  pub elsewhere : (other : ℕ) → IsTrue (is_canonical (other * 4096)) → ((k : ℕ) → k < pages → other ≡ first + k → ⊥) → walk_of words old.root other ≡ walk_of old.words old.root other
+  pub elsewhere : (other : ℕ) → IsTrue (is_canonical (other * 4096)) → ((k : ℕ) → k < pages → other ≡ first + k → ⊥) →
+      walk_of words old.root other ≡ walk_of old.words old.root other
   pub zeros : (address k : ℕ) → k < pages → address / 4096 ≡ first + k → reached words old.root address ≡ Some 0
   pub bytes : (address : ℕ) → IsSome (walk_of old.words old.root (address / 4096)) → reached words old.root address ≡ reached old.words old.root address
   pub runs_added : IsAdded old.runs runs first (first + pages) rights
 
-pub mapped_kept : (old : Tables) (words : List ℕ) (free : List Bool) (runs : List (Interval ℕ × Rights)) (first pages : ℕ) (rights : Rights) → AreMapped old words free runs first pages rights →
+pub mapped_kept : (old : Tables) (words : List ℕ) (free : List Bool) (runs : List (Interval ℕ × Rights)) (first pages : ℕ)
+    (rights : Rights) → AreMapped old words free runs first pages rights →
     AreTablesKept (record { words = words; root = old.root; free = free; runs = runs })
 mapped_kept old words free runs first pages rights m =
     let count : frame_count words ≡ frame_count old.words = ap (λ n. n / 512) m.added.size in
@@ -85,12 +90,15 @@ mapped_kept old words free runs first pages rights m =
       few_frames = (let r = m.kept.few_frames in omega (arith, count, r));
       canonical = λ page some. is_there page (is_among first pages page) refl (subst IsSome (m.runs_added.pages page) some);
       found = λ page canonical. finds page canonical (is_among first pages page) refl ∙ sym (m.runs_added.pages page);
-      accounted = λ frame less unmet. m.added.kept frame (m.kept.accounted frame (omega (arith, count, less)) (λ l n met le at is. unmet l n met le (m.added.stayed l n met le at) is)) unmet;
+      accounted = λ frame less unmet. m.added.kept frame (m.kept.accounted frame (omega (arith, count, less))
+          (λ l n met le at is. unmet l n met le (m.added.stayed l n met le at) is)) unmet;
       no_large = λ slot. m.added.larges slot ∙ m.kept.no_large slot;
       follow = m.runs_added.follow;
       longest = m.runs_added.longest;
     } where
-      is_there : (page : ℕ) (t : Bool) → is_among first pages page ≡ t → IsSome (cond (is_among first pages page) (Some rights) (rights_in old.runs page)) → IsTrue (is_canonical (page * 4096))
+      is_there : (page : ℕ) (t : Bool) → is_among first pages page ≡ t →
+          IsSome (cond (is_among first pages page) (Some rights) (rights_in old.runs page)) →
+          IsTrue (is_canonical (page * 4096))
       is_there page true is some = canonical_in first pages page m.range (among_from first pages page is) (among_to first pages page is)
       is_there page false is some = m.kept.canonical page (rw is at some)
 
@@ -103,9 +111,11 @@ mapped_kept old words free runs first pages rights m =
           let at : first + (page - first) ≡ page = omega (arith, from) in
           rw is (ap (option_map rights_of_place) (ap (walk_of words old.root) (sym at) ∙ new.found))
       finds page canonical false is =
-          rw is (ap (option_map rights_of_place) (m.elsewhere page canonical (λ k less at. among_not first pages page k is less at)) ∙ m.kept.found page canonical)
+          rw is (ap (option_map rights_of_place) (m.elsewhere page canonical
+          (λ k less at. among_not first pages page k is less at)) ∙ m.kept.found page canonical)
 
-pub mapped_map : (old : Tables) (words : List ℕ) (free : List Bool) (runs : List (Interval ℕ × Rights)) (first pages : ℕ) (rights : Rights) → AreMapped old words free runs first pages rights →
+pub mapped_map : (old : Tables) (words : List ℕ) (free : List Bool) (runs : List (Interval ℕ × Rights)) (first pages : ℕ)
+    (rights : Rights) → AreMapped old words free runs first pages rights →
     IsMap (map_of (record { words = words; root = old.root; free = free; runs = runs })) (mapped first pages rights (map_of old))
 mapped_map old words free runs first pages rights m = record {
   rights = m.runs_added.pages;
@@ -114,7 +124,8 @@ mapped_map old words free runs first pages rights m = record {
   there : (o : Option Rights) (r : Rights) (a b : Option ℕ) → o ≡ Some r → cond (is_some o) a b ≡ a
   there o r a b h = rw h refl
 
-  old_byte : (address : ℕ) (o : Option Rights) → rights_in old.runs (address / 4096) ≡ o → cond (is_some o) (reached words old.root address) None ≡ cond (is_some o) (reached old.words old.root address) None
+  old_byte : (address : ℕ) (o : Option Rights) → rights_in old.runs (address / 4096) ≡ o →
+      cond (is_some o) (reached words old.root address) None ≡ cond (is_some o) (reached old.words old.root address) None
   old_byte address None is = refl
   old_byte address (Some r) is = m.bytes address (walks old (address / 4096) r m.kept is)
 

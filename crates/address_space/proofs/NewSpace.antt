@@ -25,7 +25,8 @@ none_canonical page h = absurd (cc)
 none_longest : AreLongest []
 none_longest page h same = absurd (cc)
 
-pub new_kept : (t : Tables) (count : ℕ) → t.runs ≡ [] → count < 2 ^ 32 → frame_count t.words ≡ count → t.free ≡ set (replicate count true) t.root false → length t.free ≡ count →
+pub new_kept : (t : Tables) (count : ℕ) → t.runs ≡ [] → count < 2 ^ 32 → frame_count t.words ≡ count →
+    t.free ≡ set (replicate count true) t.root false → length t.free ≡ count →
     FreeBelow t.free (frame_count t.words) → t.root < frame_count t.words → IsTree t.words t.root t.free → ((page : ℕ) → walk_of t.words t.root page ≡ None) →
     ((slot : ℕ) → large_of t.words t.root slot ≡ None) → AreTablesKept t
 new_kept t count runs few frames free flags known root tree nothing no_large = record {
@@ -34,9 +35,12 @@ new_kept t count runs few frames free flags known root tree nothing no_large = r
   flags = flags ∙ sym frames;
   root_in = root;
   few_frames = omega (arith, few, frames);
-  canonical = subst (λ (es : List (Interval ℕ × Rights)). (page : ℕ) → IsSome (rights_in es page) → IsTrue (is_canonical (page * 4096))) (sym runs) none_canonical;
+  canonical = subst (λ (es : List (Interval ℕ × Rights)). (page : ℕ) → IsSome (rights_in es page) →
+      IsTrue (is_canonical (page * 4096))) (sym runs) none_canonical;
   found = λ page canonical. ap (option_map rights_of_place) (nothing page) ∙ ap (λ (es : List (Interval ℕ × Rights)). rights_in es page) (sym runs);
-  accounted = λ frame less unmet. (let other : frame ≢ t.root = λ is. unmet 0 0 (top t.root) (omega arith) (root_met t.words t.root) (sym is) in ap (λ (flags : List Bool). is_free flags frame) free ∙ free_left count t.root frame (omega (arith, less, frames)) other);
+  accounted = λ frame less unmet. (let other : frame ≢ t.root = λ is. unmet 0 0 (top t.root) (omega arith)
+      (root_met t.words t.root) (sym is) in ap (λ (flags : List Bool). is_free flags frame) free
+      ∙ free_left count t.root frame (omega (arith, less, frames)) other);
   no_large = no_large;
   follow = subst (λ (es : List (Interval ℕ × Rights)). Follow 0 es (2 ^ 52)) (sym runs) (omega arith);
   longest = subst AreLongest (sym runs) none_longest;

@@ -24,12 +24,15 @@ pub record AreProtected (old : Tables) (words : List ℕ) (runs : List (Interval
   pub full : (page : ℕ) → first ≤ page → page < first + pages → IsSome (rights_in old.runs page)
   pub changed : ArePagesChanged old.words words old.root (regrant rights) (among first pages)
   pub tree : IsTree words old.root old.free
-  pub there : (k : ℕ) → k < pages → IfSome (walk_of old.words old.root (first + k)) (λ place. walk_of words old.root (first + k) ≡ Some (granted place.frame rights))
-  pub elsewhere : (other : ℕ) → IsTrue (is_canonical (other * 4096)) → ((k : ℕ) → k < pages → other ≡ first + k → ⊥) → walk_of words old.root other ≡ walk_of old.words old.root other
+  pub there : (k : ℕ) → k < pages → IfSome (walk_of old.words old.root (first + k))
+      (λ place. walk_of words old.root (first + k) ≡ Some (granted place.frame rights))
+  pub elsewhere : (other : ℕ) → IsTrue (is_canonical (other * 4096)) → ((k : ℕ) → k < pages → other ≡ first + k → ⊥) →
+      walk_of words old.root other ≡ walk_of old.words old.root other
   pub bytes : (address : ℕ) → reached words old.root address ≡ reached old.words old.root address
   pub added : IsAdded old.runs runs first (first + pages) rights
 
-granted_rights : (o w : Option Place) (rights : Rights) → IsSome o → IfSome o (λ place. w ≡ Some (granted place.frame rights)) → option_map rights_of_place w ≡ Some rights
+granted_rights : (o w : Option Place) (rights : Rights) → IsSome o → IfSome o
+    (λ place. w ≡ Some (granted place.frame rights)) → option_map rights_of_place w ≡ Some rights
 granted_rights None w rights some is = absurd (cc)
 granted_rights (Some place) w rights some is = ap (option_map rights_of_place) is
 
@@ -41,7 +44,8 @@ some_rights (Some r) h = (r, refl)
 pub mapped_walks : (t : Tables) (page : ℕ) → AreTablesKept t → IsSome (rights_in t.runs page) → IsSome (walk_of t.words t.root page)
 mapped_walks t page kept some = let r = some_rights (rights_in t.runs page) some in walks t page r.0 kept r.1
 
-pub protected_kept : (old : Tables) (words : List ℕ) (runs : List (Interval ℕ × Rights)) (first pages : ℕ) (rights : Rights) → AreProtected old words runs first pages rights →
+pub protected_kept : (old : Tables) (words : List ℕ) (runs : List (Interval ℕ × Rights)) (first pages : ℕ)
+    (rights : Rights) → AreProtected old words runs first pages rights →
     AreTablesKept (record { words = words; root = old.root; free = old.free; runs = runs })
 protected_kept old words runs first pages rights m =
     let count : frame_count words ≡ frame_count old.words = ap (λ n. n / 512) m.changed.size in
@@ -58,16 +62,24 @@ protected_kept old words runs first pages rights m =
       follow = m.added.follow;
       longest = m.added.longest;
     } where
-      is_there : (page : ℕ) → ((first ≤ page) × (page < first + pages)) ⊎ ((page < first) ⊎ (first + pages ≤ page)) → IsSome (rights_in runs page) → IsTrue (is_canonical (page * 4096))
+      is_there : (page : ℕ) → ((first ≤ page) × (page < first + pages)) ⊎ ((page < first) ⊎ (first + pages ≤ page)) →
+          IsSome (rights_in runs page) → IsTrue (is_canonical (page * 4096))
       is_there page (inl k) some = canonical_in first pages page m.range k.0 k.1
-      is_there page (inr k) some = m.kept.canonical page (subst IsSome (m.added.pages page ∙ else_out first (first + pages) page (Some rights) (rights_in old.runs page) k) some)
+      is_there page (inr k) some = m.kept.canonical page (subst IsSome (m.added.pages page
+          ∙ else_out first (first + pages) page (Some rights) (rights_in old.runs page) k) some)
 
-      finds : (page : ℕ) → IsTrue (is_canonical (page * 4096)) → ((first ≤ page) × (page < first + pages)) ⊎ ((page < first) ⊎ (first + pages ≤ page)) → option_map rights_of_place (walk_of words old.root page) ≡ rights_in runs page
+      finds : (page : ℕ) → IsTrue (is_canonical (page * 4096)) →
+          ((first ≤ page) × (page < first + pages)) ⊎ ((page < first) ⊎ (first + pages ≤ page)) →
+          option_map rights_of_place (walk_of words old.root page) ≡ rights_in runs page
       finds page canonical (inl k) =
           let at : first + (page - first) ≡ page = omega (arith, k.0) in
-          let was : IsSome (walk_of old.words old.root (first + (page - first))) = mapped_walks old (first + (page - first)) m.kept (m.full (first + (page - first)) (omega arith) (omega (arith, k.0, k.1))) in
+          let was : IsSome (walk_of old.words old.root (first + (page - first))) =
+          mapped_walks old (first + (page - first)) m.kept (m.full (first + (page - first)) (omega arith)
+          (omega (arith, k.0, k.1))) in
           ap (λ (p : ℕ). option_map rights_of_place (walk_of words old.root p)) (sym at)
-          ∙ (granted_rights (walk_of old.words old.root (first + (page - first))) (walk_of words old.root (first + (page - first))) rights was (m.there (page - first) (omega (arith, k.0, k.1)))
+          ∙ (granted_rights (walk_of old.words old.root (first + (page - first)))
+          (walk_of words old.root (first + (page - first))) rights was (m.there (page - first)
+          (omega (arith, k.0, k.1)))
           ∙ sym (m.added.pages page ∙ then_in first (first + pages) page (Some rights) (rights_in old.runs page) k.0 k.1))
       finds page canonical (inr k) =
           ap (option_map rights_of_place) (m.elsewhere page canonical (λ j less is. not_among first pages page j k less is))
@@ -92,17 +104,20 @@ byte_in (Some o) (Some p) a b h k same = same
 pub byte_out : (o p : Option Rights) (a b : Option ℕ) → o ≡ p → a ≡ b → cond (is_some o) a None ≡ cond (is_some p) b None
 byte_out o p a b h same = ap (λ (q : Option Rights). cond (is_some q) a None) h ∙ ap (λ (c : Option ℕ). cond (is_some p) c None) same
 
-pub protected_map : (old : Tables) (words : List ℕ) (runs : List (Interval ℕ × Rights)) (first pages : ℕ) (rights : Rights) → AreProtected old words runs first pages rights →
+pub protected_map : (old : Tables) (words : List ℕ) (runs : List (Interval ℕ × Rights)) (first pages : ℕ)
+    (rights : Rights) → AreProtected old words runs first pages rights →
     IsMap (map_of (record { words = words; root = old.root; free = old.free; runs = runs })) (protected first pages rights (map_of old))
 protected_map old words runs first pages rights m = record {
   rights = m.added.pages;
   bytes = λ address. by_side address (side_of first (first + pages) (address / 4096));
 } where
   by_side : (address : ℕ) → ((first ≤ address / 4096) × (address / 4096 < first + pages)) ⊎ ((address / 4096 < first) ⊎ (first + pages ≤ address / 4096)) →
-      cond (is_some (rights_in runs (address / 4096))) (reached words old.root address) None ≡ cond (is_some (rights_in old.runs (address / 4096))) (reached old.words old.root address) None
+      cond (is_some (rights_in runs (address / 4096))) (reached words old.root address) None ≡ cond
+      (is_some (rights_in old.runs (address / 4096))) (reached old.words old.root address) None
   by_side address (inl k) =
       byte_in (rights_in runs (address / 4096)) (rights_in old.runs (address / 4096)) (reached words old.root address) (reached old.words old.root address)
-      (is_some_of (rights_in runs (address / 4096)) rights (m.added.pages (address / 4096) ∙ then_in first (first + pages) (address / 4096) (Some rights) (rights_in old.runs (address / 4096)) k.0 k.1))
+      (is_some_of (rights_in runs (address / 4096)) rights (m.added.pages (address / 4096)
+      ∙ then_in first (first + pages) (address / 4096) (Some rights) (rights_in old.runs (address / 4096)) k.0 k.1))
       (m.full (address / 4096) k.0 k.1) (m.bytes address)
   by_side address (inr k) =
       byte_out (rights_in runs (address / 4096)) (rights_in old.runs (address / 4096)) (reached words old.root address) (reached old.words old.root address)

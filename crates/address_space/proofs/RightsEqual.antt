@@ -23,7 +23,8 @@ not_false false h = absurd (cc)
 
 pub equal_rights : (a b : Rights) → not (beq a.write b.write && (beq a.user b.user && beq a.fetch b.fetch)) ≡ false → a ≡ b
 equal_rights a b h =
-    let all = both (beq a.write b.write) (beq a.user b.user && beq a.fetch b.fetch) (not_false (beq a.write b.write && (beq a.user b.user && beq a.fetch b.fetch)) h) in
+    let all = both (beq a.write b.write) (beq a.user b.user && beq a.fetch b.fetch)
+    (not_false (beq a.write b.write && (beq a.user b.user && beq a.fetch b.fetch)) h) in
     let rest = both (beq a.user b.user) (beq a.fetch b.fetch) all.1 in
     ap (λ (x : Bool). record { write = x; user = a.user; fetch = a.fetch }) (beq_true a.write b.write all.0)
     ∙ (ap (λ (x : Bool). record { write = b.write; user = x; fetch = a.fetch }) (beq_true a.user b.user rest.0)

@@ -19,14 +19,19 @@ none_of : (a b c : Bool) → a ≡ false → b ≡ false → c ≡ false → (a 
 none_of a b c h k l = rw h (rw k l)
 
 -- no run begins inside another
-pub run_inside : (es : List (Interval ℕ × Rights)) (start end : ℕ) (rights : Rights) (page : ℕ) → HasRun es start end rights → start < page → page < end → begins_at es page ≡ true → ⊥
+pub run_inside : (es : List (Interval ℕ × Rights)) (start end : ℕ) (rights : Rights) (page : ℕ) →
+    HasRun es start end rights → start < page → page < end → begins_at es page ≡ true → ⊥
 run_inside es start end rights page h above below b =
     let t : (start == page) ≡ false = grind (arith, nat_tests, above) in
-    let none = none_of (begins_at h.front page) (start == page) (begins_at h.back page) (none_begins_above 0 h.front start page h.before (omega (arith, above))) t (none_begins_below end h.back (2 ^ 52) page h.behind below) in
-    let no : true ≡ false = sym b ∙ (ap (λ (xs : List (Interval ℕ × Rights)). begins_at xs page) h.whole ∙ (begins_append h.front (run_of start end rights ∷ h.back) page ∙ none)) in absurd (cc)
+    let none = none_of (begins_at h.front page) (start == page) (begins_at h.back page)
+    (none_begins_above 0 h.front start page h.before (omega (arith, above))) t
+    (none_begins_below end h.back (2 ^ 52) page h.behind below) in
+    let no : true ≡ false = sym b ∙ (ap (λ (xs : List (Interval ℕ × Rights)). begins_at xs page) h.whole
+    ∙ (begins_append h.front (run_of start end rights ∷ h.back) page ∙ none)) in absurd (cc)
 
 -- a run before pages that left is still there
-pub run_kept : (old new : List (Interval ℕ × Rights)) (start end to : ℕ) (rights : Rights) → HasRun old start end rights → end ≤ to → crosses old start ≡ false → crosses old to ≡ false → IsCut old new end to → HasRun new start end rights
+pub run_kept : (old new : List (Interval ℕ × Rights)) (start end to : ℕ) (rights : Rights) → HasRun old start end rights →
+    end ≤ to → crosses old start ≡ false → crosses old to ≡ false → IsCut old new end to → HasRun new start end rights
 run_kept old new start end to rights h order first last c =
     by_run (run_from 0 new (2 ^ 52) start end rights c.follow h.some (c.apart start first) (at_end (cases_lt end to))
     (λ page k l. c.pages page ∙ (else_out end to page None (rights_in old page) (inl l) ∙ run_rights old start end rights page h k l))
@@ -39,13 +44,17 @@ run_kept old new start end to rights h order first last c =
       by_run r = record { front = r.front; back = r.back; whole = r.whole; before = r.before; some = h.some; behind = r.behind }
 
 -- after a run, the pages are those of the runs after it
-back_rights : (es : List (Interval ℕ × Rights)) (start end : ℕ) (rights : Rights) (page : ℕ) (h : HasRun es start end rights) → end ≤ page → rights_in es page ≡ rights_in h.back page
+back_rights : (es : List (Interval ℕ × Rights)) (start end : ℕ) (rights : Rights) (page : ℕ)
+    (h : HasRun es start end rights) → end ≤ page → rights_in es page ≡ rights_in h.back page
 back_rights es start end rights page h k =
     let skip : rights_in (run_of start end rights ∷ h.back) page ≡ rights_in h.back page = (let t = test_above start end page k in rw t refl) in
     ap (λ (xs : List (Interval ℕ × Rights)). rights_in xs page) h.whole
-    ∙ (rights_append h.front (run_of start end rights ∷ h.back) page ∙ (or_right (rights_in h.front page) (rights_in (run_of start end rights ∷ h.back) page) (none_above 0 h.front start page h.before (let m = h.some in omega (arith, m, k))) ∙ skip))
+    ∙ (rights_append h.front (run_of start end rights ∷ h.back) page ∙ (or_right (rights_in h.front page)
+    (rights_in (run_of start end rights ∷ h.back) page) (none_above 0 h.front start page h.before
+    (let m = h.some in omega (arith, m, k))) ∙ skip))
 
-pub spread_set : (old one new : List (Interval ℕ × Rights)) (start end to : ℕ) (rights : Rights) (i : Interval ℕ) → HasRun old start end rights → (h : HasRun one start end rights) → end ≤ to → to ≤ 2 ^ 52 → IsCut old one end to →
+pub spread_set : (old one new : List (Interval ℕ × Rights)) (start end to : ℕ) (rights : Rights) (i : Interval ℕ) →
+    HasRun old start end rights → (h : HasRun one start end rights) → end ≤ to → to ≤ 2 ^ 52 → IsCut old one end to →
     i.start ≡ start → i.end ≡ end → new ≡ map (with_end nat_cmp i to) one → IsRunSet old new start to rights
 spread_set old one new start end to rights i was h order within c s e is = record {
   run = set.run;
@@ -56,10 +65,13 @@ spread_set old one new start end to rights i was h order within c s e is = recor
   free page k l = sym (back_rights one start end rights page h k) ∙ (c.pages page ∙ then_in end to page None (rights_in old page) k l)
 
   set : IsRunSet one new start to rights
-  set = one_set one new start end to rights rights h order (follow_up end to h.back (2 ^ 52) h.behind within free) (shortened one new start end end to rights i (among one start end rights h) s e is)
+  set = one_set one new start end to rights rights h order (follow_up end to h.back (2 ^ 52) h.behind within free)
+      (shortened one new start end end to rights i (among one start end rights h) s e is)
 
-  by_side : (any : ℕ) → ((start ≤ any) × (any < to)) ⊎ ((any < start) ⊎ (to ≤ any)) → rights_in new any ≡ cond (nat_le start any && nat_lt any to) (Some rights) (rights_in old any)
-  by_side any (inl k) = set.pages any ∙ (then_in start to any (Some rights) (rights_in one any) k.0 k.1 ∙ sym (then_in start to any (Some rights) (rights_in old any) k.0 k.1))
+  by_side : (any : ℕ) → ((start ≤ any) × (any < to)) ⊎ ((any < start) ⊎ (to ≤ any)) →
+      rights_in new any ≡ cond (nat_le start any && nat_lt any to) (Some rights) (rights_in old any)
+  by_side any (inl k) = set.pages any ∙ (then_in start to any (Some rights) (rights_in one any) k.0 k.1
+      ∙ sym (then_in start to any (Some rights) (rights_in old any) k.0 k.1))
   by_side any (inr k) =
       set.pages any ∙ (else_out start to any (Some rights) (rights_in one any) k
       ∙ (c.pages any ∙ (else_out end to any None (rights_in old any) (out k) ∙ sym (else_out start to any (Some rights) (rights_in old any) k)))) where
@@ -73,15 +85,18 @@ spread_set old one new start end to rights i was h order within c s e is = recor
 
 -- ---- the whole change
 
-pub set_added : (old one two three four new : List (Interval ℕ × Rights)) (first stop end : ℕ) (rights : Rights) → AreLongest old → first < end → stop ≤ end → IsParted old one end → IsRunSet one two first stop rights →
+pub set_added : (old one two three four new : List (Interval ℕ × Rights)) (first stop end : ℕ) (rights : Rights) →
+    AreLongest old → first < end → stop ≤ end → IsParted old one end → IsRunSet one two first stop rights →
     IsRunSet two three first end rights → AreRunsJoined three four end → AreRunsJoined four new first → IsAdded old new first end rights
 set_added old one two three four new first stop end rights longest some order p s t j k = record {
   follow = k.follow;
   longest = λ before b same. at_first before b same (cases_eq (before + 1) first);
   pages = λ any. k.rights any ∙ (j.rights any ∙ by_side any (side_of first end any));
 } where
-  by_side : (any : ℕ) → ((first ≤ any) × (any < end)) ⊎ ((any < first) ⊎ (end ≤ any)) → rights_in three any ≡ cond (nat_le first any && nat_lt any end) (Some rights) (rights_in old any)
-  by_side any (inl l) = t.pages any ∙ (then_in first end any (Some rights) (rights_in two any) l.0 l.1 ∙ sym (then_in first end any (Some rights) (rights_in old any) l.0 l.1))
+  by_side : (any : ℕ) → ((first ≤ any) × (any < end)) ⊎ ((any < first) ⊎ (end ≤ any)) →
+      rights_in three any ≡ cond (nat_le first any && nat_lt any end) (Some rights) (rights_in old any)
+  by_side any (inl l) = t.pages any ∙ (then_in first end any (Some rights) (rights_in two any) l.0 l.1
+      ∙ sym (then_in first end any (Some rights) (rights_in old any) l.0 l.1))
   by_side any (inr l) =
       t.pages any ∙ (else_out first end any (Some rights) (rights_in two any) l
       ∙ (s.pages any ∙ (else_out first stop any (Some rights) (rights_in one any) (out l)
@@ -97,18 +112,23 @@ set_added old one two three four new first stop end rights longest some order p 
     go false is = inr (λ h. grind (arith, nat_tests, is, h))
 
   -- the runs before are as long as they can be, and here the rights are theirs
-  was : (before : ℕ) → begins_at old (before + 1) ≡ true → rights_in three before ≡ rights_in three (before + 1) → (before < first) ⊎ (end ≤ before) → (before + 1 < first) ⊎ (end ≤ before + 1) → ⊥
+  was : (before : ℕ) → begins_at old (before + 1) ≡ true → rights_in three before ≡ rights_in three (before + 1) →
+      (before < first) ⊎ (end ≤ before) → (before + 1 < first) ⊎ (end ≤ before + 1) → ⊥
   was before b same l m =
-      longest before b (sym (else_out first end before (Some rights) (rights_in old before) l) ∙ (sym (by_side before (inr l)) ∙ (same ∙ (by_side (before + 1) (inr m) ∙ else_out first end (before + 1) (Some rights) (rights_in old (before + 1)) m))))
+      longest before b (sym (else_out first end before (Some rights) (rights_in old before) l)
+      ∙ (sym (by_side before (inr l)) ∙ (same ∙ (by_side (before + 1) (inr m)
+      ∙ else_out first end (before + 1) (Some rights) (rights_in old (before + 1)) m))))
 
-  away : (before : ℕ) → (before + 1 ≡ first → ⊥) → (before + 1 ≡ end → ⊥) → begins_at three (before + 1) ≡ true → begins_at old (before + 1) ≡ true → rights_in three before ≡ rights_in three (before + 1) → ⊥
+  away : (before : ℕ) → (before + 1 ≡ first → ⊥) → (before + 1 ≡ end → ⊥) → begins_at three (before + 1) ≡ true →
+      begins_at old (before + 1) ≡ true → rights_in three before ≡ rights_in three (before + 1) → ⊥
   away before not_first not_end b o same = go (side_of first end (before + 1)) where
     go : ((first ≤ before + 1) × (before + 1 < end)) ⊎ ((before + 1 < first) ⊎ (end ≤ before + 1)) → ⊥
     go (inl l) = run_inside three first end rights (before + 1) t.run (omega (arith, l.0, not_first)) l.1 b
     go (inr (inl l)) = was before o same (inl (omega (arith, l))) (inl l)
     go (inr (inr l)) = was before o same (inr (omega (arith, l, not_end))) (inr l)
 
-  at_old : (before : ℕ) → (before + 1 ≡ first → ⊥) → (before + 1 ≡ end → ⊥) → begins_at three (before + 1) ≡ true → rights_in three before ≡ rights_in three (before + 1) → ⊥
+  at_old : (before : ℕ) → (before + 1 ≡ first → ⊥) → (before + 1 ≡ end → ⊥) → begins_at three (before + 1) ≡ true →
+      rights_in three before ≡ rights_in three (before + 1) → ⊥
   at_old before not_first not_end b same = from_three (t.begins (before + 1) b) where
     from_one : (before + 1 ≡ end) ⊎ (begins_at old (before + 1) ≡ true) → ⊥
     from_one (inl l) = not_end l
@@ -122,21 +142,26 @@ set_added old one two three four new first stop end rights longest some order p 
     from_three (inl l) = not_first l
     from_three (inr o) = from_two (s.begins (before + 1) o)
 
-  at_end : (before : ℕ) → (before + 1 ≡ first → ⊥) → begins_at four (before + 1) ≡ true → rights_in four before ≡ rights_in four (before + 1) → (before + 1 ≡ end) ⊎ (before + 1 ≡ end → ⊥) → ⊥
+  at_end : (before : ℕ) → (before + 1 ≡ first → ⊥) → begins_at four (before + 1) ≡ true →
+      rights_in four before ≡ rights_in four (before + 1) → (before + 1 ≡ end) ⊎ (before + 1 ≡ end → ⊥) → ⊥
   at_end before not_first b same (inl is) = j.joined before is b same
   at_end before not_first b same (inr other) = at_old before not_first other (j.begins (before + 1) b) (sym (j.rights before) ∙ (same ∙ j.rights (before + 1)))
 
-  at_first : (before : ℕ) → begins_at new (before + 1) ≡ true → rights_in new before ≡ rights_in new (before + 1) → (before + 1 ≡ first) ⊎ (before + 1 ≡ first → ⊥) → ⊥
+  at_first : (before : ℕ) → begins_at new (before + 1) ≡ true → rights_in new before ≡ rights_in new (before + 1) →
+      (before + 1 ≡ first) ⊎ (before + 1 ≡ first → ⊥) → ⊥
   at_first before b same (inl is) = k.joined before is b same
-  at_first before b same (inr other) = at_end before other (k.begins (before + 1) b) (sym (k.rights before) ∙ (same ∙ k.rights (before + 1))) (cases_eq (before + 1) end)
+  at_first before b same (inr other) = at_end before other (k.begins (before + 1) b)
+      (sym (k.rights before) ∙ (same ∙ k.rights (before + 1))) (cases_eq (before + 1) end)
 
 -- a run that was parted and joined again
-pub rejoined : (old one new : List (Interval ℕ × Rights)) (page : ℕ) → Follow 0 old (2 ^ 52) → AreLongest old → IsParted old one page → AreRunsJoined one new page → new ≡ old
+pub rejoined : (old one new : List (Interval ℕ × Rights)) (page : ℕ) → Follow 0 old (2 ^ 52) → AreLongest old →
+    IsParted old one page → AreRunsJoined one new page → new ≡ old
 rejoined old one new page f longest p j =
     runs_same 0 new old (2 ^ 52) j.follow (λ before b same. go before b same (p.begins (before + 1) (j.begins (before + 1) b))) f longest same_pages where
       same_pages : (any : ℕ) → rights_in new any ≡ rights_in old any
       same_pages any = j.rights any ∙ p.pages any
 
-      go : (before : ℕ) → begins_at new (before + 1) ≡ true → rights_in new before ≡ rights_in new (before + 1) → (before + 1 ≡ page) ⊎ (begins_at old (before + 1) ≡ true) → ⊥
+      go : (before : ℕ) → begins_at new (before + 1) ≡ true → rights_in new before ≡ rights_in new (before + 1) →
+          (before + 1 ≡ page) ⊎ (begins_at old (before + 1) ≡ true) → ⊥
       go before b same (inl is) = j.joined before is b same
       go before b same (inr o) = longest before o (sym (same_pages before) ∙ (same ∙ same_pages (before + 1)))

@@ -55,7 +55,8 @@ pub record IsLast (at from : ℕ) (es : List (Interval ℕ × Rights)) (to : ℕ
   pub next : Follow e.0.end back to
   pub behind : Follow at back to
 
-pub none_last : (at from : ℕ) (es : List (Interval ℕ × Rights)) (to : ℕ) → Follow from es to → at ≤ to → last (starts_below nat_cmp at) es ≡ None → Follow at es to
+pub none_last : (at from : ℕ) (es : List (Interval ℕ × Rights)) (to : ℕ) → Follow from es to → at ≤ to →
+    last (starts_below nat_cmp at) es ≡ None → Follow at es to
 none_last at from [] to f k l = k
 none_last at from (x ∷ es) to f k l = by_rest (last (starts_below nat_cmp at) es) (starts_below nat_cmp at x) refl refl where
   by_rest : (o : Option (Interval ℕ × Rights)) (t : Bool) → last (starts_below nat_cmp at) es ≡ o → starts_below nat_cmp at x ≡ t → Follow at (x ∷ es) to
@@ -63,10 +64,13 @@ none_last at from (x ∷ es) to f k l = by_rest (last (starts_below nat_cmp at) 
   by_rest None true is q = let no : or_else None (Some x) ≡ None = rw q at (rw is at l) in absurd (cc)
   by_rest None false is q = (start_ge at x q, f.1, f.2)
 
-pub last_is : (at from : ℕ) (es : List (Interval ℕ × Rights)) (to : ℕ) (e : Interval ℕ × Rights) → Follow from es to → at ≤ to → last (starts_below nat_cmp at) es ≡ Some e → IsLast at from es to e
+pub last_is : (at from : ℕ) (es : List (Interval ℕ × Rights)) (to : ℕ) (e : Interval ℕ × Rights) → Follow from es to →
+    at ≤ to → last (starts_below nat_cmp at) es ≡ Some e → IsLast at from es to e
 last_is at from [] to e f k l = absurd (cc)
 last_is at from (x ∷ es) to e f k l = by_rest (last (starts_below nat_cmp at) es) (starts_below nat_cmp at x) refl refl (last_is at x.0.end es to e f.2 k) where
-  by_rest : (o : Option (Interval ℕ × Rights)) (t : Bool) → last (starts_below nat_cmp at) es ≡ o → starts_below nat_cmp at x ≡ t → (last (starts_below nat_cmp at) es ≡ Some e → IsLast at x.0.end es to e) → IsLast at from (x ∷ es) to e
+  by_rest : (o : Option (Interval ℕ × Rights)) (t : Bool) → last (starts_below nat_cmp at) es ≡ o →
+      starts_below nat_cmp at x ≡ t → (last (starts_below nat_cmp at) es ≡ Some e → IsLast at x.0.end es to e) →
+      IsLast at from (x ∷ es) to e
   by_rest (Some later) t is q rest =
       let same : Some later ≡ Some e = rw is at l in
       let i = rest (is ∙ same) in
@@ -97,11 +101,13 @@ last_is at from (x ∷ es) to e f k l = by_rest (last (starts_below nat_cmp at) 
   by_rest None false is q rest = let no : or_else None None ≡ Some e = rw q at (rw is at l) in absurd (cc)
 
 -- after a front of earlier starts the first from a page on is the first of the back
-pub past_front : (at : ℕ) (front back : List (Interval ℕ × Rights)) → AllItems (λ e. e.0.start < at) front → first (starts_from nat_cmp at) (front ++ back) ≡ first (starts_from nat_cmp at) back
+pub past_front : (at : ℕ) (front back : List (Interval ℕ × Rights)) → AllItems (λ e. e.0.start < at) front →
+    first (starts_from nat_cmp at) (front ++ back) ≡ first (starts_from nat_cmp at) back
 past_front at [] back h = refl
 past_front at (e ∷ front) back h = let t = lt_test at e h.0 in rw t (past_front at front back h.1)
 
-pub head_is : (at : ℕ) (back : List (Interval ℕ × Rights)) (to : ℕ) (next : Interval ℕ × Rights) → Follow at back to → first (starts_from nat_cmp at) back ≡ Some next → (rest : List (Interval ℕ × Rights)) × (back ≡ next ∷ rest)
+pub head_is : (at : ℕ) (back : List (Interval ℕ × Rights)) (to : ℕ) (next : Interval ℕ × Rights) → Follow at back to →
+    first (starts_from nat_cmp at) back ≡ Some next → (rest : List (Interval ℕ × Rights)) × (back ≡ next ∷ rest)
 head_is at [] to next f h = absurd (cc)
 head_is at (e ∷ rest) to next f h =
     let t = ge_test at e f.0 in

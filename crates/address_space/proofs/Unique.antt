@@ -44,14 +44,16 @@ longest_tail from e es to f longest page b same = go (cases_lt page e.0.end) whe
   go (inl k) = begins_mapped e.0.end es to (page + 1) f.2 b (sym same ∙ none_below e.0.end es to page f.2 k)
   go (inr k) = longest page (begins_later (page + 1) e es b) (behind page e es k ∙ (same ∙ sym (behind (page + 1) e es (omega (arith, k)))))
 
-head_below : (from : ℕ) (f : Interval ℕ × Rights) (fs : List (Interval ℕ × Rights)) (to page : ℕ) (r : Rights) → Follow from (f ∷ fs) to → rights_in (f ∷ fs) page ≡ Some r → f.0.start ≤ page
+head_below : (from : ℕ) (f : Interval ℕ × Rights) (fs : List (Interval ℕ × Rights)) (to page : ℕ) (r : Rights) →
+    Follow from (f ∷ fs) to → rights_in (f ∷ fs) page ≡ Some r → f.0.start ≤ page
 head_below from f fs to page r g h = go (cases_lt page f.0.start) where
   go : (page < f.0.start) ⊎ (f.0.start ≤ page) → f.0.start ≤ page
   go (inl k) = absurd (clash (rights_in (f ∷ fs) page) r (none_below f.0.start (f ∷ fs) to page (omega arith, g.1, g.2) k) h)
   go (inr k) = k
 
 -- a run ends no earlier than one with its start and its rights
-no_longer : (from : ℕ) (e f : Interval ℕ × Rights) (es fs : List (Interval ℕ × Rights)) (to : ℕ) → Follow from (e ∷ es) to → AreLongest (e ∷ es) → f.0.start ≤ e.0.start → e.1 ≡ f.1 →
+no_longer : (from : ℕ) (e f : Interval ℕ × Rights) (es fs : List (Interval ℕ × Rights)) (to : ℕ) → Follow from (e ∷ es) to →
+    AreLongest (e ∷ es) → f.0.start ≤ e.0.start → e.1 ≡ f.1 →
     ((page : ℕ) → rights_in (e ∷ es) page ≡ rights_in (f ∷ fs) page) → f.0.end ≤ e.0.end
 no_longer from e f es fs to g longest start rights same = go (cases_lt e.0.end f.0.end) where
   go : (e.0.end < f.0.end) ⊎ (f.0.end ≤ e.0.end) → f.0.end ≤ e.0.end
@@ -59,13 +61,15 @@ no_longer from e f es fs to g longest start rights same = go (cases_lt e.0.end f
   go (inl k) =
       let some = g.1 in
       let last : e.0.end - 1 + 1 ≡ e.0.end = omega (arith, some) in
-      let next : rights_in (e ∷ es) e.0.end ≡ Some e.1 = same e.0.end ∙ (held e.0.end f fs (omega (arith, start, some)) k ∙ ap (λ (r : Rights). Some r) (sym rights)) in
+      let next : rights_in (e ∷ es) e.0.end ≡ Some e.1 = same e.0.end ∙ (held e.0.end f fs (omega (arith, start, some)) k
+      ∙ ap (λ (r : Rights). Some r) (sym rights)) in
       let begins : begins_at es e.0.end ≡ true = mapped_begins e.0.end es to e.1 g.2 (sym (behind e.0.end e es (omega arith)) ∙ next) in
       let here : rights_in (e ∷ es) (e.0.end - 1) ≡ Some e.1 = held (e.0.end - 1) e es (omega (arith, some)) (omega (arith, some)) in
       absurd (longest (e.0.end - 1) (subst (λ (p : ℕ). begins_at (e ∷ es) p ≡ true) (sym last) (begins_later e.0.end e es begins))
       (here ∙ subst (λ (p : ℕ). Some e.1 ≡ rights_in (e ∷ es) p) (sym last) (sym next)))
 
-pub runs_same : (from : ℕ) (es fs : List (Interval ℕ × Rights)) (to : ℕ) → Follow from es to → AreLongest es → Follow from fs to → AreLongest fs → ((page : ℕ) → rights_in es page ≡ rights_in fs page) → es ≡ fs
+pub runs_same : (from : ℕ) (es fs : List (Interval ℕ × Rights)) (to : ℕ) → Follow from es to → AreLongest es →
+    Follow from fs to → AreLongest fs → ((page : ℕ) → rights_in es page ≡ rights_in fs page) → es ≡ fs
 runs_same from [] [] to g l h m same = refl
 runs_same from [] (f ∷ fs) to g l h m same = absurd (clash (rights_in (f ∷ fs) f.0.start) f.1 (sym (same f.0.start)) (held f.0.start f fs (omega arith) h.1))
 runs_same from (e ∷ es) [] to g l h m same = absurd (clash (rights_in (e ∷ es) e.0.start) e.1 (same e.0.start) (held e.0.start e es (omega arith) g.1))
@@ -81,7 +85,8 @@ runs_same from (e ∷ es) (f ∷ fs) to g l h m same =
     let four = no_longer from f e fs es to h m two (sym rights) (λ page. sym (same page)) in
     let end : e.0.end ≡ f.0.end = omega (arith, three, four) in
     let heads : e ≡ f = ap (λ (i : Interval ℕ). (i, e.1)) (ends_are e.0 f.0.start f.0.end start end) ∙ ap (λ (r : Rights). (f.0, r)) rights in
-    let tails : es ≡ fs = runs_same e.0.end es fs to g.2 (longest_tail from e es to g l) (subst (λ (p : ℕ). Follow p fs to) (sym end) h.2) (longest_tail from f fs to h m) (tail end) in
+    let tails : es ≡ fs = runs_same e.0.end es fs to g.2 (longest_tail from e es to g l)
+    (subst (λ (p : ℕ). Follow p fs to) (sym end) h.2) (longest_tail from f fs to h m) (tail end) in
     ap (λ (x : Interval ℕ × Rights). x ∷ es) heads ∙ ap (λ (xs : List (Interval ℕ × Rights)). f ∷ xs) tails where
       tail : e.0.end ≡ f.0.end → (page : ℕ) → rights_in es page ≡ rights_in fs page
       tail end page = go (cases_lt page e.0.end) where
@@ -98,8 +103,10 @@ pub record IsRunFrom (from : ℕ) (es : List (Interval ℕ × Rights)) (to start
   pub before : Follow from front start
   pub behind : Follow end back to
 
-pub run_from : (from : ℕ) (es : List (Interval ℕ × Rights)) (to start end : ℕ) (rights : Rights) → Follow from es to → start < end → crosses es start ≡ false → crosses es end ≡ false →
-    ((page : ℕ) → start ≤ page → page < end → rights_in es page ≡ Some rights) → ((page : ℕ) → start < page → page < end → begins_at es page ≡ true → ⊥) → IsRunFrom from es to start end rights
+pub run_from : (from : ℕ) (es : List (Interval ℕ × Rights)) (to start end : ℕ) (rights : Rights) → Follow from es to →
+    start < end → crosses es start ≡ false → crosses es end ≡ false →
+    ((page : ℕ) → start ≤ page → page < end → rights_in es page ≡ Some rights) →
+    ((page : ℕ) → start < page → page < end → begins_at es page ≡ true → ⊥) → IsRunFrom from es to start end rights
 run_from from [] to start end rights f some first last pages inside = absurd (clash (rights_in [] start) rights refl (pages start (omega arith) some))
 run_from from (x ∷ es) to start end rights f some first last pages inside = go (cases_lt start x.0.end) (run_from x.0.end es to start end rights f.2 some) where
   past : (page : ℕ) → start ≤ page → x.0.end ≤ start → crosses (x ∷ es) page ≡ false → crosses es page ≡ false
@@ -109,7 +116,8 @@ run_from from (x ∷ es) to start end rights f some first last pages inside = go
   begin h k = at (cases_lt x.0.start start) where
     at : (x.0.start < start) ⊎ (start ≤ x.0.start) → x.0.start ≡ start
     at (inr l) = omega (arith, h, l)
-    at (inl l) = let t : (nat_lt x.0.start start && nat_lt start x.0.end) ≡ true = grind (arith, nat_tests, l, k) in let no : true ≡ false = rw t at first in absurd (cc)
+    at (inl l) = let t : (nat_lt x.0.start start && nat_lt start x.0.end) ≡ true = grind (arith, nat_tests, l, k) in
+        let no : true ≡ false = rw t at first in absurd (cc)
 
   no_less : start < x.0.end → end ≤ x.0.end
   no_less k = at (cases_lt x.0.end end) where
@@ -123,10 +131,13 @@ run_from from (x ∷ es) to start end rights f some first last pages inside = go
   no_more h = at (cases_lt end x.0.end) where
     at : (end < x.0.end) ⊎ (x.0.end ≤ end) → x.0.end ≤ end
     at (inr l) = l
-    at (inl l) = let t : (nat_lt x.0.start end && nat_lt end x.0.end) ≡ true = grind (arith, nat_tests, h, some, l) in let no : true ≡ false = rw t at last in absurd (cc)
+    at (inl l) = let t : (nat_lt x.0.start end && nat_lt end x.0.end) ≡ true = grind (arith, nat_tests, h, some, l) in
+        let no : true ≡ false = rw t at last in absurd (cc)
 
   go : (start < x.0.end) ⊎ (x.0.end ≤ start) →
-      (crosses es start ≡ false → crosses es end ≡ false → ((page : ℕ) → start ≤ page → page < end → rights_in es page ≡ Some rights) → ((page : ℕ) → start < page → page < end → begins_at es page ≡ true → ⊥) → IsRunFrom x.0.end es to start end rights) →
+      (crosses es start ≡ false → crosses es end ≡ false → ((page : ℕ) → start ≤ page → page < end →
+      rights_in es page ≡ Some rights) → ((page : ℕ) → start < page → page < end → begins_at es page ≡ true → ⊥) →
+      IsRunFrom x.0.end es to start end rights) →
       IsRunFrom from (x ∷ es) to start end rights
   go (inl k) rest =
       let low = head_below from x es to start rights f (pages start (omega arith) some) in
@@ -135,8 +146,17 @@ run_from from (x ∷ es) to start end rights f some first last pages inside = go
       let both : Some x.1 ≡ Some rights = sym (held start x es low k) ∙ pages start (omega arith) some in
       let same : x.1 ≡ rights = cc in
       let end_is : x.0.end ≡ end = omega (arith, one, two) in
-      let is : x ≡ run_of start end rights = ap (λ (i : Interval ℕ). (i, x.1)) (ends_are x.0 start end (begin low k) end_is) ∙ ap (λ (r : Rights). (record { start = start; end = end }, r)) same in
-      record { front = []; back = es; whole = ap (λ (y : Interval ℕ × Rights). y ∷ es) is; before = (let a = f.0 in let b = begin low k in omega (arith, a, b)); behind = subst (λ (p : ℕ). Follow p es to) end_is f.2 }
+      let is : x ≡ run_of start end rights = ap (λ (i : Interval ℕ). (i, x.1)) (ends_are x.0 start end (begin low k) end_is)
+      ∙ ap (λ (r : Rights). (record { start = start; end = end }, r)) same in
+      record {
+        front = [];
+        back = es;
+        whole = ap (λ (y : Interval ℕ × Rights). y ∷ es) is;
+        before =
+            (let a = f.0 in let b = begin low k in omega (arith, a, b));
+        behind =
+            subst (λ (p : ℕ). Follow p es to) end_is f.2;
+      }
   go (inr k) rest =
       let i = rest (past start (omega arith) k first) (past end (omega (arith, some)) k last)
       (λ page h l. sym (behind page x es (omega (arith, h, k))) ∙ pages page h l)

@@ -26,7 +26,8 @@ use Rattle.address_space.proofs.Counting.{count_split, count_same, count_full, c
 -- ---- ranges
 
 -- fewer pages of a range
-pub part_of_range : (first pages from count : ℕ) → IsCanonicalRange first pages → first ≤ from → from + count ≤ first + pages → 0 < count → IsCanonicalRange from count
+pub part_of_range : (first pages from count : ℕ) → IsCanonicalRange first pages → first ≤ from →
+    from + count ≤ first + pages → 0 < count → IsCanonicalRange from count
 part_of_range first pages from count range h k some = record {
   some = some;
   canonical = canonical_in first pages from range h (omega (arith, k, some));
@@ -47,7 +48,8 @@ pub record AreUnmapped (old : Tables) (words : List ℕ) (free : List Bool) (run
   pub count : free_count free ≡ free_count old.free + pages
   pub known : FreeBelow free (frame_count words)
   pub gone : (k : ℕ) → k < pages → walk_of words old.root (first + k) ≡ None
-  pub elsewhere : (other : ℕ) → IsTrue (is_canonical (other * 4096)) → ((k : ℕ) → k < pages → other ≡ first + k → ⊥) → walk_of words old.root other ≡ walk_of old.words old.root other
+  pub elsewhere : (other : ℕ) → IsTrue (is_canonical (other * 4096)) → ((k : ℕ) → k < pages → other ≡ first + k → ⊥) →
+      walk_of words old.root other ≡ walk_of old.words old.root other
   pub bytes : (address : ℕ) → IsSome (walk_of words old.root (address / 4096)) → reached words old.root address ≡ reached old.words old.root address
   pub taken : AreTaken old.runs runs first (first + pages)
 
@@ -55,7 +57,8 @@ pub not_among : (first pages page k : ℕ) → (page < first) ⊎ (first + pages
 not_among first pages page k (inl h) less is = absurd (omega (arith, h, is))
 not_among first pages page k (inr h) less is = absurd (omega (arith, h, less, is))
 
-pub unmapped_kept : (old : Tables) (words : List ℕ) (free : List Bool) (runs : List (Interval ℕ × Rights)) (first pages : ℕ) → AreUnmapped old words free runs first pages →
+pub unmapped_kept : (old : Tables) (words : List ℕ) (free : List Bool) (runs : List (Interval ℕ × Rights))
+    (first pages : ℕ) → AreUnmapped old words free runs first pages →
     AreTablesKept (record { words = words; root = old.root; free = free; runs = runs })
 unmapped_kept old words free runs first pages m =
     let count : frame_count words ≡ frame_count old.words = ap (λ n. n / 512) m.freed.removed.size in
@@ -72,11 +75,16 @@ unmapped_kept old words free runs first pages m =
       follow = m.taken.follow;
       longest = m.taken.longest;
     } where
-      is_there : (page : ℕ) → ((first ≤ page) × (page < first + pages)) ⊎ ((page < first) ⊎ (first + pages ≤ page)) → IsSome (rights_in runs page) → IsTrue (is_canonical (page * 4096))
-      is_there page (inl k) some = absurd (not_there (rights_in runs page) (m.taken.pages page ∙ then_in first (first + pages) page None (rights_in old.runs page) k.0 k.1) some)
-      is_there page (inr k) some = m.kept.canonical page (subst IsSome (m.taken.pages page ∙ else_out first (first + pages) page None (rights_in old.runs page) k) some)
+      is_there : (page : ℕ) → ((first ≤ page) × (page < first + pages)) ⊎ ((page < first) ⊎ (first + pages ≤ page)) →
+          IsSome (rights_in runs page) → IsTrue (is_canonical (page * 4096))
+      is_there page (inl k) some = absurd (not_there (rights_in runs page)
+          (m.taken.pages page ∙ then_in first (first + pages) page None (rights_in old.runs page) k.0 k.1) some)
+      is_there page (inr k) some = m.kept.canonical page (subst IsSome (m.taken.pages page
+          ∙ else_out first (first + pages) page None (rights_in old.runs page) k) some)
 
-      finds : (page : ℕ) → IsTrue (is_canonical (page * 4096)) → ((first ≤ page) × (page < first + pages)) ⊎ ((page < first) ⊎ (first + pages ≤ page)) → option_map rights_of_place (walk_of words old.root page) ≡ rights_in runs page
+      finds : (page : ℕ) → IsTrue (is_canonical (page * 4096)) →
+          ((first ≤ page) × (page < first + pages)) ⊎ ((page < first) ⊎ (first + pages ≤ page)) →
+          option_map rights_of_place (walk_of words old.root page) ≡ rights_in runs page
       finds page canonical (inl k) =
           let at : first + (page - first) ≡ page = omega (arith, k.0) in
           ap (option_map rights_of_place) (ap (walk_of words old.root) (sym at) ∙ m.gone (page - first) (omega (arith, k.0, k.1)))
@@ -85,11 +93,13 @@ unmapped_kept old words free runs first pages m =
           ap (option_map rights_of_place) (m.elsewhere page canonical (λ j less is. not_among first pages page j k less is))
           ∙ (m.kept.found page canonical ∙ sym (m.taken.pages page ∙ else_out first (first + pages) page None (rights_in old.runs page) k))
 
-      clash : (frame : ℕ) (n : ℕ) (place : Place) → is_free free frame ≡ false → among first pages n ≡ true → reach old.words old.root 4 n ≡ Some place → place.frame ≡ frame → ⊥
+      clash : (frame : ℕ) (n : ℕ) (place : Place) → is_free free frame ≡ false → among first pages n ≡ true →
+          reach old.words old.root 4 n ≡ Some place → place.frame ≡ frame → ⊥
       clash frame n place is gone at same =
           let no : true ≡ false = sym (m.freed.given n place gone at) ∙ (ap (is_free free) same ∙ is) in absurd (cc)
 
-      unmet_before : (frame : ℕ) → is_free free frame ≡ false → ((level number : ℕ) (met : Place) → level ≤ 4 → reach words old.root level number ≡ Some met → met.frame ≡ frame → ⊥) →
+      unmet_before : (frame : ℕ) → is_free free frame ≡ false → ((level number : ℕ) (met : Place) → level ≤ 4 →
+          reach words old.root level number ≡ Some met → met.frame ≡ frame → ⊥) →
           (level number : ℕ) (met : Place) → level ≤ 4 → reach old.words old.root level number ≡ Some met → met.frame ≡ frame → ⊥
       unmet_before frame is unmet level number met le at same = by_level (level == 4) refl (among first pages number) refl where
         by_level : (t : Bool) → (level == 4) ≡ t → (g : Bool) → among first pages number ≡ g → ⊥
@@ -99,7 +109,9 @@ unmapped_kept old words free runs first pages m =
             let four : level ≡ 4 = grind (arith, nat_tests, t) in
             clash frame number met is k (subst (λ (l : ℕ). reach old.words old.root l number ≡ Some met) four at) same
 
-      at_frame : (frame : ℕ) → frame < frame_count old.words → ((level number : ℕ) (met : Place) → level ≤ 4 → reach words old.root level number ≡ Some met → met.frame ≡ frame → ⊥) → (t : Bool) → is_free free frame ≡ t → is_free free frame ≡ true
+      at_frame : (frame : ℕ) → frame < frame_count old.words → ((level number : ℕ) (met : Place) → level ≤ 4 →
+          reach words old.root level number ≡ Some met → met.frame ≡ frame → ⊥) → (t : Bool) → is_free free frame ≡ t →
+          is_free free frame ≡ true
       at_frame frame less unmet true is = is
       at_frame frame less unmet false is =
           m.freed.kept frame (λ n place gone at same. clash frame n place is gone at same) ∙ m.kept.accounted frame less (unmet_before frame is unmet)
@@ -107,7 +119,8 @@ unmapped_kept old words free runs first pages m =
 byte_none : (o : Option Rights) (a b : Option ℕ) → o ≡ None → cond (is_some o) a None ≡ None
 byte_none o a b h = rw h refl
 
-pub unmapped_map : (old : Tables) (words : List ℕ) (free : List Bool) (runs : List (Interval ℕ × Rights)) (first pages : ℕ) → AreUnmapped old words free runs first pages →
+pub unmapped_map : (old : Tables) (words : List ℕ) (free : List Bool) (runs : List (Interval ℕ × Rights))
+    (first pages : ℕ) → AreUnmapped old words free runs first pages →
     IsMap (map_of (record { words = words; root = old.root; free = free; runs = runs })) (unmapped first pages (map_of old))
 unmapped_map old words free runs first pages m = record {
   rights = m.taken.pages;
@@ -126,12 +139,18 @@ unmapped_map old words free runs first pages m = record {
       cond (is_some (rights_in runs (address / 4096))) (reached words old.root address) None
       ≡ cond (is_among first pages (address / 4096)) None (cond (is_some (rights_in old.runs (address / 4096))) (reached old.words old.root address) None)
   by_side address (inl k) =
-      byte_none (rights_in runs (address / 4096)) (reached words old.root address) None (m.taken.pages (address / 4096) ∙ then_in first (first + pages) (address / 4096) None (rights_in old.runs (address / 4096)) k.0 k.1)
-      ∙ sym (then_in first (first + pages) (address / 4096) None (cond (is_some (rights_in old.runs (address / 4096))) (reached old.words old.root address) None) k.0 k.1)
+      byte_none (rights_in runs (address / 4096)) (reached words old.root address) None
+      (m.taken.pages (address / 4096) ∙ then_in first (first + pages) (address / 4096) None
+      (rights_in old.runs (address / 4096)) k.0 k.1)
+      ∙ sym (then_in first (first + pages) (address / 4096) None (cond (is_some (rights_in old.runs (address / 4096)))
+      (reached old.words old.root address) None) k.0 k.1)
   by_side address (inr k) =
-      ap (λ (o : Option Rights). cond (is_some o) (reached words old.root address) None) (m.taken.pages (address / 4096) ∙ else_out first (first + pages) (address / 4096) None (rights_in old.runs (address / 4096)) k)
+      ap (λ (o : Option Rights). cond (is_some o) (reached words old.root address) None)
+      (m.taken.pages (address / 4096) ∙ else_out first (first + pages) (address / 4096) None
+      (rights_in old.runs (address / 4096)) k)
       ∙ (same_byte address k (rights_in old.runs (address / 4096)) refl
-      ∙ sym (else_out first (first + pages) (address / 4096) None (cond (is_some (rights_in old.runs (address / 4096))) (reached old.words old.root address) None) k))
+      ∙ sym (else_out first (first + pages) (address / 4096) None (cond (is_some (rights_in old.runs (address / 4096)))
+      (reached old.words old.root address) None) k))
 
 -- ---- more pages than those that were mapped
 
@@ -146,7 +165,8 @@ among_more first pages more n le h = go (not (nat_lt n (prefix_of first 4))) (na
       let no : true ≡ false = rw t at (rw h1 at h) in absurd (cc)
 
 -- a page of a range that is in no run is met by no walk
-not_met : (t : Tables) (first pages n : ℕ) → AreTablesKept t → IsCanonicalRange first pages → among first pages n ≡ true → rights_in t.runs (first + (n - prefix_of first 4)) ≡ None → is_some (reach t.words t.root 4 n) ≡ false
+not_met : (t : Tables) (first pages n : ℕ) → AreTablesKept t → IsCanonicalRange first pages → among first pages n ≡ true →
+    rights_in t.runs (first + (n - prefix_of first 4)) ≡ None → is_some (reach t.words t.root 4 n) ≡ false
 not_met t first pages n kept range h none =
     let low : prefix_of first 4 ≤ n = grind (arith, nat_tests, h) in
     let high : n < prefix_of first 4 + pages = grind (arith, nat_tests, h) in
@@ -160,7 +180,8 @@ not_met t first pages n kept range h none =
       unfound None h = refl
       unfound (Some place) h = let no : Some (rights_of_place place) ≡ None = h in absurd (cc)
 
-pub none_mapped : (t : Tables) (first pages n : ℕ) → AreTablesKept t → IsCanonicalRange first pages → AreFree t.runs first (first + pages) → is_mapped_in t first pages n ≡ false
+pub none_mapped : (t : Tables) (first pages n : ℕ) → AreTablesKept t → IsCanonicalRange first pages →
+    AreFree t.runs first (first + pages) → is_mapped_in t first pages n ≡ false
 none_mapped t first pages n kept range free = go (among first pages n) refl where
   go : (b : Bool) → among first pages n ≡ b → (b && is_some (reach t.words t.root 4 n)) ≡ false
   go false h = refl
@@ -170,7 +191,8 @@ none_mapped t first pages n kept range free = go (among first pages n) refl wher
       not_met t first pages n kept range h (free (first + (n - prefix_of first 4)) (omega arith) (omega (arith, low, high)))
 
 pub none_of_none : (t : Tables) (first pages n : ℕ) → pages ≡ 0 → is_mapped_in t first pages n ≡ false
-none_of_none t first pages n none = (let no : among first pages n ≡ false = grind (arith, nat_tests, none) in ap (λ (b : Bool). b && is_some (reach t.words t.root 4 n)) no)
+none_of_none t first pages n none = (let no : among first pages n ≡ false = grind (arith, nat_tests, none) in
+    ap (λ (b : Bool). b && is_some (reach t.words t.root 4 n)) no)
 
 -- the pages that leave are those of the wider range that are mapped
 module _ (old : Tables) (words : List ℕ) (free : List Bool) (runs : List (Interval ℕ × Rights)) (first pages more : ℕ)
@@ -198,7 +220,8 @@ module _ (old : Tables) (words : List ℕ) (free : List Bool) (runs : List (Inte
       changed_more old.words words words old.root removal (among first pages) (λ n. false) (is_mapped_in old first more) m.freed.removed
       (none_changed words old.root removal (λ n. false) (λ n. refl)) same_pages old.free m.kept.tree (λ n h. refl)
 
-pub unmapped_part : (old new : Tables) (first pages more : ℕ) → AreUnmapped old new.words new.free new.runs first pages → new.root ≡ old.root → IsCanonicalRange first more → pages ≤ more → AreFree old.runs (first + pages) (first + more) →
+pub unmapped_part : (old new : Tables) (first pages more : ℕ) → AreUnmapped old new.words new.free new.runs first pages →
+    new.root ≡ old.root → IsCanonicalRange first more → pages ≤ more → AreFree old.runs (first + pages) (first + more) →
     ((page : ℕ) → first ≤ page → page < first + pages → IsSome (rights_in old.runs page)) → IsUnmapped old new first more pages
 unmapped_part old new first pages more m root wide le free full = record {
   map = record {
@@ -213,9 +236,12 @@ unmapped_part old new first pages more m root wide le free full = record {
   root = root;
   entries = left_pages old new.words new.free new.runs first pages more m wide le free;
 } where
-  wider : {A : Type 0} (page : ℕ) (o : Option A) → (first + pages ≤ page → page < first + more → o ≡ None) → cond (is_among first pages page) None o ≡ cond (is_among first more page) None o
+  wider : {A : Type 0} (page : ℕ) (o : Option A) → (first + pages ≤ page → page < first + more → o ≡ None) →
+      cond (is_among first pages page) None o ≡ cond (is_among first more page) None o
   wider {A} page o none = go (side_of first (first + pages) page) (side_of first (first + more) page) where
-    go : ((first ≤ page) × (page < first + pages)) ⊎ ((page < first) ⊎ (first + pages ≤ page)) → ((first ≤ page) × (page < first + more)) ⊎ ((page < first) ⊎ (first + more ≤ page)) → cond (is_among first pages page) None o ≡ cond (is_among first more page) None o
+    go : ((first ≤ page) × (page < first + pages)) ⊎ ((page < first) ⊎ (first + pages ≤ page)) →
+        ((first ≤ page) × (page < first + more)) ⊎ ((page < first) ⊎ (first + more ≤ page)) →
+        cond (is_among first pages page) None o ≡ cond (is_among first more page) None o
     go (inl h) k = then_in first (first + pages) page None o h.0 h.1 ∙ sym (then_in first (first + more) page None o h.0 (omega (arith, h.1, le)))
     go (inr (inl h)) k = else_out first (first + pages) page None o (inl h) ∙ sym (else_out first (first + more) page None o (inl h))
     go (inr (inr h)) (inl k) = else_out first (first + pages) page None o (inr h) ∙ (none h k.1 ∙ sym (then_in first (first + more) page None o k.0 k.1))
@@ -225,12 +251,14 @@ unmapped_part old new first pages more m root wide le free full = record {
   counted =
       let is : pages + (more - pages) ≡ more = omega (arith, le) in
       let both = count_split (rights_in old.runs) first pages (more - pages) in
-      let same : mapped_count (rights_in old.runs) first (pages + (more - pages)) ≡ mapped_count (rights_in old.runs) first more = ap (mapped_count (rights_in old.runs) first) is in
+      let same : mapped_count (rights_in old.runs) first (pages + (more - pages)) ≡ mapped_count (rights_in old.runs) first
+      more = ap (mapped_count (rights_in old.runs) first) is in
       let all = count_full (rights_in old.runs) first pages full in
       let none = count_free (rights_in old.runs) (first + pages) (more - pages) (λ page h k. free page h (omega (arith, k, le))) in
       omega (arith, both, same, all, none)
 
-pub unmapped_none : (t : Tables) (first pages : ℕ) → ((n : ℕ) → is_mapped_in t first pages n ≡ false) → AreFree t.runs first (first + pages) → IsUnmapped t t first pages 0
+pub unmapped_none : (t : Tables) (first pages : ℕ) → ((n : ℕ) → is_mapped_in t first pages n ≡ false) →
+    AreFree t.runs first (first + pages) → IsUnmapped t t first pages 0
 unmapped_none t first pages none free = record {
   map = record {
     rights = λ page. nothing page (rights_in t.runs page) (λ h k. free page h k);
@@ -250,7 +278,8 @@ unmapped_none t first pages none free = record {
 
 -- ---- one range after another
 
-pub among_parts : (first half pages more n : ℕ) → IsCanonicalRange first (pages + more) → half ≡ first + pages → among first (pages + more) n ≡ false → (among first pages n ≡ false) × (among half more n ≡ false)
+pub among_parts : (first half pages more n : ℕ) → IsCanonicalRange first (pages + more) → half ≡ first + pages →
+    among first (pages + more) n ≡ false → (among first pages n ≡ false) × (among half more n ≡ false)
 among_parts first half pages more n range is h =
     (among_more first pages (pages + more) n (omega arith) h, go (nat_lt n (prefix_of half 4)) (nat_lt n (prefix_of half 4 + more)) refl refl) where
       go : (a b : Bool) → nat_lt n (prefix_of half 4) ≡ a → nat_lt n (prefix_of half 4 + more) ≡ b → (not a && b) ≡ false
@@ -313,7 +342,8 @@ module _ (old one new : Tables) (first half pages more count : ℕ)
         ∙ (or_not (is_some (reach old.words old.root 4 n))
         ∙ ap (λ (b : Bool). is_some (reach old.words old.root 4 n) || (b && is_some (reach one.words old.root 4 n))) (sym k.0))
     go false h =
-        let same : reach one.words old.root 4 n ≡ reach old.words old.root 4 n = u.entries.stayed 4 n (omega arith) (λ four. ap (λ (b : Bool). b && is_some (reach old.words old.root 4 n)) h) in
+        let same : reach one.words old.root 4 n ≡ reach old.words old.root 4 n =
+        u.entries.stayed 4 n (omega arith) (λ four. ap (λ (b : Bool). b && is_some (reach old.words old.root 4 n)) h) in
         ap (λ (b : Bool). b && is_some (reach old.words old.root 4 n)) (is_before n h) ∙ ap (λ (o : Option Place). among first pages n && is_some o) (sym same)
 
   left_apart : (n : ℕ) → is_mapped_in old half more n ≡ true → left_then n ≡ false
@@ -323,14 +353,18 @@ module _ (old one new : Tables) (first half pages more count : ℕ)
     go true k h = ap (λ (b : Bool). b && is_some (reach one.words old.root 4 n)) (is_after n k).0
     go false k h = absurd (cc)
 
-  pub left_more : (counted : ℕ) → IsUnmapped one new first pages counted → ArePagesChanged old.words new.words old.root removal (is_mapped_in old first (pages + more))
+  pub left_more : (counted : ℕ) → IsUnmapped one new first pages counted →
+      ArePagesChanged old.words new.words old.root removal (is_mapped_in old first (pages + more))
   unfolding left_then
   left_more counted v =
       let then : ArePagesChanged one.words new.words old.root removal left_then =
       subst (λ (r : ℕ). ArePagesChanged one.words new.words r removal (λ n. among first pages n && is_some (reach one.words r 4 n))) u.root v.entries in
-      changed_more old.words one.words new.words old.root removal (is_mapped_in old half more) left_then (is_mapped_in old first (pages + more)) u.entries then left_both old.free tree left_apart
+      changed_more old.words one.words new.words old.root removal (is_mapped_in old half more) left_then
+      (is_mapped_in old first (pages + more)) u.entries then left_both old.free tree left_apart
 
-pub unmapped_on : (old one new : Tables) (first half pages more count counted : ℕ) → IsTree old.words old.root old.free → IsCanonicalRange first (pages + more) → half ≡ first + pages → IsUnmapped old one half more count → IsUnmapped one new first pages counted →
+pub unmapped_on : (old one new : Tables) (first half pages more count counted : ℕ) → IsTree old.words old.root old.free →
+    IsCanonicalRange first (pages + more) → half ≡ first + pages → IsUnmapped old one half more count →
+    IsUnmapped one new first pages counted →
     IsUnmapped old new first (pages + more) (count + counted)
 unmapped_on old one new first half pages more count counted tree range is u v = record {
   map = record {
@@ -338,8 +372,11 @@ unmapped_on old one new first half pages more count counted tree range is u v = 
     bytes = λ address. v.map.bytes address ∙ joined (address / 4096) ((map_of old).byte address) ((map_of one).byte address) (u.map.bytes address);
   };
   count_is = (let split = count_split (rights_in old.runs) first pages more in
-      let later : mapped_count (rights_in old.runs) (first + pages) more ≡ mapped_count (rights_in old.runs) half more = ap (λ (p : ℕ). mapped_count (rights_in old.runs) p more) (sym is) in
-      let same = count_same (rights_in one.runs) (rights_in old.runs) first pages (λ page h k. u.map.rights page ∙ else_out half (half + more) page None (rights_in old.runs page) (inl (omega (arith, k, is)))) in
+      let later : mapped_count (rights_in old.runs) (first + pages) more ≡ mapped_count (rights_in old.runs) half more =
+      ap (λ (p : ℕ). mapped_count (rights_in old.runs) p more) (sym is) in
+      let same = count_same (rights_in one.runs) (rights_in old.runs) first pages
+      (λ page h k. u.map.rights page ∙ else_out half (half + more) page None (rights_in old.runs page)
+      (inl (omega (arith, k, is)))) in
       let a = u.count_is in
       let b = v.count_is in
       omega (arith, split, later, same, a, b));
@@ -347,18 +384,23 @@ unmapped_on old one new first half pages more count counted tree range is u v = 
   root = v.root ∙ u.root;
   entries = left_more old one new first half pages more count tree range is u counted v;
 } where
-  joined : {A : Type 0} (page : ℕ) (o p : Option A) → p ≡ cond (is_among half more page) None o → cond (is_among first pages page) None p ≡ cond (is_among first (pages + more) page) None o
+  joined : {A : Type 0} (page : ℕ) (o p : Option A) → p ≡ cond (is_among half more page) None o →
+      cond (is_among first pages page) None p ≡ cond (is_among first (pages + more) page) None o
   joined {A} page o p h = go (side_of first (first + pages) page) (side_of half (half + more) page) where
-    go : ((first ≤ page) × (page < first + pages)) ⊎ ((page < first) ⊎ (first + pages ≤ page)) → ((half ≤ page) × (page < half + more)) ⊎ ((page < half) ⊎ (half + more ≤ page)) →
+    go : ((first ≤ page) × (page < first + pages)) ⊎ ((page < first) ⊎ (first + pages ≤ page)) →
+        ((half ≤ page) × (page < half + more)) ⊎ ((page < half) ⊎ (half + more ≤ page)) →
         cond (is_among first pages page) None p ≡ cond (is_among first (pages + more) page) None o
     go (inl k) l = then_in first (first + pages) page None p k.0 k.1 ∙ sym (then_in first (first + (pages + more)) page None o k.0 (omega (arith, k.1)))
     go (inr k) (inl l) =
-        else_out first (first + pages) page None p k ∙ (h ∙ (then_in half (half + more) page None o l.0 l.1 ∙ sym (then_in first (first + (pages + more)) page None o (omega (arith, l.0, is)) (omega (arith, l.1, is)))))
+        else_out first (first + pages) page None p k ∙ (h ∙ (then_in half (half + more) page None o l.0 l.1
+        ∙ sym (then_in first (first + (pages + more)) page None o (omega (arith, l.0, is)) (omega (arith, l.1, is)))))
     go (inr (inl k)) (inr l) =
-        else_out first (first + pages) page None p (inl k) ∙ (h ∙ (else_out half (half + more) page None o l ∙ sym (else_out first (first + (pages + more)) page None o (inl k))))
+        else_out first (first + pages) page None p (inl k) ∙ (h ∙ (else_out half (half + more) page None o l
+        ∙ sym (else_out first (first + (pages + more)) page None o (inl k))))
     go (inr (inr k)) (inr (inl l)) = absurd (omega (arith, k, l, is))
     go (inr (inr k)) (inr (inr l)) =
-        else_out first (first + pages) page None p (inr k) ∙ (h ∙ (else_out half (half + more) page None o (inr l) ∙ sym (else_out first (first + (pages + more)) page None o (inr (omega (arith, l, is))))))
+        else_out first (first + pages) page None p (inr k) ∙ (h ∙ (else_out half (half + more) page None o (inr l)
+        ∙ sym (else_out first (first + (pages + more)) page None o (inr (omega (arith, l, is))))))
 
 -- ---- run by run, from the end of a range
 
@@ -379,7 +421,9 @@ unmapped_init t first top order = record {
   next = inl (refl, refl);
 }
 
-pub unmapped_step : (old one new : Tables) (first top at count from more : ℕ) → IsTree old.words old.root old.free → IsCanonicalRange first (top - first) → AreUnmappedTo old one first top at count → IsUnmapped one new from (at - from) more → first ≤ from → from < at → from + more ≤ at →
+pub unmapped_step : (old one new : Tables) (first top at count from more : ℕ) → IsTree old.words old.root old.free →
+    IsCanonicalRange first (top - first) → AreUnmappedTo old one first top at count →
+    IsUnmapped one new from (at - from) more → first ≤ from → from < at → from + more ≤ at →
     AreUnmappedTo old new first top from (count + more)
 unmapped_step old one new first top at count from more tree range u v low less few =
     let to = u.to in
@@ -390,7 +434,8 @@ unmapped_step old one new first top at count from more tree range u v low less f
       from = low;
       to = omega (arith, less, to);
       few = omega (arith, most, few);
-      gone = subst (λ (n : ℕ). IsUnmapped old new from n (count + more)) sum (unmapped_on old one new from at (at - from) (top - at) count more tree part (omega (arith, less)) u.gone v);
+      gone = subst (λ (n : ℕ). IsUnmapped old new from n (count + more)) sum
+          (unmapped_on old one new from at (at - from) (top - at) count more tree part (omega (arith, less)) u.gone v);
       next = inr (v.map.rights from ∙ then_in from (from + (at - from)) from None (rights_in one.runs from) (omega arith) (omega (arith, less)));
     }
 

@@ -21,7 +21,8 @@ byte_here word (suc (suc (suc (suc (suc (suc zero)))))) value less small = omega
 byte_here word (suc (suc (suc (suc (suc (suc (suc zero))))))) value less small = omega (arith, small)
 byte_here word (suc (suc (suc (suc (suc (suc (suc (suc byte)))))))) value less small = absurd (omega (arith, less))
 
-pub byte_other : (word byte value other : ℕ) → byte < 8 → other < 8 → value < 256 → (other ≡ byte → ⊥) → byte_of (with_field word (8 * byte) (8 * byte + 8) value) other ≡ byte_of word other
+pub byte_other : (word byte value other : ℕ) → byte < 8 → other < 8 → value < 256 → (other ≡ byte → ⊥) →
+    byte_of (with_field word (8 * byte) (8 * byte + 8) value) other ≡ byte_of word other
 byte_other word zero value zero less k small h = absurd (h refl)
 byte_other word zero value (suc zero) less k small h = omega (arith, small)
 byte_other word zero value (suc (suc zero)) less k small h = omega (arith, small)
@@ -93,7 +94,8 @@ byte_other word (suc (suc (suc (suc (suc (suc (suc zero))))))) value (suc (suc (
 byte_other word (suc (suc (suc (suc (suc (suc (suc zero))))))) value (suc (suc (suc (suc (suc zero))))) less k small h = omega (arith, small)
 byte_other word (suc (suc (suc (suc (suc (suc (suc zero))))))) value (suc (suc (suc (suc (suc (suc zero)))))) less k small h = omega (arith, small)
 byte_other word (suc (suc (suc (suc (suc (suc (suc zero))))))) value (suc (suc (suc (suc (suc (suc (suc zero))))))) less k small h = absurd (h refl)
-byte_other word (suc (suc (suc (suc (suc (suc (suc zero))))))) value (suc (suc (suc (suc (suc (suc (suc (suc other)))))))) less k small h = absurd (omega (arith, k))
+byte_other word (suc (suc (suc (suc (suc (suc (suc zero))))))) value (suc (suc (suc (suc (suc (suc (suc (suc other))))))))
+    less k small h = absurd (omega (arith, k))
 byte_other word (suc (suc (suc (suc (suc (suc (suc (suc byte)))))))) value other less k small h = absurd (omega (arith, less))
 
 -- ---- bytes that are put in one after the other
@@ -101,14 +103,17 @@ byte_other word (suc (suc (suc (suc (suc (suc (suc (suc byte)))))))) value other
 pub none_put : (words bytes : List ℕ) (offset : ℕ) → AreBytesPut words words offset 0 bytes
 none_put words bytes offset = record {
   size = refl;
-  each = λ place less. sym (else_out offset (offset + 0) place (slice_index bytes (place - offset)) (byte_at words place) (out place (side_of offset (offset + 0) place)));
+  each = λ place less. sym (else_out offset (offset + 0) place (slice_index bytes (place - offset)) (byte_at words place)
+      (out place (side_of offset (offset + 0) place)));
 } where
   out : (place : ℕ) → ((offset ≤ place) × (place < offset + 0)) ⊎ ((place < offset) ⊎ (offset + 0 ≤ place)) → (place < offset) ⊎ (offset + 0 ≤ place)
   out place (inl h) = absurd (omega (arith, h.0, h.1))
   out place (inr h) = h
 
-pub one_put : (old new bytes : List ℕ) (offset done word value : ℕ) → AreBytesPut old new offset done bytes → offset + done < 8 * length old → value ≡ slice_index bytes done →
-    byte_of word ((offset + done) % 8) ≡ value → ((other : ℕ) → other < 8 → (other ≡ (offset + done) % 8 → ⊥) → byte_of word other ≡ byte_of (slice_index new ((offset + done) / 8)) other) →
+pub one_put : (old new bytes : List ℕ) (offset done word value : ℕ) → AreBytesPut old new offset done bytes →
+    offset + done < 8 * length old → value ≡ slice_index bytes done →
+    byte_of word ((offset + done) % 8) ≡ value → ((other : ℕ) → other < 8 → (other ≡ (offset + done) % 8 → ⊥) →
+    byte_of word other ≡ byte_of (slice_index new ((offset + done) / 8)) other) →
     AreBytesPut old (set new ((offset + done) / 8) word) offset (done + 1) bytes
 one_put old new bytes offset done word value p within is here others = record {
   size = length-set new ((offset + done) / 8) word ∙ p.size;
@@ -137,8 +142,11 @@ one_put old new bytes offset done word value p within is here others = record {
         ∙ (others (place % 8) (omega arith) (λ same. other (omega (arith, h, same)))
         ∙ ap (λ (i : ℕ). byte_of (slice_index new i) (place % 8)) (sym h)))
 
-  by_place : (place : ℕ) → place < 8 * length old → ((offset ≤ place) × (place < offset + done)) ⊎ ((place < offset) ⊎ (offset + done ≤ place)) → (place ≡ offset + done) ⊎ (place ≡ offset + done → ⊥) →
-      byte_at (set new at word) place ≡ cond (nat_le offset place && nat_lt place (offset + (done + 1))) (slice_index bytes (place - offset)) (byte_at old place)
+  by_place : (place : ℕ) → place < 8 * length old →
+      ((offset ≤ place) × (place < offset + done)) ⊎ ((place < offset) ⊎ (offset + done ≤ place)) →
+      (place ≡ offset + done) ⊎ (place ≡ offset + done → ⊥) →
+      byte_at (set new at word) place ≡ cond (nat_le offset place && nat_lt place (offset + (done + 1)))
+      (slice_index bytes (place - offset)) (byte_at old place)
   by_place place less k (inl h) =
       let first : place / 8 ≡ at = ap (λ (i : ℕ). i / 8) h in
       let rest : place % 8 ≡ (offset + done) % 8 = ap (λ (i : ℕ). i % 8) h in

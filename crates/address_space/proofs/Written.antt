@@ -22,19 +22,22 @@ canonical_span at count any span h k =
     let same : any / 2 ^ 47 ≡ at / 2 ^ 47 = omega (arith, one, h, k) in
     ap (λ (n : ℕ). n == 0 || n == 2 ^ 17 - 1) same ∙ span.canonical
 
-pub walk_same : (old new : List ℕ) (root page : ℕ) → ((level number : ℕ) → level ≤ 4 → reach new root level number ≡ reach old root level number) → walk_of new root page ≡ walk_of old root page
+pub walk_same : (old new : List ℕ) (root page : ℕ) → ((level number : ℕ) → level ≤ 4 →
+    reach new root level number ≡ reach old root level number) → walk_of new root page ≡ walk_of old root page
 unfolding walk_of
 walk_same old new root page same = same 4 (page % 2 ^ 36) (omega arith)
 
 -- the byte of a run at an address, by its place in the run
-byte_from : (run : List ℕ) (address index : ℕ) → index ≤ address % 4096 / 8 → byte_of (slice_index run (address % 4096 / 8 - index)) (address % 8) ≡ byte_at run (address % 4096 - 8 * index)
+byte_from : (run : List ℕ) (address index : ℕ) → index ≤ address % 4096 / 8 →
+    byte_of (slice_index run (address % 4096 / 8 - index)) (address % 8) ≡ byte_at run (address % 4096 - 8 * index)
 byte_from run address index low =
     let word : address % 4096 / 8 - index ≡ (address % 4096 - 8 * index) / 8 = omega (arith, low) in
     let rest : address % 8 ≡ (address % 4096 - 8 * index) % 8 = omega (arith, low) in
     ap (λ (i : ℕ). byte_of (slice_index run i) (address % 8)) word ∙ ap (byte_of (slice_index run ((address % 4096 - 8 * index) / 8))) rest
 
 -- a byte of a mapped page, of which words were read from `index` on
-pub reached_in : (words : List ℕ) (root address index : ℕ) (o : Option Place) → walk_of words root (address / 4096) ≡ o → (run : List ℕ) → IfSome o (λ place. AreWordsOf words place.frame index run) → IsSome o →
+pub reached_in : (words : List ℕ) (root address index : ℕ) (o : Option Place) → walk_of words root (address / 4096) ≡ o →
+    (run : List ℕ) → IfSome o (λ place. AreWordsOf words place.frame index run) → IsSome o →
     index ≤ address % 4096 / 8 → address % 4096 / 8 < index + length run → reached words root address ≡ Some (byte_at run (address % 4096 - 8 * index))
 reached_in words root address index None is run of_frame some low high = absurd (cc)
 reached_in words root address index (Some place) is run of_frame some low high =
@@ -68,8 +71,13 @@ module _ (old new words put bytes : List ℕ) (root at page first : ℕ) (place 
 
   -- a word of the part has a byte that is written
   pub part_words : AreOtherWordsKept old new root at (length bytes)
-  part_words = record { kept = λ f i less apart. m.words_put.others f i less (λ same low high. inside f i less same low high (cases_lt i (first + 1)) apart) } where
-    inside : (f i : ℕ) → i < 512 → f ≡ place.frame → first ≤ i → i < first + length put → (i < first + 1) ⊎ (first + 1 ≤ i) → ((address : ℕ) → at ≤ address → address < at + length bytes → LiesIn old root address f i → ⊥) → ⊥
+  part_words = record {
+    kept = λ f i less apart. m.words_put.others f i less
+        (λ same low high. inside f i less same low high (cases_lt i (first + 1)) apart);
+  } where
+    inside : (f i : ℕ) → i < 512 → f ≡ place.frame → first ≤ i → i < first + length put →
+        (i < first + 1) ⊎ (first + 1 ≤ i) → ((address : ℕ) → at ≤ address → address < at + length bytes →
+        LiesIn old root address f i → ⊥) → ⊥
     inside f i less same low high (inl h) apart =
         let f_is = m.first_is in
         let some = m.some in
@@ -92,13 +100,18 @@ module _ (old new words put bytes : List ℕ) (root at page first : ℕ) (place 
         })
 
   pub part_written :
-      ((address : ℕ) → address / 4096 ≡ page → first ≤ address % 4096 / 8 → address % 4096 / 8 < first + length put → reached new root address ≡ Some (byte_of (slice_index put (address % 4096 / 8 - first)) (address % 8))) →
-      ((address : ℕ) → IsTrue (is_canonical address) → (address / 4096 ≡ page → first ≤ address % 4096 / 8 → address % 4096 / 8 < first + length put → ⊥) → reached new root address ≡ reached old root address) →
+      ((address : ℕ) → address / 4096 ≡ page → first ≤ address % 4096 / 8 → address % 4096 / 8 < first + length put →
+      reached new root address ≡ Some (byte_of (slice_index put (address % 4096 / 8 - first)) (address % 8))) →
+      ((address : ℕ) → IsTrue (is_canonical address) → (address / 4096 ≡ page → first ≤ address % 4096 / 8 →
+      address % 4096 / 8 < first + length put → ⊥) → reached new root address ≡ reached old root address) →
       AreWritten (reached old root) (reached new root) at (length bytes) bytes
   part_written inside outside = record { each = λ address canonical. by_page address canonical (cases_eq (address / 4096) page) } where
     -- a byte of the words
-    in_words : (address : ℕ) → address / 4096 ≡ page → first ≤ address % 4096 / 8 → address % 4096 / 8 < first + length put → ((at ≤ address) × (address < at + length bytes)) ⊎ ((address < at) ⊎ (at + length bytes ≤ address)) →
-        reached new root address ≡ cond (nat_le at address && nat_lt address (at + length bytes)) (Some (slice_index bytes (address - at))) (reached old root address)
+    in_words : (address : ℕ) → address / 4096 ≡ page → first ≤ address % 4096 / 8 →
+        address % 4096 / 8 < first + length put → ((at ≤ address) × (address < at + length
+        bytes)) ⊎ ((address < at) ⊎ (at + length bytes ≤ address)) →
+        reached new root address ≡ cond (nat_le at address && nat_lt address (at + length bytes))
+        (Some (slice_index bytes (address - at))) (reached old root address)
     in_words address h low high side = go side where
       f_is : first ≡ at % 4096 / 8
       f_is = m.first_is
@@ -113,45 +126,58 @@ module _ (old new words put bytes : List ℕ) (root at page first : ℕ) (place 
       now = inside address h low high ∙ ap (λ (b : ℕ). Some b) (byte_from put address first low)
 
       was : reached old root address ≡ Some (byte_at words (address % 4096 - 8 * first))
-      was = reached_in old root address first (Some place) (ap (walk_of old root) h ∙ m.there) words m.of_frame refl low (let s = m.bytes_put.size in omega (arith, high, s))
+      was = reached_in old root address first (Some place) (ap (walk_of old root) h ∙ m.there) words m.of_frame refl low
+          (let s = m.bytes_put.size in omega (arith, high, s))
 
       go : ((at ≤ address) × (address < at + length bytes)) ⊎ ((address < at) ⊎ (at + length bytes ≤ address)) →
-          reached new root address ≡ cond (nat_le at address && nat_lt address (at + length bytes)) (Some (slice_index bytes (address - at))) (reached old root address)
+          reached new root address ≡ cond (nat_le at address && nat_lt address (at + length bytes))
+          (Some (slice_index bytes (address - at))) (reached old root address)
       go (inl k) =
           let from : at % 8 ≤ address % 4096 - 8 * first = omega (arith, f_is, p_is, h, low, k.0) in
           let to : address % 4096 - 8 * first < at % 8 + length bytes = omega (arith, f_is, p_is, h, low, k.1) in
           let place : address % 4096 - 8 * first - at % 8 ≡ address - at = omega (arith, f_is, p_is, h, low, k.0) in
           now
           ∙ (ap (λ (b : ℕ). Some b) (m.bytes_put.each (address % 4096 - 8 * first) small
-          ∙ (then_in (at % 8) (at % 8 + length bytes) (address % 4096 - 8 * first) (slice_index bytes (address % 4096 - 8 * first - at % 8)) (byte_at words (address % 4096 - 8 * first)) from to ∙ ap (slice_index bytes) place))
+          ∙ (then_in (at % 8) (at % 8 + length bytes) (address % 4096 - 8 * first)
+          (slice_index bytes (address % 4096 - 8 * first - at % 8)) (byte_at words (address % 4096 - 8 * first)) from to
+          ∙ ap (slice_index bytes) place))
           ∙ sym (then_in at (at + length bytes) address (Some (slice_index bytes (address - at))) (reached old root address) k.0 k.1))
       go (inr k) =
           now
           ∙ (ap (λ (b : ℕ). Some b) (m.bytes_put.each (address % 4096 - 8 * first) small
-          ∙ else_out (at % 8) (at % 8 + length bytes) (address % 4096 - 8 * first) (slice_index bytes (address % 4096 - 8 * first - at % 8)) (byte_at words (address % 4096 - 8 * first)) (out k))
+          ∙ else_out (at % 8) (at % 8 + length bytes) (address % 4096 - 8 * first)
+          (slice_index bytes (address % 4096 - 8 * first - at % 8)) (byte_at words (address % 4096 - 8 * first))
+          (out k))
           ∙ (sym was ∙ sym (else_out at (at + length bytes) address (Some (slice_index bytes (address - at))) (reached old root address) k))) where
             out : (address < at) ⊎ (at + length bytes ≤ address) → (address % 4096 - 8 * first < at % 8) ⊎ (at % 8 + length bytes ≤ address % 4096 - 8 * first)
             out (inl l) = inl (omega (arith, l, f_is, p_is, h, low))
             out (inr l) = inr (omega (arith, l, f_is, p_is, h, low))
 
     -- one of no such word
-    out_of_words : (address : ℕ) → IsTrue (is_canonical address) → (address / 4096 ≡ page → first ≤ address % 4096 / 8 → address % 4096 / 8 < first + length put → ⊥) →
+    out_of_words : (address : ℕ) → IsTrue (is_canonical address) → (address / 4096 ≡ page → first ≤ address % 4096 / 8 →
+        address % 4096 / 8 < first + length put → ⊥) →
         ((at ≤ address) × (address < at + length bytes)) ⊎ ((address < at) ⊎ (at + length bytes ≤ address)) →
-        reached new root address ≡ cond (nat_le at address && nat_lt address (at + length bytes)) (Some (slice_index bytes (address - at))) (reached old root address)
+        reached new root address ≡ cond (nat_le at address && nat_lt address (at + length bytes))
+        (Some (slice_index bytes (address - at))) (reached old root address)
     out_of_words address canonical apart (inl k) =
         let f_is = m.first_is in
         let p_is = m.page_is in
         let few = m.fits in
         let s = put_size in
         absurd (apart (omega (arith, p_is, few, k.0, k.1)) (omega (arith, f_is, few, k.0, k.1)) (omega (arith, f_is, few, s, k.0, k.1)))
-    out_of_words address canonical apart (inr k) = outside address canonical apart ∙ sym (else_out at (at + length bytes) address (Some (slice_index bytes (address - at))) (reached old root address) k)
+    out_of_words address canonical apart (inr k) = outside address canonical apart
+        ∙ sym (else_out at (at + length bytes) address (Some (slice_index bytes (address - at))) (reached old root address)
+        k)
 
     by_page : (address : ℕ) → IsTrue (is_canonical address) → (address / 4096 ≡ page) ⊎ (address / 4096 ≡ page → ⊥) →
-        reached new root address ≡ cond (nat_le at address && nat_lt address (at + length bytes)) (Some (slice_index bytes (address - at))) (reached old root address)
+        reached new root address ≡ cond (nat_le at address && nat_lt address (at + length bytes))
+        (Some (slice_index bytes (address - at))) (reached old root address)
     by_page address canonical (inr h) = out_of_words address canonical (λ same low high. h same) (side_of at (at + length bytes) address)
     by_page address canonical (inl h) = by_words (side_of first (first + length put) (address % 4096 / 8)) where
-      by_words : ((first ≤ address % 4096 / 8) × (address % 4096 / 8 < first + length put)) ⊎ ((address % 4096 / 8 < first) ⊎ (first + length put ≤ address % 4096 / 8)) →
-          reached new root address ≡ cond (nat_le at address && nat_lt address (at + length bytes)) (Some (slice_index bytes (address - at))) (reached old root address)
+      by_words : ((first ≤ address % 4096 / 8) × (address % 4096 / 8 < first + length
+          put)) ⊎ ((address % 4096 / 8 < first) ⊎ (first + length put ≤ address % 4096 / 8)) →
+          reached new root address ≡ cond (nat_le at address && nat_lt address (at + length bytes))
+          (Some (slice_index bytes (address - at))) (reached old root address)
       by_words (inl k) = in_words address h k.0 k.1 (side_of at (at + length bytes) address)
       by_words (inr (inl k)) = out_of_words address canonical (λ same low high. omega (arith, low, k)) (side_of at (at + length bytes) address)
       by_words (inr (inr k)) = out_of_words address canonical (λ same low high. omega (arith, high, k)) (side_of at (at + length bytes) address)
@@ -169,7 +195,10 @@ pub record AreWrittenTo (old new : List ℕ) (root at done : ℕ) (bytes : List 
 
 pub none_written : (words : List ℕ) (root at : ℕ) (bytes : List ℕ) → AreWrittenTo words words root at 0 bytes
 none_written words root at bytes = record {
-  written = record { each = λ address canonical. sym (else_out at (at + 0) address (Some (slice_index bytes (address - at))) (reached words root address) (out address (side_of at (at + 0) address))) };
+  written = record {
+    each = λ address canonical. sym (else_out at (at + 0) address (Some (slice_index bytes (address - at)))
+        (reached words root address) (out address (side_of at (at + 0) address)));
+  };
   size = refl;
   tree = λ free t. t;
   walks = λ level number le. refl;
@@ -181,12 +210,19 @@ none_written words root at bytes = record {
   out address (inl h) = absurd (omega (arith, h.0, h.1))
   out address (inr h) = h
 
-pub written_on : (old one new : List ℕ) (root at done count from : ℕ) (bytes part : List ℕ) → AreWrittenTo old one root at done bytes → from ≡ at + done → count ≡ length part → done + count ≤ length bytes →
-    ((k : ℕ) → k < count → slice_index part k ≡ slice_index bytes (done + k)) → AreWritten (reached one root) (reached new root) from (length part) part → length new ≡ length one →
-    ((free : List Bool) → IsTree one root free → IsTree new root free) → ((level number : ℕ) → level ≤ 4 → reach new root level number ≡ reach one root level number) →
-    ((slot : ℕ) → large_of new root slot ≡ large_of one root slot) → AreOtherWordsKept one new root from (length part) → AreWrittenTo old new root at (done + count) bytes
+pub written_on : (old one new : List ℕ) (root at done count from : ℕ) (bytes part : List ℕ) →
+    AreWrittenTo old one root at done bytes → from ≡ at + done → count ≡ length part → done + count ≤ length bytes →
+    ((k : ℕ) → k < count → slice_index part k ≡ slice_index bytes (done + k)) →
+    AreWritten (reached one root) (reached new root) from (length part) part → length new ≡ length one →
+    ((free : List Bool) → IsTree one root free → IsTree new root free) →
+    ((level number : ℕ) → level ≤ 4 → reach new root level number ≡ reach one root level number) →
+    ((slot : ℕ) → large_of new root slot ≡ large_of one root slot) → AreOtherWordsKept one new root from (length part) →
+    AreWrittenTo old new root at (done + count) bytes
 written_on old one new root at done count from bytes part w is counted few same more size tree walks larges words = record {
-  written = record { each = λ address canonical. more.each address canonical ∙ by_side address canonical (side_of from (from + length part) address) (side_of at (at + done) address) };
+  written = record {
+    each = λ address canonical. more.each address canonical
+        ∙ by_side address canonical (side_of from (from + length part) address) (side_of at (at + done) address);
+  };
   size = size ∙ w.size;
   tree = λ free t. tree free (w.tree free t);
   walks = λ level number le. walks level number le ∙ w.walks level number le;
@@ -206,13 +242,16 @@ written_on old one new root at done count from bytes part w is counted few same 
     at_index = lies.at_index;
   }
 
-  by_side : (address : ℕ) → IsTrue (is_canonical address) → ((from ≤ address) × (address < from + length part)) ⊎ ((address < from) ⊎ (from + length part ≤ address)) → ((at ≤ address) × (address < at + done)) ⊎ ((address < at) ⊎ (at + done ≤ address)) →
+  by_side : (address : ℕ) → IsTrue (is_canonical address) → ((from ≤ address) × (address < from + length
+      part)) ⊎ ((address < from) ⊎ (from + length part ≤ address)) →
+      ((at ≤ address) × (address < at + done)) ⊎ ((address < at) ⊎ (at + done ≤ address)) →
       cond (nat_le from address && nat_lt address (from + length part)) (Some (slice_index part (address - from))) (reached one root address)
       ≡ cond (nat_le at address && nat_lt address (at + (done + count))) (Some (slice_index bytes (address - at))) (reached old root address)
   by_side address canonical (inl h) k =
       then_in from (from + length part) address (Some (slice_index part (address - from))) (reached one root address) h.0 h.1
       ∙ (ap (λ (b : ℕ). Some b) (same (address - from) (omega (arith, h.0, h.1, counted)) ∙ ap (slice_index bytes) (omega (arith, h.0, is)))
-      ∙ sym (then_in at (at + (done + count)) address (Some (slice_index bytes (address - at))) (reached old root address) (omega (arith, h.0, is)) (omega (arith, h.1, is, counted))))
+      ∙ sym (then_in at (at + (done + count)) address (Some (slice_index bytes (address - at))) (reached old root address)
+      (omega (arith, h.0, is)) (omega (arith, h.1, is, counted))))
   by_side address canonical (inr h) (inl k) =
       else_out from (from + length part) address (Some (slice_index part (address - from))) (reached one root address) h
       ∙ (w.written.each address canonical
@@ -241,9 +280,11 @@ part_byte bytes done count k less = get_or-take (done + count - done) (drop done
 
 -- ---- the space after it
 
-pub written_kept : (old : Tables) (words : List ℕ) (at : ℕ) (bytes : List ℕ) → AreTablesKept old → length words ≡ length old.words → ((free : List Bool) → IsTree old.words old.root free → IsTree words old.root free) →
+pub written_kept : (old : Tables) (words : List ℕ) (at : ℕ) (bytes : List ℕ) → AreTablesKept old →
+    length words ≡ length old.words → ((free : List Bool) → IsTree old.words old.root free → IsTree words old.root free) →
     ((level number : ℕ) → level ≤ 4 → reach words old.root level number ≡ reach old.words old.root level number) →
-    ((slot : ℕ) → large_of words old.root slot ≡ large_of old.words old.root slot) → AreTablesKept (record { words = words; root = old.root; free = old.free; runs = old.runs })
+    ((slot : ℕ) → large_of words old.root slot ≡ large_of old.words old.root slot) →
+    AreTablesKept (record { words = words; root = old.root; free = old.free; runs = old.runs })
 written_kept old words at bytes kept size tree walks larges =
     let count : frame_count words ≡ frame_count old.words = ap (λ n. n / 512) size in
     record {
@@ -254,13 +295,16 @@ written_kept old words at bytes kept size tree walks larges =
       few_frames = (let r = kept.few_frames in omega (arith, count, r));
       canonical = kept.canonical;
       found = λ page canonical. ap (option_map rights_of_place) (walk_same old.words words old.root page walks) ∙ kept.found page canonical;
-      accounted = λ frame less unmet. kept.accounted frame (omega (arith, count, less)) (λ level number met le at. unmet level number met le (walks level number le ∙ at));
+      accounted = λ frame less unmet. kept.accounted frame (omega (arith, count, less))
+          (λ level number met le at. unmet level number met le (walks level number le ∙ at));
       no_large = λ slot. larges slot ∙ kept.no_large slot;
       follow = kept.follow;
       longest = kept.longest;
     }
 
-pub written_map : (old : Tables) (words : List ℕ) (at : ℕ) (bytes : List ℕ) → AreTablesKept old → AreWritten (reached old.words old.root) (reached words old.root) at (length bytes) bytes → IsGoodSpan at (length bytes) →
+pub written_map : (old : Tables) (words : List ℕ) (at : ℕ) (bytes : List ℕ) → AreTablesKept old →
+    AreWritten (reached old.words old.root) (reached words old.root) at (length bytes) bytes →
+    IsGoodSpan at (length bytes) →
     ((any : ℕ) → at ≤ any → any < at + length bytes → IsSome (rights_in old.runs (any / 4096))) →
     IsMap (map_of (record { words = words; root = old.root; free = old.free; runs = old.runs })) (stored at bytes (map_of old))
 written_map old words at bytes kept w span mapped = record {
@@ -272,19 +316,25 @@ written_map old words at bytes kept w span mapped = record {
       let same : address / 2 ^ 47 ≡ address / 4096 * 4096 / 2 ^ 47 = omega arith in
       ap (λ (n : ℕ). n == 0 || n == 2 ^ 17 - 1) same ∙ h
 
-  by_page : (address : ℕ) (o : Option Rights) → rights_in old.runs (address / 4096) ≡ o → ((at ≤ address) × (address < at + length bytes)) ⊎ ((address < at) ⊎ (at + length bytes ≤ address)) →
+  by_page : (address : ℕ) (o : Option Rights) → rights_in old.runs (address / 4096) ≡ o →
+      ((at ≤ address) × (address < at + length bytes)) ⊎ ((address < at) ⊎ (at + length bytes ≤ address)) →
       cond (is_some (rights_in old.runs (address / 4096))) (reached words old.root address) None
-      ≡ cond (nat_le at address && nat_lt address (at + length bytes)) (Some (slice_index bytes (address - at))) (cond (is_some (rights_in old.runs (address / 4096))) (reached old.words old.root address) None)
-  by_page address None is (inl k) = let no : IsSome (rights_in old.runs (address / 4096)) = mapped address k.0 k.1 in absurd (gone (rights_in old.runs (address / 4096)) is no) where
-    gone : (o : Option Rights) → o ≡ None → IsSome o → ⊥
-    gone None h some = absurd (cc)
-    gone (Some a) h some = let no : Some a ≡ None = h in absurd (cc)
+      ≡ cond (nat_le at address && nat_lt address (at + length bytes)) (Some (slice_index bytes (address - at)))
+      (cond (is_some (rights_in old.runs (address / 4096))) (reached old.words old.root address) None)
+  by_page address None is (inl k) = let no : IsSome (rights_in old.runs (address / 4096)) = mapped address k.0 k.1 in
+      absurd (gone (rights_in old.runs (address / 4096)) is no) where
+        gone : (o : Option Rights) → o ≡ None → IsSome o → ⊥
+        gone None h some = absurd (cc)
+        gone (Some a) h some = let no : Some a ≡ None = h in absurd (cc)
   by_page address None is (inr k) =
       let left : cond (is_some (rights_in old.runs (address / 4096))) (reached words old.root address) None ≡ None = rw is refl in
       let right : cond (is_some (rights_in old.runs (address / 4096))) (reached old.words old.root address) None ≡ None = rw is refl in
-      left ∙ (sym right ∙ sym (else_out at (at + length bytes) address (Some (slice_index bytes (address - at))) (cond (is_some (rights_in old.runs (address / 4096))) (reached old.words old.root address) None) k))
+      left ∙ (sym right ∙ sym (else_out at (at + length bytes) address (Some (slice_index bytes (address - at)))
+      (cond (is_some (rights_in old.runs (address / 4096))) (reached old.words old.root address) None) k))
   by_page address (Some r) is side =
       let canonical = canonical_of address (kept.canonical (address / 4096) (rw is refl)) in
       let now : cond (is_some (rights_in old.runs (address / 4096))) (reached words old.root address) None ≡ reached words old.root address = rw is refl in
-      let before : cond (is_some (rights_in old.runs (address / 4096))) (reached old.words old.root address) None ≡ reached old.words old.root address = rw is refl in
-      now ∙ (w.each address canonical ∙ ap (λ (b : Option ℕ). cond (nat_le at address && nat_lt address (at + length bytes)) (Some (slice_index bytes (address - at))) b) (sym before))
+      let before : cond (is_some (rights_in old.runs (address / 4096))) (reached old.words old.root address) None ≡ reached
+      old.words old.root address = rw is refl in
+      now ∙ (w.each address canonical ∙ ap (λ (b : Option ℕ). cond (nat_le at address && nat_lt address (at + length bytes))
+      (Some (slice_index bytes (address - at))) b) (sym before))

@@ -52,5 +52,6 @@ module _ {regions : List Grant} {old : ℕ → ℕ} (new : ℕ → ℕ) {index :
     adopted_node kept (named d.some) d,
     λ side. trie_kept old new bin (without_size d.size index) at (low_at side low (width n)) n (d.child side)
         (λ m a b c is k some few. let half = in_half side low (width n) m a b in
-        kept m c half.0 half.1 (in_without d.size index m c is) k some few (λ same. absurd (size_apart chunks d.size m c at is (first_in d.chunks) same))) (children side),
+        kept m c half.0 half.1 (in_without d.size index m c is) k some few
+        (λ same. absurd (size_apart chunks d.size m c at is (first_in d.chunks) same))) (children side),
   )

@@ -76,7 +76,8 @@ module _ (words : ℕ → ℕ) (bin n chunk : ℕ) (others : List ℕ) where
     | inl here ↦ (zero, omega arith, head_same at chunk node.others others (sym node.chunks ∙ (ap index (sym here) ∙ listed)))
     | inr apart ↦
         let h = half_of offset (width levels) scale within (omega arith) in
-        let below = lead (without_size node.size index) at (low_at h.side low (width levels)) levels (node.child h.side) h.less (2 * scale) (children h.side) (omega arith)
+        let below = lead (without_size node.size index) at (low_at h.side low (width levels)) levels (node.child h.side)
+        h.less (2 * scale) (children h.side) (omega arith)
         (let l = low_is h.side low (width levels) in omega (arith, h.place)) h.within (without_other node.size index n apart ∙ listed) in (
           suc below.0,
           (let d = below.1 in omega arith),
@@ -116,7 +117,10 @@ bits_lead regions words bins index linked size bin chunk others in_bin listed =
     let low = bin_low in_bin in
     let end = bin_end (omega arith) in_bin in
     let offset : ℕ = size - low_of bin in
-    let found = lead words bin size chunk others (from (least_size bin) index) (128 + bin) (low_of bin) (levels_of bin) (slice_index bins.roots bin) (size - low_of bin) (2 ^ shift_of bin)
-    (linked.large bin in_bin.within).trie (bin_scaled bin in_bin.within) (omega arith) (omega arith) (from_same (least_size bin) index size in_bin.reached ∙ listed) in
-    let word = word_is (low_of bin) (size - low_of bin) (2 ^ shift_of bin) (width (levels_of bin)) (omega arith) (omega arith) (begin_scaled bin in_bin.within) (bin_scaled bin in_bin.within) in
+    let found = lead words bin size chunk others (from (least_size bin) index) (128 + bin) (low_of bin) (levels_of bin)
+    (slice_index bins.roots bin) (size - low_of bin) (2 ^ shift_of bin)
+    (linked.large bin in_bin.within).trie (bin_scaled bin in_bin.within) (omega arith) (omega arith)
+    (from_same (least_size bin) index size in_bin.reached ∙ listed) in
+    let word = word_is (low_of bin) (size - low_of bin) (2 ^ shift_of bin) (width (levels_of bin)) (omega arith)
+    (omega arith) (begin_scaled bin in_bin.within) (bin_scaled bin in_bin.within) in
     (found.0, found.1, ap (λ w. node_at words (slice_index bins.roots bin) (sides_of w found.0)) word ∙ found.2)

@@ -85,11 +85,14 @@ module _ (regions : List Grant) (old : ℕ → ℕ) (bin size chunk : ℕ) (othe
     kids = kids_kept leaves
 
     up_trie : (mid new : ℕ → ℕ) (left : ℕ) → IsTrie mid (without_chunk size chunk rest) bin at under (levels - 1) left →
-        OnlyHeldChanges regions rest under (under + width (levels - 1)) old mid → IsStored regions mid (at + slot side) left new → IsTrie new (without_chunk size chunk index) bin parent low levels at
+        OnlyHeldChanges regions rest under (under + width (levels - 1)) old mid →
+        IsStored regions mid (at + slot side) left new → IsTrie new (without_chunk size chunk index) bin parent low
+        levels at
     up_trie = one_trie leaves
 
     up_words : (mid new : ℕ → ℕ) (left : ℕ) → IsTrie mid (without_chunk size chunk rest) bin at under (levels - 1) left →
-        OnlyHeldChanges regions rest under (under + width (levels - 1)) old mid → IsStored regions mid (at + slot side) left new → OnlyHeldChanges regions index low (low + width levels) old new
+        OnlyHeldChanges regions rest under (under + width (levels - 1)) old mid →
+        IsStored regions mid (at + slot side) left new → OnlyHeldChanges regions index low (low + width levels) old new
     up_words = one_words leaves
 
     -- the other child is not the chunk, whose size is in this half
@@ -97,7 +100,8 @@ module _ (regions : List Grant) (old : ℕ → ℕ) (bin size chunk : ℕ) (othe
     not_there is =
         let n = levels - 1 in
         let c = held.chunks.each size chunk chunk_in in
-        let t = subst (λ x. IsTrie old rest bin at (low_at (not side) low (width n)) n x) (sym (node.node.child_is (not side)) ∙ is) (node.children (not side)) in
+        let t = subst (λ x. IsTrie old rest bin at (low_at (not side) low (width n)) n x)
+        (sym (node.node.child_is (not side)) ∙ is) (node.children (not side)) in
         let some' : 0 < chunk = let l = c.low in omega arith in
         let o = opened old rest bin at (low_at (not side) low (width n)) n chunk some' t in
         let w = wide n (levels_some old rest bin at (low_at (not side) low (width n)) n chunk some' t) in
@@ -127,7 +131,8 @@ module _ (regions : List Grant) (old : ℕ → ℕ) (bin size chunk : ℕ) (othe
     more_below : {up : ℕ} → IsBelow regions old rest bin at under (levels - 1) (old (at + slot side)) size chunk up →
         IsBelow regions old index bin parent low levels at size chunk up
     more_below b =
-        let same : (new : ℕ → ℕ) → OnlyHeldChanges regions rest under (under + width (levels - 1)) old new → IsStored regions new (at + slot side) (old (at + slot side)) new =
+        let same : (new : ℕ → ℕ) → OnlyHeldChanges regions rest under (under + width (levels - 1)) old new →
+        IsStored regions new (at + slot side) (old (at + slot side)) new =
         λ new w. record { here = kids new w side; elsewhere = λ p is far. refl } in
         record {
           own = b.own;
@@ -142,8 +147,10 @@ module _ (regions : List Grant) (old : ℕ → ℕ) (bin size chunk : ℕ) (othe
           here = b.here;
           there = b.there;
           kept = b.kept;
-          trie = λ mid new left t w stored. let w' = b.words mid new left t w stored in up_trie new new (old (at + slot side)) (b.trie mid new left t w stored) w' (same new w');
-          words = λ mid new left t w stored. let w' = b.words mid new left t w stored in up_words new new (old (at + slot side)) (b.trie mid new left t w stored) w' (same new w');
+          trie = λ mid new left t w stored. let w' = b.words mid new left t w stored in
+              up_trie new new (old (at + slot side)) (b.trie mid new left t w stored) w' (same new w');
+          words = λ mid new left t w stored. let w' = b.words mid new left t w stored in
+              up_words new new (old (at + slot side)) (b.trie mid new left t w stored) w' (same new w');
         }
 
   -- the oldest chunk of a size is the root of its trie, or stands below it

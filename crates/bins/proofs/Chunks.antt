@@ -28,7 +28,8 @@ pub in_with : (size chunk : ℕ) (index : ℕ → List ℕ) (n other : ℕ) → 
 in_with size chunk index n other is = elim (same_or_not n size) [
   | inr not ↦ inl (subst (λ (cs : List ℕ). IsIn other cs) (with_other size chunk index n not) is)
   | inl same ↦
-      elim (in_append other (index size) (chunk ∷ []) (subst (λ (cs : List ℕ). IsIn other cs) (ap (with_chunk size chunk index) same ∙ with_same size chunk index) is)) [
+      elim (in_append other (index size) (chunk ∷ []) (subst (λ (cs : List ℕ). IsIn other cs)
+      (ap (with_chunk size chunk index) same ∙ with_same size chunk index) is)) [
         | inl old ↦ inl (subst (λ m. IsIn other (index m)) (sym same) old)
         | inr (inl new) ↦ inr (same, new)
         | inr (inr none) ↦ absurd none
@@ -75,7 +76,8 @@ chunks_with {regions = regions} new {index = index} {size = size} {chunk = chunk
       once = λ n. elim (same_or_not n size) [
         | inr not ↦ subst (λ (cs : List ℕ). AreDistinct cs) (sym (with_other size chunk index n not)) (h.once n)
         | inl same ↦
-            subst (λ (cs : List ℕ). AreDistinct cs) (sym (ap (with_chunk size chunk index) same ∙ with_same size chunk index)) (distinct_with chunk (index size) (not_in size) (h.once size))
+            subst (λ (cs : List ℕ). AreDistinct cs) (sym (ap (with_chunk size chunk index) same
+            ∙ with_same size chunk index)) (distinct_with chunk (index size) (not_in size) (h.once size))
       ];
     }
 

@@ -72,5 +72,6 @@ module _ (old new : ℕ → ℕ) (bin : ℕ) where
   trie_kept index parent low (suc levels) at same (inr (node, children)) = inr (
     node_kept same node,
     λ side. trie_kept (without_size node.size index) at (low_at side low (width levels)) levels (node.child side)
-        (λ n above below chunk is. let half = in_half side low (width levels) n above below in same n half.0 half.1 chunk (in_without node.size index n chunk is)) (children side),
+        (λ n above below chunk is. let half = in_half side low (width levels) n above below in
+        same n half.0 half.1 chunk (in_without node.size index n chunk is)) (children side),
   )

@@ -106,8 +106,16 @@ module _ {regions : List Grant} {old : ℕ → ℕ} {index : ℕ → List ℕ} {
         mid (c + 8 * k) ≡ old (c + 8 * k)
     mid_word m c k c_in some few no_heir no_last =
         links.elsewhere (c + 8 * k) (chunk_place chunks large m c k c_in some few).word
-        (λ e. elim (same_or_not c heir) [ inl same ↦ no_heir same (omega arith) | inr not ↦ words_apart chunks large m c o.node.size heir k 16 c_in heir_in not few (omega arith) e ])
-        (λ e. elim (same_or_not c last) [ inl same ↦ no_last same (omega arith) | inr not ↦ words_apart chunks large m c o.node.size last k 24 c_in last_listed not few (omega arith) e ])
+        (λ e. elim (same_or_not c heir) [
+          | inl same ↦ no_heir same (omega arith)
+          | inr not ↦ words_apart chunks large m c
+              o.node.size heir k 16 c_in heir_in not few (omega arith) e
+        ])
+        (λ e. elim (same_or_not c last) [
+          | inl same ↦ no_last same (omega arith)
+          | inr not ↦ words_apart chunks large m c
+              o.node.size last k 24 c_in last_listed not few (omega arith) e
+        ])
 
     listed : without_chunk o.node.size at index o.node.size ≡ heir ∷ rest
     listed = minus_same o.node.size at index ∙ (ap (λ (cs : List ℕ). removed at cs) listed_old ∙ removed_at at [] (heir ∷ rest) once)
@@ -125,14 +133,16 @@ module _ {regions : List Grant} {old : ℕ → ℕ} {index : ℕ → List ℕ} {
 
     ring_mid : IsRing mid heir (mid (heir + 24)) (mid (heir + 16)) rest
     ring_mid = heir_ring old mid at heir rest (old (at + 24)) last once.1 ring links.prev links.next
-        (λ c is. mid_word o.node.size c 2 (ring_in c (inr is)) (omega arith) (omega arith) (λ e. absurd (once.1.0 (subst (λ x. IsIn x rest) e is))) (λ e. λ k. omega arith))
+        (λ c is. mid_word o.node.size c 2 (ring_in c (inr is)) (omega arith) (omega arith)
+        (λ e. absurd (once.1.0 (subst (λ x. IsIn x rest) e is))) (λ e. λ k. omega arith))
         (λ c is not. mid_word o.node.size c 3 (ring_in c is) (omega arith) (omega arith) (λ e. λ k. omega arith) (λ e. absurd (not e)))
 
     tries_mid : (side : Bool) → IsTrie mid (without_size o.node.size (without_chunk o.node.size at index)) bin at (under side) n (kids side)
     tries_mid side =
         let stays = trie_kept old mid bin lower at (under side) n (kids side)
         (λ m a b c is k some few. mid_word m c k (in_without o.node.size index m c is) some few
-        (λ e. absurd (size_apart chunks o.node.size m c heir is heir_in e)) (λ e. absurd (size_apart chunks o.node.size m c last is last_listed e))) (tries_old side) in
+        (λ e. absurd (size_apart chunks o.node.size m c heir is heir_in e))
+        (λ e. absurd (size_apart chunks o.node.size m c last is last_listed e))) (tries_old side) in
         trie_reindexed mid bin lower (without_size o.node.size (without_chunk o.node.size at index)) at (under side) n (kids side)
         (λ m a b. without_unchanged (removed at) o.node.size o.node.size index m (λ is. is)) stays
 

@@ -178,4 +178,5 @@ module _ {regions : List Grant} {old : ℕ → ℕ} {index : ℕ → List ℕ} {
         | inr (inl x) ↦ omega arith
         | inr (inr (less, x)) ↦ omega arith
       ])
-      ∙ sub.words p word (λ m c a b other c_in. let h = in_half side low (width n) m a b in out m c h.0 (omega (arith, h.1, w)) (in_without q.node.size index m c c_in))
+      ∙ sub.words p word (λ m c a b other c_in. let h = in_half side low (width n) m a b in
+      out m c h.0 (omega (arith, h.1, w)) (in_without q.node.size index m c c_in))

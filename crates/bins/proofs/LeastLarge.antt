@@ -60,7 +60,8 @@ module _ {regions : List Grant} {words : ℕ → ℕ} {bins : Bins} {index : ℕ
       let next : b + d + 1 ≡ b + suc d = omega arith in
       let s = ap least_size next in
       none_both index (least_size b) (least_size (b + d)) (least_size (b + suc d)) before
-      (none_from (least_size (b + d)) (least_size (b + d)) (least_size (b + suc d)) (omega arith) (λ n above below. here n (omega (arith, l)) (omega (arith, e, s))))
+      (none_from (least_size (b + d)) (least_size (b + d)) (least_size (b + suc d)) (omega arith)
+      (λ n above below. here n (omega (arith, l)) (omega (arith, e, s))))
 
   pub none_between : (b c : ℕ) → b ≤ c → c < 32 → ((other : ℕ) → b ≤ other → other < c → bit_at bins.tree_map other ≡ 0) →
       IsNone index (least_size b) (least_size c)

@@ -125,7 +125,9 @@ module _ {regions : List Grant} {old : ℕ → ℕ} {index : ℕ → List ℕ} {
         (λ m a b c c_is k some' few. let c_in = in_minus size chunk (without_size s index) m c c_is in
         stored.elsewhere (c + 8 * k) (t_word leaves.some leaves.held m c k (in_without s index m c c_in) some' few)
         (t_no_slot leaves.some leaves.held side m c k (in_without s index m c c_in) (t_other leaves.some leaves.held m c at c_in at_in) few)) trie_there in
-        trie_reindexed new bin (without_chunk size chunk (without_size s index)) (without_size s (without_chunk size chunk index)) at low2 n left (λ m a b. without_changed (removed chunk) s size index m not_same) now
+        trie_reindexed new bin (without_chunk size chunk (without_size s index))
+        (without_size s (without_chunk size chunk index)) at low2 n left
+        (λ m a b. without_changed (removed chunk) s size index m not_same) now
 
     opened_new : Opened new (without_chunk size chunk index) bin parent low (levels - 1) at
     opened_new =
@@ -133,9 +135,11 @@ module _ {regions : List Grant} {old : ℕ → ℕ} {index : ℕ → List ℕ} {
         let n = levels - 1 in
         let low2 = low_at side low (width n) in
         turned new (without_chunk size chunk index) q side left (minus_other size chunk index s not_same) kept stored.here here_new
-        (λ m a b. without_changed (removed chunk) s size index m not_same ∙ minus_other size chunk (without_size s index) m (λ e. halves_apart side low (width n) m a b
+        (λ m a b. without_changed (removed chunk) s size index m not_same
+        ∙ minus_other size chunk (without_size s index) m (λ e. halves_apart side low (width n) m a b
         (subst (λ y. low2 ≤ y) (sym e) above) (subst (λ y. y < low2 + width n) (sym e) below)))
-        (λ c c_in k few. t_no_slot leaves.some leaves.held side s c k (later_in c q.node.chunks c_in) (λ e. (t_once leaves.some leaves.held).0 (subst (λ y. IsIn y q.node.others) e c_in)) few)
+        (λ c c_in k few. t_no_slot leaves.some leaves.held side s c k (later_in c q.node.chunks c_in)
+        (λ e. (t_once leaves.some leaves.held).0 (subst (λ y. IsIn y q.node.others) e c_in)) few)
         (λ m c c_in k few. t_no_slot leaves.some leaves.held side m c k (in_without s index m c c_in) (t_other leaves.some leaves.held m c at c_in at_in) few)
 
     pub one_trie : IsTrie new (without_chunk size chunk index) bin parent low levels at
@@ -153,7 +157,8 @@ module _ {regions : List Grant} {old : ℕ → ℕ} {index : ℕ → List ℕ} {
           | inr (inl x) ↦ omega (arith, i.1.1.1, i.1.1.0)
           | inr (inr (less, x)) ↦ omega arith
         ])
-        ∙ words_there p word (λ m c a b c_in. let h = in_half side low (width n) m a b in out m c h.0 (omega (arith, h.1, w)) (in_without q.node.size index m c c_in))
+        ∙ words_there p word (λ m c a b c_in. let h = in_half side low (width n) m a b in
+        out m c h.0 (omega (arith, h.1, w)) (in_without q.node.size index m c c_in))
 
   module _ {mid new : ℕ → ℕ} {low' left : ℕ} (low_is : low' ≡ low_at side low half)
       (trie : (index' : ℕ → List ℕ) → IsHeld regions old index' bin at low' (levels - 1) child → IsIn chunk (index' size) →

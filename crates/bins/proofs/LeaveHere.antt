@@ -50,21 +50,25 @@ module _ {regions : List Grant} {old : ℕ → ℕ} {index : ℕ → List ℕ} {
 
   pub u_alone : old (at + 24) ≡ at → index size ≡ at ∷ []
   u_alone is =
-      ap index (sym size_is) ∙ (node.node.chunks ∙ ap (λ (cs : List ℕ). at ∷ cs) (alone_in node.node.others (sym is ∙ node.node.ring.begins) (t_once some held).0))
+      ap index (sym size_is) ∙ (node.node.chunks ∙ ap (λ (cs : List ℕ). at ∷ cs)
+      (alone_in node.node.others (sym is ∙ node.node.ring.begins) (t_once some held).0))
 
   -- ---- a chunk that is not the oldest
   module _ (chunk : ℕ) (chunk_in : IsIn chunk (index size)) (younger : chunk ≢ at) where
     in_others : IsIn chunk node.node.others
     in_others =
-        elim (subst (λ (cs : List ℕ). IsIn chunk cs) node.node.chunks (subst (λ s. IsIn chunk (index s)) (sym size_is) chunk_in)) [ inl is ↦ absurd (younger is) | inr is ↦ is ]
+        elim (subst (λ (cs : List ℕ). IsIn chunk cs) node.node.chunks (subst (λ s. IsIn chunk (index s)) (sym size_is)
+        chunk_in)) [ inl is ↦ absurd (younger is) | inr is ↦ is ]
 
     pub u_front : IsWordPlace regions (old (chunk + 16) + 24)
     u_front =
-        chunk_place held.chunks held.large node.node.size (old (chunk + 16)) 3 (prev_in chunk held.chunks held.large node in_others refl refl) (omega arith) (omega arith)
+        chunk_place held.chunks held.large node.node.size (old (chunk + 16)) 3
+        (prev_in chunk held.chunks held.large node in_others refl refl) (omega arith) (omega arith)
 
     pub u_back : IsWordPlace regions (old (chunk + 24) + 16)
     u_back =
-        chunk_place held.chunks held.large node.node.size (old (chunk + 24)) 2 (next_in chunk held.chunks held.large node in_others refl refl) (omega arith) (omega arith)
+        chunk_place held.chunks held.large node.node.size (old (chunk + 24)) 2
+        (next_in chunk held.chunks held.large node in_others refl refl) (omega arith) (omega arith)
 
     pub u_apart : old (chunk + 16) + 24 ≢ old (chunk + 24) + 16
     u_apart = pulled_apart chunk held.chunks held.large node in_others refl refl
@@ -79,7 +83,8 @@ module _ {regions : List Grant} {old : ℕ → ℕ} {index : ℕ → List ℕ} {
 
   -- ---- the oldest, with an heir
   module _ {heir : ℕ} (heir_is : heir ≡ old (at + 24)) (other : heir ≢ at) {new : ℕ → ℕ}
-      (given : (mid : ℕ → ℕ) × (HasHeirLinks regions old heir (old (at + 16)) mid × HasPlaced regions mid heir (both (old (at + 32)) (old (at + 40))) parent bin new)) where
+      (given : (mid : ℕ → ℕ) × (HasHeirLinks regions old heir (old (at + 16)) mid × HasPlaced regions mid heir
+      (both (old (at + 32)) (old (at + 40))) parent bin new)) where
     pub u_heir : IsTrie new (without_chunk size at index) bin parent low levels heir
     u_heir = closed_at at (heir_opened held.chunks held.large node heir_is other given.1.0 given.1.1)
 

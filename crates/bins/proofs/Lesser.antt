@@ -174,14 +174,17 @@ module _ {regions : List Grant} {old : ℕ → ℕ} {index : ℕ → List ℕ} {
     pub least_search : IsSearched rest (under side) (under side + width (levels - 1)) now.size now.chunk result →
         IsSearched index low (low + width levels) known.size known.chunk result
     least_search h = subst (λ high. IsSearched index low high known.size known.chunk result) high_is
-        (searched_up index node.node.size at node.node.others node.node.chunks low (low + 2 * width (levels - 1)) node.node.below known.size known.chunk now result
-        (other_is low (λ e. omega arith)) (same_is low (λ e. absurd (let a = node.node.above in omega (arith, own_is)))) node.node.above (below_search side refl h))
+        (searched_up index node.node.size at node.node.others node.node.chunks low (low + 2 * width (levels - 1))
+        node.node.below known.size known.chunk now result
+        (other_is low (λ e. omega arith)) (same_is low (λ e. absurd (let a = node.node.above in omega (arith, own_is))))
+        node.node.above (below_search side refl h))
 
   -- the least from a size on
   module _ (above' : low ≤ least) {side : Bool} {half place child right : ℕ} (step : IsDescent old low levels at least side half place child)
       {low' : ℕ} (low_is : low' ≡ low_at side low half) {beside beside_levels : ℕ} {next : Subtrie}
       (next_is : IsNext old levels at side right beside beside_levels next)
-      (found : (i : ℕ → List ℕ) → IsReadable regions old i low' (levels - 1) child → (n : ℕ → List ℕ) → (n_low : ℕ) → IsReadable regions old n n_low next.levels next.at → low' + width (levels - 1) ≤ n_low →
+      (found : (i : ℕ → List ℕ) → IsReadable regions old i low' (levels - 1) child → (n : ℕ → List ℕ) → (n_low : ℕ) →
+      IsReadable regions old n n_low next.levels next.at → low' + width (levels - 1) ≤ n_low →
       IsFound i least (low' + width (levels - 1)) n n_low (n_low + width next.levels) now.size now.chunk result)
       {beyond : ℕ → List ℕ} {beside_low : ℕ} (beside_read : IsReadable regions old beyond beside_low beside_levels beside)
       (apart : low + width levels ≤ beside_low) where
@@ -236,13 +239,16 @@ module _ {regions : List Grant} {old : ℕ → ℕ} {index : ℕ → List ℕ} {
           let w = width (levels - 1) in
           let l = lower_high side low half (sym is) in
           let empty = none_in old rest r.bin at (low + w) (levels - 1) zero (right_trie right next_is.right_is) in
-          went_on (inr zero) (λ none m a b. none_both rest least (low + w) (low + w + w) (λ n c d. none n c (omega (arith, l, low_is, step.half_is))) empty m a (omega arith))
+          went_on (inr zero) (λ none m a b. none_both rest least (low + w) (low + w + w)
+          (λ n c d. none n c (omega (arith, l, low_is, step.half_is))) empty m a (omega arith))
     ]
 
     pub fit_search : IsFound index least (low + width levels) beyond beside_low (beside_low + width beside_levels) known.size known.chunk result
     fit_search = subst (λ high. IsFound index least high beyond beside_low (beside_low + width beside_levels) known.size known.chunk result) high_is
-        (both_up index node.node.size at node.node.others node.node.chunks least (low + 2 * width (levels - 1)) node.node.below known.size known.chunk now result
-        (other_is least (λ e. e)) (same_is least (λ e. e)) beyond beside_low (beside_low + width beside_levels) (omega (arith, high_is, apart)) (below_node side refl))
+        (both_up index node.node.size at node.node.others node.node.chunks least (low + 2 * width (levels - 1))
+        node.node.below known.size known.chunk now result
+        (other_is least (λ e. e)) (same_is least (λ e. e)) beyond beside_low (beside_low + width beside_levels)
+        (omega (arith, high_is, apart)) (below_node side refl))
 
 -- the node has the size itself
 pub exact_search : {regions : List Grant} {old : ℕ → ℕ} {index : ℕ → List ℕ} {low levels at : ℕ} → 0 < at →
@@ -254,7 +260,8 @@ exact_search {index = index} {low = low} {levels = levels} {at = at} some r {siz
     let own : Fit = record { size = o.node.size; chunk = at } in record {
       fit = own;
       is = subst (λ high. IsBestFit index size high own) (s_high some r)
-          (own_fit index o.node.size at o.node.others o.node.chunks size (low + 2 * width (levels - 1)) own refl refl (omega (arith, s)) o.node.below (λ m a b. absurd (omega (arith, s))));
+          (own_fit index o.node.size at o.node.others o.node.chunks size (low + 2 * width (levels - 1)) own refl refl
+          (omega (arith, s)) o.node.below (λ m a b. absurd (omega (arith, s))));
       found = λ e. refl;
       kept = λ e. absurd (omega (arith, s));
     }
@@ -267,7 +274,8 @@ module _ {regions : List Grant} {old : ℕ → ℕ} {index : ℕ → List ℕ} {
     (there : (beyond : ℕ → List ℕ) × ((beside_low : ℕ) × IsReadable regions old beyond beside_low beside_levels beside)) where
   abbrev IsNextRead : Type 0
   IsNextRead =
-      (levels - 1 ≤ next.levels) × ((next.levels ≤ beside_levels) × ((beyond : ℕ → List ℕ) × ((next_low : ℕ) × IsReadable regions old beyond next_low next.levels next.at)))
+      (levels - 1 ≤ next.levels) × ((next.levels ≤ beside_levels) × ((beyond : ℕ →
+      List ℕ) × ((next_low : ℕ) × IsReadable regions old beyond next_low next.levels next.at)))
 
   kept : (side ≡ true) ⊎ (right ≡ 0) → IsNextRead
   kept is =
@@ -284,7 +292,8 @@ module _ {regions : List Grant} {old : ℕ → ℕ} {index : ℕ → List ℕ} {
         let e = next_is.turns (sym is) (omega arith) in
         let l = ap (λ (n : Subtrie). n.levels) e in
         let read = s_child some r true next_is.right_is refl in
-        let read' = subst (λ (n : Subtrie). IsReadable regions old (without_size (q some r).node.size index) (low + width (levels - 1)) n.levels n.at) (sym e) read in
+        let read' = subst (λ (n : Subtrie). IsReadable regions old (without_size (q some r).node.size index)
+        (low + width (levels - 1)) n.levels n.at) (sym e) read in
         (omega (arith, l), (omega (arith, l), (without_size (q some r).node.size index, (low + width (levels - 1), read'))))
   ]
 

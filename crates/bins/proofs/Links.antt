@@ -76,5 +76,7 @@ module _ (old new : ℕ → ℕ) where
       AreLinked old mark (front ++ chunk ∷ back) mark → AreLinked new mark (front ++ back) mark
   linked_without mark front chunk back distinct fp fn fl bn bp bf h =
       join new mark front back mark
-      (turned_last mark front chunk (first_or mark back) (distinct_front front (chunk ∷ back) distinct) fp fn fl (front_of old mark front (chunk ∷ back) mark h))
-      (turned_first chunk (last_or mark front) back mark (distinct_back front (chunk ∷ back) distinct).1 bn bp bf (back_of old mark front (chunk ∷ back) mark h).2)
+      (turned_last mark front chunk (first_or mark back) (distinct_front front (chunk ∷ back) distinct) fp fn fl
+      (front_of old mark front (chunk ∷ back) mark h))
+      (turned_first chunk (last_or mark front) back mark (distinct_back front (chunk ∷ back) distinct).1 bn bp bf
+      (back_of old mark front (chunk ∷ back) mark h).2)

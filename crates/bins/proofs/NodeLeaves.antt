@@ -59,7 +59,8 @@ module _ {regions : List Grant} {old : ℕ → ℕ} {bins : Bins} {index : ℕ �
     top : IsHeld regions old (from (least_size b) index) b (128 + b) (low_of b) (levels_of b) (slice_index bins.roots b)
     top = t_held linked at_top
 
-    stands : (chunk ≡ slice_index bins.roots b) ⊎ ((up : ℕ) × IsBelow regions old (from (least_size b) index) b (128 + b) (low_of b) (levels_of b) (slice_index bins.roots b) size chunk up)
+    stands : (chunk ≡ slice_index bins.roots b) ⊎ ((up : ℕ) × IsBelow regions old (from (least_size b) index) b (128 + b)
+        (low_of b) (levels_of b) (slice_index bins.roots b) size chunk up)
     stands =
         let f = first_is chunk (index size) chunk_in oldest in
         by_parent regions old b size chunk f.0 (levels_of b) (omega arith)
@@ -87,11 +88,13 @@ module _ {regions : List Grant} {old : ℕ → ℕ} {bins : Bins} {index : ℕ �
     is_root : chunk ≡ slice_index bins.roots bin → parent ≡ 128 + bin
     is_root is = parent_is ∙ (top_words n_bin is).0
 
-    place : (chunk ≡ slice_index bins.roots bin) ⊎ IsBelow regions old (from (least_size bin) index) bin (128 + bin) (low_of bin) (levels_of bin) (slice_index bins.roots bin) size chunk parent
+    place : (chunk ≡ slice_index bins.roots bin) ⊎ IsBelow regions old (from (least_size bin) index) bin (128 + bin)
+        (low_of bin) (levels_of bin) (slice_index bins.roots bin) size chunk parent
     place = elim (stands n_bin) [
       | inl is ↦ inl is
       | inr (up, below) ↦
-          inr (subst (λ u. IsBelow regions old (from (least_size bin) index) bin (128 + bin) (low_of bin) (levels_of bin) (slice_index bins.roots bin) size chunk u)
+          inr (subst (λ u. IsBelow regions old (from (least_size bin) index) bin (128 + bin) (low_of bin) (levels_of bin)
+          (slice_index bins.roots bin) size chunk u)
           (sym (parent_is ∙ (root_words n_some below.held).0)) below)
     ]
 
@@ -118,7 +121,8 @@ module _ {regions : List Grant} {old : ℕ → ℕ} {bins : Bins} {index : ℕ �
     few : levels_of bin ≤ 61
     few = levels_few bin n_bin.within
 
-    pub n_held : (own : ℕ → List ℕ) × ((low : ℕ) × ((deep : ℕ) × ((size : ℕ) × ((deep ≤ 61) × (IsHeld regions old own bin parent low deep chunk × IsIn chunk (own size))))))
+    pub n_held : (own : ℕ → List ℕ) × ((low : ℕ) × ((deep : ℕ) × ((size : ℕ) × ((deep ≤ 61) × (IsHeld regions old own bin
+        parent low deep chunk × IsIn chunk (own size))))))
     n_held = elim place [
       | inl is ↦ (from (least_size bin) index, (low_of bin, (levels_of bin, (size, (few, (root_held is, root_in))))))
       | inr below ↦ (below.own, (below.from, (below.deep, (size, (let l = below.less in let f = few in omega arith, (below.held, below.is_in))))))
@@ -162,7 +166,8 @@ module _ {regions : List Grant} {old : ℕ → ℕ} {bins : Bins} {index : ℕ �
         n_was = (u.side, (u.kept mid own_words u.side ∙ u.here, λ is. u.there (sym (u.kept mid own_words (not u.side)) ∙ is)))
 
         module _ (new : ℕ → ℕ)
-            (stored : (side : Bool) → mid (parent + slot side) ≡ chunk → mid (parent + slot (not side)) ≢ chunk → IsStored regions mid (parent + slot side) left new) where
+            (stored : (side : Bool) → mid (parent + slot side) ≡ chunk → mid (parent + slot (not side)) ≢ chunk →
+            IsStored regions mid (parent + slot side) left new) where
           there : IsStored regions mid (parent + slot u.side) left new
           there = stored u.side (u.kept mid own_words u.side ∙ u.here) (λ is. u.there (sym (u.kept mid own_words (not u.side)) ∙ is))
 

@@ -18,7 +18,8 @@ use Rattle.bins.proofs.TreeEntry.{chunks_from}
 -- two rings with the same ends have the same chunks
 same_chunks : (words : ℕ → ℕ) (before behind : ℕ) (chunks others : List ℕ) → AreLinked words before chunks behind →
     AreLinked words before others behind →
-    first_or behind chunks ≡ first_or behind others → ((chunk : ℕ) → IsIn chunk chunks → chunk ≢ behind) → ((chunk : ℕ) → IsIn chunk others → chunk ≢ behind) → chunks ≡ others
+    first_or behind chunks ≡ first_or behind others → ((chunk : ℕ) → IsIn chunk chunks → chunk ≢ behind) →
+    ((chunk : ℕ) → IsIn chunk others → chunk ≢ behind) → chunks ≡ others
 same_chunks words before behind [] [] linked linked' first real real' = refl
 same_chunks words before behind [] (d ∷ ds) linked linked' first real real' = absurd (real' d (inl refl) (sym first))
 same_chunks words before behind (c ∷ cs) [] linked linked' first real real' = absurd (real c (inl refl) first)
@@ -69,7 +70,8 @@ module _ (words : ℕ → ℕ) (bin : ℕ) where
             let h = half_with low (width levels) n above below in
             let child : q.child h.0 ≡ p.child h.0 = sym (q.child_is h.0) ∙ p.child_is h.0 in
             let theirs = subst (λ a. IsTrie words (without_size q.size other) bin at (low_at h.0 low (width levels)) levels a) child (qs h.0) in
-            let below' = same_trie (without_size p.size index) (without_size q.size other) at (low_at h.0 low (width levels)) levels (p.child h.0) (ps h.0) theirs
+            let below' = same_trie (without_size p.size index) (without_size q.size other) at
+            (low_at h.0 low (width levels)) levels (p.child h.0) (ps h.0) theirs
             (λ m. distinct_if (m == p.size) (index m) (once m)) (λ m. distinct_if (m == q.size) (other m) (once' m)) n h.1 h.2 in
             sym (without_other p.size index n apart) ∙ (below' ∙ without_other q.size other n (λ e. apart (e ∙ sym size)))
       ]
@@ -97,14 +99,16 @@ module _ (regions : List Grant) (words : ℕ → ℕ) (bins : Bins) where
     | inl whole ↦
         let size : 8 * (n / 8) ≡ n = omega arith in
         let same = same_ring (linked.small (n / 8) (omega arith)).ring (linked'.small (n / 8) (omega arith)).ring
-        (λ c is e. let h = (linked.chunks.each (8 * (n / 8)) c is).low in omega arith) (λ c is e. let h = (linked'.chunks.each (8 * (n / 8)) c is).low in omega arith) in
+        (λ c is e. let h = (linked.chunks.each (8 * (n / 8)) c is).low in omega arith)
+        (λ c is e. let h = (linked'.chunks.each (8 * (n / 8)) c is).low in omega arith) in
         ap index (sym size) ∙ (same ∙ ap other size)
   ]
 
   large_one : {index other : ℕ → List ℕ} → IsLinked regions words bins index → IsLinked regions words bins other → {n b : ℕ} →
       n < 2 ^ 64 → IsTreeIndex n b → index n ≡ other n
   large_one {index = index} {other = other} linked linked' {n = n} {b = b} few in_bin =
-      let same = same_trie words b (from (least_size b) index) (from (least_size b) other) (128 + b) (low_of b) (levels_of b) (slice_index bins.roots b) (linked.large b in_bin.within).trie (linked'.large b in_bin.within).trie
+      let same = same_trie words b (from (least_size b) index) (from (least_size b) other) (128 + b) (low_of b)
+      (levels_of b) (slice_index bins.roots b) (linked.large b in_bin.within).trie (linked'.large b in_bin.within).trie
       (chunks_from (least_size b) linked.chunks).once (chunks_from (least_size b) linked'.chunks).once n (bin_low in_bin) (bin_end few in_bin) in
       sym (from_same (least_size b) index n in_bin.reached) ∙ (same ∙ from_same (least_size b) other n in_bin.reached)
 

@@ -97,7 +97,8 @@ module _ {old : ℕ → ℕ} (new : ℕ → ℕ) {index : ℕ → List ℕ} (ind
     (k : ℕ) → 0 < k → 8 * k < 64 → c + 8 * k ≢ at + slot side → new (c + 8 * k) ≡ old (c + 8 * k))
     (named : new (at + slot side) ≡ child)
     (held : IsTrie new (without_size o.node.size index') bin at (low_at side low (width n)) n child)
-    (alike : AreAlike (without_size o.node.size index) (without_size o.node.size index') (low_at (not side) low (width n)) (low_at (not side) low (width n) + width n))
+    (alike : AreAlike (without_size o.node.size index) (without_size o.node.size index') (low_at (not side) low (width n))
+    (low_at (not side) low (width n) + width n))
     (alone : (c : ℕ) → IsIn c o.node.others → (k : ℕ) → 8 * k < 64 → c + 8 * k ≢ at + slot side)
     (others_apart : (m c : ℕ) → IsIn c (without_size o.node.size index m) → (k : ℕ) → 8 * k < 64 → c + 8 * k ≢ at + slot side) where
   -- the index of the children, and where their ranges begin
@@ -134,7 +135,9 @@ module _ {old : ℕ → ℕ} (new : ℕ → ℕ) {index : ℕ → List ℕ} (ind
         ring = record {
           begins = word 3 (omega arith) (omega arith) (λ is. omega arith) (λ is. omega arith) ∙ d.ring.begins;
           ends = word 2 (omega arith) (omega arith) (λ is. omega arith) (λ is. omega arith) ∙ d.ring.ends;
-          linked = linked_kept old new at d.others at (λ c is k some few. kept d.size c (later_in c d.chunks is) (inl refl) k some (omega arith) (alone c is k (omega arith))) d.ring.linked;
+          linked = linked_kept old new at d.others at (λ c is k some few.
+              kept d.size c (later_in c d.chunks is) (inl refl) k some (omega arith) (alone c is k (omega arith)))
+              d.ring.linked;
         };
         child_is = on_sides side (λ b. new (at + slot b) ≡ put side child (d.child (not side)) b)
             (named ∙ sym (put_here side child (d.child (not side))))
@@ -148,7 +151,9 @@ module _ {old : ℕ → ℕ} (new : ℕ → ℕ) {index : ℕ → List ℕ} (ind
   turned =
       let s = o.node.size in
       let stays = trie_kept old new bin rest at (under (not side)) n (o.node.child (not side))
-      (λ m low' high' c is k some few. kept m c (in_without s index m c is) (inr (halves_apart side low (width n) m low' high')) k some few (others_apart m c is k few)) (o.children (not side)) in
+      (λ m low' high' c is k some few. kept m c (in_without s index m c is)
+      (inr (halves_apart side low (width n) m low' high')) k some few (others_apart m c is k few))
+      (o.children (not side)) in
       let there = trie_reindexed new bin rest (without_size s index') at (under (not side)) n (o.node.child (not side)) alike stays in
       record {
         node = turned_node;
@@ -170,7 +175,8 @@ module _ {old : ℕ → ℕ} (new : ℕ → ℕ) {index : ℕ → List ℕ} {bin
   pub rebuilt : Opened new (with_chunk size chunk index) bin parent low n at
   rebuilt =
       let s = o.node.size in
-      let here = trie_reindexed new bin (with_chunk size chunk (without_size s index)) (without_size s (with_chunk size chunk index)) at (low_at side low (width n)) n child
+      let here = trie_reindexed new bin (with_chunk size chunk (without_size s index))
+      (without_size s (with_chunk size chunk index)) at (low_at side low (width n)) n child
       (λ m a b. without_changed (λ (cs : List ℕ). cs ++ chunk ∷ []) s size index m apart) held in
       turned new (with_chunk size chunk index) o side child (with_other size chunk index s apart) kept named here
       (λ m a b. without_unchanged (λ (cs : List ℕ). cs ++ chunk ∷ []) s size index m (λ is. absurd (halves_apart side low (width n) m a b

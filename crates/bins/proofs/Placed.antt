@@ -58,7 +58,8 @@ module _ {regions : List Grant} {mid new : ℕ → ℕ} {index : ℕ → List �
       (λ side real e. elim (same_or_not c (child side)) [
         | inl same ↦ no_child side real same (omega arith)
         | inr other ↦
-            (let r = root side real in words_apart chunks large m c r.size (child side) k 48 c_in (in_without size index r.size (child side) r.is) other few (omega arith) e)
+            (let r = root side real in words_apart chunks large m c r.size (child side) k 48 c_in
+            (in_without size index r.size (child side) r.is) other few (omega arith) e)
       ])
 
   -- a chunk of one half is not the node of the other
@@ -66,7 +67,8 @@ module _ {regions : List Grant} {mid new : ℕ → ℕ} {index : ℕ → List �
       IsIn c (without_size size index m) → 0 < child (not side) → c ≢ child (not side)
   half_apart side m c a b c_in real same =
       let r = root (not side) real in
-      let one = one_size m r.size c chunks (in_without size index m c c_in) (in_without size index r.size c (subst (λ y. IsIn y (without_size size index r.size)) (sym same) r.is)) in
+      let one = one_size m r.size c chunks (in_without size index m c c_in)
+      (in_without size index r.size c (subst (λ y. IsIn y (without_size size index r.size)) (sym same) r.is)) in
       halves_apart side low (width n) r.size r.above r.below (omega arith) (omega arith)
 
   pub placed_opened : Opened new index bin parent low n x
@@ -97,7 +99,8 @@ module _ {regions : List Grant} {mid new : ℕ → ℕ} {index : ℕ → List �
           bin_is = placed.bin_is;
         };
         children = λ side. adopted new bin (parent_of side) x (chunks_without size chunks) (low_at side low (width n)) n (child side)
-            (λ m d a b d_in k some few own_child. placed_word m d k (in_without size index m d d_in) some few (λ e. absurd (size_apart chunks size m d x d_in x_in e))
+            (λ m d a b d_in k some few own_child. placed_word m d k (in_without size index m d d_in) some few
+            (λ e. absurd (size_apart chunks size m d x d_in x_in e))
             (on_sides side (λ s. 0 < child s → d ≡ child s → k ≢ 6) (λ real e. own_child e) (λ real e. absurd (half_apart side m d a b d_in real e))))
             (placed.adopted side) (tries side);
       }

@@ -28,7 +28,9 @@ pub in_minus : (size chunk : ℕ) (index : ℕ → List ℕ) (n other : ℕ) →
 in_minus size chunk index n other is = elim (same_or_not n size) [
   | inr not ↦ subst (λ (cs : List ℕ). IsIn other cs) (minus_other size chunk index n not) is
   | inl same ↦
-      subst (λ m. IsIn other (index m)) (sym same) (in_removed other chunk (index size) (subst (λ (cs : List ℕ). IsIn other cs) (ap (without_chunk size chunk index) same ∙ minus_same size chunk index) is))
+      subst (λ m. IsIn other (index m)) (sym same) (in_removed other chunk (index size)
+      (subst (λ (cs : List ℕ). IsIn other cs) (ap (without_chunk size chunk index) same ∙ minus_same size chunk index)
+      is))
 ]
 
 -- where a chunk stands in its ring
@@ -162,14 +164,18 @@ module _ {regions : List Grant} {old : ℕ → ℕ} {bins : Bins} {index : ℕ �
               (λ is. not_tag size next (in_ring_back next is)) less.last_new less.last_same;
           linked = linked_without old new tag p.front chunk p.back p.distinct
               (λ c is. same_word size c 2 (in_ring_front c is) (omega arith) (omega arith) (λ same k. omega arith)
-              (λ same k. apart c p.front (chunk ∷ p.back) p.distinct is (inr (subst (λ x. IsIn x p.back) (sym same) (next_in (λ t. not_tag size c (in_ring_front c is) (same ∙ t)))))))
+              (λ same k. apart c p.front (chunk ∷ p.back) p.distinct is (inr
+              (subst (λ x. IsIn x p.back) (sym same) (next_in (λ t. not_tag size c (in_ring_front c is) (same ∙ t)))))))
               (λ c is not. same_word size c 3 (in_ring_front c is) (omega arith) (omega arith) (λ same k. not (same ∙ p.prev_is)) (λ same k. omega arith))
-              (λ c is same. let e : c ≡ prev = same ∙ sym p.prev_is in ap (λ x. new (x + 24)) e ∙ (pulled.front (λ t. not_tag size c (in_ring_front c is) (e ∙ t)) ∙ p.next_is))
+              (λ c is same. let e : c ≡ prev = same ∙ sym p.prev_is in ap (λ x. new (x + 24)) e
+              ∙ (pulled.front (λ t. not_tag size c (in_ring_front c is) (e ∙ t)) ∙ p.next_is))
               (λ c is. same_word size c 3 (in_ring_back c is) (omega arith) (omega arith)
-              (λ same k. apart c p.front (chunk ∷ p.back) p.distinct (subst (λ x. IsIn x p.front) (sym same) (prev_in (λ t. not_tag size c (in_ring_back c is) (same ∙ t)))) (inr is))
+              (λ same k. apart c p.front (chunk ∷ p.back) p.distinct (subst (λ x. IsIn x p.front) (sym same)
+              (prev_in (λ t. not_tag size c (in_ring_back c is) (same ∙ t)))) (inr is))
               (λ same k. omega arith))
               (λ c is not. same_word size c 2 (in_ring_back c is) (omega arith) (omega arith) (λ same k. omega arith) (λ same k. not (same ∙ p.next_is)))
-              (λ c is same. let e : c ≡ next = same ∙ sym p.next_is in ap (λ x. new (x + 16)) e ∙ (pulled.back (λ t. not_tag size c (in_ring_back c is) (e ∙ t)) ∙ p.prev_is))
+              (λ c is same. let e : c ≡ next = same ∙ sym p.next_is in ap (λ x. new (x + 16)) e
+              ∙ (pulled.back (λ t. not_tag size c (in_ring_back c is) (e ∙ t)) ∙ p.prev_is))
               p.linked;
         }
 
@@ -184,7 +190,8 @@ module _ {regions : List Grant} {old : ℕ → ℕ} {bins : Bins} {index : ℕ �
       once = λ n. elim (same_or_not n size) [
         | inr not ↦ subst (λ (cs : List ℕ). AreDistinct cs) (sym (minus_other size chunk index n not)) (linked.chunks.once n)
         | inl same ↦
-            subst (λ (cs : List ℕ). AreDistinct cs) (sym (ap (without_chunk size chunk index) same ∙ index_less)) (distinct_less place.front chunk place.back place.distinct)
+            subst (λ (cs : List ℕ). AreDistinct cs) (sym (ap (without_chunk size chunk index) same ∙ index_less))
+            (distinct_less place.front chunk place.back place.distinct)
       ];
     }
 
@@ -199,7 +206,8 @@ module _ {regions : List Grant} {old : ℕ → ℕ} {bins : Bins} {index : ℕ �
     marks : {index' : List ℕ} → index' ≡ place.front ++ place.back →
         (index' ≢ [] → bit_at bins'.small_map (size / 8) ≡ 1) × (index' ≡ [] → bit_at bins'.small_map (size / 8) ≡ 0)
     marks is =
-        let was = (linked.small (size / 8) (omega arith)).marked (λ none. absurd (subst (λ (cs : List ℕ). IsIn chunk cs) (ap index (sym bin_size) ∙ none) is_in)) in (
+        let was = (linked.small (size / 8) (omega arith)).marked (λ none.
+        absurd (subst (λ (cs : List ℕ). IsIn chunk cs) (ap index (sym bin_size) ∙ none) is_in)) in (
           (λ some. elim (same_or_not prev tag) [
             | inr not ↦ less.kept_front not ∙ was
             | inl p ↦ elim (same_or_not next tag) [
@@ -208,8 +216,16 @@ module _ {regions : List Grant} {old : ℕ → ℕ} {bins : Bins} {index : ℕ �
             ]
           ]),
           (λ none. less.cleared
-              (elim (last_is tag prev place.front place.prev_is) [ inl h ↦ h.1 | inr there ↦ absurd (subst (λ (cs : List ℕ). IsIn prev cs) (sym is ∙ none) (in_front prev place.front place.back there)) ])
-              (elim (first_is tag next place.back place.next_is) [ inl h ↦ h.1 | inr there ↦ absurd (subst (λ (cs : List ℕ). IsIn next cs) (sym is ∙ none) (in_back next place.front place.back there)) ])),
+              (elim (last_is tag prev place.front place.prev_is) [
+                | inl h ↦ h.1
+                | inr there ↦ absurd
+                    (subst (λ (cs : List ℕ). IsIn prev cs) (sym is ∙ none) (in_front prev place.front place.back there))
+              ])
+              (elim (first_is tag next place.back place.next_is) [
+                | inl h ↦ h.1
+                | inr there ↦ absurd
+                    (subst (λ (cs : List ℕ). IsIn next cs) (sym is ∙ none) (in_back next place.front place.back there))
+              ])),
         ) where
           both : prev ≡ tag → next ≡ tag → place.front ++ place.back ≡ []
           both p n = elim (last_is tag prev place.front place.prev_is) [
@@ -227,7 +243,8 @@ module _ {regions : List Grant} {old : ℕ → ℕ} {bins : Bins} {index : ℕ �
         let m = marks (sym index_is) in
         record {
           ring = subst (λ (cs : List ℕ). IsRing new (64 + size / 8) (slice_index bins'.firsts (size / 8)) (slice_index bins'.lasts (size / 8)) cs) index_is
-              (subst (λ t. IsRing new t (slice_index bins'.firsts (size / 8)) (slice_index bins'.lasts (size / 8)) (place.front ++ place.back)) tag_is ring_less);
+              (subst (λ t. IsRing new t (slice_index bins'.firsts (size / 8)) (slice_index bins'.lasts (size / 8))
+              (place.front ++ place.back)) tag_is ring_less);
           marked = m.0;
           clear = m.1;
         }
@@ -243,7 +260,8 @@ module _ {regions : List Grant} {old : ℕ → ℕ} {bins : Bins} {index : ℕ �
             ends = less.lasts bin not ∙ (was.ring.ends ∙ ap (λ (cs : List ℕ). last_or (64 + bin) cs) index_is);
             linked = subst (λ (cs : List ℕ). AreLinked new (64 + bin) cs (64 + bin)) index_is
                 (linked_kept old new (64 + bin) (index (8 * bin)) (64 + bin)
-                (λ c is k some few. let long = (linked.chunks.each (8 * bin) c is).long in size_same (8 * bin) not_size c is k some (omega arith)) was.ring.linked);
+                (λ c is k some few. let long = (linked.chunks.each (8 * bin) c is).long in
+                size_same (8 * bin) not_size c is k some (omega arith)) was.ring.linked);
           };
           marked = λ some. less.map bin within not ∙ was.marked (λ none. some (sym index_is ∙ none));
           clear = λ none. less.map bin within not ∙ was.clear (index_is ∙ none);
@@ -255,10 +273,13 @@ module _ {regions : List Grant} {old : ℕ → ℕ} {bins : Bins} {index : ℕ �
         let kept = trie_kept old new bin (from (least_size bin) index) (128 + bin) (low_of bin) (levels_of bin) (slice_index bins.roots bin)
         (λ n above below c is k some few. let there = in_from (least_size bin) index n c is in let large = least_large bin in
         size_same n (λ e. omega (arith, there.1)) c there.0 k some (omega (arith, there.1))) was.trie in
-        let again = trie_reindexed new bin (from (least_size bin) index) (from (least_size bin) (without_chunk size chunk index)) (128 + bin) (low_of bin) (levels_of bin) (slice_index bins.roots bin)
+        let again = trie_reindexed new bin (from (least_size bin) index)
+        (from (least_size bin) (without_chunk size chunk index)) (128 + bin) (low_of bin) (levels_of bin)
+        (slice_index bins.roots bin)
         (λ n above below. from_unchanged (removed chunk) (least_size bin) size index n (let large = least_large bin in omega arith)) kept in
         record {
-          trie = subst (λ (rs : List ℕ). IsTrie new (from (least_size bin) (without_chunk size chunk index)) bin (128 + bin) (low_of bin) (levels_of bin) (slice_index rs bin)) (sym less.roots) again;
+          trie = subst (λ (rs : List ℕ). IsTrie new (from (least_size bin) (without_chunk size chunk index)) bin (128 + bin)
+              (low_of bin) (levels_of bin) (slice_index rs bin)) (sym less.roots) again;
           marked = λ some. ap (λ m. bit_at m bin) less.tree_map ∙ was.marked (subst (λ (rs : List ℕ). 0 < slice_index rs bin) less.roots some);
           clear = λ none. ap (λ m. bit_at m bin) less.tree_map ∙ was.clear (subst (λ (rs : List ℕ). slice_index rs bin ≡ 0) less.roots none);
         }
@@ -276,5 +297,7 @@ module _ {regions : List Grant} {old : ℕ → ℕ} {bins : Bins} {index : ℕ �
     pub pulled_words : OnlyLinksChange regions index size chunk old new
     pulled_words at word no_new no_old =
         pulled.elsewhere at word
-        (λ not is. elim (no_old size prev (in_ring_front prev (prev_in not))) [ inl low ↦ omega arith | inr (inl high) ↦ omega arith | inr (inr (less, high)) ↦ omega arith ])
-        (λ not is. elim (no_old size next (in_ring_back next (next_in not))) [ inl low ↦ omega arith | inr (inl high) ↦ omega arith | inr (inr (less, high)) ↦ omega arith ])
+        (λ not is. elim (no_old size prev (in_ring_front prev (prev_in not)))
+        [ inl low ↦ omega arith | inr (inl high) ↦ omega arith | inr (inr (less, high)) ↦ omega arith ])
+        (λ not is. elim (no_old size next (in_ring_back next (next_in not)))
+        [ inl low ↦ omega arith | inr (inl high) ↦ omega arith | inr (inr (less, high)) ↦ omega arith ])

@@ -35,5 +35,6 @@ module _ (words : ℕ → ℕ) (bin : ℕ) where
   trie_reindexed old new parent low (suc levels) at alike (inr (node, children)) = inr (
     node_reindexed new alike node,
     λ side. trie_reindexed (without_size node.size old) (without_size node.size new) at (low_at side low (width levels)) levels (node.child side)
-        (λ n above below. let half = in_half side low (width levels) n above below in ap (λ (cs : List ℕ). if n == node.size then [] else cs) (alike n half.0 half.1)) (children side),
+        (λ n above below. let half = in_half side low (width levels) n above below in
+        ap (λ (cs : List ℕ). if n == node.size then [] else cs) (alike n half.0 half.1)) (children side),
   )

@@ -92,8 +92,16 @@ module _ {regions : List Grant} {old : ℕ → ℕ} {index : ℕ → List ℕ} {
         new (c + 8 * k) ≡ old (c + 8 * k)
     pulled_word m c k c_in some few no_prev no_next =
         pulled.elsewhere (c + 8 * k) (chunk_place chunks large m c k c_in some few).word
-        (λ real e. elim (same_or_not c prev) [ inl same ↦ no_prev same (omega arith) | inr other ↦ words_apart chunks large m c o.node.size prev k 24 c_in prev_in other few (omega arith) e ])
-        (λ real e. elim (same_or_not c next) [ inl same ↦ no_next same (omega arith) | inr other ↦ words_apart chunks large m c o.node.size next k 16 c_in next_in other few (omega arith) e ])
+        (λ real e. elim (same_or_not c prev) [
+          | inl same ↦ no_prev same (omega arith)
+          | inr other ↦ words_apart chunks large
+              m c o.node.size prev k 24 c_in prev_in other few (omega arith) e
+        ])
+        (λ real e. elim (same_or_not c next) [
+          | inl same ↦ no_next same (omega arith)
+          | inr other ↦ words_apart chunks large
+              m c o.node.size next k 16 c_in next_in other few (omega arith) e
+        ])
 
     ring_less : IsRing new at (new (at + 24)) (new (at + 16)) (place.front ++ place.back)
     ring_less =
@@ -141,7 +149,8 @@ module _ {regions : List Grant} {old : ℕ → ℕ} {index : ℕ → List ℕ} {
           children = λ side.
               let stays = trie_kept old new bin rest at (under side) n (d.child side)
               (λ m a b c is k some few. pulled_word m c k (in_without d.size index m c is) some few
-              (λ e. absurd (size_apart chunks d.size m c prev is prev_in e)) (λ e. absurd (size_apart chunks d.size m c next is next_in e))) (o.children side) in
+              (λ e. absurd (size_apart chunks d.size m c prev is prev_in e))
+              (λ e. absurd (size_apart chunks d.size m c next is next_in e))) (o.children side) in
               trie_reindexed new bin rest (without_size d.size (without_chunk d.size chunk index)) at (under side) n (d.child side)
               (λ m a b. without_unchanged (removed chunk) d.size d.size index m (λ is. is)) stays;
         }

@@ -33,7 +33,8 @@ module _ {regions : List Grant} {old : ℕ → ℕ} {index : ℕ → List ℕ} {
     head : new (chunk + 8) ≡ old (chunk + 8)
     head =
         let f = fresh.is in
-        kept 1 (omega arith) (omega arith) ∙ links.elsewhere (chunk + 8) (f.granted (chunk + 8) (omega arith) (omega arith) (omega (arith, f.aligned))) (inl (omega arith))
+        kept 1 (omega arith) (omega arith) ∙ links.elsewhere (chunk + 8)
+        (f.granted (chunk + 8) (omega arith) (omega arith) (omega (arith, f.aligned))) (inl (omega arith))
 
     root_opened : Opened new (with_chunk size chunk index) bin parent low (levels - 1) chunk
     root_opened =
@@ -49,7 +50,12 @@ module _ {regions : List Grant} {old : ℕ → ℕ} {index : ℕ → List ℕ} {
             below = omega (arith, w);
             chunks = with_same size chunk index ∙ ap (λ (cs : List ℕ). cs ++ chunk ∷ []) (none size above below);
             head = ap size_of head ∙ f.head;
-            ring = record { begins = kept 3 (omega arith) (omega arith) ∙ links.next_is; ends = kept 2 (omega arith) (omega arith) ∙ links.prev_is; linked = tt };
+            ring = record {
+              begins = kept 3 (omega arith) (omega arith) ∙ links.next_is;
+              ends =
+                  kept 2 (omega arith) (omega arith) ∙ links.prev_is;
+              linked = tt;
+            };
             child_is = λ b. elim b as (λ x. new (chunk + slot x) ≡ 0) [ false ↦ node.child0_is | true ↦ node.child1_is ];
             parent_is = node.parent_is;
             bin_is = node.bin_is;

@@ -63,7 +63,8 @@ next_scaled true low half size scale above below scaled is in_low in_high =
 
 pub next_is : (low : ℕ) {half : ℕ} (size : ℕ) {bits : ℕ} (levels : ℕ) {low' next : ℕ} (side : Bool) → 0 < levels → levels ≤ 61 →
     half ≡ width (levels - 1) → low ≤ size → size < low + width levels → bits ≡ (size - low) * 2 ^ (61 - levels) →
-    low' ≡ low_at side low half → low_at side low half ≤ size → size < low_at side low half + half → next ≡ 2 * bits % 2 ^ 64 → next ≡ (size - low') * 2 ^ (61 - (levels - 1))
+    low' ≡ low_at side low half → low_at side low half ≤ size → size < low_at side low half + half →
+    next ≡ 2 * bits % 2 ^ 64 → next ≡ (size - low') * 2 ^ (61 - (levels - 1))
 next_is low {half = half} size {bits = bits} levels {low' = low'} side some few half_is above below bits_is low_is in_low in_high is =
     let w = wide levels some in
     let p = pow-add 2 1 (61 - levels) in

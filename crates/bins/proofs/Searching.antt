@@ -27,7 +27,8 @@ module _ (index : ℕ → List ℕ) (s at : ℕ) (others : List ℕ) (chunks : i
   fit_up {from = from} {high = high} {f = f} fit outside = record {
     above = fit.above;
     below = fit.below;
-    least = λ m above below. sym (without_other s index m (λ is. elim outside [ inl before ↦ omega arith | inr behind ↦ omega arith ])) ∙ fit.least m above below;
+    least = λ m above below. sym (without_other s index m (λ is. elim outside
+        [ inl before ↦ omega arith | inr behind ↦ omega arith ])) ∙ fit.least m above below;
     others = fit.others;
     oldest = sym (without_other s index f.size (fit_apart fit)) ∙ fit.oldest;
   }
@@ -107,7 +108,8 @@ module _ {regions : List Grant} {old : ℕ → ℕ} {index : ℕ → List ℕ} {
       IsTrie old (without_size q.node.size index) r.bin at (low_at side low half) (levels - 1) child
   s_trie side {child = child} child_is half_is =
       subst (λ h. IsTrie old (without_size q.node.size index) r.bin at (low_at side low h) (levels - 1) child) (sym half_is)
-      (subst (λ x. IsTrie old (without_size q.node.size index) r.bin at (low_at side low (width (levels - 1))) (levels - 1) x) (sym (child_is ∙ q.node.child_is side)) (q.children side))
+      (subst (λ x. IsTrie old (without_size q.node.size index) r.bin at (low_at side low (width (levels - 1))) (levels - 1)
+      x) (sym (child_is ∙ q.node.child_is side)) (q.children side))
 
   pub s_child : (side : Bool) {child half : ℕ} → child ≡ old (at + slot side) → half ≡ width (levels - 1) →
       IsReadable regions old (without_size q.node.size index) (low_at side low half) (levels - 1) child

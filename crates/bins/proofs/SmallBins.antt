@@ -99,8 +99,10 @@ module _ {regions : List Grant} {old new : ℕ → ℕ} {index : ℕ → List �
   pub chunks_pushed : AreChunks regions new (with_chunk size chunk index)
   chunks_pushed = chunks_with new chunks fresh
       (λ n other is. let long = (chunks.each n other is).long in last_same n other 1 is (omega arith) (omega arith) (λ is. omega arith))
-      (let f = fresh.is in pushed.elsewhere (chunk + 8) (f.granted (chunk + 8) (omega arith) (omega (arith, f.long)) (omega (arith, f.aligned))) (λ is. omega arith) (λ is. omega arith)
-      (λ not_empty is. let there = last_in_index not_empty in elim (fresh.apart size last there) [ inl above ↦ omega (arith, f.long) | inr below ↦ omega (arith, f.long) ]))
+      (let f = fresh.is in pushed.elsewhere (chunk + 8) (f.granted (chunk + 8) (omega arith) (omega (arith, f.long))
+      (omega (arith, f.aligned))) (λ is. omega arith) (λ is. omega arith)
+      (λ not_empty is. let there = last_in_index not_empty in elim (fresh.apart size last there)
+      [ inl above ↦ omega (arith, f.long) | inr below ↦ omega (arith, f.long) ]))
 
 -- what stands at entry
 module _ {regions : List Grant} {old : ℕ → ℕ} {bins : Bins} {index : ℕ → List ℕ} {size chunk : ℕ} {last tag : ℕ}
@@ -189,7 +191,8 @@ module _ {regions : List Grant} {old new : ℕ → ℕ} {bins bins' : Bins} {ind
           ends = newest.lasts bin not ∙ (was.ring.ends ∙ ap (λ (cs : List ℕ). last_or (64 + bin) cs) index_is);
           linked = subst (λ (cs : List ℕ). AreLinked new (64 + bin) cs (64 + bin)) index_is
               (linked_kept old new (64 + bin) (index (8 * bin)) (64 + bin)
-              (λ c is k some few. let long = (linked.chunks.each (8 * bin) c is).long in size_same (8 * bin) not_size c is k some (omega arith)) was.ring.linked);
+              (λ c is k some few. let long = (linked.chunks.each (8 * bin) c is).long in
+              size_same (8 * bin) not_size c is k some (omega arith)) was.ring.linked);
         };
         marked = λ some. newest.map bin not ∙ was.marked (λ none. some (sym index_is ∙ none));
         clear = λ none. newest.map bin not ∙ was.clear (index_is ∙ none);
@@ -201,10 +204,12 @@ module _ {regions : List Grant} {old new : ℕ → ℕ} {bins bins' : Bins} {ind
       let kept = trie_kept old new bin (from (least_size bin) index) (128 + bin) (low_of bin) (levels_of bin) (slice_index bins.roots bin)
       (λ n above below c is k some few. let there = in_from (least_size bin) index n c is in let large = least_large bin in
       size_same n (λ e. omega (arith, there.1)) c there.0 k some (omega (arith, there.1))) was.trie in
-      let again = trie_reindexed new bin (from (least_size bin) index) (from (least_size bin) (with_chunk size chunk index)) (128 + bin) (low_of bin) (levels_of bin) (slice_index bins.roots bin)
+      let again = trie_reindexed new bin (from (least_size bin) index) (from (least_size bin) (with_chunk size chunk index))
+      (128 + bin) (low_of bin) (levels_of bin) (slice_index bins.roots bin)
       (λ n above below. from_unchanged (λ (cs : List ℕ). cs ++ chunk ∷ []) (least_size bin) size index n (let large = least_large bin in omega arith)) kept in
       record {
-        trie = subst (λ (rs : List ℕ). IsTrie new (from (least_size bin) (with_chunk size chunk index)) bin (128 + bin) (low_of bin) (levels_of bin) (slice_index rs bin)) (sym newest.roots) again;
+        trie = subst (λ (rs : List ℕ). IsTrie new (from (least_size bin) (with_chunk size chunk index)) bin (128 + bin)
+            (low_of bin) (levels_of bin) (slice_index rs bin)) (sym newest.roots) again;
         marked = λ some. ap (λ m. bit_at m bin) newest.tree_map ∙ was.marked (subst (λ (rs : List ℕ). 0 < slice_index rs bin) newest.roots some);
         clear = λ none. ap (λ m. bit_at m bin) newest.tree_map ∙ was.clear (subst (λ (rs : List ℕ). slice_index rs bin ≡ 0) newest.roots none);
       }

@@ -16,7 +16,8 @@ module _ {regions regions' : List Grant} {old new : ℕ → ℕ} {bins : Bins} {
   word_kept : (n chunk k : ℕ) → IsIn chunk (index n) → 0 < k → 8 * k < n → 8 * k < 64 → new (chunk + 8 * k) ≡ old (chunk + 8 * k)
   word_kept n chunk k is some within few =
       let c = linked.chunks.each n chunk is in
-      kept.words n chunk (chunk + 8 * k) is (omega arith) (omega arith) (omega arith) (c.granted (chunk + 8 * k) (omega arith) (omega arith) (omega (arith, c.aligned)))
+      kept.words n chunk (chunk + 8 * k) is (omega arith) (omega arith) (omega arith)
+      (c.granted (chunk + 8 * k) (omega arith) (omega arith) (omega (arith, c.aligned)))
 
   chunk_stays : (n chunk : ℕ) → IsIn chunk (index n) → IsChunk regions' new n chunk
   chunk_stays n chunk is =
@@ -39,7 +40,8 @@ module _ {regions regions' : List Grant} {old new : ℕ → ℕ} {bins : Bins} {
           begins = was.ring.begins;
           ends = was.ring.ends;
           linked = linked_kept old new (64 + bin) (index (8 * bin)) (64 + bin)
-              (λ chunk is k some few. let long = (linked.chunks.each (8 * bin) chunk is).long in word_kept (8 * bin) chunk k is some (omega arith) (omega arith)) was.ring.linked;
+              (λ chunk is k some few. let long = (linked.chunks.each (8 * bin) chunk is).long in
+              word_kept (8 * bin) chunk k is some (omega arith) (omega arith)) was.ring.linked;
         };
         marked = was.marked;
         clear = was.clear;

@@ -160,7 +160,8 @@ module _ {regions : List Grant} {old : ℕ → ℕ} {index : ℕ → List ℕ} {
       ring_word c k c_is some' few =
           let c_in : IsIn c (index sub.size) = subst (λ (cs : List ℕ). IsIn c cs) (sym leaf_chunks) c_is in
           cleared.elsewhere (c + 8 * k) (t_word sub.size c k c_in some' few)
-          (λ e. t_no_slot side sub.size c k c_in (λ same. apart (one_size sub.size o.node.size at held.chunks (subst (λ x. IsIn x (index sub.size)) same c_in) t_at)) few (e ∙ place_is))
+          (λ e. t_no_slot side sub.size c k c_in (λ same. apart (one_size sub.size o.node.size at held.chunks
+          (subst (λ x. IsIn x (index sub.size)) same c_in) t_at)) few (e ∙ place_is))
 
       ring_new : IsRing new leaf (new (leaf + 24)) (new (leaf + 16)) sub.others
       ring_new = record {
@@ -185,7 +186,9 @@ module _ {regions : List Grant} {old : ℕ → ℕ} {index : ℕ → List ℕ} {
           (λ m a b c c_is k some' few. let c_in = in_without sub.size (without_size s index) m c c_is in
           cleared.elsewhere (c + 8 * k) (t_word m c k (in_without s index m c c_in) some' few)
           (λ e. t_no_slot side m c k (in_without s index m c c_in) (t_other m c at c_in t_at) few (e ∙ place_is))) left_over.1.1 in
-          let here = trie_reindexed new bin (without_size sub.size (without_size s index)) (without_size s (without_size sub.size index)) at low' n x (λ m a b. without_changed (λ cs. []) s sub.size index m (λ e. apart (sym e))) now in
+          let here = trie_reindexed new bin (without_size sub.size (without_size s index))
+          (without_size s (without_size sub.size index)) at low' n x (λ m a b.
+          without_changed (λ cs. []) s sub.size index m (λ e. apart (sym e))) now in
           turned new (without_size sub.size index) o side x (without_other sub.size index s (λ e. apart (sym e))) kept left_over.1.0 here
           (λ m a b. ap (λ (cs : List ℕ). if m == s then [] else cs) (without_other sub.size index m (λ e. halves_apart side low (width n) m a b
           (subst (λ y. low' ≤ y) (sym e) sub.above) (subst (λ y. y < low' + width n) (sym e) sub.below))))
@@ -208,6 +211,12 @@ module _ {regions : List Grant} {old : ℕ → ℕ} {index : ℕ → List ℕ} {
                 let la = held.large o.node.size at t_at in
                 let i = slot_at side in
                 let low32 = slot_low side in
-                cleared.elsewhere p word (λ e. elim at_no [ inl x ↦ omega (arith, place_is) | inr (inl x) ↦ omega (arith, place_is, i.1.1.1, i.1.1.0) | inr (inr (less, x)) ↦ omega arith ])
-                ∙ sub.words p word (λ m c a b other c_in. let h = in_half side low (width (levels - 1)) m a b in out m c h.0 (omega (arith, h.1, range)) other (in_without o.node.size index m c c_in));
+                cleared.elsewhere p word (λ e. elim at_no [
+                  | inl x ↦ omega (arith, place_is)
+                  | inr (inl x) ↦ omega
+                      (arith, place_is, i.1.1.1, i.1.1.0)
+                  | inr (inr (less, x)) ↦ omega arith
+                ])
+                ∙ sub.words p word (λ m c a b other c_in. let h = in_half side low (width (levels - 1)) m a b in
+                out m c h.0 (omega (arith, h.1, range)) other (in_without o.node.size index m c c_in));
           }

@@ -34,7 +34,9 @@ module _ {regions : List Grant} {old new : ℕ → ℕ} {bins bins' : Bins} {ind
           ends = ap (λ (ls : List ℕ). slice_index ls b) rooted.lasts ∙ (was.ring.ends ∙ ap (λ (cs : List ℕ). last_or (64 + b) cs) index_is);
           linked = subst (λ (cs : List ℕ). AreLinked new (64 + b) cs (64 + b)) index_is
               (linked_kept old new (64 + b) (index (8 * b)) (64 + b)
-              (λ c is k some few. let long = (linked.chunks.each (8 * b) c is).long in kept (8 * b) c k is some (omega arith) (omega arith) (λ t. let r = t.reached in omega arith)) was.ring.linked);
+              (λ c is k some few. let long = (linked.chunks.each (8 * b) c is).long in
+              kept (8 * b) c k is some (omega arith) (omega arith) (λ t. let r = t.reached in omega arith))
+              was.ring.linked);
         };
         marked = λ some. ap (λ m. bit_at m b) rooted.small_map ∙ was.marked (λ none. some (sym index_is ∙ none));
         clear = λ none. ap (λ m. bit_at m b) rooted.small_map ∙ was.clear (index_is ∙ none);
@@ -48,7 +50,9 @@ module _ {regions : List Grant} {old new : ℕ → ℕ} {bins bins' : Bins} {ind
       (λ n above below c is k some few. let there = in_from (least_size b) index n c is in
       kept n c k there.0 some (omega (arith, there.1)) few (λ t. other (bin_only (in_range n b within there.1 below) t))) was.trie in
       let again = trie_reindexed new b (from (least_size b) index) (from (least_size b) index') (128 + b) (low_of b) (levels_of b) (slice_index bins.roots b)
-      (λ n above below. from_alike (least_size b) index index' n (λ reached. others n (λ e. other (bin_only (in_range n b within reached below) (subst (λ m. IsTreeIndex m bin) (sym e) in_bin))))) stays in
+      (λ n above below. from_alike (least_size b) index index' n (λ reached.
+      others n (λ e. other (bin_only (in_range n b within reached below)
+      (subst (λ m. IsTreeIndex m bin) (sym e) in_bin))))) stays in
       record {
         trie = subst (λ r. IsTrie new (from (least_size b) index') b (128 + b) (low_of b) (levels_of b) r) (sym (rooted.roots b other)) again;
         marked = λ some. rooted.map b within other ∙ was.marked (subst (λ r. 0 < r) (rooted.roots b other) some);

@@ -98,7 +98,8 @@ module _ {regions : List Grant} {old : ℕ → ℕ} {bins : Bins} {index : ℕ �
           | inl same ↦ elim far [
             | inl head ↦ inl (omega arith)
             | inr out ↦ absurd (let one = one_size m n c linked.chunks c_in (subst (λ x. IsIn x (index n)) (sym same) there.0) in
-                out (subst (λ x. IsTreeIndex x bin) (sym one) (in_range n bin top.in_bin.within there.1 (let e = b in rw (sym top.low_is, sym top.levels_is) e))))
+                out (subst (λ x. IsTreeIndex x bin) (sym one) (in_range n bin top.in_bin.within there.1
+                (let e = b in rw (sym top.low_is, sym top.levels_is) e))))
           ]
           | inr other ↦
               elim (linked.chunks.apart m c n d c_in there.0 other) [ inl below ↦ inl (omega arith) | inr above ↦ inr (inl (omega (arith, there.1))) ]
@@ -108,7 +109,8 @@ module _ {regions : List Grant} {old : ℕ → ℕ} {bins : Bins} {index : ℕ �
     once_less chunks is distinct =
         let p = parted chunk chunks is in
         let d = subst (λ (cs : List ℕ). AreDistinct cs) p.is distinct in
-        subst (λ (cs : List ℕ). AreDistinct cs) (sym (ap (λ (cs : List ℕ). removed chunk cs) p.is ∙ removed_at chunk p.front p.back d)) (distinct_less p.front chunk p.back d)
+        subst (λ (cs : List ℕ). AreDistinct cs) (sym (ap (λ (cs : List ℕ). removed chunk cs) p.is
+        ∙ removed_at chunk p.front p.back d)) (distinct_less p.front chunk p.back d)
 
     chunks_less : AreChunks regions new (without_chunk size chunk index)
     chunks_less = record {
@@ -117,7 +119,8 @@ module _ {regions : List Grant} {old : ℕ → ℕ} {bins : Bins} {index : ℕ �
       apart = λ m c n d c_is d_is other. linked.chunks.apart m c n d (in_minus size chunk index m c c_is) (in_minus size chunk index n d d_is) other;
       once = λ m. elim (same_or_not m size) [
         | inl e ↦
-            subst (λ (cs : List ℕ). AreDistinct cs) (sym (ap (without_chunk size chunk index) e ∙ minus_same size chunk index)) (once_less (index size) chunk_in (linked.chunks.once size))
+            subst (λ (cs : List ℕ). AreDistinct cs) (sym (ap (without_chunk size chunk index) e
+            ∙ minus_same size chunk index)) (once_less (index size) chunk_in (linked.chunks.once size))
         | inr e ↦ subst (λ (cs : List ℕ). AreDistinct cs) (sym (minus_other size chunk index m e)) (linked.chunks.once m)
       ];
     }
@@ -164,7 +167,8 @@ module _ {regions : List Grant} {old : ℕ → ℕ} {bins : Bins} {index : ℕ �
           | inl same ↦ elim far [
             | inl head ↦ inl (omega arith)
             | inr out ↦ absurd (let one = one_size m n c linked.chunks c_in (subst (λ x. IsIn x (index n)) (sym same) there.0) in
-                out (subst (λ x. IsTreeIndex x bin) (sym one) (in_range n bin top.in_bin.within there.1 (let e = b in rw (sym top.low_is, sym top.levels_is) e))))
+                out (subst (λ x. IsTreeIndex x bin) (sym one) (in_range n bin top.in_bin.within there.1
+                (let e = b in rw (sym top.low_is, sym top.levels_is) e))))
           ]
           | inr other ↦
               elim (linked.chunks.apart m c n d c_in there.0 other) [ inl below ↦ inl (omega arith) | inr above ↦ inr (inl (omega (arith, there.1))) ]

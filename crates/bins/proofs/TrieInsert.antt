@@ -88,8 +88,16 @@ module _ {regions : List Grant} {old : ℕ → ℕ} {index : ℕ → List ℕ} {
     joined_word m c k is some few no_last no_at = joined.elsewhere (c + 8 * k) (chunk_place chunks large m c k is some few).word
         (λ e. elim (not_own m c k is few) [ inl x ↦ omega arith | inr x ↦ omega arith ])
         (λ e. elim (not_own m c k is few) [ inl x ↦ omega arith | inr x ↦ omega arith ])
-        (λ e. elim (same_or_not c (old (at + 16))) [ inl same ↦ no_last same (omega arith) | inr other ↦ words_apart chunks large m c o.node.size (old (at + 16)) k 24 is last_in_index other few (omega arith) e ])
-        (λ e. elim (same_or_not c at) [ inl same ↦ no_at same (omega arith) | inr other ↦ words_apart chunks large m c o.node.size at k 16 is at_in other few (omega arith) e ])
+        (λ e. elim (same_or_not c (old (at + 16))) [
+          | inl same ↦ no_last same (omega arith)
+          | inr other ↦ words_apart chunks
+              large m c o.node.size (old (at + 16)) k 24 is last_in_index other few (omega arith) e
+        ])
+        (λ e. elim (same_or_not c at) [
+          | inl same ↦ no_at same (omega arith)
+          | inr other ↦ words_apart chunks large m c
+              o.node.size at k 16 is at_in other few (omega arith) e
+        ])
 
     pub joined_opened : Opened new (with_chunk size chunk index) bin parent low n at
     joined_opened =
@@ -105,7 +113,8 @@ module _ {regions : List Grant} {old : ℕ → ℕ} {index : ℕ → List ℕ} {
             some = d.some;
             above = d.above;
             below = d.below;
-            chunks = ap (with_chunk size chunk index) same_size ∙ (with_same size chunk index ∙ ap (λ (cs : List ℕ). cs ++ chunk ∷ []) (ap index (sym same_size) ∙ d.chunks));
+            chunks = ap (with_chunk size chunk index) same_size ∙ (with_same size chunk index
+                ∙ ap (λ (cs : List ℕ). cs ++ chunk ∷ []) (ap index (sym same_size) ∙ d.chunks));
             head = ap size_of (own 1 (omega arith) (omega arith) (λ e. omega arith) (λ e. omega arith)) ∙ d.head;
             ring = record {
               begins = first_pushed at chunk d.others (new (at + 24)) d.ring.begins d.ring.ends
@@ -128,7 +137,8 @@ module _ {regions : List Grant} {old : ℕ → ℕ} {index : ℕ → List ℕ} {
           children = λ side.
               let stays = trie_kept old new bin rest at (under side) n (d.child side)
               (λ m a b c is k some few. joined_word m c k (in_without d.size index m c is) some few
-              (λ e. absurd (size_apart chunks d.size m c (old (at + 16)) is last_in_index e)) (λ e. absurd (size_apart chunks d.size m c at is at_in e))) (o.children side) in
+              (λ e. absurd (size_apart chunks d.size m c (old (at + 16)) is last_in_index e))
+              (λ e. absurd (size_apart chunks d.size m c at is at_in e))) (o.children side) in
               trie_reindexed new bin rest (without_size d.size (with_chunk size chunk index)) at (under side) n (d.child side)
               (λ m a b. without_unchanged (λ (cs : List ℕ). cs ++ chunk ∷ []) d.size size index m (λ is. is ∙ sym same_size)) stays;
         } where
@@ -217,7 +227,12 @@ module _ {regions : List Grant} {old : ℕ → ℕ} {index : ℕ → List ℕ} {
         let d = o.node in
         leaf.elsewhere place word
         (λ e. let p = slot_at side in let l = large d.size at at_in in let s = slot_low side in
-        elim (no_old d.size at d.above d.below at_in) [ inl x ↦ omega (arith, p.1.1.1) | inr (inl x) ↦ omega (arith, p.1.1.1, p.1.1.0) | inr (inr (less, x)) ↦ omega arith ])
+        elim (no_old d.size at d.above d.below at_in) [
+          | inl x ↦ omega (arith, p.1.1.1)
+          | inr (inl x) ↦ omega
+              (arith, p.1.1.1, p.1.1.0)
+          | inr (inr (less, x)) ↦ omega arith
+        ])
         (elim no_new [ inl x ↦ inl x | inr (inl x) ↦ inr x | inr (inr (less, x)) ↦ absurd (omega arith) ])
 
   -- ---- a chunk goes into a child

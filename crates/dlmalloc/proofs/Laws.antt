@@ -41,7 +41,8 @@ module _ {A : Type 0} (regions : A → List Grant) (word : A → ℕ → ℕ) (h
   -- two extents in use have no byte in common
   pub used_apart : (a b : Extent) → extent_at a.at (extents_in (state_of word heap)) ≡ Some a →
       extent_at b.at (extents_in (state_of word heap)) ≡ Some b → a.at ≢ b.at → (a.at + a.size ≤ b.at) ⊎ (b.at + b.size ≤ a.at)
-  used_apart a b there_a there_b other = beside (regions heap.system) (word heap.system) (segments_of word heap) sound.segments sound.apart there_a there_b other
+  used_apart a b there_a there_b other = beside (regions heap.system) (word heap.system) (segments_of word heap)
+      sound.segments sound.apart there_a there_b other
 
   -- a system with the same regions has those of the segments
   pub same_regions : (system : A) → regions system ≡ regions heap.system → KeepsRegions (segments_of word heap) (regions heap.system) (regions system)

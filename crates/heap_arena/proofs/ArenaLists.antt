@@ -24,23 +24,28 @@ granted_append [] ys at = refl
 granted_append (x ∷ xs) ys at = grind (arith, granted_append xs ys at)
 
 -- a grant in front of others
-pub with_front : (mid high : ℕ) (grant : Grant) (xs ys : List Grant) → grant.base < mid → IsTrue (are_between mid high ys) → with_grant grant (xs ++ ys) ≡ with_grant grant xs ++ ys
+pub with_front : (mid high : ℕ) (grant : Grant) (xs ys : List Grant) → grant.base < mid → IsTrue (are_between mid high ys) →
+    with_grant grant (xs ++ ys) ≡ with_grant grant xs ++ ys
 with_front mid high grant [] [] before rest = refl
 with_front mid high grant [] (y ∷ ys) before rest = grind (arith, nat_tests)
 with_front mid high grant (x ∷ xs) ys before rest = go (nat_lt grant.base x.base) (with_front mid high grant xs ys before rest)
   where
-    go : (b : Bool) → with_grant grant (xs ++ ys) ≡ with_grant grant xs ++ ys → (if b then grant ∷ x ∷ (xs ++ ys) else x ∷ with_grant grant (xs ++ ys)) ≡ (if b then grant ∷ x ∷ xs else x ∷ with_grant grant xs) ++ ys
+    go : (b : Bool) → with_grant grant (xs ++ ys) ≡ with_grant grant xs ++ ys →
+        (if b then grant ∷ x ∷ (xs ++ ys) else x ∷ with_grant grant (xs ++ ys)) ≡ (if b then grant ∷ x ∷ xs
+        else x ∷ with_grant grant xs) ++ ys
     go true same = refl
     go false same = ap (λ (gs : List Grant). x ∷ gs) same
 
 -- a grant after others
-pub with_behind : (low mid : ℕ) (grant : Grant) (xs ys : List Grant) → mid ≤ grant.base → IsTrue (are_between low mid xs) → with_grant grant (xs ++ ys) ≡ xs ++ with_grant grant ys
+pub with_behind : (low mid : ℕ) (grant : Grant) (xs ys : List Grant) → mid ≤ grant.base → IsTrue (are_between low mid xs) →
+    with_grant grant (xs ++ ys) ≡ xs ++ with_grant grant ys
 with_behind low mid grant [] ys behind front = refl
 with_behind low mid grant (x ∷ xs) ys behind front =
     let not_before : nat_lt grant.base x.base ≡ false = grind (arith, nat_tests) in
     rw not_before (ap (λ (gs : List Grant). x ∷ gs) (with_behind low mid grant xs ys behind (grind (arith, nat_tests))))
 
-pub apart_append : (from to : ℕ) (xs ys : List Grant) → AllByRecursion (IsApart from to) xs → AllByRecursion (IsApart from to) ys → AllByRecursion (IsApart from to) (xs ++ ys)
+pub apart_append : (from to : ℕ) (xs ys : List Grant) → AllByRecursion (IsApart from to) xs →
+    AllByRecursion (IsApart from to) ys → AllByRecursion (IsApart from to) (xs ++ ys)
 apart_append from to [] ys front rest = rest
 apart_append from to (x ∷ xs) ys front rest = (front.0, apart_append from to xs ys front.1 rest)
 
@@ -54,13 +59,25 @@ apart_before from to mid high (y ∷ ys) before between = (inr (grind (arith, na
 module _ (arena : Arena) (arenas : List Arena) (order : IsTrue (are_in_order (arena ∷ arenas))) where
   pub in_first : (at : ℕ) → IsWordOf (regions_of_all (arena ∷ arenas)) at → at < end_of arena → IsWordOf (regions_of arena) at
   in_first at is before = record {
-    granted = grind (arith, nat_tests, granted_append (regions_of arena) (regions_of_all arenas) at, granted_between (end_of arena) (2 ^ 64) (regions_of_all arenas) at (rest_behind arena arenas order), is.granted);
+    granted = grind (
+      arith,
+      nat_tests,
+      granted_append (regions_of arena) (regions_of_all arenas) at,
+      granted_between (end_of arena) (2 ^ 64) (regions_of_all arenas) at (rest_behind arena arenas order),
+      is.granted,
+    );
     aligned = is.aligned;
   }
 
   pub in_rest : (at : ℕ) → IsWordOf (regions_of_all (arena ∷ arenas)) at → end_of arena ≤ at → IsWordOf (regions_of_all arenas) at
   in_rest at is past = record {
-    granted = grind (arith, nat_tests, granted_append (regions_of arena) (regions_of_all arenas) at, granted_between arena.base (end_of arena) (regions_of arena) at (inside arena), is.granted);
+    granted = grind (
+      arith,
+      nat_tests,
+      granted_append (regions_of arena) (regions_of_all arenas) at,
+      granted_between arena.base (end_of arena) (regions_of arena) at (inside arena),
+      is.granted,
+    );
     aligned = is.aligned;
   }
 
@@ -74,13 +91,17 @@ order_same (old ∷ olds) (new ∷ news) same order = go olds news same.1 (grind
     end_same : end_of new ≡ end_of old
     end_same = let base = same.0.base in ap (λ (n : ℕ). new.base + 8 * n) same.0.len ∙ omega (arith, base)
 
-    begins : (xs ys : List Arena) → AllZip (λ x y. IsSameArena x y) xs ys → IsTrue (list_all (λ (later : Arena). nat_le (end_of old) later.base) xs) → IsTrue (list_all (λ (later : Arena). nat_le (end_of new) later.base) ys)
+    begins : (xs ys : List Arena) → AllZip (λ x y. IsSameArena x y) xs ys →
+        IsTrue (list_all (λ (later : Arena). nat_le (end_of old) later.base) xs) →
+        IsTrue (list_all (λ (later : Arena). nat_le (end_of new) later.base) ys)
     begins [] [] are h = refl
     begins [] (y ∷ ys) are h = elim are [ ]
     begins (x ∷ xs) [] are h = elim are [ ]
     begins (x ∷ xs) (y ∷ ys) are h = let base = are.0.base in let end = end_same in grind (arith, nat_tests, begins xs ys are.1, base, end)
 
-    go : (xs ys : List Arena) → AllZip (λ x y. IsSameArena x y) xs ys → IsTrue (list_all (λ (later : Arena). nat_le (end_of old) later.base) xs) → IsTrue (are_in_order ys) → IsTrue (list_all (λ (later : Arena). nat_le (end_of new) later.base) ys && are_in_order ys)
+    go : (xs ys : List Arena) → AllZip (λ x y. IsSameArena x y) xs ys →
+        IsTrue (list_all (λ (later : Arena). nat_le (end_of old) later.base) xs) → IsTrue (are_in_order ys) →
+        IsTrue (list_all (λ (later : Arena). nat_le (end_of new) later.base) ys && are_in_order ys)
     go xs ys are h rest = grind (arith, begins xs ys are h, rest)
 
 -- ---- a list of arenas of which the first is taken apart
@@ -97,11 +118,15 @@ index_any [] d e some = absurd (omega (arith, some))
 index_any (arena ∷ arenas) d e some = refl
 
 module _ (d : Arena) (at : ℕ) where
-  pub first_word : (arenas : List Arena) → 0 < length arenas → IsTrue (are_in_order arenas) → IsWordOf (regions_of_all arenas) at → at < end_of (slice_index_or arenas 0 d) → IsWordOf (regions_of (slice_index_or arenas 0 d)) at
+  pub first_word : (arenas : List Arena) → 0 < length arenas → IsTrue (are_in_order arenas) →
+      IsWordOf (regions_of_all arenas) at → at < end_of (slice_index_or arenas 0 d) →
+      IsWordOf (regions_of (slice_index_or arenas 0 d)) at
   first_word [] some order is before = absurd (omega (arith, some))
   first_word (arena ∷ arenas) some order is before = in_first arena arenas order at is before
 
-  pub rest_word : (arenas : List Arena) → 0 < length arenas → IsTrue (are_in_order arenas) → IsWordOf (regions_of_all arenas) at → end_of (slice_index_or arenas 0 d) ≤ at → IsWordOf (regions_of_all (rest_of arenas)) at
+  pub rest_word : (arenas : List Arena) → 0 < length arenas → IsTrue (are_in_order arenas) →
+      IsWordOf (regions_of_all arenas) at → end_of (slice_index_or arenas 0 d) ≤ at →
+      IsWordOf (regions_of_all (rest_of arenas)) at
   rest_word [] some order is past = absurd (omega (arith, some))
   rest_word (arena ∷ arenas) some order is past = rw (rest_is arena arenas) (in_rest arena arenas order at is past)
 
@@ -117,7 +142,8 @@ rest_less (arena ∷ arenas) some = rw (rest_is arena arenas) (omega arith)
 pub put_rest : (x : Arena) (xs ys : List Arena) → put_mid 1 (length (x ∷ xs) - 1) (x ∷ xs) ys ≡ x ∷ ys
 put_rest x xs ys = ap (λ (zs : List Arena). x ∷ (ys ++ zs)) (drop_of_length-le xs (omega arith)) ∙ ap (λ (zs : List Arena). x ∷ zs) (append-nil ys)
 
-pub zip_first : (R : Arena → Arena → Type 0) → ((x : Arena) → R x x) → (arenas : List Arena) (d new : Arena) → 0 < length arenas → R (slice_index_or arenas 0 d) new → AllZip R arenas (slice_set arenas 0 new)
+pub zip_first : (R : Arena → Arena → Type 0) → ((x : Arena) → R x x) → (arenas : List Arena) (d new : Arena) →
+    0 < length arenas → R (slice_index_or arenas 0 d) new → AllZip R arenas (slice_set arenas 0 new)
 zip_first R same [] d new some here = absurd (omega (arith, some))
 zip_first R same (arena ∷ arenas) d new some here = (here, all arenas)
   where
@@ -130,14 +156,17 @@ set_same [] d new some same = absurd (omega (arith, some))
 set_same (arena ∷ arenas) d new some same = ap (λ (a : Arena). a ∷ arenas) same
 
 -- of a grant, what two things say of it
-pub of_grant : (P Q S : Grant → Type 0) (answer : Result Grant GrantFault) → ((grant : Grant) → P grant → Q grant → S grant) → IfOk answer P → IfOk answer Q → IfOk answer S
+pub of_grant : (P Q S : Grant → Type 0) (answer : Result Grant GrantFault) →
+    ((grant : Grant) → P grant → Q grant → S grant) → IfOk answer P → IfOk answer Q → IfOk answer S
 of_grant P Q S (Ok grant) both first second = both grant first second
 of_grant P Q S (Err fault) both first second = tt
 
 -- ---- a word that is stored
 
-pub stored_first : (arenas : List Arena) (d new : Arena) (at value : ℕ) → 0 < length arenas → IsTrue (are_in_order arenas) → at < end_of (slice_index_or arenas 0 d) → IsSameArena (slice_index_or arenas 0 d) new →
-    IsStored (regions_of (slice_index_or arenas 0 d)) (word_of (slice_index_or arenas 0 d)) at value (word_of new) → IsStored (regions_of_all arenas) (word_among arenas) at value (word_among (slice_set arenas 0 new))
+pub stored_first : (arenas : List Arena) (d new : Arena) (at value : ℕ) → 0 < length arenas → IsTrue (are_in_order arenas) →
+    at < end_of (slice_index_or arenas 0 d) → IsSameArena (slice_index_or arenas 0 d) new →
+    IsStored (regions_of (slice_index_or arenas 0 d)) (word_of (slice_index_or arenas 0 d)) at value (word_of new) →
+    IsStored (regions_of_all arenas) (word_among arenas) at value (word_among (slice_set arenas 0 new))
 stored_first [] d new at value some order before same stored = absurd (omega (arith, some))
 stored_first (arena ∷ arenas) d new at value some order before same stored =
     let base = same.base in
@@ -150,29 +179,38 @@ stored_first (arena ∷ arenas) d new at value some order before same stored =
           ap (λ (e : ℕ). if nat_lt other e then word_of new other else word_among arenas other) end ∙ go other is differ (nat_lt other (end_of arena)) refl;
     }
   where
-    go : (other : ℕ) → IsWordOf (regions_of_all (arena ∷ arenas)) other → other ≢ at → (b : Bool) → nat_lt other (end_of arena) ≡ b → (if b then word_of new other else word_among arenas other) ≡ (if b then word_of arena other else word_among arenas other)
+    go : (other : ℕ) → IsWordOf (regions_of_all (arena ∷ arenas)) other → other ≢ at → (b : Bool) →
+        nat_lt other (end_of arena) ≡ b → (if b then word_of new other else word_among arenas other) ≡ (if b then word_of
+        arena other else word_among arenas other)
     go other is differ true is_b = stored.elsewhere other (in_first arena arenas order other is (grind (arith, nat_tests))) differ
     go other is differ false is_b = refl
 
-pub stored_rest : (arenas : List Arena) (d : Arena) (news : List Arena) (at value : ℕ) → 0 < length arenas → IsTrue (are_in_order arenas) → end_of (slice_index_or arenas 0 d) ≤ at →
-    IsStored (regions_of_all (rest_of arenas)) (word_among (rest_of arenas)) at value (word_among news) → IsStored (regions_of_all arenas) (word_among arenas) at value (word_among (put_mid 1 (length arenas - 1) arenas news))
+pub stored_rest : (arenas : List Arena) (d : Arena) (news : List Arena) (at value : ℕ) → 0 < length arenas →
+    IsTrue (are_in_order arenas) → end_of (slice_index_or arenas 0 d) ≤ at →
+    IsStored (regions_of_all (rest_of arenas)) (word_among (rest_of arenas)) at value (word_among news) →
+    IsStored (regions_of_all arenas) (word_among arenas) at value (word_among
+    (put_mid 1 (length arenas - 1) arenas news))
 stored_rest [] d news at value some order past stored = absurd (omega (arith, some))
 stored_rest (arena ∷ arenas) d news at value some order past given =
     let stored = subst (λ (xs : List Arena). IsStored (regions_of_all xs) (word_among xs) at value (word_among news)) (rest_is arena arenas) given in
     let not_there : nat_lt at (end_of arena) ≡ false = grind (arith, nat_tests) in
     rw (put_rest arena arenas news) (record {
       here = rw not_there stored.here;
-      elsewhere = λ other is differ. go other (nat_lt other (end_of arena)) refl (λ behind. stored.elsewhere other (in_rest arena arenas order other is behind) differ);
+      elsewhere = λ other is differ. go other (nat_lt other (end_of arena)) refl
+          (λ behind. stored.elsewhere other (in_rest arena arenas order other is behind) differ);
     })
   where
-    go : (other : ℕ) (b : Bool) → nat_lt other (end_of arena) ≡ b → (end_of arena ≤ other → word_among news other ≡ word_among arenas other) → (if b then word_of arena other else word_among news other) ≡ (if b then word_of arena other else word_among arenas other)
+    go : (other : ℕ) (b : Bool) → nat_lt other (end_of arena) ≡ b → (end_of arena ≤ other →
+        word_among news other ≡ word_among arenas other) → (if b then word_of arena other else word_among news other) ≡ (if
+        b then word_of arena other else word_among arenas other)
     go other true is_b rest = refl
     go other false is_b rest = rest (grind (arith, nat_tests))
 
 -- ---- a grant
 
 -- where it is, of arenas that begin after an address
-pub placed_behind : (end size base : ℕ) (arenas : List Arena) → IsTrue (list_all (λ (later : Arena). nat_le end later.base) arenas) → place_for arenas size ≡ Some base → end ≤ base
+pub placed_behind : (end size base : ℕ) (arenas : List Arena) → IsTrue
+    (list_all (λ (later : Arena). nat_le end later.base) arenas) → place_for arenas size ≡ Some base → end ≤ base
 placed_behind end size base [] are is = absurd (cc)
 placed_behind end size base (arena ∷ arenas) are is = go (has_room arena size) is (placed_behind end size base arenas (grind (arith, nat_tests)))
   where
@@ -185,20 +223,25 @@ apart_behind from to low mid [] past between = tt
 apart_behind from to low mid (x ∷ xs) past between = (inl (grind (arith, nat_tests)), apart_behind from to low mid xs past (grind (arith, nat_tests)))
 
 -- it ends among the words of the arena that has room for it
-pub grant_ends : (arena : Arena) (grant : Grant) (size : ℕ) → grant ≡ record { base = arena.top; size = size; flags = 0 } → has_room arena size ≡ true → grant.base + grant.size ≤ end_of arena
+pub grant_ends : (arena : Arena) (grant : Grant) (size : ℕ) → grant ≡ record { base = arena.top; size = size; flags = 0 } →
+    has_room arena size ≡ true → grant.base + grant.size ≤ end_of arena
 grant_ends arena grant size is room =
     let base : grant.base ≡ arena.top = ap (λ (g : Grant). g.base) is in
     let bytes : grant.size ≡ size = ap (λ (g : Grant). g.size) is in grind (arith, nat_tests, base, bytes, room)
 
 module _ (d : Arena) (grant : Grant) where
-  pub apart_first : (arenas : List Arena) → 0 < length arenas → IsTrue (are_in_order arenas) → grant.base + grant.size ≤ end_of (slice_index_or arenas 0 d) → AllByRecursion (IsApart grant.base (grant.base + grant.size)) (regions_of (slice_index_or arenas 0 d)) →
+  pub apart_first : (arenas : List Arena) → 0 < length arenas → IsTrue (are_in_order arenas) →
+      grant.base + grant.size ≤ end_of (slice_index_or arenas 0 d) → AllByRecursion
+      (IsApart grant.base (grant.base + grant.size)) (regions_of (slice_index_or arenas 0 d)) →
       AllByRecursion (IsApart grant.base (grant.base + grant.size)) (regions_of_all arenas)
   apart_first [] some order ends apart = absurd (omega (arith, some))
   apart_first (arena ∷ arenas) some order ends apart =
       apart_append grant.base (grant.base + grant.size) (regions_of arena) (regions_of_all arenas) apart
       (apart_before grant.base (grant.base + grant.size) (end_of arena) (2 ^ 64) (regions_of_all arenas) ends (rest_behind arena arenas order))
 
-  pub regions_first : (arenas : List Arena) (new : Arena) → 0 < length arenas → IsTrue (are_in_order arenas) → grant.base < end_of (slice_index_or arenas 0 d) → regions_of new ≡ with_grant grant (regions_of (slice_index_or arenas 0 d)) →
+  pub regions_first : (arenas : List Arena) (new : Arena) → 0 < length arenas → IsTrue (are_in_order arenas) →
+      grant.base < end_of (slice_index_or arenas 0 d) → regions_of new ≡ with_grant grant
+      (regions_of (slice_index_or arenas 0 d)) →
       regions_of_all (slice_set arenas 0 new) ≡ with_grant grant (regions_of_all arenas)
   regions_first [] new some order begins are = absurd (omega (arith, some))
   regions_first (arena ∷ arenas) new some order begins are =
@@ -206,31 +249,44 @@ module _ (d : Arena) (grant : Grant) where
       ∙ sym (with_front (end_of arena) (2 ^ 64) grant (regions_of arena) (regions_of_all arenas) begins (rest_behind arena arenas order))
 
 module _ (grant : Grant) (size : ℕ) where
-  pub apart_rest : (arenas : List Arena) → IsTrue (are_in_order arenas) → place_for (rest_of arenas) size ≡ Some grant.base → AllByRecursion (IsApart grant.base (grant.base + grant.size)) (regions_of_all (rest_of arenas)) →
+  pub apart_rest : (arenas : List Arena) → IsTrue (are_in_order arenas) →
+      place_for (rest_of arenas) size ≡ Some grant.base → AllByRecursion (IsApart grant.base (grant.base + grant.size))
+      (regions_of_all (rest_of arenas)) →
       AllByRecursion (IsApart grant.base (grant.base + grant.size)) (regions_of_all arenas)
   apart_rest [] order place apart = tt
   apart_rest (arena ∷ arenas) order place_given apart_given =
       let is = rest_is arena arenas in
       let place : place_for arenas size ≡ Some grant.base = ap (λ (xs : List Arena). place_for xs size) (sym is) ∙ place_given in
-      let apart : AllByRecursion (IsApart grant.base (grant.base + grant.size)) (regions_of_all arenas) = subst (λ (xs : List Arena). AllByRecursion (IsApart grant.base (grant.base + grant.size)) (regions_of_all xs)) is apart_given in
+      let apart : AllByRecursion (IsApart grant.base (grant.base + grant.size)) (regions_of_all arenas) =
+      subst (λ (xs : List Arena). AllByRecursion (IsApart grant.base (grant.base + grant.size)) (regions_of_all xs)) is
+      apart_given in
       apart_append grant.base (grant.base + grant.size) (regions_of arena) (regions_of_all arenas)
-      (apart_behind grant.base (grant.base + grant.size) arena.base (end_of arena) (regions_of arena) (placed_behind (end_of arena) size grant.base arenas (grind (arith, nat_tests)) place) (inside arena)) apart
+      (apart_behind grant.base (grant.base + grant.size) arena.base (end_of arena) (regions_of arena)
+      (placed_behind (end_of arena) size grant.base arenas (grind (arith, nat_tests)) place) (inside arena)) apart
 
-  pub regions_rest : (arenas news : List Arena) → IsTrue (are_in_order arenas) → place_for (rest_of arenas) size ≡ Some grant.base → 0 < length arenas → regions_of_all news ≡ with_grant grant (regions_of_all (rest_of arenas)) →
+  pub regions_rest : (arenas news : List Arena) → IsTrue (are_in_order arenas) →
+      place_for (rest_of arenas) size ≡ Some grant.base → 0 < length arenas →
+      regions_of_all news ≡ with_grant grant (regions_of_all (rest_of arenas)) →
       regions_of_all (put_mid 1 (length arenas - 1) arenas news) ≡ with_grant grant (regions_of_all arenas)
   regions_rest [] news order place some are = absurd (omega (arith, some))
   regions_rest (arena ∷ arenas) news order place_given some are_given =
       let is = rest_is arena arenas in
       let place : place_for arenas size ≡ Some grant.base = ap (λ (xs : List Arena). place_for xs size) (sym is) ∙ place_given in
-      let are : regions_of_all news ≡ with_grant grant (regions_of_all arenas) = are_given ∙ ap (λ (xs : List Arena). with_grant grant (regions_of_all xs)) is in
+      let are : regions_of_all news ≡ with_grant grant (regions_of_all arenas) = are_given
+      ∙ ap (λ (xs : List Arena). with_grant grant (regions_of_all xs)) is in
       ap regions_of_all (put_rest arena arenas news) ∙ (ap (λ (gs : List Grant). regions_of arena ++ gs) are
-      ∙ sym (with_behind arena.base (end_of arena) grant (regions_of arena) (regions_of_all arenas) (placed_behind (end_of arena) size grant.base arenas (grind (arith, nat_tests)) place) (inside arena)))
+      ∙ sym (with_behind arena.base (end_of arena) grant (regions_of arena) (regions_of_all arenas)
+      (placed_behind (end_of arena) size grant.base arenas (grind (arith, nat_tests)) place) (inside arena)))
 
 -- of the arenas one was granted something, and the others were not
 module _ (grant : Grant) (size : ℕ) where
-  others_after : (end : ℕ) (arenas : List Arena) → grant.base < end → IsTrue (list_all (λ (later : Arena). nat_le end later.base) arenas) → AreAfter arenas (Granted size grant ∷ []) arenas
+  others_after : (end : ℕ) (arenas : List Arena) → grant.base < end → IsTrue
+      (list_all (λ (later : Arena). nat_le end later.base) arenas) → AreAfter arenas (Granted size grant ∷ []) arenas
   others_after end [] before are = tt
-  others_after end (arena ∷ arenas) before are = (after_other size grant arena (grind (arith, nat_tests)), others_after end arenas before (grind (arith, nat_tests)))
+  others_after end (arena ∷ arenas) before are = (
+    after_other size grant arena (grind (arith, nat_tests)),
+    others_after end arenas before (grind (arith, nat_tests)),
+  )
 
   pub after_first : (arenas : List Arena) (d new : Arena) → 0 < length arenas → IsTrue (are_in_order arenas) → grant.base < end_of (slice_index_or arenas 0 d) →
       IsArenaAfter (slice_index_or arenas 0 d) (Granted size grant ∷ []) new → AreAfter arenas (Granted size grant ∷ []) (slice_set arenas 0 new)
@@ -245,7 +301,8 @@ module _ (grant : Grant) (size : ℕ) where
       let place : place_for arenas size ≡ Some grant.base = ap (λ (xs : List Arena). place_for xs size) (sym is) ∙ place_given in
       let after : AreAfter arenas (Granted size grant ∷ []) news = subst (λ (xs : List Arena). AreAfter xs (Granted size grant ∷ []) news) is after_given in
       let past : end_of arena ≤ grant.base = placed_behind (end_of arena) size grant.base arenas (grind (arith, nat_tests)) place in
-      subst (λ (xs : List Arena). AreAfter (arena ∷ arenas) (Granted size grant ∷ []) xs) (sym (put_rest arena arenas news)) (after_other size grant arena (grind (arith, nat_tests, past)), after)
+      subst (λ (xs : List Arena). AreAfter (arena ∷ arenas) (Granted size grant ∷ []) xs) (sym (put_rest arena arenas news))
+      (after_other size grant arena (grind (arith, nat_tests, past)), after)
 
 -- ---- words that are written one after the other
 
@@ -258,24 +315,30 @@ keeps_more at i x y z base first second = λ k beside.
     second k (elim beside [ inl low ↦ inl (omega (arith, base, low)) | inr high ↦ inr (omega (arith, base, high)) ])
     ∙ first k (elim beside [ inl low ↦ inl low | inr high ↦ inr (omega (arith, high)) ])
 
-pub only_more : (at i : ℕ) (xs ys zs : List Arena) → AreAfter xs [] ys → IsOnlyWritten at i xs ys → IsOnlyWritten (at + 8 * i) 1 ys zs → IsOnlyWritten at (i + 1) xs zs
+pub only_more : (at i : ℕ) (xs ys zs : List Arena) → AreAfter xs [] ys → IsOnlyWritten at i xs ys →
+    IsOnlyWritten (at + 8 * i) 1 ys zs → IsOnlyWritten at (i + 1) xs zs
 only_more at i [] [] [] after first second = tt
 only_more at i [] [] (z ∷ zs) after first second = elim second [ ]
 only_more at i [] (y ∷ ys) zs after first second = elim first [ ]
 only_more at i (x ∷ xs) [] zs after first second = elim first [ ]
 only_more at i (x ∷ xs) (y ∷ ys) [] after first second = elim second [ ]
-only_more at i (x ∷ xs) (y ∷ ys) (z ∷ zs) after first second =
-    ((keeps_more at i x y z after.0.same.base first.0.0 second.0.0, second.0.1 ∙ first.0.1, second.0.2 ∙ first.0.2), only_more at i xs ys zs after.1 first.1 second.1)
+only_more at i (x ∷ xs) (y ∷ ys) (z ∷ zs) after first second = (
+  (keeps_more at i x y z after.0.same.base first.0.0 second.0.0, second.0.1 ∙ first.0.1, second.0.2 ∙ first.0.2),
+  only_more at i xs ys zs after.1 first.1 second.1,
+)
 
 -- ---- a further arena
 
-all_insert : (test : Arena → Bool) (new : Arena) (place : ℕ) (arenas : List Arena) → IsTrue (list_all test arenas) → IsTrue (test new) → IsTrue (list_all test (insert arenas place new))
+all_insert : (test : Arena → Bool) (new : Arena) (place : ℕ) (arenas : List Arena) → IsTrue (list_all test arenas) →
+    IsTrue (test new) → IsTrue (list_all test (insert arenas place new))
 all_insert test new zero arenas are is = grind (arith, are, is)
 all_insert test new (suc place) [] are is = grind (arith, is)
 all_insert test new (suc place) (arena ∷ arenas) are is = grind (arith, all_insert test new place arenas, are, is)
 
 -- after the first of others
-pub order_insert : (new : Arena) (d : Arena) (place : ℕ) (arenas : List Arena) → 0 < length arenas → IsTrue (are_in_order arenas) → end_of (slice_index_or arenas 0 d) ≤ new.base → IsTrue (are_in_order (insert (rest_of arenas) place new)) →
+pub order_insert : (new : Arena) (d : Arena) (place : ℕ) (arenas : List Arena) → 0 < length arenas →
+    IsTrue (are_in_order arenas) → end_of (slice_index_or arenas 0 d) ≤ new.base →
+    IsTrue (are_in_order (insert (rest_of arenas) place new)) →
     IsTrue (are_in_order (insert arenas (place + 1) new))
 order_insert new d place [] some order past rest = absurd (omega (arith, some))
 order_insert new d place (arena ∷ arenas) some order past given =
@@ -283,14 +346,17 @@ order_insert new d place (arena ∷ arenas) some order past given =
     let next : place + 1 ≡ suc place = omega arith in
     subst (λ (n : ℕ). IsTrue (are_in_order (insert (arena ∷ arenas) n new))) (sym next)
     (let begins : IsTrue (nat_le (end_of arena) new.base) = grind (arith, nat_tests) in
-    let all = all_insert (λ (later : Arena). nat_le (end_of arena) later.base) new place arenas (grind (arith, nat_tests, order)) begins in grind (arith, all, rest))
+    let all = all_insert (λ (later : Arena). nat_le (end_of arena) later.base) new place arenas
+    (grind (arith, nat_tests, order)) begins in grind (arith, all, rest))
 
 -- in front of all
-pub order_first : (new : Arena) (d : Arena) (arenas : List Arena) → IsTrue (are_in_order arenas) → end_of new ≤ (slice_index_or arenas 0 d).base → IsTrue (are_in_order (new ∷ arenas))
+pub order_first : (new : Arena) (d : Arena) (arenas : List Arena) → IsTrue (are_in_order arenas) →
+    end_of new ≤ (slice_index_or arenas 0 d).base → IsTrue (are_in_order (new ∷ arenas))
 order_first new d [] order before = refl
 order_first new d (arena ∷ arenas) order before = let all = later_all arenas (grind (arith, nat_tests, order)) in grind (arith, nat_tests, all, order, before)
   where
-    later_all : (xs : List Arena) → IsTrue (list_all (λ (later : Arena). nat_le (end_of arena) later.base) xs) → IsTrue (list_all (λ (later : Arena). nat_le (end_of new) later.base) xs)
+    later_all : (xs : List Arena) → IsTrue (list_all (λ (later : Arena). nat_le (end_of arena) later.base) xs) →
+        IsTrue (list_all (λ (later : Arena). nat_le (end_of new) later.base) xs)
     later_all [] are = refl
     later_all (x ∷ xs) are = grind (arith, nat_tests, later_all xs, are, before)
 
@@ -304,19 +370,28 @@ regions_insert new zero arenas none = ap (λ (gs : List Grant). gs ++ regions_of
 regions_insert new (suc place) [] none = ap (λ (gs : List Grant). gs ++ []) none
 regions_insert new (suc place) (arena ∷ arenas) none = ap (λ (gs : List Grant). regions_of arena ++ gs) (regions_insert new place arenas none)
 
-words_insert : (new : Arena) (place : ℕ) (arenas : List Arena) → IsTrue (are_in_order (insert arenas place new)) → IsTrue (are_in_order arenas) → (at : ℕ) → IsWordOf (regions_of_all arenas) at → word_among (insert arenas place new) at ≡ word_among arenas at
+words_insert : (new : Arena) (place : ℕ) (arenas : List Arena) → IsTrue (are_in_order (insert arenas place new)) →
+    IsTrue (are_in_order arenas) → (at : ℕ) → IsWordOf (regions_of_all arenas) at →
+    word_among (insert arenas place new) at ≡ word_among arenas at
 words_insert new zero arenas order was at is =
     let past : end_of new ≤ at = (granted_between (end_of new) (2 ^ 64) (regions_of_all arenas) at (rest_behind new arenas order) is.granted).0 in
     let not_there : nat_lt at (end_of new) ≡ false = grind (arith, nat_tests) in rw not_there refl
 words_insert new (suc place) [] order was at is = absurd (let no = is.granted in cc)
 words_insert new (suc place) (arena ∷ arenas) order was at is =
-    go (nat_lt at (end_of arena)) refl (λ past. words_insert new place arenas (order_rest arena (insert arenas place new) order) (order_rest arena arenas was) at (in_rest arena arenas was at is past))
+    go (nat_lt at (end_of arena)) refl (λ past. words_insert new place arenas
+    (order_rest arena (insert arenas place new) order) (order_rest arena arenas was) at
+    (in_rest arena arenas was at is past))
   where
-    go : (b : Bool) → nat_lt at (end_of arena) ≡ b → (end_of arena ≤ at → word_among (insert arenas place new) at ≡ word_among arenas at) → (if b then word_of arena at else word_among (insert arenas place new) at) ≡ (if b then word_of arena at else word_among arenas at)
+    go : (b : Bool) → nat_lt at (end_of arena) ≡ b → (end_of arena ≤ at →
+        word_among (insert arenas place new) at ≡ word_among arenas at) →
+        (if b then word_of arena at else word_among (insert arenas place new) at) ≡ (if b then word_of arena at
+        else word_among arenas at)
     go true is_b rest = refl
     go false is_b rest = rest (grind (arith, nat_tests))
 
-pub added_at : (new : Arena) (place : ℕ) (arenas news : List Arena) → place ≤ length arenas → news ≡ insert arenas place new → regions_of new ≡ [] → IsTrue (are_in_order (insert arenas place new)) → IsTrue (are_in_order arenas) → IsAdded arenas new news
+pub added_at : (new : Arena) (place : ℕ) (arenas news : List Arena) → place ≤ length arenas →
+    news ≡ insert arenas place new → regions_of new ≡ [] → IsTrue (are_in_order (insert arenas place new)) →
+    IsTrue (are_in_order arenas) → IsAdded arenas new news
 added_at new place arenas news within are none order was = record {
   place = place;
   within = within;
@@ -328,7 +403,8 @@ added_at new place arenas news within are none order was = record {
 -- ---- all arenas after a call
 
 pub refilled : (xs ys : List Arena) → length ys ≡ length xs → refill (length xs) xs ys ≡ ys
-refilled xs ys same = ap (λ (zs : List Arena). take (length xs) (ys ++ zs)) (drop_of_length-le xs (omega (arith, same))) ∙ (ap (λ (zs : List Arena). take (length xs) zs) (append-nil ys) ∙ take_all (length xs) ys (omega (arith, same)))
+refilled xs ys same = ap (λ (zs : List Arena). take (length xs) (ys ++ zs)) (drop_of_length-le xs (omega (arith, same)))
+    ∙ (ap (λ (zs : List Arena). take (length xs) zs) (append-nil ys) ∙ take_all (length xs) ys (omega (arith, same)))
 
 module _ (R S : Arena → Arena → Type 0) where
   pub zip_map : ((x y : Arena) → R x y → S x y) → (xs ys : List Arena) → AllZip R xs ys → AllZip S xs ys
@@ -337,16 +413,19 @@ module _ (R S : Arena → Arena → Type 0) where
   zip_map more (x ∷ xs) [] are = elim are [ ]
   zip_map more (x ∷ xs) (y ∷ ys) are = (more x y are.0, zip_map more xs ys are.1)
 
-pub words_same : (xs ys : List Arena) → AllZip (λ x y. IsSameArena x y) xs ys → AllZip (λ x y. y.words.now ≡ x.words.now) xs ys → (at : ℕ) → word_among ys at ≡ word_among xs at
+pub words_same : (xs ys : List Arena) → AllZip (λ x y. IsSameArena x y) xs ys →
+    AllZip (λ x y. y.words.now ≡ x.words.now) xs ys → (at : ℕ) → word_among ys at ≡ word_among xs at
 words_same [] [] same are at = refl
 words_same [] (y ∷ ys) same are at = elim same [ ]
 words_same (x ∷ xs) [] same are at = elim same [ ]
 words_same (x ∷ xs) (y ∷ ys) same are at =
     let base = same.0.base in
     let end : end_of y ≡ end_of x = ap (λ (n : ℕ). y.base + 8 * n) same.0.len ∙ omega (arith, base) in
-    let here : word_of y at ≡ word_of x at = ap (λ (n : ℕ). slice_index y.words.now ((at - n) / 8)) base ∙ ap (λ (ws : List ℕ). slice_index ws ((at - x.base) / 8)) are.0 in
+    let here : word_of y at ≡ word_of x at = ap (λ (n : ℕ). slice_index y.words.now ((at - n) / 8)) base
+    ∙ ap (λ (ws : List ℕ). slice_index ws ((at - x.base) / 8)) are.0 in
     ap (λ (e : ℕ). if nat_lt at e then word_of y at else word_among ys at) end
-    ∙ (ap (λ (w : ℕ). if nat_lt at (end_of x) then w else word_among ys at) here ∙ ap (λ (w : ℕ). if nat_lt at (end_of x) then word_of x at else w) (words_same xs ys same.1 are.1 at))
+    ∙ (ap (λ (w : ℕ). if nat_lt at (end_of x) then w else word_among ys at) here
+    ∙ ap (λ (w : ℕ). if nat_lt at (end_of x) then word_of x at else w) (words_same xs ys same.1 are.1 at))
 
 -- what came back is as if it were never granted, but for the peak
 module _ (low high : ℕ) (x y : Arena) (taken : IsTakenBack low high x y) where
@@ -363,6 +442,8 @@ module _ (low high : ℕ) (x y : Arena) (taken : IsTakenBack low high x y) where
   }
 
 -- a refusal changes nothing
-pub refused_all : (answer : Result Grant GrantFault) (size : ℕ) (olds news : List Arena) → OnErr answer (news ≡ olds) → IfErr answer (λ fault. AreAfter olds (Refused size fault ∷ []) news)
+pub refused_all : (answer : Result Grant GrantFault) (size : ℕ) (olds news : List Arena) → OnErr answer (news ≡ olds) →
+    IfErr answer (λ fault. AreAfter olds (Refused size fault ∷ []) news)
 refused_all (Ok grant) size olds news same = tt
-refused_all (Err fault) size olds news same = subst (λ (xs : List Arena). AreAfter olds (Refused size fault ∷ []) xs) (sym same) (all_after_refused size fault olds)
+refused_all (Err fault) size olds news same = subst (λ (xs : List Arena). AreAfter olds (Refused size fault ∷ []) xs)
+    (sym same) (all_after_refused size fault olds)

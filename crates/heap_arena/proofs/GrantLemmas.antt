@@ -32,7 +32,8 @@ grants_none words = refl
 
 -- what is given back of grants and a further one
 pub without_more : (low high : ℕ) (regions : List Grant) (last : Grant) →
-    without_run low high (regions ++ last ∷ []) ≡ (if begins_in low high last then without_run low high regions else without_run low high regions ++ up_to low last ∷ [])
+    without_run low high (regions ++ last ∷ []) ≡ (if begins_in low high last then without_run low high regions
+    else without_run low high regions ++ up_to low last ∷ [])
 without_more low high [] last = go (begins_in low high last)
   where
     go : (b : Bool) → map (λ region. up_to low region) (cond (not b) (last ∷ []) []) ≡ (if b then [] else up_to low last ∷ [])
@@ -40,10 +41,14 @@ without_more low high [] last = go (begins_in low high last)
     go false = refl
 without_more low high (region ∷ regions) last = go (begins_in low high region) (begins_in low high last) (without_more low high regions last)
   where
-    go : (b c : Bool) → map (λ r. up_to low r) (filter (λ r. not (begins_in low high r)) (regions ++ last ∷ [])) ≡ (if c then without_run low high regions else without_run low high regions ++ up_to low last ∷ []) →
-        map (λ r. up_to low r) (cond (not b) (region ∷ filter (λ r. not (begins_in low high r)) (regions ++ last ∷ [])) (filter (λ r. not (begins_in low high r)) (regions ++ last ∷ [])))
-        ≡ (if c then map (λ r. up_to low r) (cond (not b) (region ∷ filter (λ r. not (begins_in low high r)) regions) (filter (λ r. not (begins_in low high r)) regions))
-        else map (λ r. up_to low r) (cond (not b) (region ∷ filter (λ r. not (begins_in low high r)) regions) (filter (λ r. not (begins_in low high r)) regions)) ++ up_to low last ∷ [])
+    go : (b c : Bool) → map (λ r. up_to low r) (filter (λ r. not (begins_in low high r)) (regions ++ last ∷ [])) ≡ (if c
+        then without_run low high regions else without_run low high regions ++ up_to low last ∷ []) →
+        map (λ r. up_to low r) (cond (not b) (region ∷ filter (λ r. not (begins_in low high r)) (regions ++ last ∷ []))
+        (filter (λ r. not (begins_in low high r)) (regions ++ last ∷ [])))
+        ≡ (if c then map (λ r. up_to low r) (cond (not b) (region ∷ filter (λ r. not (begins_in low high r)) regions)
+        (filter (λ r. not (begins_in low high r)) regions))
+        else map (λ r. up_to low r) (cond (not b) (region ∷ filter (λ r. not (begins_in low high r)) regions)
+        (filter (λ r. not (begins_in low high r)) regions)) ++ up_to low last ∷ [])
     go true true rest = rest
     go true false rest = rest
     go false true rest = ap (λ (rs : List Grant). up_to low region ∷ rs) rest
@@ -51,47 +56,62 @@ without_more low high (region ∷ regions) last = go (begins_in low high region)
 
 -- a grant more of a table was looked at, and it stays, or is given back
 pub kept_more : (low high : ℕ) (initial old new : List ℕ) (i kept : ℕ) → grants old kept ≡ without_run low high (grants initial i) →
-    ((k : ℕ) → k ≢ kept → grant_at new k ≡ grant_at old k) → grant_at new kept ≡ up_to low (grant_at initial i) → begins_in low high (grant_at initial i) ≡ false →
+    ((k : ℕ) → k ≢ kept → grant_at new k ≡ grant_at old k) → grant_at new kept ≡ up_to low (grant_at initial i) →
+    begins_in low high (grant_at initial i) ≡ false →
     grants new (kept + 1) ≡ without_run low high (grants initial (i + 1))
 kept_more low high initial old new i kept before others here stays =
-    let front : grants new kept ≡ without_run low high (grants initial i) = grants_same old new kept (λ k less. others k (λ same. omega (arith, less, same))) ∙ before in
+    let front : grants new kept ≡ without_run low high (grants initial i) =
+    grants_same old new kept (λ k less. others k (λ same. omega (arith, less, same))) ∙ before in
     let last : without_run low high (grants initial (i + 1)) ≡ without_run low high (grants initial i) ++ up_to low (grant_at initial i) ∷ [] =
     ap (without_run low high) (grants_more initial i) ∙ (without_more low high (grants initial i) (grant_at initial i)
-    ∙ ap (λ (b : Bool). if b then without_run low high (grants initial i) else without_run low high (grants initial i) ++ up_to low (grant_at initial i) ∷ []) stays) in
-    grants_more new kept ∙ (ap (λ (rs : List Grant). rs ++ grant_at new kept ∷ []) front ∙ (ap (λ (g : Grant). without_run low high (grants initial i) ++ g ∷ []) here ∙ sym last))
+    ∙ ap (λ (b : Bool). if b then without_run low high (grants initial i) else without_run low high
+    (grants initial i) ++ up_to low (grant_at initial i) ∷ []) stays) in
+    grants_more new kept ∙ (ap (λ (rs : List Grant). rs ++ grant_at new kept ∷ []) front
+    ∙ (ap (λ (g : Grant). without_run low high (grants initial i) ++ g ∷ []) here ∙ sym last))
 
-pub left_more : (low high : ℕ) (initial : List ℕ) (i : ℕ) → begins_in low high (grant_at initial i) ≡ true → without_run low high (grants initial (i + 1)) ≡ without_run low high (grants initial i)
+pub left_more : (low high : ℕ) (initial : List ℕ) (i : ℕ) → begins_in low high (grant_at initial i) ≡ true →
+    without_run low high (grants initial (i + 1)) ≡ without_run low high (grants initial i)
 left_more low high initial i leaves =
     ap (without_run low high) (grants_more initial i) ∙ (without_more low high (grants initial i) (grant_at initial i)
-    ∙ ap (λ (b : Bool). if b then without_run low high (grants initial i) else without_run low high (grants initial i) ++ up_to low (grant_at initial i) ∷ []) leaves)
+    ∙ ap (λ (b : Bool). if b then without_run low high (grants initial i) else without_run low high
+    (grants initial i) ++ up_to low (grant_at initial i) ∷ []) leaves)
 
 -- ---- grants between two addresses
 
 -- a granted byte is between the addresses between which the grants are
-pub granted_between : (low high : ℕ) (regions : List Grant) (at : ℕ) → IsTrue (are_between low high regions) → IsTrue (is_granted regions at) → (low ≤ at) × (at < high)
+pub granted_between : (low high : ℕ) (regions : List Grant) (at : ℕ) → IsTrue (are_between low high regions) →
+    IsTrue (is_granted regions at) → (low ≤ at) × (at < high)
 granted_between low high [] at between granted = cc
 granted_between low high (region ∷ regions) at between granted = grind (arith, nat_tests, granted_between low high regions at)
 
 -- a grant after all others is the last
-pub with_last : (low top : ℕ) (grant : Grant) (regions : List Grant) → top ≤ grant.base → IsTrue (are_between low top regions) → with_grant grant regions ≡ regions ++ grant ∷ []
+pub with_last : (low top : ℕ) (grant : Grant) (regions : List Grant) → top ≤ grant.base →
+    IsTrue (are_between low top regions) → with_grant grant regions ≡ regions ++ grant ∷ []
 with_last low top grant [] behind between = refl
 with_last low top grant (region ∷ regions) behind between = grind (arith, nat_tests, with_last low top grant regions)
 
 -- it is apart from them
 pub apart_between : (low top from to : ℕ) (regions : List Grant) → top ≤ from → IsTrue (are_between low top regions) → AllByRecursion (IsApart from to) regions
 apart_between low top from to [] behind between = tt
-apart_between low top from to (region ∷ regions) behind between = (inl (grind (arith, nat_tests)), apart_between low top from to regions behind (grind (arith, nat_tests)))
+apart_between low top from to (region ∷ regions) behind between = (
+  inl (grind (arith, nat_tests)),
+  apart_between low top from to regions behind (grind (arith, nat_tests)),
+)
 
-pub between_more : (low top end : ℕ) (regions : List Grant) (grant : Grant) → IsTrue (are_between low top regions) → low ≤ grant.base → top ≤ end → grant.base + grant.size ≤ end → IsTrue (are_between low end (regions ++ grant ∷ []))
+pub between_more : (low top end : ℕ) (regions : List Grant) (grant : Grant) → IsTrue (are_between low top regions) →
+    low ≤ grant.base → top ≤ end → grant.base + grant.size ≤ end → IsTrue (are_between low end (regions ++ grant ∷ []))
 between_more low top end [] grant between begins more ends = grind (arith, nat_tests)
 between_more low top end (region ∷ regions) grant between begins more ends = grind (arith, nat_tests, between_more low top end regions grant)
 
-pub ordered_more : (low top : ℕ) (grant : Grant) (regions : List Grant) → top ≤ grant.base → 0 < grant.size → IsTrue (are_between low top regions) → IsTrue (are_ordered regions) → IsTrue (are_ordered (regions ++ grant ∷ []))
+pub ordered_more : (low top : ℕ) (grant : Grant) (regions : List Grant) → top ≤ grant.base → 0 < grant.size →
+    IsTrue (are_between low top regions) → IsTrue (are_ordered regions) → IsTrue (are_ordered (regions ++ grant ∷ []))
 ordered_more low top grant regions behind some between ordered =
     subst (λ (rs : List Grant). IsTrue (are_ordered rs)) (with_last low top grant regions behind between)
     (ordered_with grant regions some (apart_between low top grant.base (grant.base + grant.size) regions behind between) ordered)
 
-pub whole_more : (low top : ℕ) (grant : Grant) (regions : List Grant) → top ≤ grant.base → IsTrue (are_between low top regions) → IsTrue (is_whole grant) → IsTrue (are_whole regions) → IsTrue (are_whole (regions ++ grant ∷ []))
+pub whole_more : (low top : ℕ) (grant : Grant) (regions : List Grant) → top ≤ grant.base →
+    IsTrue (are_between low top regions) → IsTrue (is_whole grant) → IsTrue (are_whole regions) →
+    IsTrue (are_whole (regions ++ grant ∷ []))
 whole_more low top grant regions behind between here whole =
     subst (λ (rs : List Grant). IsTrue (are_whole rs)) (with_last low top grant regions behind between) (whole_with grant regions here whole)
 
@@ -100,7 +120,8 @@ pub run_within : (base top low high : ℕ) (regions : List Grant) → IsTrue (ar
 run_within base top low high regions between run = (granted_between base top regions low between (run.granted low (omega arith) run.some)).0
 
 -- what is given back up to the end leaves grants up to where it begins, and else up to the same address
-pub between_without : (base top low high end : ℕ) (regions : List Grant) → IsTrue (are_whole regions) → IsTrue (are_between base top regions) → ((low ≤ end) × (top ≤ high)) ⊎ (end ≡ top) →
+pub between_without : (base top low high end : ℕ) (regions : List Grant) → IsTrue (are_whole regions) →
+    IsTrue (are_between base top regions) → ((low ≤ end) × (top ≤ high)) ⊎ (end ≡ top) →
     IsTrue (are_between base end (without_run low high regions))
 between_without base top low high end [] whole between how = refl
 between_without base top low high end (region ∷ regions) whole between (inl reaches) = grind (arith, nat_tests, between_without base top low high end regions)
@@ -111,7 +132,9 @@ pub top_of_run : (base top low high : ℕ) → base ≤ low → low ≤ high →
 top_of_run base top low high within some ends = grind (arith, nat_tests)
 
 pub run_below : (base top low high : ℕ) (regions : List Grant) → IsTrue (are_between base top regions) → IsRun regions low high → high ≤ top
-run_below base top low high regions between run = let last = (granted_between base top regions (high - 1) between (run.granted (high - 1) (let some = run.some in omega (arith, some)) (let some = run.some in omega (arith, some)))).1 in omega (arith, last)
+run_below base top low high regions between run = let last = (granted_between base top regions (high - 1) between
+    (run.granted (high - 1) (let some = run.some in omega (arith, some)) (let some = run.some in omega (arith, some)))).1 in
+    omega (arith, last)
 
 -- there is a grant if there are some
 pub grants_some : (words : List ℕ) (count : ℕ) → 0 < count → grants words count ≢ []

@@ -16,7 +16,8 @@ module _ (arena : Arena) (at count : ℕ) (some : 0 < count) (run : AreWordsOf (
   pub ends_within : (at - arena.base) / 8 + count ≤ length arena.words.now
   ends_within =
       let low = begins_above in
-      let last = granted_between arena.base arena.top (regions_of arena) (at + 8 * count - 1) arena.between (run.granted (at + 8 * count - 1) (omega (arith, some)) (omega (arith, some))) in
+      let last = granted_between arena.base arena.top (regions_of arena) (at + 8 * count - 1) arena.between
+      (run.granted (at + 8 * count - 1) (omega (arith, some)) (omega (arith, some))) in
       let end = arena.ends in
       let whole = run.aligned in
       let begin = arena.aligned in
@@ -25,11 +26,13 @@ module _ (arena : Arena) (at count : ℕ) (some : 0 < count) (run : AreWordsOf (
 
   pub ends_below : at + 8 * count ≤ arena.top
   ends_below =
-      let last = granted_between arena.base arena.top (regions_of arena) (at + 8 * count - 1) arena.between (run.granted (at + 8 * count - 1) (omega (arith, some)) (omega (arith, some))) in
+      let last = granted_between arena.base arena.top (regions_of arena) (at + 8 * count - 1) arena.between
+      (run.granted (at + 8 * count - 1) (omega (arith, some)) (omega (arith, some))) in
       omega (arith, last.1, some)
 
 -- a call that changes no words but some below the top leaves an arena as it was
-pub kept_after : (old new : Arena) (at count : ℕ) → IsSameArena old new → new.top ≡ old.top → new.peak ≡ old.peak → at + 8 * count ≤ old.top → KeepsOthers at count old new → IsArenaAfter old [] new
+pub kept_after : (old new : Arena) (at count : ℕ) → IsSameArena old new → new.top ≡ old.top → new.peak ≡ old.peak →
+    at + 8 * count ≤ old.top → KeepsOthers at count old new → IsArenaAfter old [] new
 kept_after old new at count same top peak below others =
     let risen = old.risen in
     record {

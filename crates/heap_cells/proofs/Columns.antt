@@ -18,12 +18,14 @@ use Rattle.heap_cells.proofs.Totals.{sums_joined, sums_least, sums_none}
 
 -- the bytes of a row that have come, or gone, in the first so many columns
 abbrev pub changed_before : Scale → Change → Row → List Span → ℕ → ℕ
-changed_before scale change row spans column = sum_by (λ span. if nat_lt (first_column scale (call_of change span)) column then overlap row.low row.high span else 0) spans
+changed_before scale change row spans column = sum_by (λ span. if nat_lt (first_column scale (call_of change span)) column
+    then overlap row.low row.high span else 0) spans
 
 -- in no column nothing has
 pub before_none : (scale : Scale) (change : Change) (row : Row) (spans : List Span) → changed_before scale change row spans 0 ≡ 0
 before_none scale change row spans =
-    sums_none (λ span. if nat_lt (first_column scale (call_of change span)) 0 then overlap row.low row.high span else 0) (λ span. grind (arith, nat_tests)) spans
+    sums_none (λ span. if nat_lt (first_column scale (call_of change span)) 0 then overlap row.low row.high span else 0)
+    (λ span. grind (arith, nat_tests)) spans
 
 one_more : (f c n : ℕ) → (if nat_lt f c then n else 0) + (if nat_eq c f then n else 0) ≡ (if nat_lt f (c + 1) then n else 0)
 one_more f c n = grind (arith, nat_tests)
@@ -71,14 +73,16 @@ same_test a b c d to from = go (nat_lt a b) (nat_lt c d) refl refl
         let more = from less in
         absurd (omega (arith, most, more))
 
-first_after : (call column calls columns : ℕ) → 0 < calls → 1 ≤ columns → ((call + 1) * columns - 1) / calls < column + 1 → call < (column + 1) * calls / columns
+first_after : (call column calls columns : ℕ) → 0 < calls → 1 ≤ columns → ((call + 1) * columns - 1) / calls < column + 1 →
+    call < (column + 1) * calls / columns
 first_after call column calls columns some wide less =
     let whole = (div-lt_iff_lt-mul some).0 less in
     let least : (call + 1) * columns ≤ (column + 1) * calls = omega (arith, whole) in
     let more = (le-div_iff_mul-le wide).1 least in
     omega (arith, more)
 
-after_first : (call column calls columns : ℕ) → 0 < calls → 1 ≤ columns → call < (column + 1) * calls / columns → ((call + 1) * columns - 1) / calls < column + 1
+after_first : (call column calls columns : ℕ) → 0 < calls → 1 ≤ columns → call < (column + 1) * calls / columns →
+    ((call + 1) * columns - 1) / calls < column + 1
 after_first call column calls columns some wide less =
     let more : call + 1 ≤ (column + 1) * calls / columns = omega (arith, less) in
     let least = (le-div_iff_mul-le wide).0 more in
@@ -86,25 +90,30 @@ after_first call column calls columns some wide less =
     div_below ((call + 1) * columns - 1) calls (column + 1) some (omega (arith, least, positive, wide))
 
 -- a column shows the heap after a call if it is the first that does, or right of it
-pub shown_from : (scale : Scale) (call column : ℕ) → 0 < scale.calls → 1 ≤ columns_of scale → nat_lt (first_column scale call) (column + 1) ≡ nat_lt call (calls_at scale column)
+pub shown_from : (scale : Scale) (call column : ℕ) → 0 < scale.calls → 1 ≤ columns_of scale →
+    nat_lt (first_column scale call) (column + 1) ≡ nat_lt call (calls_at scale column)
 shown_from scale call column some wide =
     same_test (first_column scale call) (column + 1) call (calls_at scale column)
     (first_after call column scale.calls (columns_of scale) some wide)
     (after_first call column scale.calls (columns_of scale) some wide)
 
-one_shown : (born end calls n : ℕ) → (if nat_lt born calls && nat_le calls end then n else 0) + (if nat_lt (max born end) calls then n else 0) ≡ (if nat_lt born calls then n else 0)
+one_shown : (born end calls n : ℕ) → (if nat_lt born calls && nat_le calls end then n else 0) + (if nat_lt (max born end)
+    calls then n else 0) ≡ (if nat_lt born calls then n else 0)
 one_shown born end calls n = grind (arith, nat_tests)
 
 -- what shows in a column, and what has gone, is what has come
 pub shown_in : (scale : Scale) (row : Row) (spans : List Span) (column : ℕ) → 0 < scale.calls → 1 ≤ columns_of scale →
-    used_in row.low row.high (calls_at scale column) spans + changed_before scale Goes row spans (column + 1) ≡ changed_before scale Comes row spans (column + 1)
+    used_in row.low row.high (calls_at scale column) spans + changed_before scale Goes row spans
+    (column + 1) ≡ changed_before scale Comes row spans (column + 1)
 shown_in scale row spans column some wide =
     sums_joined (λ span. if shows (calls_at scale column) span then overlap row.low row.high span else 0)
     (λ span. if nat_lt (first_column scale (max span.born span.end)) (column + 1) then overlap row.low row.high span else 0)
     (λ span. if nat_lt (first_column scale span.born) (column + 1) then overlap row.low row.high span else 0)
     each spans
   where
-    each : (span : Span) → (if shows (calls_at scale column) span then overlap row.low row.high span else 0) + (if nat_lt (first_column scale (max span.born span.end)) (column + 1) then overlap row.low row.high span else 0) ≡ (if nat_lt (first_column scale span.born) (column + 1) then overlap row.low row.high span else 0)
+    each : (span : Span) → (if shows (calls_at scale column) span then overlap row.low row.high span else 0) + (if nat_lt
+        (first_column scale (max span.born span.end)) (column + 1) then overlap row.low row.high span else 0) ≡ (if nat_lt
+        (first_column scale span.born) (column + 1) then overlap row.low row.high span else 0)
     each span =
         let bytes = overlap row.low row.high span in
         let came = shown_from scale span.born column some wide in
@@ -114,7 +123,8 @@ shown_in scale row spans column some wide =
         ∙ ap (λ (t : Bool). if t then bytes else 0) (sym came)
 
 -- the sum so far, with what changes in the next column
-pub next_before : (scale : Scale) (change : Change) (row : Row) (spans : List Span) (sums : List ℕ) (column before one : ℕ) → before ≡ changed_before scale change row spans column →
+pub next_before : (scale : Scale) (change : Change) (row : Row) (spans : List Span) (sums : List ℕ)
+    (column before one : ℕ) → before ≡ changed_before scale change row spans column →
     column < length sums → one ≡ get_or sums column one → get_or sums column 0 ≡ changed scale change row spans column →
     before + one ≡ changed_before scale change row spans (column + 1)
 next_before scale change row spans sums column before one so_far within is changes =

@@ -10,7 +10,8 @@ use Rattle.heap_cells.specs.declared.bars.Bar.{Bar}
 use Rattle.heap_cells.specs.Bars.{bar_of, bars_from, shade_at, IsLeftOf, AreApart, BarsAreCells}
 
 -- whether a pixel of a column is in the pixels of columns is whether the column is one of them
-same_tests : (first pixel width start column next shade : ℕ) → (start ≤ column → first ≤ pixel) → (column < start → pixel < first) → (column < next → pixel < first + width) → (next ≤ column → first + width ≤ pixel) →
+same_tests : (first pixel width start column next shade : ℕ) → (start ≤ column → first ≤ pixel) →
+    (column < start → pixel < first) → (column < next → pixel < first + width) → (next ≤ column → first + width ≤ pixel) →
     (if nat_le first pixel && nat_lt pixel (first + width) then shade else 0) ≡ (if nat_le start column && nat_lt column next then shade else 0)
 same_tests first pixel width start column next shade from before within after =
     elim (cases_lt column start) [
@@ -31,7 +32,9 @@ scaled_more side a b some less =
     omega (arith, more, some)
 
 bar_covers : (side start column next shade : ℕ) → 0 < side → start ≤ next →
-    (if nat_le (144 + side * start) (144 + side * column) && nat_lt (144 + side * column) (144 + side * start + side * (next - start)) then shade else 0) ≡ (if nat_le start column && nat_lt column next then shade else 0)
+    (if nat_le (144 + side * start) (144 + side * column) && nat_lt (144 + side * column)
+    (144 + side * start + side * (next - start)) then shade else 0) ≡ (if nat_le start column && nat_lt column next
+    then shade else 0)
 bar_covers side start column next shade some order =
     let span : next ≡ start + (next - start) = omega (arith, order) in
     let wide = ap (λ (n : ℕ). side * n) span in
@@ -51,7 +54,13 @@ bar_at : (side y start next shade column : ℕ) → 0 < side → start ≤ next 
 bar_at side y start next shade column some order = go (nat_eq shade 0) refl
   where
     go : (b : Bool) → nat_eq shade 0 ≡ b →
-        shade_at (144 + side * column) (if b then [] else record { x = 144 + side * start; y = y; width = side * (next - start); shade = shade } ∷ []) ≡ (if nat_le start column && nat_lt column next then shade else 0)
+        shade_at (144 + side * column) (if b then [] else record {
+          x = 144 + side * start;
+          y = y;
+          width =
+              side * (next - start);
+          shade = shade;
+        } ∷ []) ≡ (if nat_le start column && nat_lt column next then shade else 0)
     go true none = no_shade (nat_le start column && nat_lt column next) shade (grind (arith, nat_tests, none))
     go false none = let covers = bar_covers side start column next shade some order in omega (arith, covers)
 
@@ -59,7 +68,8 @@ bar_at side y start next shade column some order = go (nat_eq shade 0) refl
 abbrev told : ℕ → ℕ → ℕ → List ℕ → ℕ → ℕ
 told start next shade rest column = if nat_lt column start then 0 else if nat_lt column next then shade else get_or rest (column - next) 0
 
-one_more : (next one column : ℕ) (rest : List ℕ) → next ≤ column → get_or (one ∷ rest) (column - next) 0 ≡ (if nat_lt column (next + 1) then one else get_or rest (column - (next + 1)) 0)
+one_more : (next one column : ℕ) (rest : List ℕ) → next ≤ column → get_or (one ∷ rest) (column - next)
+    0 ≡ (if nat_lt column (next + 1) then one else get_or rest (column - (next + 1)) 0)
 one_more next one column rest after =
     elim (cases_lt column (next + 1)) [
       | inl here ↦ (let none : column - next ≡ 0 = omega (arith, here, after) in
@@ -68,7 +78,8 @@ one_more next one column rest after =
           ap (λ (n : ℕ). get_or (one ∷ rest) n 0) more ∙ grind (arith, nat_tests, beyond))
     ]
 
-told_same : (start next shade one column : ℕ) (rest : List ℕ) → start ≤ next → one ≡ shade → told start (next + 1) shade rest column ≡ told start next shade (one ∷ rest) column
+told_same : (start next shade one column : ℕ) (rest : List ℕ) → start ≤ next → one ≡ shade →
+    told start (next + 1) shade rest column ≡ told start next shade (one ∷ rest) column
 told_same start next shade one column rest order same =
     elim (cases_lt column next) [
       | inl left ↦ grind (arith, nat_tests, left)
@@ -86,17 +97,23 @@ told_other start next shade one column rest order =
 told_last : (start next shade column : ℕ) → (if nat_le start column && nat_lt column next then shade else 0) ≡ told start next shade [] column
 told_last start next shade column = grind (arith, nat_tests)
 
-from_at : (side y start next shade column : ℕ) (rest : List ℕ) → 0 < side → start ≤ next → shade_at (144 + side * column) (bars_from side y start next shade rest) ≡ told start next shade rest column
+from_at : (side y start next shade column : ℕ) (rest : List ℕ) → 0 < side → start ≤ next →
+    shade_at (144 + side * column) (bars_from side y start next shade rest) ≡ told start next shade rest column
 from_at side y start next shade column [] some order = bar_at side y start next shade column some order ∙ told_last start next shade column
 from_at side y start next shade column (one ∷ rest) some order =
-    go (nat_eq one shade) refl (from_at side y start (next + 1) shade column rest some (omega (arith, order))) (from_at side y next (next + 1) one column rest some (omega arith))
+    go (nat_eq one shade) refl (from_at side y start (next + 1) shade column rest some (omega (arith, order)))
+    (from_at side y next (next + 1) one column rest some (omega arith))
   where
-    go : (b : Bool) → nat_eq one shade ≡ b → shade_at (144 + side * column) (bars_from side y start (next + 1) shade rest) ≡ told start (next + 1) shade rest column →
+    go : (b : Bool) → nat_eq one shade ≡ b → shade_at (144 + side * column)
+        (bars_from side y start (next + 1) shade rest) ≡ told start (next + 1) shade rest column →
         shade_at (144 + side * column) (bars_from side y next (next + 1) one rest) ≡ told next (next + 1) one rest column →
-        shade_at (144 + side * column) (if b then bars_from side y start (next + 1) shade rest else bar_of side y start next shade ++ bars_from side y next (next + 1) one rest) ≡ told start next shade (one ∷ rest) column
+        shade_at (144 + side * column) (if b then bars_from side y start (next + 1) shade rest else bar_of side y start next
+        shade ++ bars_from side y next (next + 1) one rest) ≡ told start next shade (one ∷ rest) column
     go true is on other = on ∙ told_same start next shade one column rest order (grind (arith, nat_tests, is))
     go false is on other =
-        let joined = sum_by-append (λ (bar : Bar). if nat_le bar.x (144 + side * column) && nat_lt (144 + side * column) (bar.x + bar.width) then bar.shade else 0) (bar_of side y start next shade) (bars_from side y next (next + 1) one rest) in
+        let joined = sum_by-append (λ (bar : Bar). if nat_le bar.x (144 + side * column) && nat_lt (144 + side * column)
+        (bar.x + bar.width) then bar.shade else 0) (bar_of side y start next shade)
+        (bars_from side y next (next + 1) one rest) in
         let here = bar_at side y start next shade column some order in
         let whole = told_other start next shade one column rest order in
         omega (arith, joined, here, other, whole)
@@ -119,10 +136,17 @@ begins_later side start next shade one (bar ∷ bars) some less after =
     let place = after.0 in
     (omega (arith, more, place), λ same. absurd (omega (arith, more, place, same)))
 
-begins_bar : (side y start next shade : ℕ) (bars : List Bar) → 0 < side → start < next → Begins side start shade bars → Begins side start shade (bar_of side y start next shade ++ bars)
+begins_bar : (side y start next shade : ℕ) (bars : List Bar) → 0 < side → start < next → Begins side start shade bars →
+    Begins side start shade (bar_of side y start next shade ++ bars)
 begins_bar side y start next shade bars some less after = go (nat_eq shade 0)
   where
-    go : (b : Bool) → Begins side start shade ((if b then [] else record { x = 144 + side * start; y = y; width = side * (next - start); shade = shade } ∷ []) ++ bars)
+    go : (b : Bool) → Begins side start shade ((if b then [] else record {
+      x = 144 + side * start;
+      y = y;
+      width =
+          side * (next - start);
+      shade = shade;
+    } ∷ []) ++ bars)
     go true = after
     go false = (omega arith, λ same. refl)
 
@@ -132,10 +156,13 @@ begins side y start next shade [] some less =
 begins side y start next shade (one ∷ rest) some less =
     go (nat_eq one shade) (begins side y start (next + 1) shade rest some (omega (arith, less))) (begins side y next (next + 1) one rest some (omega arith))
   where
-    go : (b : Bool) → Begins side start shade (bars_from side y start (next + 1) shade rest) → Begins side next one (bars_from side y next (next + 1) one rest) →
-        Begins side start shade (if b then bars_from side y start (next + 1) shade rest else bar_of side y start next shade ++ bars_from side y next (next + 1) one rest)
+    go : (b : Bool) → Begins side start shade (bars_from side y start (next + 1) shade rest) →
+        Begins side next one (bars_from side y next (next + 1) one rest) →
+        Begins side start shade (if b then bars_from side y start (next + 1) shade rest else bar_of side y start next
+        shade ++ bars_from side y next (next + 1) one rest)
     go true on other = on
-    go false on other = begins_bar side y start next shade (bars_from side y next (next + 1) one rest) some less (begins_later side start next shade one (bars_from side y next (next + 1) one rest) some less other)
+    go false on other = begins_bar side y start next shade (bars_from side y next (next + 1) one rest) some less
+        (begins_later side start next shade one (bars_from side y next (next + 1) one rest) some less other)
 
 left_of : (side y start next shade one : ℕ) (bars : List Bar) → start ≤ next → (one ≡ shade → ⊥) → Begins side next one bars →
     IsLeftOf (record { x = 144 + side * start; y = y; width = side * (next - start); shade = shade }) bars
@@ -146,7 +173,8 @@ left_of side y start next shade one (bar ∷ bars) order differs after =
     let place = after.0 in
     (omega (arith, wide, place), λ touches same. differs (sym (after.1 (omega (arith, wide, touches))) ∙ sym same))
 
-apart_bar : (side y start next shade one : ℕ) (bars : List Bar) → start ≤ next → (one ≡ shade → ⊥) → Begins side next one bars → AreApart bars → AreApart (bar_of side y start next shade ++ bars)
+apart_bar : (side y start next shade one : ℕ) (bars : List Bar) → start ≤ next → (one ≡ shade → ⊥) →
+    Begins side next one bars → AreApart bars → AreApart (bar_of side y start next shade ++ bars)
 apart_bar side y start next shade one bars order differs after rest = go (nat_eq shade 0)
   where
     go : (b : Bool) → AreApart ((if b then [] else record { x = 144 + side * start; y = y; width = side * (next - start); shade = shade } ∷ []) ++ bars)
@@ -169,7 +197,8 @@ apart side y start next shade (one ∷ rest) some order =
         AreApart (if b then bars_from side y start (next + 1) shade rest else bar_of side y start next shade ++ bars_from side y next (next + 1) one rest)
     go true is on other = on
     go false is on other =
-        apart_bar side y start next shade one (bars_from side y next (next + 1) one rest) order (λ same. grind (arith, nat_tests, is, same)) (begins side y next (next + 1) one rest some (omega arith)) other
+        apart_bar side y start next shade one (bars_from side y next (next + 1) one rest) order
+        (λ same. grind (arith, nat_tests, is, same)) (begins side y next (next + 1) one rest some (omega arith)) other
 
 pub drawn : BarsAreCells
 drawn side y shades some = record {

@@ -25,7 +25,8 @@ kept p f out (x ∷ xs) = go (p x) refl (kept p f out xs)
     go true is more = omega (arith, more, sum_by-cons f x (filter p xs), sum_by-cons f x xs)
     go false is more = let none = out x is in omega (arith, more, none, sum_by-cons f x xs)
 
-apart : (low high a b calls : ℕ) (span : Span) → low ≤ a → b ≤ high → nat_lt 0 (overlap low high span) ≡ false → (if shows calls span then overlap a b span else 0) ≡ 0
+apart : (low high a b calls : ℕ) (span : Span) → low ≤ a → b ≤ high → nat_lt 0 (overlap low high span) ≡ false →
+    (if shows calls span then overlap a b span else 0) ≡ 0
 apart low high a b calls span before after none =
     let outside : overlap low high span ≡ 0 = grind (arith, nat_tests, none) in
     let nothing : overlap a b span ≡ 0 = omega (arith, outside, before, after) in
@@ -37,19 +38,23 @@ apart low high a b calls span before after none =
 
 used_near : (low high a b calls : ℕ) (spans : List Span) → low ≤ a → b ≤ high → used_in a b calls (spans_in low high spans) ≡ used_in a b calls spans
 used_near low high a b calls spans before after =
-    kept (λ span. nat_lt 0 (overlap low high span)) (λ span. if shows calls span then overlap a b span else 0) (λ span none. apart low high a b calls span before after none) spans
+    kept (λ span. nat_lt 0 (overlap low high span)) (λ span. if shows calls span then overlap a b span else 0)
+    (λ span none. apart low high a b calls span before after none) spans
 
 shades_near : (low high : ℕ) (scale : Scale) (shades : ℕ) (row : Row) (spans : List Span) (columns : ℕ) → low ≤ row.low → row.high ≤ high →
     first_shades scale shades row (spans_in low high spans) columns ≡ first_shades scale shades row spans columns
 shades_near low high scale shades row spans zero before after = refl
 shades_near low high scale shades row spans (suc column) before after =
-    ap (λ (ns : List ℕ). ns ++ cell_shade scale shades row (spans_in low high spans) column ∷ []) (shades_near low high scale shades row spans column before after)
-    ∙ ap (λ (n : ℕ). first_shades scale shades row spans column ++ shade_of shades n (row.high - row.low) ∷ []) (used_near low high row.low row.high (calls_at scale column) spans before after)
+    ap (λ (ns : List ℕ). ns ++ cell_shade scale shades row (spans_in low high spans) column ∷ [])
+    (shades_near low high scale shades row spans column before after)
+    ∙ ap (λ (n : ℕ). first_shades scale shades row spans column ++ shade_of shades n (row.high - row.low) ∷ [])
+    (used_near low high row.low row.high (calls_at scale column) spans before after)
 
 pub row_near : (low high : ℕ) (scale : Scale) (shades : ℕ) (row : Row) (spans : List Span) → low ≤ row.low → row.high ≤ high →
     row_bars scale shades row (spans_in low high spans) ≡ row_bars scale shades row spans
 unfolding row_shades
-row_near low high scale shades row spans before after = ap (bars_of scale.side row.y) (shades_near low high scale shades row spans (columns_of scale) before after)
+row_near low high scale shades row spans before after = ap (bars_of scale.side row.y)
+    (shades_near low high scale shades row spans (columns_of scale) before after)
 
 start_least : (scale : Scale) (band : Band) (one other : ℕ) → 0 < rows_of scale band → one ≤ other → row_start scale band one ≤ row_start scale band other
 start_least scale band one other some less =
@@ -61,7 +66,8 @@ start_least scale band one other some less =
     omega (arith, least)
 
 -- rows that lie from one to another
-pub rows_near : (scale : Scale) (shades : ℕ) (spans : List Span) (band : Band) (low high first number : ℕ) → 0 < rows_of scale band → low ≤ (row_at scale band first).low →
+pub rows_near : (scale : Scale) (shades : ℕ) (spans : List Span) (band : Band) (low high first number : ℕ) →
+    0 < rows_of scale band → low ≤ (row_at scale band first).low →
     ((k : ℕ) → k < number → (row_at scale band (first + k)).high ≤ high) →
     rows_from scale shades (spans_in low high spans) band first number ≡ rows_from scale shades spans band first number
 rows_near scale shades spans band low high first zero rows before after = refl
@@ -73,7 +79,8 @@ rows_near scale shades spans band low high first (suc number) rows before after 
     ∙ ap (λ (bars : List Bar). rows_from scale shades spans band first number ++ bars)
     (row_near low high scale shades (row_at scale band (first + number)) spans (omega (arith, before, least)) this)
 
-high_least : (scale : Scale) (band : Band) (one other : ℕ) → 0 < rows_of scale band → one ≤ other → (row_at scale band one).high ≤ (row_at scale band other).high
+high_least : (scale : Scale) (band : Band) (one other : ℕ) → 0 < rows_of scale band → one ≤ other →
+    (row_at scale band one).high ≤ (row_at scale band other).high
 high_least scale band one other rows less =
     let start = start_least scale band one other rows less in
     let end = start_least scale band (one + 1) (other + 1) rows (omega (arith, less)) in
@@ -81,7 +88,8 @@ high_least scale band one other rows less =
 
 -- the spans that the rows from the first to the last meet are enough for them
 pub rows_between : (scale : Scale) (shades : ℕ) (spans : List Span) (band : Band) (first number : ℕ) → 0 < rows_of scale band → 0 < number →
-    rows_from scale shades (spans_in (row_at scale band first).low (row_at scale band (first + (number - 1))).high spans) band first number ≡ rows_from scale shades spans band first number
+    rows_from scale shades (spans_in (row_at scale band first).low (row_at scale band (first + (number - 1))).high spans)
+    band first number ≡ rows_from scale shades spans band first number
 rows_between scale shades spans band first number rows some =
     rows_near scale shades spans band (row_at scale band first).low (row_at scale band (first + (number - 1))).high first number rows (omega arith)
     (λ k few. high_least scale band (first + k) (first + (number - 1)) rows (omega (arith, few)))
@@ -102,7 +110,8 @@ rows_split scale shades spans band first one (suc other) =
     ∙ append_assoc (rows_from scale shades spans band first one) (rows_from scale shades spans band (first + one) other) last
 
 -- rows that are drawn with the spans that they meet
-enough : (scale : Scale) (shades : ℕ) (spans near : List Span) (band : Band) (first number : ℕ) (lowest highest : Row) → first + number ≤ rows_of scale band → 0 < number →
+enough : (scale : Scale) (shades : ℕ) (spans near : List Span) (band : Band) (first number : ℕ) (lowest highest : Row) →
+    first + number ≤ rows_of scale band → 0 < number →
     lowest ≡ row_at scale band first → highest ≡ row_at scale band (first + (number - 1)) → near ≡ spans_in lowest.low highest.high spans →
     rows_from scale shades near band first number ≡ rows_from scale shades spans band first number
 enough scale shades spans near band first number lowest highest rows some low high is =
@@ -112,7 +121,8 @@ enough scale shades spans near band first number lowest highest rows some low hi
     ∙ rows_between scale shades spans band first number wide some
 
 -- the text with one row more
-pub one_put : (scale : Scale) (shades : ℕ) (spans near : List Span) (band : Band) (first number : ℕ) (lowest highest : Row) (old new : List Bar) → first + number ≤ rows_of scale band → number ≡ 1 →
+pub one_put : (scale : Scale) (shades : ℕ) (spans near : List Span) (band : Band) (first number : ℕ) (lowest highest : Row)
+    (old new : List Bar) → first + number ≤ rows_of scale band → number ≡ 1 →
     lowest ≡ row_at scale band first → highest ≡ row_at scale band (first + (number - 1)) → near ≡ spans_in lowest.low highest.high spans →
     new ≡ old ++ row_bars scale shades lowest near → new ≡ old ++ rows_from scale shades spans band first number
 one_put scale shades spans near band first number lowest highest old new rows one low high is put =
@@ -124,7 +134,8 @@ one_put scale shades spans near band first number lowest highest old new rows on
     ∙ ap (λ (bars : List Bar). old ++ bars) (enough scale shades spans near band first number lowest highest rows (omega (arith, one)) low high is)
 
 -- and with two parts more
-pub halves_put : (scale : Scale) (shades : ℕ) (spans near : List Span) (band : Band) (first number half : ℕ) (lowest highest : Row) (old middle new : List Bar) → first + number ≤ rows_of scale band → 0 < number → half ≤ number →
+pub halves_put : (scale : Scale) (shades : ℕ) (spans near : List Span) (band : Band) (first number half : ℕ)
+    (lowest highest : Row) (old middle new : List Bar) → first + number ≤ rows_of scale band → 0 < number → half ≤ number →
     lowest ≡ row_at scale band first → highest ≡ row_at scale band (first + (number - 1)) → near ≡ spans_in lowest.low highest.high spans →
     middle ≡ old ++ rows_from scale shades near band first half → new ≡ middle ++ rows_from scale shades near band (first + half) (number - half) →
     new ≡ old ++ rows_from scale shades spans band first number

@@ -14,5 +14,6 @@ pub bars_step : (side y start shade : ℕ) (shades : List ℕ) (i : ℕ) → i <
 bars_step side y start shade shades i within = ap (bars_from side y start i shade) (rest_at shades i within)
 
 -- nothing is after the last cell
-pub bars_last : (side y start shade : ℕ) (shades : List ℕ) (i : ℕ) → length shades ≤ i → bars_from side y start i shade (drop i shades) ≡ bar_of side y start i shade
+pub bars_last : (side y start shade : ℕ) (shades : List ℕ) (i : ℕ) → length shades ≤ i →
+    bars_from side y start i shade (drop i shades) ≡ bar_of side y start i shade
 bars_last side y start shade shades i all = ap (bars_from side y start i shade) (drop_all i shades all)

@@ -20,7 +20,8 @@ first_start scale band some =
     let none = div_below (0 * (band.high - band.low)) (rows_of scale band) 1 some (omega (arith, some)) in
     omega (arith, none)
 
-last_start : (scale : Scale) (band : Band) (row : ℕ) → 0 < rows_of scale band → rows_of scale band ≤ band.high - band.low → row ≡ rows_of scale band → row_start scale band row ≡ band.high
+last_start : (scale : Scale) (band : Band) (row : ℕ) → 0 < rows_of scale band → rows_of scale band ≤ band.high - band.low →
+    row ≡ rows_of scale band → row_start scale band row ≡ band.high
 last_start scale band row some enough last =
     let all = mul-div_cancel_left (band.high - band.low) some in
     ap (row_start scale band) last ∙ omega (arith, all, enough, some)

@@ -28,15 +28,20 @@ pub columns_step : (moments : List Moment) (number : ℕ) → first_columns mome
 columns_step moments number = ap (first_columns moments) (add-one number)
 
 pub steps_step : (curve : Curve) (scale : Scale) (number place height : ℕ) (columns : List Column) (i : ℕ) (d : Column) → i < length columns →
-    steps_text curve scale number place height (drop i columns) ≡ (if nat_eq (height_of scale (curve_bytes curve (get_or columns i d))) height then [] else step_text (x_of place number) (height_of scale (curve_bytes curve (get_or columns i d))))
+    steps_text curve scale number place height (drop i columns) ≡ (if nat_eq
+    (height_of scale (curve_bytes curve (get_or columns i d))) height then [] else step_text (x_of place number)
+    (height_of scale (curve_bytes curve (get_or columns i d))))
     ++ steps_text curve scale number (place + 1) (height_of scale (curve_bytes curve (get_or columns i d))) (drop (i + 1) columns)
 steps_step curve scale number place height columns i d within = at_drop_more (steps_text curve scale number place height) columns i d within
 
-pub steps_last : (curve : Curve) (scale : Scale) (number place height : ℕ) (columns : List Column) (i : ℕ) → length columns ≤ i → steps_text curve scale number place height (drop i columns) ≡ []
+pub steps_last : (curve : Curve) (scale : Scale) (number place height : ℕ) (columns : List Column) (i : ℕ) →
+    length columns ≤ i → steps_text curve scale number place height (drop i columns) ≡ []
 steps_last curve scale number place height columns i all = at_drop_all (steps_text curve scale number place height) columns i all
 
 pub regions_step : (calls y start drawn : ℕ) (users : List Mapping) (i : ℕ) (d : Mapping) → i < length users →
-    regions_text calls y start drawn (drop i users) ≡ (if is_drawn calls start drawn (get_or users i d) then region_text calls y (get_or users i d) ++ regions_text calls y start (region_right calls (get_or users i d)) (drop (i + 1) users)
+    regions_text calls y start drawn (drop i users) ≡ (if is_drawn calls start drawn (get_or users i d) then region_text
+    calls y (get_or users i d) ++ regions_text calls y start (region_right calls (get_or users i d))
+    (drop (i + 1) users)
     else regions_text calls y start drawn (drop (i + 1) users))
 regions_step calls y start drawn users i d within = at_drop_more (regions_text calls y start drawn) users i d within
 
@@ -74,22 +79,26 @@ lanes_last lane calls y low users all =
     ap (λ (n : ℕ). lanes_from n calls y low users) left
 
 pub height_step : (lane low : ℕ) (users : List Mapping) → lane < 6 →
-    height_from (6 - lane) low users ≡ (if nat_eq (least_start low users) (2 ^ 64) then 0 else 19 + height_from (6 - (lane + 1)) (least_start low users + 1) users)
+    height_from (6 - lane) low users ≡ (if nat_eq (least_start low users) (2 ^ 64) then 0 else 19 + height_from
+    (6 - (lane + 1)) (least_start low users + 1) users)
 height_step lane low users few =
     let left : 6 - lane ≡ suc (6 - (lane + 1)) = omega (arith, few) in
     ap (λ (n : ℕ). height_from n low users) left
 
-pub height_last : (lane low : ℕ) (users : List Mapping) → 6 ≤ lane → height_from (6 - lane) low users ≡ (if nat_eq (least_start low users) (2 ^ 64) then 0 else 19)
+pub height_last : (lane low : ℕ) (users : List Mapping) → 6 ≤ lane → height_from (6 - lane) low
+    users ≡ (if nat_eq (least_start low users) (2 ^ 64) then 0 else 19)
 height_last lane low users all =
     let left : 6 - lane ≡ zero = omega (arith, all) in
     ap (λ (n : ℕ). height_from n low users) left
 
 pub bars_step : (calls y : ℕ) (first : RefusedCall) (number : ℕ) (refused : List RefusedCall) (i : ℕ) (d : RefusedCall) → i < length refused →
-    bars_from calls y first number (drop i refused) ≡ (if nat_eq (bar_of calls first.call) (bar_of calls (get_or refused i d).call) then bars_from calls y first (number + 1) (drop (i + 1) refused)
+    bars_from calls y first number (drop i refused) ≡ (if nat_eq (bar_of calls first.call)
+    (bar_of calls (get_or refused i d).call) then bars_from calls y first (number + 1) (drop (i + 1) refused)
     else bar_text calls y first number ++ bars_from calls y (get_or refused i d) 1 (drop (i + 1) refused))
 bars_step calls y first number refused i d within = at_drop_more (bars_from calls y first number) refused i d within
 
-pub bars_last : (calls y : ℕ) (first : RefusedCall) (number : ℕ) (refused : List RefusedCall) (i : ℕ) → length refused ≤ i → bars_from calls y first number (drop i refused) ≡ bar_text calls y first number
+pub bars_last : (calls y : ℕ) (first : RefusedCall) (number : ℕ) (refused : List RefusedCall) (i : ℕ) → length refused ≤ i →
+    bars_from calls y first number (drop i refused) ≡ bar_text calls y first number
 bars_last calls y first number refused i all = at_drop_all (bars_from calls y first number) refused i all
 
 pub lines_step : (top y calls call : ℕ) (lines : List (List ℕ)) (i : ℕ) (d : List ℕ) → i < length lines →
@@ -111,16 +120,20 @@ unfolding step_of
 power_begin calls = refl
 
 pub power_step : (times power calls : ℕ) → times < 20 →
-    step_from (20 - times) power calls ≡ (if nat_le calls (10 * power) then power else if nat_le calls (20 * power) then 2 * power else if nat_le calls (50 * power) then 5 * power else step_from (20 - (times + 1)) (power * 10) calls)
+    step_from (20 - times) power calls ≡ (if nat_le calls (10 * power) then power else if nat_le calls (20 * power)
+    then 2 * power else if nat_le calls (50 * power) then 5 * power else step_from (20 - (times + 1)) (power * 10)
+    calls)
 power_step times power calls few =
     let left : 20 - times ≡ suc (20 - (times + 1)) = omega (arith, few) in
     ap (λ (n : ℕ). step_from n power calls) left
-    ∙ ap (λ (n : ℕ). if nat_le calls (10 * power) then power else if nat_le calls (20 * power) then 2 * power else if nat_le calls (50 * power) then 5 * power else step_from (20 - (times + 1)) n calls) (omega arith)
+    ∙ ap (λ (n : ℕ). if nat_le calls (10 * power) then power else if nat_le calls (20 * power) then 2 * power else if nat_le
+    calls (50 * power) then 5 * power else step_from (20 - (times + 1)) n calls) (omega arith)
 
 pub power_last : (times power calls : ℕ) → 20 ≤ times → step_from (20 - times) power calls ≡ power
 power_last times power calls all =
     let left : 20 - times ≡ zero = omega (arith, all) in
     ap (λ (n : ℕ). step_from n power calls) left
 
-pub ticks_step : (top y calls step ticks : ℕ) → ticks_text top y calls step (ticks + 1) ≡ ticks_text top y calls step ticks ++ tick_text top y calls (step * ticks)
+pub ticks_step : (top y calls step ticks : ℕ) → ticks_text top y calls step (ticks + 1) ≡ ticks_text top y calls step
+    ticks ++ tick_text top y calls (step * ticks)
 ticks_step top y calls step ticks = ap (ticks_text top y calls step) (add-one ticks)

@@ -11,11 +11,13 @@ use Rattle.heap_curves.specs.Columns.{greatest, columns_number, column_start, mo
 use Rattle.heap_curves.proofs.Greatest.{greatest_split}
 use Rattle.heap_curves.proofs.Starts.{start_within, start_grows}
 
-pushed : (counted : Counted) (columns : List Column) (column : Column) → most_drawn counted (columns ++ column ∷ []) ≡ max (column_bytes counted column) (most_drawn counted columns)
+pushed : (counted : Counted) (columns : List Column) (column : Column) →
+    most_drawn counted (columns ++ column ∷ []) ≡ max (column_bytes counted column) (most_drawn counted columns)
 pushed counted [] column = refl
 pushed counted (c ∷ cs) column = let more = pushed counted cs column in omega (arith, more)
 
-drawn_in : (counted : Counted) (moments : List Moment) (column : ℕ) → column_bytes counted (column_of moments column) ≡ greatest counted (moments_in moments column)
+drawn_in : (counted : Counted) (moments : List Moment) (column : ℕ) →
+    column_bytes counted (column_of moments column) ≡ greatest counted (moments_in moments column)
 drawn_in Live moments column = refl
 drawn_in Heap moments column = refl
 
@@ -41,7 +43,9 @@ start_last (suc n) =
     let most = start_within calls k (omega arith) in
     omega (arith, least, most)
 
-first_most : (counted : Counted) (moments : List Moment) (number : ℕ) → most_drawn counted (first_columns moments number) ≡ greatest counted (take (column_start (length moments) number) moments)
+first_most : (counted : Counted) (moments : List Moment) (number : ℕ) →
+    most_drawn counted (first_columns moments number) ≡ greatest counted
+    (take (column_start (length moments) number) moments)
 first_most counted moments zero = ap (λ (n : ℕ). greatest counted (take n moments)) (sym (start_first (length moments)))
 first_most counted moments (suc number) =
     let calls = length moments in

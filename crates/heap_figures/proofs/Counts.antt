@@ -19,7 +19,8 @@ not_large extent index none = elim (and_cases (is_binned extent.kind) (nat_le 25
     below : (size : ℕ) → nat_le 256 size ≡ false → size < 256
     below size small = grind (arith, nat_tests)
 
-pub counted_none : (counts : List ℕ) (extent : Extent) (index : ℕ) → (is_binned extent.kind && nat_le 256 extent.size) ≡ false → get_or counts index 0 ≡ get_or counts index 0 + (if is_large index extent then 1 else 0)
+pub counted_none : (counts : List ℕ) (extent : Extent) (index : ℕ) → (is_binned extent.kind && nat_le 256
+    extent.size) ≡ false → get_or counts index 0 ≡ get_or counts index 0 + (if is_large index extent then 1 else 0)
 counted_none counts extent index none = rw (not_large extent index none) (omega arith)
 
 same_or : (m n : ℕ) → (m ≡ n) ⊎ (m ≢ n)
@@ -29,15 +30,21 @@ same_or m n = elim (cases_lt m n) [
 ]
 
 -- and one that is in a tree bin is in that of its size alone
-pub counted_one : (counts : List ℕ) (extent : Extent) (bin index : ℕ) → length counts ≡ 32 → (is_binned extent.kind && nat_le 256 extent.size) ≡ true → IsTreeIndex extent.size bin → index < 32 →
+pub counted_one : (counts : List ℕ) (extent : Extent) (bin index : ℕ) → length counts ≡ 32 →
+    (is_binned extent.kind && nat_le 256 extent.size) ≡ true → IsTreeIndex extent.size bin → index < 32 →
     get_or (set counts bin (get_or counts bin 0 + 1)) index 0 ≡ get_or counts index 0 + (if is_large index extent then 1 else 0)
 counted_one counts extent bin index long some in_bin few =
     let free : is_binned extent.kind ≡ true = (and_parts (is_binned extent.kind) (nat_le 256 extent.size) some).0 in
     elim (same_or index bin) [
-      | inl same ↦ (let is : is_large index extent ≡ true = and_from (is_binned extent.kind) (is_tree_size index extent.size) free (ap (λ (i : ℕ). is_tree_size i extent.size) same ∙ tree_here extent.size bin in_bin) in
+      | inl same ↦ (let is : is_large index extent ≡ true = and_from (is_binned extent.kind)
+          (is_tree_size index extent.size) free (ap (λ (i : ℕ). is_tree_size i extent.size) same
+          ∙ tree_here extent.size bin in_bin) in
           let within = in_bin.within in
-          rw is (ap (λ (i : ℕ). get_or (set counts bin (get_or counts bin 0 + 1)) i 0) same ∙ get_or-set_same counts bin (get_or counts bin 0 + 1) 0 (omega (arith, long, within)) ∙ ap (λ (i : ℕ). get_or counts i 0 + 1) (sym same)))
-      | inr other ↦ (let is : is_large index extent ≡ false = and_right (is_binned extent.kind) (is_tree_size index extent.size) (tree_elsewhere extent.size bin index in_bin few other) in
+          rw is (ap (λ (i : ℕ). get_or (set counts bin (get_or counts bin 0 + 1)) i 0) same
+          ∙ get_or-set_same counts bin (get_or counts bin 0 + 1) 0 (omega (arith, long, within))
+          ∙ ap (λ (i : ℕ). get_or counts i 0 + 1) (sym same)))
+      | inr other ↦ (let is : is_large index extent ≡ false = and_right (is_binned extent.kind)
+          (is_tree_size index extent.size) (tree_elsewhere extent.size bin index in_bin few other) in
           rw is (get_or-set_other counts bin index (get_or counts bin 0 + 1) 0 other ∙ omega arith))
     ]
 

@@ -7,12 +7,15 @@ behind : (first second : Extent) → IsBehind first second → first.at + first.
 behind first second (inl other) = other.2
 behind first second (inr next) = omega (arith, next.1.place)
 
-next_suc : (extents : List Extent) (i : ℕ) (d e : Extent) → AreInSegments extents → suc i < length extents → (get_or extents i d).at + (get_or extents i d).size ≤ (get_or extents (suc i) e).at
+next_suc : (extents : List Extent) (i : ℕ) (d e : Extent) → AreInSegments extents → suc i < length extents →
+    (get_or extents i d).at + (get_or extents i d).size ≤ (get_or extents (suc i) e).at
 next_suc [] i d e segments within = absurd (omega (arith, within))
 next_suc (x ∷ []) i d e segments within = absurd (omega (arith, within))
 next_suc (x ∷ y ∷ xs) zero d e segments within = behind x y segments.0
 next_suc (x ∷ y ∷ xs) (suc i) d e segments within = next_suc (y ∷ xs) i d e segments.1 (omega (arith, within))
 
-pub next_at : (extents : List Extent) (i : ℕ) (d e : Extent) → AreInSegments extents → i + 1 < length extents → (get_or extents i d).at + (get_or extents i d).size ≤ (get_or extents (i + 1) e).at
+pub next_at : (extents : List Extent) (i : ℕ) (d e : Extent) → AreInSegments extents → i + 1 < length extents →
+    (get_or extents i d).at + (get_or extents i d).size ≤ (get_or extents (i + 1) e).at
 next_at extents i d e segments within =
-    subst (λ (j : ℕ). (get_or extents i d).at + (get_or extents i d).size ≤ (get_or extents j e).at) (sym (add-one i)) (next_suc extents i d e segments (omega (arith, within)))
+    subst (λ (j : ℕ). (get_or extents i d).at + (get_or extents i d).size ≤ (get_or extents j e).at) (sym (add-one i))
+    (next_suc extents i d e segments (omega (arith, within)))

@@ -15,13 +15,16 @@ range_more : (n : ℕ) → range_with_len 0 (n + 1) ≡ range_with_len 0 n ++ n 
 range_more n = ap (range_with_len 0) (add-one n) ∙ range_suc 0 n ∙ ap (λ (k : ℕ). range_with_len 0 n ++ k ∷ []) (omega arith)
 
 each_more : (f : ℕ → List ℕ) (n : ℕ) → flat_map f (range_with_len 0 (n + 1)) ≡ flat_map f (range_with_len 0 n) ++ f n
-each_more f n = ap (flat_map f) (range_more n) ∙ flat_map-append f (range_with_len 0 n) (n ∷ []) ∙ ap (λ (l : List ℕ). flat_map f (range_with_len 0 n) ++ l) (append-nil (f n))
+each_more f n = ap (flat_map f) (range_more n) ∙ flat_map-append f (range_with_len 0 n) (n ∷ [])
+    ∙ ap (λ (l : List ℕ). flat_map f (range_with_len 0 n) ++ l) (append-nil (f n))
 
 pub small_none : (before behind : List ℕ) (extents : List Extent) → small_texts before behind extents 0 ≡ []
 unfolding small_texts
 small_none before behind extents = refl
 
-pub small_more : (before behind : List ℕ) (extents : List Extent) (n : ℕ) → small_texts before behind extents (n + 1) ≡ small_texts before behind extents n ++ class_text before behind (codes "small") n (small_count n extents)
+pub small_more : (before behind : List ℕ) (extents : List Extent) (n : ℕ) →
+    small_texts before behind extents (n + 1) ≡ small_texts before behind extents n ++ class_text before behind
+    (codes "small") n (small_count n extents)
 unfolding small_texts
 small_more before behind extents n = each_more (λ (size : ℕ). class_text before behind (codes "small") size (small_count size extents)) n
 
@@ -29,6 +32,8 @@ pub tree_none : (before behind : List ℕ) (extents : List Extent) → tree_text
 unfolding tree_texts
 tree_none before behind extents = refl
 
-pub tree_more : (before behind : List ℕ) (extents : List Extent) (n : ℕ) → tree_texts before behind extents (n + 1) ≡ tree_texts before behind extents n ++ class_text before behind (codes "tree") n (tree_count n extents)
+pub tree_more : (before behind : List ℕ) (extents : List Extent) (n : ℕ) →
+    tree_texts before behind extents (n + 1) ≡ tree_texts before behind extents n ++ class_text before behind (codes "tree")
+    n (tree_count n extents)
 unfolding tree_texts
 tree_more before behind extents n = each_more (λ (index : ℕ). class_text before behind (codes "tree") index (tree_count index extents)) n

@@ -41,8 +41,10 @@ pub tree_elsewhere : (size index other : ℕ) → IsTreeIndex size index → oth
 tree_elsewhere size index other is few apart =
     elim (cases_lt other index) [
       | inl less ↦ (let up = later other index less in let reached = is.reached in let within = is.within in
-          let below : least_size (other + 1) ≤ size = omega (arith, up, reached) in let early : other < 31 = omega (arith, less, within) in grind (arith, nat_tests))
-      | inr more ↦ (let above : index < other = omega (arith, more, apart) in let up = later index other above in let last = is.last (omega (arith, above, few)) in
+          let below : least_size (other + 1) ≤ size = omega (arith, up, reached) in let early : other < 31 =
+          omega (arith, less, within) in grind (arith, nat_tests))
+      | inr more ↦ (let above : index < other = omega (arith, more, apart) in let up = later index other above in let last =
+          is.last (omega (arith, above, few)) in
           let below : size < least_size other = omega (arith, up, last) in grind (arith, nat_tests))
     ]
 

@@ -17,12 +17,15 @@ kept_either (Err error) old new arena added same = (ap regions_of_all same, λ a
 
 -- A heap keeps its state where its system, of whose arenas items tells, was asked to take a further one.
 pub added_intact : {A T E : Type 0} (items : A → List Arena) (heap : Dlmalloc A) (lent system : A) (answer : Result T E) (arena : Arena) →
-    RestsOutside (λ a. regions_of_all (items a)) (λ a. word_among (items a)) heap → IsIntact (λ a. regions_of_all (items a)) (λ a. word_among (items a)) heap → lent ≡ heap.system →
+    RestsOutside (λ a. regions_of_all (items a)) (λ a. word_among (items a)) heap →
+    IsIntact (λ a. regions_of_all (items a)) (λ a. word_among (items a)) heap → lent ≡ heap.system →
     OnOk answer (IsAdded (items lent) arena (items system)) → OnErr answer (items system ≡ items lent) →
     IsIntact (λ a. regions_of_all (items a)) (λ a. word_among (items a)) (record heap { system = system })
     × (state_of (λ a. word_among (items a)) (record heap { system = system }) ≡ state_of (λ a. word_among (items a)) heap)
 added_intact items heap lent system answer arena rests intact is added same =
-    let kept = subst (λ a. (regions_of_all (items system) ≡ regions_of_all (items a)) × ((at : ℕ) → IsWordOf (regions_of_all (items a)) at → word_among (items system) at ≡ word_among (items a) at)) is
+    let kept = subst (λ a. (regions_of_all (items system) ≡ regions_of_all (items a)) × ((at : ℕ) →
+    IsWordOf (regions_of_all (items a)) at → word_among (items system) at ≡ word_among (items a) at)) is
     (kept_either answer (items lent) (items system) arena added same) in
-    let still = rests intact.sound system (same_regions (λ a. regions_of_all (items a)) (λ a. word_among (items a)) heap intact.sound system kept.0) (λ k is there apart. kept.1 k is) in
+    let still = rests intact.sound system (same_regions (λ a. regions_of_all (items a)) (λ a. word_among (items a)) heap
+    intact.sound system kept.0) (λ k is there apart. kept.1 k is) in
     (record { sound = still.0; linked = still.2 intact.linked }, still.1)

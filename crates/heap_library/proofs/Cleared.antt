@@ -8,4 +8,5 @@ use Rattle.heap_library.specs.Checked.{IsCleared}
 pub clear_rest : (memory front marks : List ℕ) → IsCleared memory → memory ≡ front ++ marks → length front ≡ length memory - (length memory + 127) / 128 →
     length marks ≡ (length memory + 127) / 128 → marks ≡ replicate (length marks) 0
 clear_rest memory front marks cleared parts place count =
-    sym (drop-append_seam front marks) ∙ ap (drop (length front)) (sym parts) ∙ ap (λ (k : ℕ). drop k memory) place ∙ cleared ∙ ap (λ (k : ℕ). replicate k 0) (sym count)
+    sym (drop-append_seam front marks) ∙ ap (drop (length front)) (sym parts) ∙ ap (λ (k : ℕ). drop k memory) place
+    ∙ cleared ∙ ap (λ (k : ℕ). replicate k 0) (sym count)

@@ -28,7 +28,8 @@ counted_none test (suc n) none =
     let bit = ap {B = ℕ} (λ (b : Bool). if b then 1 else 0) (none n) in
     omega (arith, counted_suc test n, rest, bit)
 
-pub counted_more : (less more : ℕ → Bool) (n at : ℕ) → at < n → less at ≡ false → more at ≡ true → ((k : ℕ) → k ≢ at → more k ≡ less k) → counted more n ≡ counted less n + 1
+pub counted_more : (less more : ℕ → Bool) (n at : ℕ) → at < n → less at ≡ false → more at ≡ true →
+    ((k : ℕ) → k ≢ at → more k ≡ less k) → counted more n ≡ counted less n + 1
 counted_more less more zero at below not_yet now same = absurd (omega (arith, below))
 counted_more less more (suc n) at below not_yet now same = go (cases_eq at n) (λ before. counted_more less more n at before not_yet now same)
   where

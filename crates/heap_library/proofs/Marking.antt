@@ -26,7 +26,8 @@ at_place : (heap : HeapState) (a : ℕ) (block : HasBlock heap a) → block.1.ex
 at_place heap a block = (found (a - 16) block.1.extent (extents_in heap) block.1.there).place
 
 -- a block of one heap is one of another that has its extent
-carried : (old new : HeapState) (a : ℕ) (block : HasBlock old a) → (extent_at block.1.extent.at (extents_in old) ≡ Some block.1.extent → extent_at block.1.extent.at (extents_in new) ≡ Some block.1.extent) → HasBlock new a
+carried : (old new : HeapState) (a : ℕ) (block : HasBlock old a) → (extent_at block.1.extent.at (extents_in old) ≡ Some
+    block.1.extent → extent_at block.1.extent.at (extents_in new) ≡ Some block.1.extent) → HasBlock new a
 carried old new a block moves =
     let place = at_place old a block in
     let was = ap (λ (k : ℕ). extent_at k (extents_in old)) place ∙ block.1.there in (
@@ -51,10 +52,12 @@ apart heap a address block low differ = λ same. differ (omega (arith, same, at_
 
 -- ---- what the arena keeps
 
-found_same : (old new : Dlmalloc Arena) (size align address : ℕ) → IsHandedOut regions_of word_of follows old size align address new → IsSameArena old.system new.system
+found_same : (old new : Dlmalloc Arena) (size align address : ℕ) → IsHandedOut regions_of word_of follows old size align
+    address new → IsSameArena old.system new.system
 found_same old new size align address out = elim out.found [ inl same ↦ same.1.same | inr fresh ↦ fresh.4.same ]
 
-pub resized_same : (old new : Dlmalloc Arena) (from held size to : ℕ) → IsGivenSize regions_of word_of follows true true 1 old from held 16 size to new → IsSameArena old.system new.system
+pub resized_same : (old new : Dlmalloc Arena) (from held size to : ℕ) →
+    IsGivenSize regions_of word_of follows true true 1 old from held 16 size to new → IsSameArena old.system new.system
 resized_same old new from held size to given = go (cases_eq to from)
   where
     before : IsSameArena old.system given.middle.system
@@ -62,7 +65,8 @@ resized_same old new from held size to given = go (cases_eq to from)
 
     go : (to ≡ from) ⊎ (to ≡ from → ⊥) → IsSameArena old.system new.system
     go (inl same) = (given.here same).1.same
-    go (inr differ) = let after = (given.elsewhere differ).followed.same in record { base = after.base ∙ before.base; len = after.len ∙ before.len; table = after.table ∙ before.table }
+    go (inr differ) = let after = (given.elsewhere differ).followed.same in
+        record { base = after.base ∙ before.base; len = after.len ∙ before.len; table = after.table ∙ before.table }
 
 -- ---- marks
 
@@ -80,14 +84,17 @@ module _ {base : ℕ} {marks : List ℕ} {count : ℕ} {old : Dlmalloc Arena} (n
   }
 
   pub same_marked : IsSameArena old.system new.system → heap_state new ≡ heap_state old → IsMarked base marks count new
-  same_marked same state = kept_marked same (λ a block. subst (λ (heap : HeapState). HasBlock heap a) (sym state) block) (λ a block. subst (λ (heap : HeapState). HasBlock heap a) state block)
+  same_marked same state = kept_marked same (λ a block. subst (λ (heap : HeapState). HasBlock heap a) (sym state) block)
+      (λ a block. subst (λ (heap : HeapState). HasBlock heap a) state block)
 
-  pub unserved_marked : (size align : ℕ) (error : HeapError) → IsRequestRefused regions_of word_of follows refuses denies old size align error new → IsMarked base marks count new
+  pub unserved_marked : (size align : ℕ) (error : HeapError) → IsRequestRefused regions_of word_of follows refuses denies
+      old size align error new → IsMarked base marks count new
   unserved_marked size align BadAlign refused = subst (IsMarked base marks count) (sym refused.1) is
   unserved_marked size align NoBlock refused = absurd refused
   unserved_marked size align (Refused error) refused = same_marked refused.1.same.followed.same refused.1.same.state
 
-  pub unresized_marked : (address size : ℕ) (error : HeapError) → IsResizeRefused regions_of word_of follows refuses denies old address size error new → IsMarked base marks count new
+  pub unresized_marked : (address size : ℕ) (error : HeapError) → IsResizeRefused regions_of word_of follows refuses denies
+      old address size error new → IsMarked base marks count new
   unresized_marked address size BadAlign refused = absurd refused
   unresized_marked address size NoBlock refused = subst (IsMarked base marks count) (sym refused.1) is
   unresized_marked address size (Refused error) refused = same_marked refused.1.same.followed.same refused.1.same.state
@@ -108,8 +115,10 @@ module _ {base : ℕ} {marks : List ℕ} {count : ℕ} {old : Dlmalloc Arena} (n
           let place = at_place (heap_state old) address block in
           absurd (out.more.new block.1.extent block.1.used (ap (λ (k : ℕ). extent_at k (extents_in (heap_state old))) place ∙ block.1.there) place)
 
-  pub moved_unmarked : (from held size to : ℕ) (between : ℕ) (cleared : List ℕ) → HasBlock (heap_state old) from → IsGivenSize regions_of word_of follows true true 1 old from held 16 size to new →
-      is_marked between cleared from ≡ false → ((a : ℕ) → a ≢ from → is_marked between cleared a ≡ is_marked base marks a) → is_marked between cleared to ≡ false
+  pub moved_unmarked : (from held size to : ℕ) (between : ℕ) (cleared : List ℕ) → HasBlock (heap_state old) from →
+      IsGivenSize regions_of word_of follows true true 1 old from held 16 size to new →
+      is_marked between cleared from ≡ false → ((a : ℕ) → a ≢ from → is_marked between cleared a ≡ is_marked base marks a) →
+      is_marked between cleared to ≡ false
   moved_unmarked from held size to between cleared was given gone stay = elim (cases_eq to from) [
     | inl same ↦ ap (is_marked between cleared) same ∙ gone
     | inr differ ↦ go differ (is_marked between cleared to) refl
@@ -120,9 +129,11 @@ module _ {base : ℕ} {marks : List ℕ} {count : ℕ} {old : Dlmalloc Arena} (n
       go differ true marked =
           let block = is.blocks to (sym (stay to differ) ∙ marked) in
           let place = at_place (heap_state old) to block in
-          absurd (given.moved.apart block.1.extent block.1.used (apart (heap_state old) to from block was.1.low differ) (ap (λ (k : ℕ). extent_at k (extents_in (heap_state old))) place ∙ block.1.there) place)
+          absurd (given.moved.apart block.1.extent block.1.used (apart (heap_state old) to from block was.1.low differ)
+          (ap (λ (k : ℕ). extent_at k (extents_in (heap_state old))) place ∙ block.1.there) place)
 
-  module _ (base' : ℕ) (marks' : List ℕ) (count' : ℕ) (base_same : base' ≡ base) (len_same : length marks' ≡ length marks) (counted_now : count' ≡ counted (is_marked base' marks') (2 ^ 64)) where
+  module _ (base' : ℕ) (marks' : List ℕ) (count' : ℕ) (base_same : base' ≡ base) (len_same : length marks' ≡ length marks)
+      (counted_now : count' ≡ counted (is_marked base' marks') (2 ^ 64)) where
     -- a block more, and its mark
     pub made_marked : (size align address : ℕ) → IsHandedOut regions_of word_of follows old size align address new → is_marked base' marks' address ≡ true →
         ((a : ℕ) → a ≢ address → is_marked base' marks' a ≡ is_marked base marks a) → IsMarked base' marks' count' new
@@ -133,16 +144,20 @@ module _ {base : ℕ} {marks : List ℕ} {count : ℕ} {old : Dlmalloc Arena} (n
       room = omega (arith, (found_same old new size align address out).len, is.room, len_same);
       blocks = λ a marked. elim (cases_eq a address) [
         | inl same ↦ subst (HasBlock (heap_state new)) (sym same) (size, out.block)
-        | inr differ ↦ (let block = is.blocks a (sym (others a differ) ∙ marked) in carried (heap_state old) (heap_state new) a block (out.more.kept block.1.extent block.1.used))
+        | inr differ ↦ (let block = is.blocks a (sym (others a differ) ∙ marked) in
+            carried (heap_state old) (heap_state new) a block (out.more.kept block.1.extent block.1.used))
       ];
       marked = λ a block. elim (cases_eq a address) [
         | inl same ↦ ap (is_marked base' marks') same ∙ here
-        | inr differ ↦ others a differ ∙ is.marked a (carried (heap_state new) (heap_state old) a block (λ there. out.more.only block.1.extent block.1.used there (apart (heap_state new) a address block out.low differ)))
+        | inr differ ↦ others a differ ∙ is.marked a (carried (heap_state new) (heap_state old) a block
+            (λ there. out.more.only block.1.extent block.1.used there (apart (heap_state new) a address block out.low
+            differ)))
       ];
     }
 
     -- a block less, and its mark
-    pub freed_marked : (address : ℕ) → HasBlock (heap_state old) address → IsFreed regions_of word_of follows true true 1 old address new → is_marked base' marks' address ≡ false →
+    pub freed_marked : (address : ℕ) → HasBlock (heap_state old) address →
+        IsFreed regions_of word_of follows true true 1 old address new → is_marked base' marks' address ≡ false →
         ((a : ℕ) → a ≢ address → is_marked base' marks' a ≡ is_marked base marks a) → IsMarked base' marks' count' new
     freed_marked address was freed here others = record {
       some = omega (arith, base_same, is.some);
@@ -152,7 +167,8 @@ module _ {base : ℕ} {marks : List ℕ} {count : ℕ} {old : Dlmalloc Arena} (n
       blocks = λ a marked. elim (cases_eq a address) [
         | inl same ↦ absurd (let none : is_marked base' marks' a ≡ false = ap (is_marked base' marks') same ∙ here in cc)
         | inr differ ↦ (let block = is.blocks a (sym (others a differ) ∙ marked) in
-            carried (heap_state old) (heap_state new) a block (λ there. freed.less.only block.1.extent block.1.used there (apart (heap_state old) a address block was.1.low differ)))
+            carried (heap_state old) (heap_state new) a block (λ there. freed.less.only block.1.extent block.1.used there
+            (apart (heap_state old) a address block was.1.low differ)))
       ];
       marked = λ a block.
           let place = at_place (heap_state new) a block in
@@ -162,7 +178,8 @@ module _ {base : ℕ} {marks : List ℕ} {count : ℕ} {old : Dlmalloc Arena} (n
     }
 
     -- a block of another size, and its mark
-    pub moved_marked : (from held size to : ℕ) (between : ℕ) (cleared : List ℕ) → HasBlock (heap_state old) from → IsGivenSize regions_of word_of follows true true 1 old from held 16 size to new →
+    pub moved_marked : (from held size to : ℕ) (between : ℕ) (cleared : List ℕ) → HasBlock (heap_state old) from →
+        IsGivenSize regions_of word_of follows true true 1 old from held 16 size to new →
         is_marked between cleared from ≡ false → ((a : ℕ) → a ≢ from → is_marked between cleared a ≡ is_marked base marks a) →
         is_marked base' marks' to ≡ true → ((a : ℕ) → a ≢ to → is_marked base' marks' a ≡ is_marked between cleared a) → IsMarked base' marks' count' new
     moved_marked from held size to between cleared was given gone stay here others = record {
@@ -176,7 +193,8 @@ module _ {base : ℕ} {marks : List ℕ} {count : ℕ} {old : Dlmalloc Arena} (n
             (let left : is_marked between cleared a ≡ true = sym (others a differ) ∙ marked in
             let other : a ≢ from = λ same. (let none : is_marked between cleared a ≡ false = ap (is_marked between cleared) same ∙ gone in cc) in
             let block = is.blocks a (sym (stay a other) ∙ left) in
-            carried (heap_state old) (heap_state new) a block (given.moved.kept block.1.extent block.1.used (apart (heap_state old) a from block was.1.low other)))
+            carried (heap_state old) (heap_state new) a block (given.moved.kept block.1.extent block.1.used
+            (apart (heap_state old) a from block was.1.low other)))
       ];
       marked = λ a block. elim (cases_eq a to) [
         | inl same ↦ ap (is_marked base' marks') same ∙ here
@@ -185,6 +203,7 @@ module _ {base : ℕ} {marks : List ℕ} {count : ℕ} {old : Dlmalloc Arena} (n
             let there = ap (λ (k : ℕ). extent_at k (extents_in (heap_state new))) place ∙ block.1.there in
             let beside = apart (heap_state new) a to block given.low differ in
             let other : a ≢ from = λ same. given.moved.gone block.1.extent block.1.used beside there (place ∙ ap (λ (k : ℕ). k - 16) same) in
-            others a differ ∙ (stay a other ∙ is.marked a (carried (heap_state new) (heap_state old) a block (given.moved.only block.1.extent block.1.used beside))))
+            others a differ ∙ (stay a other ∙ is.marked a (carried (heap_state new) (heap_state old) a block
+            (given.moved.only block.1.extent block.1.used beside))))
       ];
     }

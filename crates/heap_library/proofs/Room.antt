@@ -25,14 +25,16 @@ use Rattle.heap_library.specs.Room.{HasNoRoom, IsRefused, IsRefusedResize}
 
 -- ---- what is refused had to be
 
-pub refused_for : (old new : Dlmalloc Arena) (size align : ℕ) (error : HeapError) → IsRequestRefused regions_of word_of follows refuses denies old size align error new → IsRefused old size align
+pub refused_for : (old new : Dlmalloc Arena) (size align : ℕ) (error : HeapError) →
+    IsRequestRefused regions_of word_of follows refuses denies old size align error new → IsRefused old size align
 refused_for old new size align BadAlign is = inl is.0
 refused_for old new size align NoBlock is = absurd is
 refused_for old new size align (Refused TooLarge) is = inr (inl is.1.refused)
 refused_for old new size align (Refused (System fault)) is =
     let why = is.1.refused.1 in inr (inr (record { none_chosen = why.none_chosen; arena_full = why.denied.1 }))
 
-pub resize_refused_for : (old new : Dlmalloc Arena) (address size : ℕ) (error : HeapError) → IsResizeRefused regions_of word_of follows refuses denies old address size error new → IsRefusedResize old address size
+pub resize_refused_for : (old new : Dlmalloc Arena) (address size : ℕ) (error : HeapError) →
+    IsResizeRefused regions_of word_of follows refuses denies old address size error new → IsRefusedResize old address size
 resize_refused_for old new address size BadAlign is = absurd is
 resize_refused_for old new address size NoBlock is = inl is.0
 resize_refused_for old new address size (Refused TooLarge) is = inr (inl is.1.refused)
@@ -52,14 +54,17 @@ with_length grant [] = refl
 with_length grant (region ∷ regions) = grind (arith, nat_tests, with_length grant regions)
 
 -- a grant is between the addresses between which it and others are
-with_between : (low high : ℕ) (grant : Grant) (regions : List Grant) → IsTrue (are_between low high (with_grant grant regions)) → (low ≤ grant.base) × (grant.base + grant.size ≤ high)
+with_between : (low high : ℕ) (grant : Grant) (regions : List Grant) →
+    IsTrue (are_between low high (with_grant grant regions)) → (low ≤ grant.base) × (grant.base + grant.size ≤ high)
 with_between low high grant [] between = grind (arith, nat_tests)
 with_between low high grant (region ∷ regions) between = grind (arith, nat_tests, with_between low high grant regions)
 
-module _ (old new : Arena) (size : ℕ) (grant : Grant) (after : IsArenaAfter old (Granted size grant ∷ []) new) (regions : regions_of new ≡ with_grant grant (regions_of old)) (some : 0 < grant.size) where
+module _ (old new : Arena) (size : ℕ) (grant : Grant) (after : IsArenaAfter old (Granted size grant ∷ []) new)
+    (regions : regions_of new ≡ with_grant grant (regions_of old)) (some : 0 < grant.size) where
   granted_room : has_room old size ≡ true
   granted_room =
-      let within = with_between new.base new.top grant (regions_of old) (subst (λ (rs : List Grant). IsTrue (are_between new.base new.top rs)) regions new.between) in
+      let within = with_between new.base new.top grant (regions_of old)
+      (subst (λ (rs : List Grant). IsTrue (are_between new.base new.top rs)) regions new.between) in
       let base = after.same.base in
       let len = after.same.len in
       let table = after.same.table in
@@ -68,7 +73,9 @@ module _ (old new : Arena) (size : ℕ) (grant : Grant) (after : IsArenaAfter ol
       let own : begins_in old.base (end_of old) grant ≡ true = grind (arith, nat_tests, within, base, len, risen, ends, some) in
       let place = after.placed.0 own in
       let count : new.table.count ≡ old.table.count + 1 =
-      sym (grants_length new.table.words.now new.table.count) ∙ (ap length regions ∙ (with_length grant (regions_of old) ∙ ap (λ (n : ℕ). n + 1) (grants_length old.table.words.now old.table.count))) in
+      sym (grants_length new.table.words.now new.table.count) ∙ (ap length regions
+      ∙ (with_length grant (regions_of old) ∙ ap (λ (n : ℕ). n + 1) (grants_length old.table.words.now
+      old.table.count))) in
       let room = new.table.room in
       grind (arith, nat_tests, within, base, len, table, risen, ends, place, count, room)
 
@@ -90,10 +97,12 @@ asked_low size align low = let few : nat_le align 16 ≡ true = grind (arith, na
 asked_high : (size align : ℕ) → 16 < align → asked size align ≡ enlarged size align
 asked_high size align high = let many : nat_le align 16 ≡ false = grind (arith, nat_tests) in rw many refl
 
-served_at_room : (old new : Dlmalloc Arena) (size align address : ℕ) → IsServedAt regions_of word_of zeros follows old size align address new → HasNoRoom old (padded (asked size align)) → ⊥
+served_at_room : (old new : Dlmalloc Arena) (size align address : ℕ) →
+    IsServedAt regions_of word_of zeros follows old size align address new → HasNoRoom old (padded (asked size align)) → ⊥
 served_at_room old new size align address served none = elim served [
   | inl low ↦ served_room old new size address low.1 (subst (λ (n : ℕ). HasNoRoom old (padded n)) (asked_low size align low.0) none)
-  | inr high ↦ served_room old high.1.middle (enlarged size align) high.1.greater high.1.served (subst (λ (n : ℕ). HasNoRoom old (padded n)) (asked_high size align high.0) none)
+  | inr high ↦ served_room old high.1.middle (enlarged size align) high.1.greater high.1.served
+      (subst (λ (n : ℕ). HasNoRoom old (padded n)) (asked_high size align high.0) none)
 ]
 
 pub not_refused : (old middle : Dlmalloc Arena) (size align address : ℕ) → IsPowerOfTwo align → asked size align < limit old.granularity →

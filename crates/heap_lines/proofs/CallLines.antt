@@ -32,8 +32,10 @@ one_word (b ∷ word) is = slice_split-cons_no (λ (c : ℕ). c == 32) b word is
 two_words : (first second : List ℕ) → IsWord first → IsWord second → words_of (first ++ 32 ∷ second) ≡ first ∷ second ∷ []
 two_words first second one two = more_words first second one ∙ ap (λ (l : List (List ℕ)). first ∷ l) (one_word second two)
 
-three_words : (first second third : List ℕ) → IsWord first → IsWord second → IsWord third → words_of (first ++ 32 ∷ (second ++ 32 ∷ third)) ≡ first ∷ second ∷ third ∷ []
-three_words first second third one two three = more_words first (second ++ 32 ∷ third) one ∙ ap (λ (l : List (List ℕ)). first ∷ l) (two_words second third two three)
+three_words : (first second third : List ℕ) → IsWord first → IsWord second → IsWord third →
+    words_of (first ++ 32 ∷ (second ++ 32 ∷ third)) ≡ first ∷ second ∷ third ∷ []
+three_words first second third one two three = more_words first (second ++ 32 ∷ third) one
+    ∙ ap (λ (l : List (List ℕ)). first ∷ l) (two_words second third two three)
 
 -- ---- calls with a name and numbers
 
@@ -66,21 +68,24 @@ calloc_read size align false is one two =
 
 -- ---- calls with three arguments
 
-write_read : (block offset : ℕ) (bytes : List ℕ) → CanBeAsked (Write block offset bytes) → call_of (words_of (call_line (Write block offset bytes))) ≡ Some (Write block offset bytes)
+write_read : (block offset : ℕ) (bytes : List ℕ) → CanBeAsked (Write block offset bytes) →
+    call_of (words_of (call_line (Write block offset bytes))) ≡ Some (Write block offset bytes)
 write_read block offset bytes is =
     ap (λ (l : List ℕ). call_of (words_of (codes "write " ++ l))) (append_assoc (decimal block) (32 ∷ decimal offset) (32 ∷ encode_lower bytes))
     ∙ ap (λ (l : List (List ℕ)). call_of (codes "write" ∷ l))
     (three_words (decimal block) (decimal offset) (encode_lower bytes) (decimal_word block is.0) (decimal_word offset is.1) (bytes_word bytes is.2))
     ∙ (λ i. write_call (decimal_read block is.0 i) (decimal_read offset is.1 i) (bytes_read bytes is.2 is.3 i))
 
-read_read : (block offset count : ℕ) → CanBeAsked (Read block offset count) → call_of (words_of (call_line (Read block offset count))) ≡ Some (Read block offset count)
+read_read : (block offset count : ℕ) → CanBeAsked (Read block offset count) →
+    call_of (words_of (call_line (Read block offset count))) ≡ Some (Read block offset count)
 read_read block offset count is =
     ap (λ (l : List ℕ). call_of (words_of (codes "read " ++ l))) (append_assoc (decimal block) (32 ∷ decimal offset) (32 ∷ decimal count))
     ∙ ap (λ (l : List (List ℕ)). call_of (codes "read" ∷ l))
     (three_words (decimal block) (decimal offset) (decimal count) (decimal_word block is.0) (decimal_word offset is.1) (decimal_word count is.2))
     ∙ (λ i. read_call (decimal_read block is.0 i) (decimal_read offset is.1 i) (decimal_read count is.2 i))
 
-map_read : (start pages : ℕ) (rights : Rights) → CanBeAsked (Map start pages rights) → call_of (words_of (call_line (Map start pages rights))) ≡ Some (Map start pages rights)
+map_read : (start pages : ℕ) (rights : Rights) → CanBeAsked (Map start pages rights) →
+    call_of (words_of (call_line (Map start pages rights))) ≡ Some (Map start pages rights)
 map_read start pages rights is =
     ap (λ (l : List (List ℕ)). call_of (codes "map" ∷ l))
     (three_words (hexadecimal start) (decimal pages) (rights_word rights) (hexadecimal_word start is.0) (decimal_word pages is.1) (rights_word_is rights))
@@ -92,7 +97,8 @@ probe_read at access user fits =
     ap (λ (l : List (List ℕ)). call_of (codes "probe" ∷ l)) (more_words (hexadecimal at) (access_word access ++ by_user user) (hexadecimal_word at fits))
     ∙ by access user
   where
-    by : (access : Access) (user : Bool) → call_of (codes "probe" ∷ hexadecimal at ∷ words_of (access_word access ++ by_user user)) ≡ Some (Probe at access user)
+    by : (access : Access) (user : Bool) → call_of (codes "probe" ∷ hexadecimal at ∷ words_of
+        (access_word access ++ by_user user)) ≡ Some (Probe at access user)
     by Reading true = ap (λ (n : Option ℕ). probe_call n (Some Reading) (Some true)) (hexadecimal_read at fits)
     by Reading false = ap (λ (n : Option ℕ). probe_call n (Some Reading) (Some false)) (hexadecimal_read at fits)
     by Writing true = ap (λ (n : Option ℕ). probe_call n (Some Writing) (Some true)) (hexadecimal_read at fits)
@@ -111,16 +117,20 @@ call_read (Realloc block size) is =
 call_read (CRealloc block size) is =
     ap (λ (l : List (List ℕ)). call_of (codes "c_realloc" ∷ l)) (numbers block size is.0 is.1)
     ∙ ap (option_map (λ (asked : ℕ × ℕ). CRealloc asked.0 asked.1)) (both_read block size is.0 is.1)
-call_read (Free block) is = ap (λ (l : List (List ℕ)). call_of (codes "free" ∷ l)) (one_word (decimal block) (decimal_word block is)) ∙ ap (option_map Free) (decimal_read block is)
+call_read (Free block) is = ap (λ (l : List (List ℕ)). call_of (codes "free" ∷ l))
+    (one_word (decimal block) (decimal_word block is)) ∙ ap (option_map Free) (decimal_read block is)
 call_read (Write block offset bytes) is = write_read block offset bytes is
 call_read (Read block offset count) is = read_read block offset count is
 call_read (Map start pages rights) is = map_read start pages rights is
 call_read (Unmap start pages) is =
-    ap (λ (l : List (List ℕ)). call_of (codes "unmap" ∷ l)) (two_words (hexadecimal start) (decimal pages) (hexadecimal_word start is.0) (decimal_word pages is.1))
+    ap (λ (l : List (List ℕ)). call_of (codes "unmap" ∷ l)) (two_words (hexadecimal start) (decimal pages)
+    (hexadecimal_word start is.0) (decimal_word pages is.1))
     ∙ (λ i. option_map (λ (range : ℕ × ℕ). Unmap range.0 range.1) (both_numbers (hexadecimal_read start is.0 i) (decimal_read pages is.1 i)))
 call_read (Probe at access user) is = probe_read at access user is
-call_read (Trim pad) is = ap (λ (l : List (List ℕ)). call_of (codes "trim" ∷ l)) (one_word (decimal pad) (decimal_word pad is)) ∙ ap (option_map Trim) (decimal_read pad is)
-call_read (SetRate rate) is = ap (λ (l : List (List ℕ)). call_of (codes "rate" ∷ l)) (one_word (decimal rate) (decimal_word rate is)) ∙ ap (option_map SetRate) (decimal_read rate is)
+call_read (Trim pad) is = ap (λ (l : List (List ℕ)). call_of (codes "trim" ∷ l))
+    (one_word (decimal pad) (decimal_word pad is)) ∙ ap (option_map Trim) (decimal_read pad is)
+call_read (SetRate rate) is = ap (λ (l : List (List ℕ)). call_of (codes "rate" ∷ l))
+    (one_word (decimal rate) (decimal_word rate is)) ∙ ap (option_map SetRate) (decimal_read rate is)
 call_read (SetGranularity granularity) is =
     ap (λ (l : List (List ℕ)). call_of (codes "granularity" ∷ l)) (one_word (decimal granularity) (decimal_word granularity is))
     ∙ ap (option_map SetGranularity) (decimal_read granularity is)

@@ -23,7 +23,8 @@ is_some_number None x = eqb x 255
 -- the table is right from s on
 abbrev are_from : ℕ → ℕ → Bool
 are_from s zero = true
-are_from s (suc n) = (eqb (get_or VALUES (s + n) 0) (as_number (hex_digit_value (s + n))) && is_some_number (hex_digit_value (s + n)) (get_or VALUES (s + n) 0)) && are_from s n
+are_from s (suc n) = (eqb (get_or VALUES (s + n) 0) (as_number (hex_digit_value (s + n))) && is_some_number
+    (hex_digit_value (s + n)) (get_or VALUES (s + n) 0)) && are_from s n
 
 abbrev IsValue : ℕ → Type 0
 IsValue p = (get_or VALUES p 0 ≡ as_number (hex_digit_value p)) × (is_some_number (hex_digit_value p) (get_or VALUES p 0) ≡ true)
@@ -127,7 +128,8 @@ digits_step s k o fits same is inv =
     let good = good_pair o (pair_at s k) same is in
     inv
     ∙ ap (has_bytes (2 * k)) (drop-pair s k fits)
-    ∙ ap (λ (r : Result (List ℕ) FromHexError). is_some (result_ok r)) (decode_pairs-ok_pair (2 * k) (get_or s (2 * k) 0) (get_or s (2 * k + 1) 0) good.0 rest good.1)
+    ∙ ap (λ (r : Result (List ℕ) FromHexError). is_some (result_ok r))
+    (decode_pairs-ok_pair (2 * k) (get_or s (2 * k) 0) (get_or s (2 * k + 1) 0) good.0 rest good.1)
     ∙ same_cons good.0 (decode_pairs (2 * k + 2) rest)
     ∙ ap (λ (n : ℕ). has_bytes n rest) two
 
@@ -138,7 +140,8 @@ digits_err s k o fits same is inv =
     let bad = bad_pair o (pair_at s k) same is in
     inv
     ∙ ap (has_bytes (2 * k)) (drop-pair s k fits)
-    ∙ ap (λ (r : Result (List ℕ) FromHexError). is_some (result_ok r)) (decode_pairs-err_pair (2 * k) (get_or s (2 * k) 0) (get_or s (2 * k + 1) 0) bad.0 (drop (2 * (k + 1)) s) bad.1)
+    ∙ ap (λ (r : Result (List ℕ) FromHexError). is_some (result_ok r))
+    (decode_pairs-err_pair (2 * k) (get_or s (2 * k) 0) (get_or s (2 * k + 1) 0) bad.0 (drop (2 * (k + 1)) s) bad.1)
 
 pub digits_done : (s : List ℕ) (k : ℕ) → length s ≤ 2 * k → has_bytes 0 s ≡ has_bytes (2 * k) (drop (2 * k) s) → has_bytes 0 s ≡ true
 unfolding decode_pairs

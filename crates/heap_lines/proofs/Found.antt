@@ -19,6 +19,8 @@ near_some p xs i near less = grind (arith, nat_tests)
 -- what a search answers
 pub position_found : (byte : ℕ) (bytes : List ℕ) (r : Option ℕ) → IsFirstByte (is_byte byte) bytes r → r ≡ position (λ b. b == byte) bytes
 position_found byte bytes None none =
-    sym (far_none (λ b. b == byte) bytes (position_or_len_is (λ b. b == byte) bytes (length bytes) 0 (omega arith) (λ k less. not_true _ (none k (omega arith) less)) (λ less. absurd (omega (arith, less)))))
+    sym (far_none (λ b. b == byte) bytes (position_or_len_is (λ b. b == byte) bytes (length bytes) 0 (omega arith)
+    (λ k less. not_true _ (none k (omega arith) less)) (λ less. absurd (omega (arith, less)))))
 position_found byte bytes (Some k) h =
-    sym (near_some (λ b. b == byte) bytes k (position_or_len_is (λ b. b == byte) bytes k 0 (omega (arith, h.0.high)) (λ j less. not_true _ (h.0.before j (omega arith) less)) (λ less. h.1)) h.0.high)
+    sym (near_some (λ b. b == byte) bytes k (position_or_len_is (λ b. b == byte) bytes k 0 (omega (arith, h.0.high))
+    (λ j less. not_true _ (h.0.before j (omega arith) less)) (λ less. h.1)) h.0.high)

@@ -122,15 +122,18 @@ pub bytes_word : (bytes : List ℕ) → IsBytes bytes → IsWord (encode_lower b
 unfolding encode_with
 bytes_word [] small = tt
 bytes_word (byte ∷ bytes) small =
-    let first : byte < 256 = small 0 in
-    (digit_word lower_digits (byte / 16) lower_word (omega (arith, first)), (digit_word lower_digits (byte % 16) lower_word (omega arith), bytes_word bytes (λ i. small (suc i))))
+    let first : byte < 256 = small 0 in (
+      digit_word lower_digits (byte / 16) lower_word (omega (arith, first)),
+      (digit_word lower_digits (byte % 16) lower_word (omega arith), bytes_word bytes (λ i. small (suc i))),
+    )
 
 pub bytes_read : (bytes : List ℕ) → IsBytes bytes → 0 < length bytes → bytes_of (encode_lower bytes) ≡ Some bytes
 unfolding encode_with
 bytes_read [] small some = absurd (omega (arith, some))
 bytes_read (byte ∷ bytes) small some = ap result_ok (decode_of-encode_lower (byte ∷ bytes) small)
 
-rights_spelled : (write user fetch : Bool) → rights_of_letters (rights_word (record { write = write; user = user; fetch = fetch })) ≡ Some (record { write = write; user = user; fetch = fetch })
+rights_spelled : (write user fetch : Bool) → rights_of_letters (rights_word
+    (record { write = write; user = user; fetch = fetch })) ≡ Some (record { write = write; user = user; fetch = fetch })
 rights_spelled true true true = refl
 rights_spelled true true false = refl
 rights_spelled true false true = refl

@@ -45,7 +45,8 @@ either P true x y px py = px
 either P false x y px py = py
 
 numeral_fits : (base most : ℕ) (digits : List ℕ) → NumberFits (numeral_of base most digits)
-numeral_fits base most digits = go (nat_lt 0 (length digits)) (nat_le (length digits) most) (list_all (λ b. is_digit b base) digits) (nat_lt (digits_value base digits) (2 ^ 64)) (digits_value base digits) refl
+numeral_fits base most digits = go (nat_lt 0 (length digits)) (nat_le (length digits) most)
+    (list_all (λ b. is_digit b base) digits) (nat_lt (digits_value base digits) (2 ^ 64)) (digits_value base digits) refl
   where
     go : (a b c d : Bool) (n : ℕ) → nat_lt n (2 ^ 64) ≡ d → NumberFits (if a && b && c && d then Some n else None)
     go true true true true n e = ltb-true n (2 ^ 64) e
@@ -55,7 +56,8 @@ numeral_fits base most digits = go (nat_lt 0 (length digits)) (nat_le (length di
     go false b c d n e = tt
 
 number_fits : (word : List ℕ) → NumberFits (number_of word)
-number_fits word = either NumberFits (starts_with nat_eq word (codes "0x")) (numeral_of 16 16 (drop 2 word)) (numeral_of 10 20 word) (numeral_fits 16 16 (drop 2 word)) (numeral_fits 10 20 word)
+number_fits word = either NumberFits (starts_with nat_eq word (codes "0x")) (numeral_of 16 16 (drop 2 word))
+    (numeral_of 10 20 word) (numeral_fits 16 16 (drop 2 word)) (numeral_fits 10 20 word)
 
 both_fit : (first second : Option ℕ) → NumberFits first → NumberFits second → BothFit (both_numbers first second)
 both_fit (Some first) (Some second) one two = (one, two)
@@ -96,7 +98,8 @@ one_fits call is (word ∷ []) = go (number_of word) (number_fits word)
     go (Some n) fits = is n fits
 one_fits call is (word ∷ second ∷ words) = tt
 
-pair_fits : (call : ℕ × ℕ → Call) → ((both : ℕ × ℕ) → (both.0 < 2 ^ 64) × (both.1 < 2 ^ 64) → CanBeAsked (call both)) → (o : Option (ℕ × ℕ)) → BothFit o → ItemFits (option_map call o)
+pair_fits : (call : ℕ × ℕ → Call) → ((both : ℕ × ℕ) → (both.0 < 2 ^ 64) × (both.1 < 2 ^ 64) → CanBeAsked (call both)) →
+    (o : Option (ℕ × ℕ)) → BothFit o → ItemFits (option_map call o)
 pair_fits call is None fits = tt
 pair_fits call is (Some both) fits = is both fits
 
@@ -184,7 +187,12 @@ alone_fits call (word ∷ words) is = tt
 -- ---- whichever call is named
 
 named : (words : List (List ℕ)) (b0 b1 b2 b3 b4 b5 b6 b7 b8 b9 b10 b11 b12 b13 b14 : Bool)
-    → ItemFits (if b0 then malloc_of words else (if b1 then calloc_of words else (if b2 then realloc_of words else (if b3 then c_realloc_of words else (if b4 then free_of words else (if b5 then write_of words else (if b6 then read_of words else (if b7 then map_of words else (if b8 then unmap_of words else (if b9 then probe_of words else (if b10 then trim_of words else (if b11 then rate_of words else (if b12 then granularity_of words else (if b13 then alone Reset words else (if b14 then alone Extents words else None)))))))))))))))
+    → ItemFits (if b0 then malloc_of words else (if b1 then calloc_of words
+    else (if b2 then realloc_of words else (if b3 then c_realloc_of words
+    else (if b4 then free_of words else (if b5 then write_of words else (if b6 then read_of words
+    else (if b7 then map_of words else (if b8 then unmap_of words else (if b9 then probe_of words
+    else (if b10 then trim_of words else (if b11 then rate_of words else (if b12 then granularity_of words
+    else (if b13 then alone Reset words else (if b14 then alone Extents words else None)))))))))))))))
 named words true b1 b2 b3 b4 b5 b6 b7 b8 b9 b10 b11 b12 b13 b14 = malloc_fits words
 named words false true b2 b3 b4 b5 b6 b7 b8 b9 b10 b11 b12 b13 b14 = calloc_fits words
 named words false false true b3 b4 b5 b6 b7 b8 b9 b10 b11 b12 b13 b14 = realloc_fits words
@@ -230,7 +238,8 @@ number_short name n fits = spaced_short name (decimal n) (length name) 20 (le_re
 
 numbers_short : (name : List ℕ) (m n : ℕ) → m < 2 ^ 64 → n < 2 ^ 64 → length (with_numbers name m n) ≤ length name + 42
 numbers_short name m n one two =
-    spaced_short name (decimal m ++ 32 ∷ decimal n) (length name) 41 (le_refl (length name)) (spaced_short (decimal m) (decimal n) 20 20 (decimal_short m one) (decimal_short n two))
+    spaced_short name (decimal m ++ 32 ∷ decimal n) (length name) 41 (le_refl (length name))
+    (spaced_short (decimal m) (decimal n) 20 20 (decimal_short m one) (decimal_short n two))
 
 request_short : (name : List ℕ) (size align : ℕ) → length name ≤ 6 → size < 2 ^ 64 → align < 2 ^ 64 → length (request_line name size align) ≤ 8192
 request_short name size align few one two = go (nat_eq align 16)
@@ -239,15 +248,18 @@ request_short name size align few one two = go (nat_eq align 16)
     go true = let short : length (with_number name size) ≤ 8192 = omega (arith, few, number_short name size one) in short
     go false = let short : length (with_numbers name size align) ≤ 8192 = omega (arith, few, numbers_short name size align one two) in short
 
-write_short : (block offset : ℕ) (bytes : List ℕ) → block < 2 ^ 64 → offset < 2 ^ 64 → length bytes ≤ 4072 → length (call_line (Write block offset bytes)) ≤ 8192
+write_short : (block offset : ℕ) (bytes : List ℕ) → block < 2 ^ 64 → offset < 2 ^ 64 → length bytes ≤ 4072 →
+    length (call_line (Write block offset bytes)) ≤ 8192
 write_short block offset bytes one two few =
     let digits : length (encode_lower bytes) ≡ 2 * length bytes = length-encode_with lower_digits bytes in
-    spaced_short (with_numbers (codes "write") block offset) (encode_lower bytes) 47 8144 (numbers_short (codes "write") block offset one two) (omega (arith, digits, few))
+    spaced_short (with_numbers (codes "write") block offset) (encode_lower bytes) 47 8144
+    (numbers_short (codes "write") block offset one two) (omega (arith, digits, few))
 
 read_short : (block offset count : ℕ) → block < 2 ^ 64 → offset < 2 ^ 64 → count < 2 ^ 64 → length (call_line (Read block offset count)) ≤ 8192
 read_short block offset count one two three =
     let short : length (call_line (Read block offset count)) ≤ 46 + suc 20 =
-    spaced_short (with_numbers (codes "read") block offset) (decimal count) 46 20 (numbers_short (codes "read") block offset one two) (decimal_short count three) in
+    spaced_short (with_numbers (codes "read") block offset) (decimal count) 46 20
+    (numbers_short (codes "read") block offset one two) (decimal_short count three) in
     omega (arith, short)
 
 -- a name with a space, and what follows it

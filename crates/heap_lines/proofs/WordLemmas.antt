@@ -35,11 +35,14 @@ pub split_whole : {A : Type 0} (p : A → Bool) (xs : List A) → position p xs 
 split_whole p xs none = far_whole p xs (none_far p xs none)
 
 -- the first part ends at the first element that passes
-pub split_at : {A : Type 0} (p : A → Bool) (xs : List A) (d : A) (i : ℕ) → position p xs ≡ Some i → slice_split p xs ≡ take i xs ∷ slice_split p (drop (i + 1) xs)
+pub split_at : {A : Type 0} (p : A → Bool) (xs : List A) (d : A) (i : ℕ) → position p xs ≡ Some i →
+    slice_split p xs ≡ take i xs ∷ slice_split p (drop (i + 1) xs)
 split_at p xs d i some =
     let near = some_near p xs i some in
     slice_split_first p xs d near.0 ∙ ap (λ (n : ℕ). take n xs ∷ slice_split p (drop (n + 1) xs)) near.1
 
 -- two words are the same if their first bytes are, and the rest
-pub eq_drop : (xs ys : List ℕ) (k : ℕ) → k < length xs → k < length ys → bytes_eq (drop k xs) (drop k ys) ≡ (nat_eq (get_or xs k 0) (get_or ys k 0) && bytes_eq (drop (k + 1) xs) (drop (k + 1) ys))
+pub eq_drop : (xs ys : List ℕ) (k : ℕ) → k < length xs → k < length ys →
+    bytes_eq (drop k xs) (drop k ys) ≡ (nat_eq (get_or xs k 0) (get_or ys k 0) && bytes_eq (drop (k + 1) xs)
+    (drop (k + 1) ys))
 eq_drop xs ys k less less' = rw (drop_more xs k 0 less, drop_more ys k 0 less') refl

@@ -8,5 +8,6 @@ with_bytes : (block offset : ℕ) (bytes : Option (List ℕ)) → IsSome bytes �
 with_bytes block offset (Some bytes) is = tt
 with_bytes block offset None is = absurd (false≢true is)
 
-pub asks_to_write : (item : Option Call) (block offset : ℕ) (bytes : Option (List ℕ)) → item ≡ write_call (Some block) (Some offset) bytes → IsSome bytes → IsWrite item
+pub asks_to_write : (item : Option Call) (block offset : ℕ) (bytes : Option (List ℕ)) →
+    item ≡ write_call (Some block) (Some offset) bytes → IsSome bytes → IsWrite item
 asks_to_write item block offset bytes same is = subst IsWrite (sym same) (with_bytes block offset bytes is)

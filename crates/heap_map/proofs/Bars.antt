@@ -11,25 +11,30 @@ cells_number = refl
 
 -- how the cells go on at the next
 pub runs_step : (cell base y : ℕ) (line : List Piece) (start next : ℕ) (same : Cell) → next < 512 →
-    runs_from cell base y line start next same (row_cells - next) ≡ (if look_same same (cell_at cell (base + cell * next) line) then runs_from cell base y line start (next + 1) same (row_cells - (next + 1))
+    runs_from cell base y line start next same (row_cells - next) ≡ (if look_same same
+    (cell_at cell (base + cell * next) line) then runs_from cell base y line start (next + 1) same
+    (row_cells - (next + 1))
     else run_text y start next same ++ runs_from cell base y line next (next + 1) (cell_at cell (base + cell * next) line) (row_cells - (next + 1)))
 runs_step cell base y line start next same few =
     let left : row_cells - next ≡ suc (row_cells - (next + 1)) = omega (arith, few, cells_number) in
     ap (runs_from cell base y line start next same) left
 
 -- and none is left behind the last
-pub runs_last : (cell base y : ℕ) (line : List Piece) (start next : ℕ) (same : Cell) → 512 ≤ next → runs_from cell base y line start next same (row_cells - next) ≡ run_text y start next same
+pub runs_last : (cell base y : ℕ) (line : List Piece) (start next : ℕ) (same : Cell) → 512 ≤ next →
+    runs_from cell base y line start next same (row_cells - next) ≡ run_text y start next same
 runs_last cell base y line start next same all =
     let left : row_cells - next ≡ zero = omega (arith, all, cells_number) in
     ap (runs_from cell base y line start next same) left
 
 -- the first begins the row
-pub runs_begin : (cell base y : ℕ) (line : List Piece) (same : Cell) → same ≡ cell_at cell base line → runs_from cell base y line 0 1 same (row_cells - 1) ≡ cells_text cell base y line
+pub runs_begin : (cell base y : ℕ) (line : List Piece) (same : Cell) → same ≡ cell_at cell base line →
+    runs_from cell base y line 0 1 same (row_cells - 1) ≡ cells_text cell base y line
 unfolding cells_text
 runs_begin cell base y line same is = ap (λ (s : Cell). runs_from cell base y line 0 1 s (row_cells - 1)) is
 
 -- one cell more that looks the same
-pub runs_same : (cell base y : ℕ) (line : List Piece) (start next start' : ℕ) (same one same' : Cell) (old out text : List ℕ) → next < 512 → one ≡ cell_at cell (base + cell * next) line → look_same same one ≡ true →
+pub runs_same : (cell base y : ℕ) (line : List Piece) (start next start' : ℕ) (same one same' : Cell)
+    (old out text : List ℕ) → next < 512 → one ≡ cell_at cell (base + cell * next) line → look_same same one ≡ true →
     out ≡ old → start' ≡ start → same' ≡ same → old ++ runs_from cell base y line start next same (row_cells - next) ≡ text →
     out ++ runs_from cell base y line start' (next + 1) same' (row_cells - (next + 1)) ≡ text
 runs_same cell base y line start next start' same one same' old out text few is agrees out_is start_is same_is whole =
@@ -45,8 +50,10 @@ runs_same cell base y line start next start' same one same' old out text few is 
     ∙ whole
 
 -- one that looks other
-pub runs_other : (cell base y : ℕ) (line : List Piece) (start next start' : ℕ) (same one same' : Cell) (old new out text : List ℕ) → next < 512 → one ≡ cell_at cell (base + cell * next) line → look_same same one ≡ false →
-    new ≡ old ++ run_text y start next same → out ≡ new → start' ≡ next → same' ≡ one → old ++ runs_from cell base y line start next same (row_cells - next) ≡ text →
+pub runs_other : (cell base y : ℕ) (line : List Piece) (start next start' : ℕ) (same one same' : Cell)
+    (old new out text : List ℕ) → next < 512 → one ≡ cell_at cell (base + cell * next) line → look_same same one ≡ false →
+    new ≡ old ++ run_text y start next same → out ≡ new → start' ≡ next → same' ≡ one →
+    old ++ runs_from cell base y line start next same (row_cells - next) ≡ text →
     out ++ runs_from cell base y line start' (next + 1) same' (row_cells - (next + 1)) ≡ text
 runs_other cell base y line start next start' same one same' old new out text few is differs put out_is start_is same_is whole =
     let left = row_cells - (next + 1) in

@@ -16,7 +16,8 @@ at_most : (b : Bool) (size : ℕ) → (if b then size else 0) ≤ size
 at_most true size = omega arith
 at_most false size = omega arith
 
-one_least : (class : Class) (kind : Kind) (size : ℕ) → (if is_in class kind then size else 0) ≤ (if is_part InUse kind then size else 0) + ((if is_part Unused kind then size else 0) + (if is_part Overhead kind then size else 0))
+one_least : (class : Class) (kind : Kind) (size : ℕ) → (if is_in class kind then size else 0) ≤ (if is_part InUse kind
+    then size else 0) + ((if is_part Unused kind then size else 0) + (if is_part Overhead kind then size else 0))
 one_least class Used size = let m = at_most (is_in class Used) size in omega (arith, m)
 one_least class Free size = let m = at_most (is_in class Free) size in omega (arith, m)
 one_least class Victim size = let m = at_most (is_in class Victim) size in omega (arith, m)

@@ -23,7 +23,8 @@ one_from pieces i within =
     let one : i + 1 - i ≡ 1 = omega arith in
     ap (λ (n : ℕ). take n (drop i pieces)) one ∙ ap (λ (ps : List Piece). take 1 ps) (rest_at pieces i within)
 
-more_from : (pieces : List Piece) (from i : ℕ) → from < i → i < length pieces → take (i + 1 - from) (drop from pieces) ≡ take (i - from) (drop from pieces) ++ get_or pieces i none ∷ []
+more_from : (pieces : List Piece) (from i : ℕ) → from < i → i < length pieces →
+    take (i + 1 - from) (drop from pieces) ≡ take (i - from) (drop from pieces) ++ get_or pieces i none ∷ []
 more_from pieces from i some within =
     let long : i - from < length (drop from pieces) = omega (arith, length-drop from pieces, some, within) in
     let size : i + 1 - from ≡ (i - from) + 1 = omega (arith, some) in
@@ -34,7 +35,9 @@ more_from pieces from i some within =
 
 -- how the lines go on at a piece behind one that has begun
 pub lines_step : (row : ℕ) (pieces : List Piece) (from i : ℕ) → from < i → i < length pieces →
-    lines_from row (take (i - from) (drop from pieces)) (drop i pieces) ≡ (if nat_eq (line_start (take (i - from) (drop from pieces)) / row) ((get_or pieces i (record { start = 0; end = 0; of = record { at = 0; size = 0; kind = Used } })).start / row)
+    lines_from row (take (i - from) (drop from pieces)) (drop i pieces) ≡ (if nat_eq
+    (line_start (take (i - from) (drop from pieces)) / row) ((get_or pieces i
+    (record { start = 0; end = 0; of = record { at = 0; size = 0; kind = Used } })).start / row)
     then lines_from row (take (i + 1 - from) (drop from pieces)) (drop (i + 1) pieces)
     else take (i - from) (drop from pieces) ∷ lines_from row (take (i + 1 - i) (drop i pieces)) (drop (i + 1) pieces))
 lines_step row pieces from i some within =
@@ -47,11 +50,14 @@ lines_step row pieces from i some within =
     ∙ ap (λ (more : List Piece). on (take (i + 1 - i) (drop i pieces)) more) (sym (more_from pieces from i some within))
 
 -- nothing is behind the last line
-pub lines_last : (row : ℕ) (pieces : List Piece) (from i : ℕ) → length pieces ≤ i → lines_from row (take (i - from) (drop from pieces)) (drop i pieces) ≡ take (length pieces - from) (drop from pieces) ∷ []
+pub lines_last : (row : ℕ) (pieces : List Piece) (from i : ℕ) → length pieces ≤ i →
+    lines_from row (take (i - from) (drop from pieces)) (drop i pieces) ≡ take (length pieces - from)
+    (drop from pieces) ∷ []
 lines_last row pieces from i all =
     let long = length-drop from pieces in
     ap (lines_from row (take (i - from) (drop from pieces))) (drop_all i pieces all)
-    ∙ ap (λ (line : List Piece). line ∷ []) (take_all (i - from) (drop from pieces) (omega (arith, long, all)) ∙ sym (take_all (length pieces - from) (drop from pieces) (omega (arith, long))))
+    ∙ ap (λ (line : List Piece). line ∷ []) (take_all (i - from) (drop from pieces) (omega (arith, long, all))
+    ∙ sym (take_all (length pieces - from) (drop from pieces) (omega (arith, long))))
 
 -- and the first begins with the first piece
 pub lines_first : (row : ℕ) (pieces : List Piece) → 0 < length pieces → lines_from row (take 1 pieces) (drop 1 pieces) ≡ lines_of row pieces
@@ -62,7 +68,8 @@ joined_from : (row : ℕ) (line ps : List Piece) → flat_map (λ one. one) (lin
 joined_from row line [] = refl
 joined_from row line (p ∷ ps) = go (nat_eq (line_start line / row) (p.start / row)) (joined_from row (line ++ p ∷ []) ps) (joined_from row (p ∷ []) ps)
   where
-    go : (b : Bool) → flat_map (λ one. one) (lines_from row (line ++ p ∷ []) ps) ≡ (line ++ p ∷ []) ++ ps → flat_map (λ one. one) (lines_from row (p ∷ []) ps) ≡ p ∷ ps →
+    go : (b : Bool) → flat_map (λ one. one) (lines_from row (line ++ p ∷ []) ps) ≡ (line ++ p ∷ []) ++ ps →
+        flat_map (λ one. one) (lines_from row (p ∷ []) ps) ≡ p ∷ ps →
         flat_map (λ one. one) (if b then lines_from row (line ++ p ∷ []) ps else line ∷ lines_from row (p ∷ []) ps) ≡ line ++ p ∷ ps
     go true same other = same ∙ append_assoc line (p ∷ []) ps
     go false same other = ap (λ (rest : List Piece). line ++ rest) other
@@ -75,7 +82,8 @@ some_from : (row : ℕ) (p : Piece) (more ps : List Piece) → AllByRecursion (�
 some_from row p more [] = (omega arith, tt)
 some_from row p more (x ∷ ps) = go (nat_eq (p.start / row) (x.start / row)) (some_from row p (more ++ x ∷ []) ps) (some_from row x [] ps)
   where
-    go : (b : Bool) → AllByRecursion (λ one. 0 < length one) (lines_from row (p ∷ (more ++ x ∷ [])) ps) → AllByRecursion (λ one. 0 < length one) (lines_from row (x ∷ []) ps) →
+    go : (b : Bool) → AllByRecursion (λ one. 0 < length one) (lines_from row (p ∷ (more ++ x ∷ [])) ps) →
+        AllByRecursion (λ one. 0 < length one) (lines_from row (x ∷ []) ps) →
         AllByRecursion (λ one. 0 < length one) (if b then lines_from row (p ∷ (more ++ x ∷ [])) ps else (p ∷ more) ∷ lines_from row (x ∷ []) ps)
     go true same other = same
     go false same other = (omega arith, other)
@@ -86,7 +94,8 @@ some row (p ∷ ps) = some_from row p [] ps
 
 -- a row is doubled, or is the last
 pub grown_step : (times row : ℕ) (extents : List Extent) → times < 50 →
-    row_grown (50 - times) row extents ≡ (if nat_lt row (2 ^ 52) && nat_lt 20 (length (map_lines row extents)) then row_grown (50 - (times + 1)) (row * 2) extents else row)
+    row_grown (50 - times) row extents ≡ (if nat_lt row (2 ^ 52) && nat_lt 20 (length (map_lines row extents))
+    then row_grown (50 - (times + 1)) (row * 2) extents else row)
 grown_step times row extents few =
     let left : 50 - times ≡ suc (50 - (times + 1)) = omega (arith, few) in
     ap (λ (n : ℕ). row_grown n row extents) left

@@ -52,19 +52,28 @@ cells_are Victim cell low line some one =
     let binned = one.none Binned (λ same. omega (arith, same)) in
     let top = one.none Top (λ same. omega (arith, same)) in
     let own = one.none Own (λ same. omega (arith, same)) in
-    let all = one.all in
-    (pixels_none _ cell some block, pixels_all _ cell some (omega (arith, all, block, binned, top, own)), most_victim _ _ _ _ (omega (arith, all, some)) binned top own)
+    let all = one.all in (
+      pixels_none _ cell some block,
+      pixels_all _ cell some (omega (arith, all, block, binned, top, own)),
+      most_victim _ _ _ _ (omega (arith, all, some)) binned top own,
+    )
 cells_are Top cell low line some one =
     let block = one.none Block (λ same. omega (arith, same)) in
     let binned = one.none Binned (λ same. omega (arith, same)) in
     let victim = one.none Victim (λ same. omega (arith, same)) in
     let own = one.none Own (λ same. omega (arith, same)) in
-    let all = one.all in
-    (pixels_none _ cell some block, pixels_all _ cell some (omega (arith, all, block, binned, victim, own)), most_top _ _ _ _ (omega (arith, all, some)) binned victim own)
+    let all = one.all in (
+      pixels_none _ cell some block,
+      pixels_all _ cell some (omega (arith, all, block, binned, victim, own)),
+      most_top _ _ _ _ (omega (arith, all, some)) binned victim own,
+    )
 cells_are Own cell low line some one =
     let block = one.none Block (λ same. omega (arith, same)) in
     let binned = one.none Binned (λ same. omega (arith, same)) in
     let victim = one.none Victim (λ same. omega (arith, same)) in
     let top = one.none Top (λ same. omega (arith, same)) in
-    let all = one.all in
-    (pixels_none _ cell some block, pixels_all _ cell some (omega (arith, all, block, binned, victim, top)), most_own _ _ _ _ (omega (arith, all, some)) binned victim top)
+    let all = one.all in (
+      pixels_none _ cell some block,
+      pixels_all _ cell some (omega (arith, all, block, binned, victim, top)),
+      most_own _ _ _ _ (omega (arith, all, some)) binned victim top,
+    )

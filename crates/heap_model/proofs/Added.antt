@@ -39,7 +39,8 @@ is_met (Some place) false both = let e : false ≡ true = both.0 refl in absurd 
 
 -- if the tables of a list are those that are met
 missing_met : (words : List ℕ) (root : ℕ) (tables : List Prefix) (address pages : ℕ) → IsCanonicalRange (address / 4096) pages →
-    ((level number : ℕ) → 0 < level → level < 4 → IsSome (reach words root level number) ↔ IsTrue (has_table tables (record { level = level; number = number }))) →
+    ((level number : ℕ) → 0 < level → level < 4 → IsSome (reach words root level number) ↔ IsTrue
+    (has_table tables (record { level = level; number = number }))) →
     missing tables address pages ≡ missing_of words root (address / 4096) pages
 unfolding missing_of
 missing_met words root tables address pages range met =
@@ -67,7 +68,8 @@ reached_stays old new root address byte pages bytes is = go (walk_of old root (a
     go None walk is = cc
     go (Some place) walk is =
         let there : walk_of new root (address / 4096) ≡ Some place = pages (address / 4096) place walk in
-        let word : word_at new place.frame (address % 4096 / 8) ≡ word_at old place.frame (address % 4096 / 8) = bytes (address / 4096) place (address % 4096 / 8) walk (omega arith) in
+        let word : word_at new place.frame (address % 4096 / 8) ≡ word_at old place.frame (address % 4096 / 8) =
+        bytes (address / 4096) place (address % 4096 / 8) walk (omega arith) in
         rw there (ap (λ w. Some (byte_of w (address % 8))) word ∙ is)
 
 -- ---- the pages
@@ -120,7 +122,8 @@ module _ (old new : Paged) (address pages : ℕ) (rights : Rights) (range : IsCa
     (tree : IsTree old.words old.root old.free) (added : ArePagesAdded old new address pages rights) where
   -- a page that was mapped is
   pub walk_stays : (page : ℕ) (place : Place) → walk_of old.words old.root page ≡ Some place → walk_of new.words old.root page ≡ Some place
-  walk_stays page place is = walk_reach new.words old.root page ∙ added.added.pages_added.stayed 4 (prefix_of page 4) place (omega arith) (sym (walk_reach old.words old.root page) ∙ is)
+  walk_stays page place is = walk_reach new.words old.root page ∙ added.added.pages_added.stayed 4 (prefix_of page 4) place
+      (omega arith) (sym (walk_reach old.words old.root page) ∙ is)
 
   -- none of the pages was mapped, so none was in a large page
   unmapped_before : (k : ℕ) → k < pages → walk_of old.words old.root (address / 4096 + k) ≡ None
@@ -132,7 +135,8 @@ module _ (old new : Paged) (address pages : ℕ) (rights : Rights) (range : IsCa
           let page = added.added.mapped k less in
           let there : walk_of new.words old.root (address / 4096 + k) ≡ Some place = walk_stays (address / 4096 + k) place is in
           let frame : place.frame ≡ page.frame = (let same : Some place ≡ Some (granted page.frame rights) = sym there ∙ page.found in cc) in
-          let used : is_free old.free place.frame ≡ false = tree.used 4 (prefix_of (address / 4096 + k) 4) place (omega arith) (sym (walk_reach old.words old.root (address / 4096 + k)) ∙ is) in
+          let used : is_free old.free place.frame ≡ false = tree.used 4 (prefix_of (address / 4096 + k) 4) place
+          (omega arith) (sym (walk_reach old.words old.root (address / 4096 + k)) ∙ is) in
           let free : is_free old.free place.frame ≡ true = ap (is_free old.free) frame ∙ page.was_free in
           cc)
 
@@ -155,19 +159,23 @@ module _ (old new : Paged) (address pages : ℕ) (rights : Rights) (range : IsCa
           let n = prefix_of (address / 4096 + k) 3 in
           let same : large_of new.words old.root n ≡ large_of old.words old.root n = added.added.slots.small n (λ count slot below at. (
           let number : slot_number (count * 2 ^ 21) ≡ slot_of count = omega arith in
-          let there : IsSome (large_of new.words old.root (slot_number (count * 2 ^ 21))) = subst (λ i. IsSome (large_of new.words old.root i)) (sym number) (added.added.slots.large count slot below) in
+          let there : IsSome (large_of new.words old.root (slot_number (count * 2 ^ 21))) =
+          subst (λ i. IsSome (large_of new.words old.root i)) (sym number) (added.added.slots.large count slot below) in
           let listed : has_slot new.slots (count * 2 ^ 21) ≡ true = (added.slots.exactly (count * 2 ^ 21) (new_slot count slot)).0 there in
           let prefix : has_table (map slot_prefix new.slots) (record { level = 3; number = n }) ≡ true =
-          subst (λ i. has_table (map slot_prefix new.slots) (record { level = 3; number = i }) ≡ true) (number ∙ sym at) (prefix_listed new.slots (count * 2 ^ 21) listed) in
+          subst (λ i. has_table (map slot_prefix new.slots) (record { level = 3; number = i }) ≡ true) (number ∙ sym at)
+          (prefix_listed new.slots (count * 2 ^ 21) listed) in
           cc)) in
           let none = small_before k less in
           some_not_none (large_of new.words old.root n) large (same ∙ none))
 
   -- a listed slot has no table now, and had none
   slot_bare : (slot : ℕ) → has_slot new.slots slot ≡ true → reach new.words old.root 3 (slot_number slot) ≡ None
-  slot_bare slot listed = go (large_of new.words old.root (slot_number slot)) refl ((added.slots.exactly slot (slot_all (IsSlotOf address pages) new.slots slot added.slots.within listed)).1 listed)
+  slot_bare slot listed = go (large_of new.words old.root (slot_number slot)) refl
+      ((added.slots.exactly slot (slot_all (IsSlotOf address pages) new.slots slot added.slots.within listed)).1 listed)
     where
-      go : (o : Option Place) → large_of new.words old.root (slot_number slot) ≡ o → IsSome (large_of new.words old.root (slot_number slot)) → reach new.words old.root 3 (slot_number slot) ≡ None
+      go : (o : Option Place) → large_of new.words old.root (slot_number slot) ≡ o →
+          IsSome (large_of new.words old.root (slot_number slot)) → reach new.words old.root 3 (slot_number slot) ≡ None
       go None is large = absurd (some_not_none (large_of new.words old.root (slot_number slot)) large is)
       go (Some place) is large = large_none new.words old.root (slot_number slot) place is
 
@@ -176,10 +184,12 @@ module _ (old new : Paged) (address pages : ℕ) (rights : Rights) (range : IsCa
     where
       go : (o : Option Place) → reach old.words old.root 3 (slot_number slot) ≡ o → reach old.words old.root 3 (slot_number slot) ≡ None
       go None is = is
-      go (Some table) is = absurd (let now = added.added.pages_added.stayed 3 (slot_number slot) table (omega arith) is in let bare = slot_bare slot listed in cc)
+      go (Some table) is = absurd (let now = added.added.pages_added.stayed 3 (slot_number slot) table (omega arith) is in
+          let bare = slot_bare slot listed in cc)
 
   -- a slot beside the pages stays as it was
-  slot_beside : (slot : ℕ) → IsSlot slot → (IsSlotOf address pages slot → ⊥) → large_of new.words old.root (slot_number slot) ≡ large_of old.words old.root (slot_number slot)
+  slot_beside : (slot : ℕ) → IsSlot slot → (IsSlotOf address pages slot → ⊥) →
+      large_of new.words old.root (slot_number slot) ≡ large_of old.words old.root (slot_number slot)
   slot_beside slot is beside = added.added.slots.small (slot_number slot) (λ count among below at. (
       let number : slot_number (count * 2 ^ 21) ≡ slot_of count = omega arith in
       let of = new_slot count among in
@@ -189,46 +199,70 @@ module _ (old new : Paged) (address pages : ℕ) (rights : Rights) (range : IsCa
   -- ---- the tables and the large pages of the state
 
   -- if there is a table of three indices of a page, and if its slot has none since it is a large page
-  last_met : (tables : List Prefix) → ((level number : ℕ) → 0 < level → level < 4 → IsSome (reach old.words old.root level number) ↔ IsTrue (has_table tables (record { level = level; number = number }))) →
+  last_met : (tables : List Prefix) → ((level number : ℕ) → 0 < level → level < 4 →
+      IsSome (reach old.words old.root level number) ↔ IsTrue (has_table tables
+      (record { level = level; number = number }))) →
       (k : ℕ) → k < pages → has_table (prefixes_of (address / 4096) pages) (record { level = 3; number = prefix_of (address / 4096 + k) 3 }) ≡ true →
-      IsSome (reach new.words old.root 3 (prefix_of (address / 4096 + k) 3)) ↔ IsTrue (has_table (with_tables tables address pages new.slots) (record { level = 3; number = prefix_of (address / 4096 + k) 3 }))
+      IsSome (reach new.words old.root 3 (prefix_of (address / 4096 + k) 3)) ↔ IsTrue
+      (has_table (with_tables tables address pages new.slots) (record {
+        level = 3;
+        number =
+            prefix_of (address / 4096 + k) 3;
+      }))
   last_met tables met k less is = go (has_table (map slot_prefix new.slots) (record { level = 3; number = prefix_of (address / 4096 + k) 3 })) refl
     where
       go : (b : Bool) → has_table (map slot_prefix new.slots) (record { level = 3; number = prefix_of (address / 4096 + k) 3 }) ≡ b →
-          IsSome (reach new.words old.root 3 (prefix_of (address / 4096 + k) 3)) ↔ IsTrue (has_table (with_tables tables address pages new.slots) (record { level = 3; number = prefix_of (address / 4096 + k) 3 }))
+          IsSome (reach new.words old.root 3 (prefix_of (address / 4096 + k) 3)) ↔ IsTrue
+          (has_table (with_tables tables address pages new.slots) (record {
+            level = 3;
+            number =
+                prefix_of (address / 4096 + k) 3;
+          }))
       go true large =
           let n = prefix_of (address / 4096 + k) 3 in
           let slot = listed_prefix new.slots (record { level = 3; number = n }) large in
           let number : n ≡ slot_number slot.0 = ap (λ p. p.number) slot.2 in
           let now : reach new.words old.root 3 n ≡ None = ap (reach new.words old.root 3) number ∙ slot_bare slot.0 slot.1 in
           let was : reach old.words old.root 3 n ≡ None = ap (reach old.words old.root 3) number ∙ slot_was_bare slot.0 slot.1 in
-          let had : has_table tables (record { level = 3; number = n }) ≡ false = not_had (reach old.words old.root 3 n) was (has_table tables (record { level = 3; number = n })) (met 3 n (omega arith) (omega arith)) in
+          let had : has_table tables (record { level = 3; number = n }) ≡ false =
+          not_had (reach old.words old.root 3 n) was (has_table tables (record { level = 3; number = n }))
+          (met 3 n (omega arith) (omega arith)) in
           let has : has_table (with_tables tables address pages new.slots) (record { level = 3; number = n }) ≡ false =
           has_table-with_tables tables address pages new.slots (record { level = 3; number = n }) ∙ rw (had, is, large) refl in
           ((λ x. absurd (some_not_none (reach new.words old.root 3 n) x now)), (λ x. absurd (let no : false ≡ true = sym has ∙ x in cc)))
       go false small =
           let n = prefix_of (address / 4096 + k) 3 in
           let has : has_table (with_tables tables address pages new.slots) (record { level = 3; number = n }) ≡ true =
-          has_table-with_tables tables address pages new.slots (record { level = 3; number = n }) ∙ or_right (has_table tables (record { level = 3; number = n })) (has_table (prefixes_of (address / 4096) pages) (record { level = 3; number = n }) && not (has_table (map slot_prefix new.slots) (record { level = 3; number = n }))) (rw (is, small) refl) in
+          has_table-with_tables tables address pages new.slots (record { level = 3; number = n })
+          ∙ or_right (has_table tables (record { level = 3; number = n }))
+          (has_table (prefixes_of (address / 4096) pages) (record { level = 3; number = n }) && not
+          (has_table (map slot_prefix new.slots) (record { level = 3; number = n }))) (rw (is, small) refl) in
           elim (added.added.last_tables k less) [
             | inl large ↦ absurd (let listed = slot_listed k less large in cc)
             | inr table ↦ (let e = table.1 in ((λ _. has), (λ _. rw e refl)))
           ]
 
   -- a table of the pages is met; elsewhere nothing is changed
-  pub tables_now : (tables : List Prefix) → ((level number : ℕ) → 0 < level → level < 4 → IsSome (reach old.words old.root level number) ↔ IsTrue (has_table tables (record { level = level; number = number }))) →
+  pub tables_now : (tables : List Prefix) → ((level number : ℕ) → 0 < level → level < 4 →
+      IsSome (reach old.words old.root level number) ↔ IsTrue (has_table tables
+      (record { level = level; number = number }))) →
       (level number : ℕ) → 0 < level → level < 4 →
-      IsSome (reach new.words old.root level number) ↔ IsTrue (has_table (with_tables tables address pages new.slots) (record { level = level; number = number }))
+      IsSome (reach new.words old.root level number) ↔ IsTrue (has_table (with_tables tables address pages new.slots)
+      (record { level = level; number = number }))
   tables_now tables met level number some less = go (has_table (prefixes_of (address / 4096) pages) (record { level = level; number = number })) refl
     where
       abbreviated : (b : Bool) → has_table (prefixes_of (address / 4096) pages) (record { level = level; number = number }) ≡ b →
           has_table (with_tables tables address pages new.slots) (record { level = level; number = number })
-          ≡ (has_table tables (record { level = level; number = number }) || (b && not (has_table (map slot_prefix new.slots) (record { level = level; number = number }))))
+          ≡ (has_table tables (record { level = level; number = number }) ||
+          (b && not (has_table (map slot_prefix new.slots) (record { level = level; number = number }))))
       abbreviated b is = has_table-with_tables tables address pages new.slots (record { level = level; number = number })
-          ∙ ap (λ x. has_table tables (record { level = level; number = number }) || (x && not (has_table (map slot_prefix new.slots) (record { level = level; number = number })))) is
+          ∙ ap (λ x. has_table tables (record { level = level; number = number }) ||
+          (x && not (has_table (map slot_prefix new.slots) (record { level = level; number = number })))) is
 
       -- a prefix of one or two indices is no slot's
-      high : (level < 3) → (b : Bool) → has_table (map slot_prefix new.slots) (record { level = level; number = number }) ≡ b → has_table (map slot_prefix new.slots) (record { level = level; number = number }) ≡ false
+      high : (level < 3) → (b : Bool) → has_table (map slot_prefix new.slots)
+          (record { level = level; number = number }) ≡ b → has_table (map slot_prefix new.slots)
+          (record { level = level; number = number }) ≡ false
       high up false is = is
       high up true is = absurd (
           let slot = listed_prefix new.slots (record { level = level; number = number }) is in
@@ -236,16 +270,20 @@ module _ (old new : Paged) (address pages : ℕ) (rights : Rights) (range : IsCa
           omega (arith, up, three))
 
       go : (b : Bool) → has_table (prefixes_of (address / 4096) pages) (record { level = level; number = number }) ≡ b →
-          IsSome (reach new.words old.root level number) ↔ IsTrue (has_table (with_tables tables address pages new.slots) (record { level = level; number = number }))
+          IsSome (reach new.words old.root level number) ↔ IsTrue (has_table (with_tables tables address pages new.slots)
+          (record { level = level; number = number }))
       go true is =
-          let of : IsPrefixOf (address / 4096) pages (record { level = level; number = number }) = prefixes_have (address / 4096) pages (record { level = level; number = number }) range is in
+          let of : IsPrefixOf (address / 4096) pages (record { level = level; number = number }) =
+          prefixes_have (address / 4096) pages (record { level = level; number = number }) range is in
           elim (dec_lt level 3) [
             | yes up ↦ (
                 let table = added.added.tables level of.page up of.in_range in
                 let now : reach new.words old.root level number ≡ Some (top table.0) = ap (reach new.words old.root level) of.is ∙ table.1 in
                 let none = high up (has_table (map slot_prefix new.slots) (record { level = level; number = number })) refl in
                 let has : has_table (with_tables tables address pages new.slots) (record { level = level; number = number }) ≡ true =
-                abbreviated true is ∙ or_right (has_table tables (record { level = level; number = number })) (true && not (has_table (map slot_prefix new.slots) (record { level = level; number = number }))) (ap not none) in
+                abbreviated true is ∙ or_right (has_table tables (record { level = level; number = number }))
+                (true && not (has_table (map slot_prefix new.slots) (record { level = level; number = number })))
+                (ap not none) in
                 ((λ _. has), (λ _. rw now refl)))
             | no last ↦ (
                 let three : level ≡ 3 = omega (arith, last, less) in
@@ -253,21 +291,35 @@ module _ (old new : Paged) (address pages : ℕ) (rights : Rights) (range : IsCa
                 let at_three : number ≡ prefix_of (address / 4096 + of.page) 3 = n ∙ ap (prefix_of (address / 4096 + of.page)) three in
                 let there : has_table (prefixes_of (address / 4096) pages) (record { level = 3; number = prefix_of (address / 4096 + of.page) 3 }) ≡ true =
                 sym (λ i. has_table (prefixes_of (address / 4096) pages) (record { level = three i; number = at_three i })) ∙ is in
-                let at : IsSome (reach new.words old.root 3 (prefix_of (address / 4096 + of.page) 3)) ↔ IsTrue (has_table (with_tables tables address pages new.slots) (record { level = 3; number = prefix_of (address / 4096 + of.page) 3 })) =
+                let at : IsSome (reach new.words old.root 3 (prefix_of (address / 4096 + of.page) 3)) ↔ IsTrue
+                (has_table (with_tables tables address pages new.slots) (record {
+                  level = 3;
+                  number =
+                      prefix_of (address / 4096 + of.page) 3;
+                })) =
                 last_met tables met of.page of.in_range there in
                 let back : (l i : ℕ) → 3 ≡ l → prefix_of (address / 4096 + of.page) 3 ≡ i →
                 IsSome (reach new.words old.root l i) ↔ IsTrue (has_table (with_tables tables address pages new.slots) (record { level = l; number = i })) =
-                λ l i e f. subst (λ q. IsSome (reach new.words old.root l q) ↔ IsTrue (has_table (with_tables tables address pages new.slots) (record { level = l; number = q }))) f
-                (subst (λ q. IsSome (reach new.words old.root q (prefix_of (address / 4096 + of.page) 3)) ↔ IsTrue (has_table (with_tables tables address pages new.slots) (record { level = q; number = prefix_of (address / 4096 + of.page) 3 }))) e at) in
+                λ l i e f. subst (λ q. IsSome (reach new.words old.root l q) ↔ IsTrue
+                (has_table (with_tables tables address pages new.slots) (record { level = l; number = q }))) f
+                (subst (λ q. IsSome (reach new.words old.root q (prefix_of (address / 4096 + of.page) 3)) ↔ IsTrue
+                (has_table (with_tables tables address pages new.slots) (record {
+                  level = q;
+                  number =
+                      prefix_of (address / 4096 + of.page) 3;
+                }))) e at) in
                 back level number (sym three) (sym at_three))
           ]
       go false is =
           let apart : (k : ℕ) → k < pages → number ≡ prefix_of (address / 4096 + k) level → ⊥ = λ k inside same. (
           let yes : has_table (prefixes_of (address / 4096) pages) (record { level = level; number = number }) ≡ true =
-          have_prefixes (address / 4096) pages (record { level = level; number = number }) range (record { below_root = some; above_last = less; page = k; in_range = inside; is = same }) in
+          have_prefixes (address / 4096) pages (record { level = level; number = number }) range
+          (record { below_root = some; above_last = less; page = k; in_range = inside; is = same }) in
           cc) in
-          let now : reach new.words old.root level number ≡ reach old.words old.root level number = added.added.pages_added.others level number (omega arith) apart in
-          let has : has_table (with_tables tables address pages new.slots) (record { level = level; number = number }) ≡ has_table tables (record { level = level; number = number }) =
+          let now : reach new.words old.root level number ≡ reach old.words old.root level number =
+          added.added.pages_added.others level number (omega arith) apart in
+          let has : has_table (with_tables tables address pages new.slots)
+          (record { level = level; number = number }) ≡ has_table tables (record { level = level; number = number }) =
           abbreviated false is ∙ or_false (has_table tables (record { level = level; number = number })) in
           let both = met level number some less in
           ((λ x. has ∙ both.0 (subst IsSome now x)), (λ x. subst IsSome (sym now) (both.1 (sym has ∙ x))))
@@ -287,7 +339,9 @@ module _ (old new : Paged) (address pages : ℕ) (rights : Rights) (range : IsCa
       inside of = (
         (λ x. has_slot-append large new.slots slot ∙ or_right (has_slot large slot) (has_slot new.slots slot) ((added.slots.exactly slot of).0 x)),
         (λ x. elim (or_cases (has_slot large slot) (has_slot new.slots slot) (sym (has_slot-append large new.slots slot) ∙ x)) [
-          | inl was ↦ some_stays (large_of old.words old.root (slot_number slot)) (large_of new.words old.root (slot_number slot)) (added.added.pages_added.large_stayed (slot_number slot)) ((met slot is).1 was)
+          | inl was ↦ some_stays (large_of old.words old.root (slot_number slot))
+              (large_of new.words old.root (slot_number slot)) (added.added.pages_added.large_stayed (slot_number slot))
+              ((met slot is).1 was)
           | inr listed ↦ (added.slots.exactly slot of).1 listed
         ]),
       )
@@ -306,19 +360,29 @@ module _ (old new : Paged) (address pages : ℕ) (rights : Rights) (range : IsCa
 
 -- the state with these regions, with the tables of some pages, and with slots that have none
 abbrev pub with_added : State → List Region → List Region → ℕ → ℕ → List ℕ → State
-with_added s heap users address pages slots = record s { heap = heap; users = users; tables = with_tables s.tables address pages slots; large = s.large ++ slots }
+with_added s heap users address pages slots = record s {
+  heap = heap;
+  users = users;
+  tables =
+      with_tables s.tables address pages slots;
+  large = s.large ++ slots;
+}
 
 module _ (m : Seen) (new : Paged) (s : State) (address pages : ℕ) (rights : Rights) (heap users : List Region) (stands : Stands m s)
     (range : IsCanonicalRange (address / 4096) pages) (whole : address % 4096 ≡ 0)
     (added : ArePagesAdded m.paged new address pages rights)
-    (here : (at : ℕ) → address ≤ at → at < address + 4096 * pages → region_rights (region_at (with_added s heap users address pages new.slots) at) ≡ Some rights)
-    (elsewhere : (at : ℕ) → (at < address) ⊎ (address + 4096 * pages ≤ at) → region_at (with_added s heap users address pages new.slots) at ≡ region_at s at) where
+    (here : (at : ℕ) → address ≤ at → at < address + 4096 * pages → region_rights
+    (region_at (with_added s heap users address pages new.slots) at) ≡ Some rights)
+    (elsewhere : (at : ℕ) → (at < address) ⊎ (address + 4096 * pages ≤ at) →
+    region_at (with_added s heap users address pages new.slots) at ≡ region_at s at) where
   -- a page of the range: the new region holds it
-  in_range : (k : ℕ) → k < pages → found_rights (walk_of new.words new.root (address / 4096 + k)) ≡ region_rights (region_at (with_added s heap users address pages new.slots) (4096 * (address / 4096 + k)))
+  in_range : (k : ℕ) → k < pages → found_rights (walk_of new.words new.root (address / 4096 + k)) ≡ region_rights
+      (region_at (with_added s heap users address pages new.slots) (4096 * (address / 4096 + k)))
   in_range k less =
       let page = added.added.mapped k less in
       let w = whole in
-      ap found_rights (ap (λ r. walk_of new.words r (address / 4096 + k)) added.root ∙ page.found) ∙ sym (here (4096 * (address / 4096 + k)) (omega arith) (omega arith))
+      ap found_rights (ap (λ r. walk_of new.words r (address / 4096 + k)) added.root ∙ page.found)
+      ∙ sym (here (4096 * (address / 4096 + k)) (omega arith) (omega arith))
 
   -- another page: nothing is changed
   out_of_range : (page : ℕ) → IsTrue (is_canonical (4096 * page)) → (page < address / 4096) ⊎ (address / 4096 + pages ≤ page) →
@@ -341,21 +405,27 @@ module _ (m : Seen) (new : Paged) (s : State) (address pages : ℕ) (rights : Ri
     | yes before ↦ out_of_range page canonical (inl before)
     | no above ↦ elim (dec_lt page (address / 4096 + pages)) [
       | yes inside ↦ (let e : address / 4096 + (page - address / 4096) ≡ page = omega arith in
-          subst (λ p. found_rights (walk_of new.words new.root p) ≡ region_rights (region_at (with_added s heap users address pages new.slots) (4096 * p))) e (in_range (page - address / 4096) (omega arith)))
+          subst (λ p. found_rights (walk_of new.words new.root p) ≡ region_rights
+          (region_at (with_added s heap users address pages new.slots) (4096 * p))) e
+          (in_range (page - address / 4096) (omega arith)))
       | no behind ↦ out_of_range page canonical (inr (omega arith))
     ]
   ]
 
   tables_met : (level number : ℕ) → 0 < level → level < 4 →
-      IsSome (reach new.words m.paged.root level number) ↔ IsTrue (has_table (with_tables s.tables address pages new.slots) (record { level = level; number = number }))
+      IsSome (reach new.words m.paged.root level number) ↔ IsTrue (has_table (with_tables s.tables address pages new.slots)
+      (record { level = level; number = number }))
   tables_met = tables_now m.paged new address pages rights range whole stands.tree added s.tables stands.tables_met
 
   pub stays : (address byte : ℕ) → reached m.paged.words m.paged.root address ≡ Some byte → reached new.words new.root address ≡ Some byte
   stays at byte is = subst (λ r. reached new.words r at ≡ Some byte) (sym added.root)
-      (reached_stays m.paged.words new.words m.paged.root at byte (walk_stays m.paged new address pages rights range whole stands.tree added) added.added.pages_added.bytes_stay is)
+      (reached_stays m.paged.words new.words m.paged.root at byte (walk_stays m.paged new address pages rights range whole
+      stands.tree added) added.added.pages_added.bytes_stay is)
 
-  pub stands_added : pages + missing s.tables address pages ≤ free_frames s → total_pages heap + total_pages users ≡ pages + (total_pages s.heap + total_pages s.users) →
-      new.regions ≡ all_regions (with_added s heap users address pages new.slots) → ((at : ℕ) → list_any (is_within at) users ≡ true → reached new.words new.root at ≡ Some 0) →
+  pub stands_added : pages + missing s.tables address pages ≤ free_frames s →
+      total_pages heap + total_pages users ≡ pages + (total_pages s.heap + total_pages s.users) →
+      new.regions ≡ all_regions (with_added s heap users address pages new.slots) →
+      ((at : ℕ) → list_any (is_within at) users ≡ true → reached new.words new.root at ≡ Some 0) →
       Stands (record m { paged = new }) (with_added s heap users address pages new.slots)
   stands_added few total regions zeros =
       let lacks : missing s.tables address pages ≡ missing_of m.paged.words m.paged.root (address / 4096) pages = missing_same m s address pages stands range in
@@ -370,7 +440,9 @@ module _ (m : Seen) (new : Paged) (s : State) (address pages : ℕ) (rights : Ri
         free_frames = omega arith;
         table_count = (let e = stands.table_count in let more = added.tables in omega arith);
         pages_found = pages_found;
-        tables_met = λ level number some less. subst (λ r. IsSome (reach new.words r level number) ↔ IsTrue (has_table (with_tables s.tables address pages new.slots) (record { level = level; number = number }))) (sym added.root) (tables_met level number some less);
+        tables_met = λ level number some less. subst (λ r. IsSome (reach new.words r level number) ↔ IsTrue
+            (has_table (with_tables s.tables address pages new.slots) (record { level = level; number = number })))
+            (sym added.root) (tables_met level number some less);
         larges_met = λ slot is. subst (λ r. IsSome (large_of new.words r (slot_number slot)) ↔ IsTrue (has_slot (s.large ++ new.slots) slot)) (sym added.root)
             (larges_now m.paged new address pages rights range whole stands.tree added s.large stands.larges_met slot is);
         regions = regions;

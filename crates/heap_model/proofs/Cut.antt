@@ -37,11 +37,13 @@ cut_heap (region ∷ rest) new (inl dropped) = go region.heap (cut_heap rest new
         AreCut (cond heap (region ∷ filter (λ region. region.heap) rest) (filter (λ region. region.heap) rest)) (filter (λ region. region.heap) new)
     go true later = inl later
     go false later = later
-cut_heap (region ∷ rest) new (inr kept) = subst (λ (rs : List Region). AreCut (filter (λ region. region.heap) (region ∷ rest)) (filter (λ region. region.heap) rs)) (sym kept.3)
+cut_heap (region ∷ rest) new (inr kept) = subst (λ (rs : List Region).
+    AreCut (filter (λ region. region.heap) (region ∷ rest)) (filter (λ region. region.heap) rs)) (sym kept.3)
     (go region.heap kept.0.heap (front_kind region kept.0 kept.2) (cut_heap rest kept.1 kept.4))
   where
     go : (heap front : Bool) → front ≡ heap → AreCut (filter (λ region. region.heap) rest) (filter (λ region. region.heap) kept.1) →
-        AreCut (cond heap (region ∷ filter (λ region. region.heap) rest) (filter (λ region. region.heap) rest)) (cond front (kept.0 ∷ filter (λ region. region.heap) kept.1) (filter (λ region. region.heap) kept.1))
+        AreCut (cond heap (region ∷ filter (λ region. region.heap) rest) (filter (λ region. region.heap) rest))
+        (cond front (kept.0 ∷ filter (λ region. region.heap) kept.1) (filter (λ region. region.heap) kept.1))
     go true true same later = inr (kept.0, filter (λ region. region.heap) kept.1, kept.2, refl, later)
     go false false same later = later
     go true false same later = absurd (cc)

@@ -9,14 +9,16 @@ use Rattle.heap_model.specs.Run.{IsGood}
 -- ---- lists by number
 
 -- what is left was there, under another number
-pub left_at : {A : Type 0} (blocks : List (Option A)) (number i : ℕ) (block : A) → get_or (slice_set blocks number None) i None ≡ Some block → (i ≢ number) × (get_or blocks i None ≡ Some block)
+pub left_at : {A : Type 0} (blocks : List (Option A)) (number i : ℕ) (block : A) →
+    get_or (slice_set blocks number None) i None ≡ Some block → (i ≢ number) × (get_or blocks i None ≡ Some block)
 left_at [] number i block is = cc
 left_at (first ∷ rest) zero zero block is = cc
 left_at (first ∷ rest) zero (suc i) block is = ((λ e. absurd (omega arith)), is)
 left_at (first ∷ rest) (suc number) zero block is = ((λ e. absurd (omega arith)), is)
 left_at (first ∷ rest) (suc number) (suc i) block is = let later = left_at rest number i block is in ((λ e. later.0 (omega arith)), later.1)
 
-pub outline_left : (blocks : List (Option Block)) (number : ℕ) → map (option_map outline) (without_block blocks number) ≡ slice_set (map (option_map outline) blocks) number None
+pub outline_left : (blocks : List (Option Block)) (number : ℕ) → map (option_map outline)
+    (without_block blocks number) ≡ slice_set (map (option_map outline) blocks) number None
 outline_left [] number = refl
 outline_left (first ∷ rest) zero = refl
 outline_left (first ∷ rest) (suc number) = ap (λ xs. option_map outline first ∷ xs) (outline_left rest number)
@@ -37,7 +39,8 @@ good_ended s number good = record {
   no_slot_twice = good.no_slot_twice;
 }
 
-pub holds_ended : (reached : ℕ → Option ℕ) (blocks : List (Option Block)) (number : ℕ) → HoldsBytes reached blocks → HoldsBytes reached (without_block blocks number)
+pub holds_ended : (reached : ℕ → Option ℕ) (blocks : List (Option Block)) (number : ℕ) → HoldsBytes reached blocks →
+    HoldsBytes reached (without_block blocks number)
 holds_ended reached blocks number holds = record { known = λ i k byte block is cell. holds.known i k byte block (left_at blocks number i block is).1 cell }
 
 -- ---- all blocks end

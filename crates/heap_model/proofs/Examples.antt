@@ -428,7 +428,12 @@ fine : Config
 fine = record { base = 0x400000; pages = 2048; granularity = 4096; frames = 2048; rate = 4095 }
 
 abbrev grown : State
-grown = after (start fine) (Malloc 2097000 16) (record { reply = Placed 0 0x400010; regions = Some (heap_region 0x400000 512 ∷ []); large = Some (0x400000 ∷ []) })
+grown = after (start fine) (Malloc 2097000 16) (record {
+  reply = Placed 0 0x400010;
+  regions =
+      Some (heap_region 0x400000 512 ∷ []);
+  large = Some (0x400000 ∷ []);
+})
 
 grown-large : grown.large ≡ 0x400000 ∷ []
 unfolding fine pages_for wanted padded pages_in
@@ -455,7 +460,12 @@ trimmed-frames = refl
 
 -- a slot of which one call maps all and keeps a page is listed, and has a table after it
 abbrev cut_again : State
-cut_again = after (start fine) (Malloc 2097000 16) (record { reply = Placed 0 0x400010; regions = Some (heap_region 0x400000 1 ∷ []); large = Some (0x400000 ∷ []) })
+cut_again = after (start fine) (Malloc 2097000 16) (record {
+  reply = Placed 0 0x400010;
+  regions =
+      Some (heap_region 0x400000 1 ∷ []);
+  large = Some (0x400000 ∷ []);
+})
 
 cut-again_large : cut_again.large ≡ []
 unfolding fine

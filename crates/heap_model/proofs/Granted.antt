@@ -20,13 +20,20 @@ use Rattle.heap_model.proofs.Added.{region_rights, stays, stands_added}
 
 -- the state with one region more of the heap, of which these slots are mapped by one entry each
 abbrev pub granted : State → ℕ → ℕ → List ℕ → State
-granted s address pages slots = record s { heap = with_region (heap_region address pages) s.heap; tables = with_tables s.tables address pages slots; large = s.large ++ slots }
+granted s address pages slots = record s {
+  heap = with_region (heap_region address pages) s.heap;
+  tables =
+      with_tables s.tables address pages slots;
+  large = s.large ++ slots;
+}
 
 -- ---- the state is good
 
 -- pages that meet no region meet none of the heap, and none of the user
-pub clear_of : (s : State) (pages address : ℕ) → IsFit s.base s.pages (all_regions s) pages address → (meets_any address pages s.heap ≡ false) × (meets_any address pages s.users ≡ false)
-clear_of s pages address fit = neither_or (meets_any address pages s.heap) (meets_any address pages s.users) (sym (any_all (meets address pages) s.heap s.users) ∙ fit.clear)
+pub clear_of : (s : State) (pages address : ℕ) → IsFit s.base s.pages (all_regions s) pages address →
+    (meets_any address pages s.heap ≡ false) × (meets_any address pages s.users ≡ false)
+clear_of s pages address fit = neither_or (meets_any address pages s.heap) (meets_any address pages s.users)
+    (sym (any_all (meets address pages) s.heap s.users) ∙ fit.clear)
 
 -- meeting goes both ways
 meets_back : (address pages : ℕ) (region : Region) → meets address pages region ≡ false → meets region.start region.pages (heap_region address pages) ≡ false
@@ -37,14 +44,18 @@ users_beside : (address pages : ℕ) (heap users : List Region) → meets_any ad
     AllByRecursion (IsUserRegion (with_region (heap_region address pages) heap)) users
 users_beside address pages heap [] clear all = tt
 users_beside address pages heap (first ∷ rest) clear all =
-    let parts : (meets address pages first ≡ false) × (meets_any address pages rest ≡ false) = neither_or (meets address pages first) (meets_any address pages rest) clear in
+    let parts : (meets address pages first ≡ false) × (meets_any address pages rest ≡ false) =
+    neither_or (meets address pages first) (meets_any address pages rest) clear in
     let joined : meets_any first.start first.pages (with_region (heap_region address pages) heap) ≡ false =
     any_with (meets first.start first.pages) (heap_region address pages) heap
-    ∙ or_neither (meets first.start first.pages (heap_region address pages)) (meets_any first.start first.pages heap) (meets_back address pages first parts.0) all.0.2 in
+    ∙ or_neither (meets first.start first.pages (heap_region address pages)) (meets_any first.start first.pages heap)
+    (meets_back address pages first parts.0) all.0.2 in
     ((all.0.0, all.0.1, joined), users_beside address pages heap rest parts.1 all.1)
 
-pub good_granted : (s : State) (address pages : ℕ) (slots : List ℕ) → IsGood s → IsCanonicalRange (address / 4096) pages → IsFit s.base s.pages (all_regions s) pages address →
-    pages + missing s.tables address pages ≤ free_frames s → AreAscending slots → AllByRecursion (IsSlotOf address pages) slots → IsGood (granted s address pages slots)
+pub good_granted : (s : State) (address pages : ℕ) (slots : List ℕ) → IsGood s → IsCanonicalRange (address / 4096) pages →
+    IsFit s.base s.pages (all_regions s) pages address →
+    pages + missing s.tables address pages ≤ free_frames s → AreAscending slots →
+    AllByRecursion (IsSlotOf address pages) slots → IsGood (granted s address pages slots)
 good_granted s address pages slots good range fit few ascending within =
     let clear = clear_of s pages address fit in
     let total : total_pages (with_region (heap_region address pages) s.heap) ≡ pages + total_pages s.heap = pages_with (heap_region address pages) s.heap in
@@ -97,7 +108,8 @@ pub no_start : (s : State) (address pages : ℕ) (list : List Region) → 0 < pa
     list_any (λ old. nat_eq old.start address) list ≡ false
 no_start s address pages [] some all clear = refl
 no_start s address pages (first ∷ rest) some all clear =
-    let parts : (meets address pages first ≡ false) × (meets_any address pages rest ≡ false) = neither_or (meets address pages first) (meets_any address pages rest) clear in
+    let parts : (meets address pages first ≡ false) × (meets_any address pages rest ≡ false) =
+    neither_or (meets address pages first) (meets_any address pages rest) clear in
     let more : 0 < first.pages = all.0.0.1.some in
     or_neither (nat_eq first.start address) (list_any (λ old. nat_eq old.start address) rest)
     (apart address pages first more some parts.0) (no_start s address pages rest some all.1 parts.1)
@@ -129,5 +141,7 @@ module _ (m : Seen) (new : Paged) (s : State) (address pages : ℕ) (stands : St
   pub stands_granted : Stands (record m { paged = new }) (granted s address pages new.slots)
   stands_granted =
       let total : total_pages (with_region (heap_region address pages) s.heap) ≡ pages + total_pages s.heap = pages_with (heap_region address pages) s.heap in
-      stands_added m new s address pages heap_rights (with_region (heap_region address pages) s.heap) s.users stands range fit.aligned grant here elsewhere few (omega arith) regions
-      (λ at user. stays m new s address pages heap_rights (with_region (heap_region address pages) s.heap) s.users stands range fit.aligned grant here elsewhere at 0 (stands.zeros at user))
+      stands_added m new s address pages heap_rights (with_region (heap_region address pages) s.heap) s.users stands range
+      fit.aligned grant here elsewhere few (omega arith) regions
+      (λ at user. stays m new s address pages heap_rights (with_region (heap_region address pages) s.heap) s.users stands
+      range fit.aligned grant here elsewhere at 0 (stands.zeros at user))

@@ -9,7 +9,8 @@ use Rattle.heap_model.specs.Run.{IsGood, IsGoodBlock}
 -- ---- a block that changed
 
 -- a block of the changed list is the changed one, or another one of the old list
-pub changed_at : (blocks : List (Option Block)) (number : ℕ) (change : Block → Block) (i : ℕ) (block : Block) → block_at (with_block blocks number change) i ≡ Some block
+pub changed_at : (blocks : List (Option Block)) (number : ℕ) (change : Block → Block) (i : ℕ) (block : Block) →
+    block_at (with_block blocks number change) i ≡ Some block
     → ((i ≡ number) × ((old : Block) × (block_at blocks number ≡ Some old) × (change old ≡ block))) ⊎ ((i ≢ number) × (block_at blocks i ≡ Some block))
 changed_at [] number change i block is = cc
 changed_at (None ∷ rest) zero change zero block is = cc
@@ -40,7 +41,8 @@ length-with_bytes (cell ∷ cells) zero (byte ∷ bytes) = ap suc (length-with_b
 
 -- what is known afterwards: a byte of the range, or what was known outside it
 pub known_cases : (cells : List Cell) (offset : ℕ) (bytes : List ℕ) (k byte : ℕ) → cell_at (with_bytes cells offset bytes) k ≡ Known byte
-    → ((i : ℕ) × (i < length bytes) × (k ≡ offset + i) × (get_or bytes i 0 ≡ byte)) ⊎ (((k < offset) ⊎ (offset + length bytes ≤ k)) × (cell_at cells k ≡ Known byte))
+    → ((i : ℕ) × (i < length bytes) × (k ≡ offset + i) × (get_or bytes i
+    0 ≡ byte)) ⊎ (((k < offset) ⊎ (offset + length bytes ≤ k)) × (cell_at cells k ≡ Known byte))
 known_cases [] offset bytes k byte is = cc
 known_cases (cell ∷ cells) (suc offset) bytes zero byte is = inr (inl (omega arith), is)
 known_cases (cell ∷ cells) (suc offset) bytes (suc k) byte is = elim (known_cases cells offset bytes k byte is) [
@@ -63,7 +65,8 @@ known_within (first ∷ rest) (suc k) byte is = let less : k < length rest = kno
 -- ---- the state with known bytes
 
 -- the block of which more is known keeps its place
-was_at : (blocks : List (Option Block)) (number offset : ℕ) (bytes : List ℕ) (i : ℕ) (block : Block) → block_at (with_block blocks number (known_block offset bytes)) i ≡ Some block
+was_at : (blocks : List (Option Block)) (number offset : ℕ) (bytes : List ℕ) (i : ℕ) (block : Block) →
+    block_at (with_block blocks number (known_block offset bytes)) i ≡ Some block
     → (old : Block) × (block_at blocks i ≡ Some old) × (old.address ≡ block.address) × (old.size ≡ block.size)
 was_at blocks number offset bytes i block is = elim (changed_at blocks number (known_block offset bytes) i block is) [
   | inl same ↦ (same.1.0, ap (λ n. block_at blocks n) same.0 ∙ same.1.1, ap (λ b. b.address) same.1.2, ap (λ b. b.size) same.1.2)
@@ -79,13 +82,26 @@ good_known s number offset bytes good = record {
   each = λ i block is. elim (changed_at s.blocks number (known_block offset bytes) i block is) [
     | inl same ↦ (let was : IsGoodBlock s.heap same.1.0 = good.each number same.1.0 same.1.1 in
         subst (λ b. IsGoodBlock s.heap b) same.1.2
-        (record { aligned = was.aligned; aligned_16 = was.aligned_16; cells = length-with_bytes same.1.0.cells offset bytes ∙ was.cells; granted = was.granted }))
+        (record {
+          aligned = was.aligned;
+          aligned_16 = was.aligned_16;
+          cells = length-with_bytes same.1.0.cells offset bytes
+              ∙ was.cells;
+          granted = was.granted;
+        }))
     | inr other ↦ good.each i block other.1
   ];
   apart = λ i j a b is_a is_b differ. (
-      let old_a : (old : Block) × (block_at s.blocks i ≡ Some old) × (old.address ≡ a.address) × (old.size ≡ a.size) = was_at s.blocks number offset bytes i a is_a in
-      let old_b : (old : Block) × (block_at s.blocks j ≡ Some old) × (old.address ≡ b.address) × (old.size ≡ b.size) = was_at s.blocks number offset bytes j b is_b in
-      elim (good.apart i j old_a.0 old_b.0 old_a.1 old_b.1 differ) [ inl before ↦ inl (omega (arith, old_a.2, old_a.3, old_b.2, old_b.3)) | inr after ↦ inr (omega (arith, old_a.2, old_a.3, old_b.2, old_b.3)) ]);
+      let old_a : (old : Block) × (block_at s.blocks i ≡ Some old) × (old.address ≡ a.address) × (old.size ≡ a.size) =
+      was_at s.blocks number offset bytes i a is_a in
+      let old_b : (old : Block) × (block_at s.blocks j ≡ Some old) × (old.address ≡ b.address) × (old.size ≡ b.size) =
+      was_at s.blocks number offset bytes j b is_b in
+      elim (good.apart i j old_a.0 old_b.0 old_a.1 old_b.1 differ) [
+        | inl before ↦ inl
+            (omega (arith, old_a.2, old_a.3, old_b.2, old_b.3))
+        | inr after ↦ inr
+            (omega (arith, old_a.2, old_a.3, old_b.2, old_b.3))
+      ]);
   heap_order = good.heap_order;
   user_order = good.user_order;
   heap = good.heap;
@@ -99,7 +115,8 @@ good_known s number offset bytes good = record {
 -- ---- the memory that has them
 
 -- the memory holds what was put at the block's bytes
-pub holds_known : (s : State) (old new : ℕ → Option ℕ) (number offset : ℕ) (bytes : List ℕ) (block : Block) → IsGood s → block_at s.blocks number ≡ Some block → offset + length bytes ≤ block.size
+pub holds_known : (s : State) (old new : ℕ → Option ℕ) (number offset : ℕ) (bytes : List ℕ) (block : Block) → IsGood s →
+    block_at s.blocks number ≡ Some block → offset + length bytes ≤ block.size
     → IsPut s.heap old new (block.address + offset) bytes → HoldsBytes old s.blocks → HoldsBytes new (with_block s.blocks number (known_block offset bytes))
 holds_known s old new number offset bytes block good is inside put holds = record {
   known = λ i k byte it at cell. elim (changed_at s.blocks number (known_block offset bytes) i it at) [
@@ -111,16 +128,20 @@ holds_known s old new number offset bytes block good is inside put holds = recor
           | inl written ↦ (
               let place : it.address + k ≡ block.address + offset + written.0 = omega (arith, written.2) in
               ap new place ∙ put.here written.0 written.1 ∙ ap Some written.3)
-          | inr kept ↦ ap new (ap (λ a. a + k) address) ∙ stays number block k byte is kept.1 (elim kept.0 [ inl below ↦ inl (omega arith) | inr above ↦ inr (omega arith) ])
+          | inr kept ↦ ap new (ap (λ a. a + k) address) ∙ stays number block k byte is kept.1
+              (elim kept.0 [ inl below ↦ inl (omega arith) | inr above ↦ inr (omega arith) ])
         ])
     | inr other ↦ (
         let many : length it.cells ≡ it.size = (good.each i it other.1).cells in
         let less : k < length it.cells = known_within it.cells k byte cell in
-        stays i it k byte other.1 cell (elim (good.apart i number it block other.1 is other.0) [ inl before ↦ inl (omega arith) | inr behind ↦ inr (omega arith) ]))
+        stays i it k byte other.1 cell (elim (good.apart i number it block other.1 is other.0)
+        [ inl before ↦ inl (omega arith) | inr behind ↦ inr (omega arith) ]))
   ];
 }
   where
-    stays : (i : ℕ) (it : Block) (k byte : ℕ) → block_at s.blocks i ≡ Some it → cell_at it.cells k ≡ Known byte → (it.address + k < block.address + offset) ⊎ (block.address + offset + length bytes ≤ it.address + k) → new (it.address + k) ≡ Some byte
+    stays : (i : ℕ) (it : Block) (k byte : ℕ) → block_at s.blocks i ≡ Some it → cell_at it.cells k ≡ Known byte →
+        (it.address + k < block.address + offset) ⊎ (block.address + offset + length bytes ≤ it.address + k) →
+        new (it.address + k) ≡ Some byte
     stays i it k byte at cell beside =
         let many : length it.cells ≡ it.size = (good.each i it at).cells in
         let less : k < length it.cells = known_within it.cells k byte cell in

@@ -60,17 +60,24 @@ whole_range start pages whole range =
 
 -- the state with one region more of the user, of which these slots are mapped by one entry each
 abbrev pub with_user : State → ℕ → ℕ → Rights → List ℕ → State
-with_user s start pages rights slots = record s { users = with_region (user_region start pages rights) s.users; tables = with_tables s.tables start pages slots; large = s.large ++ slots }
+with_user s start pages rights slots = record s {
+  users = with_region (user_region start pages rights) s.users;
+  tables =
+      with_tables s.tables start pages slots;
+  large = s.large ++ slots;
+}
 
 -- pages that meet no region of either kind meet none
-clear_all : (s : State) (start pages : ℕ) → meets_any start pages s.heap ≡ false → meets_any start pages s.users ≡ false → meets_any start pages (all_regions s) ≡ false
+clear_all : (s : State) (start pages : ℕ) → meets_any start pages s.heap ≡ false → meets_any start pages s.users ≡ false →
+    meets_any start pages (all_regions s) ≡ false
 clear_all s start pages beside_heap beside_users = any_all (meets start pages) s.heap s.users ∙ rw (beside_heap, beside_users) refl
 
 pub good_mapped : (s : State) (start pages : ℕ) (rights : Rights) (slots : List ℕ) → IsGood s → start % 4096 ≡ 0 → IsCanonicalRange (start / 4096) pages →
     meets_any start pages s.heap ≡ false → meets_any start pages s.users ≡ false → pages + missing s.tables start pages ≤ free_frames s →
     AreAscending slots → AllByRecursion (IsSlotOf start pages) slots → IsGood (with_user s start pages rights slots)
 good_mapped s start pages rights slots good whole range beside_heap beside_users few ascending within =
-    let total : total_pages (with_region (user_region start pages rights) s.users) ≡ pages + total_pages s.users = pages_with (user_region start pages rights) s.users in
+    let total : total_pages (with_region (user_region start pages rights) s.users) ≡ pages + total_pages s.users =
+    pages_with (user_region start pages rights) s.users in
     let tables = length-with_tables s.tables start pages slots in
     let old : used_frames s ≤ s.frames = good.frames in
     record {
@@ -84,7 +91,8 @@ good_mapped s start pages rights slots good whole range beside_heap beside_users
       slots = whole_still (user_region start pages rights) (all_regions s) (all_regions (with_user s start pages rights slots)) s.large slots
           (λ test. any_users_more test (user_region start pages rights) s.heap s.users) good.slots (slots_whole (user_region start pages rights) slots within);
       are_slots = slots_more start pages s.large slots good.are_slots within;
-      no_slot_twice = slots_join start pages (all_regions s) s.large slots ascending within (clear_all s start pages beside_heap beside_users) good.slots good.no_slot_twice;
+      no_slot_twice = slots_join start pages (all_regions s) s.large slots ascending within
+          (clear_all s start pages beside_heap beside_users) good.slots good.no_slot_twice;
     }
 
 module _ (m : Seen) (new : Paged) (s : State) (start pages : ℕ) (rights : Rights) (stands : Stands m s)
@@ -95,23 +103,30 @@ module _ (m : Seen) (new : Paged) (s : State) (start pages : ℕ) (rights : Righ
     (zeros : (at : ℕ) → is_within at (user_region start pages rights) ≡ true → reached new.words new.root at ≡ Some 0) where
   here : (at : ℕ) → start ≤ at → at < start + 4096 * pages → region_rights (region_at (with_user s start pages rights new.slots) at) ≡ Some rights
   here at above below =
-      ap region_rights (find_behind (is_within at) s.heap (with_region (user_region start pages rights) s.users) (none_within start pages at s.heap above below beside_heap)
-      ∙ find_only (is_within at) (user_region start pages rights) s.users (within at (user_region start pages rights) above below) (none_within start pages at s.users above below beside_users))
+      ap region_rights (find_behind (is_within at) s.heap (with_region (user_region start pages rights) s.users)
+      (none_within start pages at s.heap above below beside_heap)
+      ∙ find_only (is_within at) (user_region start pages rights) s.users
+      (within at (user_region start pages rights) above below) (none_within start pages at s.users above below
+      beside_users))
 
   elsewhere : (at : ℕ) → (at < start) ⊎ (start + 4096 * pages ≤ at) → region_at (with_user s start pages rights new.slots) at ≡ region_at s at
   elsewhere at beside = find_same (is_within at) s.heap s.users (with_region (user_region start pages rights) s.users)
       (find_past (is_within at) (user_region start pages rights) s.users (not_within at (user_region start pages rights) beside))
 
   cleared : (at : ℕ) → list_any (is_within at) (with_region (user_region start pages rights) s.users) ≡ true → reached new.words new.root at ≡ Some 0
-  cleared at user = elim (or_cases (is_within at (user_region start pages rights)) (list_any (is_within at) s.users) (sym (any_with (is_within at) (user_region start pages rights) s.users) ∙ user)) [
-    | inl inside ↦ zeros at inside
-    | inr other ↦ stays m new s start pages rights s.heap (with_region (user_region start pages rights) s.users) stands range whole added here elsewhere at 0 (stands.zeros at other)
-  ]
+  cleared at user = elim (or_cases (is_within at (user_region start pages rights)) (list_any (is_within at) s.users)
+      (sym (any_with (is_within at) (user_region start pages rights) s.users) ∙ user)) [
+        | inl inside ↦ zeros at inside
+        | inr other ↦ stays m new s start pages rights s.heap (with_region (user_region start pages rights) s.users) stands
+            range whole added here elsewhere at 0 (stands.zeros at other)
+      ]
 
   pub stands_mapped : Stands (record m { paged = new }) (with_user s start pages rights new.slots)
   stands_mapped =
-      let total : total_pages (with_region (user_region start pages rights) s.users) ≡ pages + total_pages s.users = pages_with (user_region start pages rights) s.users in
-      stands_added m new s start pages rights s.heap (with_region (user_region start pages rights) s.users) stands range whole added here elsewhere few (omega arith) regions cleared
+      let total : total_pages (with_region (user_region start pages rights) s.users) ≡ pages + total_pages s.users =
+      pages_with (user_region start pages rights) s.users in
+      stands_added m new s start pages rights s.heap (with_region (user_region start pages rights) s.users) stands range
+      whole added here elsewhere few (omega arith) regions cleared
 
 -- ---- unmapped
 
@@ -123,7 +138,8 @@ user_beside s start pages good there =
     let at : (n : ℕ) → ((user.0.start % 4096 ≡ 0) × IsCanonicalRange (user.0.start / 4096) n) × (meets_any user.0.start n s.heap ≡ false) →
     ((start % 4096 ≡ 0) × IsCanonicalRange (start / 4096) n) × (meets_any start n s.heap ≡ false) =
     λ n h. subst (λ a. ((a % 4096 ≡ 0) × IsCanonicalRange (a / 4096) n) × (meets_any a n s.heap ≡ false)) user.2 h in
-    at pages (subst (λ n. ((user.0.start % 4096 ≡ 0) × IsCanonicalRange (user.0.start / 4096) n) × (meets_any user.0.start n s.heap ≡ false)) user.3 (user.1.1, user.1.2))
+    at pages (subst (λ n. ((user.0.start % 4096 ≡ 0) × IsCanonicalRange (user.0.start / 4096) n) × (meets_any user.0.start n
+    s.heap ≡ false)) user.3 (user.1.1, user.1.2))
 
 -- what was reached was walked to
 pub reached_walk : (words : List ℕ) (root address byte : ℕ) → reached words root address ≡ Some byte → IsSome (walk_of words root (address / 4096))
@@ -142,7 +158,8 @@ abbrev regions_left : State → ℕ → ℕ → List Region
 regions_left s start pages = all_regions (record s { users = without_region start pages s.users })
 
 -- the region that leaves meets no other one
-none_met : (start pages : ℕ) (list : List Region) → AreInOrder list → list_any (is_at start pages) list ≡ true → meets_any start pages (without_region start pages list) ≡ false
+none_met : (start pages : ℕ) (list : List Region) → AreInOrder list → list_any (is_at start pages) list ≡ true →
+    meets_any start pages (without_region start pages list) ≡ false
 none_met start pages [] order there = absurd (let no : false ≡ true = there in cc)
 none_met start pages (region ∷ rest) order there = go (is_at start pages region) refl (none_met start pages rest order.1)
   where
@@ -153,7 +170,9 @@ none_met start pages (region ∷ rest) order there = go (is_at start pages regio
         let here : meets start pages one ≡ false = grind (arith, nat_tests) in
         rw here (later at more behind all.1)
 
-    go : (b : Bool) → is_at start pages region ≡ b → (list_any (is_at start pages) rest ≡ true → meets_any start pages (without_region start pages rest) ≡ false) → meets_any start pages (without_region start pages (region ∷ rest)) ≡ false
+    go : (b : Bool) → is_at start pages region ≡ b → (list_any (is_at start pages) rest ≡ true →
+        meets_any start pages (without_region start pages rest) ≡ false) →
+        meets_any start pages (without_region start pages (region ∷ rest)) ≡ false
     go true is more =
         let same : region.start ≡ start = grind (arith, nat_tests) in
         let long : region.pages ≡ pages = grind (arith, nat_tests) in
@@ -168,10 +187,12 @@ none_met start pages (region ∷ rest) order there = go (is_at start pages regio
 passes_left : (test : Region → Bool) (start pages : ℕ) (list : List Region) → list_any test list ≡ true →
     (list_any test (without_region start pages list) ≡ true) ⊎ ((region : Region) × (is_at start pages region ≡ true) × (test region ≡ true))
 passes_left test start pages [] is = absurd (let no : false ≡ true = is in cc)
-passes_left test start pages (region ∷ rest) is = go (is_at start pages region) refl (or_cases (test region) (list_any test rest) is) (passes_left test start pages rest)
+passes_left test start pages (region ∷ rest) is = go (is_at start pages region) refl
+    (or_cases (test region) (list_any test rest) is) (passes_left test start pages rest)
   where
     go : (b : Bool) → is_at start pages region ≡ b → (test region ≡ true) ⊎ (list_any test rest ≡ true) →
-        (list_any test rest ≡ true → (list_any test (without_region start pages rest) ≡ true) ⊎ ((one : Region) × (is_at start pages one ≡ true) × (test one ≡ true))) →
+        (list_any test rest ≡ true → (list_any test (without_region start pages rest) ≡ true) ⊎ ((one : Region) × (is_at
+        start pages one ≡ true) × (test one ≡ true))) →
         (list_any test (without_region start pages (region ∷ rest)) ≡ true) ⊎ ((one : Region) × (is_at start pages one ≡ true) × (test one ≡ true))
     go true at (inl here) more = inr (region, at, here)
     go true at (inr later) more = inl (rw at later)
@@ -192,9 +213,11 @@ at_pages start pages region is = grind (arith, nat_tests)
 slot_left : (s : State) (start pages slot : ℕ) → is_whole_in (all_regions s) slot ≡ true →
     (is_whole_in (regions_left s start pages) slot ≡ true) ⊎ ((start ≤ slot) × (slot + 2 ^ 21 ≤ start + 4096 * pages))
 slot_left s start pages slot is = elim (or_cases (is_whole_in s.heap slot) (is_whole_in s.users slot) (sym (any_all (has_whole slot) s.heap s.users) ∙ is)) [
-  | inl heap ↦ inl (any_all (has_whole slot) s.heap (without_region start pages s.users) ∙ or_left (is_whole_in s.heap slot) (is_whole_in (without_region start pages s.users) slot) heap)
+  | inl heap ↦ inl (any_all (has_whole slot) s.heap (without_region start pages s.users)
+      ∙ or_left (is_whole_in s.heap slot) (is_whole_in (without_region start pages s.users) slot) heap)
   | inr users ↦ elim (passes_left (has_whole slot) start pages s.users users) [
-    | inl left ↦ inl (any_all (has_whole slot) s.heap (without_region start pages s.users) ∙ or_right (is_whole_in s.heap slot) (is_whole_in (without_region start pages s.users) slot) left)
+    | inl left ↦ inl (any_all (has_whole slot) s.heap (without_region start pages s.users)
+        ∙ or_right (is_whole_in s.heap slot) (is_whole_in (without_region start pages s.users) slot) left)
     | inr leaves ↦ (
         let same : leaves.0.start ≡ start = at_start start pages leaves.0 leaves.1 in
         let long : leaves.0.pages ≡ pages = at_pages start pages leaves.0 leaves.1 in
@@ -204,7 +227,8 @@ slot_left s start pages slot is = elim (or_cases (is_whole_in s.heap slot) (is_w
 ]
 
 -- slots among pages that meet no region lie whole in none, and in none in part
-apart_pages : (start pages slot : ℕ) (regions : List Region) → start ≤ slot → slot + 2 ^ 21 ≤ start + 4096 * pages → meets_any start pages regions ≡ false → meets_any slot 512 regions ≡ false
+apart_pages : (start pages slot : ℕ) (regions : List Region) → start ≤ slot → slot + 2 ^ 21 ≤ start + 4096 * pages →
+    meets_any start pages regions ≡ false → meets_any slot 512 regions ≡ false
 apart_pages start pages slot [] from to clear = refl
 apart_pages start pages slot (region ∷ rest) from to clear =
     let both = neither_or (meets start pages region) (meets_any start pages rest) clear in
@@ -224,15 +248,19 @@ clear_left s start pages good there =
     ∙ (let heap = (user_beside s start pages good there).1 in let users = none_met start pages s.users good.user_order there in rw (heap, users) refl)
 
 -- so no slot is left in part
-parts_left : (s : State) (start pages : ℕ) → IsGood s → list_any (is_at start pages) s.users ≡ true → filter (is_part_in (regions_left s start pages)) s.large ≡ []
+parts_left : (s : State) (start pages : ℕ) → IsGood s → list_any (is_at start pages) s.users ≡ true →
+    filter (is_part_in (regions_left s start pages)) s.large ≡ []
 parts_left s start pages good there = filter_none (is_part_in (regions_left s start pages)) s.large (each s.large good.slots)
   where
-    each : (slots : List ℕ) → AllByRecursion (λ slot. IsTrue (is_whole_in (all_regions s) slot)) slots → AllByRecursion (λ slot. is_part_in (regions_left s start pages) slot ≡ false) slots
+    each : (slots : List ℕ) → AllByRecursion (λ slot. IsTrue (is_whole_in (all_regions s) slot)) slots →
+        AllByRecursion (λ slot. is_part_in (regions_left s start pages) slot ≡ false) slots
     each [] all = tt
     each (slot ∷ rest) all = (
       elim (slot_left s start pages slot all.0) [
         | inl left ↦ rw left refl
-        | inr leaves ↦ (let clear = apart_pages start pages slot (regions_left s start pages) leaves.0 leaves.1 (clear_left s start pages good there) in rw clear (and_false (not (is_whole_in (regions_left s start pages) slot))))
+        | inr leaves ↦ (let clear = apart_pages start pages slot (regions_left s start pages) leaves.0 leaves.1
+            (clear_left s start pages good there) in rw clear (and_false (not
+            (is_whole_in (regions_left s start pages) slot))))
       ],
       each rest all.1,
     )
@@ -268,7 +296,8 @@ good_unmapped s start pages good there =
     }
 
 module _ (m : Seen) (new : Paged) (s : State) (start pages : ℕ) (good : IsGood s) (stands : Stands m s) (there : list_any (is_at start pages) s.users ≡ true)
-    (left : ArePagesGone m.paged new start pages) (uncut : is_cut m.paged.words m.paged.root (start / 4096) ≡ false) (regions : new.regions ≡ all_regions (without_user s start pages)) where
+    (left : ArePagesGone m.paged new start pages) (uncut : is_cut m.paged.words m.paged.root (start / 4096) ≡ false)
+    (regions : new.regions ≡ all_regions (without_user s start pages)) where
   -- what is known of the region that leaves
   known_start : (start % 4096 ≡ 0) × (meets_any start pages s.heap ≡ false)
   known_start = let user = user_beside s start pages good there in (user.0.0, user.1)
@@ -291,7 +320,8 @@ module _ (m : Seen) (new : Paged) (s : State) (start pages : ℕ) (good : IsGood
   out_of_range page canonical beside =
       let aligned = known_start.0 in
       let apart : (k : ℕ) → k < pages → page ≡ start / 4096 + k → ⊥ = λ k less same. elim beside [ inl before ↦ omega arith | inr behind ↦ omega arith ] in
-      let out : (4096 * page < start) ⊎ (start + 4096 * pages ≤ 4096 * page) = elim beside [ inl before ↦ inl (omega arith) | inr behind ↦ inr (omega arith) ] in
+      let out : (4096 * page < start) ⊎ (start + 4096 * pages ≤ 4096 * page) =
+      elim beside [ inl before ↦ inl (omega arith) | inr behind ↦ inr (omega arith) ] in
       ap found_rights (left.others page (subst (λ a. IsTrue (is_canonical a)) (mul_comm 4096 page) canonical) apart)
       ∙ (stands.pages_found page canonical ∙ sym (ap region_rights (as_before (4096 * page) out)))
 
@@ -303,14 +333,16 @@ module _ (m : Seen) (new : Paged) (s : State) (start pages : ℕ) (good : IsGood
       | yes inside ↦ (
           let aligned = known_start.0 in
           let e : start / 4096 + (page - start / 4096) ≡ page = omega arith in
-          let gone : walk_of new.words m.paged.root page ≡ None = subst (λ p. walk_of new.words m.paged.root p ≡ None) e (left.unmapped (page - start / 4096) (omega arith)) in
+          let gone : walk_of new.words m.paged.root page ≡ None = subst (λ p. walk_of new.words m.paged.root p ≡ None) e
+          (left.unmapped (page - start / 4096) (omega arith)) in
           ap found_rights gone ∙ sym (ap region_rights (none_there (4096 * page) (omega arith) (omega arith))))
       | no behind ↦ out_of_range page canonical (inr (omega arith))
     ]
   ]
 
   -- a byte outside the pages is reached as before
-  kept : (at byte : ℕ) → (at < start) ⊎ (start + 4096 * pages ≤ at) → IsTrue (is_canonical (at / 4096 * 4096)) → reached m.paged.words m.paged.root at ≡ Some byte →
+  kept : (at byte : ℕ) → (at < start) ⊎ (start + 4096 * pages ≤ at) → IsTrue (is_canonical (at / 4096 * 4096)) →
+      reached m.paged.words m.paged.root at ≡ Some byte →
       reached new.words new.root at ≡ Some byte
   kept at byte beside canonical is =
       let aligned = known_start.0 in
@@ -333,18 +365,21 @@ module _ (m : Seen) (new : Paged) (s : State) (start pages : ℕ) (good : IsGood
   beside_users at inside = elim (dec_lt at start) [
     | yes before ↦ inl before
     | no above ↦ elim (dec_lt at (start + 4096 * pages)) [
-      | yes below ↦ (let no : list_any (is_within at) (without_region start pages s.users) ≡ false = none_left start pages at s.users good.user_order there (omega arith) below in absurd (cc))
+      | yes below ↦ (let no : list_any (is_within at) (without_region start pages s.users) ≡ false =
+          none_left start pages at s.users good.user_order there (omega arith) below in absurd (cc))
       | no behind ↦ inr (omega arith)
     ]
   ]
 
   -- a byte of a block, and one of a region of the user
-  block_byte : (number k byte : ℕ) (block : Block) → block_at s.blocks number ≡ Some block → cell_at block.cells k ≡ Known byte → reached new.words new.root (block.address + k) ≡ Some byte
+  block_byte : (number k byte : ℕ) (block : Block) → block_at s.blocks number ≡ Some block →
+      cell_at block.cells k ≡ Known byte → reached new.words new.root (block.address + k) ≡ Some byte
   block_byte number k byte block is cell =
       let one : IsGoodBlock s.heap block = good.each number block is in
       let inside : k < cover block = (let c = known_within block.cells k byte cell in let n = one.cells in omega arith) in
       let held : list_any (is_within (block.address + k)) s.heap ≡ true = one.granted k inside in
-      kept (block.address + k) byte (beside_heap (block.address + k) held) (within_canonical (IsHeapRegion s) (λ region h. h.0) (block.address + k) s.heap good.heap held)
+      kept (block.address + k) byte (beside_heap (block.address + k) held)
+      (within_canonical (IsHeapRegion s) (λ region h. h.0) (block.address + k) s.heap good.heap held)
       (stands.bytes.known number k byte block is cell)
 
   user_byte : (at : ℕ) → list_any (is_within at) (without_region start pages s.users) ≡ true → reached new.words new.root at ≡ Some 0
@@ -364,25 +399,30 @@ module _ (m : Seen) (new : Paged) (s : State) (start pages : ℕ) (good : IsGood
             subst (λ n. large_of new.words m.paged.root n ≡ None) number (left.gone.large_gone 0 range.some))
         | no behind ↦ (
             let page : start / 4096 + (slot / 4096 - start / 4096) ≡ slot / 4096 = omega (arith, behind) in
-            subst (λ p. large_of new.words m.paged.root (prefix_of p 3) ≡ None) page (left.gone.large_gone (slot / 4096 - start / 4096) (omega (arith, aligned, slot_aligned, behind, above))))
+            subst (λ p. large_of new.words m.paged.root (prefix_of p 3) ≡ None) page
+            (left.gone.large_gone (slot / 4096 - start / 4096) (omega (arith, aligned, slot_aligned, behind, above))))
       ]
 
-  slot_stays : (slot : ℕ) → (slot + 2 ^ 21 ≤ start) ⊎ (start + 4096 * pages ≤ slot) → IsSlot slot → large_of new.words m.paged.root (slot_number slot) ≡ large_of m.paged.words m.paged.root (slot_number slot)
+  slot_stays : (slot : ℕ) → (slot + 2 ^ 21 ≤ start) ⊎ (start + 4096 * pages ≤ slot) → IsSlot slot →
+      large_of new.words m.paged.root (slot_number slot) ≡ large_of m.paged.words m.paged.root (slot_number slot)
   slot_stays slot beside is = left.gone.larges_stay (slot_number slot) (λ k less same. (
       let range = (user_beside s start pages good there).0.1 in
       let aligned : start % 4096 ≡ 0 = known_start.0 in
       let canonical = page_canonical (start / 4096) pages k range less in
-      let of : slot ≡ (start / 4096 + k) / 512 * 2 ^ 21 = same_slot slot ((start / 4096 + k) / 512 * 2 ^ 21) is (page_slot (start / 4096 + k) canonical) (same ∙ sym (page_number (start / 4096 + k))) in
+      let of : slot ≡ (start / 4096 + k) / 512 * 2 ^ 21 = same_slot slot ((start / 4096 + k) / 512 * 2 ^ 21) is
+      (page_slot (start / 4096 + k) canonical) (same ∙ sym (page_number (start / 4096 + k))) in
       elim beside [ inl before ↦ omega (arith, aligned, of, before, less) | inr behind ↦ omega (arith, aligned, of, behind, less) ]))
 
-  larges_met : (slot : ℕ) → IsSlot slot → IsSome (large_of new.words m.paged.root (slot_number slot)) ↔ IsTrue (has_slot (filter (is_whole_in (regions_left s start pages)) s.large) slot)
+  larges_met : (slot : ℕ) → IsSlot slot → IsSome (large_of new.words m.paged.root (slot_number slot)) ↔ IsTrue
+      (has_slot (filter (is_whole_in (regions_left s start pages)) s.large) slot)
   larges_met slot is = elim (dec_lt start (slot + 2 ^ 21)) [
     | yes below ↦ elim (dec_lt slot (start + 4096 * pages)) [
       | yes above ↦ (
           let none = slot_gone slot below above is in (
             (λ x. absurd (some_not_none (large_of new.words m.paged.root (slot_number slot)) x none)),
             (λ x. absurd (
-                let both = and_both (has_slot s.large slot) (is_whole_in (regions_left s start pages) slot) (sym (has_slot-filter (is_whole_in (regions_left s start pages)) s.large slot) ∙ x) in
+                let both = and_both (has_slot s.large slot) (is_whole_in (regions_left s start pages) slot)
+                (sym (has_slot-filter (is_whole_in (regions_left s start pages)) s.large slot) ∙ x) in
                 let met = whole_meets start pages slot (regions_left s start pages) below above both.1 in
                 let clear = clear_left s start pages good there in
                 cc)),
@@ -403,12 +443,16 @@ module _ (m : Seen) (new : Paged) (s : State) (start pages : ℕ) (good : IsGood
           let met = stands.larges_met slot is in (
             (λ x.
                 let listed : has_slot s.large slot ≡ true = met.0 (subst IsSome same x) in
-                let whole : is_whole_in (regions_left s start pages) slot ≡ true = elim (slot_left s start pages slot (slot_all (λ one. IsTrue (is_whole_in (all_regions s) one)) s.large slot good.slots listed)) [
+                let whole : is_whole_in (regions_left s start pages) slot ≡ true =
+                elim (slot_left s start pages slot (slot_all (λ one. IsTrue (is_whole_in (all_regions s) one)) s.large
+                slot good.slots listed)) [
                   | inl stays ↦ stays
                   | inr leaves ↦ absurd (elim beside [ inl before ↦ omega (arith, before, leaves.0) | inr behind ↦ omega (arith, behind, leaves.1) ])
                 ] in
                 has_slot-filter (is_whole_in (regions_left s start pages)) s.large slot ∙ rw (listed, whole) refl),
-            (λ x. subst IsSome (sym same) (met.1 (and_both (has_slot s.large slot) (is_whole_in (regions_left s start pages) slot) (sym (has_slot-filter (is_whole_in (regions_left s start pages)) s.large slot) ∙ x)).0)),
+            (λ x. subst IsSome (sym same) (met.1 (and_both (has_slot s.large slot)
+                (is_whole_in (regions_left s start pages) slot) (sym (has_slot-filter
+                (is_whole_in (regions_left s start pages)) s.large slot) ∙ x)).0)),
           )
 
   pub stands_unmapped : Stands (record m { paged = new }) (without_user s start pages)
@@ -426,10 +470,15 @@ module _ (m : Seen) (new : Paged) (s : State) (start pages : ℕ) (good : IsGood
         free_frames = omega arith;
         table_count = (let many = stands.table_count in omega arith);
         pages_found = λ page canonical. ap (λ r. found_rights (walk_of new.words r page)) left.root ∙ pages_found page canonical;
-        tables_met = λ level number some less. subst (λ r. IsSome (reach new.words r level number) ↔ IsTrue (has_table (without_user s start pages).tables (record { level = level; number = number }))) (sym left.root)
-            (subst (λ ts. IsSome (reach new.words m.paged.root level number) ↔ IsTrue (has_table ts (record { level = level; number = number }))) (sym (tables_left s start pages good there))
-            (subst (λ o. IsSome o ↔ IsTrue (has_table s.tables (record { level = level; number = number }))) (sym (left.gone.tables_stay level number less (λ same at. uncut))) (stands.tables_met level number some less)));
-        larges_met = λ slot is. subst (λ r. IsSome (large_of new.words r (slot_number slot)) ↔ IsTrue (has_slot (without_user s start pages).large slot)) (sym left.root) (larges_met slot is);
+        tables_met = λ level number some less. subst (λ r. IsSome (reach new.words r level number) ↔ IsTrue
+            (has_table (without_user s start pages).tables (record { level = level; number = number }))) (sym left.root)
+            (subst (λ ts. IsSome (reach new.words m.paged.root level number) ↔ IsTrue
+            (has_table ts (record { level = level; number = number }))) (sym (tables_left s start pages good there))
+            (subst (λ o. IsSome o ↔ IsTrue (has_table s.tables (record { level = level; number = number })))
+            (sym (left.gone.tables_stay level number less (λ same at. uncut)))
+            (stands.tables_met level number some less)));
+        larges_met = λ slot is. subst (λ r. IsSome (large_of new.words r (slot_number slot)) ↔ IsTrue
+            (has_slot (without_user s start pages).large slot)) (sym left.root) (larges_met slot is);
         regions = regions;
         blocks = stands.blocks;
         base = left.base ∙ stands.base;
@@ -443,7 +492,8 @@ module _ (m : Seen) (new : Paged) (s : State) (start pages : ℕ) (good : IsGood
 -- ---- the steps
 
 -- no refusal must come
-pub map_clear : (s : State) (start pages : ℕ) (rights : Rights) → start % 4096 ≡ 0 → IsCanonicalRange (start / 4096) pages → meets_any start pages s.heap ≡ false →
+pub map_clear : (s : State) (start pages : ℕ) (rights : Rights) → start % 4096 ≡ 0 → IsCanonicalRange (start / 4096) pages →
+    meets_any start pages s.heap ≡ false →
     meets_any start pages s.users ≡ false → pages + missing s.tables start pages ≤ free_frames s → must_refuse s (Map start pages rights) ≡ None
 map_clear s start pages rights whole range beside_heap beside_users few =
     let is : is_page_range start pages ≡ true = whole_range start pages whole range in
@@ -465,7 +515,8 @@ pub step_mapped : (m : Seen) (new : Paged) (s : State) (start pages : ℕ) (righ
 step_mapped m new s start pages rights slots good whole range beside_heap beside_users few ascending within bare stands =
     let is_good = good_mapped s start pages rights slots good whole range beside_heap beside_users few ascending within in
     let same : with_user s start pages rights slots ≡ after s (Map start pages rights) (record { reply = Done; regions = None; large = listed_slots slots }) =
-    sym (settled_same (with_user s start pages rights slots) is_good.slots) ∙ ap (λ list. settled (with_user s start pages rights list)) (sym (slots_listed slots)) in
+    sym (settled_same (with_user s start pages rights slots) is_good.slots)
+    ∙ ap (λ list. settled (with_user s start pages rights list)) (sym (slots_listed slots)) in
     record {
       allowed = record {
         reply = (map_clear s start pages rights whole range beside_heap beside_users few, refl);
@@ -478,7 +529,8 @@ step_mapped m new s start pages rights slots good whole range beside_heap beside
 
 -- one is unmapped
 pub step_unmapped : (m : Seen) (new : Paged) (s : State) (start pages : ℕ) → IsGood s → list_any (is_at start pages) s.users ≡ true →
-    Stands (record m { paged = new }) (without_user s start pages) → IsStep s (Unmap start pages) (record { reply = Done; regions = None; large = None }) (record m { paged = new })
+    Stands (record m { paged = new }) (without_user s start pages) → IsStep s (Unmap start pages)
+    (record { reply = Done; regions = None; large = None }) (record m { paged = new })
 step_unmapped m new s start pages good there stands =
     let user = user_beside s start pages good there in
     record {

@@ -14,7 +14,8 @@ use Rattle.heap_model.proofs.Regions.{any_all}
 
 -- ---- bytes of the user
 
-of_user : (heap users : List Region) (address : ℕ) → AllByRecursion (IsUserRegion heap) users → list_any (is_within address) users ≡ true → is_of_user users address ≡ true
+of_user : (heap users : List Region) (address : ℕ) → AllByRecursion (IsUserRegion heap) users →
+    list_any (is_within address) users ≡ true → is_of_user users address ≡ true
 of_user heap [] address all is = cc
 of_user heap (region ∷ rest) address all is = go (is_within address region) is (of_user heap rest address all.1)
   where
@@ -24,15 +25,18 @@ of_user heap (region ∷ rest) address all is = go (is_within address region) is
     go false any later = (let l = later any in rw all.0.0 l)
 
 -- a byte of a user region of the state is the user's in a machine that stands for it
-pub user_of_machine : (m : Seen) (s : State) (address : ℕ) → IsGood s → Stands m s → list_any (is_within address) s.users ≡ true → is_of_user m.paged.regions address ≡ true
+pub user_of_machine : (m : Seen) (s : State) (address : ℕ) → IsGood s → Stands m s →
+    list_any (is_within address) s.users ≡ true → is_of_user m.paged.regions address ≡ true
 user_of_machine m s address good stands is =
     ap (λ regions. is_of_user regions address) stands.regions
     ∙ (any_all (λ region. not region.heap && is_within address region) s.heap s.users
-    ∙ or_right (list_any (λ region. not region.heap && is_within address region) s.heap) (is_of_user s.users address) (of_user s.heap s.users address good.users is))
+    ∙ or_right (list_any (λ region. not region.heap && is_within address region) s.heap) (is_of_user s.users address)
+    (of_user s.heap s.users address good.users is))
 
 -- ---- the machine
 
-pub stands_moved : (m : Seen) (s : State) (new : Paged) (lives : List (Option Live)) (blocks : List (Option Block)) → IsGood s → Stands m s → OnlyHeapBytesChange m.paged new →
+pub stands_moved : (m : Seen) (s : State) (new : Paged) (lives : List (Option Live)) (blocks : List (Option Block)) →
+    IsGood s → Stands m s → OnlyHeapBytesChange m.paged new →
     lives ≡ map (option_map outline) blocks → HoldsBytes (reached new.words new.root) blocks →
     Stands (record m { paged = new; blocks = lives }) (record s { blocks = blocks })
 unfolding walk_of
@@ -41,7 +45,8 @@ stands_moved m s new lives blocks good stands still same holds =
     let free : new.free ≡ m.paged.free = ap (λ p. p.free) still.others in
     let same_reach : (level n : ℕ) → level ≤ 4 → reach new.words new.root level n ≡ reach m.paged.words m.paged.root level n =
     λ level n low. ap (λ r. reach new.words r level n) root ∙ still.walks level n low in
-    let same_large : (n : ℕ) → large_of new.words new.root n ≡ large_of m.paged.words m.paged.root n = λ n. ap (λ r. large_of new.words r n) root ∙ still.larges n in
+    let same_large : (n : ℕ) → large_of new.words new.root n ≡ large_of m.paged.words m.paged.root n =
+    λ n. ap (λ r. large_of new.words r n) root ∙ still.larges n in
     let same_reached : (a : ℕ) → reached new.words new.root a ≡ reached new.words m.paged.root a = λ a. ap (λ r. reached new.words r a) root in
     record {
       root = root ∙ stands.root;

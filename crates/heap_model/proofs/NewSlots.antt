@@ -24,7 +24,8 @@ slots_listed [] = refl
 slots_listed (slot ∷ rest) = refl
 
 -- an answer may list ascending slots of its new pages that had no table
-pub allowed_slots : (s : State) (call : Call) (reply : Reply) (regions : Option (List Region)) (new : NewPages) (slots : List ℕ) → new_pages s call reply regions ≡ Some new →
+pub allowed_slots : (s : State) (call : Call) (reply : Reply) (regions : Option (List Region)) (new : NewPages)
+    (slots : List ℕ) → new_pages s call reply regions ≡ Some new →
     AreAscending slots → AllByRecursion (IsSlotOf new.start new.pages) slots → AllByRecursion (λ slot. IsFalse (has_table s.tables (slot_prefix slot))) slots →
     MatchOption (listed_slots slots) ⊤ (λ listed. MatchOption (new_pages s call reply regions) ⊥ (λ pages. AreNewSlots s pages listed))
 allowed_slots s call reply regions new [] is ascending within bare = tt
@@ -32,7 +33,8 @@ allowed_slots s call reply regions new (slot ∷ rest) is ascending within bare 
     rw is (record { some = λ none. absurd (cc); ascending = ascending; within = within; no_table = bare })
 
 -- the slots that a machine maps by one entry had no table in the state for which it stands
-pub slots_bare : (m : Seen) (new : Paged) (s : State) (address pages : ℕ) (rights : Rights) → Stands m s → IsCanonicalRange (address / 4096) pages → address % 4096 ≡ 0 →
+pub slots_bare : (m : Seen) (new : Paged) (s : State) (address pages : ℕ) (rights : Rights) → Stands m s →
+    IsCanonicalRange (address / 4096) pages → address % 4096 ≡ 0 →
     ArePagesAdded m.paged new address pages rights → AllByRecursion (λ slot. IsFalse (has_table s.tables (slot_prefix slot))) new.slots
 slots_bare m new s address pages rights stands range whole added = all_slots (λ slot. IsFalse (has_table s.tables (slot_prefix slot))) new.slots (λ slot listed.
     not_had (reach m.paged.words m.paged.root 3 (slot_number slot)) (slot_was_bare m.paged new address pages rights range whole stands.tree added slot listed)

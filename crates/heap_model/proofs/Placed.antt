@@ -19,7 +19,8 @@ appended {A} (first ∷ rest) last (suc number) block is =
     elim (appended rest last number block is) [ inl old ↦ inl old | inr new ↦ inr (ap (λ n. suc n) new.0, new.1) ]
 
 -- a block of the shorter list is one of the longer
-pub stays : {A : Type 0} (blocks : List (Option A)) (last : Option A) (number : ℕ) (block : A) → get_or blocks number None ≡ Some block → get_or (blocks ++ last ∷ []) number None ≡ Some block
+pub stays : {A : Type 0} (blocks : List (Option A)) (last : Option A) (number : ℕ) (block : A) →
+    get_or blocks number None ≡ Some block → get_or (blocks ++ last ∷ []) number None ≡ Some block
 stays [] last number block is = cc
 stays (first ∷ rest) last zero block is = is
 stays (first ∷ rest) last (suc number) block is = stays rest last number block is
@@ -31,17 +32,20 @@ last_at (first ∷ rest) last = last_at rest last
 
 -- ---- outlines
 
-pub outline_at : (blocks : List (Option Block)) (number : ℕ) → get_or (map (option_map outline) blocks) number None ≡ option_map outline (block_at blocks number)
+pub outline_at : (blocks : List (Option Block)) (number : ℕ) → get_or (map (option_map outline) blocks) number
+    None ≡ option_map outline (block_at blocks number)
 outline_at [] number = refl
 outline_at (first ∷ rest) zero = refl
 outline_at (first ∷ rest) (suc number) = outline_at rest number
 
 -- a block of the state is one that the machine keeps
-pub outline_of : (blocks : List (Option Block)) (lives : List (Option Live)) → map (option_map outline) blocks ≡ lives → (number : ℕ) (block : Block) → block_at blocks number ≡ Some block → get_or lives number None ≡ Some (outline block)
+pub outline_of : (blocks : List (Option Block)) (lives : List (Option Live)) → map (option_map outline) blocks ≡ lives →
+    (number : ℕ) (block : Block) → block_at blocks number ≡ Some block → get_or lives number None ≡ Some (outline block)
 outline_of blocks lives same number block is = rw (← same, outline_at blocks number, is) refl
 
 -- the block behind an outline
-pub behind_outline : (found : Option Block) (live : Live) → option_map outline found ≡ Some live → (block : Block) × (found ≡ Some block) × (outline block ≡ live)
+pub behind_outline : (found : Option Block) (live : Live) → option_map outline found ≡ Some live →
+    (block : Block) × (found ≡ Some block) × (outline block ≡ live)
 behind_outline None live is = cc
 behind_outline (Some block) live is = (block, refl, cc)
 
@@ -49,7 +53,8 @@ pub length_outline : (blocks : List (Option Block)) → length (map (option_map 
 length_outline [] = refl
 length_outline (first ∷ rest) = ap suc (length_outline rest)
 
-pub outline_push : (blocks : List (Option Block)) (last : Option Block) → map (option_map outline) (blocks ++ last ∷ []) ≡ map (option_map outline) blocks ++ option_map outline last ∷ []
+pub outline_push : (blocks : List (Option Block)) (last : Option Block) →
+    map (option_map outline) (blocks ++ last ∷ []) ≡ map (option_map outline) blocks ++ option_map outline last ∷ []
 outline_push [] last = refl
 outline_push (first ∷ rest) last = ap (λ xs. option_map outline first ∷ xs) (outline_push rest last)
 
@@ -81,7 +86,8 @@ placed s block = record s { blocks = s.blocks ++ Some block ∷ [] }
 
 -- it is good if the block is good and lies beside all others
 pub good_placed : (s : State) (block : Block) → IsGood s → IsGoodBlock s.heap block
-    → ((number : ℕ) (old : Block) → block_at s.blocks number ≡ Some old → AreApart old.address (cover old) block.address (cover block)) → IsGood (placed s block)
+    → ((number : ℕ) (old : Block) → block_at s.blocks number ≡ Some old →
+    AreApart old.address (cover old) block.address (cover block)) → IsGood (placed s block)
 good_placed s block good here apart = record {
   each = λ number other is. elim (appended s.blocks (Some block) number other is) [
     | inl old ↦ good.each number other old

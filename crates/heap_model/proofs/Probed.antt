@@ -52,8 +52,15 @@ same_outlines address byte (Some block ∷ rest) = (λ i. Some (same_outline add
 good_block : (heap : List Region) (address byte : ℕ) (block : Block) → IsGoodBlock heap block → IsGoodBlock heap (seen_block address byte block)
 good_block heap address byte block good = go (nat_le block.address address) (same_length address byte block)
   where
-    go : (b : Bool) → length (seen_block address byte block).cells ≡ length block.cells → IsGoodBlock heap (if b then known_block (address - block.address) (byte ∷ []) block else block)
-    go true many = record { aligned = good.aligned; aligned_16 = good.aligned_16; cells = length-with_bytes block.cells (address - block.address) (byte ∷ []) ∙ good.cells; granted = good.granted }
+    go : (b : Bool) → length (seen_block address byte block).cells ≡ length block.cells →
+        IsGoodBlock heap (if b then known_block (address - block.address) (byte ∷ []) block else block)
+    go true many = record {
+      aligned = good.aligned;
+      aligned_16 = good.aligned_16;
+      cells =
+          length-with_bytes block.cells (address - block.address) (byte ∷ []) ∙ good.cells;
+      granted = good.granted;
+    }
     go false many = good
 
 -- ---- the state
@@ -91,10 +98,12 @@ good_seen s address byte good = record {
 holds_seen : (reached : ℕ → Option ℕ) (address byte : ℕ) (blocks : List (Option Block)) → reached address ≡ Some byte → HoldsBytes reached blocks →
     HoldsBytes reached (seen_blocks address byte blocks)
 holds_seen reached address byte blocks here holds = record {
-  known = λ i k other block is cell. (let was = was_there address byte blocks i block is in go i k other was.0 was.1 block cell (nat_le was.0.address address) refl was.2);
+  known = λ i k other block is cell. (let was = was_there address byte blocks i block is in
+      go i k other was.0 was.1 block cell (nat_le was.0.address address) refl was.2);
 }
   where
-    go : (i k other : ℕ) (old : Block) → block_at blocks i ≡ Some old → (block : Block) → cell_at block.cells k ≡ Known other → (b : Bool) → nat_le old.address address ≡ b →
+    go : (i k other : ℕ) (old : Block) → block_at blocks i ≡ Some old → (block : Block) →
+        cell_at block.cells k ≡ Known other → (b : Bool) → nat_le old.address address ≡ b →
         (if b then known_block (address - old.address) (byte ∷ []) old else old) ≡ block → reached (block.address + k) ≡ Some other
     go i k other old was block cell false above same = (
         let at : old.address ≡ block.address = ap (λ x. x.address) same in
@@ -114,7 +123,8 @@ holds_seen reached address byte blocks here holds = record {
 
 -- ---- the machine
 
-stands_seen : (m : Seen) (s : State) (address byte : ℕ) → Stands m s → reached m.paged.words m.paged.root address ≡ Some byte → Stands m (seen_state s address byte)
+stands_seen : (m : Seen) (s : State) (address byte : ℕ) → Stands m s →
+    reached m.paged.words m.paged.root address ≡ Some byte → Stands m (seen_state s address byte)
 stands_seen m s address byte stands here = record {
   root = stands.root;
   tree = stands.tree;
@@ -139,12 +149,14 @@ first_canonical at canonical =
     ap (λ q. nat_eq q 0 || nat_eq q (2 ^ 17 - 1)) same ∙ canonical
 
 -- the walk finds at an address the rights of its page
-rights_found : (m : Seen) (s : State) (at : ℕ) → Stands m s → IsTrue (is_canonical at) → option_map rights_of (walk_of m.paged.words m.paged.root (at / 4096)) ≡ rights_at s at
+rights_found : (m : Seen) (s : State) (at : ℕ) → Stands m s → IsTrue (is_canonical at) →
+    option_map rights_of (walk_of m.paged.words m.paged.root (at / 4096)) ≡ rights_at s at
 rights_found m s at stands canonical = stands.pages_found (at / 4096) (first_canonical at canonical)
 
 -- the access is granted, and the byte is the one reached
 pub step_byte : (m : Seen) (s : State) (at : ℕ) (access : Access) (user : Bool) (byte : ℕ) → IsGood s → Stands m s → IsTrue (is_canonical at) →
-    is_granted (option_map rights_of (walk_of m.paged.words m.paged.root (at / 4096))) access user ≡ true → reached m.paged.words m.paged.root at ≡ Some byte → byte < 2 ^ 8 →
+    is_granted (option_map rights_of (walk_of m.paged.words m.paged.root (at / 4096))) access user ≡ true →
+    reached m.paged.words m.paged.root at ≡ Some byte → byte < 2 ^ 8 →
     IsStep s (Probe at access user) (record { reply = Byte byte; regions = None; large = None }) m
 step_byte m s at access user byte good stands canonical granted here small = record {
   allowed = record {
@@ -155,7 +167,8 @@ step_byte m s at access user byte good stands canonical granted here small = rec
         ap (λ rights. is_granted rights access user) (sym (rights_found m s at stands canonical)) ∙ granted,
         record {
           small = small;
-          known = λ number k other block is place cell. cc (sym here ∙ (ap (reached m.paged.words m.paged.root) (sym place) ∙ stands.bytes.known number k other block is cell));
+          known = λ number k other block is place cell. cc (sym here ∙ (ap (reached m.paged.words m.paged.root) (sym place)
+              ∙ stands.bytes.known number k other block is cell));
           user = λ of_user. cc (sym here ∙ stands.zeros at of_user);
         },
       ),
@@ -168,7 +181,8 @@ step_byte m s at access user byte good stands canonical granted here small = rec
 }
 
 -- the access is not granted, and the code says why
-pub step_fault : (m : Seen) (s : State) (at : ℕ) (access : Access) (user : Bool) (code : PageFaultErrorCode) → IsGood s → Stands m s → IsTrue (is_canonical at) →
+pub step_fault : (m : Seen) (s : State) (at : ℕ) (access : Access) (user : Bool) (code : PageFaultErrorCode) → IsGood s →
+    Stands m s → IsTrue (is_canonical at) →
     is_granted (option_map rights_of (walk_of m.paged.words m.paged.root (at / 4096))) access user ≡ false →
     page_fault_bits code ≡ fault_code (is_some (option_map rights_of (walk_of m.paged.words m.paged.root (at / 4096)))) access user →
     IsStep s (Probe at access user) (record { reply = Fault code; regions = None; large = None }) m

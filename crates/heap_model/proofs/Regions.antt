@@ -57,7 +57,8 @@ pub length_with : (region : Region) (list : List Region) → length (with_region
 length_with region [] = refl
 length_with region (first ∷ rest) = go (nat_lt region.start first.start) (length_with region rest)
   where
-    go : (b : Bool) → length (with_region region rest) ≡ length rest + 1 → length (cond b (region ∷ first ∷ rest) (first ∷ with_region region rest)) ≡ length (first ∷ rest) + 1
+    go : (b : Bool) → length (with_region region rest) ≡ length rest + 1 →
+        length (cond b (region ∷ first ∷ rest) (first ∷ with_region region rest)) ≡ length (first ∷ rest) + 1
     go true later = omega arith
     go false later = omega arith
 
@@ -109,19 +110,22 @@ find_alone test region (first ∷ rest) more passes none = go (nat_lt region.sta
     go true later = rw passes refl
     go false later = let e : test first ≡ false = both.0 in rw e later
 
-pub later_starts : (end later_end : ℕ) (list : List Region) → end ≤ later_end → AllByRecursion (λ later. later_end ≤ later.start) list → AllByRecursion (λ later. end ≤ later.start) list
+pub later_starts : (end later_end : ℕ) (list : List Region) → end ≤ later_end →
+    AllByRecursion (λ later. later_end ≤ later.start) list → AllByRecursion (λ later. end ≤ later.start) list
 later_starts end later_end [] less all = tt
 later_starts end later_end (first ∷ rest) less all = (omega (arith, all.0), later_starts end later_end rest less all.1)
 
 -- the list stays sorted if the region meets none of it
-pub in_order_with : (region : Region) (list : List Region) → 0 < region.pages → AreInOrder list → meets_any region.start region.pages list ≡ false → AreInOrder (with_region region list)
+pub in_order_with : (region : Region) (list : List Region) → 0 < region.pages → AreInOrder list →
+    meets_any region.start region.pages list ≡ false → AreInOrder (with_region region list)
 in_order_with region [] some order none_met = (tt, tt)
 in_order_with region (first ∷ rest) some order none_met = go (nat_lt region.start first.start) refl (in_order_with region rest some order.1 both.1)
   where
     both : (meets region.start region.pages first ≡ false) × (meets_any region.start region.pages rest ≡ false)
     both = neither_or (meets region.start region.pages first) (meets_any region.start region.pages rest) none_met
 
-    go : (b : Bool) → nat_lt region.start first.start ≡ b → AreInOrder (with_region region rest) → AreInOrder (cond b (region ∷ first ∷ rest) (first ∷ with_region region rest))
+    go : (b : Bool) → nat_lt region.start first.start ≡ b → AreInOrder (with_region region rest) →
+        AreInOrder (cond b (region ∷ first ∷ rest) (first ∷ with_region region rest))
     go true sooner later =
         let less : region.start < first.start = grind (arith, nat_tests) in
         let end : end_of region ≤ first.start = elim (beside region.start region.pages first both.0) [ inl behind ↦ omega arith | inr before ↦ before ] in
@@ -132,11 +136,14 @@ in_order_with region (first ∷ rest) some order none_met = go (nat_lt region.st
         (all_with (λ later. end_of first ≤ later.start) region rest end order.0, later)
 
 -- an address of the pages lies in no region that they do not meet
-pub none_within : (address pages at : ℕ) (list : List Region) → address ≤ at → at < address + 4096 * pages → meets_any address pages list ≡ false → list_any (is_within at) list ≡ false
+pub none_within : (address pages at : ℕ) (list : List Region) → address ≤ at → at < address + 4096 * pages →
+    meets_any address pages list ≡ false → list_any (is_within at) list ≡ false
 none_within address pages at [] above below none = refl
 none_within address pages at (first ∷ rest) above below none =
-    let both : (meets address pages first ≡ false) × (meets_any address pages rest ≡ false) = neither_or (meets address pages first) (meets_any address pages rest) none in
-    let here : is_within at first ≡ false = elim (beside address pages first both.0) [ inl behind ↦ not_within at first (inr (omega arith)) | inr before ↦ not_within at first (inl (omega arith)) ] in
+    let both : (meets address pages first ≡ false) × (meets_any address pages rest ≡ false) =
+    neither_or (meets address pages first) (meets_any address pages rest) none in
+    let here : is_within at first ≡ false = elim (beside address pages first both.0)
+    [ inl behind ↦ not_within at first (inr (omega arith)) | inr before ↦ not_within at first (inl (omega arith)) ] in
     rw here (none_within address pages at rest above below both.1)
 
 -- ---- two lists, one after the other
@@ -146,7 +153,8 @@ append_none [] = refl
 append_none (x ∷ xs) = ap (λ ys. x ∷ ys) (append_none xs)
 
 -- the only one that passes is found in one list
-pub find_only : (test : Region → Bool) (region : Region) (list : List Region) → test region ≡ true → list_any test list ≡ false → find test (with_region region list) ≡ Some region
+pub find_only : (test : Region → Bool) (region : Region) (list : List Region) → test region ≡ true →
+    list_any test list ≡ false → find test (with_region region list) ≡ Some region
 find_only test region list passes none = ap (find test) (sym (append_none (with_region region list))) ∙ find_alone test region list [] passes none
 
 -- and one that fails is passed over
@@ -185,11 +193,13 @@ all_without P start pages (region ∷ rest) all = go (is_at start pages region) 
     go false later = (all.0, later)
 
 -- its pages are taken off
-pub pages_without : (start pages : ℕ) (list : List Region) → list_any (is_at start pages) list ≡ true → total_pages (without_region start pages list) + pages ≡ total_pages list
+pub pages_without : (start pages : ℕ) (list : List Region) → list_any (is_at start pages) list ≡ true →
+    total_pages (without_region start pages list) + pages ≡ total_pages list
 pages_without start pages [] there = let no : false ≡ true = there in absurd (cc)
 pages_without start pages (region ∷ rest) there = go (is_at start pages region) refl (pages_without start pages rest)
   where
-    go : (b : Bool) → is_at start pages region ≡ b → (list_any (is_at start pages) rest ≡ true → total_pages (without_region start pages rest) + pages ≡ total_pages rest) →
+    go : (b : Bool) → is_at start pages region ≡ b → (list_any (is_at start pages) rest ≡ true →
+        total_pages (without_region start pages rest) + pages ≡ total_pages rest) →
         total_pages (without_region start pages (region ∷ rest)) + pages ≡ total_pages (region ∷ rest)
     go true is later = let same : region.pages ≡ pages = grind (arith, nat_tests) in rw is (omega arith)
     go false is later = let more = later (rw is at there) in rw is (omega arith)
@@ -209,16 +219,19 @@ pub find_left : (test : Region → Bool) (start pages : ℕ) (list : List Region
 find_left test start pages [] fails = refl
 find_left test start pages (region ∷ rest) fails = go (is_at start pages region) refl (find_left test start pages rest fails)
   where
-    go : (b : Bool) → is_at start pages region ≡ b → find test (without_region start pages rest) ≡ find test rest → find test (without_region start pages (region ∷ rest)) ≡ find test (region ∷ rest)
+    go : (b : Bool) → is_at start pages region ≡ b → find test (without_region start pages rest) ≡ find test rest →
+        find test (without_region start pages (region ∷ rest)) ≡ find test (region ∷ rest)
     go true is later = let no = fails region is in rw (is, no) refl
     go false is later = rw is (ap (λ o. cond (test region) (Some region) o) later)
 
 -- what passes with one less passes
-pub any_left : (test : Region → Bool) (start pages : ℕ) (list : List Region) → list_any test (without_region start pages list) ≡ true → list_any test list ≡ true
+pub any_left : (test : Region → Bool) (start pages : ℕ) (list : List Region) →
+    list_any test (without_region start pages list) ≡ true → list_any test list ≡ true
 any_left test start pages [] is = is
 any_left test start pages (region ∷ rest) is = go (is_at start pages region) is (any_left test start pages rest)
   where
-    go : (b : Bool) → list_any test (cond b rest (region ∷ without_region start pages rest)) ≡ true → (list_any test (without_region start pages rest) ≡ true → list_any test rest ≡ true) →
+    go : (b : Bool) → list_any test (cond b rest (region ∷ without_region start pages rest)) ≡ true →
+        (list_any test (without_region start pages rest) ≡ true → list_any test rest ≡ true) →
         (test region || list_any test rest) ≡ true
     go true is later = or_right (test region) (list_any test rest) is
     go false is later = elim (or_cases (test region) (list_any test (without_region start pages rest)) is) [
@@ -227,7 +240,8 @@ any_left test start pages (region ∷ rest) is = go (is_at start pages region) i
     ]
 
 -- a listed one starts where all do, or after that
-pub starts_behind : (start pages from : ℕ) (list : List Region) → AllByRecursion (λ later. from ≤ later.start) list → list_any (is_at start pages) list ≡ true → from ≤ start
+pub starts_behind : (start pages from : ℕ) (list : List Region) → AllByRecursion (λ later. from ≤ later.start) list →
+    list_any (is_at start pages) list ≡ true → from ≤ start
 starts_behind start pages from [] all there = let no : false ≡ true = there in absurd (cc)
 starts_behind start pages from (region ∷ rest) all there = go (is_at start pages region) refl (starts_behind start pages from rest all.1)
   where
@@ -240,12 +254,14 @@ none_behind at from [] less all = refl
 none_behind at from (region ∷ rest) less all = let here = not_within at region (inl (omega (arith, all.0))) in rw here (none_behind at from rest less all.1)
 
 -- an address of the one that leaves lies in no other
-pub none_left : (start pages at : ℕ) (list : List Region) → AreInOrder list → list_any (is_at start pages) list ≡ true → start ≤ at → at < start + 4096 * pages →
+pub none_left : (start pages at : ℕ) (list : List Region) → AreInOrder list → list_any (is_at start pages) list ≡ true →
+    start ≤ at → at < start + 4096 * pages →
     list_any (is_within at) (without_region start pages list) ≡ false
 none_left start pages at [] order there above below = let no : false ≡ true = there in absurd (cc)
 none_left start pages at (region ∷ rest) order there above below = go (is_at start pages region) refl (λ t. none_left start pages at rest order.1 t above below)
   where
-    go : (b : Bool) → is_at start pages region ≡ b → (list_any (is_at start pages) rest ≡ true → list_any (is_within at) (without_region start pages rest) ≡ false) →
+    go : (b : Bool) → is_at start pages region ≡ b → (list_any (is_at start pages) rest ≡ true →
+        list_any (is_within at) (without_region start pages rest) ≡ false) →
         list_any (is_within at) (without_region start pages (region ∷ rest)) ≡ false
     go true is later =
         let same : region.start ≡ start = grind (arith, nat_tests) in
@@ -283,7 +299,8 @@ pub within_canonical : (P : Region → Type 0) → ((region : Region) → P regi
 within_canonical P whole at [] all there = let no : false ≡ true = there in absurd (cc)
 within_canonical P whole at (region ∷ rest) all there = go (is_within at region) refl (within_canonical P whole at rest all.1)
   where
-    go : (b : Bool) → is_within at region ≡ b → (list_any (is_within at) rest ≡ true → IsTrue (is_canonical (at / 4096 * 4096))) → IsTrue (is_canonical (at / 4096 * 4096))
+    go : (b : Bool) → is_within at region ≡ b → (list_any (is_within at) rest ≡ true →
+        IsTrue (is_canonical (at / 4096 * 4096))) → IsTrue (is_canonical (at / 4096 * 4096))
     go true is later =
         let w = whole region all.0 in
         let start : region.start % 4096 ≡ 0 = w.0 in

@@ -27,7 +27,8 @@ resized_known (suc n) (cell ∷ cells) (suc k) byte is = let later = resized_kno
 -- ---- lists by number
 
 -- a block after another took the place of one is that one, or was there
-pub replaced_at : {A : Type 0} (blocks : List (Option A)) (number : ℕ) (new : A) (i : ℕ) (block : A) → get_or (slice_set blocks number (Some new)) i None ≡ Some block →
+pub replaced_at : {A : Type 0} (blocks : List (Option A)) (number : ℕ) (new : A) (i : ℕ) (block : A) →
+    get_or (slice_set blocks number (Some new)) i None ≡ Some block →
     ((i ≡ number) × (new ≡ block)) ⊎ ((i ≢ number) × (get_or blocks i None ≡ Some block))
 replaced_at [] number new i block is = cc
 replaced_at (first ∷ rest) zero new zero block is = inl (refl, cc)
@@ -38,14 +39,16 @@ replaced_at (first ∷ rest) (suc number) new (suc i) block is = elim (replaced_
   | inr other ↦ inr ((λ e. other.0 (omega arith)), other.1)
 ]
 
-pub replaced_stays : {A : Type 0} (blocks : List (Option A)) (number i : ℕ) (block : A) (new : Option A) → i ≢ number → get_or blocks i None ≡ Some block → get_or (slice_set blocks number new) i None ≡ Some block
+pub replaced_stays : {A : Type 0} (blocks : List (Option A)) (number i : ℕ) (block : A) (new : Option A) → i ≢ number →
+    get_or blocks i None ≡ Some block → get_or (slice_set blocks number new) i None ≡ Some block
 replaced_stays [] number i block new other is = cc
 replaced_stays (first ∷ rest) zero zero block new other is = absurd (other refl)
 replaced_stays (first ∷ rest) zero (suc i) block new other is = is
 replaced_stays (first ∷ rest) (suc number) zero block new other is = is
 replaced_stays (first ∷ rest) (suc number) (suc i) block new other is = replaced_stays rest number i block new (λ e. other (ap suc e)) is
 
-pub replaced_here : {A : Type 0} (blocks : List (Option A)) (number : ℕ) (old new : A) → get_or blocks number None ≡ Some old → get_or (slice_set blocks number (Some new)) number None ≡ Some new
+pub replaced_here : {A : Type 0} (blocks : List (Option A)) (number : ℕ) (old new : A) →
+    get_or blocks number None ≡ Some old → get_or (slice_set blocks number (Some new)) number None ≡ Some new
 replaced_here [] number old new is = cc
 replaced_here (first ∷ rest) zero old new is = refl
 replaced_here (first ∷ rest) (suc number) old new is = replaced_here rest number old new is
@@ -54,19 +57,24 @@ replaced_here (first ∷ rest) (suc number) old new is = replaced_here rest numb
 pub outline_changed : (blocks : List (Option Block)) (number : ℕ) (change : Block → Block) (block : Block) → block_at blocks number ≡ Some block →
     map (option_map outline) (with_block blocks number change) ≡ slice_set (map (option_map outline) blocks) number (Some (outline (change block)))
 outline_changed [] number change block is = cc
-outline_changed (first ∷ rest) zero change block is = ap (λ (found : Option Block). option_map outline (option_map change found) ∷ map (option_map outline) rest) is
+outline_changed (first ∷ rest) zero change block is = ap (λ (found : Option Block).
+    option_map outline (option_map change found) ∷ map (option_map outline) rest) is
 outline_changed (first ∷ rest) (suc number) change block is = ap (λ xs. option_map outline first ∷ xs) (outline_changed rest number change block is)
 
 -- ---- the state
 
 -- The state is good if it is so without the block, and that is good at its place and lies beside all others there.
-pub good_resized : (s : State) (number : ℕ) (change : Block → Block) (block : Block) → IsGood (record s { blocks = without_block s.blocks number }) → block_at s.blocks number ≡ Some block → IsGoodBlock s.heap (change block) →
-    ((i : ℕ) (other : Block) → i ≢ number → block_at s.blocks i ≡ Some other → AreApart other.address (cover other) (change block).address (cover (change block))) →
+pub good_resized : (s : State) (number : ℕ) (change : Block → Block) (block : Block) →
+    IsGood (record s { blocks = without_block s.blocks number }) → block_at s.blocks number ≡ Some block →
+    IsGoodBlock s.heap (change block) →
+    ((i : ℕ) (other : Block) → i ≢ number → block_at s.blocks i ≡ Some other →
+    AreApart other.address (cover other) (change block).address (cover (change block))) →
     IsGood (record s { blocks = with_block s.blocks number change })
 good_resized s number change block good is here apart = record {
   each = λ i it at. elim (changed_at s.blocks number change i it at) [
     | inl same ↦ (let one : same.1.0 ≡ block = cc (same.1.1, is) in
-        subst (λ b. IsGoodBlock s.heap b) (ap change (sym one) ∙ same.1.2) (record { aligned = here.aligned; aligned_16 = here.aligned_16; cells = here.cells; granted = here.granted }))
+        subst (λ b. IsGoodBlock s.heap b) (ap change (sym one) ∙ same.1.2)
+        (record { aligned = here.aligned; aligned_16 = here.aligned_16; cells = here.cells; granted = here.granted }))
     | inr other ↦ good.each i it (replaced_stays s.blocks number i it None other.0 other.1)
   ];
   apart = λ i j a b is_a is_b differ. elim (changed_at s.blocks number change i a is_a) [
@@ -79,7 +87,8 @@ good_resized s number change block good is here apart = record {
     | inr other_a ↦ elim (changed_at s.blocks number change j b is_b) [
       | inl same_b ↦ (let one : same_b.1.0 ≡ block = cc (same_b.1.1, is) in
           subst (λ x. AreApart a.address (cover a) x.address (cover x)) (ap change (sym one) ∙ same_b.1.2) (apart i a other_a.0 other_a.1))
-      | inr other_b ↦ good.apart i j a b (replaced_stays s.blocks number i a None other_a.0 other_a.1) (replaced_stays s.blocks number j b None other_b.0 other_b.1) differ
+      | inr other_b ↦ good.apart i j a b (replaced_stays s.blocks number i a None other_a.0 other_a.1)
+          (replaced_stays s.blocks number j b None other_b.0 other_b.1) differ
     ]
   ];
   heap_order = good.heap_order;
@@ -94,8 +103,10 @@ good_resized s number change block good is here apart = record {
 
 -- A memory holds what is known of all, if it has the bytes of the other blocks, and those of the block that both sizes
 -- have.
-pub holds_resized : (reached : ℕ → Option ℕ) (blocks : List (Option Block)) (number address size : ℕ) (align : Block → ℕ) (block : Block) → block_at blocks number ≡ Some block →
-    ((i k byte : ℕ) (other : Block) → i ≢ number → block_at blocks i ≡ Some other → cell_at other.cells k ≡ Known byte → reached (other.address + k) ≡ Some byte) →
+pub holds_resized : (reached : ℕ → Option ℕ) (blocks : List (Option Block)) (number address size : ℕ) (align : Block → ℕ)
+    (block : Block) → block_at blocks number ≡ Some block →
+    ((i k byte : ℕ) (other : Block) → i ≢ number → block_at blocks i ≡ Some other → cell_at other.cells k ≡ Known byte →
+    reached (other.address + k) ≡ Some byte) →
     ((k byte : ℕ) → k < size → cell_at block.cells k ≡ Known byte → reached (address + k) ≡ Some byte) →
     HoldsBytes reached (with_block blocks number (resized_block address size align))
 holds_resized reached blocks number address size align block is others here = record {

@@ -42,8 +42,10 @@ stands_set m s granularity stands = record {
 }
 
 -- a granularity is set if it is accepted
-pub step_granularity : (m : Seen) (s : State) (granularity : ℕ) (accepted : Bool) → IsGood s → Stands m s → (IsTrue accepted ↔ (IsPowerOfTwo granularity × (16 ≤ granularity))) →
-    IsStep s (SetGranularity granularity) (record { reply = Accepted accepted; regions = None; large = None }) (record m { granularity = if accepted then granularity else m.granularity })
+pub step_granularity : (m : Seen) (s : State) (granularity : ℕ) (accepted : Bool) → IsGood s → Stands m s →
+    (IsTrue accepted ↔ (IsPowerOfTwo granularity × (16 ≤ granularity))) →
+    IsStep s (SetGranularity granularity) (record { reply = Accepted accepted; regions = None; large = None })
+    (record m { granularity = if accepted then granularity else m.granularity })
 step_granularity m s granularity true good stands is = record {
   allowed = record { reply = (refl, (refl, is)); listed = tt; large = tt };
   good = good_set s granularity good;

@@ -62,17 +62,21 @@ none_gone (region ∷ rest) new all (inr kept) many =
     whole (inr less) long = absurd (let few = less.1 in omega (arith, few, long))
 
 -- what holds of each region, and so of each front of it, holds of all
-pub all_cut : (Was Is : Region → Type 0) → ((region front : Region) → IsFrontOf region front → Was region → Is front) → (old new : List Region) → AreCut old new → AllByRecursion Was old → AllByRecursion Is new
+pub all_cut : (Was Is : Region → Type 0) → ((region front : Region) → IsFrontOf region front → Was region → Is front) →
+    (old new : List Region) → AreCut old new → AllByRecursion Was old → AllByRecursion Is new
 all_cut Was Is each [] new is all = subst (AllByRecursion Is) (sym is) tt
 all_cut Was Is each (region ∷ rest) new (inl dropped) all = all_cut Was Is each rest new dropped all.1
-all_cut Was Is each (region ∷ rest) new (inr kept) all = subst (AllByRecursion Is) (sym kept.3) (each region kept.0 kept.2 all.0, all_cut Was Is each rest kept.1 kept.4 all.1)
+all_cut Was Is each (region ∷ rest) new (inr kept) all = subst (AllByRecursion Is) (sym kept.3)
+    (each region kept.0 kept.2 all.0, all_cut Was Is each rest kept.1 kept.4 all.1)
 
 pub order_cut : (old new : List Region) → AreCut old new → AreInOrder old → AreInOrder new
 order_cut [] new is order = subst AreInOrder (sym is) tt
 order_cut (region ∷ rest) new (inl dropped) order = order_cut rest new dropped order.1
 order_cut (region ∷ rest) new (inr kept) order = subst AreInOrder (sym kept.3) (
   all_cut (λ later. end_of region ≤ later.start) (λ later. end_of kept.0 ≤ later.start)
-      (λ later front is behind. (let start = front_start region kept.0 kept.2 in let pages = front_pages region kept.0 kept.2 in let from = front_start later front is in omega (arith, start, pages, from, behind)))
+      (λ later front is behind. (let start = front_start region kept.0 kept.2 in let pages =
+      front_pages region kept.0 kept.2 in let from = front_start later front is in
+      omega (arith, start, pages, from, behind)))
       rest kept.1 kept.4 order.0,
   order_cut rest kept.1 kept.4 order.1,
 )
@@ -80,11 +84,14 @@ order_cut (region ∷ rest) new (inr kept) order = subst AreInOrder (sym kept.3)
 -- pages that met none meet none
 pub clear_cut : (start pages : ℕ) (old new : List Region) → AreCut old new → meets_any start pages old ≡ false → meets_any start pages new ≡ false
 clear_cut start pages [] new is clear = ap (meets_any start pages) is
-clear_cut start pages (region ∷ rest) new (inl dropped) clear = clear_cut start pages rest new dropped (neither_or (meets start pages region) (meets_any start pages rest) clear).1
+clear_cut start pages (region ∷ rest) new (inl dropped) clear = clear_cut start pages rest new dropped
+    (neither_or (meets start pages region) (meets_any start pages rest) clear).1
 clear_cut start pages (region ∷ rest) new (inr kept) clear =
     let both = neither_or (meets start pages region) (meets_any start pages rest) clear in
     ap (meets_any start pages) kept.3
-    ∙ or_neither (meets start pages kept.0) (meets_any start pages kept.1) (beside kept.0 (front_start region kept.0 kept.2) (front_pages region kept.0 kept.2) both.0) (clear_cut start pages rest kept.1 kept.4 both.1)
+    ∙ or_neither (meets start pages kept.0) (meets_any start pages kept.1)
+    (beside kept.0 (front_start region kept.0 kept.2) (front_pages region kept.0 kept.2) both.0)
+    (clear_cut start pages rest kept.1 kept.4 both.1)
   where
     beside : (front : Region) → front.start ≡ region.start → front.pages ≤ region.pages → meets start pages region ≡ false → meets start pages front ≡ false
     beside front from few apart = grind (arith, nat_tests)
@@ -92,7 +99,12 @@ clear_cut start pages (region ∷ rest) new (inr kept) clear =
 -- ---- the state
 
 range_front : (first pages fewer : ℕ) → 0 < fewer → fewer < pages → IsCanonicalRange first pages → IsCanonicalRange first fewer
-range_front first pages fewer some less range = record { some = some; canonical = range.canonical; one_half = (let half = range.one_half in omega (arith, some, less, half)) }
+range_front first pages fewer some less range = record {
+  some = some;
+  canonical = range.canonical;
+  one_half =
+      (let half = range.one_half in omega (arith, some, less, half));
+}
 
 heap_front : (s : State) (region front : Region) → IsFrontOf region front → IsHeapRegion s region → IsHeapRegion s front
 heap_front s region front (inl same) is = subst (IsHeapRegion s) (sym same) is
@@ -104,17 +116,34 @@ heap_front s region front (inr less) is = subst (IsHeapRegion s) (sym less.2) (
 )
 
 -- a block that was good is good among regions that have its bytes
-pub good_there : (old new : List Region) (block : Block) → IsGoodBlock old block → ((k : ℕ) → k < cover block → IsTrue (list_any (is_within (block.address + k)) new)) → IsGoodBlock new block
+pub good_there : (old new : List Region) (block : Block) → IsGoodBlock old block →
+    ((k : ℕ) → k < cover block → IsTrue (list_any (is_within (block.address + k)) new)) → IsGoodBlock new block
 good_there old new block was held = record { aligned = was.aligned; aligned_16 = was.aligned_16; cells = was.cells; granted = held }
 
 -- The state is good with blocks that are good among its regions, and apart from one another.
-pub good_over : (s : State) (blocks : List (Option Block)) → IsGood (record s { blocks = [] }) → ((i : ℕ) (it : Block) → block_at blocks i ≡ Some it → IsGoodBlock s.heap it) →
-    ((i j : ℕ) (a b : Block) → block_at blocks i ≡ Some a → block_at blocks j ≡ Some b → i ≢ j → AreApart a.address (cover a) b.address (cover b)) → IsGood (record s { blocks = blocks })
-good_over s blocks bare each apart = record { each = each; apart = apart; heap_order = bare.heap_order; user_order = bare.user_order; heap = bare.heap; users = bare.users; frames = bare.frames; slots = bare.slots; are_slots = bare.are_slots; no_slot_twice = bare.no_slot_twice }
+pub good_over : (s : State) (blocks : List (Option Block)) → IsGood (record s { blocks = [] }) →
+    ((i : ℕ) (it : Block) → block_at blocks i ≡ Some it → IsGoodBlock s.heap it) →
+    ((i j : ℕ) (a b : Block) → block_at blocks i ≡ Some a → block_at blocks j ≡ Some b → i ≢ j →
+    AreApart a.address (cover a) b.address (cover b)) → IsGood (record s { blocks = blocks })
+good_over s blocks bare each apart = record {
+  each = each;
+  apart = apart;
+  heap_order = bare.heap_order;
+  user_order =
+      bare.user_order;
+  heap = bare.heap;
+  users = bare.users;
+  frames = bare.frames;
+  slots = bare.slots;
+  are_slots =
+      bare.are_slots;
+  no_slot_twice = bare.no_slot_twice;
+}
 
 -- The state is good with regions that are cut, if they have the bytes of each block and the frames suffice.
 pub good_cut : (s : State) (list : List Region) → IsGood s → AreCut s.heap list →
-    ((number : ℕ) (block : Block) → block_at s.blocks number ≡ Some block → (k : ℕ) → k < cover block → IsTrue (list_any (is_within (block.address + k)) list)) →
+    ((number : ℕ) (block : Block) → block_at s.blocks number ≡ Some block → (k : ℕ) → k < cover block →
+    IsTrue (list_any (is_within (block.address + k)) list)) →
     used_frames (settled (record s { heap = list })) ≤ s.frames → IsGood (settled (record s { heap = list }))
 good_cut s list good cut held enough = record {
   each = λ number block is. good_there s.heap list block (good.each number block is) (held number block is);
@@ -142,7 +171,8 @@ none_of test (region ∷ rest) all = or_neither (test region) (list_any test res
 pub none_new_left : (old left : List Region) → AreCut old left → find (is_new old) left ≡ None
 none_new_left old left cut = find_none (is_new old) left (none_of (is_new old) left
     (all_cut (λ region. is_new old region ≡ false) (λ region. is_new old region ≡ false)
-    (λ region front is was. ap (λ (start : ℕ). not (list_any (λ one. one.start == start) old)) (front_start region front is) ∙ was) old left cut (olds old (all_start old))))
+    (λ region front is was. ap (λ (start : ℕ). not (list_any (λ one. one.start == start) old)) (front_start region front is)
+    ∙ was) old left cut (olds old (all_start old))))
   where
     olds : (list : List Region) → AllStart old list → AllByRecursion (λ region. is_new old region ≡ false) list
     olds [] all = tt
@@ -151,7 +181,8 @@ none_new_left old left cut = find_none (is_new old) left (none_of (is_new old) l
 -- ---- the region that was granted, among those that are cut
 
 -- Of regions that grew by one, which begins at `at`, some were cut, and a byte of that one is in a region still: that is the new one.
-module _ (heap grown left : List Region) (at byte : ℕ) (cut : AreCut grown left) (begin : AllByRecursion (λ region. is_new heap region ≡ true → region.start ≡ at) grown)
+module _ (heap grown left : List Region) (at byte : ℕ) (cut : AreCut grown left)
+    (begin : AllByRecursion (λ region. is_new heap region ≡ true → region.start ≡ at) grown)
     (new : AllByRecursion (λ region. is_within byte region ≡ true → is_new heap region ≡ true) grown) (there : list_any (is_within byte) left ≡ true) where
   same_new : (region front : Region) → IsFrontOf region front → is_new heap front ≡ is_new heap region
   same_new region front is = ap (λ (start : ℕ). not (list_any (λ old. old.start == start) heap)) (front_start region front is)
@@ -162,12 +193,14 @@ module _ (heap grown left : List Region) (at byte : ℕ) (cut : AreCut grown lef
       inner : front.start ≡ region.start → front.pages ≤ region.pages → is_within byte region ≡ true
       inner from few = grind (arith, nat_tests)
 
-  search : (list : List Region) → AllByRecursion (λ region. is_new heap region ≡ true → region.start ≡ at) list → AllByRecursion (λ region. is_within byte region ≡ true → is_new heap region ≡ true) list →
+  search : (list : List Region) → AllByRecursion (λ region. is_new heap region ≡ true → region.start ≡ at) list →
+      AllByRecursion (λ region. is_within byte region ≡ true → is_new heap region ≡ true) list →
       list_any (is_within byte) list ≡ true → (region : Region) × (find (is_new heap) list ≡ Some region) × (region.start ≡ at)
   search [] begins news any = absurd (let no : false ≡ true = any in cc)
   search (first ∷ rest) begins news any = go (is_new heap first) refl (search rest begins.1 news.1)
     where
-      go : (b : Bool) → is_new heap first ≡ b → (list_any (is_within byte) rest ≡ true → (region : Region) × (find (is_new heap) rest ≡ Some region) × (region.start ≡ at)) →
+      go : (b : Bool) → is_new heap first ≡ b → (list_any (is_within byte) rest ≡ true →
+          (region : Region) × (find (is_new heap) rest ≡ Some region) × (region.start ≡ at)) →
           (region : Region) × (find (is_new heap) (first ∷ rest) ≡ Some region) × (region.start ≡ at)
       go true is later = (first, rw is refl, begins.0 is)
       go false is later = elim (or_cases (is_within byte first) (list_any (is_within byte) rest) any) [

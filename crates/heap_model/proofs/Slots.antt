@@ -27,7 +27,8 @@ same_slot one other is_one is_other same =
     let other_page : other ≡ other / 4096 * 4096 = omega (arith, second) in
     let low : one / 4096 % 2 ^ 36 ≡ other / 4096 % 2 ^ 36 = omega (arith, first, second, same) in
     let page : one / 4096 ≡ other / 4096 =
-    same_number (one / 4096) (other / 4096) (subst (λ a. IsTrue (is_canonical a)) one_page is_one.canonical) (subst (λ a. IsTrue (is_canonical a)) other_page is_other.canonical) low in
+    same_number (one / 4096) (other / 4096) (subst (λ a. IsTrue (is_canonical a)) one_page is_one.canonical)
+    (subst (λ a. IsTrue (is_canonical a)) other_page is_other.canonical) low in
     omega (arith, one_page, other_page, page)
 
 -- the slot of a page, and its number
@@ -40,7 +41,8 @@ pub page_number : (page : ℕ) → slot_number (page / 512 * 2 ^ 21) ≡ prefix_
 page_number page = omega arith
 
 -- a slot, by its count of 2 MiB, that lies whole in a range of pages
-pub slot_among : (address pages count : ℕ) → address % 4096 ≡ 0 → IsCanonicalRange (address / 4096) pages → address / 4096 ≤ 512 * count → 512 * count + 512 ≤ address / 4096 + pages →
+pub slot_among : (address pages count : ℕ) → address % 4096 ≡ 0 → IsCanonicalRange (address / 4096) pages →
+    address / 4096 ≤ 512 * count → 512 * count + 512 ≤ address / 4096 + pages →
     IsSlotOf address pages (count * 2 ^ 21)
 slot_among address pages count whole range from to =
     let page : address / 4096 + (512 * count - address / 4096) ≡ 512 * count = omega (arith, from) in
@@ -67,8 +69,10 @@ slot_all P (first ∷ rest) slot all is = elim (or_cases (nat_eq first slot) (ha
 pub all_slots : (P : ℕ → Type 0) (slots : List ℕ) → ((slot : ℕ) → has_slot slots slot ≡ true → P slot) → AllByRecursion P slots
 all_slots P [] each = tt
 all_slots P (first ∷ rest) each =
-    let same : nat_eq first first ≡ true = grind (arith, nat_tests) in
-    (each first (or_left (nat_eq first first) (has_slot rest first) same), all_slots P rest (λ slot is. each slot (or_right (nat_eq first slot) (has_slot rest slot) is)))
+    let same : nat_eq first first ≡ true = grind (arith, nat_tests) in (
+      each first (or_left (nat_eq first first) (has_slot rest first) same),
+      all_slots P rest (λ slot is. each slot (or_right (nat_eq first slot) (has_slot rest slot) is)),
+    )
 
 pub has_slot-append : (some more : List ℕ) (slot : ℕ) → has_slot (some ++ more) slot ≡ (has_slot some slot || has_slot more slot)
 has_slot-append some more slot = list_any-append (λ one. nat_eq one slot) some more
@@ -80,7 +84,8 @@ has_slot-filter test (first ∷ rest) slot = go (test first) refl (nat_eq first 
   where
     go : (t : Bool) → test first ≡ t → (e : Bool) → nat_eq first slot ≡ e → has_slot (filter test rest) slot ≡ (has_slot rest slot && test slot) →
         has_slot (cond t (first ∷ filter test rest) (filter test rest)) slot ≡ ((nat_eq first slot || has_slot rest slot) && test slot)
-    go true passes true same later = let one : first ≡ slot = grind (arith, nat_tests) in let here : test slot ≡ true = ap test (sym one) ∙ passes in rw (same, here) refl
+    go true passes true same later = let one : first ≡ slot = grind (arith, nat_tests) in let here : test slot ≡ true =
+        ap test (sym one) ∙ passes in rw (same, here) refl
     go true passes false other later = rw other later
     go false fails true same later =
         let one : first ≡ slot = grind (arith, nat_tests) in
@@ -120,7 +125,8 @@ pub ascending_distinct : (slots : List ℕ) → AreAscending slots → AreDistin
 ascending_distinct [] is = tt
 ascending_distinct (slot ∷ rest) is = (none_later slot rest is.0, ascending_distinct rest is.1)
 
-pub distinct_append : (some more : List ℕ) → AreDistinct some → AreDistinct more → ((slot : ℕ) → has_slot some slot ≡ true → has_slot more slot ≡ false) → AreDistinct (some ++ more)
+pub distinct_append : (some more : List ℕ) → AreDistinct some → AreDistinct more →
+    ((slot : ℕ) → has_slot some slot ≡ true → has_slot more slot ≡ false) → AreDistinct (some ++ more)
 distinct_append [] more first second apart = second
 distinct_append (slot ∷ rest) more first second apart =
     let same : nat_eq slot slot ≡ true = grind (arith, nat_tests) in
@@ -150,10 +156,12 @@ prefix_listed (first ∷ rest) slot is = elim (or_cases (nat_eq first slot) (has
   | inr later ↦ or_right (is_same (slot_prefix slot) (slot_prefix first)) (has_table (map slot_prefix rest) (slot_prefix slot)) (prefix_listed rest slot later)
 ]
 
-pub listed_prefix : (slots : List ℕ) (p : Prefix) → has_table (map slot_prefix slots) p ≡ true → (slot : ℕ) × (has_slot slots slot ≡ true) × (p ≡ slot_prefix slot)
+pub listed_prefix : (slots : List ℕ) (p : Prefix) → has_table (map slot_prefix slots) p ≡ true →
+    (slot : ℕ) × (has_slot slots slot ≡ true) × (p ≡ slot_prefix slot)
 listed_prefix [] p is = absurd (let no : false ≡ true = is in cc)
 listed_prefix (first ∷ rest) p is = elim (or_cases (is_same p (slot_prefix first)) (has_table (map slot_prefix rest) p) is) [
-  | inl here ↦ (let same : nat_eq first first ≡ true = grind (arith, nat_tests) in (first, or_left (nat_eq first first) (has_slot rest first) same, same_is p (slot_prefix first) here))
+  | inl here ↦ (let same : nat_eq first first ≡ true = grind (arith, nat_tests) in
+      (first, or_left (nat_eq first first) (has_slot rest first) same, same_is p (slot_prefix first) here))
   | inr later ↦ (let found = listed_prefix rest p later in (found.0, or_right (nat_eq first found.0) (has_slot rest found.0) found.1, found.2))
 ]
 
@@ -166,7 +174,8 @@ pub whole_bounds : (slot : ℕ) (region : Region) → has_whole slot region ≡ 
 whole_bounds slot region is = grind (arith, nat_tests)
 
 -- a region that has a slot whole meets pages that have an address of the slot
-pub whole_meets : (address pages slot : ℕ) (regions : List Region) → address < slot + 2 ^ 21 → slot < address + 4096 * pages → is_whole_in regions slot ≡ true → meets_any address pages regions ≡ true
+pub whole_meets : (address pages slot : ℕ) (regions : List Region) → address < slot + 2 ^ 21 →
+    slot < address + 4096 * pages → is_whole_in regions slot ≡ true → meets_any address pages regions ≡ true
 whole_meets address pages slot [] below above is = absurd (let no : false ≡ true = is in cc)
 whole_meets address pages slot (region ∷ rest) below above is = elim (or_cases (has_whole slot region) (is_whole_in rest slot) is) [
   | inl here ↦ (let bounds = whole_bounds slot region here in
@@ -176,20 +185,24 @@ whole_meets address pages slot (region ∷ rest) below above is = elim (or_cases
 
 -- a test passes with one more region if it passes at the region or passed before
 pub any_heap_more : (test : Region → Bool) (region : Region) (heap users : List Region) →
-    list_any test (fold (λ list one. with_region one list) (with_region region heap) users) ≡ (test region || list_any test (fold (λ list one. with_region one list) heap users))
+    list_any test (fold (λ list one. with_region one list) (with_region region heap) users) ≡ (test region || list_any test
+    (fold (λ list one. with_region one list) heap users))
 any_heap_more test region heap users =
     any_all test (with_region region heap) users
-    ∙ (ap (λ b. b || list_any test users) (any_with test region heap) ∙ (turn (test region) (list_any test heap) (list_any test users) ∙ ap (λ b. test region || b) (sym (any_all test heap users))))
+    ∙ (ap (λ b. b || list_any test users) (any_with test region heap) ∙ (turn (test region) (list_any test heap)
+    (list_any test users) ∙ ap (λ b. test region || b) (sym (any_all test heap users))))
   where
     turn : (a b c : Bool) → ((a || b) || c) ≡ (a || (b || c))
     turn true b c = refl
     turn false b c = refl
 
 pub any_users_more : (test : Region → Bool) (region : Region) (heap users : List Region) →
-    list_any test (fold (λ list one. with_region one list) heap (with_region region users)) ≡ (test region || list_any test (fold (λ list one. with_region one list) heap users))
+    list_any test (fold (λ list one. with_region one list) heap (with_region region users)) ≡ (test region || list_any test
+    (fold (λ list one. with_region one list) heap users))
 any_users_more test region heap users =
     any_all test heap (with_region region users)
-    ∙ (ap (λ b. list_any test heap || b) (any_with test region users) ∙ (turn (test region) (list_any test heap) (list_any test users) ∙ ap (λ b. test region || b) (sym (any_all test heap users))))
+    ∙ (ap (λ b. list_any test heap || b) (any_with test region users) ∙ (turn (test region) (list_any test heap)
+    (list_any test users) ∙ ap (λ b. test region || b) (sym (any_all test heap users))))
   where
     turn : (a b c : Bool) → (b || (a || c)) ≡ (a || (b || c))
     turn true true c = refl
@@ -199,7 +212,8 @@ any_users_more test region heap users =
 -- ---- slots that join
 
 -- Slots of pages that meet no region join those that lie whole in regions: each lies whole in one, and none is twice.
-pub slots_join : (address pages : ℕ) (regions : List Region) (large slots : List ℕ) → AreAscending slots → AllByRecursion (IsSlotOf address pages) slots → meets_any address pages regions ≡ false →
+pub slots_join : (address pages : ℕ) (regions : List Region) (large slots : List ℕ) → AreAscending slots →
+    AllByRecursion (IsSlotOf address pages) slots → meets_any address pages regions ≡ false →
     AllByRecursion (λ slot. IsTrue (is_whole_in regions slot)) large → AreDistinct large → AreDistinct (large ++ slots)
 slots_join address pages regions large slots ascending within clear whole distinct =
     distinct_append large slots distinct (ascending_distinct slots ascending) (λ slot is. apart slot is (has_slot slots slot) refl)
@@ -210,11 +224,13 @@ slots_join address pages regions large slots ascending within clear whole distin
         let of : IsSlotOf address pages slot = slot_all (IsSlotOf address pages) slots slot within listed in
         let from = of.from in
         let to = of.within in
-        let met = whole_meets address pages slot regions (omega (arith, from)) (omega (arith, to)) (slot_all (λ one. IsTrue (is_whole_in regions one)) large slot whole is) in
+        let met = whole_meets address pages slot regions (omega (arith, from)) (omega (arith, to))
+        (slot_all (λ one. IsTrue (is_whole_in regions one)) large slot whole is) in
         cc)
 
 -- slots of pages are slots, and so are some of them
-pub slots_more : (address pages : ℕ) (large slots : List ℕ) → AllByRecursion IsSlot large → AllByRecursion (IsSlotOf address pages) slots → AllByRecursion IsSlot (large ++ slots)
+pub slots_more : (address pages : ℕ) (large slots : List ℕ) → AllByRecursion IsSlot large →
+    AllByRecursion (IsSlotOf address pages) slots → AllByRecursion IsSlot (large ++ slots)
 slots_more address pages [] [] are within = tt
 slots_more address pages [] (slot ∷ rest) are within = (within.0.is_slot, slots_more address pages [] rest are within.1)
 slots_more address pages (slot ∷ large) slots are within = (are.0, slots_more address pages large slots are.1 within)
@@ -228,13 +244,20 @@ slots_fewer P test (slot ∷ rest) all = go (test slot) (slots_fewer P test rest
     go false later = later
 
 -- a region has the slots of its pages whole
-pub slots_whole : (region : Region) (slots : List ℕ) → AllByRecursion (IsSlotOf region.start region.pages) slots → AllByRecursion (λ slot. has_whole slot region ≡ true) slots
+pub slots_whole : (region : Region) (slots : List ℕ) → AllByRecursion (IsSlotOf region.start region.pages) slots →
+    AllByRecursion (λ slot. has_whole slot region ≡ true) slots
 slots_whole region [] within = tt
-slots_whole region (slot ∷ rest) within = (let from = within.0.from in let to = within.0.within in whole_true slot region from to, slots_whole region rest within.1)
+slots_whole region (slot ∷ rest) within = (
+  let from = within.0.from in let to = within.0.within in
+      whole_true slot region from to,
+  slots_whole region rest within.1,
+)
 
 -- each slot still lies whole in a region if one joins, and so does each of its own
-pub whole_still : (region : Region) (old new : List Region) (large slots : List ℕ) → ((test : Region → Bool) → list_any test new ≡ (test region || list_any test old)) →
-    AllByRecursion (λ slot. IsTrue (is_whole_in old slot)) large → AllByRecursion (λ slot. has_whole slot region ≡ true) slots → AllByRecursion (λ slot. IsTrue (is_whole_in new slot)) (large ++ slots)
+pub whole_still : (region : Region) (old new : List Region) (large slots : List ℕ) →
+    ((test : Region → Bool) → list_any test new ≡ (test region || list_any test old)) →
+    AllByRecursion (λ slot. IsTrue (is_whole_in old slot)) large → AllByRecursion (λ slot. has_whole slot region ≡ true)
+    slots → AllByRecursion (λ slot. IsTrue (is_whole_in new slot)) (large ++ slots)
 whole_still region old new [] [] joins whole here = tt
 whole_still region old new [] (slot ∷ rest) joins whole here =
     (joins (has_whole slot) ∙ or_left (has_whole slot region) (is_whole_in old slot) here.0, whole_still region old new [] rest joins whole here.1)
@@ -256,6 +279,7 @@ settled_same s whole =
     append_none [] = refl
     append_none (x ∷ xs) = ap (λ ys. x ∷ ys) (append_none xs)
 
-    no_part : (regions : List Region) (slots : List ℕ) → AllByRecursion (λ slot. IsTrue (is_whole_in regions slot)) slots → AllByRecursion (λ slot. is_part_in regions slot ≡ false) slots
+    no_part : (regions : List Region) (slots : List ℕ) → AllByRecursion (λ slot. IsTrue (is_whole_in regions slot)) slots →
+        AllByRecursion (λ slot. is_part_in regions slot ≡ false) slots
     no_part regions [] all = tt
     no_part regions (slot ∷ rest) all = (let here : is_whole_in regions slot ≡ true = all.0 in rw here refl, no_part regions rest all.1)

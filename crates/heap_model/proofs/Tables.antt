@@ -49,20 +49,25 @@ joined_any : (tables never more : List Prefix) (p : Prefix) →
 joined_any tables never [] p = refl
 joined_any tables never (first ∷ rest) p = go (has_table tables first) (has_table never first) refl refl (joined_any tables never rest p)
   where
-    same : (there out : Bool) → has_table tables first ≡ there → has_table never first ≡ out → is_same p first ≡ true → (has_table tables p ≡ there) × (has_table never p ≡ out)
+    same : (there out : Bool) → has_table tables first ≡ there → has_table never first ≡ out → is_same p first ≡ true →
+        (has_table tables p ≡ there) × (has_table never p ≡ out)
     same there out is is_out s = let e : p ≡ first = same_is p first s in (ap (has_table tables) e ∙ is, ap (has_table never) e ∙ is_out)
 
     go : (there out : Bool) → has_table tables first ≡ there → has_table never first ≡ out →
         (has_table tables p || has_table (joining tables never rest) p) ≡ (has_table tables p || (has_table rest p && not (has_table never p))) →
         (has_table tables p || has_table (cond (not there && not out) (first ∷ joining tables never rest) (joining tables never rest)) p)
         ≡ (has_table tables p || ((is_same p first || has_table rest p) && not (has_table never p)))
-    go true out is is_out later = joined_one true out (has_table tables p) (is_same p first) (has_table rest p) (has_table never p) (has_table (joining tables never rest) p) (same true out is is_out) later
-    go false true is is_out later = joined_one false true (has_table tables p) (is_same p first) (has_table rest p) (has_table never p) (has_table (joining tables never rest) p) (same false true is is_out) later
-    go false false is is_out later = joined_one false false (has_table tables p) (is_same p first) (has_table rest p) (has_table never p) (has_table (joining tables never rest) p) (same false false is is_out) later
+    go true out is is_out later = joined_one true out (has_table tables p) (is_same p first) (has_table rest p)
+        (has_table never p) (has_table (joining tables never rest) p) (same true out is is_out) later
+    go false true is is_out later = joined_one false true (has_table tables p) (is_same p first) (has_table rest p)
+        (has_table never p) (has_table (joining tables never rest) p) (same false true is is_out) later
+    go false false is is_out later = joined_one false false (has_table tables p) (is_same p first) (has_table rest p)
+        (has_table never p) (has_table (joining tables never rest) p) (same false false is is_out) later
 
 -- a table is there afterwards if it was, or is one of those of the pages, but for those of the slots
 pub has_table-with_tables : (tables : List Prefix) (address pages : ℕ) (slots : List ℕ) (p : Prefix) →
-    has_table (with_tables tables address pages slots) p ≡ (has_table tables p || (has_table (prefixes_of (address / 4096) pages) p && not (has_table (map slot_prefix slots) p)))
+    has_table (with_tables tables address pages slots) p ≡ (has_table tables p ||
+    (has_table (prefixes_of (address / 4096) pages) p && not (has_table (map slot_prefix slots) p)))
 has_table-with_tables tables address pages slots p =
     list_any-append (is_same p) tables (joining tables (map slot_prefix slots) (prefixes_of (address / 4096) pages))
     ∙ joined_any tables (map slot_prefix slots) (prefixes_of (address / 4096) pages) p
@@ -88,7 +93,9 @@ both_counts f g [] = refl
 both_counts f g (first ∷ rest) = go (f first) (g first) (both_counts f g rest)
   where
     go : (a b : Bool) → length (those_without f g rest) + length (those_with f g rest) ≡ length (filter f rest) →
-        length (cond (a && not b) (first ∷ those_without f g rest) (those_without f g rest)) + length (cond (a && b) (first ∷ those_with f g rest) (those_with f g rest)) ≡ length (cond a (first ∷ filter f rest) (filter f rest))
+        length (cond (a && not b) (first ∷ those_without f g rest) (those_without f g rest)) + length
+        (cond (a && b) (first ∷ those_with f g rest) (those_with f g rest)) ≡ length
+        (cond a (first ∷ filter f rest) (filter f rest))
     go true true later = omega (arith, later)
     go true false later = omega (arith, later)
     go false b later = later
@@ -101,7 +108,8 @@ still_missing false false = refl
 
 -- as many joined as were missing and are not now
 pub length-with_tables : (tables : List Prefix) (address pages : ℕ) (slots : List ℕ) →
-    length (with_tables tables address pages slots) + missing (with_tables tables address pages slots) address pages ≡ length tables + missing tables address pages
+    length (with_tables tables address pages slots) + missing (with_tables tables address pages slots) address
+    pages ≡ length tables + missing tables address pages
 length-with_tables tables address pages slots =
     let ps = prefixes_of (address / 4096) pages in
     let never = map slot_prefix slots in
@@ -109,7 +117,9 @@ length-with_tables tables address pages slots =
     let lacked = length-filter (λ p. not (has_table tables p)) ps in
     let lacks = sym (length-filter (λ p. not (has_table (with_tables tables address pages slots) p)) ps)
     ∙ ap length (filter_same (λ p. not (has_table (with_tables tables address pages slots) p)) (λ p. not (has_table tables p) && has_table never p) ps
-    (λ p is. ap not (has_table-with_tables tables address pages slots p ∙ ap (λ b. has_table tables p || (b && not (has_table never p))) is) ∙ still_missing (has_table tables p) (has_table never p))) in
+    (λ p is. ap not (has_table-with_tables tables address pages slots p
+    ∙ ap (λ b. has_table tables p || (b && not (has_table never p))) is)
+    ∙ still_missing (has_table tables p) (has_table never p))) in
     let both = both_counts (λ p. not (has_table tables p)) (has_table never) ps in
     omega (arith, more, lacked, lacks, both)
 
@@ -145,4 +155,5 @@ prefixes_have first (suc more) p range is =
 pub have_prefixes : (first pages : ℕ) (p : Prefix) → IsCanonicalRange first pages → IsPrefixOf first pages p → has_table (prefixes_of first pages) p ≡ true
 have_prefixes first zero p range of = absurd (omega (arith, range.some))
 have_prefixes first (suc more) p range of =
-    listed_has (prefixes_of first (suc more)) p (pages_of_prefixes first more p.level p.number range of.below_root of.above_last (of.page, (of.in_range, of.is)))
+    listed_has (prefixes_of first (suc more)) p (pages_of_prefixes first more p.level p.number range of.below_root
+    of.above_last (of.page, (of.in_range, of.is)))

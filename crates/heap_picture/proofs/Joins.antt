@@ -17,9 +17,22 @@ rest_at regions i d within = drop-cons regions i d within ∙ ap (λ (n : ℕ). 
 
 -- how the lines go on at a region
 pub lines_step : (line : Region) (regions : List Region) (i : ℕ) → i < length regions →
-    lines_from line (drop i regions) ≡ (if goes_on line (get_or regions i (record { start = 0; pages = 0; heap = false; rights = record { write = false; user = false; fetch = false } }))
-    then lines_from (with_next line (get_or regions i (record { start = 0; pages = 0; heap = false; rights = record { write = false; user = false; fetch = false } }))) (drop (i + 1) regions)
-    else line ∷ lines_from (get_or regions i (record { start = 0; pages = 0; heap = false; rights = record { write = false; user = false; fetch = false } })) (drop (i + 1) regions))
+    lines_from line (drop i regions) ≡ (if goes_on line (get_or regions i
+    (record { start = 0; pages = 0; heap = false; rights = record { write = false; user = false; fetch = false } }))
+    then lines_from (with_next line (get_or regions i (record {
+      start = 0;
+      pages = 0;
+      heap = false;
+      rights =
+          record { write = false; user = false; fetch = false };
+    }))) (drop (i + 1) regions)
+    else line ∷ lines_from (get_or regions i (record {
+      start = 0;
+      pages = 0;
+      heap = false;
+      rights =
+          record { write = false; user = false; fetch = false };
+    })) (drop (i + 1) regions))
 lines_step line regions i within = ap (lines_from line) (rest_at regions i none within)
 
 -- none is behind the last
@@ -31,19 +44,27 @@ pub lines_first : (regions : List Region) (d : Region) → 0 < length regions �
 lines_first [] d some = absurd (omega (arith, some))
 lines_first (r ∷ rs) d some = refl
 
-pub pages_more : (regions : List Region) (i : ℕ) (d : Region) → i < length regions → total_pages (drop i regions) ≡ (get_or regions i d).pages + total_pages (drop (i + 1) regions)
+pub pages_more : (regions : List Region) (i : ℕ) (d : Region) → i < length regions →
+    total_pages (drop i regions) ≡ (get_or regions i d).pages + total_pages (drop (i + 1) regions)
 pages_more regions i d within = ap total_pages (rest_at regions i d within)
 
 -- and the pages of those that are left
 pub pages_step : (regions : List Region) (i : ℕ) → i < length regions →
-    total_pages (drop i regions) ≡ (get_or regions i (record { start = 0; pages = 0; heap = false; rights = record { write = false; user = false; fetch = false } })).pages + total_pages (drop (i + 1) regions)
+    total_pages (drop i regions) ≡ (get_or regions i (record {
+      start = 0;
+      pages = 0;
+      heap = false;
+      rights =
+          record { write = false; user = false; fetch = false };
+    })).pages + total_pages (drop (i + 1) regions)
 pages_step regions i within = pages_more regions i none within
 
 pub pages_first : (regions : List Region) (d : Region) → 0 < length regions → (get_or regions 0 d).pages + total_pages (drop 1 regions) ≡ total_pages regions
 pages_first [] d some = absurd (omega (arith, some))
 pages_first (r ∷ rs) d some = refl
 
-pub most_more : (lines : List Region) (i : ℕ) (d : Region) → i < length lines → most_pages (drop i lines) ≡ max (get_or lines i d).pages (most_pages (drop (i + 1) lines))
+pub most_more : (lines : List Region) (i : ℕ) (d : Region) → i < length lines →
+    most_pages (drop i lines) ≡ max (get_or lines i d).pages (most_pages (drop (i + 1) lines))
 most_more lines i d within = ap most_pages (rest_at lines i d within)
 
 pub most_none : (lines : List Region) (i : ℕ) → length lines ≤ i → most_pages (drop i lines) ≡ 0
@@ -54,7 +75,8 @@ pages_from : (line : Region) (rs : List Region) → total_pages (lines_from line
 pages_from line [] = refl
 pages_from line (next ∷ rs) = go (goes_on line next) (pages_from (with_next line next) rs) (pages_from next rs)
   where
-    go : (b : Bool) → total_pages (lines_from (with_next line next) rs) ≡ (line.pages + next.pages) + total_pages rs → total_pages (lines_from next rs) ≡ next.pages + total_pages rs →
+    go : (b : Bool) → total_pages (lines_from (with_next line next) rs) ≡ (line.pages + next.pages) + total_pages rs →
+        total_pages (lines_from next rs) ≡ next.pages + total_pages rs →
         total_pages (if b then lines_from (with_next line next) rs else line ∷ lines_from next rs) ≡ line.pages + (next.pages + total_pages rs)
     go true joined other = joined ∙ omega arith
     go false joined other = ap (λ (n : ℕ). line.pages + n) other
@@ -75,18 +97,22 @@ same_number : (m n : ℕ) → nat_eq m n ≡ true → m ≡ n
 same_number m n same = grind (arith, nat_tests, same)
 
 -- what lies in a region and the next lies in both as one
-joined_within : (a s p t q : ℕ) → s + 4096 * p ≡ t → (nat_le s a && nat_lt a (s + 4096 * (p + q))) ≡ ((nat_le s a && nat_lt a (s + 4096 * p)) || (nat_le t a && nat_lt a (t + 4096 * q)))
+joined_within : (a s p t q : ℕ) → s + 4096 * p ≡ t → (nat_le s a && nat_lt a
+    (s + 4096 * (p + q))) ≡ ((nat_le s a && nat_lt a (s + 4096 * p)) || (nat_le t a && nat_lt a (t + 4096 * q)))
 joined_within a s p t q next = grind (arith, nat_tests, next)
 
 covered_from : (a : ℕ) (line : Region) (rs : List Region) → list_any (is_within a) (lines_from line rs) ≡ (is_within a line || list_any (is_within a) rs)
 covered_from a line [] = refl
 covered_from a line (next ∷ rs) = go (goes_on line next) refl (covered_from a (with_next line next) rs) (covered_from a next rs)
   where
-    go : (b : Bool) → goes_on line next ≡ b → list_any (is_within a) (lines_from (with_next line next) rs) ≡ (is_within a (with_next line next) || list_any (is_within a) rs) →
+    go : (b : Bool) → goes_on line next ≡ b → list_any (is_within a) (lines_from (with_next line next) rs) ≡ (is_within a
+        (with_next line next) || list_any (is_within a) rs) →
         list_any (is_within a) (lines_from next rs) ≡ (is_within a next || list_any (is_within a) rs) →
-        list_any (is_within a) (if b then lines_from (with_next line next) rs else line ∷ lines_from next rs) ≡ (is_within a line || (is_within a next || list_any (is_within a) rs))
+        list_any (is_within a) (if b then lines_from (with_next line next) rs else line ∷ lines_from next rs) ≡ (is_within a
+        line || (is_within a next || list_any (is_within a) rs))
     go true is joined other =
-        let at_end = same_number (end_of line) next.start (left_true (nat_eq (end_of line) next.start) (same line.heap next.heap && same_rights line.rights next.rights) is) in
+        let at_end = same_number (end_of line) next.start (left_true (nat_eq (end_of line) next.start)
+        (same line.heap next.heap && same_rights line.rights next.rights) is) in
         joined
         ∙ ap (λ (b : Bool). b || list_any (is_within a) rs) (joined_within a line.start line.pages next.start next.pages at_end)
         ∙ one_of_three (is_within a line) (is_within a next) (list_any (is_within a) rs)

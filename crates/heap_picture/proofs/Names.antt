@@ -24,8 +24,10 @@ same_test : (a b : ℕ) → is_at (nat_cmp a) b ≡ nat_eq a b
 same_test a b = grind (arith, nat_tests)
 
 -- the block of a stay that is there is put at its address
-pub block_put : (calls : ℕ) (stay : Stay) (old new : BTreeMap ℕ NamedBlock) (key : ℕ) (value : NamedBlock) → remains calls stay ≡ true → key ≡ stay.address → value ≡ name_of stay →
-    ((q : ℕ) → get nat_cmp new q ≡ cond (is_at (nat_cmp key) q) (Some value) (get nat_cmp old q)) → (address : ℕ) → named_at new address ≡ (if remains_at calls address stay then Some (name_of stay) else named_at old address)
+pub block_put : (calls : ℕ) (stay : Stay) (old new : BTreeMap ℕ NamedBlock) (key : ℕ) (value : NamedBlock) →
+    remains calls stay ≡ true → key ≡ stay.address → value ≡ name_of stay →
+    ((q : ℕ) → get nat_cmp new q ≡ cond (is_at (nat_cmp key) q) (Some value) (get nat_cmp old q)) → (address : ℕ) →
+    named_at new address ≡ (if remains_at calls address stay then Some (name_of stay) else named_at old address)
 block_put calls stay old new key value there key_is value_is put address =
     put address
     ∙ ap (λ (k : ℕ). if is_at (nat_cmp k) address then Some value else named_at old address) key_is
@@ -34,14 +36,18 @@ block_put calls stay old new key value there key_is value_is put address =
     ∙ sym (ap (λ (t : Bool). if t && nat_eq stay.address address then Some (name_of stay) else named_at old address) there)
 
 -- and no other
-pub block_passed : (calls : ℕ) (stay : Stay) (old : BTreeMap ℕ NamedBlock) → remains calls stay ≡ false → (address : ℕ) → named_at old address ≡ (if remains_at calls address stay then Some (name_of stay) else named_at old address)
+pub block_passed : (calls : ℕ) (stay : Stay) (old : BTreeMap ℕ NamedBlock) → remains calls stay ≡ false → (address : ℕ) →
+    named_at old address ≡ (if remains_at calls address stay then Some (name_of stay) else named_at old address)
 block_passed calls stay old gone address = sym (ap (λ (t : Bool). if t && nat_eq stay.address address then Some (name_of stay) else named_at old address) gone)
 
 -- one stay more, at the front
-pub block_step : (calls : ℕ) (stay : Stay) (stays : List Stay) (address : ℕ) → block_at_end calls (stay ∷ stays) address ≡ (if remains_at calls address stay then Some (name_of stay) else block_at_end calls stays address)
+pub block_step : (calls : ℕ) (stay : Stay) (stays : List Stay) (address : ℕ) →
+    block_at_end calls (stay ∷ stays) address ≡ (if remains_at calls address stay then Some (name_of stay) else block_at_end
+    calls stays address)
 block_step calls stay stays address = go (remains_at calls address stay)
   where
-    go : (b : Bool) → option_map name_of (cond b (Some stay) (find (remains_at calls address) stays)) ≡ (if b then Some (name_of stay) else block_at_end calls stays address)
+    go : (b : Bool) → option_map name_of (cond b (Some stay) (find (remains_at calls address) stays)) ≡ (if b then Some
+        (name_of stay) else block_at_end calls stays address)
     go true = refl
     go false = refl
 
@@ -68,7 +74,8 @@ abbrev bit : Bool → ℕ
 bit b = if b then 1 else 0
 
 -- a stay that is there shows
-there_shows : (calls : ℕ) (stay : Stay) (address : ℕ) → 0 < calls → remains_at calls address stay ≡ true → shows (calls - 1) stay.block address stay.size stay ≡ true
+there_shows : (calls : ℕ) (stay : Stay) (address : ℕ) → 0 < calls → remains_at calls address stay ≡ true →
+    shows (calls - 1) stay.block address stay.size stay ≡ true
 there_shows calls stay address some there =
     let born = left_true (nat_lt stay.born calls) (nat_le calls stay.end) (left_true (remains calls stay) (nat_eq stay.address address) there) in
     let end = right_true (nat_lt stay.born calls) (nat_le calls stay.end) (left_true (remains calls stay) (nat_eq stay.address address) there) in
@@ -76,41 +83,57 @@ there_shows calls stay address some there =
     grind (arith, nat_tests, some, born, end, at)
 
 -- and one that shows is there
-shows_there : (calls number address size : ℕ) (stay : Stay) → 0 < calls → shows (calls - 1) number address size stay ≡ true → remains_at calls address stay ≡ true
+shows_there : (calls number address size : ℕ) (stay : Stay) → 0 < calls →
+    shows (calls - 1) number address size stay ≡ true → remains_at calls address stay ≡ true
 shows_there calls number address size stay some is =
-    let born = left_true (nat_le stay.born (calls - 1)) (nat_lt (calls - 1) stay.end && (nat_eq stay.block number && (nat_eq stay.address address && nat_eq stay.size size))) is in
-    let rest = right_true (nat_le stay.born (calls - 1)) (nat_lt (calls - 1) stay.end && (nat_eq stay.block number && (nat_eq stay.address address && nat_eq stay.size size))) is in
+    let born = left_true (nat_le stay.born (calls - 1)) (nat_lt (calls - 1) stay.end &&
+    (nat_eq stay.block number && (nat_eq stay.address address && nat_eq stay.size size))) is in
+    let rest = right_true (nat_le stay.born (calls - 1)) (nat_lt (calls - 1) stay.end &&
+    (nat_eq stay.block number && (nat_eq stay.address address && nat_eq stay.size size))) is in
     let end = left_true (nat_lt (calls - 1) stay.end) (nat_eq stay.block number && (nat_eq stay.address address && nat_eq stay.size size)) rest in
     let spot = right_true (nat_lt (calls - 1) stay.end) (nat_eq stay.block number && (nat_eq stay.address address && nat_eq stay.size size)) rest in
-    let at = left_true (nat_eq stay.address address) (nat_eq stay.size size) (right_true (nat_eq stay.block number) (nat_eq stay.address address && nat_eq stay.size size) spot) in
+    let at = left_true (nat_eq stay.address address) (nat_eq stay.size size)
+    (right_true (nat_eq stay.block number) (nat_eq stay.address address && nat_eq stay.size size) spot) in
     grind (arith, nat_tests, some, born, end, at)
 
 -- the block at an address is that of a stay which shows
-found_shows : (calls : ℕ) (stays : List Stay) (address : ℕ) (block : NamedBlock) → 0 < calls → block_at_end calls stays address ≡ Some block → 0 < shown (shows (calls - 1) block.number address block.size) stays
+found_shows : (calls : ℕ) (stays : List Stay) (address : ℕ) (block : NamedBlock) → 0 < calls →
+    block_at_end calls stays address ≡ Some block → 0 < shown (shows (calls - 1) block.number address block.size) stays
 found_shows calls [] address block some is = absurd (none_some block is)
-found_shows calls (stay ∷ stays) address block some is = go (remains_at calls address stay) refl (found_shows calls stays address block some) (sym (block_step calls stay stays address) ∙ is)
+found_shows calls (stay ∷ stays) address block some is = go (remains_at calls address stay) refl
+    (found_shows calls stays address block some) (sym (block_step calls stay stays address) ∙ is)
   where
-    go : (b : Bool) → remains_at calls address stay ≡ b → (block_at_end calls stays address ≡ Some block → 0 < shown (shows (calls - 1) block.number address block.size) stays) →
-        (if b then Some (name_of stay) else block_at_end calls stays address) ≡ Some block → 0 < bit (shows (calls - 1) block.number address block.size stay) + shown (shows (calls - 1) block.number address block.size) stays
+    go : (b : Bool) → remains_at calls address stay ≡ b → (block_at_end calls stays address ≡ Some block →
+        0 < shown (shows (calls - 1) block.number address block.size) stays) →
+        (if b then Some (name_of stay) else block_at_end calls stays address) ≡ Some block →
+        0 < bit (shows (calls - 1) block.number address block.size stay) + shown
+        (shows (calls - 1) block.number address block.size) stays
     go true there on is =
         (let same = some_is (name_of stay) block is in
-        let one : shows (calls - 1) block.number address block.size stay ≡ true = ap (λ (b : NamedBlock). shows (calls - 1) b.number address b.size stay) (sym same) ∙ there_shows calls stay address some there in
+        let one : shows (calls - 1) block.number address block.size stay ≡ true =
+        ap (λ (b : NamedBlock). shows (calls - 1) b.number address b.size stay) (sym same)
+        ∙ there_shows calls stay address some there in
         let here : bit (shows (calls - 1) block.number address block.size stay) ≡ 1 = ap (λ (v : Bool). bit v) one in
         omega (arith, here))
     go false other on is = (let more = on is in omega (arith, more))
 
 -- and where a stay shows there is a block
-shows_found : (calls : ℕ) (stays : List Stay) (number address size : ℕ) → 0 < calls → 0 < shown (shows (calls - 1) number address size) stays → (block : NamedBlock) × (block_at_end calls stays address ≡ Some block)
+shows_found : (calls : ℕ) (stays : List Stay) (number address size : ℕ) → 0 < calls →
+    0 < shown (shows (calls - 1) number address size) stays → (block : NamedBlock) × (block_at_end calls stays
+    address ≡ Some block)
 shows_found calls [] number address size some less = absurd (omega (arith, less))
 shows_found calls (stay ∷ stays) number address size some less =
     let found = go (remains_at calls address stay) refl (shows_found calls stays number address size some) in
     (found.0, block_step calls stay stays address ∙ found.1)
   where
-    rest : (v : Bool) → shows (calls - 1) number address size stay ≡ v → remains_at calls address stay ≡ false → 0 < bit v + shown (shows (calls - 1) number address size) stays → 0 < shown (shows (calls - 1) number address size) stays
+    rest : (v : Bool) → shows (calls - 1) number address size stay ≡ v → remains_at calls address stay ≡ false →
+        0 < bit v + shown (shows (calls - 1) number address size) stays →
+        0 < shown (shows (calls - 1) number address size) stays
     rest true is other less = absurd (let wrong : true ≡ false = sym (shows_there calls number address size stay some is) ∙ other in cc)
     rest false is other less = omega (arith, less)
 
-    go : (b : Bool) → remains_at calls address stay ≡ b → (0 < shown (shows (calls - 1) number address size) stays → (block : NamedBlock) × (block_at_end calls stays address ≡ Some block)) →
+    go : (b : Bool) → remains_at calls address stay ≡ b → (0 < shown (shows (calls - 1) number address size) stays →
+        (block : NamedBlock) × (block_at_end calls stays address ≡ Some block)) →
         (block : NamedBlock) × ((if b then Some (name_of stay) else block_at_end calls stays address) ≡ Some block)
     go true there on = (name_of stay, refl)
     go false other on = on (rest (shows (calls - 1) number address size stay) refl other less)
@@ -134,7 +157,8 @@ lies_of address size (Some block) is = record {
 }
 
 -- two live blocks at one address are one
-one_block : (s : State) (address i j size other : ℕ) → IsGood s → has_block s i address size ≡ true → has_block s j address other ≡ true → (i ≡ j) × (size ≡ other)
+one_block : (s : State) (address i j size other : ℕ) → IsGood s → has_block s i address size ≡ true →
+    has_block s j address other ≡ true → (i ≡ j) × (size ≡ other)
 one_block s address i j size other good one two = go (nat_eq i j) refl
   where
     first : Lies address size (block_at s.blocks i)
@@ -148,18 +172,22 @@ one_block s address i j size other good one two = go (nat_eq i j) refl
         (let same = same_number i j is in
         let blocks : first.block ≡ second.block = some_is first.block second.block (sym first.is ∙ ap (block_at s.blocks) same ∙ second.is) in
         (same, sym first.has ∙ ap (λ (b : Block). b.size) blocks ∙ second.has))
-    go false is = absurd (elim (good.apart i j first.block second.block first.is second.is (λ same. (let wrong : nat_eq i j ≡ true = grind (arith, nat_tests, same) in let no : true ≡ false = sym wrong ∙ is in cc))) [
-      | inl below ↦ (let a = first.at in let b = second.at in omega (arith, below, a, b))
-      | inr above ↦ (let a = first.at in let b = second.at in omega (arith, above, a, b))
-    ])
+    go false is = absurd (elim (good.apart i j first.block second.block first.is second.is
+        (λ same. (let wrong : nat_eq i j ≡ true = grind (arith, nat_tests, same) in let no : true ≡ false = sym wrong ∙ is
+        in cc))) [
+          | inl below ↦ (let a = first.at in let b = second.at in omega (arith, below, a, b))
+          | inr above ↦ (let a = first.at in let b = second.at in omega (arith, above, a, b))
+        ])
 
-last_is : (s : State) (calls : List Call) (answers : List Answer) → IsAllowedRun s (map Some calls) (map Some answers) → state_after s calls answers (length calls) ≡ last_state s (map Some calls) (map Some answers)
+last_is : (s : State) (calls : List Call) (answers : List Answer) → IsAllowedRun s (map Some calls) (map Some answers) →
+    state_after s calls answers (length calls) ≡ last_state s (map Some calls) (map Some answers)
 last_is s [] [] run = refl
 last_is s (call ∷ calls) (answer ∷ answers) run = last_is (after s call answer) calls answers run.1
 last_is s [] (answer ∷ answers) run = absurd run
 last_is s (call ∷ calls) [] run = absurd run
 
-last_good : (s : State) (call : Call) (answer : Answer) (calls : List Call) (answers : List Answer) → IsAllowedRun s (map Some (call ∷ calls)) (map Some (answer ∷ answers)) →
+last_good : (s : State) (call : Call) (answer : Answer) (calls : List Call) (answers : List Answer) →
+    IsAllowedRun s (map Some (call ∷ calls)) (map Some (answer ∷ answers)) →
     IsGood (last_state s (map Some (call ∷ calls)) (map Some (answer ∷ answers)))
 last_good s call answer [] [] run = run.0.1
 last_good s call answer (next ∷ calls) (given ∷ answers) run = last_good (after s call answer) next given calls answers run.1
@@ -167,9 +195,12 @@ last_good s call answer [] (given ∷ answers) run = absurd run.1
 last_good s call answer (next ∷ calls) [] run = absurd run.1
 
 one_more : (notes : Notes) (call : Call) (answer : Answer) → length (noted notes call answer).moments ≡ suc (length notes.moments)
-one_more notes call answer = let more = length-append notes.moments (moment (sizes_after notes.sizes call answer.reply) (bytes_after answer.regions notes.bytes) ∷ []) in omega (arith, more)
+one_more notes call answer = let more = length-append notes.moments (moment (sizes_after notes.sizes call answer.reply)
+    (bytes_after answer.regions notes.bytes) ∷ []) in omega (arith, more)
 
-moments_all : (s : State) (notes : Notes) (calls : List Call) (answers : List Answer) → IsAllowedRun s (map Some calls) (map Some answers) → length (notes_from notes calls answers).moments ≡ length notes.moments + length calls
+moments_all : (s : State) (notes : Notes) (calls : List Call) (answers : List Answer) →
+    IsAllowedRun s (map Some calls) (map Some answers) → length (notes_from notes calls answers).moments ≡ length
+    notes.moments + length calls
 moments_all s notes [] [] run = omega arith
 moments_all s notes (call ∷ calls) (answer ∷ answers) run =
     let rest = moments_all (after s call answer) (noted notes call answer) calls answers run.1 in
@@ -188,7 +219,9 @@ one_name : (a b : NamedBlock) → a.number ≡ b.number → a.size ≡ b.size �
 one_name a b number size = (λ i. Some (record { number = number i; size = size i }))
 
 -- a state, and stays of which after the last call just its live blocks show
-both : (calls : ℕ) (stays : List Stay) (s : State) → 0 < calls → IsGood s → ((number address size : ℕ) → shown (shows (calls - 1) number address size) stays ≡ bit (has_block s number address size)) →
+both : (calls : ℕ) (stays : List Stay) (s : State) → 0 < calls → IsGood s →
+    ((number address size : ℕ) → shown (shows (calls - 1) number address size) stays ≡ bit
+    (has_block s number address size)) →
     (address : ℕ) (block : NamedBlock) → (block_at_end calls stays address ≡ Some block) ↔ IsTrue (has_block s block.number address block.size)
 both calls stays s some good counts address block = (to block, from)
   where
@@ -201,7 +234,8 @@ both calls stays s some good counts address block = (to block, from)
 
     from : has_block s block.number address block.size ≡ true → block_at_end calls stays address ≡ Some block
     from is =
-        (let count : shown (shows (calls - 1) block.number address block.size) stays ≡ 1 = counts block.number address block.size ∙ ap (λ (v : Bool). bit v) is in
+        (let count : shown (shows (calls - 1) block.number address block.size) stays ≡ 1 =
+        counts block.number address block.size ∙ ap (λ (v : Bool). bit v) is in
         let found = shows_found calls stays block.number address block.size some (omega (arith, count)) in
         let same = one_block s address found.0.number block.number found.0.size block.size good (to found.0 found.1) is in
         found.1 ∙ one_name found.0 block same.0 same.1)
@@ -218,7 +252,8 @@ names each config (call ∷ calls) (answer ∷ answers) run address block =
     let some : 0 < length history.moments = omega (arith, moments) in
     let before : length history.moments - 1 < suc (length calls) = omega (arith, moments) in
     let end : suc (length history.moments - 1) ≡ suc (length calls) = omega (arith, moments) in
-    both (length history.moments) history.stays (last_state (start config) (map Some all) (map Some given)) some (last_good (start config) call answer calls answers run)
+    both (length history.moments) history.stays (last_state (start config) (map Some all) (map Some given)) some
+    (last_good (start config) call answer calls answers run)
     (λ n at size.
     each config all given run (length history.moments - 1) n at size before
     ∙ ap (λ (k : ℕ). bit (has_block (state_after (start config) all given k) n at size)) end

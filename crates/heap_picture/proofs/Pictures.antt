@@ -38,7 +38,8 @@ few_pages system regions is =
     omega (arith, count, few, same)
 
 -- the words of a line, its bar, and its large pages
-pub line_whole : (large : List ℕ) (y most : ℕ) (line : Region) (larges : ℕ) (old one two new : List ℕ) → larges ≡ larges_in large line → one ≡ old ++ line_words y line → two ≡ one ++ bar_text y most line →
+pub line_whole : (large : List ℕ) (y most : ℕ) (line : Region) (larges : ℕ) (old one two new : List ℕ) →
+    larges ≡ larges_in large line → one ≡ old ++ line_words y line → two ≡ one ++ bar_text y most line →
     new ≡ two ++ larges_text y most line.pages larges → new ≡ old ++ line_text large most y line
 unfolding line_text
 line_whole large y most line larges old one two new are first second last =
@@ -56,7 +57,8 @@ lines_more : (large : List ℕ) (most y : ℕ) (lines : List Region) (i : ℕ) (
 lines_more large most y lines i d within = ap (lines_text large most y) (rest_at lines i d within)
 
 -- the text with one line more, and the rest below it
-pub lines_put : (large : List ℕ) (most y y' : ℕ) (lines : List Region) (i : ℕ) (d : Region) (out new text : List ℕ) → i < length lines → y' ≡ y + 25 → new ≡ out ++ line_text large most y (get_or lines i d) →
+pub lines_put : (large : List ℕ) (most y y' : ℕ) (lines : List Region) (i : ℕ) (d : Region) (out new text : List ℕ) →
+    i < length lines → y' ≡ y + 25 → new ≡ out ++ line_text large most y (get_or lines i d) →
     out ++ lines_text large most y (drop i lines) ≡ text → new ++ lines_text large most y' (drop (i + 1) lines) ≡ text
 lines_put large most y y' lines i d out new text within below put whole =
     let line = line_text large most y (get_or lines i d) in
@@ -67,12 +69,14 @@ lines_put large most y y' lines i d out new text within below put whole =
     ∙ whole
 
 -- no line is below the last one
-pub lines_end : (large : List ℕ) (most y : ℕ) (lines : List Region) (i : ℕ) (out text : List ℕ) → length lines ≤ i → out ++ lines_text large most y (drop i lines) ≡ text → out ≡ text
+pub lines_end : (large : List ℕ) (most y : ℕ) (lines : List Region) (i : ℕ) (out text : List ℕ) → length lines ≤ i →
+    out ++ lines_text large most y (drop i lines) ≡ text → out ≡ text
 lines_end large most y lines i out text all is =
     sym (ap (λ (rs : List Region). out ++ lines_text large most y rs) (drop_all i lines all) ∙ append-nil out) ∙ is
 
 -- the lines that have room, and the others counted
-pub list_whole : (large : List ℕ) (y most shown : ℕ) (lines front back : List Region) (old one new : List ℕ) → most ≡ most_pages lines → shown ≡ lines_shown (length lines) → front ≡ take shown lines → back ≡ drop shown lines →
+pub list_whole : (large : List ℕ) (y most shown : ℕ) (lines front back : List Region) (old one new : List ℕ) →
+    most ≡ most_pages lines → shown ≡ lines_shown (length lines) → front ≡ take shown lines → back ≡ drop shown lines →
     one ≡ old ++ lines_text large most y front → new ≡ one ++ more_text (y + 150) back → new ≡ old ++ list_text large y lines
 unfolding list_text
 list_whole large y most shown lines front back old one new most_is shown_is front_is back_is first last =
@@ -85,8 +89,10 @@ list_whole large y most shown lines front back old one new most_is shown_is fron
     ∙ ap (λ (n : ℕ). old ++ (lines_text large (most_pages lines) y (take n lines) ++ more_text (y + 150) (drop n lines))) shown_is
 
 -- the heading, and the lines, of what a machine tells of its system
-pub regions_whole : (machine : Machine) (s : State) (y : ℕ) (system : PagedSystem) (list lines : List Region) (frames tables : ℕ) (old one new : List ℕ) → IsAt machine s →
-    system ≡ system_of machine.heap → list ≡ (paged system).regions → lines ≡ region_lines list → frames ≡ free_count (paged system).free → tables ≡ (paged system).tables →
+pub regions_whole : (machine : Machine) (s : State) (y : ℕ) (system : PagedSystem) (list lines : List Region)
+    (frames tables : ℕ) (old one new : List ℕ) → IsAt machine s →
+    system ≡ system_of machine.heap → list ≡ (paged system).regions → lines ≡ region_lines list →
+    frames ≡ free_count (paged system).free → tables ≡ (paged system).tables →
     one ≡ old ++ heading_text y frames tables → new ≡ one ++ list_text s.large (y + 26) lines → new ≡ old ++ regions_text y s
 unfolding regions_text
 regions_whole machine s y system list lines frames tables old one new at is listed lines_are frames_are tables_are first last =
@@ -101,8 +107,10 @@ regions_whole machine s y system list lines frames tables old one new at is list
     ∙ ap (λ (n : ℕ). old ++ (heading_text y (free_frames s) n ++ list_text s.large (y + 26) (region_lines (all_regions s)))) count
 
 -- the head, the map, the regions, and the end of the document
-pub picture_whole : (style : List ℕ) (s : State) (live peak : ℕ) (extents : List Extent) (history : History) (lines : ℕ) (old one two three new : List ℕ) → lines ≡ lines_number extents →
-    one ≡ old ++ head_text style (194 + 23 * lines + 210) → two ≡ one ++ map_text (blocks_at_end history) live peak extents → three ≡ two ++ regions_text (194 + 23 * lines) s → new ≡ three ++ codes "</svg>\n" →
+pub picture_whole : (style : List ℕ) (s : State) (live peak : ℕ) (extents : List Extent) (history : History) (lines : ℕ)
+    (old one two three new : List ℕ) → lines ≡ lines_number extents →
+    one ≡ old ++ head_text style (194 + 23 * lines + 210) → two ≡ one ++ map_text (blocks_at_end history) live peak
+    extents → three ≡ two ++ regions_text (194 + 23 * lines) s → new ≡ three ++ codes "</svg>\n" →
     new ≡ old ++ map_document style s live peak extents history
 unfolding map_document
 picture_whole style s live peak extents history lines old one two three new are first second third last =
@@ -118,7 +126,9 @@ picture_whole style s live peak extents history lines old one two three new are 
     ∙ ap (λ (n : ℕ). old ++ (head_text style (below_lines n + 210) ++ (map ++ (regions_text (below_lines n) s ++ end)))) are
 
 -- the head, the drawing of a run, and the end of the document
-pub timing_whole : (style : List ℕ) (history : History) (height : ℕ) (old one two new : List ℕ) → height ≡ time_height history → one ≡ old ++ head_text style height → two ≡ one ++ time_text history → new ≡ two ++ codes "</svg>\n" →
+pub timing_whole : (style : List ℕ) (history : History) (height : ℕ) (old one two new : List ℕ) →
+    height ≡ time_height history → one ≡ old ++ head_text style height → two ≡ one ++ time_text history →
+    new ≡ two ++ codes "</svg>\n" →
     new ≡ old ++ timing_of style history
 unfolding timing_of
 timing_whole style history height old one two new height_is first second last =

@@ -44,7 +44,8 @@ same_test (Some place) false both = absurd (let wrong : false ≡ true = both.0 
 
 -- the walk ends at the third entry of a slot exactly if it is one of the slots
 pub large_met : (words : List ℕ) (root slot : ℕ) (slots : List ℕ) → slot % 2097152 ≡ 0 → is_canonical slot ≡ true →
-    ((slot : ℕ) → IsSlot slot → IsSome (large_of words root (slot_number slot)) ↔ IsTrue (has_slot slots slot)) → is_some (large_of words root (slot_number slot)) ≡ has_slot slots slot
+    ((slot : ℕ) → IsSlot slot → IsSome (large_of words root (slot_number slot)) ↔ IsTrue (has_slot slots slot)) →
+    is_some (large_of words root (slot_number slot)) ≡ has_slot slots slot
 large_met words root slot slots aligned canonical met =
     same_test (large_of words root (slot_number slot)) (has_slot slots slot) (met slot (record { aligned = aligned; canonical = canonical }))
 
@@ -57,7 +58,8 @@ not_true false never = refl
 not_true true never = absurd (let wrong : false ≡ true = never refl in cc)
 
 -- the same, of the system that a machine runs over
-pub large_seen : (system : PagedSystem) (machine : Machine) (s : State) (address slot : ℕ) → system ≡ system_of machine.heap → IsAt machine s → address ≡ slot → slot % 2097152 ≡ 0 →
+pub large_seen : (system : PagedSystem) (machine : Machine) (s : State) (address slot : ℕ) →
+    system ≡ system_of machine.heap → IsAt machine s → address ≡ slot → slot % 2097152 ≡ 0 →
     is_canonical slot ≡ true → is_some (large_of (paged system).words (paged system).root (slot_number address)) ≡ has_slot s.large slot
 large_seen system machine s address slot is at same aligned canonical =
     let here = system_of machine.heap in

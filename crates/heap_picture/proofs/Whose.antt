@@ -22,7 +22,8 @@ use Rattle.heap_picture.specs.Owners.{owned_by, owned_regions, lines_in, is_heap
 
 -- ---- regions ascend
 
-begin_after : (low from to : ℕ) (regions : List Region) → low ≤ from → AreLaid from regions to → AllByRecursion (λ (next : Owned). low ≤ next.start) (owned_regions regions)
+begin_after : (low from to : ℕ) (regions : List Region) → low ≤ from → AreLaid from regions to →
+    AllByRecursion (λ (next : Owned). low ≤ next.start) (owned_regions regions)
 begin_after low from to [] before laid = tt
 begin_after low from to (region ∷ regions) before laid =
     let here = laid.0 in (
@@ -42,11 +43,15 @@ heap_is : (heap : Bool) → heap ≡ is_heap (if heap then Heap else User)
 heap_is true = refl
 heap_is false = refl
 
-owner_found : (regions : List Region) (at : ℕ) → IsSome (find (is_within at) regions) → option_map (λ (region : Region). region.heap) (find (is_within at) regions) ≡ Some (is_heap (owner_at (owned_regions regions) at))
+owner_found : (regions : List Region) (at : ℕ) → IsSome (find (is_within at) regions) →
+    option_map (λ (region : Region). region.heap) (find (is_within at) regions) ≡ Some
+    (is_heap (owner_at (owned_regions regions) at))
 owner_found [] at some = absurd (let wrong : false ≡ true = some in cc)
 owner_found (r ∷ rs) at some = go (is_within at r) refl (owner_found rs at)
   where
-    go : (b : Bool) → is_within at r ≡ b → (IsSome (find (is_within at) rs) → option_map (λ (region : Region). region.heap) (find (is_within at) rs) ≡ Some (is_heap (owner_at (owned_regions rs) at))) →
+    go : (b : Bool) → is_within at r ≡ b → (IsSome (find (is_within at) rs) →
+        option_map (λ (region : Region). region.heap) (find (is_within at) rs) ≡ Some
+        (is_heap (owner_at (owned_regions rs) at))) →
         option_map (λ (region : Region). region.heap) (find (is_within at) (r ∷ rs)) ≡ Some (is_heap (owner_at (owned_regions (r ∷ rs)) at))
     go true is rest =
         ap (λ (b : Bool). option_map (λ (region : Region). region.heap) (cond b (Some r) (find (is_within at) rs))) is
@@ -77,18 +82,22 @@ in_whole slot k r low whole = grind (arith, nat_tests, low, whole)
 not_before : (at : ℕ) (r : Region) → end_of r ≤ at → is_within at r ≡ false
 not_before at r past = grind (arith, nat_tests, past)
 
-one_owner : (from to slot k : ℕ) (regions : List Region) → k < 2 ^ 21 → AreLaid from regions to → is_whole_in regions slot ≡ true → owner_at (owned_regions regions) (slot + k) ≡ owner_at (owned_regions regions) (slot + 0)
+one_owner : (from to slot k : ℕ) (regions : List Region) → k < 2 ^ 21 → AreLaid from regions to →
+    is_whole_in regions slot ≡ true → owner_at (owned_regions regions) (slot + k) ≡ owner_at (owned_regions regions)
+    (slot + 0)
 one_owner from to slot k [] low laid whole = absurd (let wrong : false ≡ true = whole in cc)
 one_owner from to slot k (r ∷ rs) low laid whole = go (has_whole slot r) refl (one_owner (end_of r) to slot k rs low laid.3)
   where
-    both : (b : Bool) → is_within (slot + k) r ≡ b → is_within (slot + 0) r ≡ b → owner_at (owned_regions rs) (slot + k) ≡ owner_at (owned_regions rs) (slot + 0) →
+    both : (b : Bool) → is_within (slot + k) r ≡ b → is_within (slot + 0) r ≡ b →
+        owner_at (owned_regions rs) (slot + k) ≡ owner_at (owned_regions rs) (slot + 0) →
         owner_at (owned_regions (r ∷ rs)) (slot + k) ≡ owner_at (owned_regions (r ∷ rs)) (slot + 0)
     both b one other rest =
         ap (λ (b : Bool). cond b (owned_by r).owner (owner_at (owned_regions rs) (slot + k))) one
         ∙ ap (λ (o : Owner). cond b (owned_by r).owner o) rest
         ∙ sym (ap (λ (b : Bool). cond b (owned_by r).owner (owner_at (owned_regions rs) (slot + 0))) other)
 
-    in_first : is_within (slot + k) r ≡ true → is_within (slot + 0) r ≡ true → owner_at (owned_regions (r ∷ rs)) (slot + k) ≡ owner_at (owned_regions (r ∷ rs)) (slot + 0)
+    in_first : is_within (slot + k) r ≡ true → is_within (slot + 0) r ≡ true →
+        owner_at (owned_regions (r ∷ rs)) (slot + k) ≡ owner_at (owned_regions (r ∷ rs)) (slot + 0)
     in_first one other =
         ap (λ (b : Bool). cond b (owned_by r).owner (owner_at (owned_regions rs) (slot + k))) one
         ∙ sym (ap (λ (b : Bool). cond b (owned_by r).owner (owner_at (owned_regions rs) (slot + 0))) other)
@@ -165,7 +174,8 @@ slot_at number few = go (nat_lt number (2 ^ 26)) refl
         }
     go false is =
         let high : 2 ^ 26 ≤ number = grind (arith, nat_tests, is) in
-        let first : address_of (512 * number) ≡ 4096 * (512 * number) + (2 ^ 64 - 2 ^ 48) = address_high (512 * number) (omega (arith, high)) (omega (arith, few)) in
+        let first : address_of (512 * number) ≡ 4096 * (512 * number) + (2 ^ 64 - 2 ^ 48) =
+        address_high (512 * number) (omega (arith, high)) (omega (arith, few)) in
         record {
           aligned = ap (λ (a : ℕ). a % 2 ^ 21) first ∙ omega arith;
           pages = λ index within.
@@ -201,12 +211,14 @@ walk_alike : (words : List ℕ) (root one other : ℕ) → one % 2 ^ 36 ≡ othe
 unfolding walk_of
 walk_alike words root one other same = ap (reach words root 4) same
 
-some_region : (o : Option Region) (rights : Rights) → Some rights ≡ option_map (λ (kind : Bool × Rights). kind.1) (option_map (λ (region : Region). (region.heap, region.rights)) o) → IsSome o
+some_region : (o : Option Region) (rights : Rights) → Some rights ≡ option_map (λ (kind : Bool × Rights). kind.1)
+    (option_map (λ (region : Region). (region.heap, region.rights)) o) → IsSome o
 some_region None rights is = absurd (let wrong : Some rights ≡ None = is in cc)
 some_region (Some region) rights is = refl
 
 -- a page that is mapped lies in a region
-page_found : (p : Paged) (page at : ℕ) (place : Place) → IsPagedKept p → IsAddressOf page at → walk_of p.words p.root page ≡ Some place → IsSome (find (is_within at) p.regions)
+page_found : (p : Paged) (page at : ℕ) (place : Place) → IsPagedKept p → IsAddressOf page at →
+    walk_of p.words p.root page ≡ Some place → IsSome (find (is_within at) p.regions)
 page_found p page at place kept is met =
     let whole = is.whole in
     let here : 4096 * (at / 4096) ≡ at = omega (arith, whole) in
@@ -221,7 +233,8 @@ owner_said p line kept walked owned page from to =
     owner_found p.regions (address_of page) (page_found p page (address_of page) (place_in line page) kept (address_is page) (walked page from to))
     ∙ ap (λ (o : Owner). Some (is_heap o)) (owned page from to)
 
-all_said : (p : Paged) (lines : List Line) → IsPagedKept p → AllByRecursion (IsWalked p.words p.root) lines → AllByRecursion (IsOwned (owned_regions p.regions)) lines → AllByRecursion (IsOfOwner p.regions) lines
+all_said : (p : Paged) (lines : List Line) → IsPagedKept p → AllByRecursion (IsWalked p.words p.root) lines →
+    AllByRecursion (IsOwned (owned_regions p.regions)) lines → AllByRecursion (IsOfOwner p.regions) lines
 all_said p [] kept walked owned = tt
 all_said p (line ∷ lines) kept walked owned = (owner_said p line kept walked.0 owned.0, all_said p lines kept walked.1 owned.1)
 

@@ -13,15 +13,19 @@ use Rattle.hex.specs.Hex.{encode_lower, lower_digits}
 use Rattle.hex.proofs.HexLemmas.{IsAscii-encode_with, length-encode_with}
 use Rattle.heap_program.proofs.Hexes.{small_at, lower_small, encode_with-append}
 
-onto_case : (b : Bool) (g : ℕ) (acc : List ℕ) (f : List ℕ → List ℕ) → ((a : List ℕ) → f a ≡ f [] ++ a) → cond b (g ∷ acc) (f (g ∷ acc)) ≡ cond b (g ∷ []) (f (g ∷ [])) ++ acc
+onto_case : (b : Bool) (g : ℕ) (acc : List ℕ) (f : List ℕ → List ℕ) → ((a : List ℕ) → f a ≡ f [] ++ a) →
+    cond b (g ∷ acc) (f (g ∷ acc)) ≡ cond b (g ∷ []) (f (g ∷ [])) ++ acc
 onto_case true g acc f front = refl
 onto_case false g acc f front = front (g ∷ acc) ∙ sym (ap (λ (l : List ℕ). l ++ acc) (front (g ∷ [])) ∙ append_assoc (f []) (g ∷ []) acc)
 
 onto_append : (k n : ℕ) (acc : List ℕ) → digits_onto k 16 false n acc ≡ digits_onto k 16 false n [] ++ acc
 onto_append zero n acc = refl
-onto_append (suc k) n acc = onto_case (eqb (n / 16) 0) (digit_glyph false (n % 16)) acc (digits_onto k 16 false (n / 16)) (λ (a : List ℕ). onto_append k (n / 16) a)
+onto_append (suc k) n acc = onto_case (eqb (n / 16) 0) (digit_glyph false (n % 16)) acc (digits_onto k 16 false (n / 16))
+    (λ (a : List ℕ). onto_append k (n / 16) a)
 
-spelled_suc : (k n : ℕ) (acc : List ℕ) (t : Bool) → eqb (n / 16) 0 ≡ t → digits_onto (suc k) 16 false n acc ≡ cond t (digit_glyph false (n % 16) ∷ acc) (digits_onto k 16 false (n / 16) (digit_glyph false (n % 16) ∷ acc))
+spelled_suc : (k n : ℕ) (acc : List ℕ) (t : Bool) → eqb (n / 16) 0 ≡ t →
+    digits_onto (suc k) 16 false n acc ≡ cond t (digit_glyph false (n % 16) ∷ acc)
+    (digits_onto k 16 false (n / 16) (digit_glyph false (n % 16) ∷ acc))
 spelled_suc k n acc t e = ap (λ (b : Bool). cond b (digit_glyph false (n % 16) ∷ acc) (digits_onto k 16 false (n / 16) (digit_glyph false (n % 16) ∷ acc))) e
 
 -- the last digit
@@ -30,7 +34,8 @@ onto_last zero n acc h e = absurd (omega arith)
 onto_last (suc k) n acc h e = spelled_suc k n acc true (eq-eqb _ 0 e)
 
 -- a digit that is not the last
-pub onto_step : (i j n : ℕ) (acc : List ℕ) → i ≡ suc j → (n / 16 ≡ 0 → ⊥) → digits_onto i 16 false n acc ≡ digits_onto j 16 false (n / 16) (digit_glyph false (n % 16) ∷ acc)
+pub onto_step : (i j n : ℕ) (acc : List ℕ) → i ≡ suc j → (n / 16 ≡ 0 → ⊥) →
+    digits_onto i 16 false n acc ≡ digits_onto j 16 false (n / 16) (digit_glyph false (n % 16) ∷ acc)
 onto_step i j n acc is e = ap (λ (k : ℕ). digits_onto k 16 false n acc) is ∙ spelled_suc j n acc false (ne_eqb _ 0 e)
 
 glyph_small : (d : ℕ) → d < 16 → digit_glyph false d < 128
@@ -79,7 +84,8 @@ text_of_small : (t : List ℕ) → AllByRecursion (λ b. b < 128) t → IsUtf8 t
 text_of_small t all = IsUtf8-from_ascii t (λ i. small_at t i all)
 
 -- the line of a block is text
-pub block_is_text : (number address : ℕ) → number < 2 ^ 64 → IsUtf8 (codes "block " ++ (decimal number ++ (codes " 0x" ++ (digits 16 false address ++ codes "\n"))))
+pub block_is_text : (number address : ℕ) → number < 2 ^ 64 → IsUtf8 (codes
+    "block " ++ (decimal number ++ (codes " 0x" ++ (digits 16 false address ++ codes "\n"))))
 block_is_text number address fits =
     IsUtf8-append (codes "block ") _ (text_of_small (codes "block ") (lit≤ tt, (lit≤ tt, (lit≤ tt, (lit≤ tt, (lit≤ tt, (lit≤ tt, tt)))))))
     (IsUtf8-append (decimal number) _ (IsUtf8-from_ascii (decimal number) (IsAscii-decimal number fits))

@@ -45,9 +45,11 @@ statuses_left : (n : ℕ) → n ≤ 8 → n ≢ 1 → n ≢ 2 → n ≢ 3 → n 
 statuses_left n most one two three four six seven = grind arith
 
 -- where a machine can be made and nothing failed, a run ends well, or for want of memory, or since the input is too long
-pub complete_status : (config : Config) (status : ℕ) → status ≤ 8 → status ≢ 1 → TellsRefusal config status → IsGoodConfig config → status ≢ 6 → status ≢ 7 → (status ≡ 0) ⊎ (status ≡ 5) ⊎ (status ≡ 8)
+pub complete_status : (config : Config) (status : ℕ) → status ≤ 8 → status ≢ 1 → TellsRefusal config status →
+    IsGoodConfig config → status ≢ 6 → status ≢ 7 → (status ≡ 0) ⊎ (status ≡ 5) ⊎ (status ≡ 8)
 complete_status config status most one tells good six seven =
-    statuses_left status most one (λ is. tells.window.0 is good.window) (λ is. (tells.granularity.0 is).1 good.granularity) (λ is. none (tells.frames.0 is).2 good.frames) six seven
+    statuses_left status most one (λ is. tells.window.0 is good.window) (λ is. (tells.granularity.0 is).1 good.granularity)
+    (λ is. none (tells.frames.0 is).2 good.frames) six seven
   where
     none : config.frames ≡ 0 → 0 < config.frames → ⊥
     none is some = absurd (omega (arith, is, some))
@@ -62,12 +64,15 @@ made_status config good = record {
 }
 
 -- a run that ended well was not too long
-pub ok_status : (left : Option (List ℕ)) (machine : Machine) (Q : List ℕ → Type 0) → IfSome left (λ input. IsErrOf {E = Stop} (Ok machine) TooLong ↔ Q input) → IfSome left (λ input. ◌≡◌ {A = ℕ} 0 8 ↔ Q input)
+pub ok_status : (left : Option (List ℕ)) (machine : Machine) (Q : List ℕ → Type 0) →
+    IfSome left (λ input. IsErrOf {E = Stop} (Ok machine) TooLong ↔ Q input) →
+    IfSome left (λ input. ◌≡◌ {A = ℕ} 0 8 ↔ Q input)
 ok_status None machine Q long = tt
 ok_status (Some input) machine Q long = (λ is. absurd (omega (arith, is)), λ more. let none = long.1 more in absurd (cc))
 
 -- status 8 says that a run was too long
-pub stop_status : (left : Option (List ℕ)) (stop : Stop) (status : ℕ) (Q : List ℕ → Type 0) → status ≡ status_of stop → IfSome left (λ input. IsErrOf {T = Machine} (Err stop) TooLong ↔ Q input) → IfSome left (λ input. status ≡ 8 ↔ Q input)
+pub stop_status : (left : Option (List ℕ)) (stop : Stop) (status : ℕ) (Q : List ℕ → Type 0) → status ≡ status_of stop →
+    IfSome left (λ input. IsErrOf {T = Machine} (Err stop) TooLong ↔ Q input) → IfSome left (λ input. status ≡ 8 ↔ Q input)
 stop_status None stop status Q is long = tt
 stop_status (Some input) TooLong status Q is long = (λ eight. long.0 refl, λ more. is)
 stop_status (Some input) Memory status Q is long = (λ eight. absurd (omega (arith, is, eight)), λ more. let other = long.1 more in absurd (cc))

@@ -89,7 +89,8 @@ pub record IsWhole (s : State) (first : Machine) (seed count : ℕ) (drawing : D
   pub tally : tally_line count drawing.given drawing.refused ≡ tally_line (length answers) (blocks_given (first_state seed) 0 answers) (refused_count answers)
   pub at : IsAt drawing.machine state
 
-pub all_drawn : (s : State) (seed count : ℕ) (old new : Drawing) → old.state ≡ first_state seed → old.given ≡ 0 → old.refused ≡ 0 → HasDrawn s old new count → IsWhole s old.machine seed count new
+pub all_drawn : (s : State) (seed count : ℕ) (old new : Drawing) → old.state ≡ first_state seed → old.given ≡ 0 →
+    old.refused ≡ 0 → HasDrawn s old new count → IsWhole s old.machine seed count new
 all_drawn s seed count old new first zero unrefused h =
     let calls : drawn_calls old.state old.given h.answers ≡ drawn_calls (first_state seed) 0 h.answers = (λ i. drawn_calls (first i) (zero i) h.answers) in
     let given : new.given ≡ blocks_given (first_state seed) 0 h.answers = sym (h.given []) ∙ (λ i. blocks_given (first i) (zero i) (append-nil h.answers i)) in
@@ -105,16 +106,22 @@ all_drawn s seed count old new first zero unrefused h =
     }
 
 -- the counts, and the end text after them
-pub whole_text : (s : State) (first : Machine) (seed count : ℕ) (drawing : Drawing) (w : IsWhole s first seed count drawing) (empty told out : List ℕ) → empty ≡ [] → told ≡ empty ++ tally_line count drawing.given drawing.refused → out ≡ told ++ end_text_of w.state → out ≡ generated_text seed w.answers w.state
+pub whole_text : (s : State) (first : Machine) (seed count : ℕ) (drawing : Drawing) (w : IsWhole s first seed count drawing)
+    (empty told out : List ℕ) → empty ≡ [] → told ≡ empty ++ tally_line count drawing.given drawing.refused →
+    out ≡ told ++ end_text_of w.state → out ≡ generated_text seed w.answers w.state
 whole_text s first seed count drawing w empty told out none counts end =
-    end ∙ ap (λ (text : List ℕ). text ++ end_text_of w.state) (counts ∙ ap (λ (text : List ℕ). text ++ tally_line count drawing.given drawing.refused) none ∙ w.tally)
+    end ∙ ap (λ (text : List ℕ). text ++ end_text_of w.state) (counts ∙ ap
+    (λ (text : List ℕ). text ++ tally_line count drawing.given drawing.refused) none ∙ w.tally)
 
 -- nothing was written
 pub none_generated : (s : State) (seed count : ℕ) (taken : Option (List ℕ)) → IsGenerationStopped s seed count taken taken
 none_generated s seed count taken = record { text = []; written = appends_nothing taken; front = inl refl }
 
 -- a front of the text was written
-pub part_generated : (s : State) (first : Machine) (seed count : ℕ) (drawing : Drawing) (w : IsWhole s first seed count drawing) (out : List ℕ) (before after : Option (List ℕ)) (n : ℕ) → out ≡ generated_text seed w.answers w.state → Appends before after (take n out) → IsGenerationStopped s seed count before after
+pub part_generated : (s : State) (first : Machine) (seed count : ℕ) (drawing : Drawing)
+    (w : IsWhole s first seed count drawing) (out : List ℕ) (before after : Option (List ℕ)) (n : ℕ) →
+    out ≡ generated_text seed w.answers w.state → Appends before after (take n out) →
+    IsGenerationStopped s seed count before after
 part_generated s first seed count drawing w out before after n is written = record {
   text = take n out;
   written = written;
@@ -122,7 +129,10 @@ part_generated s first seed count drawing w out before after n is written = reco
 }
 
 -- all of it was
-pub all_generated : (s : State) (first : Machine) (seed count : ℕ) (drawing : Drawing) (w : IsWhole s first seed count drawing) (out : List ℕ) (before after : Option (List ℕ)) (flushed : Option ℕ) → out ≡ generated_text seed w.answers w.state → Appends before after out → IsAllFlushed after flushed → IsGeneratedBy first s seed count before after flushed drawing.machine
+pub all_generated : (s : State) (first : Machine) (seed count : ℕ) (drawing : Drawing)
+    (w : IsWhole s first seed count drawing) (out : List ℕ) (before after : Option (List ℕ)) (flushed : Option ℕ) →
+    out ≡ generated_text seed w.answers w.state → Appends before after out → IsAllFlushed after flushed →
+    IsGeneratedBy first s seed count before after flushed drawing.machine
 all_generated s first seed count drawing w out before after flushed is written all = record {
   run = record {
     answers = w.answers;

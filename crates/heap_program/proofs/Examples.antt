@@ -23,7 +23,8 @@ use Rattle.heap_program.specs.Text.{text_of, region_line, tally_line, end_text_o
 lines-last : lines_of (codes "a\n\nb") ≡ codes "a" ∷ [] ∷ codes "b" ∷ []
 lines-last = refl
 
-items-short : items_of (codes "malloc 24\nmalloc  3\nmalloc 0x10 4096\ncalloc 0x1f\ncalloc 0 0\nmalloc 1 16 1") ≡ Some (Malloc 24 16) ∷ None ∷ Some (Malloc 16 4096) ∷ Some (Calloc 31 16) ∷ Some (Calloc 0 0) ∷ None ∷ []
+items-short : items_of (codes "malloc 24\nmalloc  3\nmalloc 0x10 4096\ncalloc 0x1f\ncalloc 0 0\nmalloc 1 16 1") ≡ Some
+    (Malloc 24 16) ∷ None ∷ Some (Malloc 16 4096) ∷ Some (Calloc 31 16) ∷ Some (Calloc 0 0) ∷ None ∷ []
 unfolding items_of item_of
 items-short = refl
 
@@ -35,7 +36,8 @@ items-bytes : items_of (codes "write 0 1 fF00\nwrite 0 1 f\nread 5 0 2\nread 5 0
 unfolding items_of item_of hex_on_literals
 items-bytes = refl
 
-items-free : items_of (codes "free 0\nfree 0x10\nfree\nfree 0 \nfree 0 0\nFree 0\n free 0") ≡ Some (Free 0) ∷ Some (Free 16) ∷ None ∷ None ∷ None ∷ None ∷ None ∷ []
+items-free : items_of (codes "free 0\nfree 0x10\nfree\nfree 0 \nfree 0 0\nFree 0\n free 0") ≡ Some (Free 0) ∷ Some
+    (Free 16) ∷ None ∷ None ∷ None ∷ None ∷ None ∷ []
 unfolding items_of item_of
 items-free = refl
 
@@ -43,15 +45,27 @@ items-extents : items_of (codes "extents\nextents \nextents 0") ≡ Some Extents
 unfolding items_of item_of
 items-extents = refl
 
-items-settings : items_of (codes "trim 0\ntrim\nrate 0x10\nrate 1 2\ngranularity 4096\ngranularity\nreset\nreset 0\nset_rate 1") ≡ Some (Trim 0) ∷ None ∷ Some (SetRate 16) ∷ None ∷ Some (SetGranularity 4096) ∷ None ∷ Some Reset ∷ None ∷ None ∷ []
+items-settings : items_of
+    (codes "trim 0\ntrim\nrate 0x10\nrate 1 2\ngranularity 4096\ngranularity\nreset\nreset 0\nset_rate 1") ≡ Some
+    (Trim 0) ∷ None ∷ Some (SetRate 16) ∷ None ∷ Some (SetGranularity 4096) ∷ None ∷ Some Reset ∷ None ∷ None ∷ []
 unfolding items_of item_of
 items-settings = refl
 
-items-maps : items_of (codes "map 0x410000 1 rw--\nmap 4096 2 r-ux\nunmap 0x410000 1\nmap 0 1 rwux\nmap 0 1\nmap 0 1 w---\nmap 0 1 rw-\nmap 0 1 rux-\nmap 0 1 rw-- 0\nunmap 0\nunmap 0 1 rw--") ≡ Some (Map 0x410000 1 (record { write = true; user = false; fetch = false })) ∷ Some (Map 4096 2 (record { write = false; user = true; fetch = true })) ∷ Some (Unmap 0x410000 1) ∷ Some (Map 0 1 (record { write = true; user = true; fetch = true })) ∷ None ∷ None ∷ None ∷ None ∷ None ∷ None ∷ None ∷ []
+items-maps : items_of
+    (codes
+    "map 0x410000 1 rw--\nmap 4096 2 r-ux\nunmap 0x410000 1\nmap 0 1 rwux\nmap 0 1\nmap 0 1 w---\nmap 0 1 rw-\nmap 0 1 rux-\nmap 0 1 rw-- 0\nunmap 0\nunmap 0 1 rw--") ≡
+    Some (Map 0x410000 1 (record { write = true; user = false; fetch = false }))
+    ∷ Some (Map 4096 2 (record { write = false; user = true; fetch = true }))
+    ∷ Some (Unmap 0x410000 1)
+    ∷ Some (Map 0 1 (record { write = true; user = true; fetch = true }))
+    ∷ None ∷ None ∷ None ∷ None ∷ None ∷ None ∷ None ∷ []
 unfolding items_of item_of
 items-maps = refl
 
-items-probes : items_of (codes "probe 0x10 read\nprobe 16 write user\nprobe 0 fetch\nprobe 0 Read\nprobe 0\nprobe 0 read kernel\nprobe 0 read user user") ≡ Some (Probe 16 Reading false) ∷ Some (Probe 16 Writing true) ∷ Some (Probe 0 Fetching false) ∷ None ∷ None ∷ None ∷ None ∷ []
+items-probes : items_of
+    (codes
+    "probe 0x10 read\nprobe 16 write user\nprobe 0 fetch\nprobe 0 Read\nprobe 0\nprobe 0 read kernel\nprobe 0 read user user") ≡
+    Some (Probe 16 Reading false) ∷ Some (Probe 16 Writing true) ∷ Some (Probe 0 Fetching false) ∷ None ∷ None ∷ None ∷ None ∷ []
 unfolding items_of item_of
 items-probes = refl
 
@@ -97,15 +111,40 @@ text-not_canonical : text_of (record { reply = Refused NotCanonical; regions = N
 unfolding text_of
 text-not_canonical = refl
 
-text-block : text_of (record { reply = Block 2 0x40ffd0; regions = Some (heap_region 0x400000 16 ∷ heap_region 0x410000 16 ∷ []); large = None }) ≡ codes "block 2 0x40ffd0\nheap 0x400000+16 0x410000+16\n"
+text-block : text_of (record {
+  reply = Block 2 0x40ffd0;
+  regions = Some
+      (heap_region 0x400000 16 ∷ heap_region 0x410000 16 ∷ []);
+  large = None;
+}) ≡ codes
+    "block 2 0x40ffd0\nheap 0x400000+16 0x410000+16\n"
 unfolding text_of digits
 text-block = refl
 
-text-extents : text_of (record { reply = Listed (record { at = 0x400000; size = 65440; kind = Used } ∷ record { at = 0x40ffa0; size = 16; kind = Top } ∷ record { at = 0x40ffb0; size = 80; kind = Foot } ∷ []); regions = None; large = None }) ≡ codes "extents used:0x400000+65440 top:0x40ffa0+16 foot:0x40ffb0+80\n"
+text-extents : text_of (record {
+  reply = Listed (record { at = 0x400000; size = 65440; kind = Used } ∷ record {
+    at =
+        0x40ffa0;
+    size = 16;
+    kind = Top;
+  } ∷ record { at = 0x40ffb0; size = 80; kind = Foot } ∷ []);
+  regions = None;
+  large =
+      None;
+}) ≡ codes "extents used:0x400000+65440 top:0x40ffa0+16 foot:0x40ffb0+80\n"
 unfolding text_of digits
 text-extents = refl
 
-text-other_extents : text_of (record { reply = Listed (record { at = 0; size = 32; kind = Binned } ∷ record { at = 32; size = 0; kind = Victim } ∷ record { at = 255; size = 1; kind = Record } ∷ []); regions = None; large = None }) ≡ codes "extents free:0x0+32 victim:0x20+0 record:0xff+1\n"
+text-other_extents : text_of (record {
+  reply = Listed (record { at = 0; size = 32; kind = Binned } ∷ record {
+    at = 32;
+    size = 0;
+    kind = Victim;
+  } ∷ record { at = 255; size = 1; kind = Record } ∷ []);
+  regions = None;
+  large = None;
+}) ≡ codes
+    "extents free:0x0+32 victim:0x20+0 record:0xff+1\n"
 unfolding text_of digits
 text-other_extents = refl
 
@@ -117,7 +156,12 @@ text-large : text_of (record { reply = Done; regions = None; large = Some (0x800
 unfolding text_of digits
 text-large = refl
 
-text-granted_large : text_of (record { reply = Block 0 0x400010; regions = Some (heap_region 0x400000 736 ∷ []); large = Some (0x400000 ∷ []) }) ≡ codes "block 0 0x400010\nheap 0x400000+736\nlarge 0x400000\n"
+text-granted_large : text_of (record {
+  reply = Block 0 0x400010;
+  regions = Some (heap_region 0x400000 736 ∷ []);
+  large =
+      Some (0x400000 ∷ []);
+}) ≡ codes "block 0 0x400010\nheap 0x400000+736\nlarge 0x400000\n"
 unfolding text_of digits
 text-granted_large = refl
 
@@ -125,7 +169,13 @@ text-none : text_of (record { reply = Refused NoFrames; regions = Some []; large
 unfolding text_of
 text-none = refl
 
-text-user_region : region_line (record { start = 0x410000; pages = 1; heap = false; rights = record { write = true; user = false; fetch = false } }) ≡ codes "region 0x410000+1 user rw--\n"
+text-user_region : region_line (record {
+  start = 0x410000;
+  pages = 1;
+  heap = false;
+  rights =
+      record { write = true; user = false; fetch = false };
+}) ≡ codes "region 0x410000+1 user rw--\n"
 unfolding digits
 text-user_region = refl
 
@@ -142,7 +192,8 @@ text-start = refl
 command-run : named_command (codes "run" ∷ []) ≡ Some (Run default_config)
 command-run = refl
 
-command-numbers : named_command (codes "run" ∷ codes "0x400000" ∷ codes "16" ∷ codes "65536" ∷ codes "4294967295" ∷ codes "0" ∷ []) ≡ Some (Run (record { base = 0x400000; pages = 16; granularity = 65536; frames = 4294967295; rate = 0 }))
+command-numbers : named_command (codes "run" ∷ codes "0x400000" ∷ codes "16" ∷ codes "65536" ∷ codes "4294967295" ∷ codes
+    "0" ∷ []) ≡ Some (Run (record { base = 0x400000; pages = 16; granularity = 65536; frames = 4294967295; rate = 0 }))
 command-numbers = refl
 
 command-frames : config_of (codes "0x400000" ∷ codes "16" ∷ codes "65536" ∷ codes "4294967296" ∷ codes "0" ∷ []) ≡ None
@@ -188,7 +239,8 @@ drawn-state : state_after 1 ≡ 0x9b1e842f6e862629
 unfolding state_after drawn
 drawn-state = refl
 
-drawn-kinds : map (λ (a : ℕ). call_of_draws 100 a 5000 0x509) (8 ∷ 1 ∷ 2 ∷ 3 ∷ 4 ∷ 5 ∷ 6 ∷ 15 ∷ []) ≡ Malloc 904 16 ∷ Malloc 904 512 ∷ Calloc 904 16 ∷ Realloc 94 904 ∷ Write 94 0 (136 ∷ []) ∷ Free 94 ∷ Free 94 ∷ Free 94 ∷ []
+drawn-kinds : map (λ (a : ℕ). call_of_draws 100 a 5000 0x509) (8 ∷ 1 ∷ 2 ∷ 3 ∷ 4 ∷ 5 ∷ 6 ∷ 15 ∷ []) ≡ Malloc 904 16 ∷ Malloc
+    904 512 ∷ Calloc 904 16 ∷ Realloc 94 904 ∷ Write 94 0 (136 ∷ []) ∷ Free 94 ∷ Free 94 ∷ Free 94 ∷ []
 unfolding call_of_draws
 drawn-kinds = refl
 
@@ -201,7 +253,9 @@ drawn-picks : map (λ (given : ℕ). pick given 0x3fff) (100 ∷ 64 ∷ 2 ∷ 1 
 drawn-picks = refl
 
 -- a block that got another size has its number already
-drawn-numbers : numbers_given (Malloc 8 16) (Block 0 0x400010) ∷ numbers_given (Calloc 8 16) (Block 1 0x400030) ∷ numbers_given (Realloc 0 9) (Block 0 0x400010) ∷ numbers_given (Malloc 8 16) (Refused NoFrames) ∷ [] ≡ 1 ∷ 1 ∷ 0 ∷ 0 ∷ []
+drawn-numbers : numbers_given (Malloc 8 16) (Block 0 0x400010) ∷ numbers_given (Calloc 8 16)
+    (Block 1 0x400030) ∷ numbers_given (Realloc 0 9) (Block 0 0x400010) ∷ numbers_given (Malloc 8 16)
+    (Refused NoFrames) ∷ [] ≡ 1 ∷ 1 ∷ 0 ∷ 0 ∷ []
 drawn-numbers = refl
 
 -- statuses

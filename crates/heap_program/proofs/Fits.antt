@@ -51,7 +51,8 @@ canonical_half address is = elim (or_cases (address / 2 ^ 47 == 0) (address / 2 
 ]
 
 -- a range of pages in one canonical half
-range_half : (start pages address : ℕ) → start % 4096 ≡ 0 → IsCanonicalRange (start / 4096) pages → start ≤ address → address < start + 4096 * pages → InHalf address
+range_half : (start pages address : ℕ) → start % 4096 ≡ 0 → IsCanonicalRange (start / 4096) pages → start ≤ address →
+    address < start + 4096 * pages → InHalf address
 range_half start pages address whole range above below =
     let some = range.some in
     let half = range.one_half in
@@ -101,7 +102,11 @@ has : (address : ℕ) (extent : Extent) → extent.at ≤ address → address < 
 has address extent above below = grind (arith, nat_tests)
 
 extent_fits : (extent : Extent) → 16 ≤ extent.size → ((address : ℕ) → has_byte address extent ≡ true → InHalf address) → ExtentFits extent
-extent_fits extent some inside = (in_half-small extent.at first, elim (dec_lt extent.size (2 ^ 64)) [ yes less ↦ less | no more ↦ absurd (never first (omega arith)) ])
+extent_fits extent some inside = (
+  in_half-small extent.at first,
+  elim (dec_lt extent.size (2 ^ 64))
+      [ yes less ↦ less | no more ↦ absurd (never first (omega arith)) ],
+)
   where
     first : InHalf extent.at
     first = inside extent.at (has extent.at extent (omega arith) (omega arith))
@@ -118,10 +123,12 @@ extent_fits extent some inside = (in_half-small extent.at first, elim (dec_lt ex
         let last = in_half-small end (inside end (has end extent (omega arith) (omega arith))) in
         omega (arith, last)
 
-extents_fit : (extents : List Extent) → AllByRecursion (λ extent. IsSize extent.kind extent.size) extents → ((address : ℕ) → list_any (has_byte address) extents ≡ true → InHalf address) → AllByRecursion ExtentFits extents
+extents_fit : (extents : List Extent) → AllByRecursion (λ extent. IsSize extent.kind extent.size) extents →
+    ((address : ℕ) → list_any (has_byte address) extents ≡ true → InHalf address) → AllByRecursion ExtentFits extents
 extents_fit [] sizes inside = tt
 extents_fit (extent ∷ extents) sizes inside = (
-  extent_fits extent (size_some extent.kind extent.size sizes.0) (λ address is. inside address (or_left (has_byte address extent) (list_any (has_byte address) extents) is)),
+  extent_fits extent (size_some extent.kind extent.size sizes.0) (λ address is.
+      inside address (or_left (has_byte address extent) (list_any (has_byte address) extents) is)),
   extents_fit extents sizes.1 (λ address is. inside address (or_right (has_byte address extent) (list_any (has_byte address) extents) is)),
 )
 
@@ -147,19 +154,26 @@ block_small s number block good is =
 placed_small : (s : State) (address size align : ℕ) (cell : Cell) (regions : Option (List Region)) (new : Option NewPages) (slots : List ℕ) →
     IsGood (with_regions (record s { blocks = s.blocks ++ new_block address size align cell ∷ [] }) regions new slots) → address < 2 ^ 64
 placed_small s address size align cell None None slots good = block_small _ (length s.blocks) _ good (last_block s.blocks (new_block address size align cell))
-placed_small s address size align cell None (Some new) slots good = block_small _ (length s.blocks) _ good (last_block s.blocks (new_block address size align cell))
-placed_small s address size align cell (Some list) None slots good = block_small _ (length s.blocks) _ good (last_block s.blocks (new_block address size align cell))
-placed_small s address size align cell (Some list) (Some new) slots good = block_small _ (length s.blocks) _ good (last_block s.blocks (new_block address size align cell))
+placed_small s address size align cell None (Some new) slots good = block_small _ (length s.blocks) _ good
+    (last_block s.blocks (new_block address size align cell))
+placed_small s address size align cell (Some list) None slots good = block_small _ (length s.blocks) _ good
+    (last_block s.blocks (new_block address size align cell))
+placed_small s address size align cell (Some list) (Some new) slots good =
+    block_small _ (length s.blocks) _ good (last_block s.blocks (new_block address size align cell))
 
 -- and so has it a block with another size
-resized_small : (s : State) (number : ℕ) (change : Block → Block) (block : Block) (regions : Option (List Region)) (new : Option NewPages) (slots : List ℕ) → block_at s.blocks number ≡ Some block →
+resized_small : (s : State) (number : ℕ) (change : Block → Block) (block : Block) (regions : Option (List Region))
+    (new : Option NewPages) (slots : List ℕ) → block_at s.blocks number ≡ Some block →
     IsGood (with_regions (record s { blocks = with_block s.blocks number change }) regions new slots) → (change block).address < 2 ^ 64
 resized_small s number change block regions new slots is good = go regions new good
   where
     there : block_at (with_block s.blocks number change) number ≡ Some (change block)
-    there = ap (λ (found : Option Block). block_at (slice_set s.blocks number (option_map change found)) number) is ∙ replaced_here s.blocks number block (change block) is
+    there = ap (λ (found : Option Block). block_at (slice_set s.blocks number (option_map change found)) number) is
+        ∙ replaced_here s.blocks number block (change block) is
 
-    go : (regions : Option (List Region)) (new : Option NewPages) → IsGood (with_regions (record s { blocks = with_block s.blocks number change }) regions new slots) → (change block).address < 2 ^ 64
+    go : (regions : Option (List Region)) (new : Option NewPages) → IsGood
+        (with_regions (record s { blocks = with_block s.blocks number change }) regions new slots) →
+        (change block).address < 2 ^ 64
     go None None good = block_small _ number (change block) good there
     go None (Some new) good = block_small _ number (change block) good there
     go (Some list) None good = block_small _ number (change block) good there
@@ -172,11 +186,17 @@ block_within (first ∷ rest) zero block is = omega arith
 block_within (first ∷ rest) (suc number) block is = let later = block_within rest number block is in omega arith
 
 -- a reply that gives a block another size, where the block is one
-resized_fits : (s : State) (number given size address : ℕ) (n : Block → ℕ) (align : Block → ℕ) (found : Option Block) (regions : Option (List Region)) (new : Option NewPages) (slots : List ℕ) → length s.blocks < 2 ^ 64 → block_at s.blocks number ≡ found → given ≡ number →
-    MatchOption found ⊥ (λ block. IsResizing s block (n block) address regions) → IsGood (with_regions (record s { blocks = with_block s.blocks number (resized_block address size align) }) regions new slots) → ReplyFits (Placed given address)
+resized_fits : (s : State) (number given size address : ℕ) (n : Block → ℕ) (align : Block → ℕ) (found : Option Block)
+    (regions : Option (List Region)) (new : Option NewPages) (slots : List ℕ) → length s.blocks < 2 ^ 64 →
+    block_at s.blocks number ≡ found → given ≡ number →
+    MatchOption found ⊥ (λ block. IsResizing s block (n block) address regions) →
+    IsGood (with_regions (record s { blocks = with_block s.blocks number (resized_block address size align) }) regions
+    new slots) → ReplyFits (Placed given address)
 resized_fits s number given size address n align None regions new slots few at same is good = absurd is
-resized_fits s number given size address n align (Some block) regions new slots few at same is good =
-    (let within = block_within s.blocks number block at in omega arith, resized_small s number (resized_block address size align) block regions new slots at good)
+resized_fits s number given size address n align (Some block) regions new slots few at same is good = (
+  let within = block_within s.blocks number block at in omega arith,
+  resized_small s number (resized_block address size align) block regions new slots at good,
+)
 
 tiling_fits : (s : State) (extents : List Extent) → IsGood s → IsTiling s extents → AllByRecursion ExtentFits extents
 tiling_fits s extents good tiling =
@@ -197,29 +217,43 @@ code_small false Writing false = lit< tt
 code_small false Fetching true = lit< tt
 code_small false Fetching false = lit< tt
 
-reply_fits : (s : State) (call : Call) (reply : Reply) (regions : Option (List Region)) (large : Option (List ℕ)) → length s.blocks < 2 ^ 64 → IsReply s call reply regions →
+reply_fits : (s : State) (call : Call) (reply : Reply) (regions : Option (List Region)) (large : Option (List ℕ)) →
+    length s.blocks < 2 ^ 64 → IsReply s call reply regions →
     IsGood (after s call (record { reply = reply; regions = regions; large = large })) → ReplyFits reply
 reply_fits s call (Refused why) regions large few is good = tt
 reply_fits s call Done regions large few is good = tt
 reply_fits s call (Trimmed released) regions large few is good = tt
 reply_fits s call (Accepted accepted) regions large few is good = tt
-reply_fits s (Malloc size align) (Placed number address) regions large few is good =
-    (subst (λ n. n < 2 ^ 64) (sym is.1.0) few, placed_small s address size align Fresh regions (new_pages s (Malloc size align) (Placed number address) regions) (slots_of large) good)
-reply_fits s (Calloc size align) (Placed number address) regions large few is good =
-    (subst (λ n. n < 2 ^ 64) (sym is.1.0) few, placed_small s address size align (Known 0) regions (new_pages s (Calloc size align) (Placed number address) regions) (slots_of large) good)
+reply_fits s (Malloc size align) (Placed number address) regions large few is good = (
+  subst (λ n. n < 2 ^ 64) (sym is.1.0) few,
+  placed_small s address size align Fresh regions
+      (new_pages s (Malloc size align) (Placed number address) regions) (slots_of large) good,
+)
+reply_fits s (Calloc size align) (Placed number address) regions large few is good = (
+  subst (λ n. n < 2 ^ 64) (sym is.1.0) few,
+  placed_small s address size align (Known 0) regions
+      (new_pages s (Calloc size align) (Placed number address) regions) (slots_of large) good,
+)
 reply_fits s (Realloc number size) (Placed given address) regions large few is good =
-    resized_fits s number given size address (λ block. wanted size (own_align block)) own_align (block_at s.blocks number) regions (new_pages s (Realloc number size) (Placed given address) regions) (slots_of large) few refl is.1.0 is.1.1 good
+    resized_fits s number given size address (λ block. wanted size (own_align block)) own_align (block_at s.blocks number)
+    regions (new_pages s (Realloc number size) (Placed given address) regions) (slots_of large) few refl is.1.0 is.1.1
+    good
 reply_fits s (CRealloc number size) (Placed given address) regions large few is good =
-    resized_fits s number given size address (λ block. wanted size (least_align block)) least_align (block_at s.blocks number) regions (new_pages s (CRealloc number size) (Placed given address) regions) (slots_of large) few refl is.1.0 is.1.1 good
+    resized_fits s number given size address (λ block. wanted size (least_align block)) least_align
+    (block_at s.blocks number) regions (new_pages s (CRealloc number size) (Placed given address) regions)
+    (slots_of large) few refl is.1.0 is.1.1 good
 reply_fits s (Read number offset count) (Bytes bytes) regions large few is good = bytes_fit bytes is.1.2
 reply_fits s (Probe at access user) (Byte byte) regions large few is good = bytes_fit (byte ∷ []) (is.1.2.small, tt)
-reply_fits s (Probe at access user) (Fault code) regions large few is good = subst (λ n. n < 2 ^ 64) (sym is.1.2) (code_small (is_some (rights_at s at)) access user)
+reply_fits s (Probe at access user) (Fault code) regions large few is good =
+    subst (λ n. n < 2 ^ 64) (sym is.1.2) (code_small (is_some (rights_at s at)) access user)
 reply_fits s Reset (Released bytes) regions large few is good = is.1.2
 reply_fits s Extents (Listed extents) regions large few is good =
-    tiling_fits s extents (subst (λ (r : Option (List Region)). IsGood (with_regions s r (new_pages s Extents (Listed extents) r) (slots_of large))) is.1.0 good) is.1.1
+    tiling_fits s extents (subst (λ (r : Option (List Region)). IsGood
+    (with_regions s r (new_pages s Extents (Listed extents) r) (slots_of large))) is.1.0 good) is.1.1
 reply_fits s call reply regions large few is good = absurd is.1
 
-regions_listed : (s : State) (regions : Option (List Region)) (new : Option NewPages) (slots : List ℕ) → IsGood (with_regions s regions new slots) → RegionsFit regions
+regions_listed : (s : State) (regions : Option (List Region)) (new : Option NewPages) (slots : List ℕ) →
+    IsGood (with_regions s regions new slots) → RegionsFit regions
 regions_listed s None new slots good = tt
 regions_listed s (Some list) None slots good = regions_fit (with_regions s (Some list) None slots) list good.heap
 regions_listed s (Some list) (Some new) slots good = regions_fit (with_regions s (Some list) (Some new) slots) list good.heap
@@ -237,7 +271,8 @@ slots_small : (address pages : ℕ) (slots : List ℕ) → AllByRecursion (IsSlo
 slots_small address pages [] all = tt
 slots_small address pages (slot ∷ slots) all = (slot_small slot all.0.is_slot.canonical, slots_small address pages slots all.1)
 
-slots_fit : (s : State) (large : Option (List ℕ)) (new : Option NewPages) → MatchOption large ⊤ (λ slots. MatchOption new ⊥ (λ pages. AreNewSlots s pages slots)) → SlotsFit large
+slots_fit : (s : State) (large : Option (List ℕ)) (new : Option NewPages) →
+    MatchOption large ⊤ (λ slots. MatchOption new ⊥ (λ pages. AreNewSlots s pages slots)) → SlotsFit large
 slots_fit s None new are = tt
 slots_fit s (Some slots) None are = absurd are
 slots_fit s (Some slots) (Some new) are = slots_small new.start new.pages slots are.within
@@ -280,12 +315,14 @@ regions_blocks s (Some list) (Some new) slots = refl
 next_blocks : (s : State) (item : Option Call) (answer : Option Answer) → length (next s item answer).blocks ≤ length s.blocks + 1
 next_blocks s (Some call) (Some answer) =
     let more = changed_blocks s call answer.reply in
-    let same = ap (λ bs. length bs) (regions_blocks (changed s call answer.reply) answer.regions (new_pages s call answer.reply answer.regions) (slots_of answer.large)) in
+    let same = ap (λ bs. length bs) (regions_blocks (changed s call answer.reply) answer.regions
+    (new_pages s call answer.reply answer.regions) (slots_of answer.large)) in
     omega (arith, more, same)
 next_blocks s (Some call) None = omega arith
 next_blocks s None answer = omega arith
 
-pub run_fits : (s : State) (items : List (Option Call)) (answers : List (Option Answer)) → length s.blocks + length items ≤ 2 ^ 64 → IsAllowedRun s items answers → AllByRecursion AnswerFits answers
+pub run_fits : (s : State) (items : List (Option Call)) (answers : List (Option Answer)) →
+    length s.blocks + length items ≤ 2 ^ 64 → IsAllowedRun s items answers → AllByRecursion AnswerFits answers
 run_fits s [] [] few run = tt
 run_fits s (item ∷ items) (answer ∷ answers) few run = (
   item_fits s item answer (omega arith) run.0,
@@ -302,7 +339,8 @@ run_length s (item ∷ items) [] run = absurd run
 
 pub runs_spell_one : RunsSpellOne
 runs_spell_one s items xs ys d e few first second alike =
-    let same = spells_one xs ys d e (run_length s items xs first.run ∙ sym (run_length s items ys second.run)) (run_fits s items xs few first.run) (run_fits s items ys few second.run) alike in
+    let same = spells_one xs ys d e (run_length s items xs first.run ∙ sym (run_length s items ys second.run))
+    (run_fits s items xs few first.run) (run_fits s items ys few second.run) alike in
     (same, first.last ∙ ap (λ answers. last_state s items answers) same ∙ sym second.last)
 
 -- ---- lines

@@ -25,4 +25,5 @@ one_line_before (x ∷ xs) (suc n) near = (first_isnt x xs n near, one_line_befo
 -- the first place has a line feed
 pub found_at : (xs : List ℕ) (i : ℕ) → position_or_len (λ b. b == 10) xs ≡ i → i < length xs → get_or xs i 0 ≡ 10
 found_at xs i near less =
-    true-eqb (get_or xs i 0) 10 (sym (subst (λ (n : ℕ). (get_or xs n 0 == 10) ≡ true) near (passes_at_first (λ b. b == 10) xs 0 (subst (λ (n : ℕ). n < length xs) (sym near) less))))
+    true-eqb (get_or xs i 0) 10 (sym (subst (λ (n : ℕ). (get_or xs n 0 == 10) ≡ true) near
+    (passes_at_first (λ b. b == 10) xs 0 (subst (λ (n : ℕ). n < length xs) (sym near) less))))

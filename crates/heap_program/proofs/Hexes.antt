@@ -15,4 +15,34 @@ small_at (x ∷ xs) (suc k) all = small_at xs k all.1
 
 -- a digit is a character of one byte
 pub lower_small : (k : ℕ) → slice_index lower_digits k < 128
-lower_small k = small_at lower_digits k (lit≤ tt, (lit≤ tt, (lit≤ tt, (lit≤ tt, (lit≤ tt, (lit≤ tt, (lit≤ tt, (lit≤ tt, (lit≤ tt, (lit≤ tt, (lit≤ tt, (lit≤ tt, (lit≤ tt, (lit≤ tt, (lit≤ tt, (lit≤ tt, tt))))))))))))))))
+lower_small k = small_at lower_digits k (
+  lit≤ tt,
+  (
+    lit≤ tt,
+    (
+      lit≤ tt,
+      (
+        lit≤ tt,
+        (
+          lit≤ tt,
+          (
+            lit≤ tt,
+            (
+              lit≤ tt,
+              (
+                lit≤ tt,
+                (
+                  lit≤ tt,
+                  (
+                    lit≤ tt,
+                    (lit≤ tt, (lit≤ tt, (lit≤ tt, (lit≤ tt, (lit≤ tt, (lit≤ tt, tt)))))),
+                  ),
+                ),
+              ),
+            ),
+          ),
+        ),
+      ),
+    ),
+  ),
+)

@@ -29,7 +29,8 @@ onto_first_one b (l ∷ lines) = refl
 -- a line begun goes on with the first line of the rest
 pub lines-begun : (b : ℕ) (line rest : List ℕ) → IsOneLine (b ∷ line) → lines_of (b ∷ (line ++ rest)) ≡ onto (b ∷ line) (lines_of rest)
 lines-begun b [] rest one = lines-byte b rest one.0 ∙ onto_first_one b (lines_of rest)
-lines-begun b (c ∷ line) rest one = lines-byte b (c ∷ (line ++ rest)) one.0 ∙ ap (onto_first b) (lines-begun c line rest one.1) ∙ onto_first_onto b c line (lines_of rest)
+lines-begun b (c ∷ line) rest one = lines-byte b (c ∷ (line ++ rest)) one.0
+    ∙ ap (onto_first b) (lines-begun c line rest one.1) ∙ onto_first_onto b c line (lines_of rest)
 
 -- a whole line
 pub lines-whole : (line rest : List ℕ) → IsOneLine line → lines_of (line ++ 10 ∷ rest) ≡ line ∷ lines_of rest
@@ -54,11 +55,14 @@ too_long : (line : List ℕ) → 8192 < length line → item_of line ≡ None
 unfolding item_of
 too_long line long = grind (arith, nat_tests)
 
-items_onto : (b : ℕ) (line rest : List ℕ) (lines : List (List ℕ)) → 8192 < length line → map item_of (onto line (onto_first b lines)) ≡ map item_of (onto line lines)
+items_onto : (b : ℕ) (line rest : List ℕ) (lines : List (List ℕ)) → 8192 < length line →
+    map item_of (onto line (onto_first b lines)) ≡ map item_of (onto line lines)
 items_onto b line rest [] long =
     ap (λ (o : Option Call). o ∷ []) (too_long (line ++ b ∷ []) (omega (arith, length-append line (b ∷ []), long)) ∙ sym (too_long line long))
 items_onto b line rest (first ∷ lines) long =
-    ap (λ (o : Option Call). o ∷ map item_of lines) (too_long (line ++ b ∷ first) (omega (arith, length-append line (b ∷ first), long)) ∙ sym (too_long (line ++ first) (omega (arith, length-append line first, long))))
+    ap (λ (o : Option Call). o ∷ map item_of lines) (too_long (line ++ b ∷ first)
+    (omega (arith, length-append line (b ∷ first), long)) ∙ sym (too_long (line ++ first)
+    (omega (arith, length-append line first, long))))
 
 -- past the limit further bytes of the line change nothing
 items-long : (line : List ℕ) (b : ℕ) (rest : List ℕ) → IsOneLine line → 8192 < length line → b ≢ 10 → items_of (line ++ b ∷ rest) ≡ items_of (line ++ rest)
@@ -96,4 +100,5 @@ items-cut line bytes n rest one more (inr long) =
     ap (λ (l : List ℕ). items_of (line ++ (l ++ rest))) (sym (take-append-drop n bytes))
     ∙ ap (λ (l : List ℕ). items_of (line ++ l)) (append_assoc (take n bytes) (drop n bytes) rest)
     ∙ ap items_of (sym (append_assoc line (take n bytes) (drop n bytes ++ rest)))
-    ∙ items-longer (line ++ take n bytes) (drop n bytes) rest (one_line_append line (take n bytes) one (one_line_take n bytes more)) long (one_line_drop n bytes more)
+    ∙ items-longer (line ++ take n bytes) (drop n bytes) rest (one_line_append line (take n bytes) one
+    (one_line_take n bytes more)) long (one_line_drop n bytes more)

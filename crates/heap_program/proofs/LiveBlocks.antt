@@ -35,7 +35,8 @@ page_rights : (s : State) (at : ℕ) (heap users : List Region) → AllByRecursi
 page_rights s at [] users all there = absurd (cc)
 page_rights s at (region ∷ rest) users all there = go (is_within at region) refl (page_rights s at rest users all.1)
   where
-    go : (b : Bool) → is_within at region ≡ b → (list_any (is_within at) rest ≡ true → region_rights (find (is_within (4096 * (at / 4096))) (rest ++ users)) ≡ Some heap_rights) →
+    go : (b : Bool) → is_within at region ≡ b → (list_any (is_within at) rest ≡ true →
+        region_rights (find (is_within (4096 * (at / 4096))) (rest ++ users)) ≡ Some heap_rights) →
         region_rights (cond (is_within (4096 * (at / 4096)) region) (Some region) (find (is_within (4096 * (at / 4096))) (rest ++ users))) ≡ Some heap_rights
     go true is later =
         let page : is_within (4096 * (at / 4096)) region ≡ true = with_page at region all.0.0 true is in
@@ -80,13 +81,15 @@ byte_in words root address value page found is =
     cc
 
 -- a known byte of a block is held
-held_at : (m : Seen) (s : State) (width i k : ℕ) (a : Block) → IsGood s → Stands m s → 4096 * frame_count m.paged.words ≤ 2 ^ width → block_at s.blocks i ≡ Some a →
+held_at : (m : Seen) (s : State) (width i k : ℕ) (a : Block) → IsGood s → Stands m s →
+    4096 * frame_count m.paged.words ≤ 2 ^ width → block_at s.blocks i ≡ Some a →
     k < cover a → IsHeld width m.paged.words m.top (a.address + k) (cell_at a.cells k)
 held_at m s width i k a good stands reaches is less =
     let found = walked m s (a.address + k) good stands ((good.each i a is).granted k less) in
     let plain : ArePlain m.paged.words m.top = subst (ArePlain m.paged.words) stands.root stands.tree.plain in
     let alike = walks_alike m.paged.words m.top ((a.address + k) / 4096) width plain reaches in
-    let ends : processor_walk width m.paged.words m.top ((a.address + k) / 4096) ≡ AtPage found.page = ends_there (processor_walk width m.paged.words m.top ((a.address + k) / 4096)) found.page (alike.0 ∙ found.is) in
+    let ends : processor_walk width m.paged.words m.top ((a.address + k) / 4096) ≡ AtPage found.page =
+    ends_there (processor_walk width m.paged.words m.top ((a.address + k) / 4096)) found.page (alike.0 ∙ found.is) in
     record {
       page = found.page;
       found = ends;

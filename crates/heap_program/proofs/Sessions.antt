@@ -15,7 +15,12 @@ begun s session machine is at = subst (λ (m : Machine). IsAt m s) (sym is) at
 
 module _ {R : Type 0} (responds : R → List (Option Call) → List ℕ → R → Type 0) where
   pub advanced_none : (session : Session R) → responds session.responder [] [] session.responder → Advanced responds session session []
-  advanced_none session none = record { told = []; output = sym (append-nil (string_bytes session.output)); responded = responded_part responds session.responder session.line session.line [] (λ rest. refl) none }
+  advanced_none session none = record {
+    told = [];
+    output = sym (append-nil (string_bytes session.output));
+    responded =
+        responded_part responds session.responder session.line session.line [] (λ rest. refl) none;
+  }
 
   pub advanced_more :
       ((x y z : R) (a b : List (Option Call)) (t u : List ℕ) → responds x a t y → responds y b u z → responds x (a ++ b) (t ++ u) z) →

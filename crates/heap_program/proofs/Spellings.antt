@@ -38,7 +38,8 @@ block_text number address r =
     (append_assoc (decimal number) (32 ∷ (hexadecimal address ++ 10 ∷ [])) r
     ∙ ap (λ (l : List ℕ). decimal number ++ 32 ∷ l) (append_assoc (hexadecimal address) (10 ∷ []) r))
 
-block_end : (m a n b : ℕ) (r s : List ℕ) → ReplyFits (Block m a) → ReplyFits (Block n b) → reply_text (Block m a) ++ r ≡ reply_text (Block n b) ++ s → (Block m a ≡ Block n b) × (r ≡ s)
+block_end : (m a n b : ℕ) (r s : List ℕ) → ReplyFits (Block m a) → ReplyFits (Block n b) →
+    reply_text (Block m a) ++ r ≡ reply_text (Block n b) ++ s → (Block m a ≡ Block n b) × (r ≡ s)
 block_end m a n b r s fm fn h =
     let k = append_cancel_left (codes "block ") (block_onto m a r) (block_onto n b s) (sym (block_text m a r) ∙ h ∙ block_text n b s) in
     let first = decimal_end m n 32 32 (hexadecimal a ++ 10 ∷ r) (hexadecimal b ++ 10 ∷ s) fm.0 fn.0 (lit≤ tt) (lit≤ tt) k in
@@ -49,7 +50,10 @@ block_end m a n b r s fm fn h =
 abbrev refusal_of : List ℕ → Refusal
 refusal_of text =
     let sum = get_or text 14 0 + get_or text 15 0 in
-    if sum == 208 then BadAlign else if sum == 217 then TooLarge else if sum == 200 then NoSpace else if sum == 210 then NoFrames else if sum == 155 then (if get_or text 16 0 == 98 then UnknownBlock else UnknownRegion) else if sum == 143 then OutOfBlock else if sum == 213 then BadRange else if sum == 204 then HeapRegion else if sum == 122 then Overlap else NotCanonical
+    if sum == 208 then BadAlign else if sum == 217 then TooLarge else if sum == 200 then NoSpace else if sum == 210
+    then NoFrames else if sum == 155 then (if get_or text 16 0 == 98 then UnknownBlock else UnknownRegion) else if sum
+    == 143 then OutOfBlock else if sum == 213 then BadRange else if sum == 204 then HeapRegion else if sum == 122
+    then Overlap else NotCanonical
 
 refusal_told : (why : Refusal) (r : List ℕ) → refusal_of (reply_text (Refused why) ++ r) ≡ why
 refusal_told BadAlign r = refl
@@ -74,14 +78,38 @@ digits_at (x ∷ xs) zero all less = all.0
 digits_at (x ∷ xs) (suc k) all less = digits_at xs k all.1 (omega arith)
 
 lower_all : AllDigits 16 lower_digits
-lower_all = (lit≤ tt, (lit≤ tt, (lit≤ tt, (lit≤ tt, (lit≤ tt, (lit≤ tt, (lit≤ tt, (lit≤ tt, (lit≤ tt, (lit≤ tt, (lit≤ tt, (lit≤ tt, (lit≤ tt, (lit≤ tt, (lit≤ tt, (lit≤ tt, tt))))))))))))))))
+lower_all = (
+  lit≤ tt,
+  (
+    lit≤ tt,
+    (
+      lit≤ tt,
+      (
+        lit≤ tt,
+        (
+          lit≤ tt,
+          (
+            lit≤ tt,
+            (lit≤ tt, (lit≤ tt, (lit≤ tt, (lit≤ tt, (lit≤ tt, (lit≤ tt, (lit≤ tt, (lit≤ tt, (lit≤ tt, (lit≤ tt, tt)))))))))),
+          ),
+        ),
+      ),
+    ),
+  ),
+)
 
 encode_digits : (bytes : List ℕ) → IsBytes bytes → AllDigits 16 (encode_lower bytes)
 unfolding encode_with
 encode_digits [] small = tt
 encode_digits (byte ∷ bytes) small =
-    let first : byte < 256 = small 0 in
-    (digits_at lower_digits (byte / 16) lower_all (omega arith), (digits_at lower_digits (byte % 16) lower_all (omega arith), encode_digits bytes (λ i. small (suc i))))
+    let first : byte < 256 = small 0 in (
+      digits_at lower_digits (byte / 16) lower_all (omega arith),
+      (
+        digits_at lower_digits (byte % 16) lower_all
+            (omega arith),
+        encode_digits bytes (λ i. small (suc i)),
+      ),
+    )
 
 -- bytes up to the end of the line
 hexes_end : (xs ys : List ℕ) (r s : List ℕ) → IsBytes xs → IsBytes ys → encode_lower xs ++ 10 ∷ r ≡ encode_lower ys ++ 10 ∷ s → (xs ≡ ys) × (r ≡ s)
@@ -89,12 +117,15 @@ hexes_end xs ys r s small_x small_y h =
     let k = digits_end 16 (encode_lower xs) (encode_lower ys) 10 10 r s (encode_digits xs small_x) (encode_digits ys small_y) (lit≤ tt) (lit≤ tt) h in
     (decode_of-same (encode_lower xs) xs ys (decode_of-encode_lower xs small_x) (ap decode_of k.0 ∙ decode_of-encode_lower ys small_y), tail_of k.1)
 
-bytes_end : (xs ys : List ℕ) (r s : List ℕ) → IsBytes xs → IsBytes ys → reply_text (Bytes xs) ++ r ≡ reply_text (Bytes ys) ++ s → (Bytes xs ≡ Bytes ys) × (r ≡ s)
+bytes_end : (xs ys : List ℕ) (r s : List ℕ) → IsBytes xs → IsBytes ys →
+    reply_text (Bytes xs) ++ r ≡ reply_text (Bytes ys) ++ s → (Bytes xs ≡ Bytes ys) × (r ≡ s)
 bytes_end [] [] r s fx fy h = (refl, append_cancel_left (codes "bytes\n") r s h)
 bytes_end [] (y ∷ ys) r s fx fy h = absurd (let k : 10 ≡ 32 = head_of (tail_of (tail_of (tail_of (tail_of (tail_of h))))) in omega (arith, k))
 bytes_end (x ∷ xs) [] r s fx fy h = absurd (let k : 32 ≡ 10 = head_of (tail_of (tail_of (tail_of (tail_of (tail_of h))))) in omega (arith, k))
 bytes_end (x ∷ xs) (y ∷ ys) r s fx fy h =
-    let onto : (zs t : List ℕ) → codes "bytes " ++ (encode_lower zs ++ 10 ∷ t) ≡ (codes "bytes " ++ (encode_lower zs ++ 10 ∷ [])) ++ t = λ zs t. ap (λ (l : List ℕ). codes "bytes " ++ l) (sym (append_assoc (encode_lower zs) (10 ∷ []) t)) in
+    let onto : (zs t : List ℕ) → codes "bytes " ++ (encode_lower zs ++ 10 ∷ t) ≡ (codes
+    "bytes " ++ (encode_lower zs ++ 10 ∷ [])) ++ t = λ zs t. ap (λ (l : List ℕ). codes "bytes " ++ l)
+    (sym (append_assoc (encode_lower zs) (10 ∷ []) t)) in
     let k = hexes_end (x ∷ xs) (y ∷ ys) r s fx fy
     (append_cancel_left (codes "bytes ") (encode_lower (x ∷ xs) ++ 10 ∷ r) (encode_lower (y ∷ ys) ++ 10 ∷ s) (onto (x ∷ xs) r ∙ h ∙ sym (onto (y ∷ ys) s))) in
     ((λ i. Bytes (k.0 i)), k.1)
@@ -102,7 +133,9 @@ bytes_end (x ∷ xs) (y ∷ ys) r s fx fy h =
 -- a byte
 byte_end : (x y : ℕ) (r s : List ℕ) → IsBytes (x ∷ []) → IsBytes (y ∷ []) → reply_text (Byte x) ++ r ≡ reply_text (Byte y) ++ s → (Byte x ≡ Byte y) × (r ≡ s)
 byte_end x y r s fx fy h =
-    let onto : (z : ℕ) (t : List ℕ) → codes "byte " ++ (encode_lower (z ∷ []) ++ 10 ∷ t) ≡ (codes "byte " ++ (encode_lower (z ∷ []) ++ 10 ∷ [])) ++ t = λ z t. ap (λ (l : List ℕ). codes "byte " ++ l) (sym (append_assoc (encode_lower (z ∷ [])) (10 ∷ []) t)) in
+    let onto : (z : ℕ) (t : List ℕ) → codes "byte " ++ (encode_lower (z ∷ []) ++ 10 ∷ t) ≡ (codes
+    "byte " ++ (encode_lower (z ∷ []) ++ 10 ∷ [])) ++ t = λ z t. ap (λ (l : List ℕ). codes "byte " ++ l)
+    (sym (append_assoc (encode_lower (z ∷ [])) (10 ∷ []) t)) in
     let k = hexes_end (x ∷ []) (y ∷ []) r s fx fy
     (append_cancel_left (codes "byte ") (encode_lower (x ∷ []) ++ 10 ∷ r) (encode_lower (y ∷ []) ++ 10 ∷ s) (onto x r ∙ h ∙ sym (onto y s))) in
     (ap (λ (l : List ℕ). Byte (get_or l 0 0)) k.0, k.1)
@@ -111,9 +144,11 @@ byte_end x y r s fx fy h =
 fault_onto : (code : PageFaultErrorCode) (r : List ℕ) → codes "fault " ++ (hexadecimal (page_fault_bits code) ++ 10 ∷ r) ≡ reply_text (Fault code) ++ r
 fault_onto code r = ap (λ (l : List ℕ). codes "fault " ++ l) (sym (append_assoc (hexadecimal (page_fault_bits code)) (10 ∷ []) r))
 
-fault_end : (x y : PageFaultErrorCode) (r s : List ℕ) → page_fault_bits x < 2 ^ 64 → page_fault_bits y < 2 ^ 64 → reply_text (Fault x) ++ r ≡ reply_text (Fault y) ++ s → (Fault x ≡ Fault y) × (r ≡ s)
+fault_end : (x y : PageFaultErrorCode) (r s : List ℕ) → page_fault_bits x < 2 ^ 64 → page_fault_bits y < 2 ^ 64 →
+    reply_text (Fault x) ++ r ≡ reply_text (Fault y) ++ s → (Fault x ≡ Fault y) × (r ≡ s)
 fault_end x y r s fx fy h =
-    let k = append_cancel_left (codes "fault ") (hexadecimal (page_fault_bits x) ++ 10 ∷ r) (hexadecimal (page_fault_bits y) ++ 10 ∷ s) (fault_onto x r ∙ h ∙ sym (fault_onto y s)) in
+    let k = append_cancel_left (codes "fault ") (hexadecimal (page_fault_bits x) ++ 10 ∷ r)
+    (hexadecimal (page_fault_bits y) ++ 10 ∷ s) (fault_onto x r ∙ h ∙ sym (fault_onto y s)) in
     let bits = hex_end (page_fault_bits x) (page_fault_bits y) 10 10 r s fx fy (lit≤ tt) (lit≤ tt) k in
     ((λ i. Fault (record { 0 = bits.0 i })), tail_of bits.1)
 
@@ -136,7 +171,8 @@ accepted_end x y r s h = let k = told_end (λ b. reply_text (Accepted b)) (λ te
 released_onto : (bytes : ℕ) (r : List ℕ) → codes "released " ++ (decimal bytes ++ 10 ∷ r) ≡ reply_text (Released bytes) ++ r
 released_onto bytes r = ap (λ (l : List ℕ). codes "released " ++ l) (sym (append_assoc (decimal bytes) (10 ∷ []) r))
 
-released_end : (x y : ℕ) (r s : List ℕ) → x < 2 ^ 64 → y < 2 ^ 64 → reply_text (Released x) ++ r ≡ reply_text (Released y) ++ s → (Released x ≡ Released y) × (r ≡ s)
+released_end : (x y : ℕ) (r s : List ℕ) → x < 2 ^ 64 → y < 2 ^ 64 → reply_text (Released x) ++ r ≡ reply_text
+    (Released y) ++ s → (Released x ≡ Released y) × (r ≡ s)
 released_end x y r s fx fy h =
     let k = append_cancel_left (codes "released ") (decimal x ++ 10 ∷ r) (decimal y ++ 10 ∷ s) (released_onto x r ∙ h ∙ sym (released_onto y s)) in
     let bytes = decimal_end x y 10 10 r s fx fy (lit≤ tt) (lit≤ tt) k in
@@ -162,7 +198,8 @@ extent_onto x c r = append_assoc (kind_word x.kind) (58 ∷ span_text x.at x.siz
 
 extent_end : Ends Extent extent_text ExtentFits
 extent_end x y c d r s fx fy nc nd h =
-    let kind = told_end kind_word kind_of kind_told x.kind y.kind (58 ∷ (span_text x.at x.size ++ c ∷ r)) (58 ∷ (span_text y.at y.size ++ d ∷ s)) (sym (extent_onto x c r) ∙ h ∙ extent_onto y d s) in
+    let kind = told_end kind_word kind_of kind_told x.kind y.kind (58 ∷ (span_text x.at x.size ++ c ∷ r))
+    (58 ∷ (span_text y.at y.size ++ d ∷ s)) (sym (extent_onto x c r) ∙ h ∙ extent_onto y d s) in
     let span = span_end x.at x.size y.at y.size c d r s fx fy (omega (arith, nc)) (omega (arith, nd)) (tail_of kind.1) in
     ((λ i. record { at = span.0 i; size = span.1 i; kind = kind.0 i }), span.2)
 
@@ -205,7 +242,8 @@ reply_end (Fault x) (Fault y) r s fp fq h = fault_end x y r s fp fq h
 reply_end (Trimmed x) (Trimmed y) r s fp fq h = trimmed_end x y r s h
 reply_end (Accepted x) (Accepted y) r s fp fq h = accepted_end x y r s h
 reply_end (Released x) (Released y) r s fp fq h = released_end x y r s fp fq h
-reply_end (Extents xs) (Extents ys) r s fp fq h = let k = items_end extent_text ExtentFits extent_end (codes "extents") xs ys r s fp fq h in ((λ i. Extents (k.0 i)), k.1)
+reply_end (Extents xs) (Extents ys) r s fp fq h = let k = items_end extent_text ExtentFits extent_end (codes "extents") xs
+    ys r s fp fq h in ((λ i. Extents (k.0 i)), k.1)
 reply_end (Refused v) (Refused w) r s fp fq h = refused_end v w r s h
 reply_end p q r s fp fq h = absurd (let k : letters p ≡ letters q = letters_same p q r s h in omega (arith, k))
 
@@ -220,7 +258,8 @@ pub record NoMore (r : List ℕ) : Type 0 where
   pub no_heap : (t : List ℕ) → r ≡ 104 ∷ t → ⊥
   pub no_large : (t : List ℕ) → r ≡ 108 ∷ t → ⊥
 
-some_end : (xs ys : List Region) (r s : List ℕ) → AllByRecursion RegionFits xs → AllByRecursion RegionFits ys → heap_line (Some xs) ++ r ≡ heap_line (Some ys) ++ s → (xs ≡ ys) × (r ≡ s)
+some_end : (xs ys : List Region) (r s : List ℕ) → AllByRecursion RegionFits xs → AllByRecursion RegionFits ys →
+    heap_line (Some xs) ++ r ≡ heap_line (Some ys) ++ s → (xs ≡ ys) × (r ≡ s)
 some_end [] [] r s fx fy h = (refl, append_cancel_left (codes "heap none\n") r s h)
 some_end [] (y ∷ ys) r s fx fy h = absurd (let k : 110 ≡ 48 = head_of (tail_of (tail_of (tail_of (tail_of (tail_of h))))) in omega (arith, k))
 some_end (x ∷ xs) [] r s fx fy h = absurd (let k : 48 ≡ 110 = head_of (tail_of (tail_of (tail_of (tail_of (tail_of h))))) in omega (arith, k))
@@ -230,14 +269,16 @@ some_end (x ∷ xs) (y ∷ ys) r s fx fy h = items_end pages_text RegionFits reg
 abbrev NoHeap : List ℕ → Type 0
 NoHeap r = (t : List ℕ) → r ≡ 104 ∷ t → ⊥
 
-heap_end : (p q : Option (List Region)) (r s : List ℕ) → RegionsFit p → RegionsFit q → NoHeap r → NoHeap s → heap_line p ++ r ≡ heap_line q ++ s → (p ≡ q) × (r ≡ s)
+heap_end : (p q : Option (List Region)) (r s : List ℕ) → RegionsFit p → RegionsFit q → NoHeap r → NoHeap s →
+    heap_line p ++ r ≡ heap_line q ++ s → (p ≡ q) × (r ≡ s)
 heap_end None None r s fp fq nr ns h = (refl, h)
 heap_end None (Some ys) r s fp fq nr ns h = absurd (nr (codes "eap" ++ ((regions_text ys ++ 10 ∷ []) ++ s)) h)
 heap_end (Some xs) None r s fp fq nr ns h = absurd (ns (codes "eap" ++ ((regions_text xs ++ 10 ∷ []) ++ r)) (sym h))
 heap_end (Some xs) (Some ys) r s fp fq nr ns h = let k = some_end xs ys r s fp fq h in ((λ i. Some (k.0 i)), k.1)
 
 -- a slot, before a byte that is no digit of base 16
-slot_end : (x y c d : ℕ) (r s : List ℕ) → x < 2 ^ 64 → y < 2 ^ 64 → 16 ≤ digit_value c → 16 ≤ digit_value d → hexadecimal x ++ c ∷ r ≡ hexadecimal y ++ d ∷ s → (x ≡ y) × (c ∷ r ≡ d ∷ s)
+slot_end : (x y c d : ℕ) (r s : List ℕ) → x < 2 ^ 64 → y < 2 ^ 64 → 16 ≤ digit_value c → 16 ≤ digit_value d →
+    hexadecimal x ++ c ∷ r ≡ hexadecimal y ++ d ∷ s → (x ≡ y) × (c ∷ r ≡ d ∷ s)
 slot_end x y c d r s fx fy nc nd h = hex_end x y c d r s fx fy nc nd h
 
 large_end : (p q : Option (List ℕ)) (r s : List ℕ) → SlotsFit p → SlotsFit q → NoMore r → NoMore s → large_line p ++ r ≡ large_line q ++ s → (p ≡ q) × (r ≡ s)
@@ -263,10 +304,12 @@ answer_onto a r =
     append_assoc (reply_text a.reply) (heap_line a.regions ++ large_line a.large) r
     ∙ ap (λ (l : List ℕ). reply_text a.reply ++ l) (append_assoc (heap_line a.regions) (large_line a.large) r)
 
-answer_end : (a b : Answer) (r s : List ℕ) → AnswerFits (Some a) → AnswerFits (Some b) → NoMore r → NoMore s → text_of a ++ r ≡ text_of b ++ s → (a ≡ b) × (r ≡ s)
+answer_end : (a b : Answer) (r s : List ℕ) → AnswerFits (Some a) → AnswerFits (Some b) → NoMore r → NoMore s →
+    text_of a ++ r ≡ text_of b ++ s → (a ≡ b) × (r ≡ s)
 answer_end a b r s fa fb nr ns h =
     let k = reply_end a.reply b.reply (lines_onto a r) (lines_onto b s) fa.0 fb.0 (sym (answer_onto a r) ∙ h ∙ answer_onto b s) in
-    let l = heap_end a.regions b.regions (large_line a.large ++ r) (large_line b.large ++ s) fa.1 fb.1 (large_head a.large r nr) (large_head b.large s ns) k.1 in
+    let l = heap_end a.regions b.regions (large_line a.large ++ r) (large_line b.large ++ s) fa.1 fb.1
+    (large_head a.large r nr) (large_head b.large s ns) k.1 in
     let m = large_end a.large b.large r s fa.2 fb.2 nr ns l.1 in
     ((λ i. record { reply = k.0 i; regions = l.0 i; large = m.0 i }), m.1)
 
@@ -317,7 +360,8 @@ region_lines_head (x ∷ rs) r none = begins 114 _ (λ e. omega (arith, e)) (λ 
 
 end_head : (d : State) → NoMore (end_text_of d)
 unfolding end_text_of
-end_head d = region_lines_head (all_regions d) (counts_line (free_frames d) (1 + length d.tables)) (begins 102 _ (λ e. omega (arith, e)) (λ e. omega (arith, e)))
+end_head d = region_lines_head (all_regions d) (counts_line (free_frames d) (1 + length d.tables))
+    (begins 102 _ (λ e. omega (arith, e)) (λ e. omega (arith, e)))
 
 lines_head : (xs : List (Option Answer)) (d : State) → NoMore (texts_of xs ++ end_text_of d)
 lines_head [] d = end_head d

@@ -12,6 +12,9 @@ regions_some [] some = absurd (omega (arith, some))
 regions_some (r ∷ rs) some = refl
 
 -- what a machine tells is what its state says
-pub end_told : (m : Seen) (s : State) (regions : List Region) (frames tables : ℕ) → Stands m s → regions ≡ m.paged.regions → frames ≡ free_count m.paged.free → tables ≡ m.paged.tables → flat_map region_line regions ++ counts_line frames tables ≡ end_text_of s
+pub end_told : (m : Seen) (s : State) (regions : List Region) (frames tables : ℕ) → Stands m s → regions ≡ m.paged.regions →
+    frames ≡ free_count m.paged.free → tables ≡ m.paged.tables → flat_map region_line regions ++ counts_line frames
+    tables ≡ end_text_of s
 unfolding end_text_of
-end_told m s regions frames tables stands rs fs ts = λ i. flat_map region_line ((rs ∙ stands.regions) i) ++ counts_line ((fs ∙ stands.free_frames) i) ((ts ∙ stands.table_count) i)
+end_told m s regions frames tables stands rs fs ts = λ i. flat_map region_line ((rs ∙ stands.regions) i) ++ counts_line
+    ((fs ∙ stands.free_frames) i) ((ts ∙ stands.table_count) i)

@@ -37,7 +37,8 @@ module _ {R : Type 0} (responds : R → List (Option Call) → List ℕ → R �
   front_of_none x bytes none = record { items = []; others = items_of bytes; split = refl; whole = []; new = x; responses = none; more = []; front = refl }
 
   -- a front of a response to some bytes
-  pub front_of_part : (x y : R) (before bytes told after front more : List ℕ) → Responded responds x before bytes told after y → front ++ more ≡ told → IsFrontOf responds x (before ++ bytes) front
+  pub front_of_part : (x y : R) (before bytes told after front more : List ℕ) →
+      Responded responds x before bytes told after y → front ++ more ≡ told → IsFrontOf responds x (before ++ bytes) front
   front_of_part x y before bytes told after front more a split = record {
     items = a.items;
     others = items_of (after ++ []);
@@ -50,19 +51,23 @@ module _ {R : Type 0} (responds : R → List (Option Call) → List ℕ → R �
   }
 
   -- all lines that ended in the bytes that came are responded to
-  pub caught_up : (x y : R) (line : List ℕ) (l l1 t t1 : Option (List ℕ)) (n : ℕ) (h : HasRead responds x y line l l1 t t1 n) → IsOneLine line → HasCaughtUp responds x h.bytes h.told
+  pub caught_up : (x y : R) (line : List ℕ) (l l1 t t1 : Option (List ℕ)) (n : ℕ)
+      (h : HasRead responds x y line l l1 t t1 n) → IsOneLine line → HasCaughtUp responds x h.bytes h.told
   caught_up x y line l l1 t t1 n h one =
       let a = h.responded in
       record {
         items = a.items;
         item = item_of line;
-        ended = a.read (10 ∷ []) ∙ ap (λ (l : List (Option Call)). a.items ++ l) (items-whole line [] one ∙ ap (λ (l : List (Option Call)). item_of line ∷ l) items-none);
+        ended = a.read (10 ∷ []) ∙ ap (λ (l : List (Option Call)). a.items ++ l)
+            (items-whole line [] one ∙ ap (λ (l : List (Option Call)). item_of line ∷ l) items-none);
         new = y;
         responses = a.responses;
       }
 
   -- a stop at a read that brought this piece
-  pub held : (x y : R) (line : List ℕ) (l l1 l2 t t1 : Option (List ℕ)) (n most : ℕ) (piece : List ℕ) (h : HasRead responds x y line l l1 t t1 n) → IsOneLine line → Consumes l1 l2 piece → length piece ≤ most → HasHeld responds x most l l2 t t1
+  pub held : (x y : R) (line : List ℕ) (l l1 l2 t t1 : Option (List ℕ)) (n most : ℕ) (piece : List ℕ)
+      (h : HasRead responds x y line l l1 t t1 n) → IsOneLine line → Consumes l1 l2 piece → length piece ≤ most →
+      HasHeld responds x most l l2 t t1
   held x y line l l1 l2 t t1 n most piece h one consumed short = record {
     input = h.bytes;
     piece = piece;
@@ -74,18 +79,22 @@ module _ {R : Type 0} (responds : R → List (Option Call) → List ℕ → R �
   }
 
   -- before the first piece
-  pub read_none : (session : Session R) (left taken : Option (List ℕ)) → IsFreshSession session → responds session.responder [] [] session.responder → HasRead responds session.responder session.responder session.line left left taken taken 0
+  pub read_none : (session : Session R) (left taken : Option (List ℕ)) → IsFreshSession session →
+      responds session.responder [] [] session.responder → HasRead responds session.responder session.responder session.line
+      left left taken taken 0
   read_none session left taken fresh none = record {
     bytes = [];
     told = [];
     consumed = consumes_nothing left;
     counted = refl;
     appended = appends_nothing taken;
-    responded = subst (λ (l : List ℕ). Responded responds session.responder [] [] [] l session.responder) (sym fresh.line) (record { items = []; read = λ rest. refl; responses = none });
+    responded = subst (λ (l : List ℕ). Responded responds session.responder [] [] [] l session.responder) (sym fresh.line)
+        (record { items = []; read = λ rest. refl; responses = none });
   }
 
   -- the end of the input
-  pub read_end : (x y : R) (line : List ℕ) (l l1 l2 t t1 : Option (List ℕ)) (n : ℕ) (h : HasRead responds x y line l l1 t t1 n) → Consumes l1 l2 [] → HasRead responds x y line l l2 t t1 n
+  pub read_end : (x y : R) (line : List ℕ) (l l1 l2 t t1 : Option (List ℕ)) (n : ℕ)
+      (h : HasRead responds x y line l l1 t t1 n) → Consumes l1 l2 [] → HasRead responds x y line l l2 t t1 n
   read_end x y line l l1 l2 t t1 n h none = record {
     bytes = h.bytes;
     told = h.told;
@@ -96,8 +105,11 @@ module _ {R : Type 0} (responds : R → List (Option Call) → List ℕ → R �
   }
 
   -- a stop that wrote nothing more
-  pub stopped_dry : (x y : R) (line : List ℕ) (stop : Stop) (l l1 l2 t t1 : Option (List ℕ)) (n : ℕ) (piece : List ℕ) (h : HasRead responds x y line l l1 t t1 n) → Consumes l1 l2 piece → n + length piece ≤ 2 ^ 30 + 4096
-      → (stop ≡ TooLong → 2 ^ 30 < n + length piece) → (2 ^ 30 < n + length piece → stop ≡ TooLong) → (stop ≡ ReadFault → HasHeld responds x 0 l l2 t t1) → (stop ≡ TooLong → HasHeld responds x 4096 l l2 t t1) → HasStopped responds x stop l l2 t t1
+  pub stopped_dry : (x y : R) (line : List ℕ) (stop : Stop) (l l1 l2 t t1 : Option (List ℕ)) (n : ℕ) (piece : List ℕ)
+      (h : HasRead responds x y line l l1 t t1 n) → Consumes l1 l2 piece → n + length piece ≤ 2 ^ 30 + 4096
+      → (stop ≡ TooLong → 2 ^ 30 < n + length piece) → (2 ^ 30 < n + length piece → stop ≡ TooLong) →
+      (stop ≡ ReadFault → HasHeld responds x 0 l l2 t t1) → (stop ≡ TooLong → HasHeld responds x 4096 l l2 t t1) →
+      HasStopped responds x stop l l2 t t1
   stopped_dry x y line stop l l1 l2 t t1 n piece h consumed most there back at_fault at_length =
       let count : length (h.bytes ++ piece) ≡ n + length piece = length-append h.bytes piece ∙ ap (λ (k : ℕ). k + length piece) h.counted in
       let a = h.responded in
@@ -107,21 +119,34 @@ module _ {R : Type 0} (responds : R → List (Option Call) → List ℕ → R �
         consumed = consumes_more l l1 l2 h.bytes piece h.consumed consumed;
         short = omega (arith, count, most);
         appended = h.appended;
-        front = record { items = a.items; others = items_of (line ++ piece); split = a.read piece; whole = h.told; new = y; responses = a.responses; more = []; front = append-nil h.told };
+        front = record {
+          items = a.items;
+          others = items_of (line ++ piece);
+          split = a.read piece;
+          whole = h.told;
+          new = y;
+          responses = a.responses;
+          more = [];
+          front = append-nil h.told;
+        };
         too_long = (λ is. subst (λ (k : ℕ). 2 ^ 30 < k) (sym count) (there is), λ long. back (subst (λ (k : ℕ). 2 ^ 30 < k) count long));
         at_fault = at_fault;
         at_length = at_length;
       }
 
   -- a stop before a piece
-  pub stopped_before : (x y : R) (line : List ℕ) (stop : Stop) (l l1 l2 t t1 : Option (List ℕ)) (n : ℕ) (h : HasRead responds x y line l l1 t t1 n) → IsOneLine line → Keeps l1 l2 → n ≤ 2 ^ 30 → (stop ≡ TooLong → ⊥) → HasStopped responds x stop l l2 t t1
+  pub stopped_before : (x y : R) (line : List ℕ) (stop : Stop) (l l1 l2 t t1 : Option (List ℕ)) (n : ℕ)
+      (h : HasRead responds x y line l l1 t t1 n) → IsOneLine line → Keeps l1 l2 → n ≤ 2 ^ 30 → (stop ≡ TooLong → ⊥) →
+      HasStopped responds x stop l l2 t t1
   stopped_before x y line stop l l1 l2 t t1 n h one kept short isnt =
       let none : Consumes l1 l2 [] = consumes_keeps l1 l1 l2 [] (consumes_nothing l1) kept in
       stopped_dry x y line stop l l1 l2 t t1 n [] h none (omega (arith, short)) (λ is. absurd (isnt is)) (λ long. absurd (omega (arith, long, short)))
       (λ is. held x y line l l1 l2 t t1 n 0 [] h one none (omega arith)) (λ is. absurd (isnt is))
 
   -- a stop after a piece, of which nothing was written
-  pub stopped_after : (x y : R) (line : List ℕ) (stop : Stop) (l l1 l2 t t1 : Option (List ℕ)) (n k : ℕ) (piece : List ℕ) (h : HasRead responds x y line l l1 t t1 n) → IsOneLine line → Consumes l1 l2 piece → length piece ≡ k → n ≤ 2 ^ 30 → k ≤ 4096
+  pub stopped_after : (x y : R) (line : List ℕ) (stop : Stop) (l l1 l2 t t1 : Option (List ℕ)) (n k : ℕ) (piece : List ℕ)
+      (h : HasRead responds x y line l l1 t t1 n) → IsOneLine line → Consumes l1 l2 piece → length piece ≡ k → n ≤ 2 ^ 30 →
+      k ≤ 4096
       → (stop ≡ ReadFault → ⊥) → (stop ≡ TooLong → 2 ^ 30 < n + k) → (2 ^ 30 < n + k → stop ≡ TooLong) → HasStopped responds x stop l l2 t t1
   stopped_after x y line stop l l1 l2 t t1 n k piece h one consumed len before most unread there back =
       stopped_dry x y line stop l l1 l2 t t1 n piece h consumed (omega (arith, len, before, most))
@@ -132,7 +157,9 @@ module _ {R : Type 0} (responds : R → List (Option Call) → List ℕ → R �
 
   module _ (on : (x y z : R) (a b : List (Option Call)) (t u : List ℕ) → responds x a t y → responds y b u z → responds x (a ++ b) (t ++ u) z) where
     -- one piece more
-    pub read_more : (x : R) (old fed : Session R) (l l1 l2 t t1 t2 : Option (List ℕ)) (n : ℕ) (piece : List ℕ) (h : HasRead responds x old.responder old.line l l1 t t1 n) → string_bytes old.output ≡ [] → Consumes l1 l2 piece → Advanced responds old fed piece
+    pub read_more : (x : R) (old fed : Session R) (l l1 l2 t t1 t2 : Option (List ℕ)) (n : ℕ) (piece : List ℕ)
+        (h : HasRead responds x old.responder old.line l l1 t t1 n) → string_bytes old.output ≡ [] → Consumes l1 l2 piece →
+        Advanced responds old fed piece
         → Appends t1 t2 (string_bytes fed.output) → HasRead responds x fed.responder fed.line l l2 t t2 (n + length piece)
     read_more x old fed l l1 l2 t t1 t2 n piece h empty consumed a appended =
         let output : string_bytes fed.output ≡ a.told = a.output ∙ ap (λ (o : List ℕ). o ++ a.told) empty in
@@ -146,8 +173,11 @@ module _ {R : Type 0} (responds : R → List (Option Call) → List ℕ → R �
         }
 
     -- a stop while the response to a piece went out, of which a front did
-    pub stopped_writing : (x : R) (old fed : Session R) (stop : Stop) (l l1 l2 t t1 t2 : Option (List ℕ)) (n k : ℕ) (piece : List ℕ) (h : HasRead responds x old.responder old.line l l1 t t1 n) → string_bytes old.output ≡ [] → Consumes l1 l2 piece → Advanced responds old fed piece
-        → Appends t1 t2 (take k (string_bytes fed.output)) → n + length piece ≤ 2 ^ 30 → (stop ≡ TooLong → ⊥) → (stop ≡ ReadFault → ⊥) → HasStopped responds x stop l l2 t t2
+    pub stopped_writing : (x : R) (old fed : Session R) (stop : Stop) (l l1 l2 t t1 t2 : Option (List ℕ)) (n k : ℕ)
+        (piece : List ℕ) (h : HasRead responds x old.responder old.line l l1 t t1 n) → string_bytes old.output ≡ [] →
+        Consumes l1 l2 piece → Advanced responds old fed piece
+        → Appends t1 t2 (take k (string_bytes fed.output)) → n + length piece ≤ 2 ^ 30 → (stop ≡ TooLong → ⊥) →
+        (stop ≡ ReadFault → ⊥) → HasStopped responds x stop l l2 t t2
     stopped_writing x old fed stop l l1 l2 t t1 t2 n k piece h empty consumed a appended most isnt unread =
         let output : string_bytes fed.output ≡ a.told = a.output ∙ ap (λ (o : List ℕ). o ++ a.told) empty in
         let count : length (h.bytes ++ piece) ≡ n + length piece = length-append h.bytes piece ∙ ap (λ (k : ℕ). k + length piece) h.counted in
@@ -160,7 +190,8 @@ module _ {R : Type 0} (responds : R → List (Option Call) → List ℕ → R �
           short = omega (arith, count, most);
           appended = appends_more t t1 t2 h.told part h.appended appended;
           front = front_of_part x fed.responder [] (h.bytes ++ piece) (h.told ++ a.told) fed.line (h.told ++ part) (drop k (string_bytes fed.output)) both
-              (append_assoc h.told part (drop k (string_bytes fed.output)) ∙ ap (λ (l : List ℕ). h.told ++ l) (take-append-drop k (string_bytes fed.output) ∙ output));
+              (append_assoc h.told part (drop k (string_bytes fed.output)) ∙ ap (λ (l : List ℕ). h.told ++ l)
+              (take-append-drop k (string_bytes fed.output) ∙ output));
           too_long = (λ is. absurd (isnt is), λ long. absurd (omega (arith, long, count, most)));
           at_fault = λ is. absurd (unread is);
           at_length = λ is. absurd (isnt is);
@@ -168,10 +199,20 @@ module _ {R : Type 0} (responds : R → List (Option Call) → List ℕ → R �
 
 -- nothing went out
 pub front_none : (s : State) (bytes : List ℕ) → IsFront s bytes []
-front_none s bytes = record { items = []; others = items_of bytes; split = refl; answers = []; state = s; run = runs_none s; more = ending_of (items_of bytes) s; front = refl }
+front_none s bytes = record {
+  items = [];
+  others = items_of bytes;
+  split = refl;
+  answers = [];
+  state = s;
+  run = runs_none s;
+  more = ending_of (items_of bytes) s;
+  front = refl;
+}
 
 -- a front of the texts and the end text
-pub front_end : (s : State) (bytes whole : List ℕ) (old machine : Machine) (front more : List ℕ) → IsEnd s old bytes whole machine → front ++ more ≡ whole → IsFront s bytes front
+pub front_end : (s : State) (bytes whole : List ℕ) (old machine : Machine) (front more : List ℕ) →
+    IsEnd s old bytes whole machine → front ++ more ≡ whole → IsFront s bytes front
 front_end s bytes whole old machine front more k split = record {
   items = items_of bytes;
   others = [];
@@ -200,7 +241,8 @@ front_of_answers s machine bytes text at k =
     }
 
 -- a machine that stopped at a read
-pub interrupted : (s : State) (machine : Machine) (most : ℕ) (l l1 t t1 : Option (List ℕ)) → IsAt machine s → HasHeld IsAnswering machine most l l1 t t1 → IsInterrupted s most l l1 t t1
+pub interrupted : (s : State) (machine : Machine) (most : ℕ) (l l1 t t1 : Option (List ℕ)) → IsAt machine s →
+    HasHeld IsAnswering machine most l l1 t t1 → IsInterrupted s most l l1 t t1
 interrupted s machine most l l1 t t1 at h =
     let k = h.caught_up in
     let a = k.responses s at in
@@ -221,7 +263,9 @@ texts_more xs ys t u last p q =
     ∙ ap (λ (l : List ℕ). l ++ last) (sym (flat_map-append line_text xs ys))
 
 -- some bytes are answered, and then a front of the rest
-front_last : (s : State) (machine last : Machine) (bytes told line part : List ℕ) (at : IsAt machine s) (a : Responded IsAnswering machine [] bytes told line last) → IsFront (a.responses s at).state line part → IsFront s bytes (told ++ part)
+front_last : (s : State) (machine last : Machine) (bytes told line part : List ℕ) (at : IsAt machine s)
+    (a : Responded IsAnswering machine [] bytes told line last) → IsFront (a.responses s at).state line part →
+    IsFront s bytes (told ++ part)
 front_last s machine last bytes told line part at a k =
     let b = a.responses s at in
     record {
@@ -237,7 +281,9 @@ front_last s machine last bytes told line part at a k =
     }
 
 -- some bytes are answered, and then the rest
-end_after : (s : State) (machine last end : Machine) (bytes told line text : List ℕ) (at : IsAt machine s) (a : Responded IsAnswering machine [] bytes told line last) → IsEnd (a.responses s at).state last line text end → IsEnd s machine bytes (told ++ text) end
+end_after : (s : State) (machine last end : Machine) (bytes told line text : List ℕ) (at : IsAt machine s)
+    (a : Responded IsAnswering machine [] bytes told line last) → IsEnd (a.responses s at).state last line text end →
+    IsEnd s machine bytes (told ++ text) end
 end_after s machine last end bytes told line text at a k =
     let b = a.responses s at in
     let items : items_of bytes ≡ a.items ++ items_of line =
@@ -245,14 +291,17 @@ end_after s machine last end bytes told line text at a k =
     record {
       answers = b.answers ++ k.answers;
       state = k.state;
-      run = subst (λ (l : List (Option Call)). RunsTo s l (b.answers ++ k.answers) k.state) (sym items) (run_on s b.state k.state a.items (items_of line) b.answers k.answers b.run k.run);
-      steps = subst (λ (l : List (Option Call)). StepsTo machine l (b.answers ++ k.answers) end) (sym items) (steps_on machine last end a.items (items_of line) b.answers k.answers b.steps k.steps);
+      run = subst (λ (l : List (Option Call)). RunsTo s l (b.answers ++ k.answers) k.state) (sym items)
+          (run_on s b.state k.state a.items (items_of line) b.answers k.answers b.run k.run);
+      steps = subst (λ (l : List (Option Call)). StepsTo machine l (b.answers ++ k.answers) end) (sym items)
+          (steps_on machine last end a.items (items_of line) b.answers k.answers b.steps k.steps);
       at = k.at;
       text = texts_more b.answers k.answers told text (end_text_of k.state) b.text k.text;
     }
 
 -- a front of the last texts went out
-pub part_written : (s : State) (line whole out : List ℕ) (old machine : Machine) (t t1 : Option (List ℕ)) (n : ℕ) → out ≡ whole → IsEnd s old line whole machine → Appends t t1 (take n out) → HasPart s line t t1
+pub part_written : (s : State) (line whole out : List ℕ) (old machine : Machine) (t t1 : Option (List ℕ)) (n : ℕ) →
+    out ≡ whole → IsEnd s old line whole machine → Appends t t1 (take n out) → HasPart s line t t1
 part_written s line whole out old machine t t1 n same end appended = record {
   told = take n out;
   appended = appended;
@@ -260,7 +309,8 @@ part_written s line whole out old machine t t1 n same end appended = record {
 }
 
 -- all of them did
-pub closed : (s : State) (line whole out : List ℕ) (old machine : Machine) (t t1 : Option (List ℕ)) → out ≡ whole → IsEnd s old line whole machine → Appends t t1 out → HasClosed s old machine line t t1
+pub closed : (s : State) (line whole out : List ℕ) (old machine : Machine) (t t1 : Option (List ℕ)) → out ≡ whole →
+    IsEnd s old line whole machine → Appends t t1 out → HasClosed s old machine line t t1
 closed s line whole out old machine t t1 same end appended = record { told = whole; appended = subst (Appends t t1) same appended; end = end }
 
 -- a stop that is not for a long input
@@ -282,7 +332,9 @@ read_whole (Some xs) (Some ys) bytes consumed end =
     (sym (consumed ∙ ap (λ (l : List ℕ). bytes ++ l) end ∙ append-nil bytes), ap (λ (l : List ℕ). Some l) end)
 
 -- the last line and the end text close the run
-pub answered : (s : State) (machine last end : Machine) (line : List ℕ) (l l1 t t1 t2 : Option (List ℕ)) (flushed : Option ℕ) (n : ℕ) (at : IsAt machine s) (h : HasRead IsAnswering machine last line l l1 t t1 n) → length s.blocks ≡ 0 → n ≤ 2 ^ 30 → IsAtEnd l1
+pub answered : (s : State) (machine last end : Machine) (line : List ℕ) (l l1 t t1 t2 : Option (List ℕ))
+    (flushed : Option ℕ) (n : ℕ) (at : IsAt machine s) (h : HasRead IsAnswering machine last line l l1 t t1 n) →
+    length s.blocks ≡ 0 → n ≤ 2 ^ 30 → IsAtEnd l1
     → HasClosed (h.responded.responses s at).state last end line t1 t2 → IsAllFlushed t2 flushed → IsAnsweredBy machine s l l1 t t2 flushed end
 answered s machine last end line l l1 t t1 t2 flushed n at h first short done k all =
     let e = end_after s machine last end h.bytes h.told line k.told at h.responded k.end in
@@ -303,15 +355,34 @@ answered s machine last end line l l1 t t1 t2 flushed n at h first short done k 
     }
 
 -- what is seen of a stop
-pub seen_stopped : (s : State) (machine : Machine) (stop : Stop) (l l1 t t1 : Option (List ℕ)) → IsAt machine s → HasStopped IsAnswering machine stop l l1 t t1 → IsStopped s l l1 t t1
+pub seen_stopped : (s : State) (machine : Machine) (stop : Stop) (l l1 t t1 : Option (List ℕ)) → IsAt machine s →
+    HasStopped IsAnswering machine stop l l1 t t1 → IsStopped s l l1 t t1
 seen_stopped s machine stop l l1 t t1 at h =
-    record { input = h.bytes; read = h.consumed; short = h.short; text = h.told; written = h.appended; front = front_of_answers s machine h.bytes h.told at h.front }
+    record {
+      input = h.bytes;
+      read = h.consumed;
+      short = h.short;
+      text = h.told;
+      written = h.appended;
+      front =
+          front_of_answers s machine h.bytes h.told at h.front;
+    }
 
 -- nothing was read or written
 pub seen_first : (s : State) (left taken : Option (List ℕ)) → IsStopped s left left taken taken
-seen_first s left taken = record { input = []; read = consumes_nothing left; short = omega arith; text = []; written = appends_nothing taken; front = front_none s [] }
+seen_first s left taken = record {
+  input = [];
+  read = consumes_nothing left;
+  short = omega arith;
+  text = [];
+  written =
+      appends_nothing taken;
+  front = front_none s [];
+}
 
-pub seen_last : (s : State) (machine last : Machine) (line : List ℕ) (l l1 t t1 t2 : Option (List ℕ)) (n : ℕ) (at : IsAt machine s) (h : HasRead IsAnswering machine last line l l1 t t1 n) → n ≤ 2 ^ 30 → HasPart (h.responded.responses s at).state line t1 t2 → IsStopped s l l1 t t2
+pub seen_last : (s : State) (machine last : Machine) (line : List ℕ) (l l1 t t1 t2 : Option (List ℕ)) (n : ℕ)
+    (at : IsAt machine s) (h : HasRead IsAnswering machine last line l l1 t t1 n) → n ≤ 2 ^ 30 →
+    HasPart (h.responded.responses s at).state line t1 t2 → IsStopped s l l1 t t2
 seen_last s machine last line l l1 t t1 t2 n at h short k = record {
   input = h.bytes;
   read = h.consumed;
@@ -333,19 +404,23 @@ where_long (Some xs) (Some ys) bytes P consumed k =
     (λ p. let long = k.0 p in omega (arith, long, len), λ more. k.1 (omega (arith, more, len)))
 
 -- of a result
-pub err_long : (l l1 : Option (List ℕ)) (bytes : List ℕ) (stop : Stop) → Consumes l l1 bytes → stop ≡ TooLong ↔ (2 ^ 30 < length bytes) → IsLong l l1 (IsErrOf {T = Machine} (Err stop) TooLong)
-err_long l l1 bytes stop consumed k = where_long l l1 bytes (IsErrOf {T = Machine} (Err stop) TooLong) consumed (λ is. k.0 (inside is), λ long. ap (λ (e : Stop). Err e) (k.1 long))
+pub err_long : (l l1 : Option (List ℕ)) (bytes : List ℕ) (stop : Stop) → Consumes l l1 bytes →
+    stop ≡ TooLong ↔ (2 ^ 30 < length bytes) → IsLong l l1 (IsErrOf {T = Machine} (Err stop) TooLong)
+err_long l l1 bytes stop consumed k = where_long l l1 bytes (IsErrOf {T = Machine} (Err stop) TooLong) consumed
+    (λ is. k.0 (inside is), λ long. ap (λ (e : Stop). Err e) (k.1 long))
   where
     inside : IsErrOf {T = Machine} (Err stop) TooLong → stop ≡ TooLong
     inside is = cc
 
 -- of a stop after the last piece
-pub late_long : (l l1 : Option (List ℕ)) (bytes : List ℕ) (n : ℕ) → Consumes l l1 bytes → length bytes ≡ n → n ≤ 2 ^ 30 → (stop : Stop) → (stop ≡ Memory) ⊎ (stop ≡ WriteFault) → IsLong l l1 (IsErrOf {T = Machine} (Err stop) TooLong)
+pub late_long : (l l1 : Option (List ℕ)) (bytes : List ℕ) (n : ℕ) → Consumes l l1 bytes → length bytes ≡ n → n ≤ 2 ^ 30 →
+    (stop : Stop) → (stop ≡ Memory) ⊎ (stop ≡ WriteFault) → IsLong l l1 (IsErrOf {T = Machine} (Err stop) TooLong)
 late_long l l1 bytes n consumed counted short stop which =
     err_long l l1 bytes stop consumed (λ is. absurd (of_sink stop which is), λ long. absurd (omega (arith, long, counted, short)))
 
 -- of a run that ended
-pub ok_long : (last : Machine) (l l1 : Option (List ℕ)) (bytes : List ℕ) (n : ℕ) → Consumes l l1 bytes → length bytes ≡ n → n ≤ 2 ^ 30 → IsLong l l1 (IsErrOf {E = Stop} (Ok last) TooLong)
+pub ok_long : (last : Machine) (l l1 : Option (List ℕ)) (bytes : List ℕ) (n : ℕ) → Consumes l l1 bytes → length bytes ≡ n →
+    n ≤ 2 ^ 30 → IsLong l l1 (IsErrOf {E = Stop} (Ok last) TooLong)
 ok_long last l l1 bytes n consumed counted short =
     where_long l l1 bytes (IsErrOf {E = Stop} (Ok last) TooLong) consumed (λ is. cc, λ long. absurd (omega (arith, long, counted, short)))
 
@@ -355,6 +430,7 @@ stop_is (Ok machine) stop other made is = absurd made
 stop_is (Err e) stop other made is = cc
 
 -- of a result that is this stop
-pub stop_long : (l l1 : Option (List ℕ)) (r : Result Machine Stop) (stop : Stop) → IsErrAnd r (λ e. e ≡ stop) → IsLong l l1 (IsErrOf {T = Machine} (Err stop) TooLong) → IsLong l l1 (IsErrOf r TooLong)
+pub stop_long : (l l1 : Option (List ℕ)) (r : Result Machine Stop) (stop : Stop) → IsErrAnd r (λ e. e ≡ stop) →
+    IsLong l l1 (IsErrOf {T = Machine} (Err stop) TooLong) → IsLong l l1 (IsErrOf r TooLong)
 stop_long l l1 (Ok machine) stop made long = absurd made
 stop_long l l1 (Err e) stop made long = subst (λ (x : Stop). IsLong l l1 (IsErrOf {T = Machine} (Err x) TooLong)) (sym made) long

@@ -22,7 +22,8 @@ use Rattle.heap_recorder.proofs.Tracked.{bit, left_true, right_true, same_number
 
 -- ---- regions in their order
 
-rising_one : (s : State) (region : Region) (rest : List Region) → IsHeapRegion s region → AllByRecursion (λ later. end_of region ≤ later.start) rest → IsAfter region.start rest
+rising_one : (s : State) (region : Region) (rest : List Region) → IsHeapRegion s region →
+    AllByRecursion (λ later. end_of region ≤ later.start) rest → IsAfter region.start rest
 rising_one s region [] is order = tt
 rising_one s region (next ∷ rest) is order = let some = is.0.1.some in let past = order.0 in omega (arith, some, past)
 
@@ -37,7 +38,8 @@ AreSame [] (region ∷ heap) = ⊥
 AreSame (held ∷ now) [] = ⊥
 AreSame (held ∷ now) (region ∷ heap) = (held.start ≡ region.start) × (held.pages ≡ region.pages) × AreSame now heap
 
-held_after : (held : Held) (now : List Held) (region : Region) (heap : List Region) → held.start ≡ region.start → AreSame now heap → IsAfter region.start heap → IsHeldAfter held.start now
+held_after : (held : Held) (now : List Held) (region : Region) (heap : List Region) → held.start ≡ region.start →
+    AreSame now heap → IsAfter region.start heap → IsHeldAfter held.start now
 held_after held [] region [] at same above = tt
 held_after held [] region (next ∷ heap) at same above = absurd same
 held_after held (one ∷ now) region [] at same above = absurd same
@@ -53,13 +55,19 @@ going_same : (n : ℕ) (region : Region) (held : List Held) → ((going n region
 going_same n region [] = (refl, refl)
 going_same n region (h ∷ held) = go (is_same h region) refl
   where
-    go : (b : Bool) → is_same h region ≡ b → ((if b then h else new_held n region).start ≡ region.start) × ((if b then h else new_held n region).pages ≡ region.pages)
-    go true is = (same_number h.start region.start (left_true (nat_eq h.start region.start) (nat_eq h.pages region.pages) is), same_number h.pages region.pages (right_true (nat_eq h.start region.start) (nat_eq h.pages region.pages) is))
+    go : (b : Bool) → is_same h region ≡ b → ((if b then h else new_held n region).start ≡ region.start) × ((if b then h
+        else new_held n region).pages ≡ region.pages)
+    go true is = (
+      same_number h.start region.start (left_true (nat_eq h.start region.start) (nat_eq h.pages region.pages)
+          is),
+      same_number h.pages region.pages (right_true (nat_eq h.start region.start) (nat_eq h.pages region.pages) is),
+    )
     go false is = (refl, refl)
 
 after_same : (n : ℕ) (now : List Held) (list : List Region) → AreSame (now_after n now list) list
 after_same n now [] = tt
-after_same n now (region ∷ list) = (let same = going_same n region (held_from region.start now) in (same.0, same.1, after_same n (held_from region.start now) list))
+after_same n now (region ∷ list) = (let same = going_same n region (held_from region.start now) in
+    (same.0, same.1, after_same n (held_from region.start now) list))
 
 -- ---- when they came and went
 
@@ -101,13 +109,16 @@ going_begun n region (held ∷ now) are = go (is_same held region)
 
 after_begun : (n : ℕ) (now : List Held) (list : List Region) → AreBegun n now → AreBegun (suc n) (now_after n now list)
 after_begun n now [] are = tt
-after_begun n now (region ∷ list) are = (let from = begun_from n region.start now are in (going_begun n region (held_from region.start now) from, after_begun n (held_from region.start now) list from))
+after_begun n now (region ∷ list) are = (let from = begun_from n region.start now are in
+    (going_begun n region (held_from region.start now) from, after_begun n (held_from region.start now) list from))
 
 gone_over : (n : ℕ) (now : List Held) (list : List Region) → AreOver (suc n) (gone_after n now list)
 gone_over n [] list = tt
 gone_over n (held ∷ now) list = go (stays_on held (regions_from held.start list)) (gone_over n now (regions_from held.start list))
   where
-    go : (b : Bool) → AreOver (suc n) (gone_after n now (regions_from held.start list)) → AreOver (suc n) (if b then gone_after n now (regions_from held.start list) else ended n held ∷ gone_after n now (regions_from held.start list))
+    go : (b : Bool) → AreOver (suc n) (gone_after n now (regions_from held.start list)) →
+        AreOver (suc n) (if b then gone_after n now (regions_from held.start list) else ended n held ∷ gone_after n now
+        (regions_from held.start list))
     go true rest = rest
     go false rest = (omega arith, rest)
 
@@ -121,19 +132,22 @@ abbrev pub all_shown : ℕ → ℕ → ℕ → RegionNotes → ℕ
 all_shown call start pages notes = shown (shows_now call start pages) notes.now + shown (shows_part call start pages) notes.gone
 
 -- of an earlier call the same shows after one that lists regions
-shown_after : (n k start pages : ℕ) (list : List Region) (notes : RegionNotes) → k < n → AreHeldRising notes.now → AreRising list → all_shown k start pages (regions_after n list notes) ≡ all_shown k start pages notes
+shown_after : (n k start pages : ℕ) (list : List Region) (notes : RegionNotes) → k < n → AreHeldRising notes.now →
+    AreRising list → all_shown k start pages (regions_after n list notes) ≡ all_shown k start pages notes
 shown_after n k start pages list notes less held are =
     let all = shows_all n k start pages notes.now list less held are in
     let both = shown_both (shows_part k start pages) notes.gone (gone_after n notes.now list) in
     omega (arith, all, both)
 
 -- of the last call those show that the heap has
-now_shown : (n start pages : ℕ) (now : List Held) (heap : List Region) → AreBegun (suc n) now → AreSame now heap → shown (shows_now n start pages) now ≡ shown (is_region start pages) heap
+now_shown : (n start pages : ℕ) (now : List Held) (heap : List Region) → AreBegun (suc n) now → AreSame now heap →
+    shown (shows_now n start pages) now ≡ shown (is_region start pages) heap
 now_shown n start pages [] [] are same = refl
 now_shown n start pages [] (region ∷ heap) are same = absurd same
 now_shown n start pages (held ∷ now) [] are same = absurd same
 now_shown n start pages (held ∷ now) (region ∷ heap) are same =
-    (λ i. bit (least_true held.born n (let less = are.0 in omega (arith, less)) i && (nat_eq (same.0 i) start && nat_eq (same.1 i) pages)) + now_shown n start pages now heap are.1 same.2 i)
+    (λ i. bit (least_true held.born n (let less = are.0 in omega (arith, less)) i &&
+    (nat_eq (same.0 i) start && nat_eq (same.1 i) pages)) + now_shown n start pages now heap are.1 same.2 i)
 
 none_shown : (n start pages : ℕ) (gone : List Held) → AreOver (suc n) gone → shown (shows_part n start pages) gone ≡ 0
 none_shown n start pages [] are = refl
@@ -194,46 +208,64 @@ kept_listed n heap list notes listed is = record {
 
 -- so it is after each call
 kept_after : (s : State) (n : ℕ) (call : Call) (reply : Reply) (regions : Option (List Region)) (new : Option NewPages) (slots : List ℕ) (notes : RegionNotes) →
-    AreRising (with_regions (changed s call reply) regions new slots).heap → IsKept n s.heap notes → IsKept (suc n) (with_regions (changed s call reply) regions new slots).heap (heap_noted n regions notes)
+    AreRising (with_regions (changed s call reply) regions new slots).heap → IsKept n s.heap notes →
+    IsKept (suc n) (with_regions (changed s call reply) regions new slots).heap (heap_noted n regions notes)
 kept_after s n call reply None new slots notes listed is =
-    subst (λ (heap : List Region). IsKept (suc n) heap notes) (sym (unlisted_heap (changed s call reply) new slots ∙ changed_heap s call reply)) (kept_unlisted n s.heap notes is)
+    subst (λ (heap : List Region). IsKept (suc n) heap notes) (sym (unlisted_heap (changed s call reply) new slots
+    ∙ changed_heap s call reply)) (kept_unlisted n s.heap notes is)
 kept_after s n call reply (Some list) new slots notes listed is =
     let heap = listed_heap (changed s call reply) list new slots in
-    subst (λ (regions : List Region). IsKept (suc n) regions (regions_after n list notes)) (sym heap) (kept_listed n s.heap list notes (subst (λ (regions : List Region). AreRising regions) heap listed) is)
+    subst (λ (regions : List Region). IsKept (suc n) regions (regions_after n list notes)) (sym heap)
+    (kept_listed n s.heap list notes (subst (λ (regions : List Region). AreRising regions) heap listed) is)
 
 -- and shows what showed of earlier calls
-showed_after : (s : State) (n k start pages : ℕ) (call : Call) (reply : Reply) (regions : Option (List Region)) (new : Option NewPages) (slots : List ℕ) (notes : RegionNotes) → k < n →
-    AreRising (with_regions (changed s call reply) regions new slots).heap → IsKept n s.heap notes → all_shown k start pages (heap_noted n regions notes) ≡ all_shown k start pages notes
+showed_after : (s : State) (n k start pages : ℕ) (call : Call) (reply : Reply) (regions : Option (List Region))
+    (new : Option NewPages) (slots : List ℕ) (notes : RegionNotes) → k < n →
+    AreRising (with_regions (changed s call reply) regions new slots).heap → IsKept n s.heap notes →
+    all_shown k start pages (heap_noted n regions notes) ≡ all_shown k start pages notes
 showed_after s n k start pages call reply None new slots notes less listed is = refl
 showed_after s n k start pages call reply (Some list) new slots notes less listed is =
-    shown_after n k start pages list notes less (held_rising notes.now s.heap is.same is.rising) (subst (λ (regions : List Region). AreRising regions) (listed_heap (changed s call reply) list new slots) listed)
+    shown_after n k start pages list notes less (held_rising notes.now s.heap is.same is.rising)
+    (subst (λ (regions : List Region). AreRising regions) (listed_heap (changed s call reply) list new slots) listed)
 
 good_rising : (s : State) → IsGood s → AreRising s.heap
 good_rising s good = rising s s.heap good.heap good.heap_order
 
-kept_one : (s : State) (notes : Notes) (call : Call) (answer : Answer) → IsGood (after s call answer) → IsKept (length notes.moments) s.heap notes.regions → IsKept (length (noted notes call answer).moments) (after s call answer).heap (noted notes call answer).regions
+kept_one : (s : State) (notes : Notes) (call : Call) (answer : Answer) → IsGood (after s call answer) →
+    IsKept (length notes.moments) s.heap notes.regions → IsKept (length (noted notes call answer).moments)
+    (after s call answer).heap (noted notes call answer).regions
 kept_one s notes call answer good is =
     subst (λ (n : ℕ). IsKept n (after s call answer).heap (noted notes call answer).regions) (sym (one_more notes call answer))
-    (kept_after s (length notes.moments) call answer.reply answer.regions (new_pages s call answer.reply answer.regions) (slots_of answer.large) notes.regions (good_rising (after s call answer) good) is)
+    (kept_after s (length notes.moments) call answer.reply answer.regions (new_pages s call answer.reply answer.regions)
+    (slots_of answer.large) notes.regions (good_rising (after s call answer) good) is)
 
 -- later calls change nothing of what shows
-showed : (s : State) (notes : Notes) (calls : List Call) (answers : List Answer) (k start pages : ℕ) → IsAllowedRun s (map Some calls) (map Some answers) → IsKept (length notes.moments) s.heap notes.regions → k < length notes.moments →
+showed : (s : State) (notes : Notes) (calls : List Call) (answers : List Answer) (k start pages : ℕ) →
+    IsAllowedRun s (map Some calls) (map Some answers) → IsKept (length notes.moments) s.heap notes.regions →
+    k < length notes.moments →
     all_shown k start pages (notes_from notes calls answers).regions ≡ all_shown k start pages notes.regions
 showed s notes [] [] k start pages run is less = refl
 showed s notes (call ∷ calls) (answer ∷ answers) k start pages run is less =
-    showed (after s call answer) (noted notes call answer) calls answers k start pages run.1 (kept_one s notes call answer run.0.1 is) (let one = one_more notes call answer in omega (arith, one, less))
-    ∙ showed_after s (length notes.moments) k start pages call answer.reply answer.regions (new_pages s call answer.reply answer.regions) (slots_of answer.large) notes.regions less (good_rising (after s call answer) run.0.1) is
+    showed (after s call answer) (noted notes call answer) calls answers k start pages run.1
+    (kept_one s notes call answer run.0.1 is) (let one = one_more notes call answer in omega (arith, one, less))
+    ∙ showed_after s (length notes.moments) k start pages call answer.reply answer.regions
+    (new_pages s call answer.reply answer.regions) (slots_of answer.large) notes.regions less
+    (good_rising (after s call answer) run.0.1) is
 showed s notes [] (answer ∷ answers) k start pages run is less = absurd run
 showed s notes (call ∷ calls) [] k start pages run is less = absurd run
 
-last_shown : (n m start pages : ℕ) (heap : List Region) (notes : RegionNotes) → m ≡ suc n → IsKept m heap notes → all_shown n start pages notes ≡ shown (is_region start pages) heap
+last_shown : (n m start pages : ℕ) (heap : List Region) (notes : RegionNotes) → m ≡ suc n → IsKept m heap notes →
+    all_shown n start pages notes ≡ shown (is_region start pages) heap
 last_shown n m start pages heap notes next is =
     let one = now_shown n start pages notes.now heap (subst (λ (k : ℕ). AreBegun k notes.now) next is.begun) is.same in
     let none = none_shown n start pages notes.gone (subst (λ (k : ℕ). AreOver k notes.gone) next is.over) in
     omega (arith, one, none)
 
-shown_then : (s : State) (notes : Notes) (calls : List Call) (answers : List Answer) (k start pages : ℕ) → IsAllowedRun s (map Some calls) (map Some answers) → IsKept (length notes.moments) s.heap notes.regions → k < length calls →
-    all_shown (length notes.moments + k) start pages (notes_from notes calls answers).regions ≡ shown (is_region start pages) (state_after s calls answers (suc k)).heap
+shown_then : (s : State) (notes : Notes) (calls : List Call) (answers : List Answer) (k start pages : ℕ) →
+    IsAllowedRun s (map Some calls) (map Some answers) → IsKept (length notes.moments) s.heap notes.regions →
+    k < length calls →
+    all_shown (length notes.moments + k) start pages (notes_from notes calls answers).regions ≡ shown
+    (is_region start pages) (state_after s calls answers (suc k)).heap
 shown_then s notes [] [] k start pages run is less = absurd (omega (arith, less))
 shown_then s notes (call ∷ calls) (answer ∷ answers) zero start pages run is less =
     let next = kept_one s notes call answer run.0.1 is in
@@ -241,7 +273,8 @@ shown_then s notes (call ∷ calls) (answer ∷ answers) zero start pages run is
     let here : n + zero ≡ n = omega arith in
     ap (λ (m : ℕ). all_shown m start pages (notes_from (noted notes call answer) calls answers).regions) here
     ∙ showed (after s call answer) (noted notes call answer) calls answers n start pages run.1 next (let one = one_more notes call answer in omega (arith, one))
-    ∙ last_shown n (length (noted notes call answer).moments) start pages (after s call answer).heap (noted notes call answer).regions (one_more notes call answer) next
+    ∙ last_shown n (length (noted notes call answer).moments) start pages (after s call answer).heap
+    (noted notes call answer).regions (one_more notes call answer) next
 shown_then s notes (call ∷ calls) (answer ∷ answers) (suc k) start pages run is less =
     let next = kept_one s notes call answer run.0.1 is in
     let there : length notes.moments + suc k ≡ length (noted notes call answer).moments + k = (let one = one_more notes call answer in omega (arith, one)) in
@@ -251,11 +284,14 @@ shown_then s notes [] (answer ∷ answers) k start pages run is less = absurd ru
 shown_then s notes (call ∷ calls) [] k start pages run is less = absurd run
 
 -- at the end of the run each that goes on ends
-ended_shown : (calls k start pages : ℕ) (now : List Held) → k < calls → shown (shows_part k start pages) (map (ended calls) now) ≡ shown (shows_now k start pages) now
+ended_shown : (calls k start pages : ℕ) (now : List Held) → k < calls →
+    shown (shows_part k start pages) (map (ended calls) now) ≡ shown (shows_now k start pages) now
 ended_shown calls k start pages [] less = refl
-ended_shown calls k start pages (held ∷ now) less = (λ i. bit (nat_le held.born k && (less_true k calls less i && is_part start pages held)) + ended_shown calls k start pages now less i)
+ended_shown calls k start pages (held ∷ now) less = (λ i. bit (nat_le held.born k &&
+    (less_true k calls less i && is_part start pages held)) + ended_shown calls k start pages now less i)
 
-end_shown : (calls k start pages : ℕ) (notes : RegionNotes) → k < calls → shown (shows_part k start pages) (regions_at_end calls notes) ≡ all_shown k start pages notes
+end_shown : (calls k start pages : ℕ) (notes : RegionNotes) → k < calls →
+    shown (shows_part k start pages) (regions_at_end calls notes) ≡ all_shown k start pages notes
 end_shown calls k start pages notes less =
     let both = shown_both (shows_part k start pages) notes.gone (map (ended calls) notes.now) in
     let now = ended_shown calls k start pages notes.now less in

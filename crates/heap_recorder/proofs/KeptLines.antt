@@ -29,10 +29,14 @@ line_more calls call = go (nat_lt (length calls) 64) refl
         sym (ap (λ (b : Bool). if b then map call_line (calls ++ call ∷ []) else []) later)
 
 moments_more : (notes : Notes) (call : Call) (answer : Answer) → length (noted notes call answer).moments ≡ length notes.moments + 1
-moments_more notes call answer = let more = length-append notes.moments (moment (sizes_after notes.sizes call answer.reply) (bytes_after answer.regions notes.bytes) ∷ []) in omega (arith, more)
+moments_more notes call answer = let more = length-append notes.moments
+    (moment (sizes_after notes.sizes call answer.reply) (bytes_after answer.regions notes.bytes) ∷ []) in
+    omega (arith, more)
 
 -- and of all that come
-lines_from : (earlier : List Call) (notes : Notes) (calls : List Call) (answers : List Answer) → length calls ≡ length answers → length earlier ≡ length notes.moments → notes.lines ≡ lines_of earlier → (notes_from notes calls answers).lines ≡ lines_of (earlier ++ calls)
+lines_from : (earlier : List Call) (notes : Notes) (calls : List Call) (answers : List Answer) →
+    length calls ≡ length answers → length earlier ≡ length notes.moments → notes.lines ≡ lines_of earlier →
+    (notes_from notes calls answers).lines ≡ lines_of (earlier ++ calls)
 lines_from earlier notes [] answers same count are = are ∙ sym (ap lines_of (append-nil earlier))
 lines_from earlier notes (call ∷ calls) [] same count are = absurd (omega (arith, same))
 lines_from earlier notes (call ∷ calls) (answer ∷ answers) same count are =

@@ -48,11 +48,13 @@ Later call [] new = AreNew call new
 Later call (stay ∷ stays) [] = ⊥
 Later call (stay ∷ stays) (other ∷ new) = Turned call stay other × Later call stays new
 
-later_map : (call : ℕ) (change : Stay → Stay) → ((stay : Stay) → Turned call stay (change stay)) → (stays new : List Stay) → AreNew call new → Later call stays (map change stays ++ new)
+later_map : (call : ℕ) (change : Stay → Stay) → ((stay : Stay) → Turned call stay (change stay)) → (stays new : List Stay) →
+    AreNew call new → Later call stays (map change stays ++ new)
 later_map call change turns [] new are = are
 later_map call change turns (x ∷ xs) new are = (turns x, later_map call change turns xs new are)
 
-later_map_none : (call : ℕ) (change : Stay → Stay) → ((stay : Stay) → Turned call stay (change stay)) → (stays : List Stay) → Later call stays (map change stays)
+later_map_none : (call : ℕ) (change : Stay → Stay) → ((stay : Stay) → Turned call stay (change stay)) →
+    (stays : List Stay) → Later call stays (map change stays)
 later_map_none call change turns [] = tt
 later_map_none call change turns (x ∷ xs) = (turns x, later_map_none call change turns xs)
 
@@ -81,17 +83,26 @@ turned_now call stay = go (goes_on stay) refl
 new_one : (call number address size : ℕ) → AreNew call (new_stay call number address size ∷ [])
 new_one call number address size = (record { born = refl; on = refl }, tt)
 
-later_resized : (call number address size : ℕ) (notes : StayNotes) (found : Option Stay) → Later call notes.stays (resized_from call number address size found notes).stays
+later_resized : (call number address size : ℕ) (notes : StayNotes) (found : Option Stay) →
+    Later call notes.stays (resized_from call number address size found notes).stays
 later_resized call number address size notes None = later_none call notes.stays
 later_resized call number address size notes (Some stay) = go (is_at address size stay)
   where
-    go : (b : Bool) → Later call notes.stays (if b then notes else record { begun = notes.begun; stays = map (ended_of number call (why address stay)) notes.stays ++ new_stay call number address size ∷ [] }).stays
+    go : (b : Bool) → Later call notes.stays (if b then notes else record {
+      begun = notes.begun;
+      stays =
+          map (ended_of number call (why address stay)) notes.stays ++ new_stay call number address size ∷ [];
+    }).stays
     go true = later_none call notes.stays
-    go false = later_map call (ended_of number call (why address stay)) (turned_of call number (why address stay) (why_over address stay)) notes.stays (new_stay call number address size ∷ []) (new_one call number address size)
+    go false = later_map call (ended_of number call (why address stay))
+        (turned_of call number (why address stay) (why_over address stay)) notes.stays
+        (new_stay call number address size ∷ []) (new_one call number address size)
 
 pub later : (call : ℕ) (made : Call) (reply : Reply) (notes : StayNotes) → Later call notes.stays (stays_after call made reply notes).stays
-later call (Malloc size align) (Placed number address) notes = later_same call notes.stays (new_stay call notes.begun address size ∷ []) (new_one call notes.begun address size)
-later call (Calloc size align) (Placed number address) notes = later_same call notes.stays (new_stay call notes.begun address size ∷ []) (new_one call notes.begun address size)
+later call (Malloc size align) (Placed number address) notes = later_same call notes.stays
+    (new_stay call notes.begun address size ∷ []) (new_one call notes.begun address size)
+later call (Calloc size align) (Placed number address) notes = later_same call notes.stays
+    (new_stay call notes.begun address size ∷ []) (new_one call notes.begun address size)
 later call (Realloc number size) (Placed given address) notes = later_resized call number address size notes (find (is_of number) notes.stays)
 later call (CRealloc number size) (Placed given address) notes = later_resized call number address size notes (find (is_of number) notes.stays)
 later call (Free number) Done notes = later_map_none call (ended_of number call Freed) (turned_of call number Freed refl) notes.stays
@@ -108,19 +119,33 @@ ArePast calls [] = ⊤
 ArePast calls (stay ∷ stays) = IsPast calls stay × ArePast calls stays
 
 past_turned : (call : ℕ) (old new : Stay) → Turned call old new → IsPast call old → IsPast (suc call) new
-past_turned call old new (inl same) past = subst (λ (stay : Stay). IsPast (suc call) stay) (sym same) (record { born = (let less = past.born in omega (arith, less)); end = λ over. (let less = past.end over in omega (arith, less)) })
-past_turned call old new (inr ends) past = subst (λ (stay : Stay). IsPast (suc call) stay) (sym ends.3) (record { born = (let less = past.born in omega (arith, less)); end = λ over. omega arith })
+past_turned call old new (inl same) past = subst (λ (stay : Stay). IsPast (suc call) stay) (sym same)
+    (record {
+      born = (let less = past.born in omega (arith, less));
+      end =
+          λ over. (let less = past.end over in omega (arith, less));
+    })
+past_turned call old new (inr ends) past = subst (λ (stay : Stay). IsPast (suc call) stay) (sym ends.3)
+    (record { born = (let less = past.born in omega (arith, less)); end = λ over. omega arith })
 
 past_new : (call : ℕ) (new : List Stay) → AreNew call new → ArePast (suc call) new
 past_new call [] are = tt
-past_new call (x ∷ xs) are = (record { born = (let is = are.0.born in omega (arith, is)); end = λ over. absurd (let on = are.0.on in let wrong : true ≡ false = sym on ∙ over in cc) }, past_new call xs are.1)
+past_new call (x ∷ xs) are = (
+  record {
+    born = (let is = are.0.born in omega (arith, is));
+    end =
+        λ over. absurd (let on = are.0.on in let wrong : true ≡ false = sym on ∙ over in cc);
+  },
+  past_new call xs are.1,
+)
 
 pub past_later : (call : ℕ) (old new : List Stay) → Later call old new → ArePast call old → ArePast (suc call) new
 past_later call [] new later past = past_new call new later
 past_later call (x ∷ xs) [] later past = absurd later
 past_later call (x ∷ xs) (y ∷ ys) later past = (past_turned call x y later.0 past.0, past_later call xs ys later.1 past.1)
 
-showing_turned : (call k number address size : ℕ) (old new : Stay) → k < call → Turned call old new → showing k number address size new ≡ showing k number address size old
+showing_turned : (call k number address size : ℕ) (old new : Stay) → k < call → Turned call old new →
+    showing k number address size new ≡ showing k number address size old
 showing_turned call k number address size old new less (inl same) = ap (showing k number address size) same
 showing_turned call k number address size old new less (inr ends) =
     ap (showing k number address size) ends.3
@@ -135,7 +160,8 @@ showing_new call k number address size (x ∷ xs) less are =
     (λ i. bit (not_yet i && ((goes_on x || nat_lt k x.end) && is_spot number address size x)) + showing_new call k number address size xs less are.1 i)
 
 -- of a call before it shows what showed
-pub showing_later : (call k number address size : ℕ) (old new : List Stay) → k < call → Later call old new → shown (showing k number address size) new ≡ shown (showing k number address size) old
+pub showing_later : (call k number address size : ℕ) (old new : List Stay) → k < call → Later call old new →
+    shown (showing k number address size) new ≡ shown (showing k number address size) old
 showing_later call k number address size [] new less later = showing_new call k number address size new less later
 showing_later call k number address size (x ∷ xs) [] less later = absurd later
 showing_later call k number address size (x ∷ xs) (y ∷ ys) less later =
@@ -143,7 +169,8 @@ showing_later call k number address size (x ∷ xs) (y ∷ ys) less later =
 
 showing_one : (call number address size : ℕ) (stay : Stay) → IsPast (suc call) stay → showing call number address size stay ≡ alive number address size stay
 showing_one call number address size stay past =
-    (λ i. least_true stay.born call (let less = past.born in omega (arith, less)) i && ((goes_on stay || nat_lt call stay.end) && is_spot number address size stay))
+    (λ i. least_true stay.born call (let less = past.born in omega (arith, less)) i &&
+    ((goes_on stay || nat_lt call stay.end) && is_spot number address size stay))
     ∙ go (goes_on stay) refl
   where
     go : (b : Bool) → goes_on stay ≡ b → ((b || nat_lt call stay.end) && is_spot number address size stay) ≡ (b && is_spot number address size stay)
@@ -151,18 +178,23 @@ showing_one call number address size stay past =
     go false is = (λ i. less_false call stay.end (let less = past.end is in omega (arith, less)) i && is_spot number address size stay)
 
 -- of the last call those show that go on
-pub showing_last : (call number address size : ℕ) (stays : List Stay) → ArePast (suc call) stays → shown (showing call number address size) stays ≡ shown (alive number address size) stays
+pub showing_last : (call number address size : ℕ) (stays : List Stay) → ArePast (suc call) stays →
+    shown (showing call number address size) stays ≡ shown (alive number address size) stays
 showing_last call number address size [] past = refl
-showing_last call number address size (x ∷ xs) past = (λ i. bit (showing_one call number address size x past.0 i) + showing_last call number address size xs past.1 i)
+showing_last call number address size (x ∷ xs) past = (λ i. bit (showing_one call number address size x past.0
+    i) + showing_last call number address size xs past.1 i)
 
 shows_one : (calls k number address size : ℕ) (stay : Stay) → k < calls → shows k number address size (closed calls stay) ≡ showing k number address size stay
 shows_one calls k number address size stay less = go (goes_on stay) refl
   where
-    go : (b : Bool) → goes_on stay ≡ b → shows k number address size (if b then ended calls Live stay else stay) ≡ (nat_le stay.born k && ((b || nat_lt k stay.end) && is_spot number address size stay))
+    go : (b : Bool) → goes_on stay ≡ b → shows k number address size (if b then ended calls Live stay else stay) ≡ (nat_le
+        stay.born k && ((b || nat_lt k stay.end) && is_spot number address size stay))
     go true is = (λ i. nat_le stay.born k && (less_true k calls less i && is_spot number address size stay))
     go false is = refl
 
 -- at the end of the run too
-pub shows_all : (calls k number address size : ℕ) (stays : List Stay) → k < calls → shown (shows k number address size) (map (closed calls) stays) ≡ shown (showing k number address size) stays
+pub shows_all : (calls k number address size : ℕ) (stays : List Stay) → k < calls →
+    shown (shows k number address size) (map (closed calls) stays) ≡ shown (showing k number address size) stays
 shows_all calls k number address size [] less = refl
-shows_all calls k number address size (x ∷ xs) less = (λ i. bit (shows_one calls k number address size x less i) + shows_all calls k number address size xs less i)
+shows_all calls k number address size (x ∷ xs) less = (λ i. bit (shows_one calls k number address size x less i) + shows_all
+    calls k number address size xs less i)

@@ -34,12 +34,14 @@ AreHeldRising (held ∷ now) = IsHeldAfter held.start now × AreHeldRising now
 
 -- ---- the merge, step by step
 
-now_later : (n : ℕ) (h : Held) (now : List Held) (r : Region) (list : List Region) → nat_lt h.start r.start ≡ true → now_after n (h ∷ now) (r ∷ list) ≡ now_after n now (r ∷ list)
+now_later : (n : ℕ) (h : Held) (now : List Held) (r : Region) (list : List Region) → nat_lt h.start r.start ≡ true →
+    now_after n (h ∷ now) (r ∷ list) ≡ now_after n now (r ∷ list)
 now_later n h now r list is =
     let from : held_from r.start (h ∷ now) ≡ held_from r.start now = ap (λ (b : Bool). if b then held_from r.start now else h ∷ now) is in
     ap (λ (hs : List Held). going n r hs ∷ now_after n hs list) from
 
-now_here : (n : ℕ) (h : Held) (now : List Held) (r : Region) (list : List Region) → nat_lt h.start r.start ≡ false → now_after n (h ∷ now) (r ∷ list) ≡ going n r (h ∷ now) ∷ now_after n (h ∷ now) list
+now_here : (n : ℕ) (h : Held) (now : List Held) (r : Region) (list : List Region) → nat_lt h.start r.start ≡ false →
+    now_after n (h ∷ now) (r ∷ list) ≡ going n r (h ∷ now) ∷ now_after n (h ∷ now) list
 now_here n h now r list is =
     let from : held_from r.start (h ∷ now) ≡ h ∷ now = ap (λ (b : Bool). if b then held_from r.start now else h ∷ now) is in
     ap (λ (hs : List Held). going n r hs ∷ now_after n hs list) from
@@ -50,7 +52,8 @@ gone_here n h now r list is =
     let from : regions_from h.start (r ∷ list) ≡ r ∷ list = ap (λ (b : Bool). if b then regions_from h.start list else r ∷ list) is in
     ap (λ (rs : List Region). if stays_on h rs then gone_after n now rs else ended n h ∷ gone_after n now rs) from
 
-gone_later : (n : ℕ) (h : Held) (now : List Held) (r : Region) (list : List Region) → nat_lt r.start h.start ≡ true → gone_after n (h ∷ now) (r ∷ list) ≡ gone_after n (h ∷ now) list
+gone_later : (n : ℕ) (h : Held) (now : List Held) (r : Region) (list : List Region) → nat_lt r.start h.start ≡ true →
+    gone_after n (h ∷ now) (r ∷ list) ≡ gone_after n (h ∷ now) list
 gone_later n h now r list is =
     let from : regions_from h.start (r ∷ list) ≡ regions_from h.start list = ap (λ (b : Bool). if b then regions_from h.start list else r ∷ list) is in
     ap (λ (rs : List Region). if stays_on h rs then gone_after n now rs else ended n h ∷ gone_after n now rs) from
@@ -75,12 +78,14 @@ still : (n k start pages : ℕ) (h : Held) → k < n → shows_part k start page
 still n k start pages h less = (λ i. nat_le h.born k && (less_true k n less i && is_part start pages h))
 
 -- of a region that begins, nothing shows of earlier calls
-new_shows : (n k start pages : ℕ) (h : Held) (now : List Held) (r : Region) → k < n → is_same h r ≡ false → bit (shows_now k start pages (going n r (h ∷ now))) ≡ 0
+new_shows : (n k start pages : ℕ) (h : Held) (now : List Held) (r : Region) → k < n → is_same h r ≡ false →
+    bit (shows_now k start pages (going n r (h ∷ now))) ≡ 0
 new_shows n k start pages h now r less is =
     ap (λ (b : Bool). bit (shows_now k start pages (if b then h else new_held n r))) is
     ∙ ap bit (not_new n k start pages r less)
 
-same_shows : (n k start pages : ℕ) (h : Held) (now : List Held) (r : Region) → is_same h r ≡ true → bit (shows_now k start pages (going n r (h ∷ now))) ≡ bit (shows_now k start pages h)
+same_shows : (n k start pages : ℕ) (h : Held) (now : List Held) (r : Region) → is_same h r ≡ true →
+    bit (shows_now k start pages (going n r (h ∷ now))) ≡ bit (shows_now k start pages h)
 same_shows n k start pages h now r is = ap (λ (b : Bool). bit (shows_now k start pages (if b then h else new_held n r))) is
 
 all_new : (n k start pages : ℕ) (list : List Region) → k < n → shown (shows_now k start pages) (now_after n [] list) ≡ 0
@@ -93,23 +98,29 @@ all_gone n k start pages (h ∷ now) less = (λ i. bit (still n k start pages h 
 
 -- of an earlier call, those that go on and those that end show what showed
 abbrev pub ShowsAll : ℕ → ℕ → ℕ → ℕ → List Held → List Region → Type 0
-ShowsAll n k start pages now list = shown (shows_now k start pages) (now_after n now list) + shown (shows_part k start pages) (gone_after n now list) ≡ shown (shows_now k start pages) now
+ShowsAll n k start pages now list = shown (shows_now k start pages) (now_after n now list) + shown
+    (shows_part k start pages) (gone_after n now list) ≡ shown (shows_now k start pages) now
 
 -- the first that the heap had begins before all that are listed: it ends
-before : (n k start pages : ℕ) (h : Held) (now : List Held) (r : Region) (list : List Region) → k < n → h.start < r.start → ShowsAll n k start pages now (r ∷ list) → ShowsAll n k start pages (h ∷ now) (r ∷ list)
+before : (n k start pages : ℕ) (h : Held) (now : List Held) (r : Region) (list : List Region) → k < n → h.start < r.start →
+    ShowsAll n k start pages now (r ∷ list) → ShowsAll n k start pages (h ∷ now) (r ∷ list)
 before n k start pages h now r list less first rest =
     let other : is_same h r ≡ false = no_sameness h r (grind (arith, nat_tests, first)) in
     let on = ap (shown (shows_now k start pages)) (now_later n h now r list (less_true h.start r.start first)) in
-    let off : shown (shows_part k start pages) (gone_after n (h ∷ now) (r ∷ list)) ≡ bit (shows_now k start pages h) + shown (shows_part k start pages) (gone_after n now (r ∷ list)) =
-    ap (shown (shows_part k start pages)) (gone_here n h now r list (less_false r.start h.start (omega (arith, first))) ∙ ap (λ (b : Bool). if b then gone_after n now (r ∷ list) else ended n h ∷ gone_after n now (r ∷ list)) other)
+    let off : shown (shows_part k start pages) (gone_after n (h ∷ now) (r ∷ list)) ≡ bit (shows_now k start pages h) + shown
+    (shows_part k start pages) (gone_after n now (r ∷ list)) =
+    ap (shown (shows_part k start pages)) (gone_here n h now r list (less_false r.start h.start (omega (arith, first)))
+    ∙ ap (λ (b : Bool). if b then gone_after n now (r ∷ list) else ended n h ∷ gone_after n now (r ∷ list)) other)
     ∙ ap (λ (b : Bool). bit b + shown (shows_part k start pages) (gone_after n now (r ∷ list))) (still n k start pages h less) in
     omega (arith, on, off, rest)
 
 -- the first that is listed begins before all that the heap had: it is new
-behind : (n k start pages : ℕ) (h : Held) (now : List Held) (r : Region) (list : List Region) → k < n → r.start < h.start → ShowsAll n k start pages (h ∷ now) list → ShowsAll n k start pages (h ∷ now) (r ∷ list)
+behind : (n k start pages : ℕ) (h : Held) (now : List Held) (r : Region) (list : List Region) → k < n → r.start < h.start →
+    ShowsAll n k start pages (h ∷ now) list → ShowsAll n k start pages (h ∷ now) (r ∷ list)
 behind n k start pages h now r list less first rest =
     let other : is_same h r ≡ false = no_sameness h r (grind (arith, nat_tests, first)) in
-    let on : shown (shows_now k start pages) (now_after n (h ∷ now) (r ∷ list)) ≡ bit (shows_now k start pages (going n r (h ∷ now))) + shown (shows_now k start pages) (now_after n (h ∷ now) list) =
+    let on : shown (shows_now k start pages) (now_after n (h ∷ now) (r ∷ list)) ≡ bit
+    (shows_now k start pages (going n r (h ∷ now))) + shown (shows_now k start pages) (now_after n (h ∷ now) list) =
     ap (shown (shows_now k start pages)) (now_here n h now r list (less_false h.start r.start (omega (arith, first)))) in
     let none = new_shows n k start pages h now r less other in
     let off = ap (shown (shows_part k start pages)) (gone_later n h now r list (less_true r.start h.start first)) in
@@ -117,10 +128,12 @@ behind n k start pages h now r list less first rest =
 
 -- both begin at one address: what goes on
 on_there : (n k start pages : ℕ) (h : Held) (now : List Held) (r : Region) (list : List Region) → h.start ≡ r.start → IsAfter r.start list →
-    shown (shows_now k start pages) (now_after n (h ∷ now) (r ∷ list)) ≡ bit (shows_now k start pages (going n r (h ∷ now))) + shown (shows_now k start pages) (now_after n now list)
+    shown (shows_now k start pages) (now_after n (h ∷ now) (r ∷ list)) ≡ bit
+    (shows_now k start pages (going n r (h ∷ now))) + shown (shows_now k start pages) (now_after n now list)
 on_there n k start pages h now r list at above =
     let past = now_past n h now list (subst (λ (s : ℕ). IsAfter s list) (sym at) above) in
-    ap (shown (shows_now k start pages)) (now_here n h now r list (less_false h.start r.start (omega (arith, at))) ∙ ap (λ (hs : List Held). going n r (h ∷ now) ∷ hs) past)
+    ap (shown (shows_now k start pages)) (now_here n h now r list (less_false h.start r.start (omega (arith, at)))
+    ∙ ap (λ (hs : List Held). going n r (h ∷ now) ∷ hs) past)
 
 -- and what ends
 off_there : (n : ℕ) (h : Held) (now : List Held) (r : Region) (list : List Region) → h.start ≡ r.start → IsHeldAfter h.start now →
@@ -130,7 +143,8 @@ off_there n h now r list at above =
     gone_here n h now r list (less_false r.start h.start (omega (arith, at))) ∙ ap (λ (hs : List Held). if is_same h r then hs else ended n h ∷ hs) over
 
 -- it goes on if it is the same, and else ends, and another one begins
-beside : (n k start pages : ℕ) (h : Held) (now : List Held) (r : Region) (list : List Region) → k < n → h.start ≡ r.start → IsHeldAfter h.start now → IsAfter r.start list →
+beside : (n k start pages : ℕ) (h : Held) (now : List Held) (r : Region) (list : List Region) → k < n → h.start ≡ r.start →
+    IsHeldAfter h.start now → IsAfter r.start list →
     ShowsAll n k start pages now list → ShowsAll n k start pages (h ∷ now) (r ∷ list)
 beside n k start pages h now r list less at held_above above rest = go (is_same h r) refl
   where
@@ -138,13 +152,16 @@ beside n k start pages h now r list less at held_above above rest = go (is_same 
     go true is =
         let on = on_there n k start pages h now r list at above in
         let same = same_shows n k start pages h now r is in
-        let off = ap (shown (shows_part k start pages)) (off_there n h now r list at held_above ∙ ap (λ (b : Bool). if b then gone_after n now list else ended n h ∷ gone_after n now list) is) in
+        let off = ap (shown (shows_part k start pages)) (off_there n h now r list at held_above
+        ∙ ap (λ (b : Bool). if b then gone_after n now list else ended n h ∷ gone_after n now list) is) in
         omega (arith, on, same, off, rest)
     go false is =
         let on = on_there n k start pages h now r list at above in
         let none = new_shows n k start pages h now r less is in
-        let off : shown (shows_part k start pages) (gone_after n (h ∷ now) (r ∷ list)) ≡ bit (shows_now k start pages h) + shown (shows_part k start pages) (gone_after n now list) =
-        ap (shown (shows_part k start pages)) (off_there n h now r list at held_above ∙ ap (λ (b : Bool). if b then gone_after n now list else ended n h ∷ gone_after n now list) is)
+        let off : shown (shows_part k start pages) (gone_after n (h ∷ now) (r ∷ list)) ≡ bit
+        (shows_now k start pages h) + shown (shows_part k start pages) (gone_after n now list) =
+        ap (shown (shows_part k start pages)) (off_there n h now r list at held_above
+        ∙ ap (λ (b : Bool). if b then gone_after n now list else ended n h ∷ gone_after n now list) is)
         ∙ ap (λ (b : Bool). bit b + shown (shows_part k start pages) (gone_after n now list)) (still n k start pages h less) in
         omega (arith, on, none, off, rest)
 
@@ -152,9 +169,12 @@ pub shows_all : (n k start pages : ℕ) (now : List Held) (list : List Region) �
 shows_all n k start pages [] list less rising listed = let none = all_new n k start pages list less in omega (arith, none)
 shows_all n k start pages (h ∷ now) [] less rising listed = let all = all_gone n k start pages (h ∷ now) less in omega (arith, all)
 shows_all n k start pages (h ∷ now) (r ∷ list) less rising listed =
-    compared (shows_all n k start pages now (r ∷ list) less rising.1 listed) (shows_all n k start pages (h ∷ now) list less rising listed.1) (shows_all n k start pages now list less rising.1 listed.1)
+    compared (shows_all n k start pages now (r ∷ list) less rising.1 listed)
+    (shows_all n k start pages (h ∷ now) list less rising listed.1) (shows_all n k start pages now list less rising.1
+    listed.1)
   where
-    compared : ShowsAll n k start pages now (r ∷ list) → ShowsAll n k start pages (h ∷ now) list → ShowsAll n k start pages now list → ShowsAll n k start pages (h ∷ now) (r ∷ list)
+    compared : ShowsAll n k start pages now (r ∷ list) → ShowsAll n k start pages (h ∷ now) list →
+        ShowsAll n k start pages now list → ShowsAll n k start pages (h ∷ now) (r ∷ list)
     compared one two three = go (nat_lt h.start r.start) (nat_lt r.start h.start) refl refl
       where
         go : (b c : Bool) → nat_lt h.start r.start ≡ b → nat_lt r.start h.start ≡ c → ShowsAll n k start pages (h ∷ now) (r ∷ list)

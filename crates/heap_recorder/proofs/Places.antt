@@ -41,7 +41,8 @@ get_last [] x = refl
 get_last (y ∷ xs) x = get_last xs x
 
 -- an item of a list with one more: an earlier one, or the last
-pub get_push : {A : Type 0} (xs : List A) (x : A) (k : ℕ) (y : A) → slice_get (xs ++ x ∷ []) k ≡ Some y → (slice_get xs k ≡ Some y) ⊎ ((k ≡ length xs) × (x ≡ y))
+pub get_push : {A : Type 0} (xs : List A) (x : A) (k : ℕ) (y : A) → slice_get (xs ++ x ∷ []) k ≡ Some y →
+    (slice_get xs k ≡ Some y) ⊎ ((k ≡ length xs) × (x ≡ y))
 get_push [] x zero y is = inr (refl, some_is x y is)
 get_push [] x (suc k) y is = absurd (none_some y is)
 get_push (z ∷ xs) x zero y is = inl is
@@ -51,7 +52,8 @@ get_push (z ∷ xs) x (suc k) y is = elim (get_push xs x k y is) [
 ]
 
 -- an item of a list in which one was put: that one, or another
-pub get_set : {A : Type 0} (xs : List A) (i : ℕ) (v : A) (k : ℕ) (y : A) → slice_get (slice_set xs i v) k ≡ Some y → ((k ≡ i) × (v ≡ y)) ⊎ ((slice_get xs k ≡ Some y) × (k ≡ i → ⊥))
+pub get_set : {A : Type 0} (xs : List A) (i : ℕ) (v : A) (k : ℕ) (y : A) → slice_get (slice_set xs i v) k ≡ Some y →
+    ((k ≡ i) × (v ≡ y)) ⊎ ((slice_get xs k ≡ Some y) × (k ≡ i → ⊥))
 get_set [] i v k y is = absurd (none_some y is)
 get_set (z ∷ xs) zero v zero y is = inl (refl, some_is v y is)
 get_set (z ∷ xs) zero v (suc k) y is = inr (is, λ (e : suc k ≡ zero). omega (arith, e))
@@ -84,12 +86,14 @@ Keeps {A} test change = (item : A) → test item ≡ false → change item ≡ i
 pub missed_none : {A : Type 0} (test : A → Bool) (items : List A) (place : Option ℕ) → OnlyAt test items place → place ≡ None → IsMissed test items
 missed_none test items place only is k item at passes = none_some k (sym is ∙ only k item at passes)
 
-pub missed_past : {A : Type 0} (test : A → Bool) (items : List A) (place : ℕ) → OnlyAt test items (Some place) → slice_get items place ≡ None → IsMissed test items
+pub missed_past : {A : Type 0} (test : A → Bool) (items : List A) (place : ℕ) → OnlyAt test items (Some place) →
+    slice_get items place ≡ None → IsMissed test items
 missed_past test items place only is k item at passes =
     let same : place ≡ k = some_is place k (only k item at passes) in
     none_some item (sym is ∙ ap (slice_get items) same ∙ at)
 
-pub missed_at : {A : Type 0} (test : A → Bool) (items : List A) (place : ℕ) (found : A) → OnlyAt test items (Some place) → slice_get items place ≡ Some found → test found ≡ false → IsMissed test items
+pub missed_at : {A : Type 0} (test : A → Bool) (items : List A) (place : ℕ) (found : A) → OnlyAt test items (Some place) →
+    slice_get items place ≡ Some found → test found ≡ false → IsMissed test items
 missed_at test items place found only is fails k item at passes =
     let same : place ≡ k = some_is place k (only k item at passes) in
     let one : found ≡ item = some_is found item (sym is ∙ ap (slice_get items) same ∙ at) in
@@ -97,14 +101,17 @@ missed_at test items place found only is fails k item at passes =
 
 pub map_missed : {A : Type 0} (test : A → Bool) (change : A → A) (items : List A) → Keeps test change → IsMissed test items → map change items ≡ items
 map_missed test change [] keeps missed = refl
-map_missed test change (x ∷ xs) keeps missed = (λ i. keeps x (not_true (test x) (missed zero x refl)) i ∷ map_missed test change xs keeps (λ k. missed (suc k)) i)
+map_missed test change (x ∷ xs) keeps missed = (λ i. keeps x (not_true (test x) (missed zero x refl)) i ∷ map_missed test
+    change xs keeps (λ k. missed (suc k)) i)
 
 pub find_missed : {A : Type 0} (test : A → Bool) (items : List A) → IsMissed test items → find test items ≡ None
 find_missed test [] missed = refl
 find_missed {A} test (x ∷ xs) missed =
     ap (λ (b : Bool). cond {A = Option A} b (Some x) (find test xs)) (not_true (test x) (missed zero x refl)) ∙ find_missed test xs (λ k. missed (suc k))
 
-pub map_at : {A : Type 0} (test : A → Bool) (change : A → A) (items : List A) (place : ℕ) (item : A) → Keeps test change → OnlyAt test items (Some place) → slice_get items place ≡ Some item → map change items ≡ slice_set items place (change item)
+pub map_at : {A : Type 0} (test : A → Bool) (change : A → A) (items : List A) (place : ℕ) (item : A) → Keeps test change →
+    OnlyAt test items (Some place) → slice_get items place ≡ Some item →
+    map change items ≡ slice_set items place (change item)
 map_at test change [] place item keeps only is = absurd (none_some item is)
 map_at test change (x ∷ xs) zero item keeps only is =
     (λ i. change (some_is x item is i) ∷ map_missed test change xs keeps (λ k y at passes. first_later k (only (suc k) y at passes)) i)
@@ -112,7 +119,8 @@ map_at test change (x ∷ xs) (suc place) item keeps only is =
     (λ i. keeps x (not_true (test x) (λ passes. later_first place (only zero x refl passes))) i
     ∷ map_at test change xs place item keeps (λ k y at passes. both_earlier place k (only (suc k) y at passes)) is i)
 
-pub find_at : {A : Type 0} (test : A → Bool) (items : List A) (place : ℕ) (item : A) → OnlyAt test items (Some place) → slice_get items place ≡ Some item → test item ≡ true → find test items ≡ Some item
+pub find_at : {A : Type 0} (test : A → Bool) (items : List A) (place : ℕ) (item : A) → OnlyAt test items (Some place) →
+    slice_get items place ≡ Some item → test item ≡ true → find test items ≡ Some item
 find_at test [] place item only is passes = absurd (none_some item is)
 find_at {A} test (x ∷ xs) zero item only is passes =
     ap (λ (b : Bool). cond {A = Option A} b (Some x) (find test xs)) (ap test (some_is x item is) ∙ passes) ∙ is

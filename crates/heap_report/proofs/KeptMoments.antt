@@ -19,7 +19,8 @@ use Rattle.heap_report.proofs.KeptSizes.{kept_sizes}
 abbrev bytes_of : State → ℕ
 bytes_of s = 4096 * total_pages s.heap % 2 ^ 128
 
-bytes_noted : (s : State) (regions : Option (List Region)) (new : Option NewPages) (slots : List ℕ) → bytes_after regions (bytes_of s) ≡ bytes_of (with_regions s regions new slots)
+bytes_noted : (s : State) (regions : Option (List Region)) (new : Option NewPages) (slots : List ℕ) →
+    bytes_after regions (bytes_of s) ≡ bytes_of (with_regions s regions new slots)
 bytes_noted s None None slots = refl
 bytes_noted s None (Some new) slots = refl
 bytes_noted s (Some list) None slots = refl
@@ -30,7 +31,8 @@ record AreOf (s : State) (notes : Notes) : Type 0 where
   sizes : notes.sizes ≡ sizes_of s
   bytes : notes.bytes ≡ bytes_of s
 
-noted_of : (s : State) (notes : Notes) (call : Call) (answer : Answer) → IsAllowed s call answer → AreOf s notes → AreOf (after s call answer) (noted notes call answer)
+noted_of : (s : State) (notes : Notes) (call : Call) (answer : Answer) → IsAllowed s call answer → AreOf s notes →
+    AreOf (after s call answer) (noted notes call answer)
 noted_of s notes call answer allowed are = record {
   sizes = ap (λ (sizes : List ℕ). sizes_after sizes call answer.reply) are.sizes ∙ sym (kept_sizes s call answer allowed);
   bytes = ap (bytes_after answer.regions) (are.bytes ∙ ap (λ (heap : List Region). 4096 * total_pages heap % 2 ^ 128) (sym (changed_heap s call answer.reply)))
@@ -47,10 +49,16 @@ get_last [] x = refl
 get_last (y ∷ xs) x = get_last xs x
 
 one_more : (notes : Notes) (call : Call) (answer : Answer) → length (noted notes call answer).moments ≡ suc (length notes.moments)
-one_more notes call answer = let more = length-append notes.moments (record { live = sum (sizes_after notes.sizes call answer.reply); heap = bytes_after answer.regions notes.bytes } ∷ []) in omega (arith, more)
+one_more notes call answer = let more = length-append notes.moments (record {
+  live =
+      sum (sizes_after notes.sizes call answer.reply);
+  heap = bytes_after answer.regions notes.bytes;
+} ∷ []) in
+    omega (arith, more)
 
 -- later calls change no moment
-stays_so : (notes : Notes) (calls : List Call) (answers : List Answer) (k : ℕ) → k < length notes.moments → slice_get (notes_from notes calls answers).moments k ≡ slice_get notes.moments k
+stays_so : (notes : Notes) (calls : List Call) (answers : List Answer) (k : ℕ) → k < length notes.moments →
+    slice_get (notes_from notes calls answers).moments k ≡ slice_get notes.moments k
 stays_so notes [] answers k less = refl
 stays_so notes (call ∷ calls) [] k less = refl
 stays_so notes (call ∷ calls) (answer ∷ answers) k less =
@@ -60,7 +68,8 @@ stays_so notes (call ∷ calls) (answer ∷ answers) k less =
 same_moment : (s : State) (notes : Notes) → AreOf s notes → Some (record { live = sum notes.sizes; heap = notes.bytes }) ≡ Some (moment_of s)
 same_moment s notes are = (λ i. Some (record { live = sum (are.sizes i); heap = are.bytes i }))
 
-moments_of : (s : State) (notes : Notes) (calls : List Call) (answers : List Answer) (k : ℕ) → IsAllowedRun s (map Some calls) (map Some answers) → AreOf s notes → k < length calls →
+moments_of : (s : State) (notes : Notes) (calls : List Call) (answers : List Answer) (k : ℕ) →
+    IsAllowedRun s (map Some calls) (map Some answers) → AreOf s notes → k < length calls →
     slice_get (notes_from notes calls answers).moments (length notes.moments + k) ≡ Some (moment_of (state_after s calls answers (suc k)))
 moments_of s notes [] answers k run are less = absurd (omega (arith, less))
 moments_of s notes (call ∷ calls) [] k run are less = absurd run

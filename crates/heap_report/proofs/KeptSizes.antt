@@ -17,20 +17,26 @@ use Rattle.heap_report.specs.Live.{block_size, sizes_of}
 use Rattle.heap_recorder.specs.Sizes.{sizes_after}
 
 -- a live block with another size
-resized : (s : State) (number size address : ℕ) (n : Block → ℕ) (align : Block → ℕ) (regions : Option (List Region)) (found : Option Block) → MatchOption found ⊥ (λ block. IsResizing s block (n block) address regions)
+resized : (s : State) (number size address : ℕ) (n : Block → ℕ) (align : Block → ℕ) (regions : Option (List Region))
+    (found : Option Block) → MatchOption found ⊥ (λ block. IsResizing s block (n block) address regions)
     → map block_size (slice_set s.blocks number (option_map (resized_block address size align) found)) ≡ slice_set (map block_size s.blocks) number size
 resized s number size address n align regions None live = absurd live
 resized s number size address n align regions (Some block) live = map-set block_size s.blocks number (Some (resized_block address size align block))
 
 -- a change that keeps the size
-same_size : (change : Block → Block) → ((block : Block) → (change block).size ≡ block.size) → (found : Option Block) → block_size (option_map change found) ≡ block_size found
+same_size : (change : Block → Block) → ((block : Block) → (change block).size ≡ block.size) → (found : Option Block) →
+    block_size (option_map change found) ≡ block_size found
 same_size change keeps None = refl
 same_size change keeps (Some block) = keeps block
 
-kept : (blocks : List (Option Block)) (number : ℕ) (change : Block → Block) → ((block : Block) → (change block).size ≡ block.size) → map block_size (with_block blocks number change) ≡ map block_size blocks
-kept blocks number change keeps = map-set_same block_size blocks number (option_map change (block_at blocks number)) None (same_size change keeps (block_at blocks number))
+kept : (blocks : List (Option Block)) (number : ℕ) (change : Block → Block) →
+    ((block : Block) → (change block).size ≡ block.size) → map block_size (with_block blocks number change) ≡ map block_size
+    blocks
+kept blocks number change keeps = map-set_same block_size blocks number (option_map change (block_at blocks number)) None
+    (same_size change keeps (block_at blocks number))
 
-kept_all : (blocks : List (Option Block)) (change : Block → Block) → ((block : Block) → (change block).size ≡ block.size) → map block_size (map (option_map change) blocks) ≡ map block_size blocks
+kept_all : (blocks : List (Option Block)) (change : Block → Block) → ((block : Block) → (change block).size ≡ block.size) →
+    map block_size (map (option_map change) blocks) ≡ map block_size blocks
 kept_all [] change keeps = refl
 kept_all (block ∷ blocks) change keeps = (λ i. same_size change keeps block i ∷ kept_all blocks change keeps i)
 
@@ -48,11 +54,16 @@ ended [] = refl
 ended (block ∷ blocks) = ap (λ (sizes : List ℕ). 0 ∷ sizes) (ended blocks)
 
 -- what the reply alone changes
-reply_sizes : (s : State) (call : Call) (reply : Reply) (regions : Option (List Region)) → IsReply s call reply regions → sizes_of (changed s call reply) ≡ sizes_after (sizes_of s) call reply
+reply_sizes : (s : State) (call : Call) (reply : Reply) (regions : Option (List Region)) → IsReply s call reply regions →
+    sizes_of (changed s call reply) ≡ sizes_after (sizes_of s) call reply
 reply_sizes s (Malloc size align) (Placed number address) regions is = map-append block_size s.blocks (new_block address size align Fresh ∷ [])
 reply_sizes s (Calloc size align) (Placed number address) regions is = map-append block_size s.blocks (new_block address size align (Known 0) ∷ [])
-reply_sizes s (Realloc number size) (Placed given address) regions is = resized s number size address (λ block. wanted size (own_align block)) own_align regions (block_at s.blocks number) is.1.1
-reply_sizes s (CRealloc number size) (Placed given address) regions is = resized s number size address (λ block. wanted size (least_align block)) least_align regions (block_at s.blocks number) is.1.1
+reply_sizes s (Realloc number size) (Placed given address) regions is =
+    resized s number size address (λ block. wanted size (own_align block)) own_align regions (block_at s.blocks number)
+    is.1.1
+reply_sizes s (CRealloc number size) (Placed given address) regions is =
+    resized s number size address (λ block. wanted size (least_align block)) least_align regions (block_at s.blocks number)
+    is.1.1
 reply_sizes s (Free number) Done regions is = map-set block_size s.blocks number None
 reply_sizes s (Write number offset bytes) Done regions is = kept s.blocks number (known_block offset bytes) (λ block. refl)
 reply_sizes s (Read number offset count) (Bytes bytes) regions is = kept s.blocks number (known_block offset bytes) (λ block. refl)
@@ -71,7 +82,8 @@ regions_sizes s None (Some new) slots = refl
 regions_sizes s (Some list) None slots = refl
 regions_sizes s (Some list) (Some new) slots = refl
 
-pub kept_sizes : (s : State) (call : Call) (answer : Answer) → IsAllowed s call answer → sizes_of (after s call answer) ≡ sizes_after (sizes_of s) call answer.reply
+pub kept_sizes : (s : State) (call : Call) (answer : Answer) → IsAllowed s call answer →
+    sizes_of (after s call answer) ≡ sizes_after (sizes_of s) call answer.reply
 kept_sizes s call answer allowed =
     regions_sizes (changed s call answer.reply) answer.regions (new_pages s call answer.reply answer.regions) (slots_of answer.large)
     ∙ reply_sizes s call answer.reply answer.regions allowed.reply

@@ -39,7 +39,9 @@ never_refused s (Refused refusal) regions is = absurd (elim is.1 [ inl must ↦ 
 never_refused s reply regions is = absurd is.1
 
 -- the call changes nothing
-same_state : (s : State) (reply : Reply) (extents : List Extent) (regions : Option (List Region)) (slots : List ℕ) → reply ≡ Listing extents → regions ≡ None → with_regions (changed s Extents reply) regions (new_pages s Extents reply regions) slots ≡ s
+same_state : (s : State) (reply : Reply) (extents : List Extent) (regions : Option (List Region)) (slots : List ℕ) →
+    reply ≡ Listing extents → regions ≡ None → with_regions (changed s Extents reply) regions
+    (new_pages s Extents reply regions) slots ≡ s
 same_state s reply extents regions slots lists none =
     ap (λ (r : Reply). with_regions (changed s Extents r) regions (new_pages s Extents r regions) slots) lists
     ∙ ap (λ (r : Option (List Region)). with_regions (changed s Extents (Listing extents)) r (new_pages s Extents (Listing extents) r) slots) none
@@ -57,16 +59,20 @@ lists_extents s answer allowed =
     record { extents = listing.extents; lists = listing.lists; tiles = subst (λ (e : State). IsTiling e listing.extents) (sym same) listing.tiles }
 
 -- the heap listed them, and is as it was
-listed_by : (old new : Machine) (answer : Answer) (extents : List Extent) → HeapMoves old.heap Extents answer.reply answer.large new.heap → answer.reply ≡ Listing extents → AreTheHeapsExtents new extents
+listed_by : (old new : Machine) (answer : Answer) (extents : List Extent) →
+    HeapMoves old.heap Extents answer.reply answer.large new.heap → answer.reply ≡ Listing extents →
+    AreTheHeapsExtents new extents
 listed_by old new answer extents moves lists =
-    let listed : HeapMoves old.heap Extents (Listing extents) answer.large new.heap = subst (λ (r : Reply). HeapMoves old.heap Extents r answer.large new.heap) lists moves in
+    let listed : HeapMoves old.heap Extents (Listing extents) answer.large new.heap =
+    subst (λ (r : Reply). HeapMoves old.heap Extents r answer.large new.heap) lists moves in
     subst (λ (heap : Dlmalloc PagedSystem). IsListOf word heap extents) (sym listed.0) listed.1
 
 pub extents_same : (xs ys : List Extent) → Listing xs ≡ Listing ys → xs ≡ ys
 extents_same xs ys same = cc
 
 -- what a run is whose last call asked for the extents
-pub listed_from : (replay served : Replay) (answer : Answer) (listed : Listed) → IsAnswered replay Extents answer served → ((extents : List Extent) → answer.reply ≡ Listing extents → listed.extents ≡ extents)
+pub listed_from : (replay served : Replay) (answer : Answer) (listed : Listed) → IsAnswered replay Extents answer served →
+    ((extents : List Extent) → answer.reply ≡ Listing extents → listed.extents ≡ extents)
     → listed.machine ≡ served.machine → listed.live ≡ sum served.sizes → listed.peak ≡ served.peak → IsListed replay listed
 listed_from replay served answer listed is found machine sums top = λ s follows least.
     let one = answered_one s replay served served Extents answer follows least is refl refl refl in
@@ -80,7 +86,8 @@ listed_from replay served answer listed is found machine sums top = λ s follows
       steps = subst (λ (m : Machine). StepsTo replay.machine (Some Extents ∷ []) (Some answer ∷ []) m) (sym machine) one.steps;
       lists = lists;
       tiles = subst (λ (l : List Extent). IsTiling (after s Extents answer) l) (sym same) list.tiles;
-      of_heap = subst (λ (m : Machine). AreTheHeapsExtents m listed.extents) (sym machine) (listed_by replay.machine served.machine answer listed.extents is.stepped.heap lists);
+      of_heap = subst (λ (m : Machine). AreTheHeapsExtents m listed.extents) (sym machine)
+          (listed_by replay.machine served.machine answer listed.extents is.stepped.heap lists);
       at = subst (λ (m : Machine). IsAt m (after s Extents answer)) (sym machine) one.follows.at;
       live_is = sums ∙ ap sum one.follows.sizes;
       peak_is = top ∙ one.peak_is;

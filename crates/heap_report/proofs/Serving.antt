@@ -31,23 +31,30 @@ pub record IsOne (s : State) (old : Replay) (call : Call) (answer : Answer) (new
   pub follows : Follows (after s call answer) new
   pub peak_is : new.peak ≡ max old.peak (peak s (call ∷ []) (answer ∷ []))
 
-pub answered_one : (s : State) (old middle new : Replay) (call : Call) (answer : Answer) → Follows s old → live s ≤ old.peak → IsAnswered old call answer middle → new.machine ≡ middle.machine → new.sizes ≡ middle.sizes → new.peak ≡ middle.peak → IsOne s old call answer new
+pub answered_one : (s : State) (old middle new : Replay) (call : Call) (answer : Answer) → Follows s old →
+    live s ≤ old.peak → IsAnswered old call answer middle → new.machine ≡ middle.machine → new.sizes ≡ middle.sizes →
+    new.peak ≡ middle.peak → IsOne s old call answer new
 answered_one s old middle new call answer follows least is machine same top =
-    let step : IsStep s call answer (seen new.machine) = subst (λ (m : Machine). IsStep s call answer (seen m)) (sym machine) (is.stepped.allowed s follows.at.good follows.at.stands) in
+    let step : IsStep s call answer (seen new.machine) = subst (λ (m : Machine). IsStep s call answer (seen m))
+    (sym machine) (is.stepped.allowed s follows.at.good follows.at.stands) in
     let sizes_is : new.sizes ≡ sizes_of (after s call answer) =
     same ∙ is.sizes ∙ ap (λ (l : List ℕ). sizes_after l call answer.reply) follows.sizes ∙ sym (kept_sizes s call answer step.allowed) in
     let sum_is : sum new.sizes ≡ live (after s call answer) = ap sum sizes_is in
     let most : new.peak ≡ max old.peak (sum new.sizes) = top ∙ is.peak_is ∙ ap (λ (l : List ℕ). max old.peak (sum l)) (sym same) in
     record {
       run = record { run = ((step.allowed, step.good), tt); last = refl };
-      steps = subst (λ (m : Machine). StepsTo old.machine (Some call ∷ []) (Some answer ∷ []) m) (sym machine) (step_one old.machine middle.machine call answer is.stepped);
+      steps = subst (λ (m : Machine). StepsTo old.machine (Some call ∷ []) (Some answer ∷ []) m) (sym machine)
+          (step_one old.machine middle.machine call answer is.stepped);
       follows = record { at = record { good = step.good; stands = step.stands }; sizes = sizes_is };
       peak_is = highest old.peak (live s) (live (after s call answer)) (sum new.sizes) new.peak least most sum_is;
     }
 
 -- with what is kept for the text
-pub noted_one : {T : Type 0} (keeps : T → List Call → List Answer → Type 0) (old new : Noted T) (middle : Replay) (call : Call) (answer : Answer) → IsAnswered old.replay call answer middle → new.replay.machine ≡ middle.machine → new.replay.sizes ≡ middle.sizes → new.replay.peak ≡ middle.peak →
-    ((calls : List Call) (answers : List Answer) → keeps old.kept calls answers → keeps new.kept (calls ++ call ∷ []) (answers ++ answer ∷ [])) → IsNoted keeps old (call ∷ []) new
+pub noted_one : {T : Type 0} (keeps : T → List Call → List Answer → Type 0) (old new : Noted T) (middle : Replay)
+    (call : Call) (answer : Answer) → IsAnswered old.replay call answer middle → new.replay.machine ≡ middle.machine →
+    new.replay.sizes ≡ middle.sizes → new.replay.peak ≡ middle.peak →
+    ((calls : List Call) (answers : List Answer) → keeps old.kept calls answers →
+    keeps new.kept (calls ++ call ∷ []) (answers ++ answer ∷ [])) → IsNoted keeps old (call ∷ []) new
 noted_one keeps old new middle call answer is machine same top noted s follows least =
     let one = answered_one s old.replay middle new.replay call answer follows least is machine same top in
     record {

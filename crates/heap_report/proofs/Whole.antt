@@ -34,7 +34,9 @@ abbrev Text : Type 0
 Text = Machine → State → ℕ → ℕ → List Extent → List Call → List Answer → List ℕ
 
 -- all calls of the input were served, the last line's too
-pub served_input : {T : Type 0} (keeps : T → List Call → List Answer → Type 0) (first last end : Noted T) (line : List ℕ) (l l1 t t1 : Option (List ℕ)) (n : ℕ) (before after : List ℕ) (h : HasRead (IsReplaying keeps) first last line l l1 t t1 n) → HasResponded (IsReplaying keeps) last (items_of line) before after end
+pub served_input : {T : Type 0} (keeps : T → List Call → List Answer → Type 0) (first last end : Noted T) (line : List ℕ)
+    (l l1 t t1 : Option (List ℕ)) (n : ℕ) (before after : List ℕ) (h : HasRead (IsReplaying keeps) first last line l l1 t t1
+    n) → HasResponded (IsReplaying keeps) last (items_of line) before after end
     → IsNoted keeps first (calls_in (items_of h.bytes)) end
 served_input keeps first last end line l l1 t t1 n before after h k =
     let a = h.responded in
@@ -44,7 +46,8 @@ served_input keeps first last end line l l1 t t1 n before after h k =
     subst (λ (l : List (Option Call)). IsNoted keeps first (calls_in l) end) (sym items) both.replayed
 
 -- and then the extents were asked for
-pub record IsWhole {T : Type 0} (keeps : T → List Call → List Answer → Type 0) (s : State) (machine : Machine) (input : List ℕ) (kept : T) (listed : Listed) : Type 0 where
+pub record IsWhole {T : Type 0} (keeps : T → List Call → List Answer → Type 0) (s : State) (machine : Machine)
+    (input : List ℕ) (kept : T) (listed : Listed) : Type 0 where
   pub answers : List Answer
   pub state : State
   pub replay : IsReplayOf s input answers state listed.extents
@@ -59,7 +62,10 @@ pub record IsWhole {T : Type 0} (keeps : T → List Call → List Answer → Typ
 joined_peak : (before first last both middle now : ℕ) → now ≡ max middle last → middle ≡ max before first → before ≡ 0 → both ≡ max first last → now ≡ both
 joined_peak before first last both middle now top up none joined = omega (arith, top, up, none, joined)
 
-pub whole : {T : Type 0} (keeps : T → List Call → List Answer → Type 0) (s : State) (machine : Machine) (first end : Noted T) (listed : Listed) (input : List ℕ) → IsAt machine s → s.blocks ≡ [] → IsBegunWith keeps machine first → IsNoted keeps first (calls_in (items_of input)) end → IsListed end.replay listed → IsWhole keeps s machine input end.kept listed
+pub whole : {T : Type 0} (keeps : T → List Call → List Answer → Type 0) (s : State) (machine : Machine)
+    (first end : Noted T) (listed : Listed) (input : List ℕ) → IsAt machine s → s.blocks ≡ [] →
+    IsBegunWith keeps machine first → IsNoted keeps first (calls_in (items_of input)) end → IsListed end.replay listed →
+    IsWhole keeps s machine input end.kept listed
 whole keeps s machine first end listed input at none begins served lists =
     let begun = begins.begun in
     let calls = calls_in (items_of input) in
@@ -71,7 +77,10 @@ whole keeps s machine first end listed input at none begins served lists =
     let all : RunsTo s (map Some (calls_of input)) (map Some (k.answers ++ e.answer ∷ [])) e.state =
     calls_on s k.state e.state calls (Extents ∷ []) k.answers (e.answer ∷ []) k.run e.run in
     let joined = peak-append s k.state calls (Extents ∷ []) k.answers (e.answer ∷ []) k.run in
-    let top : listed.peak ≡ peak s (calls_of input) (k.answers ++ e.answer ∷ []) = joined_peak first.replay.peak (peak s calls k.answers) (peak k.state (Extents ∷ []) (e.answer ∷ [])) (peak s (calls_of input) (k.answers ++ e.answer ∷ [])) end.replay.peak listed.peak e.peak_is k.peak_is begun.peak_is joined in
+    let top : listed.peak ≡ peak s (calls_of input) (k.answers ++ e.answer ∷ []) =
+    joined_peak first.replay.peak (peak s calls k.answers) (peak k.state (Extents ∷ []) (e.answer ∷ []))
+    (peak s (calls_of input) (k.answers ++ e.answer ∷ [])) end.replay.peak listed.peak e.peak_is k.peak_is begun.peak_is
+    joined in
     record {
       answers = k.answers ++ e.answer ∷ [];
       state = e.state;
@@ -91,8 +100,11 @@ whole keeps s machine first end listed input at none begins served lists =
     }
 
 -- the text of the run is the one pushed
-pub text_is : {T : Type 0} (keeps : T → List Call → List Answer → Type 0) (text : Text) (s : State) (machine : Machine) (input : List ℕ) (kept : T) (listed : Listed) (extents : List Extent) (output before : List ℕ) (w : IsWhole keeps s machine input kept listed) → extents ≡ listed.extents →
-    ((e : State) (calls : List Call) (answers : List Answer) → IsAt listed.machine e → keeps kept calls answers → output ≡ before ++ text listed.machine e listed.live listed.peak extents calls answers) → before ≡ []
+pub text_is : {T : Type 0} (keeps : T → List Call → List Answer → Type 0) (text : Text) (s : State) (machine : Machine)
+    (input : List ℕ) (kept : T) (listed : Listed) (extents : List Extent) (output before : List ℕ)
+    (w : IsWhole keeps s machine input kept listed) → extents ≡ listed.extents →
+    ((e : State) (calls : List Call) (answers : List Answer) → IsAt listed.machine e → keeps kept calls answers →
+    output ≡ before ++ text listed.machine e listed.live listed.peak extents calls answers) → before ≡ []
     → output ≡ text_of_run text listed.machine s input w.answers w.state listed.extents w.replay.last.earlier
 text_is keeps text s machine input kept listed extents output before w same pushed empty =
     let calls = calls_in (items_of input) in
@@ -117,28 +129,54 @@ appends_behind (Some us) (Some bs) None ys h k = absurd k
 appends_behind (Some us) (Some bs) (Some cs) ys h k = k ∙ ap (λ (l : List ℕ). l ++ ys) (h ∙ append-nil us)
 
 -- nothing went out while the input was read
-pub silent_read : {T : Type 0} (keeps : T → List Call → List Answer → Type 0) (first last : Noted T) (line : List ℕ) (l l1 t t1 : Option (List ℕ)) (n : ℕ) → HasRead (IsReplaying keeps) first last line l l1 t t1 n → Appends t t1 []
+pub silent_read : {T : Type 0} (keeps : T → List Call → List Answer → Type 0) (first last : Noted T) (line : List ℕ)
+    (l l1 t t1 : Option (List ℕ)) (n : ℕ) → HasRead (IsReplaying keeps) first last line l l1 t t1 n → Appends t t1 []
 silent_read keeps first last line l l1 t t1 n h = subst (λ (out : List ℕ). Appends t t1 out) h.responded.responses.silent h.appended
 
 front_nothing : (told more whole : List ℕ) → told ++ more ≡ whole → whole ≡ [] → told ≡ []
 front_nothing [] more whole split none = refl
 front_nothing (x ∷ told) more whole split none = absurd (cc (split ∙ none))
 
-pub silent_stop : {T : Type 0} (keeps : T → List Call → List Answer → Type 0) (first : Noted T) (stop : Stop) (l l1 t t1 : Option (List ℕ)) → HasStopped (IsReplaying keeps) first stop l l1 t t1 → Appends t t1 []
-silent_stop keeps first stop l l1 t t1 h = subst (λ (out : List ℕ). Appends t t1 out) (front_nothing h.told h.front.more h.front.whole h.front.front h.front.responses.silent) h.appended
+pub silent_stop : {T : Type 0} (keeps : T → List Call → List Answer → Type 0) (first : Noted T) (stop : Stop)
+    (l l1 t t1 : Option (List ℕ)) → HasStopped (IsReplaying keeps) first stop l l1 t t1 → Appends t t1 []
+silent_stop keeps first stop l l1 t t1 h = subst (λ (out : List ℕ). Appends t t1 out)
+    (front_nothing h.told h.front.more h.front.whole h.front.front h.front.responses.silent) h.appended
 
 -- a run that stopped as it read
-pub part_stopped : {T : Type 0} (keeps : T → List Call → List Answer → Type 0) (text : Text) (s : State) (first : Noted T) (stop : Stop) (l l1 t t1 : Option (List ℕ)) → HasStopped (IsReplaying keeps) first stop l l1 t t1 → IsToldInPart text s l l1 t t1
-part_stopped keeps text s first stop l l1 t t1 h = record { taken = h.bytes; read = h.consumed; short = h.short; front = []; written = silent_stop keeps first stop l l1 t t1 h; is = inl refl }
+pub part_stopped : {T : Type 0} (keeps : T → List Call → List Answer → Type 0) (text : Text) (s : State) (first : Noted T)
+    (stop : Stop) (l l1 t t1 : Option (List ℕ)) → HasStopped (IsReplaying keeps) first stop l l1 t t1 →
+    IsToldInPart text s l l1 t t1
+part_stopped keeps text s first stop l l1 t t1 h = record {
+  taken = h.bytes;
+  read = h.consumed;
+  short = h.short;
+  front = [];
+  written = silent_stop keeps first stop l l1 t t1 h;
+  is = inl refl;
+}
 
 -- one that stopped after that, before it wrote
-pub part_read : {T : Type 0} (keeps : T → List Call → List Answer → Type 0) (text : Text) (s : State) (first last : Noted T) (line : List ℕ) (l l1 t t1 : Option (List ℕ)) (n : ℕ) → HasRead (IsReplaying keeps) first last line l l1 t t1 n → n ≤ 2 ^ 30 → IsToldInPart text s l l1 t t1
+pub part_read : {T : Type 0} (keeps : T → List Call → List Answer → Type 0) (text : Text) (s : State) (first last : Noted T)
+    (line : List ℕ) (l l1 t t1 : Option (List ℕ)) (n : ℕ) → HasRead (IsReplaying keeps) first last line l l1 t t1 n →
+    n ≤ 2 ^ 30 → IsToldInPart text s l l1 t t1
 part_read keeps text s first last line l l1 t t1 n h short =
-    record { taken = h.bytes; read = h.consumed; short = omega (arith, h.counted, short); front = []; written = silent_read keeps first last line l l1 t t1 n h; is = inl refl }
+    record {
+      taken = h.bytes;
+      read = h.consumed;
+      short = omega (arith, h.counted, short);
+      front = [];
+      written =
+          silent_read keeps first last line l l1 t t1 n h;
+      is = inl refl;
+    }
 
 -- one that stopped as it wrote
-pub part_written : {T : Type 0} (keeps : T → List Call → List Answer → Type 0) (text : Text) (s : State) (machine : Machine) (first last : Noted T) (kept : T) (listed : Listed) (line output : List ℕ) (l l1 t t1 t2 : Option (List ℕ)) (n k : ℕ) (h : HasRead (IsReplaying keeps) first last line l l1 t t1 n) → n ≤ 2 ^ 30 → IsAtEnd l1 → (w : IsWhole keeps s machine h.bytes kept listed)
-    → output ≡ text_of_run text listed.machine s h.bytes w.answers w.state listed.extents w.replay.last.earlier → Appends t1 t2 (take k output) → IsToldInPart text s l l1 t t2
+pub part_written : {T : Type 0} (keeps : T → List Call → List Answer → Type 0) (text : Text) (s : State) (machine : Machine)
+    (first last : Noted T) (kept : T) (listed : Listed) (line output : List ℕ) (l l1 t t1 t2 : Option (List ℕ)) (n k : ℕ)
+    (h : HasRead (IsReplaying keeps) first last line l l1 t t1 n) → n ≤ 2 ^ 30 → IsAtEnd l1 →
+    (w : IsWhole keeps s machine h.bytes kept listed)
+    → output ≡ text_of_run text listed.machine s h.bytes w.answers w.state listed.extents w.replay.last.earlier →
+    Appends t1 t2 (take k output) → IsToldInPart text s l l1 t t2
 part_written keeps text s machine first last kept listed line output l l1 t t1 t2 n k h short done w is written = record {
   taken = h.bytes;
   read = h.consumed;
@@ -161,8 +199,13 @@ part_written keeps text s machine first last kept listed line output l l1 t t1 t
 }
 
 -- one that ended well
-pub told : {T : Type 0} (keeps : T → List Call → List Answer → Type 0) (text : Text) (s : State) (machine : Machine) (first last : Noted T) (kept : T) (listed : Listed) (line output : List ℕ) (l l1 t t1 t2 : Option (List ℕ)) (flushed : Option ℕ) (n : ℕ) (h : HasRead (IsReplaying keeps) first last line l l1 t t1 n) → IsAtEnd l1 → (w : IsWhole keeps s machine h.bytes kept listed)
-    → output ≡ text_of_run text listed.machine s h.bytes w.answers w.state listed.extents w.replay.last.earlier → Appends t1 t2 output → IsAllFlushed t2 flushed → IsTold text s machine l l1 t t2 flushed listed.machine listed.extents
+pub told : {T : Type 0} (keeps : T → List Call → List Answer → Type 0) (text : Text) (s : State) (machine : Machine)
+    (first last : Noted T) (kept : T) (listed : Listed) (line output : List ℕ) (l l1 t t1 t2 : Option (List ℕ))
+    (flushed : Option ℕ) (n : ℕ) (h : HasRead (IsReplaying keeps) first last line l l1 t t1 n) → IsAtEnd l1 →
+    (w : IsWhole keeps s machine h.bytes kept listed)
+    → output ≡ text_of_run text listed.machine s h.bytes w.answers w.state listed.extents w.replay.last.earlier →
+    Appends t1 t2 output → IsAllFlushed t2 flushed → IsTold text s machine l l1 t t2 flushed listed.machine
+    listed.extents
 told keeps text s machine first last kept listed line output l l1 t t1 t2 flushed n h done w is written all = record {
   input = h.bytes;
   read = read_whole l l1 h.bytes h.consumed done;
@@ -178,4 +221,12 @@ told keeps text s machine first last kept listed line output l l1 t t1 t2 flushe
 
 -- nothing was read or written
 pub part_first : (text : Text) (s : State) (left taken : Option (List ℕ)) → IsToldInPart text s left left taken taken
-part_first text s left taken = record { taken = []; read = consumes_nothing left; short = omega arith; front = []; written = appends_nothing taken; is = inl refl }
+part_first text s left taken = record {
+  taken = [];
+  read = consumes_nothing left;
+  short = omega arith;
+  front = [];
+  written =
+      appends_nothing taken;
+  is = inl refl;
+}

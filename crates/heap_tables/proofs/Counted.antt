@@ -12,7 +12,8 @@ more : (kind : Use) (uses : List Use) (one : Use) → number_of kind (uses ++ on
 more kind uses one = sum_by-append (λ x. cond (same_use kind x) 1 0) uses (one ∷ [])
 
 -- is counted for one use
-one_use : (one : Use) → number_of Table (one ∷ []) + number_of Large (one ∷ []) + number_of HeapPage (one ∷ []) + number_of UserPage (one ∷ []) + number_of Free (one ∷ []) ≡ 1
+one_use : (one : Use) → number_of Table (one ∷ []) + number_of Large (one ∷ []) + number_of HeapPage (one ∷ []) + number_of
+    UserPage (one ∷ []) + number_of Free (one ∷ []) ≡ 1
 one_use Table = refl
 one_use Large = refl
 one_use HeapPage = refl

@@ -9,11 +9,13 @@ use Rattle.heap_tables.specs.Uses.{use_of, uses_of}
 use Rattle.std.proofs.Math.Nat.{mul-le-mul_left, mul-div-le}
 use Rattle.heap_tables.proofs.Joins.{rest_at}
 
-rows_more : (y : ℕ) (lines : List Line) (i : ℕ) (d : Line) → i < length lines → rows_text y (drop i lines) ≡ row_text y (get_or lines i d) ++ rows_text (y + 22) (drop (i + 1) lines)
+rows_more : (y : ℕ) (lines : List Line) (i : ℕ) (d : Line) → i < length lines →
+    rows_text y (drop i lines) ≡ row_text y (get_or lines i d) ++ rows_text (y + 22) (drop (i + 1) lines)
 rows_more y lines i d within = ap (rows_text y) (rest_at lines i d within)
 
 -- the text with one row more, and the rest below it
-pub rows_put : (y y' : ℕ) (lines : List Line) (i : ℕ) (d : Line) (out new text : List ℕ) → i < length lines → y' ≡ y + 22 → new ≡ out ++ row_text y (get_or lines i d) →
+pub rows_put : (y y' : ℕ) (lines : List Line) (i : ℕ) (d : Line) (out new text : List ℕ) → i < length lines → y' ≡ y + 22 →
+    new ≡ out ++ row_text y (get_or lines i d) →
     out ++ rows_text y (drop i lines) ≡ text → new ++ rows_text y' (drop (i + 1) lines) ≡ text
 rows_put y y' lines i d out new text within below put whole =
     let row = row_text y (get_or lines i d) in

@@ -18,24 +18,30 @@ use Rattle.heap_tables.proofs.Unsaid.{under_none}
 root_met : (words : List ℕ) (root : ℕ) → reach words root 0 0 ≡ Some (top root)
 root_met words root = let first : prefix_of 0 0 ≡ 0 = omega arith in ap (reach words root 0) (sym first) ∙ reach_root words root 0
 
-unsaid : (words : List ℕ) (regions : List Owned) (root page : ℕ) → page < 2 ^ 36 → list_any (has_page page) (lines_of words regions root) ≡ false → walk_of words root page ≡ None
+unsaid : (words : List ℕ) (regions : List Owned) (root page : ℕ) → page < 2 ^ 36 →
+    list_any (has_page page) (lines_of words regions root) ≡ false → walk_of words root page ≡ None
 unsaid words regions root page low none =
     let first : prefix_of page 0 ≡ 0 = omega arith in
-    under_none words regions root 4 page 0 (top root) (omega arith) low (sym first) (root_met words root) (sym (has_joined page (entry_lines_of words regions root)) ∙ none)
+    under_none words regions root 4 page 0 (top root) (omega arith) low (sym first) (root_met words root)
+    (sym (has_joined page (entry_lines_of words regions root)) ∙ none)
 
 pub each_page : EachPageIsInItsLine
 each_page words regions root = record {
   walked = record {
-    said = walked_joined words root (entry_lines_of words regions root) (under_hold (IsWalked words root) words regions root 4 0 (top root) (all_walked words regions root) (omega arith) (omega arith) (root_met words root));
+    said = walked_joined words root (entry_lines_of words regions root)
+        (under_hold (IsWalked words root) words regions root 4 0 (top root) (all_walked words regions root) (omega arith)
+        (omega arith) (root_met words root));
     unsaid = λ page low none. unsaid words regions root page low none;
   };
   owned = λ one.
-      owned_joined regions (entry_lines_of words regions root) (under_hold (IsOwned regions) words regions root 4 0 (top root) (all_owned words regions root one) (omega arith) (omega arith) (root_met words root));
+      owned_joined regions (entry_lines_of words regions root) (under_hold (IsOwned regions) words regions root 4 0
+      (top root) (all_owned words regions root one) (omega arith) (omega arith) (root_met words root));
   greatest = greatest_joined (entry_lines_of words regions root);
 }
 
 pub lines_walked : (words : List ℕ) (regions : List Owned) (root : ℕ) (lines : List Line) → lines ≡ lines_of words regions root → AreWalked words root lines
 lines_walked words regions root lines is = subst (AreWalked words root) (sym is) (each_page words regions root).walked
 
-pub lines_owned : (words : List ℕ) (regions : List Owned) (root : ℕ) (lines : List Line) → lines ≡ lines_of words regions root → AreOwned words regions root lines
+pub lines_owned : (words : List ℕ) (regions : List Owned) (root : ℕ) (lines : List Line) →
+    lines ≡ lines_of words regions root → AreOwned words regions root lines
 lines_owned words regions root lines is = subst (AreOwned words regions root) (sym is) (each_page words regions root).owned

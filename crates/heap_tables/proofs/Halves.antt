@@ -22,13 +22,15 @@ in_it : (address : ℕ) (region : Owned) → region.start ≤ address → addres
 in_it address region from to = grind (arith, nat_tests, from, to)
 
 -- one of the regions that come after another begins after it
-begins_after : (end : ℕ) (regions : List Owned) (i : ℕ) (d : Owned) → i < length regions → AllByRecursion (λ next. end ≤ next.start) regions → end ≤ (get_or regions i d).start
+begins_after : (end : ℕ) (regions : List Owned) (i : ℕ) (d : Owned) → i < length regions →
+    AllByRecursion (λ next. end ≤ next.start) regions → end ≤ (get_or regions i d).start
 begins_after end [] i d within all = absurd (omega (arith, within))
 begins_after end (region ∷ regions) zero d within all = all.0
 begins_after end (region ∷ regions) (suc i) d within all = begins_after end regions i d (omega (arith, within)) all.1
 
 -- an address after one of the regions is in none up to it
-behind : (regions : List Owned) (i : ℕ) (d : Owned) (address : ℕ) → AreAscending regions → i < length regions → end_of (get_or regions i d) ≤ address → owner_at regions address ≡ owner_at (drop (suc i) regions) address
+behind : (regions : List Owned) (i : ℕ) (d : Owned) (address : ℕ) → AreAscending regions → i < length regions →
+    end_of (get_or regions i d) ≤ address → owner_at regions address ≡ owner_at (drop (suc i) regions) address
 behind [] i d address ascending within past = absurd (omega (arith, within))
 behind (region ∷ regions) zero d address ascending within past =
     ap (λ (b : Bool). if b then region.owner else owner_at regions address) (after_it address region past)
@@ -39,21 +41,26 @@ behind (region ∷ regions) (suc i) d address ascending within past =
     ap (λ (b : Bool). if b then region.owner else owner_at regions address) (after_it address region before)
     ∙ behind regions i d address ascending.1 within' past
 
-pub owner_past : (regions : List Owned) (i : ℕ) (d : Owned) (address : ℕ) → AreAscending regions → i < length regions → end_of (get_or regions i d) ≤ address → owner_at regions address ≡ owner_at (drop (i + 1) regions) address
+pub owner_past : (regions : List Owned) (i : ℕ) (d : Owned) (address : ℕ) → AreAscending regions → i < length regions →
+    end_of (get_or regions i d) ≤ address → owner_at regions address ≡ owner_at (drop (i + 1) regions) address
 owner_past regions i d address ascending within past =
     behind regions i d address ascending within past ∙ ap (λ (n : ℕ). owner_at (drop n regions) address) (sym (add-one i))
 
 -- no region has an address before all of them
 nowhere : (regions : List Owned) (address : ℕ) → AllByRecursion (λ (next : Owned). address < next.start) regions → owner_at regions address ≡ User
 nowhere [] address all = refl
-nowhere (region ∷ regions) address all = ap (λ (b : Bool). if b then region.owner else owner_at regions address) (before_it address region all.0) ∙ nowhere regions address all.1
+nowhere (region ∷ regions) address all = ap (λ (b : Bool). if b then region.owner else owner_at regions address)
+    (before_it address region all.0) ∙ nowhere regions address all.1
 
-all_after : (end address : ℕ) (regions : List Owned) → address < end → AllByRecursion (λ (next : Owned). end ≤ next.start) regions → AllByRecursion (λ (next : Owned). address < next.start) regions
+all_after : (end address : ℕ) (regions : List Owned) → address < end →
+    AllByRecursion (λ (next : Owned). end ≤ next.start) regions → AllByRecursion (λ (next : Owned). address < next.start)
+    regions
 all_after end address [] before all = tt
 all_after end address (region ∷ regions) before all = (let first = all.0 in omega (arith, before, first), all_after end address regions before all.1)
 
 -- an address before one of the regions is in none from it on
-pub owner_before : (regions : List Owned) (i : ℕ) (d : Owned) (address : ℕ) → AreAscending regions → i < length regions → address < (get_or regions i d).start → owner_at regions address ≡ owner_at (take i regions) address
+pub owner_before : (regions : List Owned) (i : ℕ) (d : Owned) (address : ℕ) → AreAscending regions → i < length regions →
+    address < (get_or regions i d).start → owner_at regions address ≡ owner_at (take i regions) address
 owner_before [] i d address ascending within before = absurd (omega (arith, within))
 owner_before (region ∷ regions) zero d address ascending within before =
     let begins : address < end_of region = omega (arith, before) in
@@ -63,7 +70,9 @@ owner_before (region ∷ regions) (suc i) d address ascending within before =
     ap (λ (o : Owner). if has_address address region then region.owner else o) (owner_before regions i d address ascending.1 (omega (arith, within)) before)
 
 -- an address in one of the regions is of its owner
-pub owner_in : (regions : List Owned) (i : ℕ) (d : Owned) (address : ℕ) → AreAscending regions → i < length regions → (get_or regions i d).start ≤ address → address < end_of (get_or regions i d) → owner_at regions address ≡ (get_or regions i d).owner
+pub owner_in : (regions : List Owned) (i : ℕ) (d : Owned) (address : ℕ) → AreAscending regions → i < length regions →
+    (get_or regions i d).start ≤ address → address < end_of (get_or regions i d) →
+    owner_at regions address ≡ (get_or regions i d).owner
 owner_in [] i d address ascending within from to = absurd (omega (arith, within))
 owner_in (region ∷ regions) zero d address ascending within from to =
     ap (λ (b : Bool). if b then region.owner else owner_at regions address) (in_it address region from to)
@@ -123,14 +132,19 @@ upper_ascends regions ascending =
 pub lower_ascends : (regions : List Owned) → AreAscending regions → AreAscending (lower regions)
 lower_ascends regions ascending = take_ascends (length regions / 2) regions ascending
 
-pub owner_upper : (regions : List Owned) (address : ℕ) → AreAscending regions → 0 < length regions → end_of (get_or regions (length regions / 2) none) ≤ address → owner_at (upper regions) address ≡ owner_at regions address
+pub owner_upper : (regions : List Owned) (address : ℕ) → AreAscending regions → 0 < length regions →
+    end_of (get_or regions (length regions / 2) none) ≤ address → owner_at (upper regions) address ≡ owner_at regions
+    address
 owner_upper regions address ascending some past =
     ap (λ (rs : List Owned). owner_at rs address) (rest_is regions (length regions / 2 + 1))
     ∙ sym (owner_past regions (length regions / 2) none address ascending (half_within regions some) past)
 
-pub owner_lower : (regions : List Owned) (address : ℕ) → AreAscending regions → 0 < length regions → address < (get_or regions (length regions / 2) none).start → owner_at (lower regions) address ≡ owner_at regions address
+pub owner_lower : (regions : List Owned) (address : ℕ) → AreAscending regions → 0 < length regions →
+    address < (get_or regions (length regions / 2) none).start → owner_at (lower regions) address ≡ owner_at regions address
 owner_lower regions address ascending some before = sym (owner_before regions (length regions / 2) none address ascending (half_within regions some) before)
 
-pub owner_middle : (regions : List Owned) (address : ℕ) → AreAscending regions → 0 < length regions → (get_or regions (length regions / 2) none).start ≤ address → address < end_of (get_or regions (length regions / 2) none) →
+pub owner_middle : (regions : List Owned) (address : ℕ) → AreAscending regions → 0 < length regions →
+    (get_or regions (length regions / 2) none).start ≤ address → address < end_of (get_or regions (length regions / 2) none)
+    →
     (get_or regions (length regions / 2) none).owner ≡ owner_at regions address
 owner_middle regions address ascending some from to = sym (owner_in regions (length regions / 2) none address ascending (half_within regions some) from to)

@@ -22,9 +22,34 @@ rest_at lines i d within = drop-cons lines i d within ∙ ap (λ (n : ℕ). get_
 
 -- how the lines go on at one
 pub lines_step : (line : Line) (lines : List Line) (i : ℕ) → i < length lines →
-    lines_from line (drop i lines) ≡ (if goes_on line (get_or lines i (record { steps = 0; index = 0; page = 0; end = 0; frame = 0; owner = Heap; rights = record { write = false; user = false; fetch = false } }))
-    then lines_from (with_next line (get_or lines i (record { steps = 0; index = 0; page = 0; end = 0; frame = 0; owner = Heap; rights = record { write = false; user = false; fetch = false } }))) (drop (i + 1) lines)
-    else line ∷ lines_from (get_or lines i (record { steps = 0; index = 0; page = 0; end = 0; frame = 0; owner = Heap; rights = record { write = false; user = false; fetch = false } })) (drop (i + 1) lines))
+    lines_from line (drop i lines) ≡ (if goes_on line (get_or lines i (record {
+      steps = 0;
+      index = 0;
+      page = 0;
+      end = 0;
+      frame = 0;
+      owner = Heap;
+      rights = record { write = false; user = false; fetch = false };
+    }))
+    then lines_from (with_next line (get_or lines i (record {
+      steps = 0;
+      index = 0;
+      page = 0;
+      end = 0;
+      frame = 0;
+      owner =
+          Heap;
+      rights = record { write = false; user = false; fetch = false };
+    }))) (drop (i + 1) lines)
+    else line ∷ lines_from (get_or lines i (record {
+      steps = 0;
+      index = 0;
+      page = 0;
+      end = 0;
+      frame = 0;
+      owner = Heap;
+      rights = record { write = false; user = false; fetch = false };
+    })) (drop (i + 1) lines))
 lines_step line lines i within = ap (lines_from line) (rest_at lines i none within)
 
 -- none is after the last
@@ -108,7 +133,8 @@ goes line next is =
     }
 
 -- what a line says with the pages of the next one is what both say
-joined_walked : (words : List ℕ) (root : ℕ) (line next : Line) → GoesOn line next → IsWalked words root line → IsWalked words root next → IsWalked words root (with_next line next)
+joined_walked : (words : List ℕ) (root : ℕ) (line next : Line) → GoesOn line next → IsWalked words root line →
+    IsWalked words root next → IsWalked words root (with_next line next)
 joined_walked words root line next on first second page from to = go (nat_lt page line.end) refl
   where
     go : (b : Bool) → nat_lt page line.end ≡ b → walk_of words root page ≡ Some (place_in (with_next line next) page)
@@ -121,12 +147,29 @@ joined_walked words root line next on first second page from to = go (nat_lt pag
         let frame : next.frame + (page - next.page) ≡ line.frame + (page - line.page) = omega (arith, at, some, next_is, frames) in
         second page at to
         ∙ ap (λ (f : ℕ). Some (record { frame = f; write = next.rights.write; user = next.rights.user; fetch = next.rights.fetch })) frame
-        ∙ ap (λ (b : Bool). Some (record { frame = line.frame + (page - line.page); write = b; user = next.rights.user; fetch = next.rights.fetch })) (sym on.write)
-        ∙ ap (λ (b : Bool). Some (record { frame = line.frame + (page - line.page); write = line.rights.write; user = b; fetch = next.rights.fetch })) (sym on.user)
-        ∙ ap (λ (b : Bool). Some (record { frame = line.frame + (page - line.page); write = line.rights.write; user = line.rights.user; fetch = b })) (sym on.fetch)
+        ∙ ap (λ (b : Bool). Some (record {
+          frame = line.frame + (page - line.page);
+          write = b;
+          user = next.rights.user;
+          fetch = next.rights.fetch;
+        })) (sym on.write)
+        ∙ ap (λ (b : Bool). Some (record {
+          frame = line.frame + (page - line.page);
+          write = line.rights.write;
+          user = b;
+          fetch = next.rights.fetch;
+        })) (sym on.user)
+        ∙ ap (λ (b : Bool). Some (record {
+          frame = line.frame + (page - line.page);
+          write = line.rights.write;
+          user =
+              line.rights.user;
+          fetch = b;
+        })) (sym on.fetch)
 
 -- the owner of both is that of the pages of both
-joined_owned : (regions : List Owned) (line next : Line) → GoesOn line next → IsOwned regions line → IsOwned regions next → IsOwned regions (with_next line next)
+joined_owned : (regions : List Owned) (line next : Line) → GoesOn line next → IsOwned regions line → IsOwned regions next →
+    IsOwned regions (with_next line next)
 joined_owned regions line next on first second page from to = go (nat_lt page line.end) refl
   where
     go : (b : Bool) → nat_lt page line.end ≡ b → owner_of regions page ≡ line.owner
@@ -137,37 +180,45 @@ joined_owned regions line next on first second page from to = go (nat_lt page li
         second page at to ∙ sym on.owner
 
 -- what holds of two lines as one if it holds of both, holds of all that are joined
-all_from : (P : Line → Type 0) (line : Line) (lines : List Line) → ((a b : Line) → GoesOn a b → P a → P b → P (with_next a b)) → P line → AllByRecursion P lines → AllByRecursion P (lines_from line lines)
+all_from : (P : Line → Type 0) (line : Line) (lines : List Line) → ((a b : Line) → GoesOn a b → P a → P b →
+    P (with_next a b)) → P line → AllByRecursion P lines → AllByRecursion P (lines_from line lines)
 all_from P line [] both first rest = (first, tt)
 all_from P line (next ∷ lines) both first rest =
     go (goes_on line next) refl (λ joined. all_from P (with_next line next) lines both joined rest.1) (all_from P next lines both rest.0 rest.1)
   where
-    go : (b : Bool) → goes_on line next ≡ b → (P (with_next line next) → AllByRecursion P (lines_from (with_next line next) lines)) → AllByRecursion P (lines_from next lines) →
+    go : (b : Bool) → goes_on line next ≡ b → (P (with_next line next) →
+        AllByRecursion P (lines_from (with_next line next) lines)) → AllByRecursion P (lines_from next lines) →
         AllByRecursion P (if b then lines_from (with_next line next) lines else line ∷ lines_from next lines)
     go true is joined other = joined (both line next (goes line next is) first rest.0)
     go false is joined other = (first, other)
 
-all_joined : (P : Line → Type 0) (lines : List Line) → ((a b : Line) → GoesOn a b → P a → P b → P (with_next a b)) → AllByRecursion P lines → AllByRecursion P (joined lines)
+all_joined : (P : Line → Type 0) (lines : List Line) → ((a b : Line) → GoesOn a b → P a → P b → P (with_next a b)) →
+    AllByRecursion P lines → AllByRecursion P (joined lines)
 all_joined P [] both all = tt
 all_joined P (line ∷ lines) both all = all_from P line lines both all.0 all.1
 
-pub walked_joined : (words : List ℕ) (root : ℕ) (lines : List Line) → AllByRecursion (IsWalked words root) lines → AllByRecursion (IsWalked words root) (joined lines)
+pub walked_joined : (words : List ℕ) (root : ℕ) (lines : List Line) → AllByRecursion (IsWalked words root) lines →
+    AllByRecursion (IsWalked words root) (joined lines)
 walked_joined words root lines all = all_joined (IsWalked words root) lines (joined_walked words root) all
 
 pub owned_joined : (regions : List Owned) (lines : List Line) → AllByRecursion (IsOwned regions) lines → AllByRecursion (IsOwned regions) (joined lines)
 owned_joined regions lines all = all_joined (IsOwned regions) lines (joined_owned regions) all
 
 -- what lies in a line and the next lies in both as one
-joined_has : (page a b c d : ℕ) → a < b → b ≡ c → c < d → (nat_le a page && nat_lt page d) ≡ ((nat_le a page && nat_lt page b) || (nat_le c page && nat_lt page d))
+joined_has : (page a b c d : ℕ) → a < b → b ≡ c → c < d → (nat_le a page && nat_lt page
+    d) ≡ ((nat_le a page && nat_lt page b) || (nat_le c page && nat_lt page d))
 joined_has page a b c d some next more = grind (arith, nat_tests, some, next, more)
 
-has_from : (page : ℕ) (line : Line) (lines : List Line) → list_any (has_page page) (lines_from line lines) ≡ (has_page page line || list_any (has_page page) lines)
+has_from : (page : ℕ) (line : Line) (lines : List Line) → list_any (has_page page)
+    (lines_from line lines) ≡ (has_page page line || list_any (has_page page) lines)
 has_from page line [] = refl
 has_from page line (next ∷ lines) = go (goes_on line next) refl (has_from page (with_next line next) lines) (has_from page next lines)
   where
-    go : (b : Bool) → goes_on line next ≡ b → list_any (has_page page) (lines_from (with_next line next) lines) ≡ (has_page page (with_next line next) || list_any (has_page page) lines) →
+    go : (b : Bool) → goes_on line next ≡ b → list_any (has_page page)
+        (lines_from (with_next line next) lines) ≡ (has_page page (with_next line next) || list_any (has_page page) lines) →
         list_any (has_page page) (lines_from next lines) ≡ (has_page page next || list_any (has_page page) lines) →
-        list_any (has_page page) (if b then lines_from (with_next line next) lines else line ∷ lines_from next lines) ≡ (has_page page line || (has_page page next || list_any (has_page page) lines))
+        list_any (has_page page) (if b then lines_from (with_next line next) lines else line ∷ lines_from next
+        lines) ≡ (has_page page line || (has_page page next || list_any (has_page page) lines))
     go true is joined other =
         let on = goes line next is in
         joined
@@ -186,7 +237,9 @@ begins_alike x line next on =
     let behind = on.behind in
     let more = on.more in
     let same : nat_lt line.page next.end ≡ nat_lt line.page line.end = grind (arith, nat_tests, some, behind, more) in
-    ap (λ (b : Bool). nat_lt x.page x.end && (b && (nat_eq x.end line.page && (nat_eq (x.frame + (x.end - x.page)) line.frame && (nat_eq x.steps line.steps && (same_owner x.owner line.owner && same_rights x.rights line.rights)))))) same
+    ap (λ (b : Bool). nat_lt x.page x.end && (b && (nat_eq x.end line.page &&
+    (nat_eq (x.frame + (x.end - x.page)) line.frame && (nat_eq x.steps line.steps &&
+    (same_owner x.owner line.owner && same_rights x.rights line.rights)))))) same
 
 -- no line is left that goes on the one before it
 record AreEnded (line : Line) (lines : List Line) : Type 0 where

@@ -16,7 +16,8 @@ uses_at : (lines : List Line) (frames frame : ℕ) → frame < frames → get_or
 uses_at lines zero frame within = absurd (omega (arith, within))
 uses_at lines (suc frames) frame within = go (nat_lt frame frames) refl (λ before. uses_at lines frames frame before)
   where
-    go : (b : Bool) → nat_lt frame frames ≡ b → (frame < frames → get_or (uses_of lines frames) frame Free ≡ use_of frame lines) → get_or (uses_of lines (suc frames)) frame Free ≡ use_of frame lines
+    go : (b : Bool) → nat_lt frame frames ≡ b → (frame < frames → get_or (uses_of lines frames) frame Free ≡ use_of frame
+        lines) → get_or (uses_of lines (suc frames)) frame Free ≡ use_of frame lines
     go true before earlier =
         let less : frame < frames = grind (arith, nat_tests, before) in
         let long = uses_number lines frames in
@@ -64,7 +65,9 @@ pub painted : (line : Line) (lines : List Line) (frames first n : ℕ) (old part
     first ≡ min line.frame frames → first + n ≡ min (line.frame + frames_of line) frames → part ≡ replicate n (use_in line) →
     put_mid first n old part ≡ uses_of (line ∷ lines) frames
 painted line lines frames first n old part long is low high filled =
-    ext_get_or Free (put_mid first n old part) (uses_of (line ∷ lines) frames) same_length (λ i within. go i (nat_lt i first) refl (nat_lt i (first + n)) refl (let whole = put_length old part first n fits many in omega (arith, whole, long, within)))
+    ext_get_or Free (put_mid first n old part) (uses_of (line ∷ lines) frames) same_length
+    (λ i within. go i (nat_lt i first) refl (nat_lt i (first + n)) refl
+    (let whole = put_length old part first n fits many in omega (arith, whole, long, within)))
   where
     fits : first + n ≤ length old
     fits = omega (arith, long, high)
@@ -78,7 +81,8 @@ painted line lines frames first n old part long is low high filled =
     before : (i : ℕ) → i < frames → get_or old i Free ≡ use_of i lines
     before i within = ap (λ (us : List Use). get_or us i Free) is ∙ uses_at lines frames i within
 
-    go : (i : ℕ) (b : Bool) → nat_lt i first ≡ b → (c : Bool) → nat_lt i (first + n) ≡ c → i < frames → get_or (put_mid first n old part) i Free ≡ get_or (uses_of (line ∷ lines) frames) i Free
+    go : (i : ℕ) (b : Bool) → nat_lt i first ≡ b → (c : Bool) → nat_lt i (first + n) ≡ c → i < frames →
+        get_or (put_mid first n old part) i Free ≡ get_or (uses_of (line ∷ lines) frames) i Free
     go i true below c end within =
         let less : i < first = grind (arith, nat_tests, below) in
         put_outside old part first n fits many i (inl less)

@@ -6,13 +6,16 @@ use Rattle.heap_tables.specs.declared.owners.Owned.{Owned}
 use Rattle.heap_tables.specs.Lines.{line_of, first_page, entries_lines, lines_under}
 
 -- a page
-pub under_page : (words : List ℕ) (regions : List Owned) (number : ℕ) (place : Place) → lines_under words regions 0 number place ≡ line_of regions 4 (number % 512) number (number + 1) place ∷ []
+pub under_page : (words : List ℕ) (regions : List Owned) (number : ℕ) (place : Place) →
+    lines_under words regions 0 number place ≡ line_of regions 4 (number % 512) number (number + 1) place ∷ []
 unfolding lines_under
 under_page words regions number place = refl
 
 -- a table, and what its entries lead to
 pub under_table : (words : List ℕ) (regions : List Owned) (left number : ℕ) (place : Place) → 1 ≤ left →
-    lines_under words regions left number place ≡ line_of regions (4 - left) (number % 512) (first_page left number) (first_page left number) place ∷ entries_lines words regions (lines_under words regions (left - 1)) (4 - left) number place 512
+    lines_under words regions left number place ≡ line_of regions (4 - left) (number % 512) (first_page left number)
+    (first_page left number) place ∷ entries_lines words regions (lines_under words regions (left - 1)) (4 - left)
+    number place 512
 unfolding lines_under
 under_table words regions zero number place some = absurd (omega (arith, some))
 under_table words regions (suc left) number place some =
@@ -20,4 +23,5 @@ under_table words regions (suc left) number place some =
     let less : left ≡ suc left - 1 = omega arith in
     let first = first_page (suc left) number in
     ap (λ (n : ℕ). line_of regions n (number % 512) first first place ∷ entries_lines words regions (lines_under words regions left) n number place 512) more
-    ∙ ap (λ (m : ℕ). line_of regions (4 - suc left) (number % 512) first first place ∷ entries_lines words regions (lines_under words regions m) (4 - suc left) number place 512) less
+    ∙ ap (λ (m : ℕ). line_of regions (4 - suc left) (number % 512) first first place ∷ entries_lines words regions
+    (lines_under words regions m) (4 - suc left) number place 512) less

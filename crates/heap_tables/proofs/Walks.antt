@@ -55,7 +55,8 @@ all_both P (x ∷ xs) ys front back = (front.0, all_both P xs ys front.1 back)
 
 -- what holds of what each entry leads to holds of all
 pub entries_all : (P : Line → Type 0) (words : List ℕ) (regions : List Owned) (below : ℕ → Place → List Line) (level number : ℕ) (table : Place) (count : ℕ) →
-    ((index : ℕ) → index < count → AllByRecursion P (entry_lines words regions below level number table index)) → AllByRecursion P (entries_lines words regions below level number table count)
+    ((index : ℕ) → index < count → AllByRecursion P (entry_lines words regions below level number table index)) →
+    AllByRecursion P (entries_lines words regions below level number table count)
 entries_all P words regions below level number table zero each = tt
 entries_all P words regions below level number table (suc count) each =
     all_both P (entries_lines words regions below level number table count) (entry_lines words regions below level number table count)
@@ -64,20 +65,25 @@ entries_all P words regions below level number table (suc count) each =
 -- the lines that a walk from a root can meet: those of tables, of pages, and of large pages
 pub record HoldsOfMet (P : Line → Type 0) (words : List ℕ) (regions : List Owned) (root : ℕ) : Type 0 where
   pub tables : (steps index page : ℕ) (place : Place) → P (line_of regions steps index page page place)
-  pub pages : (number : ℕ) (place : Place) → number < 2 ^ 36 → reach words root 4 number ≡ Some place → P (line_of regions 4 (number % 512) number (number + 1) place)
-  pub larges : (number : ℕ) (large : Place) → number < 2 ^ 27 → large_of words root number ≡ Some large → P (line_of regions 3 (number % 512) (512 * number) (512 * number + 512) large)
+  pub pages : (number : ℕ) (place : Place) → number < 2 ^ 36 → reach words root 4 number ≡ Some place →
+      P (line_of regions 4 (number % 512) number (number + 1) place)
+  pub larges : (number : ℕ) (large : Place) → number < 2 ^ 27 → large_of words root number ≡ Some large →
+      P (line_of regions 3 (number % 512) (512 * number) (512 * number + 512) large)
 
-larges_hold : (P : Line → Type 0) (words : List ℕ) (regions : List Owned) (root number : ℕ) (o : Option Place) → HoldsOfMet P words regions root → number < 2 ^ 27 → large_of words root number ≡ o →
+larges_hold : (P : Line → Type 0) (words : List ℕ) (regions : List Owned) (root number : ℕ) (o : Option Place) →
+    HoldsOfMet P words regions root → number < 2 ^ 27 → large_of words root number ≡ o →
     AllByRecursion P (large_lines regions number o)
 larges_hold P words regions root number None holds low met = tt
 larges_hold P words regions root number (Some large) holds low met = (holds.larges number large low met, tt)
 
 -- the large page that an entry maps, if its table is one of the third step
-entry_large : (P : Line → Type 0) (words : List ℕ) (regions : List Owned) (root l number index : ℕ) (table : Place) → HoldsOfMet P words regions root → l ≤ 3 → index < 512 → number < 512 ^ (3 - l) →
+entry_large : (P : Line → Type 0) (words : List ℕ) (regions : List Owned) (root l number index : ℕ) (table : Place) →
+    HoldsOfMet P words regions root → l ≤ 3 → index < 512 → number < 512 ^ (3 - l) →
     reach words root (3 - l) number ≡ Some table → AllByRecursion P (large_lines regions (512 * number + index) (large_entry_of words (3 - l) table index))
 entry_large P words regions root zero number index table holds low within few met = tt
 entry_large P words regions root (suc zero) number index table holds low within few met =
-    larges_hold P words regions root (512 * number + index) (large_step words table index) holds (omega (arith, within, few)) (large_met words root number index table within met)
+    larges_hold P words regions root (512 * number + index) (large_step words table index) holds
+    (omega (arith, within, few)) (large_met words root number index table within met)
 entry_large P words regions root (suc (suc zero)) number index table holds low within few met = tt
 entry_large P words regions root (suc (suc (suc zero))) number index table holds low within few met = tt
 entry_large P words regions root (suc (suc (suc (suc l)))) number index table holds low within few met = absurd (omega arith)
@@ -96,7 +102,8 @@ below_hold P words regions root l number None met each = tt
 below_hold P words regions root l number (Some place) met each = each place met
 
 -- what holds of the lines that a walk can meet holds of all that is below a place that is met
-pub under_hold : (P : Line → Type 0) (words : List ℕ) (regions : List Owned) (root left number : ℕ) (place : Place) → HoldsOfMet P words regions root → left ≤ 4 → number < 512 ^ (4 - left) →
+pub under_hold : (P : Line → Type 0) (words : List ℕ) (regions : List Owned) (root left number : ℕ) (place : Place) →
+    HoldsOfMet P words regions root → left ≤ 4 → number < 512 ^ (4 - left) →
     reach words root (4 - left) number ≡ Some place → AllByRecursion P (lines_under words regions left number place)
 unfolding lines_under
 under_hold P words regions root zero number place holds low few met = (holds.pages number place (omega (arith, few)) met, tt)
@@ -106,10 +113,13 @@ under_hold P words regions root (suc left) number place holds low few met =
     let met' = subst (λ (n : ℕ). reach words root n number ≡ Some place) e met in (
       holds.tables (3 - left) (number % 512) (first_page (suc left) number) place,
       entries_all P words regions (lines_under words regions left) (3 - left) number place 512 (λ index within.
-          all_both P (large_lines regions (512 * number + index) (large_entry_of words (3 - left) place index)) (lines_below (lines_under words regions left) (512 * number + index) (step words (3 - left) place index))
+          all_both P (large_lines regions (512 * number + index) (large_entry_of words (3 - left) place index))
+          (lines_below (lines_under words regions left) (512 * number + index) (step words (3 - left) place index))
           (entry_large P words regions root left number index place holds (omega (arith, low)) within few' met')
-          (below_hold P words regions root left (512 * number + index) (step words (3 - left) place index) (step_met words root left number index place (omega (arith, low)) within met')
-          (λ next arrived. under_hold P words regions root left (512 * number + index) next holds (omega (arith, low)) (few_more left number index (omega (arith, low)) within few') arrived))),
+          (below_hold P words regions root left (512 * number + index) (step words (3 - left) place index)
+          (step_met words root left number index place (omega (arith, low)) within met')
+          (λ next arrived. under_hold P words regions root left (512 * number + index) next holds (omega (arith, low))
+          (few_more left number index (omega (arith, low)) within few') arrived))),
     )
 
 -- the walk of a page, by its low 36 bits
@@ -118,7 +128,9 @@ unfolding walk_of
 walk_low words root page low = ap (reach words root 4) (let e : page % 2 ^ 36 ≡ page = omega (arith, low) in e)
 
 -- a page that is met is where its line says
-page_walked : (words : List ℕ) (regions : List Owned) (root number : ℕ) (place : Place) → number < 2 ^ 36 → reach words root 4 number ≡ Some place → IsWalked words root (line_of regions 4 (number % 512) number (number + 1) place)
+page_walked : (words : List ℕ) (regions : List Owned) (root number : ℕ) (place : Place) → number < 2 ^ 36 →
+    reach words root 4 number ≡ Some place → IsWalked words root (line_of regions 4 (number % 512) number (number + 1)
+    place)
 page_walked words regions root number place low met page from to =
     let same : page ≡ number = omega (arith, from, to) in
     let here : place.frame ≡ place.frame + (page - number) = omega (arith, from, to) in

@@ -13,7 +13,8 @@ use Rattle.heap_time.specs.Labels.{label_in, has_room, label_text}
 use Rattle.heap_time.specs.Addresses.{step_grown, step_of}
 
 -- how a step grows
-pub grown_step : (times step bytes : ℕ) → times < 62 → step_grown (62 - times) step bytes ≡ step_grown (62 - (times + 1)) (if nat_le (7 * step) bytes then 2 * step else step) bytes
+pub grown_step : (times step bytes : ℕ) → times < 62 → step_grown (62 - times) step bytes ≡ step_grown (62 - (times + 1))
+    (if nat_le (7 * step) bytes then 2 * step else step) bytes
 grown_step times step bytes few =
     let left : 62 - times ≡ suc (62 - (times + 1)) = omega (arith, few) in
     ap (λ (n : ℕ). step_grown n step bytes) left
@@ -28,7 +29,9 @@ unfolding step_of
 grown_begin bytes = refl
 
 -- how folds go on
-pub folds_step : (times : ℕ) (folds : Folds) (ranges : List Range) → times < 10 → folds_from (10 - times) folds ranges ≡ (if is_too_great (scaled_bytes folds ranges) (size_of (greatest folds ranges)) then folds_from (10 - (times + 1)) (folded_to (greatest folds ranges)) ranges else folds)
+pub folds_step : (times : ℕ) (folds : Folds) (ranges : List Range) → times < 10 →
+    folds_from (10 - times) folds ranges ≡ (if is_too_great (scaled_bytes folds ranges) (size_of (greatest folds ranges))
+    then folds_from (10 - (times + 1)) (folded_to (greatest folds ranges)) ranges else folds)
 folds_step times folds ranges few =
     let left : 10 - times ≡ suc (10 - (times + 1)) = omega (arith, few) in
     ap (λ (n : ℕ). folds_from n folds ranges) left
@@ -58,7 +61,10 @@ pub label_step : (calls : ℕ) (bands : List Band) (i : ℕ) (stay : Stay) → i
     label_text calls (drop i bands) stay ≡ (if has_room stay (get_or bands i (record { low = 0; high = 0; folded = false; y = 0; height = 0 }))
     then label_in calls stay (get_or bands i (record { low = 0; high = 0; folded = false; y = 0; height = 0 })) else label_text calls (drop (i + 1) bands) stay)
 label_step calls bands i stay within =
-    ap (λ (bs : List Band). label_text calls bs stay) (drop-cons bands i (record { low = 0; high = 0; folded = false; y = 0; height = 0 }) within ∙ ap (λ (n : ℕ). get_or bands i (record { low = 0; high = 0; folded = false; y = 0; height = 0 }) ∷ drop n bands) (sym (add-one i)))
+    ap (λ (bs : List Band). label_text calls bs stay) (drop-cons bands i
+    (record { low = 0; high = 0; folded = false; y = 0; height = 0 }) within
+    ∙ ap (λ (n : ℕ). get_or bands i (record { low = 0; high = 0; folded = false; y = 0; height = 0 }) ∷ drop n bands)
+    (sym (add-one i)))
 
 pub label_last : (calls : ℕ) (bands : List Band) (i : ℕ) (stay : Stay) → length bands ≤ i → label_text calls (drop i bands) stay ≡ []
 label_last calls bands i stay all = ap (λ (bs : List Band). label_text calls bs stay) (drop_all i bands all)
@@ -68,7 +74,20 @@ pub height_step : (address : ℕ) (bands : List Band) (i : ℕ) → i < length b
     height_at address (drop i bands) ≡ (if is_within address (get_or bands i (record { low = 0; high = 0; folded = false; y = 0; height = 0 }))
     then place_of (get_or bands i (record { low = 0; high = 0; folded = false; y = 0; height = 0 })) address else height_at address (drop (i + 1) bands))
 height_step address bands i within =
-    ap (λ (bs : List Band). height_at address bs) (drop-cons bands i (record { low = 0; high = 0; folded = false; y = 0; height = 0 }) within ∙ ap (λ (n : ℕ). get_or bands i (record { low = 0; high = 0; folded = false; y = 0; height = 0 }) ∷ drop n bands) (sym (add-one i)))
+    ap (λ (bs : List Band). height_at address bs) (drop-cons bands i (record {
+      low = 0;
+      high = 0;
+      folded = false;
+      y = 0;
+      height = 0;
+    }) within ∙ ap (λ (n : ℕ). get_or bands i (record {
+      low = 0;
+      high = 0;
+      folded = false;
+      y = 0;
+      height =
+          0;
+    }) ∷ drop n bands) (sym (add-one i)))
 
 pub height_last : (address : ℕ) (bands : List Band) (i : ℕ) → length bands ≤ i → height_at address (drop i bands) ≡ 84
 height_last address bands i all = ap (λ (bs : List Band). height_at address bs) (drop_all i bands all)

@@ -35,7 +35,8 @@ module _ (old new : Paged) (asked : ℕ) (grant : Grant) (kept : IsPagedKept old
       record { long = omega arith; base_aligned = omega arith; size_aligned = omega arith; low = omega arith; high = omega arith }
 
   pub apart : AllByRecursion (IsApart grant.base (grant.base + grant.size)) (grants_of old)
-  apart = subst (λ (size : ℕ). AllByRecursion (IsApart grant.base (grant.base + size)) (grants_of old)) (sym is.size) (apart_from grant.base (pages_in asked) old.regions is.can.place.fit.clear)
+  apart = subst (λ (size : ℕ). AllByRecursion (IsApart grant.base (grant.base + size)) (grants_of old)) (sym is.size)
+      (apart_from grant.base (pages_in asked) old.regions is.can.place.fit.clear)
 
   pub regions : grants_of new ≡ with_grant grant (grants_of old)
   regions =

@@ -37,9 +37,11 @@ use Rattle.kernel_heap.proofs.Numbers.{not_less}
 use Rattle.kernel_heap.proofs.Refused.{regions_are}
 
 -- both the machine and the state refuse bytes alike, and blocks
-pub refuse_same : (m : Seen) (s : State) (number offset count : ℕ) → Stands m s → refuse_bytes (block_at s.blocks number) offset count ≡ refuse_live (live_at m.blocks number) offset count
+pub refuse_same : (m : Seen) (s : State) (number offset count : ℕ) → Stands m s →
+    refuse_bytes (block_at s.blocks number) offset count ≡ refuse_live (live_at m.blocks number) offset count
 refuse_same m s number offset count stands =
-    alike (block_at s.blocks number) ∙ ap (λ live. refuse_live live offset count) (sym (ap (λ bs. live_at bs number) stands.blocks ∙ outline_at s.blocks number))
+    alike (block_at s.blocks number) ∙ ap (λ live. refuse_live live offset count)
+    (sym (ap (λ bs. live_at bs number) stands.blocks ∙ outline_at s.blocks number))
   where
     alike : (found : Option Block) → refuse_bytes found offset count ≡ refuse_live (option_map outline found) offset count
     alike None = refl
@@ -72,13 +74,15 @@ read_bytes p address count bytes read =
     all_bytes bytes (λ k less. reached_byte p.words p.root (address + k) (slice_index bytes k) (read.each k (let n = read.many in omega arith)))
 
 -- bytes of a block
-module _ (heap : Dlmalloc PagedSystem) (placed : ArePlaced (regions heap.system) (heap_state heap)) (address count : ℕ) (inside : AreInBlock (heap_state heap) address count) where
+module _ (heap : Dlmalloc PagedSystem) (placed : ArePlaced (regions heap.system) (heap_state heap)) (address count : ℕ)
+    (inside : AreInBlock (heap_state heap) address count) where
   -- they lie in the regions
   pub block_inside : AreInside (paged heap.system) address count
   block_inside =
       let low = inside.low in
       let within = inside.within in
-      λ k above below. bytes_within heap placed inside.block inside.size inside.is k (omega (arith, above, low)) (omega (arith, below, within)) k (omega arith) (omega arith)
+      λ k above below. bytes_within heap placed inside.block inside.size inside.is k (omega (arith, above, low))
+      (omega (arith, below, within)) k (omega arith) (omega arith)
 
   -- where they are put, words of blocks alone change
   pub only_blocks : (system : PagedSystem) (bytes : List ℕ) → length bytes ≡ count → IsWritten (paged heap.system) (paged system) address bytes (length bytes) →
@@ -96,7 +100,8 @@ module _ (heap : Dlmalloc PagedSystem) (placed : ArePlaced (regions heap.system)
         | inr above ↦ inr (omega arith)
       ])
 
-module _ (heap : Dlmalloc PagedSystem) (blocks : List (Option Live)) (number offset count address : ℕ) (laid : IsLaidOut heap blocks) (has : HasBytes blocks number offset count address) where
+module _ (heap : Dlmalloc PagedSystem) (blocks : List (Option Live)) (number offset count address : ℕ)
+    (laid : IsLaidOut heap blocks) (has : HasBytes blocks number offset count address) where
   -- bytes of a live block lie in one
   pub in_block : AreInBlock (heap_state heap) address count
   in_block =
@@ -120,7 +125,9 @@ module _ (heap : Dlmalloc PagedSystem) (blocks : List (Option Live)) (number off
     within = let size = ap (λ l. l.size) block.2 in let w = has.within in omega arith
 
     reachable : refuse_bytes (block_at s.blocks number) offset count ≡ None
-    reachable = refuse_same m s number offset count stands ∙ (ap (λ l. refuse_live l offset count) has.is ∙ (let small : nat_lt has.live.size (offset + count) ≡ false = not_less has.live.size (offset + count) has.within in rw small refl))
+    reachable = refuse_same m s number offset count stands ∙ (ap (λ l. refuse_live l offset count) has.is
+        ∙ (let small : nat_lt has.live.size (offset + count) ≡ false = not_less has.live.size (offset + count) has.within in
+        rw small refl))
 
     -- bytes of the state's heap are bytes of the regions
     in_regions : (other : ℕ) → list_any (is_within other) s.heap ≡ true → AreInside (paged heap.system) other 1
@@ -128,7 +135,8 @@ module _ (heap : Dlmalloc PagedSystem) (blocks : List (Option Live)) (number off
         let same : s.heap ≡ heap_regions (paged heap.system).regions = regions_are heap.system m refl s good stands in
         λ k above below.
         let one : other ≡ k = omega arith in
-        granted_same (heap_regions (paged heap.system).regions) k ∙ (ap (list_any (is_within k)) (sym same) ∙ subst (λ a. list_any (is_within a) s.heap ≡ true) one is)
+        granted_same (heap_regions (paged heap.system).regions) k ∙ (ap (list_any (is_within k)) (sym same)
+        ∙ subst (λ a. list_any (is_within a) s.heap ≡ true) one is)
 
     pub step_written : (new : Paged) (bytes : List ℕ) → length bytes ≡ count → IsWritten (paged heap.system) new address bytes (length bytes) →
         IsStep s (Write number offset bytes) (record { reply = Done; regions = None; large = None }) (record m { paged = new })
@@ -141,30 +149,38 @@ module _ (heap : Dlmalloc PagedSystem) (blocks : List (Option Live)) (number off
         root : new.root ≡ (paged heap.system).root
         root = ap (λ p. p.root) written.still.others
 
-        put : IsPut s.heap (reached (paged heap.system).words (paged heap.system).root) (reached new.words (paged heap.system).root) (block.0.address + offset) bytes
+        put : IsPut s.heap (reached (paged heap.system).words (paged heap.system).root)
+            (reached new.words (paged heap.system).root) (block.0.address + offset) bytes
         put = record {
-          here = λ k less. ap (λ a. reached new.words (paged heap.system).root (a + k)) (sym place) ∙ (ap (λ r. reached new.words r (address + k)) (sym root) ∙ written.here k less);
+          here = λ k less. ap (λ a. reached new.words (paged heap.system).root (a + k)) (sym place)
+              ∙ (ap (λ r. reached new.words r (address + k)) (sym root) ∙ written.here k less);
           elsewhere = λ other is beside. ap (λ r. reached new.words r other) (sym root)
               ∙ written.elsewhere other (in_regions other is) (let p = place in elim beside [ inl below ↦ inl (omega arith) | inr above ↦ inr (omega arith) ]);
         }
 
-    pub step_read : (bytes : List ℕ) → AreRead (paged heap.system) address count bytes → IsStep s (Read number offset count) (record { reply = Bytes bytes; regions = None; large = None }) m
+    pub step_read : (bytes : List ℕ) → AreRead (paged heap.system) address count bytes →
+        IsStep s (Read number offset count) (record { reply = Bytes bytes; regions = None; large = None }) m
     step_read bytes read = record {
       allowed = record { reply = (reachable, (refl, read.many, read_bytes (paged heap.system) address count bytes read, agree)); listed = tt; large = tt };
       good = good_known s number offset bytes good;
-      stands = stands_written m s (paged heap.system) number offset bytes block.0 good stands block.1 (let w = within in let n = read.many in omega arith) (still_none (paged heap.system)) put;
+      stands = stands_written m s (paged heap.system) number offset bytes block.0 good stands block.1
+          (let w = within in let n = read.many in omega arith) (still_none (paged heap.system)) put;
     }
       where
-        each : (k : ℕ) → k < length bytes → reached (paged heap.system).words (paged heap.system).root (block.0.address + offset + k) ≡ Some (slice_index bytes k)
+        each : (k : ℕ) → k < length bytes → reached (paged heap.system).words (paged heap.system).root
+            (block.0.address + offset + k) ≡ Some (slice_index bytes k)
         each k less = ap (λ a. reached (paged heap.system).words (paged heap.system).root (a + k)) (sym place) ∙ read.each k (let n = read.many in omega arith)
 
-        put : IsPut s.heap (reached (paged heap.system).words (paged heap.system).root) (reached (paged heap.system).words (paged heap.system).root) (block.0.address + offset) bytes
+        put : IsPut s.heap (reached (paged heap.system).words (paged heap.system).root)
+            (reached (paged heap.system).words (paged heap.system).root) (block.0.address + offset) bytes
         put = record { here = each; elsewhere = λ other is beside. refl }
 
-        agree : (b : Block) → block_at s.blocks number ≡ Some b → (k byte : ℕ) → k < length bytes → cell_at b.cells (offset + k) ≡ Known byte → slice_index bytes k ≡ byte
+        agree : (b : Block) → block_at s.blocks number ≡ Some b → (k byte : ℕ) → k < length bytes →
+            cell_at b.cells (offset + k) ≡ Known byte → slice_index bytes k ≡ byte
         agree b is k byte less known =
             let one : block.0 ≡ b = cc (block.1, is) in
-            let at : reached (paged heap.system).words (paged heap.system).root (b.address + (offset + k)) ≡ Some byte = stands.bytes.known number (offset + k) byte b is known in
+            let at : reached (paged heap.system).words (paged heap.system).root (b.address + (offset + k)) ≡ Some byte =
+            stands.bytes.known number (offset + k) byte b is known in
             let place_is : block.0.address + offset + k ≡ b.address + (offset + k) = (let a = ap (λ x. x.address) one in omega arith) in
             let same = sym (each k less) ∙ (ap (reached (paged heap.system).words (paged heap.system).root) place_is ∙ at) in
             cc same

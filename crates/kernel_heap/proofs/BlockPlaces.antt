@@ -17,15 +17,21 @@ use Rattle.kernel_heap.proofs.Bytes.{reached_byte}
 use Rattle.kernel_heap.proofs.Laid.{block_place}
 
 -- each byte of a block lies in the regions
-pub bytes_within : (heap : Dlmalloc PagedSystem) → ArePlaced (regions heap.system) (heap_state heap) → (address size : ℕ) → IsBlock (heap_state heap) address size →
+pub bytes_within : (heap : Dlmalloc PagedSystem) → ArePlaced (regions heap.system) (heap_state heap) → (address size : ℕ) →
+    IsBlock (heap_state heap) address size →
     (a : ℕ) → address ≤ a → a < address + max size 1 → AreInside (paged heap.system) a 1
 bytes_within heap placed address size block a from to =
-    λ k above below. subst (λ (at : ℕ). IsTrue (is_granted (regions heap.system) at)) (let same : a ≡ k = omega arith in same) ((placed address size block).granted a from to)
+    λ k above below. subst (λ (at : ℕ). IsTrue (is_granted (regions heap.system) at))
+    (let same : a ≡ k = omega arith in same) ((placed address size block).granted a from to)
 
 -- a byte of a block is reached as before where the words of the block's extent are kept
-pub byte_kept : (heap new : Dlmalloc PagedSystem) → ArePlaced (regions heap.system) (heap_state heap) → ArePlaced (regions new.system) (heap_state new) → (extents : List Extent) → KeepsBlocks extents (word heap.system) (word new.system) →
-    (address size : ℕ) (old : IsBlock (heap_state heap) address size) → IsBlock (heap_state new) address size → extent_at old.extent.at extents ≡ Some old.extent →
-    (k : ℕ) → k < size → reached (paged new.system).words (paged new.system).root (address + k) ≡ reached (paged heap.system).words (paged heap.system).root (address + k)
+pub byte_kept : (heap new : Dlmalloc PagedSystem) → ArePlaced (regions heap.system) (heap_state heap) →
+    ArePlaced (regions new.system) (heap_state new) → (extents : List Extent) →
+    KeepsBlocks extents (word heap.system) (word new.system) →
+    (address size : ℕ) (old : IsBlock (heap_state heap) address size) → IsBlock (heap_state new) address size →
+    extent_at old.extent.at extents ≡ Some old.extent →
+    (k : ℕ) → k < size → reached (paged new.system).words (paged new.system).root (address + k) ≡ reached
+    (paged heap.system).words (paged heap.system).root (address + k)
 byte_kept heap new placed placed' extents keeps address size old block there k less =
     let place = block_place (heap_state heap) address size old in
     let aligned = (placed address size old).aligned in

@@ -25,7 +25,8 @@ pub word_there : (p : Paged) (at : ℕ) → IsPagedKept p → AreInside p at 1 �
 word_there p at kept there whole = let same : at - at % 8 ≡ at = omega arith in subst (IsWordOf (grants_of p)) same (word_of p at kept there)
 
 -- the bytes of the word of eight bytes
-pub word_bytes : (bytes run : List ℕ) (result place : ℕ) → ((i : ℕ) → i < length bytes → get_or bytes i 0 < 256) → length run ≡ 8 → place + 8 ≤ length bytes → run ≡ take (place + 8 - place) (drop place bytes) →
+pub word_bytes : (bytes run : List ℕ) (result place : ℕ) → ((i : ℕ) → i < length bytes → get_or bytes i 0 < 256) →
+    length run ≡ 8 → place + 8 ≤ length bytes → run ≡ take (place + 8 - place) (drop place bytes) →
     result ≡ from_le_bytes w64 run → (k : ℕ) → k < 8 → get_or (to_le_bytes w64 result) k 0 ≡ get_or bytes (place + k) 0
 word_bytes bytes run result place small len fits is value k less = ap (λ xs. get_or xs k 0) (le_bytes_8 run result len low value) ∙ each k less
   where
@@ -49,12 +50,15 @@ written_none p address bytes = record {
 }
 
 -- behind n bytes a part was written
-pub written_on : (old mid new : Paged) (address n m : ℕ) (bytes part : List ℕ) → AreInside old address (n + m) → IsWritten old mid address bytes n → IsWritten mid new (address + n) part m →
+pub written_on : (old mid new : Paged) (address n m : ℕ) (bytes part : List ℕ) → AreInside old address (n + m) →
+    IsWritten old mid address bytes n → IsWritten mid new (address + n) part m →
     ((k : ℕ) → k < m → slice_index part k ≡ slice_index bytes (n + k)) → IsWritten old new address bytes (n + m)
 written_on old mid new address n m bytes part there before after same = record {
   still = still_on old mid new before.still after.still;
   here = λ k less. elim (lt_or_le k n) [
-    | inl earlier ↦ after.elsewhere (address + k) (mid_in (address + k) 1 (inside_part old address (n + m) (address + k) 1 there (omega arith) (omega arith))) (inl (omega arith)) ∙ before.here k earlier
+    | inl earlier ↦ after.elsewhere (address + k) (mid_in (address + k) 1
+        (inside_part old address (n + m) (address + k) 1 there (omega arith) (omega arith))) (inl (omega arith))
+        ∙ before.here k earlier
     | inr later ↦ (let back : n + (k - n) ≡ k = omega arith in
         subst (λ j. reached new.words new.root (address + j) ≡ Some (slice_index bytes j)) back (later_here (k - n) (omega arith)))
   ];
@@ -76,7 +80,8 @@ written_on old mid new address n m bytes part there before after same = record {
         ap (reached new.words new.root) (sym at) ∙ (after.here j less ∙ ap Some (same j less))
 
 -- a part at the front was written
-written_front : (old new : Paged) (address n : ℕ) (bytes part : List ℕ) → IsWritten old new address part n → ((k : ℕ) → k < n → slice_index part k ≡ slice_index bytes k) → IsWritten old new address bytes n
+written_front : (old new : Paged) (address n : ℕ) (bytes part : List ℕ) → IsWritten old new address part n →
+    ((k : ℕ) → k < n → slice_index part k ≡ slice_index bytes k) → IsWritten old new address bytes n
 written_front old new address n bytes part w same = record {
   still = w.still;
   here = λ k less. w.here k less ∙ ap Some (same k less);
@@ -85,25 +90,31 @@ written_front old new address n bytes part w same = record {
 }
 
 -- two parts were written, one behind the other
-pub written_parts : (old mid new : Paged) (address n : ℕ) (bytes first last : List ℕ) → AreInside old address (length bytes) → first ≡ take n bytes → last ≡ drop n bytes →
-    length first ≡ n → length last + n ≡ length bytes → IsWritten old mid address first (length first) → IsWritten mid new (address + length first) last (length last) → IsWritten old new address bytes (length bytes)
+pub written_parts : (old mid new : Paged) (address n : ℕ) (bytes first last : List ℕ) →
+    AreInside old address (length bytes) → first ≡ take n bytes → last ≡ drop n bytes →
+    length first ≡ n → length last + n ≡ length bytes → IsWritten old mid address first (length first) →
+    IsWritten mid new (address + length first) last (length last) → IsWritten old new address bytes (length bytes)
 written_parts old mid new address n bytes first last there is_first is_last front back before after =
     let all : n + length last ≡ length bytes = omega arith in
     subst (IsWritten old new address bytes) all
-    (written_on old mid new address n (length last) bytes last (inside_part old address (length bytes) address (n + length last) there (omega arith) (omega arith))
-    (written_front old mid address n bytes first (subst (IsWritten old mid address first) front before) (λ k less. ap (λ xs. get_or xs k 0) is_first ∙ get_or-take n bytes k 0 less))
+    (written_on old mid new address n (length last) bytes last (inside_part old address (length bytes) address
+    (n + length last) there (omega arith) (omega arith))
+    (written_front old mid address n bytes first (subst (IsWritten old mid address first) front before)
+    (λ k less. ap (λ xs. get_or xs k 0) is_first ∙ get_or-take n bytes k 0 less))
     (subst (λ j. IsWritten mid new (address + j) last (length last)) front after)
     (λ k less. ap (λ xs. get_or xs k 0) is_last ∙ get_or-drop n bytes k 0))
 
 -- a stored word is its eight bytes
-pub word_written : (p new : Paged) (at value : ℕ) → IsPagedKept p → AreInside p at 8 → at % 8 ≡ 0 → OnlyHeapBytesChange p new → IsStored (grants_of p) (word_reached p) at value (word_reached new) →
+pub word_written : (p new : Paged) (at value : ℕ) → IsPagedKept p → AreInside p at 8 → at % 8 ≡ 0 →
+    OnlyHeapBytesChange p new → IsStored (grants_of p) (word_reached p) at value (word_reached new) →
     IsWritten p new at (to_le_bytes w64 value) 8
 word_written p new at value kept there whole still stored = record {
   still = still;
   here = λ k less.
       let place : at + k - (at + k) % 8 ≡ at = omega arith in
       let byte : (at + k) % 8 ≡ k = omega arith in
-      reached_byte new (at + k) (kept_still p new kept still) (still_inside p new (at + k) 1 still (inside_part p at 8 (at + k) 1 there (omega arith) (omega arith)))
+      reached_byte new (at + k) (kept_still p new kept still) (still_inside p new (at + k) 1 still
+      (inside_part p at 8 (at + k) 1 there (omega arith) (omega arith)))
       ∙ ap Some (ap (λ a. slice_index (to_le_bytes w64 (word_reached new a)) ((at + k) % 8)) place
       ∙ (ap (λ b. slice_index (to_le_bytes w64 (word_reached new at)) b) byte ∙ ap (λ w. slice_index (to_le_bytes w64 w) k) stored.here));
   elsewhere = λ other is beside.
@@ -117,7 +128,8 @@ word_written p new at value kept there whole still stored = record {
 -- ---- what is read
 
 -- a whole word was read
-pub word_read : (p : Paged) (address n : ℕ) (bytes : List ℕ) (word : ℕ) → IsPagedKept p → AreInside p address (n + 8) → (address + n) % 8 ≡ 0 → AreRead p address n bytes →
+pub word_read : (p : Paged) (address n : ℕ) (bytes : List ℕ) (word : ℕ) → IsPagedKept p → AreInside p address (n + 8) →
+    (address + n) % 8 ≡ 0 → AreRead p address n bytes →
     word ≡ word_reached p (address + n) → AreRead p address (n + 8) (bytes ++ to_le_bytes w64 word)
 word_read p address n bytes word kept there whole before is = record {
   many = length-append bytes (to_le_bytes w64 word) ∙ (let m = before.many in omega arith);

@@ -90,10 +90,12 @@ reached_byte p address kept there =
     let word : word_reached p (address - address % 8) ≡ word_at p.words place.0.frame (address % 4096 / 8) =
     word_at_place p (address - address % 8) place.0 (ap (walk_of p.words p.root) page ∙ place.1) ∙ ap (word_at p.words place.0.frame) index in
     ap (option_map (λ q. byte_of (word_at p.words q.frame (address % 4096 / 8)) (address % 8))) place.1
-    ∙ ap Some (sym (le_byte (word_at p.words place.0.frame (address % 4096 / 8)) (address % 8) (omega arith)) ∙ ap (λ w. slice_index (to_le_bytes w64 w) (address % 8)) (sym word))
+    ∙ ap Some (sym (le_byte (word_at p.words place.0.frame (address % 4096 / 8)) (address % 8) (omega arith))
+    ∙ ap (λ w. slice_index (to_le_bytes w64 w) (address % 8)) (sym word))
 
 -- it is 0 where its word is
-pub zero_reached : (p : Paged) (address : ℕ) → IsPagedKept p → AreInside p address 1 → word_reached p (address - address % 8) ≡ 0 → reached p.words p.root address ≡ Some 0
+pub zero_reached : (p : Paged) (address : ℕ) → IsPagedKept p → AreInside p address 1 →
+    word_reached p (address - address % 8) ≡ 0 → reached p.words p.root address ≡ Some 0
 zero_reached p address kept there is =
     let none : byte_of 0 (address % 8) ≡ 0 = omega arith in
     reached_byte p address kept there ∙ ap Some (ap (λ w. slice_index (to_le_bytes w64 w) (address % 8)) is ∙ (le_byte 0 (address % 8) (omega arith) ∙ none))
@@ -112,7 +114,8 @@ module _ (p new : Paged) (at byte : ℕ) (kept : IsPagedKept p) (still : OnlyHea
       ∙ get_or-set_same (to_le_bytes w64 (word_reached p (at - at % 8))) (at % 8) byte 0 (omega arith)))
 
   same_bytes : (other : ℕ) → other ≢ at → ((other - other % 8) ≡ (at - at % 8)) ⊎ ((other - other % 8) ≢ (at - at % 8)) → AreInside p other 1 →
-      slice_index (to_le_bytes w64 (word_reached new (other - other % 8))) (other % 8) ≡ slice_index (to_le_bytes w64 (word_reached p (other - other % 8))) (other % 8)
+      slice_index (to_le_bytes w64 (word_reached new (other - other % 8))) (other % 8) ≡ slice_index
+      (to_le_bytes w64 (word_reached p (other - other % 8))) (other % 8)
   same_bytes other apart (inl same) there =
       ap (λ a. slice_index (to_le_bytes w64 (word_reached new a)) (other % 8)) same
       ∙ (ap (λ w. slice_index (to_le_bytes w64 w) (other % 8)) stored.here
@@ -128,17 +131,23 @@ module _ (p new : Paged) (at byte : ℕ) (kept : IsPagedKept p) (still : OnlyHea
       ∙ (ap Some (same_bytes other apart (same_or_other (other - other % 8) (at - at % 8)) there) ∙ sym (reached_byte p other kept there))
 
 -- one more byte was put
-pub written_more : (old mid new : Paged) (address : ℕ) (bytes : List ℕ) (n : ℕ) → IsPagedKept old → AreInside old address (n + 1) → IsWritten old mid address bytes n →
+pub written_more : (old mid new : Paged) (address : ℕ) (bytes : List ℕ) (n : ℕ) → IsPagedKept old →
+    AreInside old address (n + 1) → IsWritten old mid address bytes n →
     slice_index bytes n < 256 → OnlyHeapBytesChange mid new →
-    IsStored (grants_of mid) (word_reached mid) (address + n - (address + n) % 8) (with_byte (word_reached mid (address + n - (address + n) % 8)) ((address + n) % 8) (slice_index bytes n)) (word_reached new) →
+    IsStored (grants_of mid) (word_reached mid) (address + n - (address + n) % 8)
+    (with_byte (word_reached mid (address + n - (address + n) % 8)) ((address + n) % 8) (slice_index bytes n))
+    (word_reached new) →
     IsWritten old new address bytes (n + 1)
 written_more old mid new address bytes n kept there before small still stored = record {
   still = still_on old mid new before.still still;
   here = λ k less. (elim (lt_or_le k n) [
-    | inl earlier ↦ bytes_stay mid new (address + n) (slice_index bytes n) kept_mid still last_in small stored (address + k) (mid_in (address + k) (inside_part old address (n + 1) (address + k) 1 there (omega arith) (omega arith))) (λ e. absurd (omega arith))
+    | inl earlier ↦ bytes_stay mid new (address + n) (slice_index bytes n) kept_mid still last_in small stored (address + k)
+        (mid_in (address + k) (inside_part old address (n + 1) (address + k) 1 there (omega arith) (omega arith)))
+        (λ e. absurd (omega arith))
         ∙ before.here k earlier
     | inr last ↦ (let same : n ≡ k = omega arith in
-        subst (λ j. reached new.words new.root (address + j) ≡ Some (slice_index bytes j)) same (byte_put mid new (address + n) (slice_index bytes n) kept_mid still last_in small stored))
+        subst (λ j. reached new.words new.root (address + j) ≡ Some (slice_index bytes j)) same
+        (byte_put mid new (address + n) (slice_index bytes n) kept_mid still last_in small stored))
   ]);
   elsewhere = λ other is beside. (
       bytes_stay mid new (address + n) (slice_index bytes n) kept_mid still last_in small stored other (mid_in other is) (differs other beside)

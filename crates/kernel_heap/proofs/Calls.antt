@@ -15,10 +15,21 @@ use Rattle.kernel_heap.proofs.Steps.{step_one, steps_on}
 
 -- no call
 pub served_none : (config : Config) (machine : Machine) → IsNewMachine config machine → AreServed config [] [] machine
-served_none config machine new = record { first = machine; new = new; steps = refl; state = start config; run = runs_none (start config); good = new.good; stands = new.stands }
+served_none config machine new = record {
+  first = machine;
+  new = new;
+  steps = refl;
+  state = start config;
+  run =
+      runs_none (start config);
+  good = new.good;
+  stands = new.stands;
+}
 
 -- one more
-pub served_more : (config : Config) (calls : List Call) (answers : List Answer) (old new : Machine) (call : Call) (answer : Answer) → AreServed config calls answers old → HasStepped old call answer new → AreServed config (calls ++ call ∷ []) (answers ++ answer ∷ []) new
+pub served_more : (config : Config) (calls : List Call) (answers : List Answer) (old new : Machine) (call : Call)
+    (answer : Answer) → AreServed config calls answers old → HasStepped old call answer new →
+    AreServed config (calls ++ call ∷ []) (answers ++ answer ∷ []) new
 served_more config calls answers old new call answer h stepped =
     let s = start config in
     let step = stepped.allowed h.state h.good h.stands in

@@ -62,7 +62,8 @@ trim_gives_back frees parts unit pad heap = trim (is_trimmed pad heap)
     end [] = all_releases (taken_back frees (handed_out parts heap.segments))
     end (head ∷ rest) = whole_releases (taken_back frees (handed_out parts heap.segments))
 
-    cut : (b : Bool) → AreReleases ((if b then end_released (cut_of heap pad) heap.segments else []) ++ releases (taken_back frees (handed_out parts heap.segments)))
+    cut : (b : Bool) → AreReleases ((if b then end_released (cut_of heap pad) heap.segments else []) ++ releases
+        (taken_back frees (handed_out parts heap.segments)))
     cut true = end heap.segments
     cut false = all_releases (taken_back frees (handed_out parts heap.segments))
 
@@ -80,15 +81,18 @@ free_gives_back frees parts unit heap at = above (is_above_check heap at)
 -- so a free cuts the regions
 pub free_shortened : (heap new : Dlmalloc PagedSystem) (address : ℕ) → IsFreed regions word follows true true 4096 heap address new →
     IsShortenedBy (paged heap.system) (paged new.system) (free_releases true true 4096 (freed (heap_state heap) (address - 16)) (address - 16))
-free_shortened heap new address back = follows_shortened (paged heap.system) (paged new.system) (free_releases true true 4096 (freed (heap_state heap) (address - 16)) (address - 16)) heap.system.kept
+free_shortened heap new address back = follows_shortened (paged heap.system) (paged new.system)
+    (free_releases true true 4096 (freed (heap_state heap) (address - 16)) (address - 16)) heap.system.kept
     (free_gives_back true true 4096 (freed (heap_state heap) (address - 16)) (address - 16)) back.followed
 
 -- and leaves a part of the slot that is cut by it
 pub free_leaves_part : (old : Paged) (heap new : Dlmalloc PagedSystem) (address : ℕ) → IsFreed regions word follows true true 4096 heap address new →
     (by : IsShortenedBy old (paged new.system) (free_releases true true 4096 (freed (heap_state heap) (address - 16)) (address - 16))) →
     (one : ℕ) → by.slot ≡ Some one → IsTrue (meets_any one 512 (paged new.system).regions)
-free_leaves_part old heap new address back by = part_stays old new (free_releases true true 4096 (freed (heap_state heap) (address - 16)) (address - 16)) back.sound by
-    (λ at size left more is some. subst (λ (h : HeapState). IsHeadAt h at left) (sym back.state) (free_part (freed (heap_state heap) (address - 16)) (address - 16) at size left more some is))
+free_leaves_part old heap new address back by = part_stays old new (free_releases true true 4096
+    (freed (heap_state heap) (address - 16)) (address - 16)) back.sound by
+    (λ at size left more is some. subst (λ (h : HeapState). IsHeadAt h at left) (sym back.state)
+    (free_part (freed (heap_state heap) (address - 16)) (address - 16) at size left more some is))
 
 -- ---- the step
 
@@ -139,7 +143,8 @@ module _ {top : ℕ} (heap new : Dlmalloc PagedSystem) (blocks : List (Option Li
           back.less.only b.extent b.used (block_there (heap_state heap) it.address it.size b) (λ e. apart (omega arith))
 
   -- and they lie in the regions that are left
-  in_left : (i : ℕ) (it : Block) → block_at (without_block s.blocks number) i ≡ Some it → (k : ℕ) → k < cover it → IsTrue (list_any (is_within (it.address + k)) left)
+  in_left : (i : ℕ) (it : Block) → block_at (without_block s.blocks number) i ≡ Some it → (k : ℕ) → k < cover it →
+      IsTrue (list_any (is_within (it.address + k)) left)
   in_left i it at k less =
       let was = left_at s.blocks number i it at in
       let there = outline_of s.blocks blocks (sym stands.blocks) i it was.1 in
@@ -161,37 +166,50 @@ module _ {top : ℕ} (heap new : Dlmalloc PagedSystem) (blocks : List (Option Li
 
   stands_now : Stands m' s_left
   stands_now = subst (λ g. Stands (record m' { granularity = g }) s_left) (sym back.granularity)
-      (stands_left m (paged new.system) s by.slot good stands heap.system.kept.mapped new.system.kept.mapped short part_left (slice_set blocks number None) (without_block s.blocks number)
+      (stands_left m (paged new.system) s by.slot good stands heap.system.kept.mapped new.system.kept.mapped short part_left
+      (slice_set blocks number None) (without_block s.blocks number)
       (ap (λ list. slice_set list number None) stands.blocks ∙ sym (outline_left s.blocks number)) holds)
 
   pages_left : pageless_frames (paged new.system) + total_pages left ≡ pageless_frames (paged heap.system) + total_pages s.heap
   pages_left = frames_left m (paged new.system) s by.slot good stands heap.system.kept.mapped new.system.kept.mapped short part_left
 
   -- where as many frames have no page, no region was cut
-  step_kept : pageless_frames (paged new.system) ≡ pageless_frames (paged heap.system) → IsStep s (Free number) (record { reply = Done; regions = None; large = None }) m'
+  step_kept : pageless_frames (paged new.system) ≡ pageless_frames (paged heap.system) →
+      IsStep s (Free number) (record { reply = Done; regions = None; large = None }) m'
   step_kept few =
       let pages = pages_left in
-      let same : left ≡ s.heap = none_gone s.heap left (all_more (IsHeapRegion s) (λ region. 0 < region.pages) (λ region whole. whole.0.1.some) s.heap good.heap) cut (omega (arith, pages, few)) in
+      let same : left ≡ s.heap = none_gone s.heap left (all_more (IsHeapRegion s) (λ region. 0 < region.pages)
+      (λ region whole. whole.0.1.some) s.heap good.heap) cut (omega (arith, pages, few)) in
       let ended = good_ended s number good in
       record {
         allowed = record { reply = (known, none_cut s.heap); listed = tt; large = tt };
         good = ended;
-        stands = subst (Stands m') (ap (λ (list : List Region). left_state s list (without_block s.blocks number)) same ∙ settled_same (record s { blocks = without_block s.blocks number }) ended.slots) stands_now;
+        stands = subst (Stands m') (ap (λ (list : List Region). left_state s list (without_block s.blocks number)) same
+            ∙ settled_same (record s { blocks = without_block s.blocks number }) ended.slots) stands_now;
       }
 
   -- else the regions that are left are listed
-  step_cut : pageless_frames (paged new.system) ≢ pageless_frames (paged heap.system) → IsStep s (Free number) (record { reply = Done; regions = Some left; large = None }) m'
+  step_cut : pageless_frames (paged new.system) ≢ pageless_frames (paged heap.system) →
+      IsStep s (Free number) (record { reply = Done; regions = Some left; large = None }) m'
   step_cut more = record {
-    allowed = record { reply = (known, cut); listed = λ same. more (let pages = pages_left in let total = ap total_pages same in omega (arith, pages, total)); large = tt };
+    allowed = record {
+      reply = (known, cut);
+      listed = λ same. more (let pages = pages_left in let total =
+          ap total_pages same in omega (arith, pages, total));
+      large = tt;
+    };
     good = good_left;
     stands = stands_now;
   }
 
   pub step_ended : (answered : Option (List Region)) →
       ((paged new.system).joins ≡ (paged heap.system).joins → pageless_frames (paged new.system) ≡ pageless_frames (paged heap.system) → answered ≡ None) →
-      (((paged new.system).joins ≡ (paged heap.system).joins → pageless_frames (paged new.system) ≡ pageless_frames (paged heap.system) → ⊥) → answered ≡ Some left) →
+      (((paged new.system).joins ≡ (paged heap.system).joins → pageless_frames (paged new.system) ≡ pageless_frames
+      (paged heap.system) → ⊥) → answered ≡ Some left) →
       IsStep s (Free number) (record { reply = Done; regions = answered; large = None }) m'
   step_ended answered same other = elim (same_or_other (pageless_frames (paged new.system)) (pageless_frames (paged heap.system))) [
-    | inl few ↦ subst (λ (list : Option (List Region)). IsStep s (Free number) (record { reply = Done; regions = list; large = None }) m') (sym (same short.joins few)) (step_kept few)
-    | inr more ↦ subst (λ (list : Option (List Region)). IsStep s (Free number) (record { reply = Done; regions = list; large = None }) m') (sym (other (λ joins few. more few))) (step_cut more)
+    | inl few ↦ subst (λ (list : Option (List Region)). IsStep s (Free number)
+        (record { reply = Done; regions = list; large = None }) m') (sym (same short.joins few)) (step_kept few)
+    | inr more ↦ subst (λ (list : Option (List Region)). IsStep s (Free number)
+        (record { reply = Done; regions = list; large = None }) m') (sym (other (λ joins few. more few))) (step_cut more)
   ]

@@ -15,7 +15,8 @@ pub put_none : (flat : FlatWindow) (at : ℕ) (told : ℕ → ℕ) → ArePutAt 
 put_none flat at told = record { longer = longer_none flat; here = λ k m low high. absurd (omega arith); elsewhere = λ k m c out. refl }
 
 -- behind the words that were put one more was
-pub put_more : (old now next : FlatWindow) (at i : ℕ) (told : ℕ → ℕ) → at % 8 ≡ 0 → ArePutAt old now at i told → IsLonger now next → flat_word next (at + 8 * i) ≡ told (at + 8 * i) →
+pub put_more : (old now next : FlatWindow) (at i : ℕ) (told : ℕ → ℕ) → at % 8 ≡ 0 → ArePutAt old now at i told →
+    IsLonger now next → flat_word next (at + 8 * i) ≡ told (at + 8 * i) →
     ((k : ℕ) → k % 8 ≡ 0 → IsCovered now k → (k ≡ at + 8 * i → ⊥) → flat_word next k ≡ flat_word now k) →
     ((k : ℕ) → k % 8 ≡ 0 → at ≤ k → k < at + 8 * (i + 1) → IsCovered old k) → ArePutAt old next at (i + 1) told
 put_more old now next at i told aligned put longer word other covered = record {
@@ -34,7 +35,8 @@ put_more old now next at i told aligned put longer word other covered = record {
 
 -- the next word to be copied stands as it did
 pub next_word : (old now : FlatWindow) (from to count i : ℕ) → from % 8 ≡ 0 → ArePutAt old now to i (λ k. flat_word old (from + (k - to))) →
-    (from + 8 * count ≤ to) ⊎ (to + 8 * count ≤ from) → i < count → IsCovered old (from + 8 * i) → flat_word now (from + 8 * i) ≡ flat_word old (from + (to + 8 * i - to))
+    (from + 8 * count ≤ to) ⊎ (to + 8 * count ≤ from) → i < count → IsCovered old (from + 8 * i) →
+    flat_word now (from + 8 * i) ≡ flat_word old (from + (to + 8 * i - to))
 next_word old now from to count i aligned put apart less covered =
     let place : from + 8 * i ≡ from + (to + 8 * i - to) = omega arith in
     put.elsewhere (from + 8 * i) (omega arith) covered (elim apart [ inl before ↦ inl (omega arith) | inr behind ↦ inr (omega arith) ])

@@ -57,45 +57,60 @@ use Rattle.kernel_heap.proofs.ReleasedRegions.{AreShortened, shortened_still, sh
 use Rattle.kernel_heap.proofs.ReleasedState.{left_state, regions_cut, frames_left, enough_left, stands_left}
 
 -- a chunk is found with one region more at most
-pub few_regions : (heap new : Dlmalloc PagedSystem) (n : ℕ) → IsFound follows regions heap.system (heap_state heap) n new.system (heap_state new) → length (paged new.system).regions ≤ length (paged heap.system).regions + 1
+pub few_regions : (heap new : Dlmalloc PagedSystem) (n : ℕ) → IsFound follows regions heap.system (heap_state heap) n
+    new.system (heap_state new) → length (paged new.system).regions ≤ length (paged heap.system).regions + 1
 few_regions heap new n found = elim found [
   | inl here ↦ (let same = ap (λ (p : Paged). length p.regions) here.1.others in omega arith)
   | inr there ↦ (
       let followed = there.4 in
       let before = ap (λ (p : Paged). length p.regions) followed.2.others in
-      let more = ap length followed.3.granted.regions ∙ length_with (heap_region there.0.base (pages_in (round_up (n + 96) heap.granularity))) followed.0.regions in
+      let more = ap length followed.3.granted.regions ∙ length_with (heap_region there.0.base
+      (pages_in (round_up (n + 96) heap.granularity))) followed.0.regions in
       let behind = ap (λ (p : Paged). length p.regions) followed.4.others in
       omega arith)
 ]
 
 -- the pages that were granted
-new_are : (s : State) (n at pages : ℕ) (left : List Region) → (region : Region) → find (is_new s.heap) left ≡ Some region → region.start ≡ at → pages_for n s.granularity ≡ pages →
+new_are : (s : State) (n at pages : ℕ) (left : List Region) → (region : Region) → find (is_new s.heap) left ≡ Some region →
+    region.start ≡ at → pages_for n s.granularity ≡ pages →
     granted_pages s (Some n) (find (is_new s.heap) left) ≡ Some (record { start = at; pages = pages })
 new_are s n at pages left region found begins same = ap (granted_pages s (Some n)) found ∙ (λ i. Some (record { start = begins i; pages = same i }))
 
 -- the state after an answer that lists the regions that are left, with new pages, has the tables of these, and their slots
-state_after : (s : State) (blocks : List (Option Block)) (n at pages : ℕ) (left : List Region) (slots : List ℕ) → (region : Region) → find (is_new s.heap) left ≡ Some region → region.start ≡ at → pages_for n s.granularity ≡ pages →
-    left_state (granted s at pages slots) left blocks ≡ with_regions (record s { blocks = blocks }) (Some left) (granted_pages s (Some n) (find (is_new s.heap) left)) slots
+state_after : (s : State) (blocks : List (Option Block)) (n at pages : ℕ) (left : List Region) (slots : List ℕ) →
+    (region : Region) → find (is_new s.heap) left ≡ Some region → region.start ≡ at → pages_for n s.granularity ≡ pages →
+    left_state (granted s at pages slots) left blocks ≡ with_regions (record s { blocks = blocks }) (Some left)
+    (granted_pages s (Some n) (find (is_new s.heap) left)) slots
 state_after s blocks n at pages left slots region found begins same =
     ap (λ (new : Option NewPages). with_regions (record s { blocks = blocks }) (Some left) new slots) (sym (new_are s n at pages left region found begins same))
 
 -- of a machine without blocks
-nothing_held : (list : List Region) (number : ℕ) (block : Block) → block_at [] number ≡ Some block → (k : ℕ) → k < cover block → IsTrue (list_any (is_within (block.address + k)) list)
+nothing_held : (list : List Region) (number : ℕ) (block : Block) → block_at [] number ≡ Some block → (k : ℕ) →
+    k < cover block → IsTrue (list_any (is_within (block.address + k)) list)
 nothing_held list number block is k less = absurd (cc)
 
 -- A machine before a call that wants n bytes; as there was room for them; and after it, where runs of the heap may have been
 -- given back since. `blocks'` are the blocks that the answer leaves.
 module _ {top : ℕ} (heap middle new : Dlmalloc PagedSystem) (blocks blocks' : List (Option Live)) (laid : IsLaidOut heap blocks)
-    (n : ℕ) (found : IsFound follows regions heap.system (heap_state heap) n middle.system (heap_state middle)) (slot : Option ℕ) (short : AreShortened (paged middle.system) (paged new.system) slot)
+    (n : ℕ) (found : IsFound follows regions heap.system (heap_state heap) n middle.system (heap_state middle))
+    (slot : Option ℕ) (short : AreShortened (paged middle.system) (paged new.system) slot)
     (part_left : (one : ℕ) → slot ≡ Some one → IsTrue (meets_any one 512 (paged new.system).regions)) (granularity : new.granularity ≡ heap.granularity)
     (stays : (grant : Grant) → 0 < grant.size → regions middle.system ≡ with_grant grant (regions heap.system) → HasByteOf grant (regions new.system))
     (s : State) (good : IsGood s) (stands : Stands (seen_of top heap blocks) s)
     (call : Call) (number address : ℕ) (after_it : List (Option Block)) (changes : changed s call (Placed number address) ≡ record s { blocks = after_it })
     (must : must_refuse s call ≡ None) (wants : wanted_by s call ≡ Some n)
-    (serves : (list : Option (List Region)) (grown : List Region) → IsGrowth s n grown → AreCut grown (heap_after s list) → (paged new.system ≡ paged middle.system → heap_after s list ≡ grown) → (OnlyHeapBytesChange (paged heap.system) (paged new.system) → list ≡ None) →
+    (serves : (list : Option (List Region)) (grown : List Region) → IsGrowth s n grown → AreCut grown (heap_after s list) →
+    (paged new.system ≡ paged middle.system → heap_after s list ≡ grown) →
+    (OnlyHeapBytesChange (paged heap.system) (paged new.system) → list ≡ None) →
     IsServed s call (Placed number address) list)
     (lives_same : blocks' ≡ map (option_map outline) after_it) (holds : HoldsBytes (reached (paged new.system).words (paged new.system).root) after_it)
-    (good_blocks : (list : List Region) (tables : List Prefix) (large : List ℕ) → list ≡ heap_regions (paged new.system).regions → IsGood (record s { heap = list; tables = tables; large = large; blocks = [] }) →
+    (good_blocks : (list : List Region) (tables : List Prefix) (large : List ℕ) →
+    list ≡ heap_regions (paged new.system).regions → IsGood (record s {
+      heap = list;
+      tables = tables;
+      large = large;
+      blocks = [];
+    }) →
     IsGood (record s { heap = list; tables = tables; large = large; blocks = after_it })) where
   abbrev m : Seen
   m = seen_of top heap blocks
@@ -120,7 +135,8 @@ module _ {top : ℕ} (heap middle new : Dlmalloc PagedSystem) (blocks blocks' : 
 
   module _ (still : OnlyHeapBytesChange (paged heap.system) (paged middle.system)) where
     short_all : AreShortened (paged heap.system) (paged new.system) slot
-    short_all = shortened_then (paged heap.system) (paged middle.system) (paged new.system) slot (shortened_still (paged heap.system) (paged middle.system) heap.system.kept.laid still) short
+    short_all = shortened_then (paged heap.system) (paged middle.system) (paged new.system) slot
+        (shortened_still (paged heap.system) (paged middle.system) heap.system.kept.laid still) short
 
     cut : AreCut s.heap left
     cut = regions_cut m (paged new.system) s slot good stands heap.system.kept.mapped new.system.kept.mapped short_all part_left
@@ -133,19 +149,25 @@ module _ {top : ℕ} (heap middle new : Dlmalloc PagedSystem) (blocks blocks' : 
 
     good_left : IsGood s_left
     good_left = good_blocks left s_left.tables s_left.large refl
-        (good_cut bare left (good_bare s good) cut (nothing_held left) (enough_left m (paged new.system) s slot good stands heap.system.kept.mapped new.system.kept.mapped short_all part_left []))
+        (good_cut bare left (good_bare s good) cut (nothing_held left) (enough_left m (paged new.system) s slot good stands
+        heap.system.kept.mapped new.system.kept.mapped short_all part_left []))
 
     stands_now : Stands m' s_left
-    stands_now = granular s_left (stands_left m (paged new.system) s slot good stands heap.system.kept.mapped new.system.kept.mapped short_all part_left blocks' after_it lives_same holds)
+    stands_now = granular s_left (stands_left m (paged new.system) s slot good stands heap.system.kept.mapped
+        new.system.kept.mapped short_all part_left blocks' after_it lives_same holds)
 
     -- nothing went back either
-    step_here : pageless_frames (paged new.system) ≡ pageless_frames (paged heap.system) → IsStep s call (record { reply = Placed number address; regions = None; large = None }) m'
+    step_here : pageless_frames (paged new.system) ≡ pageless_frames (paged heap.system) →
+        IsStep s call (record { reply = Placed number address; regions = None; large = None }) m'
     step_here few =
         let pages = pages_left in
-        let same : left ≡ s.heap = none_gone s.heap left (all_more (IsHeapRegion s) (λ region. 0 < region.pages) (λ region whole. whole.0.1.some) s.heap good.heap) cut (omega (arith, pages, few)) in
-        let kept : s_left ≡ record s { blocks = after_it } = ap (λ (list : List Region). left_state s list after_it) same ∙ settled_same (record s { blocks = after_it }) good.slots in
+        let same : left ≡ s.heap = none_gone s.heap left (all_more (IsHeapRegion s) (λ region. 0 < region.pages)
+        (λ region whole. whole.0.1.some) s.heap good.heap) cut (omega (arith, pages, few)) in
+        let kept : s_left ≡ record s { blocks = after_it } = ap (λ (list : List Region). left_state s list after_it) same
+        ∙ settled_same (record s { blocks = after_it }) good.slots in
         let state : s_left ≡ with_regions (changed s call (Placed number address)) None (new_pages s call (Placed number address) None) [] =
-        kept ∙ (sym changes ∙ ap (λ (new : Option NewPages). with_regions (changed s call (Placed number address)) None new []) (sym (placed_none s call number address))) in
+        kept ∙ (sym changes ∙ ap (λ (new : Option NewPages). with_regions (changed s call (Placed number address)) None new
+        []) (sym (placed_none s call number address))) in
         record {
           allowed = record { reply = (must, serves None s.heap (inl refl) (none_cut s.heap) (λ e. refl) (λ e. refl)); listed = tt; large = tt };
           good = subst IsGood state good_left;
@@ -154,9 +176,11 @@ module _ {top : ℕ} (heap middle new : Dlmalloc PagedSystem) (blocks blocks' : 
 
     -- no region is new
     none_listed : new_pages s call (Placed number address) (Some left) ≡ None
-    none_listed = placed_some s call number address left ∙ (ap (λ w. granted_pages s w (find (is_new s.heap) left)) wants ∙ ap (granted_pages s (Some n)) (none_new_left s.heap left cut))
+    none_listed = placed_some s call number address left ∙ (ap (λ w. granted_pages s w (find (is_new s.heap) left)) wants
+        ∙ ap (granted_pages s (Some n)) (none_new_left s.heap left cut))
 
-    step_cut : pageless_frames (paged new.system) ≢ pageless_frames (paged heap.system) → IsStep s call (record { reply = Placed number address; regions = Some left; large = None }) m'
+    step_cut : pageless_frames (paged new.system) ≢ pageless_frames (paged heap.system) →
+        IsStep s call (record { reply = Placed number address; regions = Some left; large = None }) m'
     step_cut more = record {
       allowed = record {
         reply = (
@@ -173,7 +197,8 @@ module _ {top : ℕ} (heap middle new : Dlmalloc PagedSystem) (blocks blocks' : 
     }
       where
         -- so no table is
-        state : left_state s left after_it ≡ with_regions (changed s call (Placed number address)) (Some left) (new_pages s call (Placed number address) (Some left)) []
+        state : left_state s left after_it ≡ with_regions (changed s call (Placed number address)) (Some left)
+            (new_pages s call (Placed number address) (Some left)) []
         state =
             ap (λ (t : State). with_regions t (Some left) None []) (sym changes)
             ∙ ap (λ (new : Option NewPages). with_regions (changed s call (Placed number address)) (Some left) new []) (sym none_listed)
@@ -181,7 +206,9 @@ module _ {top : ℕ} (heap middle new : Dlmalloc PagedSystem) (blocks blocks' : 
   -- ---- a region was granted
 
   module _ (full : IsFull (heap_state heap) (n + 256)) (mid later : Paged) (before : OnlyHeapBytesChange (paged heap.system) mid) (grant : Grant)
-      (is : IsGrantedFor mid later (round_up (n + 96) heap.granularity) grant) (behind : OnlyHeapBytesChange later (paged middle.system)) (with_it : regions middle.system ≡ with_grant grant (regions heap.system)) where
+      (is : IsGrantedFor mid later (round_up (n + 96) heap.granularity) grant)
+      (behind : OnlyHeapBytesChange later (paged middle.system)) (with_it : regions middle.system ≡ with_grant grant
+      (regions heap.system)) where
     abbrev pages : ℕ
     pages = pages_in (round_up (n + 96) heap.granularity)
 
@@ -224,7 +251,8 @@ module _ {top : ℕ} (heap middle new : Dlmalloc PagedSystem) (blocks blocks' : 
     regions_after : heap_regions (paged middle.system).regions ≡ grown
     regions_after =
         ap (λ p. heap_regions p.regions) behind.others
-        ∙ (ap heap_regions is.granted.regions ∙ (heap_joined (heap_region at pages) 0 (2 ^ 64) mid.regions laid_mid refl ∙ ap (with_region (heap_region at pages)) heap_mid))
+        ∙ (ap heap_regions is.granted.regions ∙ (heap_joined (heap_region at pages) 0 (2 ^ 64) mid.regions laid_mid refl
+        ∙ ap (with_region (heap_region at pages)) heap_mid))
 
     -- the slots that are mapped by one entry since
     abbrev slots : List ℕ
@@ -248,7 +276,8 @@ module _ {top : ℕ} (heap middle new : Dlmalloc PagedSystem) (blocks blocks' : 
     m_middle = record { paged = paged middle.system; granularity = heap.granularity; blocks = []; top = top }
 
     stands_middle : Stands m_middle more
-    stands_middle = stands_moved (record m_mid { paged = later }) more (paged middle.system) [] [] good_more stands_later behind refl (holds_none (reached (paged middle.system).words (paged middle.system).root))
+    stands_middle = stands_moved (record m_mid { paged = later }) more (paged middle.system) [] [] good_more stands_later
+        behind refl (holds_none (reached (paged middle.system).words (paged middle.system).root))
 
     cut_grown : AreCut grown left
     cut_grown = regions_cut m_middle (paged new.system) more slot good_more stands_middle middle.system.kept.mapped new.system.kept.mapped short part_left
@@ -258,11 +287,13 @@ module _ {top : ℕ} (heap middle new : Dlmalloc PagedSystem) (blocks blocks' : 
 
     good_after : IsGood s_after
     good_after = good_blocks left s_after.tables s_after.large refl
-        (good_cut more left good_more cut_grown (nothing_held left) (enough_left m_middle (paged new.system) more slot good_more stands_middle middle.system.kept.mapped new.system.kept.mapped short part_left []))
+        (good_cut more left good_more cut_grown (nothing_held left) (enough_left m_middle (paged new.system) more slot
+        good_more stands_middle middle.system.kept.mapped new.system.kept.mapped short part_left []))
 
     stands_after : Stands m' s_after
     stands_after = granular s_after
-        (stands_left m_middle (paged new.system) more slot good_more stands_middle middle.system.kept.mapped new.system.kept.mapped short part_left blocks' after_it lives_same holds)
+        (stands_left m_middle (paged new.system) more slot good_more stands_middle middle.system.kept.mapped
+        new.system.kept.mapped short part_left blocks' after_it lives_same holds)
 
     -- they had no table, and are told still
     slots_new : AllByRecursion (λ one. IsFalse (has_table s.tables (slot_prefix one))) slots
@@ -290,9 +321,11 @@ module _ {top : ℕ} (heap middle new : Dlmalloc PagedSystem) (blocks blocks' : 
     byte = stays grant (let size = is.size in let some = is.can.some in omega (arith, size, some)) with_it
 
     within_new : AllByRecursion (λ region. is_within byte.0 region ≡ true → is_new s.heap region ≡ true) grown
-    within_new = all_with (λ region. is_within byte.0 region ≡ true → is_new s.heap region ≡ true) (heap_region at pages) s.heap (λ inside. fresh) (none_there s.heap clear)
+    within_new = all_with (λ region. is_within byte.0 region ≡ true → is_new s.heap region ≡ true) (heap_region at pages)
+        s.heap (λ inside. fresh) (none_there s.heap clear)
       where
-        none_there : (list : List Region) → meets_any at pages list ≡ false → AllByRecursion (λ region. is_within byte.0 region ≡ true → is_new s.heap region ≡ true) list
+        none_there : (list : List Region) → meets_any at pages list ≡ false →
+            AllByRecursion (λ region. is_within byte.0 region ≡ true → is_new s.heap region ≡ true) list
         none_there [] clear = tt
         none_there (region ∷ rest) clear =
             let both = neither_or (meets at pages region) (meets_any at pages rest) clear in (
@@ -348,11 +381,13 @@ module _ {top : ℕ} (heap middle new : Dlmalloc PagedSystem) (blocks blocks' : 
     step_granted : IsStep s call (record { reply = Placed number address; regions = Some left; large = listed_slots slots }) m'
     step_granted =
         let same = same_pages in
-        let state : s_after ≡ with_regions (changed s call (Placed number address)) (Some left) (new_pages s call (Placed number address) (Some left)) (slots_of (listed_slots slots)) =
+        let state : s_after ≡ with_regions (changed s call (Placed number address)) (Some left)
+        (new_pages s call (Placed number address) (Some left)) (slots_of (listed_slots slots)) =
         state_after s after_it n at pages left slots found_new.0 found_new.1 found_new.2 same
         ∙ (ap (λ (t : State). with_regions t (Some left) (granted_pages s (Some n) (find (is_new s.heap) left)) slots) (sym changes)
         ∙ (ap (λ (new : Option NewPages). with_regions (changed s call (Placed number address)) (Some left) new slots) (sym listed_pages)
-        ∙ ap (with_regions (changed s call (Placed number address)) (Some left) (new_pages s call (Placed number address) (Some left))) (sym (slots_listed slots)))) in
+        ∙ ap (with_regions (changed s call (Placed number address)) (Some left)
+        (new_pages s call (Placed number address) (Some left))) (sym (slots_listed slots)))) in
         record {
           allowed = record {
             reply = (
@@ -374,7 +409,8 @@ module _ {top : ℕ} (heap middle new : Dlmalloc PagedSystem) (blocks blocks' : 
                 let none : find (is_new s.heap) s.heap ≡ None = find_none (is_new s.heap) s.heap (none_new s.heap s.heap (all_start s.heap)) in
                 let there : find (is_new s.heap) s.heap ≡ Some found_new.0 = ap (find (is_new s.heap)) (sym same') ∙ found in
                 cc);
-            large = allowed_slots s call (Placed number address) (Some left) (record { start = at; pages = pages }) slots pages_are is.granted.grant.slots.ascending is.granted.grant.slots.within slots_new;
+            large = allowed_slots s call (Placed number address) (Some left) (record { start = at; pages = pages }) slots
+                pages_are is.granted.grant.slots.ascending is.granted.grant.slots.within slots_new;
           };
           good = subst IsGood state good_after;
           stands = subst (Stands m') state stands_after;
@@ -388,8 +424,10 @@ module _ {top : ℕ} (heap middle new : Dlmalloc PagedSystem) (blocks blocks' : 
   -- The whole step, where the regions are listed if one joined, or other frames have no page than before; and the slots of the one that joined.
   pub step_found : (answered : Option (List Region)) (large : Option (List ℕ)) →
       ((paged new.system).joins ≡ (paged heap.system).joins → pageless_frames (paged new.system) ≡ pageless_frames (paged heap.system) → answered ≡ None) →
-      (((paged new.system).joins ≡ (paged heap.system).joins → pageless_frames (paged new.system) ≡ pageless_frames (paged heap.system) → ⊥) → answered ≡ Some left) →
-      ((paged new.system).joins ≡ (paged heap.system).joins → large ≡ None) → (((paged new.system).joins ≡ (paged heap.system).joins → ⊥) → large ≡ listed_slots (paged new.system).slots) →
+      (((paged new.system).joins ≡ (paged heap.system).joins → pageless_frames (paged new.system) ≡ pageless_frames
+      (paged heap.system) → ⊥) → answered ≡ Some left) →
+      ((paged new.system).joins ≡ (paged heap.system).joins → large ≡ None) →
+      (((paged new.system).joins ≡ (paged heap.system).joins → ⊥) → large ≡ listed_slots (paged new.system).slots) →
       IsFoundStep (answered, large)
   step_found answered large same other none told = elim found [
     | inl here ↦ (
@@ -405,7 +443,8 @@ module _ {top : ℕ} (heap middle new : Dlmalloc PagedSystem) (blocks blocks' : 
         let slots_are = told differ ∙ ap listed_slots (slots_kept there.2 followed.0 followed.1 followed.2 there.0 followed.3 followed.4 there.5) in
         subst IsFoundStep (λ i. (sym (other (λ j few. differ j)) i, sym slots_are i)) (
           step_granted there.2 followed.0 followed.1 followed.2 there.0 followed.3 followed.4 there.5,
-          subst (AreRunsUsedFor (paged heap.system) (paged middle.system)) (sym (pages_are there.2 followed.0 followed.1 followed.2 there.0 followed.3 followed.4 there.5))
+          subst (AreRunsUsedFor (paged heap.system) (paged middle.system))
+              (sym (pages_are there.2 followed.0 followed.1 followed.2 there.0 followed.3 followed.4 there.5))
               (runs_granted there.2 followed.0 followed.1 followed.2 there.0 followed.3 followed.4 there.5),
         ))
   ]

@@ -37,14 +37,17 @@ contained P (first ∷ rest) region all has =
 module _ {top : ℕ} (heap : Dlmalloc PagedSystem) (blocks : List (Option Live)) (laid : IsLaidOut heap blocks) (s : State) (good : IsGood s)
     (stands : Stands (seen_of top heap blocks) s) where
   -- the block of the state behind a live one
-  pub behind : (number : ℕ) (live : Live) → live_at blocks number ≡ Some live → (block : Block) × (block_at s.blocks number ≡ Some block) × (outline block ≡ live)
-  behind number live is = behind_outline (block_at s.blocks number) live (sym (outline_at s.blocks number) ∙ (ap (λ list. live_at list number) (sym stands.blocks) ∙ is))
+  pub behind : (number : ℕ) (live : Live) → live_at blocks number ≡ Some live →
+      (block : Block) × (block_at s.blocks number ≡ Some block) × (outline block ≡ live)
+  behind number live is = behind_outline (block_at s.blocks number) live
+      (sym (outline_at s.blocks number) ∙ (ap (λ list. live_at list number) (sym stands.blocks) ∙ is))
 
   pub no_room : (n : ℕ) → IsFull (heap_state heap) (n + 256) → HasRoom s n → ⊥
   no_room n full room =
       let same : s.heap ≡ heap_regions (paged heap.system).regions = sym (ap heap_regions stands.regions ∙ heap_of_all s good) in
       let has : Contains (heap_regions (paged heap.system).regions) room.region = subst (λ (list : List Region). Contains list room.region) same room.listed in
-      let inside = contained (λ region. IsTrue (list_any (has_region region) (heap_state heap).segments)) (heap_regions (paged heap.system).regions) room.region laid.has has in
+      let inside = contained (λ region. IsTrue (list_any (has_region region) (heap_state heap).segments))
+      (heap_regions (paged heap.system).regions) room.region laid.has has in
       let met = meets (heap_state heap).segments full inside in
       let hit = laid.used met.used met.is met.there in
       let b = (laid.lives hit.number hit.live hit.is).block in
@@ -59,10 +62,13 @@ module _ {top : ℕ} (heap : Dlmalloc PagedSystem) (blocks : List (Option Live))
       elim (room.clear hit.number old.0 old.1) [ inl before ↦ omega arith | inr after ↦ omega arith ]
     where
       -- a segment that has the region has the room
-      meets : (segments : List Segment) → AllByRecursion (λ (segment : Segment). (from : ℕ) → segment.base ≤ from → from + (n + 256) ≤ segment.base + segment.size → IsMet (heap_state heap) from (from + (n + 256))) segments →
+      meets : (segments : List Segment) → AllByRecursion (λ (segment : Segment). (from : ℕ) → segment.base ≤ from →
+          from + (n + 256) ≤ segment.base + segment.size → IsMet (heap_state heap) from (from + (n + 256))) segments →
           list_any (has_region (grant_of room.region)) segments ≡ true → IsMet (heap_state heap) room.address (room.address + (n + 256))
       meets [] full has = absurd (cc)
-      meets (segment ∷ segments) full has = elim (or_cases (has_region (grant_of room.region) segment) (list_any (has_region (grant_of room.region)) segments) has) [
-        | inl here ↦ (let both = has_bounds (grant_of room.region) segment here in full.0 room.address (omega (arith, both.0, room.from)) (omega (arith, both.1, room.within)))
-        | inr later ↦ meets segments full.1 later
-      ]
+      meets (segment ∷ segments) full has = elim (or_cases (has_region (grant_of room.region) segment)
+          (list_any (has_region (grant_of room.region)) segments) has) [
+            | inl here ↦ (let both = has_bounds (grant_of room.region) segment here in
+                full.0 room.address (omega (arith, both.0, room.from)) (omega (arith, both.1, room.within)))
+            | inr later ↦ meets segments full.1 later
+          ]

@@ -12,17 +12,21 @@ use Rattle.kernel_heap.specs.Layout.{IsPagedKept, CanGrant, IsGranted}
 use Rattle.kernel_heap.proofs.Places.{range_within}
 
 -- what a system keeps, it keeps where a region joined, or nothing was done
-pub kept_joined : {A B : Type 0} (answer : Result A B) (old new : Paged) (region : Region) → OnOk answer (IsRegionJoined old new region) → OnOk answer (CanMap old region.start region.pages) → OnErr answer (new ≡ old) → IsPagedKept old → IsMapped new → IsPagedKept new
+pub kept_joined : {A B : Type 0} (answer : Result A B) (old new : Paged) (region : Region) →
+    OnOk answer (IsRegionJoined old new region) → OnOk answer (CanMap old region.start region.pages) →
+    OnErr answer (new ≡ old) → IsPagedKept old → IsMapped new → IsPagedKept new
 kept_joined (Ok a) old new region ok can err kept mapped = record {
   window = subst (λ b. IsGoodWindow b new.pages) (sym ok.added.base) (subst (IsGoodWindow old.base) (sym ok.added.pages_is) kept.window);
   mapped = mapped;
   laid = subst (λ regions. AreLaid 0 regions (2 ^ 64)) (sym ok.regions)
-      (laid_with region 0 (2 ^ 64) old.regions can.range.0 can.range.1.some (omega arith) (range_ends_at region.start region.pages can.range) can.clear kept.laid);
+      (laid_with region 0 (2 ^ 64) old.regions can.range.0 can.range.1.some (omega arith)
+      (range_ends_at region.start region.pages can.range) can.clear kept.laid);
 }
 kept_joined (Err e) old new region ok can err kept mapped = subst IsPagedKept (sym err) kept
 
 -- and where one left
-pub kept_left : {A B : Type 0} (answer : Result A B) (old new : Paged) (start pages : ℕ) → OnOk answer (IsLeft old new start pages) → OnErr answer (new ≡ old) → IsPagedKept old → IsMapped new → IsPagedKept new
+pub kept_left : {A B : Type 0} (answer : Result A B) (old new : Paged) (start pages : ℕ) →
+    OnOk answer (IsLeft old new start pages) → OnErr answer (new ≡ old) → IsPagedKept old → IsMapped new → IsPagedKept new
 kept_left (Ok a) old new start pages ok err kept mapped = record {
   window = subst (λ b. IsGoodWindow b new.pages) (sym ok.gone.base) (subst (IsGoodWindow old.base) (sym ok.gone.pages_is) kept.window);
   mapped = mapped;
@@ -47,7 +51,8 @@ can_map p pages address kept can = record {
 }
 
 -- where it joined, the pages were granted
-pub granted_joined : (old new : Paged) (region : Region) (pages address : ℕ) → region ≡ heap_region address pages → IsRegionJoined old new region → IsGranted old new pages address
+pub granted_joined : (old new : Paged) (region : Region) (pages address : ℕ) → region ≡ heap_region address pages →
+    IsRegionJoined old new region → IsGranted old new pages address
 granted_joined old new region pages address is joined =
     let j = subst (IsRegionJoined old new) is joined in
     record {

@@ -52,8 +52,10 @@ use Rattle.kernel_heap.proofs.Still.{granted_within}
 abbrev pub next_block : ℕ → ℕ → ℕ → Cell → Block
 next_block address size align cell = record { address = address; size = size; align = align; cells = replicate size cell }
 
-module _ {top : ℕ} (heap new : Dlmalloc PagedSystem) (blocks : List (Option Live)) (size align address : ℕ) (laid : IsLaidOut heap blocks) (out : IsHandedOut regions word follows heap size align address new)
-    (placed_before : ArePlaced (regions heap.system) (heap_state heap)) (placed_now : ArePlaced (regions new.system) (heap_state new)) (blocks_apart : BlocksAreApart (heap_state new))
+module _ {top : ℕ} (heap new : Dlmalloc PagedSystem) (blocks : List (Option Live)) (size align address : ℕ)
+    (laid : IsLaidOut heap blocks) (out : IsHandedOut regions word follows heap size align address new)
+    (placed_before : ArePlaced (regions heap.system) (heap_state heap))
+    (placed_now : ArePlaced (regions new.system) (heap_state new)) (blocks_apart : BlocksAreApart (heap_state new))
     (s : State) (good : IsGood s) (stands : Stands (seen_of top heap blocks) s) where
   number : length blocks ≡ length s.blocks
   number = ap length stands.blocks ∙ length_outline s.blocks
@@ -73,7 +75,8 @@ module _ {top : ℕ} (heap new : Dlmalloc PagedSystem) (blocks : List (Option Li
         let b' = (live_kept heap new blocks size align address laid out i (outline it) at).block in
         let many = (good.each i it is).cells in
         let less = known_within it.cells k byte cell in
-        byte_kept heap new placed_before placed_now (extents_in (heap_state heap)) out.kept it.address it.size b b' (block_there (heap_state heap) it.address it.size b) k (omega arith)
+        byte_kept heap new placed_before placed_now (extents_in (heap_state heap)) out.kept it.address it.size b b'
+        (block_there (heap_state heap) it.address it.size b) k (omega arith)
         ∙ stands.bytes.known i k byte it is cell;
   }
 
@@ -94,15 +97,25 @@ module _ {top : ℕ} (heap new : Dlmalloc PagedSystem) (blocks : List (Option Li
         (λ k byte is. let alike = known_alike size k byte cell is in filled k byte alike.0 alike.1)
 
     lives_same : blocks ++ Some (next_live address size align) ∷ [] ≡ map (option_map outline) after_it
-    lives_same = ap (λ list. list ++ Some (next_live address size align) ∷ []) stands.blocks ∙ sym (outline_push s.blocks (Some (next_block address size align cell)))
+    lives_same = ap (λ list. list ++ Some (next_live address size align) ∷ []) stands.blocks
+        ∙ sym (outline_push s.blocks (Some (next_block address size align cell)))
 
     -- the block is good among the regions of the machine
-    good_blocks : (list : List Region) (tables : List Prefix) (large : List ℕ) → list ≡ heap_regions (paged new.system).regions → IsGood (record s { heap = list; tables = tables; large = large; blocks = [] }) →
+    good_blocks : (list : List Region) (tables : List Prefix) (large : List ℕ) →
+        list ≡ heap_regions (paged new.system).regions → IsGood (record s {
+          heap = list;
+          tables = tables;
+          large = large;
+          blocks = [];
+        }) →
         IsGood (record s { heap = list; tables = tables; large = large; blocks = after_it })
     good_blocks list tables large same bare =
-        let good' : IsGood (record s { heap = list; tables = tables; large = large }) = good_over (record s { heap = list; tables = tables; large = large }) s.blocks bare
+        let good' : IsGood (record s { heap = list; tables = tables; large = large }) =
+        good_over (record s { heap = list; tables = tables; large = large }) s.blocks bare
         (λ i it is. good_there s.heap list it (good.each i it is) (λ k less. ap (list_any (is_within (it.address + k))) same
-        ∙ granted_within (paged new.system) (it.address + k) ((placed_now it.address it.size (live_kept heap new blocks size align address laid out i (outline it) (live_of i it is)).block).granted (it.address + k) (omega arith) (omega (arith, less)))))
+        ∙ granted_within (paged new.system) (it.address + k) ((placed_now it.address it.size
+        (live_kept heap new blocks size align address laid out i (outline it) (live_of i it is)).block).granted
+        (it.address + k) (omega arith) (omega (arith, less)))))
         good.apart in
         good_placed (record s { heap = list; tables = tables; large = large }) (next_block address size align cell) good'
         (record {
@@ -126,7 +139,8 @@ module _ {top : ℕ} (heap new : Dlmalloc PagedSystem) (blocks : List (Option Li
     grant.base,
     omega arith,
     omega (arith, some),
-    subst (λ (list : List Grant). IsTrue (is_granted list grant.base)) (sym with_it) (granted_new grant (regions heap.system) grant.base (omega arith) (omega (arith, some))),
+    subst (λ (list : List Grant). IsTrue (is_granted list grant.base)) (sym with_it)
+        (granted_new grant (regions heap.system) grant.base (omega arith) (omega (arith, some))),
   )
 
   no_part : (one : ℕ) → None ≡ Some one → IsTrue (meets_any one 512 (paged new.system).regions)
@@ -134,20 +148,27 @@ module _ {top : ℕ} (heap new : Dlmalloc PagedSystem) (blocks : List (Option Li
 
   module _ (power : is_power_of_two align ≡ true) (answered : Option (List Region)) (large : Option (List ℕ))
       (same : (paged new.system).joins ≡ (paged heap.system).joins → pageless_frames (paged new.system) ≡ pageless_frames (paged heap.system) → answered ≡ None)
-      (other : ((paged new.system).joins ≡ (paged heap.system).joins → pageless_frames (paged new.system) ≡ pageless_frames (paged heap.system) → ⊥) → answered ≡ Some (heap_regions (paged new.system).regions))
-      (none : (paged new.system).joins ≡ (paged heap.system).joins → large ≡ None) (told : ((paged new.system).joins ≡ (paged heap.system).joins → ⊥) → large ≡ listed_slots (paged new.system).slots) where
+      (other : ((paged new.system).joins ≡ (paged heap.system).joins → pageless_frames (paged new.system) ≡ pageless_frames
+      (paged heap.system) → ⊥) → answered ≡ Some (heap_regions (paged new.system).regions))
+      (none : (paged new.system).joins ≡ (paged heap.system).joins → large ≡ None)
+      (told : ((paged new.system).joins ≡ (paged heap.system).joins → ⊥) →
+      large ≡ listed_slots (paged new.system).slots) where
     -- what an answer to a request is, and what is said of its new pages
     abbrev IsRequestStep : Bool → Type 0
     IsRequestStep cleared =
         IsStep s (request cleared size align) (record { reply = Placed (length blocks) address; regions = answered; large = large }) m'
-        × AreRunsUsedFor (paged heap.system) (paged new.system) (lasting_pages s (request cleared size align) (record { reply = Placed (length blocks) address; regions = answered; large = large }))
+        × AreRunsUsedFor (paged heap.system) (paged new.system) (lasting_pages s (request cleared size align)
+        (record { reply = Placed (length blocks) address; regions = answered; large = large }))
 
     -- nothing is known of its bytes
     step_handed : IsRequestStep false
     step_handed =
-        let fresh : (k byte : ℕ) → k < size → Fresh ≡ Known byte → reached (paged new.system).words (paged new.system).root (address + k) ≡ Some byte = λ k byte less is. absurd (cc) in
-        step_found heap new new blocks (blocks ++ Some (next_live address size align) ∷ []) laid (wanted size align) (found power) None whole no_part out.granularity stays s good stands
-        (Malloc size align) (length blocks) address (after_it Fresh) refl (not_at_once power) refl (λ list grown growth cut same still. (number, subst (IsGrowth s (wanted size align)) (sym (same refl)) growth))
+        let fresh : (k byte : ℕ) → k < size → Fresh ≡ Known byte → reached (paged new.system).words (paged new.system).root
+        (address + k) ≡ Some byte = λ k byte less is. absurd (cc) in
+        step_found heap new new blocks (blocks ++ Some (next_live address size align) ∷ []) laid (wanted size align)
+        (found power) None whole no_part out.granularity stays s good stands
+        (Malloc size align) (length blocks) address (after_it Fresh) refl (not_at_once power) refl
+        (λ list grown growth cut same still. (number, subst (IsGrowth s (wanted size align)) (sym (same refl)) growth))
         (lives_same Fresh) (holds Fresh fresh) (good_blocks Fresh) answered large same other none told
 
     -- its bytes are zero
@@ -156,13 +177,16 @@ module _ {top : ℕ} (heap new : Dlmalloc PagedSystem) (blocks : List (Option Li
     step_cleared cleared =
         let zero_there : (k byte : ℕ) → k < size → Known 0 ≡ Known byte → reached (paged new.system).words (paged new.system).root (address + k) ≡ Some byte =
         λ k byte less is. cleared k less ∙ ap Some (cc is) in
-        step_found heap new new blocks (blocks ++ Some (next_live address size align) ∷ []) laid (wanted size align) (found power) None whole no_part out.granularity stays s good stands
-        (Calloc size align) (length blocks) address (after_it (Known 0)) refl (not_at_once power) refl (λ list grown growth cut same still. (number, subst (IsGrowth s (wanted size align)) (sym (same refl)) growth))
+        step_found heap new new blocks (blocks ++ Some (next_live address size align) ∷ []) laid (wanted size align)
+        (found power) None whole no_part out.granularity stays s good stands
+        (Calloc size align) (length blocks) address (after_it (Known 0)) refl (not_at_once power) refl
+        (λ list grown growth cut same still. (number, subst (IsGrowth s (wanted size align)) (sym (same refl)) growth))
         (lives_same (Known 0)) (holds (Known 0) zero_there) (good_blocks (Known 0)) answered large same other none told
 
     pub step_request : (cleared : Bool) → (cleared ≡ true → AreZero (word new.system) address size) → IsRequestStep cleared
     step_request false zeros = step_handed
     step_request true zeros = step_cleared (λ k less.
         let whole = out.aligned in
-        zero_reached (paged new.system) (address + k) new.system.kept (bytes_within new placed_now address size out.block (address + k) (omega arith) (omega arith))
+        zero_reached (paged new.system) (address + k) new.system.kept (bytes_within new placed_now address size out.block
+        (address + k) (omega arith) (omega arith))
         (zeros refl (address + k - (address + k) % 8) (omega arith) (omega arith) (omega arith)))

@@ -30,7 +30,8 @@ pub heap_any : (test : Region → Bool) (list : List Region) → list_any test (
 heap_any test [] is = is
 heap_any test (first ∷ rest) is = go first.heap is (heap_any test rest)
   where
-    go : (b : Bool) → list_any test (cond b (first ∷ heap_regions rest) (heap_regions rest)) ≡ true → (list_any test (heap_regions rest) ≡ true → list_any test rest ≡ true) → (test first || list_any test rest) ≡ true
+    go : (b : Bool) → list_any test (cond b (first ∷ heap_regions rest) (heap_regions rest)) ≡ true →
+        (list_any test (heap_regions rest) ≡ true → list_any test rest ≡ true) → (test first || list_any test rest) ≡ true
     go true is later = elim (or_cases (test first) (list_any test (heap_regions rest)) is) [
       | inl here ↦ or_left (test first) (list_any test rest) here
       | inr behind ↦ or_right (test first) (list_any test rest) (later behind)
@@ -42,7 +43,9 @@ pub user_any : (address : ℕ) (list : List Region) → is_of_user list address 
 user_any address [] is = is
 user_any address (first ∷ rest) is = go first.heap is (user_any address rest)
   where
-    go : (b : Bool) → (not b && is_within address first || is_of_user rest address) ≡ true → (is_of_user rest address ≡ true → list_any (is_within address) rest ≡ true) → (is_within address first || list_any (is_within address) rest) ≡ true
+    go : (b : Bool) → (not b && is_within address first || is_of_user rest address) ≡ true →
+        (is_of_user rest address ≡ true → list_any (is_within address) rest ≡ true) →
+        (is_within address first || list_any (is_within address) rest) ≡ true
     go true is later = or_right (is_within address first) (list_any (is_within address) rest) (later is)
     go false is later = elim (or_cases (is_within address first) (is_of_user rest address) is) [
       | inl here ↦ or_left (is_within address first) (list_any (is_within address) rest) here
@@ -53,7 +56,8 @@ pub kind_some : (address : ℕ) (list : List Region) → list_any (is_within add
 kind_some address [] is = absurd (cc)
 kind_some address (first ∷ rest) is = go (is_within address first) refl (kind_some address rest)
   where
-    go : (b : Bool) → is_within address first ≡ b → (list_any (is_within address) rest ≡ true → IsSome (kind_at rest address)) → IsSome (kind_at (first ∷ rest) address)
+    go : (b : Bool) → is_within address first ≡ b → (list_any (is_within address) rest ≡ true →
+        IsSome (kind_at rest address)) → IsSome (kind_at (first ∷ rest) address)
     go true here later = rw here refl
     go false here later = rw here (later (rw here at is))
 
@@ -65,7 +69,8 @@ range_within start pages address range from before =
     let same : address / 2 ^ 47 ≡ start / 4096 * 4096 / 2 ^ 47 = omega arith in
     ap (λ q. nat_eq q 0 || nat_eq q (2 ^ 17 - 1)) same ∙ range.1.canonical
 
-pub within_canonical : (base window address : ℕ) (list : List Region) → AllByRecursion (IsRegion base window) list → list_any (is_within address) list ≡ true → IsTrue (is_canonical address)
+pub within_canonical : (base window address : ℕ) (list : List Region) → AllByRecursion (IsRegion base window) list →
+    list_any (is_within address) list ≡ true → IsTrue (is_canonical address)
 within_canonical base window address [] all is = absurd (cc)
 within_canonical base window address (first ∷ rest) all is = elim (or_cases (is_within address first) (list_any (is_within address) rest) is) [
   | inl here ↦ (let bounds = within_bounds address first here in range_within first.start first.pages address all.0.range bounds.0 bounds.1)
@@ -73,7 +78,8 @@ within_canonical base window address (first ∷ rest) all is = elim (or_cases (i
 ]
 
 -- every byte of its page is one of a region of the heap
-pub same_page : (from to a b : ℕ) (list : List Region) → AreLaid from list to → a / 4096 ≡ b / 4096 → list_any (is_within a) (heap_regions list) ≡ true → list_any (is_within b) (heap_regions list) ≡ true
+pub same_page : (from to a b : ℕ) (list : List Region) → AreLaid from list to → a / 4096 ≡ b / 4096 →
+    list_any (is_within a) (heap_regions list) ≡ true → list_any (is_within b) (heap_regions list) ≡ true
 same_page from to a b [] laid same is = is
 same_page from to a b (first ∷ rest) laid same is = go first.heap is (same_page (end_of first) to a b rest laid.3 same)
   where
@@ -83,7 +89,8 @@ same_page from to a b (first ∷ rest) laid same is = go first.heap is (same_pag
         let whole = laid.1 in
         within b first (omega (arith, bounds.0)) (omega (arith, bounds.1))
 
-    go : (h : Bool) → list_any (is_within a) (cond h (first ∷ heap_regions rest) (heap_regions rest)) ≡ true → (list_any (is_within a) (heap_regions rest) ≡ true → list_any (is_within b) (heap_regions rest) ≡ true) →
+    go : (h : Bool) → list_any (is_within a) (cond h (first ∷ heap_regions rest) (heap_regions rest)) ≡ true →
+        (list_any (is_within a) (heap_regions rest) ≡ true → list_any (is_within b) (heap_regions rest) ≡ true) →
         list_any (is_within b) (cond h (first ∷ heap_regions rest) (heap_regions rest)) ≡ true
     go true is later = elim (or_cases (is_within a first) (list_any (is_within a) (heap_regions rest)) is) [
       | inl at_first ↦ or_left (is_within b first) (list_any (is_within b) (heap_regions rest)) (here at_first)
@@ -99,7 +106,8 @@ any_from from to address (first ∷ rest) laid is = elim (or_cases (is_within ad
   | inr later ↦ (let more = any_from (end_of first) to address rest laid.3 later in omega (arith, laid.0, more))
 ]
 
-pub not_of_user : (from to a b : ℕ) (list : List Region) → AreLaid from list to → a / 4096 ≡ b / 4096 → list_any (is_within a) (heap_regions list) ≡ true → is_of_user list b ≡ true → ⊥
+pub not_of_user : (from to a b : ℕ) (list : List Region) → AreLaid from list to → a / 4096 ≡ b / 4096 →
+    list_any (is_within a) (heap_regions list) ≡ true → is_of_user list b ≡ true → ⊥
 not_of_user from to a b [] laid same is user = absurd (cc)
 not_of_user from to a b (first ∷ rest) laid same is user = go first.heap is user (not_of_user (end_of first) to a b rest laid.3 same)
   where
@@ -111,7 +119,8 @@ not_of_user from to a b (first ∷ rest) laid same is user = go first.heap is us
         let whole = laid.1 in
         absurd (omega (arith, bounds.1, more))
 
-    go : (h : Bool) → list_any (is_within a) (cond h (first ∷ heap_regions rest) (heap_regions rest)) ≡ true → (not h && is_within b first || is_of_user rest b) ≡ true →
+    go : (h : Bool) → list_any (is_within a) (cond h (first ∷ heap_regions rest) (heap_regions rest)) ≡ true →
+        (not h && is_within b first || is_of_user rest b) ≡ true →
         (list_any (is_within a) (heap_regions rest) ≡ true → is_of_user rest b ≡ true → ⊥) → ⊥
     go true is user later = elim (or_cases (is_within a first) (list_any (is_within a) (heap_regions rest)) is) [
       | inl here ↦ apart a b same here (user_any b rest user)
@@ -124,10 +133,12 @@ not_of_user from to a b (first ∷ rest) laid same is user = go first.heap is us
 
 -- ---- pages that meet no region
 
-pub apart_from : (address pages : ℕ) (list : List Region) → meets_any address pages list ≡ false → AllByRecursion (IsApart address (address + 4096 * pages)) (map grant_of (heap_regions list))
+pub apart_from : (address pages : ℕ) (list : List Region) → meets_any address pages list ≡ false →
+    AllByRecursion (IsApart address (address + 4096 * pages)) (map grant_of (heap_regions list))
 apart_from address pages [] clear = tt
 apart_from address pages (first ∷ rest) clear =
-    let both : (meets address pages first ≡ false) × (meets_any address pages rest ≡ false) = neither_or (meets address pages first) (meets_any address pages rest) clear in
+    let both : (meets address pages first ≡ false) × (meets_any address pages rest ≡ false) =
+    neither_or (meets address pages first) (meets_any address pages rest) clear in
     go first.heap both.0 (apart_from address pages rest both.1)
   where
     go : (b : Bool) → meets address pages first ≡ false → AllByRecursion (IsApart address (address + 4096 * pages)) (map grant_of (heap_regions rest)) →
@@ -148,12 +159,14 @@ pub heap_beside : (region : Region) (list : List Region) → region.heap ≡ fal
 heap_beside region [] user = user_first region [] user
 heap_beside region (first ∷ rest) user = go (nat_lt region.start first.start) (heap_beside region rest user)
   where
-    go : (b : Bool) → heap_regions (with_region region rest) ≡ heap_regions rest → heap_regions (cond b (region ∷ first ∷ rest) (first ∷ with_region region rest)) ≡ heap_regions (first ∷ rest)
+    go : (b : Bool) → heap_regions (with_region region rest) ≡ heap_regions rest →
+        heap_regions (cond b (region ∷ first ∷ rest) (first ∷ with_region region rest)) ≡ heap_regions (first ∷ rest)
     go true later = user_first region (first ∷ rest) user
     go false later = ap (λ list. cond first.heap (first ∷ list) list) later
 
 -- one of the heap joins those of the heap
-first_of : (region : Region) (from to : ℕ) (list : List Region) → AreLaid from list to → region.start < from → with_region region (heap_regions list) ≡ region ∷ heap_regions list
+first_of : (region : Region) (from to : ℕ) (list : List Region) → AreLaid from list to → region.start < from →
+    with_region region (heap_regions list) ≡ region ∷ heap_regions list
 first_of region from to [] laid less = refl
 first_of region from to (first ∷ rest) laid less =
     let sooner : nat_lt region.start first.start ≡ true = grind (arith, nat_tests, less, laid.0) in
@@ -164,12 +177,14 @@ first_of region from to (first ∷ rest) laid less =
     go true sooner later = rw sooner refl
     go false sooner later = later
 
-pub heap_joined : (region : Region) (from to : ℕ) (list : List Region) → AreLaid from list to → region.heap ≡ true → heap_regions (with_region region list) ≡ with_region region (heap_regions list)
+pub heap_joined : (region : Region) (from to : ℕ) (list : List Region) → AreLaid from list to → region.heap ≡ true →
+    heap_regions (with_region region list) ≡ with_region region (heap_regions list)
 heap_joined region from to [] laid heap = heap_first region [] heap
 heap_joined region from to (first ∷ rest) laid heap = go (nat_lt region.start first.start) refl (heap_joined region (end_of first) to rest laid.3 heap)
   where
     behind : (b : Bool) → nat_lt region.start first.start ≡ false → heap_regions (with_region region rest) ≡ with_region region (heap_regions rest) →
-        cond b (first ∷ heap_regions (with_region region rest)) (heap_regions (with_region region rest)) ≡ with_region region (cond b (first ∷ heap_regions rest) (heap_regions rest))
+        cond b (first ∷ heap_regions (with_region region rest)) (heap_regions (with_region region rest)) ≡ with_region
+        region (cond b (first ∷ heap_regions rest) (heap_regions rest))
     behind true test later = rw test (ap (λ list. first ∷ list) later)
     behind false test later = later
 
@@ -191,34 +206,42 @@ grants_joined region [] = refl
 grants_joined region (first ∷ rest) = go (nat_lt region.start first.start) (grants_joined region rest)
   where
     go : (b : Bool) → map grant_of (with_region region rest) ≡ with_grant (grant_of region) (map grant_of rest) →
-        map grant_of (cond b (region ∷ first ∷ rest) (first ∷ with_region region rest)) ≡ cond b (grant_of region ∷ grant_of first ∷ map grant_of rest) (grant_of first ∷ with_grant (grant_of region) (map grant_of rest))
+        map grant_of (cond b (region ∷ first ∷ rest) (first ∷ with_region region rest)) ≡ cond b
+        (grant_of region ∷ grant_of first ∷ map grant_of rest) (grant_of first ∷ with_grant (grant_of region)
+        (map grant_of rest))
     go true later = refl
     go false later = ap (λ (gs : List Grant). grant_of first ∷ gs) later
 
 -- ---- a region leaves
 
 -- one of the user that has just these pages begins behind what stands before
-user_from : (start pages from to : ℕ) (list : List Region) → AreLaid from list to → list_any (λ region. not region.heap && is_at start pages region) list ≡ true → from ≤ start
+user_from : (start pages from to : ℕ) (list : List Region) → AreLaid from list to →
+    list_any (λ region. not region.heap && is_at start pages region) list ≡ true → from ≤ start
 user_from start pages from to [] laid there = absurd (cc)
-user_from start pages from to (first ∷ rest) laid there = elim (or_cases (not first.heap && is_at start pages first) (list_any (λ region. not region.heap && is_at start pages region) rest) there) [
-  | inl here ↦ (let begins = at_start first.heap here in omega (arith, laid.0, begins))
-  | inr later ↦ (let more = user_from start pages (end_of first) to rest laid.3 later in omega (arith, laid.0, more))
-]
+user_from start pages from to (first ∷ rest) laid there = elim (or_cases (not first.heap && is_at start pages first)
+    (list_any (λ region. not region.heap && is_at start pages region) rest) there) [
+      | inl here ↦ (let begins = at_start first.heap here in omega (arith, laid.0, begins))
+      | inr later ↦ (let more = user_from start pages (end_of first) to rest laid.3 later in omega (arith, laid.0, more))
+    ]
   where
     at_start : (h : Bool) → (not h && is_at start pages first) ≡ true → first.start ≡ start
     at_start true is = absurd (cc)
     at_start false is = grind (arith, nat_tests)
 
 -- it leaves nothing for the heap
-pub heap_left : (start pages from to : ℕ) (list : List Region) → AreLaid from list to → list_any (λ region. not region.heap && is_at start pages region) list ≡ true → heap_regions (without_region start pages list) ≡ heap_regions list
+pub heap_left : (start pages from to : ℕ) (list : List Region) → AreLaid from list to →
+    list_any (λ region. not region.heap && is_at start pages region) list ≡ true →
+    heap_regions (without_region start pages list) ≡ heap_regions list
 heap_left start pages from to [] laid there = absurd (cc)
-heap_left start pages from to (first ∷ rest) laid there = go (is_at start pages first) refl first.heap refl (heap_left start pages (end_of first) to rest laid.3)
+heap_left start pages from to (first ∷ rest) laid there = go (is_at start pages first) refl first.heap refl
+    (heap_left start pages (end_of first) to rest laid.3)
   where
     later_there : (not first.heap && is_at start pages first) ≡ false → list_any (λ region. not region.heap && is_at start pages region) rest ≡ true
-    later_there none = elim (or_cases (not first.heap && is_at start pages first) (list_any (λ region. not region.heap && is_at start pages region) rest) there) [
-      | inl here ↦ absurd (cc)
-      | inr later ↦ later
-    ]
+    later_there none = elim (or_cases (not first.heap && is_at start pages first)
+        (list_any (λ region. not region.heap && is_at start pages region) rest) there) [
+          | inl here ↦ absurd (cc)
+          | inr later ↦ later
+        ]
 
     neither : (b : Bool) → (not b && false) ≡ false
     neither true = refl
@@ -247,7 +270,8 @@ none_but_heap : (list : List Region) → AllByRecursion (λ region. region.heap 
 none_but_heap [] all = refl
 none_but_heap (first ∷ rest) all = heap_first first rest all.0 ∙ ap (λ list. first ∷ list) (none_but_heap rest all.1)
 
-of_all : (heap users : List Region) → AllByRecursion (λ region. region.heap ≡ false) users → heap_regions (fold (λ list region. with_region region list) heap users) ≡ heap_regions heap
+of_all : (heap users : List Region) → AllByRecursion (λ region. region.heap ≡ false) users →
+    heap_regions (fold (λ list region. with_region region list) heap users) ≡ heap_regions heap
 of_all heap [] all = refl
 of_all heap (user ∷ users) all = of_all (with_region user heap) users all.1 ∙ heap_beside user heap all.0
 
@@ -257,10 +281,13 @@ heap_of_all s good =
     ∙ none_but_heap s.heap (all_more (IsHeapRegion s) (λ region. region.heap ≡ true) (λ region is. ap (λ (r : Region). r.heap) is.3) s.heap good.heap)
 
 -- a grant that meets none of the user's begins where none of them does
-others_begin : (heap : List Region) (address pages : ℕ) (users : List Region) → 0 < pages → AllByRecursion (IsUserRegion heap) users → meets_any address pages users ≡ false → AllByRecursion (λ user. user.start ≢ address) users
+others_begin : (heap : List Region) (address pages : ℕ) (users : List Region) → 0 < pages →
+    AllByRecursion (IsUserRegion heap) users → meets_any address pages users ≡ false →
+    AllByRecursion (λ user. user.start ≢ address) users
 others_begin heap address pages [] some all clear = tt
 others_begin heap address pages (first ∷ rest) some all clear =
-    let both : (meets address pages first ≡ false) × (meets_any address pages rest ≡ false) = neither_or (meets address pages first) (meets_any address pages rest) clear in
+    let both : (meets address pages first ≡ false) × (meets_any address pages rest ≡ false) =
+    neither_or (meets address pages first) (meets_any address pages rest) clear in
     let more = all.0.1.1.some in (
       λ same. elim (beside address pages first both.0) [ inl before ↦ omega (arith, before, same, more) | inr behind ↦ omega (arith, behind, same, some) ],
       others_begin heap address pages rest some all.1 both.1,
@@ -268,5 +295,7 @@ others_begin heap address pages (first ∷ rest) some all clear =
 
 -- so it joins all regions as it joins the heap's
 pub joined_state : (s : State) (address pages : ℕ) → IsGood s → 0 < pages → meets_any address pages s.users ≡ false →
-    with_region (heap_region address pages) (all_regions s) ≡ fold (λ list region. with_region region list) (with_region (heap_region address pages) s.heap) s.users
-joined_state s address pages good some clear = sym (joined_all (heap_region address pages) s.heap s.users (others_begin s.heap address pages s.users some good.users clear))
+    with_region (heap_region address pages) (all_regions s) ≡ fold (λ list region. with_region region list)
+    (with_region (heap_region address pages) s.heap) s.users
+joined_state s address pages good some clear = sym (joined_all (heap_region address pages) s.heap s.users
+    (others_begin s.heap address pages s.users some good.users clear))

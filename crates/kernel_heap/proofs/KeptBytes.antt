@@ -6,7 +6,8 @@ use Rattle.kernel_heap.specs.Heap.{regions, word, follows}
 use Rattle.kernel_heap.specs.declared.paged_system.PagedSystem.{PagedSystem}
 
 pub given_fewer : (heap new : Dlmalloc PagedSystem) (from held size align address fewer : ℕ) → fewer ≤ held →
-    IsGivenSize regions word follows true true 4096 heap from held align size address new → IsGivenSize regions word follows true true 4096 heap from fewer align size address new
+    IsGivenSize regions word follows true true 4096 heap from held align size address new →
+    IsGivenSize regions word follows true true 4096 heap from fewer align size address new
 given_fewer heap new from held size align address fewer less out = record {
   middle = out.middle;
   found = out.found;

@@ -41,8 +41,10 @@ found_place : (at : ℕ) (extents : List Extent) (extent : Extent) → extent_at
 found_place at [] extent there = absurd (cc)
 found_place at (first ∷ extents) extent there = go (first.at == at) refl there (found_place at extents extent)
   where
-    go : (b : Bool) → (first.at == at) ≡ b → (if b then Some first else extent_at at extents) ≡ Some extent → (extent_at at extents ≡ Some extent → extent.at ≡ at) → extent.at ≡ at
-    go true test is later = (let same : first ≡ extent = cc in let place : first.at ≡ at = grind (arith, nat_tests) in sym (ap (λ (e : Extent). e.at) same) ∙ place)
+    go : (b : Bool) → (first.at == at) ≡ b → (if b then Some first else extent_at at extents) ≡ Some extent →
+        (extent_at at extents ≡ Some extent → extent.at ≡ at) → extent.at ≡ at
+    go true test is later = (let same : first ≡ extent = cc in let place : first.at ≡ at = grind (arith, nat_tests) in
+        sym (ap (λ (e : Extent). e.at) same) ∙ place)
     go false test is later = later is
 
 module _ (heap : HeapState) (address size : ℕ) (block : IsBlock heap address size) where
@@ -51,11 +53,13 @@ module _ (heap : HeapState) (address size : ℕ) (block : IsBlock heap address s
   block_place = let low = block.low in let at = found_place (address - 16) (extents_in heap) block.extent block.there in omega arith
 
   pub block_there : extent_at block.extent.at (extents_in heap) ≡ Some block.extent
-  block_there = subst (λ (at : ℕ). extent_at at (extents_in heap) ≡ Some block.extent) (sym (found_place (address - 16) (extents_in heap) block.extent block.there)) block.there
+  block_there = subst (λ (at : ℕ). extent_at at (extents_in heap) ≡ Some block.extent)
+      (sym (found_place (address - 16) (extents_in heap) block.extent block.there)) block.there
 
   -- the extent that begins there is the block's
   pub block_is : (extent : Extent) → address ≡ extent.at + 16 → extent_at extent.at (extents_in heap) ≡ Some extent → block.extent ≡ extent
-  block_is extent place there = let same : Some block.extent ≡ Some extent = sym block_there ∙ (ap (λ at. extent_at at (extents_in heap)) (let p = block_place in omega arith) ∙ there) in cc
+  block_is extent place there = let same : Some block.extent ≡ Some extent = sym block_there
+      ∙ (ap (λ at. extent_at at (extents_in heap)) (let p = block_place in omega arith) ∙ there) in cc
 
   -- a heap that has its extent has the block
   pub block_moved : (new : HeapState) → extent_at block.extent.at (extents_in new) ≡ Some block.extent → IsBlock new address size
@@ -74,14 +78,16 @@ module _ (heap : HeapState) (address size : ℕ) (block : IsBlock heap address s
 abbrev pub next_live : ℕ → ℕ → ℕ → Live
 next_live address size align = record { address = address; size = size; align = align }
 
-module _ (heap new : Dlmalloc PagedSystem) (blocks : List (Option Live)) (size align address : ℕ) (laid : IsLaidOut heap blocks) (out : IsHandedOut regions word follows heap size align address new) where
+module _ (heap new : Dlmalloc PagedSystem) (blocks : List (Option Live)) (size align address : ℕ)
+    (laid : IsLaidOut heap blocks) (out : IsHandedOut regions word follows heap size align address new) where
   -- a live block has its extent still
   pub live_kept : (number : ℕ) (live : Live) → live_at blocks number ≡ Some live → IsLive (heap_state new) live
   live_kept number live is =
       let was = laid.lives number live is in
       let b = was.block in
       record {
-        block = block_moved (heap_state heap) live.address live.size b (heap_state new) (out.more.kept b.extent b.used (block_there (heap_state heap) live.address live.size b));
+        block = block_moved (heap_state heap) live.address live.size b (heap_state new)
+            (out.more.kept b.extent b.used (block_there (heap_state heap) live.address live.size b));
         align = was.align;
       }
 
@@ -97,20 +103,35 @@ module _ (heap new : Dlmalloc PagedSystem) (blocks : List (Option Live)) (size a
     has = have_found heap new (padded (asked size align)) out.found laid.has;
     lives = λ number live is. elim (appended blocks (Some (next_live address size align)) number live is) [
       | inl old ↦ live_kept number live old
-      | inr last ↦ (let same : next_live address size align ≡ live = cc in subst (λ (l : Live). IsLive (heap_state new) l) same (record { block = out.block; align = power }))
+      | inr last ↦ (let same : next_live address size align ≡ live = cc in
+          subst (λ (l : Live). IsLive (heap_state new) l) same (record { block = out.block; align = power }))
     ];
     used = λ extent used there. elim (same_or_other extent.at (address - 16)) [
-      | inl same ↦ (let low = out.low in record { number = length blocks; live = next_live address size align; is = last_at blocks (Some (next_live address size align)); place = omega arith })
+      | inl same ↦ (let low = out.low in record {
+        number = length blocks;
+        live = next_live address size align;
+        is =
+            last_at blocks (Some (next_live address size align));
+        place = omega arith;
+      })
       | inr other ↦ (let was = laid.used extent used (out.more.only extent used there other) in
-          record { number = was.number; live = was.live; is = stays blocks (Some (next_live address size align)) was.number was.live was.is; place = was.place })
+          record {
+            number = was.number;
+            live = was.live;
+            is = stays blocks (Some (next_live address size align)) was.number
+                was.live was.is;
+            place = was.place;
+          })
     ];
     distinct = λ i j a b is_a is_b differ. elim (appended blocks (Some (next_live address size align)) i a is_a) [
       | inl old_a ↦ elim (appended blocks (Some (next_live address size align)) j b is_b) [
         | inl old_b ↦ laid.distinct i j a b old_a old_b differ
-        | inr new_b ↦ (let same : next_live address size align ≡ b = cc in let at : address ≡ b.address = ap (λ (l : Live). l.address) same in λ e. live_apart i a old_a (e ∙ sym at))
+        | inr new_b ↦ (let same : next_live address size align ≡ b = cc in let at : address ≡ b.address =
+            ap (λ (l : Live). l.address) same in λ e. live_apart i a old_a (e ∙ sym at))
       ]
       | inr new_a ↦ elim (appended blocks (Some (next_live address size align)) j b is_b) [
-        | inl old_b ↦ (let same : next_live address size align ≡ a = cc in let at : address ≡ a.address = ap (λ (l : Live). l.address) same in λ e. live_apart j b old_b (sym e ∙ sym at))
+        | inl old_b ↦ (let same : next_live address size align ≡ a = cc in let at : address ≡ a.address =
+            ap (λ (l : Live). l.address) same in λ e. live_apart j b old_b (sym e ∙ sym at))
         | inr new_b ↦ absurd (differ (new_a.0 ∙ sym new_b.0))
       ]
     ];
@@ -119,12 +140,14 @@ module _ (heap new : Dlmalloc PagedSystem) (blocks : List (Option Live)) (size a
 -- ---- a block is freed
 
 -- the segments have all regions still
-pub have_ended : (heap new : Dlmalloc PagedSystem) (address : ℕ) → IsFreed regions word follows true true 4096 heap address new → HaveRegions (heap_state heap).segments (regions heap.system) →
+pub have_ended : (heap new : Dlmalloc PagedSystem) (address : ℕ) → IsFreed regions word follows true true 4096 heap address
+    new → HaveRegions (heap_state heap).segments (regions heap.system) →
     HaveRegions (heap_state new).segments (regions new.system)
 have_ended heap new address back have =
     subst (λ (h : HeapState). HaveRegions h.segments (regions new.system)) (sym back.state)
     (subst (HaveRegions (after_free true true 4096 (freed (heap_state heap) (address - 16)) (address - 16)).segments) (sym back.regions_are)
-    (have_freed true true 4096 (heap_state heap) (address - 16) (regions heap.system) (have_all 0 (2 ^ 64) (paged heap.system).regions heap.system.kept.laid (heap_state heap).segments have)))
+    (have_freed true true 4096 (heap_state heap) (address - 16) (regions heap.system)
+    (have_all 0 (2 ^ 64) (paged heap.system).regions heap.system.kept.laid (heap_state heap).segments have)))
 
 -- ---- a block with another size
 
@@ -146,7 +169,9 @@ module _ (heap new : Dlmalloc PagedSystem) (blocks : List (Option Live)) (number
       let was = laid.lives i it at in
       let b = was.block in
       record {
-        block = block_moved (heap_state heap) it.address it.size b (heap_state new) (out.moved.kept b.extent b.used (elsewhere i it differ at) (block_there (heap_state heap) it.address it.size b));
+        block = block_moved (heap_state heap) it.address it.size b (heap_state new)
+            (out.moved.kept b.extent b.used (elsewhere i it differ at) (block_there (heap_state heap) it.address it.size
+            b));
         align = was.align;
       }
 
@@ -174,7 +199,13 @@ module _ (heap new : Dlmalloc PagedSystem) (blocks : List (Option Live)) (number
       | inr other ↦ live_stays i it other.0 other.1
     ];
     used = λ extent used there. elim (same_or_other extent.at (address - 16)) [
-      | inl same ↦ (let low = out.low in record { number = number; live = next_live address size align; is = replaced_here blocks number live (next_live address size align) is; place = omega arith })
+      | inl same ↦ (let low = out.low in record {
+        number = number;
+        live = next_live address size align;
+        is =
+            replaced_here blocks number live (next_live address size align) is;
+        place = omega arith;
+      })
       | inr other ↦ (
           let was = laid.used extent used (out.moved.only extent used other there) in
           let place = was.place in
@@ -203,7 +234,8 @@ module _ (heap new : Dlmalloc PagedSystem) (blocks : List (Option Live)) (number
 -- ---- no block more
 
 -- the blocks stay laid out where the regions stay, and the heap stays in its state
-pub laid_still : (heap new : Dlmalloc PagedSystem) (blocks : List (Option Live)) → IsLaidOut heap blocks → regions new.system ≡ regions heap.system → heap_state new ≡ heap_state heap → IsLaidOut new blocks
+pub laid_still : (heap new : Dlmalloc PagedSystem) (blocks : List (Option Live)) → IsLaidOut heap blocks →
+    regions new.system ≡ regions heap.system → heap_state new ≡ heap_state heap → IsLaidOut new blocks
 laid_still heap new blocks laid same state = record {
   has = subst (λ (h : HeapState). HaveRegions h.segments (regions new.system)) (sym state) (subst (HaveRegions (heap_state heap).segments) (sym same) laid.has);
   lives = λ number live is. subst (λ (h : HeapState). IsLive h live) (sym state) (laid.lives number live is);
@@ -211,10 +243,17 @@ laid_still heap new blocks laid same state = record {
   distinct = laid.distinct;
 }
 
-module _ (heap new : Dlmalloc PagedSystem) (blocks : List (Option Live)) (size : ℕ) (error : MallocError) (denied : IsRefusedWith regions word follows refuses denies heap size error new) where
+module _ (heap new : Dlmalloc PagedSystem) (blocks : List (Option Live)) (size : ℕ) (error : MallocError)
+    (denied : IsRefusedWith regions word follows refuses denies heap size error new) where
   -- a refused request leaves the machine as it was
   pub seen_denied : (top : ℕ) → seen_of top new blocks ≡ seen_of top heap blocks
-  seen_denied top i = record { paged = denied.same.refused i; granularity = (ap (λ (h : HeapState). h.granularity) denied.same.state) i; blocks = blocks; top = top }
+  seen_denied top i = record {
+    paged = denied.same.refused i;
+    granularity =
+        (ap (λ (h : HeapState). h.granularity) denied.same.state) i;
+    blocks = blocks;
+    top = top;
+  }
 
   pub laid_denied : IsLaidOut heap blocks → IsLaidOut new blocks
   laid_denied laid = laid_still heap new blocks laid (ap grants_of denied.same.refused) denied.same.state
@@ -251,7 +290,9 @@ module _ (heap new : Dlmalloc PagedSystem) (blocks : List (Option Live)) (number
         record {
           number = was.number;
           live = was.live;
-          is = replaced_stays blocks number was.number was.live None (λ e. (let same : was.live ≡ live = cc (was.is, is, e) in let at = ap (λ (l : Live). l.address) same in apart (omega arith))) was.is;
+          is = replaced_stays blocks number was.number was.live None (λ e.
+              (let same : was.live ≡ live = cc (was.is, is, e) in let at = ap (λ (l : Live). l.address) same in
+              apart (omega arith))) was.is;
           place = was.place;
         });
     distinct = λ i j a b is_a is_b differ. laid.distinct i j a b (left_at blocks number i a is_a).1 (left_at blocks number j b is_b).1 differ;
@@ -260,10 +301,12 @@ module _ (heap new : Dlmalloc PagedSystem) (blocks : List (Option Live)) (number
 -- ---- beside the heap
 
 -- a system with the same regions keeps those of the segments
-same_regions : (heap : Dlmalloc PagedSystem) → (system : PagedSystem) → regions system ≡ regions heap.system → KeepsRegions (heap_state heap).segments (regions heap.system) (regions system)
+same_regions : (heap : Dlmalloc PagedSystem) → (system : PagedSystem) → regions system ≡ regions heap.system →
+    KeepsRegions (heap_state heap).segments (regions heap.system) (regions system)
 same_regions heap system same = subst (KeepsRegions (heap_state heap).segments (regions heap.system)) (sym same) (each (heap_state heap).segments)
   where
-    each : (segments : List Segment) → AllByRecursion (λ (segment : Segment). regions_in segment (regions heap.system) ≡ regions_in segment (regions heap.system)) segments
+    each : (segments : List Segment) → AllByRecursion (λ (segment : Segment).
+        regions_in segment (regions heap.system) ≡ regions_in segment (regions heap.system)) segments
     each [] = tt
     each (segment ∷ segments) = (refl, each segments)
 
@@ -281,7 +324,8 @@ module _ (heap : Dlmalloc PagedSystem) (intact : IsIntact regions word heap) (sy
   }
 
 -- so it is if something was done beside it
-module _ (heap : Dlmalloc PagedSystem) (intact : IsIntact regions word heap) (system : PagedSystem) (beside : IsBeside (paged heap.system) (paged system)) (rests : RestsOutside regions word heap) where
+module _ (heap : Dlmalloc PagedSystem) (intact : IsIntact regions word heap) (system : PagedSystem)
+    (beside : IsBeside (paged heap.system) (paged system)) (rests : RestsOutside regions word heap) where
   pub intact_beside : IsIntact regions word (record heap { system = system })
   intact_beside = intact_outside heap intact system beside.regions (λ k granted there outside. beside.words k granted) rests
 
@@ -289,11 +333,13 @@ module _ (heap : Dlmalloc PagedSystem) (intact : IsIntact regions word heap) (sy
   kept_beside order = kept_outside heap intact system beside.regions (λ k granted there outside. beside.words k granted) rests order
 
 -- what is seen of the machine is different in the system alone
-pub seen_beside : (top : ℕ) (heap new : Dlmalloc PagedSystem) (blocks : List (Option Live)) → IsKeptBeside heap new → seen_of top new blocks ≡ record (seen_of top heap blocks) { paged = paged new.system }
+pub seen_beside : (top : ℕ) (heap new : Dlmalloc PagedSystem) (blocks : List (Option Live)) → IsKeptBeside heap new →
+    seen_of top new blocks ≡ record (seen_of top heap blocks) { paged = paged new.system }
 seen_beside top heap new blocks kept i = record { paged = paged new.system; granularity = (kept.rest i).granularity; blocks = blocks; top = top }
 
 -- and in nothing if the system is as it was
-pub seen_refused : (top : ℕ) (heap new : Dlmalloc PagedSystem) (blocks : List (Option Live)) → IsKeptBeside heap new → paged new.system ≡ paged heap.system → seen_of top new blocks ≡ seen_of top heap blocks
+pub seen_refused : (top : ℕ) (heap new : Dlmalloc PagedSystem) (blocks : List (Option Live)) → IsKeptBeside heap new →
+    paged new.system ≡ paged heap.system → seen_of top new blocks ≡ seen_of top heap blocks
 seen_refused top heap new blocks kept same = seen_beside top heap new blocks kept ∙ ap (λ p. record (seen_of top heap blocks) { paged = p }) same
 
 -- one stay behind another
@@ -317,6 +363,8 @@ pub laid_new : (heap : Dlmalloc PagedSystem) → (heap_state heap).segments ≡ 
 laid_new heap none empty = record {
   has = subst (λ list. HaveRegions (heap_state heap).segments (map grant_of (heap_regions list))) (sym empty) tt;
   lives = λ number live is. absurd (cc);
-  used = λ extent used there. absurd (let gone : extent_at extent.at [] ≡ Some extent = subst (λ (segments : List Segment). extent_at extent.at (Rattle.std.specs.List.flat_map (λ (segment : Segment). segment.extents) segments) ≡ Some extent) none there in cc);
+  used = λ extent used there. absurd (let gone : extent_at extent.at [] ≡ Some extent =
+      subst (λ (segments : List Segment). extent_at extent.at (Rattle.std.specs.List.flat_map
+      (λ (segment : Segment). segment.extents) segments) ≡ Some extent) none there in cc);
   distinct = λ i j a b is_a is_b differ. absurd (cc);
 }

@@ -21,7 +21,8 @@ AsksForNone (Map start pages rights) = ⊥
 AsksForNone call = ⊤
 
 -- no page is new, whether regions are listed or not
-unlisted : (old new : Paged) (s : State) (call : Call) (answer : Answer) → ((list : List Region) → new_pages s call answer.reply (Some list) ≡ None) → new_pages s call answer.reply None ≡ None →
+unlisted : (old new : Paged) (s : State) (call : Call) (answer : Answer) →
+    ((list : List Region) → new_pages s call answer.reply (Some list) ≡ None) → new_pages s call answer.reply None ≡ None →
     (regions : Option (List Region)) → AreRunsUsedFor old new (new_pages s call answer.reply regions)
 unlisted old new s call answer some none None = subst (AreRunsUsedFor old new) (sym none) tt
 unlisted old new s call answer some none (Some list) = subst (AreRunsUsedFor old new) (sym (some list)) tt
@@ -61,5 +62,6 @@ refused_none s (SetGranularity granularity) refusal = refl
 refused_none s Reset refusal = refl
 refused_none s Extents refusal = refl
 
-pub runs_refused : (old new : Paged) (s : State) (call : Call) (why : Option Refusal) (answer : Answer) → IsRefusal why answer → AreRunsUsedFor old new (lasting_pages s call answer)
+pub runs_refused : (old new : Paged) (s : State) (call : Call) (why : Option Refusal) (answer : Answer) →
+    IsRefusal why answer → AreRunsUsedFor old new (lasting_pages s call answer)
 runs_refused old new s call why answer is = subst (AreRunsUsedFor old new) (sym (ap (lasting_pages s call) is.2 ∙ refused_none s call is.0)) tt

@@ -31,7 +31,8 @@ use Rattle.kernel_heap.proofs.WholeRegions.{segment_bytes, heap_runs}
 shown_used : (heap : HeapState) (extent : Extent) → extent.kind ≡ Used → shown heap extent ≡ extent
 shown_used heap extent used = let plain : is_free_below_top extent.kind ≡ false = ap is_free_below_top used in rw plain refl
 
-used_shown : (heap : HeapState) (found : Option Extent) (extent : Extent) → option_map (shown heap) found ≡ Some extent → extent.kind ≡ Used → found ≡ Some extent
+used_shown : (heap : HeapState) (found : Option Extent) (extent : Extent) → option_map (shown heap) found ≡ Some extent →
+    extent.kind ≡ Used → found ≡ Some extent
 used_shown heap None extent is used = cc
 used_shown heap (Some one) extent is used = go (is_victim heap one) (let same : shown heap one ≡ extent = cc is in same)
   where
@@ -39,7 +40,8 @@ used_shown heap (Some one) extent is used = go (is_victim heap one) (let same : 
     go true same = absurd (let k : Victim ≡ extent.kind = ap (λ (e : Extent). e.kind) same in let u = ap is_used (k ∙ used) in cc)
     go false same = ap Some same
 
-module _ {top : ℕ} (heap : Dlmalloc PagedSystem) (sound : IsSound regions word heap) (blocks : List (Option Live)) (laid : IsLaidOut heap blocks) (s : State) (good : IsGood s)
+module _ {top : ℕ} (heap : Dlmalloc PagedSystem) (sound : IsSound regions word heap) (blocks : List (Option Live))
+    (laid : IsLaidOut heap blocks) (s : State) (good : IsGood s)
     (stands : Stands (seen_of top heap blocks) s)
     (list : List Extent) (listed : IsListed word heap list) where
   abbrev m : Seen
@@ -81,7 +83,8 @@ module _ {top : ℕ} (heap : Dlmalloc PagedSystem) (sound : IsSound regions word
   tiling : IsTiling s list
   tiling = record {
     extents_are = listed.tiled;
-    bytes = λ address. listed.bytes address ∙ (segment_bytes heap sound laid.has address ∙ sym (ap (list_any (is_within address)) (regions_are heap.system m refl s good stands)));
+    bytes = λ address. listed.bytes address ∙ (segment_bytes heap sound laid.has address
+        ∙ sym (ap (list_any (is_within address)) (regions_are heap.system m refl s good stands)));
     runs = runs;
     blocks = block_has;
     used = extent_has;

@@ -45,7 +45,8 @@ start_good config good = record {
   no_slot_twice = tt;
 }
 
-pub start_stands : (m : Seen) (config : Config) → IsNew m.paged config.base config.pages config.frames → m.paged.root ≡ m.top → m.granularity ≡ config.granularity → m.blocks ≡ [] → Stands m (start config)
+pub start_stands : (m : Seen) (config : Config) → IsNew m.paged config.base config.pages config.frames →
+    m.paged.root ≡ m.top → m.granularity ≡ config.granularity → m.blocks ≡ [] → Stands m (start config)
 start_stands m config new root granularity blocks = record {
   root = root;
   tree = new.kept.mapped.tree;

@@ -24,7 +24,11 @@ not_less a b less = grind (arith, nat_tests)
 pub is_outside : (low high k : ℕ) → (nat_le low k && nat_lt k high) ≡ false → (k < low) ⊎ (high ≤ k)
 is_outside low high k out = elim (lt_or_le k low) [
   | inl below ↦ inl below
-  | inr from ↦ elim (lt_or_le k high) [ inr to ↦ inr to | inl above ↦ absurd (let yes : (nat_le low k && nat_lt k high) ≡ true = grind (arith, nat_tests) in cc) ]
+  | inr from ↦ elim (lt_or_le k high) [
+    | inr to ↦ inr to
+    | inl above ↦ absurd
+        (let yes : (nat_le low k && nat_lt k high) ≡ true = grind (arith, nat_tests) in cc)
+  ]
 ]
 
 -- and one that is outside fails it

@@ -6,7 +6,8 @@ use Rattle.heap_model.specs.Place.{IsFit}
 use Rattle.kernel_heap.specs.Config.{IsGoodWindow}
 
 -- pages that lie in the window are canonical
-pub range_within : (p : Paged) (pages address : ℕ) → IsGoodWindow p.base p.pages → 0 < pages → IsFit p.base p.pages p.regions pages address → IsCanonicalRange (address / 4096) pages
+pub range_within : (p : Paged) (pages address : ℕ) → IsGoodWindow p.base p.pages → 0 < pages →
+    IsFit p.base p.pages p.regions pages address → IsCanonicalRange (address / 4096) pages
 range_within p pages address window some fit =
     let base_whole : p.base % 4096 ≡ 0 = window.whole in
     let half : (p.base / 4096 + p.pages - 1) / 2 ^ 35 ≡ p.base / 4096 / 2 ^ 35 = window.canonical.one_half in

@@ -65,7 +65,8 @@ after_refused s Reset refusal = refl
 after_refused s Extents refusal = refl
 
 -- the refusal that must come
-pub step_refused : (m : Seen) (s : State) (call : Call) (refusal : Refusal) → must_refuse s call ≡ Some refusal → IsGood s → Stands m s → IsStep s call (refused_with refusal) m
+pub step_refused : (m : Seen) (s : State) (call : Call) (refusal : Refusal) → must_refuse s call ≡ Some refusal → IsGood s →
+    Stands m s → IsStep s call (refused_with refusal) m
 step_refused m s call refusal must good stands = record {
   allowed = record { reply = (refl, inl must); listed = tt; large = tt };
   good = subst IsGood (sym (after_refused s call refusal)) good;
@@ -86,33 +87,44 @@ pub refused_align : (granularity size align : ℕ) → is_power_of_two align ≡
 refused_align granularity size align test = rw test refl
 
 -- what is asked of the heap is from the limit on
-is_large : (granularity size align : ℕ) → limit granularity ≤ asked size align → (if is_too_large granularity size align then Some TooLarge else None) ≡ Some TooLarge
+is_large : (granularity size align : ℕ) → limit granularity ≤ asked size align →
+    (if is_too_large granularity size align then Some TooLarge else None) ≡ Some TooLarge
 is_large granularity size align most = go (nat_le align 16) refl
   where
     go : (few : Bool) → nat_le align 16 ≡ few → (if is_too_large granularity size align then Some TooLarge else None) ≡ Some TooLarge
-    go true is = (let large : nat_le (limit granularity) size ≡ true = (let asked_is : asked size align ≡ size = rw is refl in grind (arith, nat_tests)) in rw (is, large) refl)
-    go false is = (let large : nat_le (limit granularity) (enlarged size align) ≡ true = (let asked_is : asked size align ≡ enlarged size align = rw is refl in grind (arith, nat_tests)) in rw (is, large) refl)
+    go true is = (let large : nat_le (limit granularity) size ≡ true =
+        (let asked_is : asked size align ≡ size = rw is refl in grind (arith, nat_tests)) in rw (is, large) refl)
+    go false is = (let large : nat_le (limit granularity) (enlarged size align) ≡ true =
+        (let asked_is : asked size align ≡ enlarged size align = rw is refl in grind (arith, nat_tests)) in
+        rw (is, large) refl)
 
 -- it is below
 not_large : (granularity size align : ℕ) → asked size align < limit granularity → (if is_too_large granularity size align then Some TooLarge else None) ≡ None
 not_large granularity size align less = go (nat_le align 16) refl
   where
     go : (few : Bool) → nat_le align 16 ≡ few → (if is_too_large granularity size align then Some TooLarge else None) ≡ None
-    go true is = (let small : nat_le (limit granularity) size ≡ false = (let asked_is : asked size align ≡ size = rw is refl in grind (arith, nat_tests)) in rw (is, small) refl)
-    go false is = (let small : nat_le (limit granularity) (enlarged size align) ≡ false = (let asked_is : asked size align ≡ enlarged size align = rw is refl in grind (arith, nat_tests)) in rw (is, small) refl)
+    go true is = (let small : nat_le (limit granularity) size ≡ false =
+        (let asked_is : asked size align ≡ size = rw is refl in grind (arith, nat_tests)) in rw (is, small) refl)
+    go false is = (let small : nat_le (limit granularity) (enlarged size align) ≡ false =
+        (let asked_is : asked size align ≡ enlarged size align = rw is refl in grind (arith, nat_tests)) in
+        rw (is, small) refl)
 
 -- so a request is refused at once, or is not
-pub refused_large : (granularity size align : ℕ) → is_power_of_two align ≡ true → limit granularity ≤ asked size align → refuse_request granularity size align ≡ Some TooLarge
+pub refused_large : (granularity size align : ℕ) → is_power_of_two align ≡ true → limit granularity ≤ asked size align →
+    refuse_request granularity size align ≡ Some TooLarge
 refused_large granularity size align power most = rw power (is_large granularity size align most)
 
-pub not_refused : (granularity size align : ℕ) → is_power_of_two align ≡ true → asked size align < limit granularity → refuse_request granularity size align ≡ None
+pub not_refused : (granularity size align : ℕ) → is_power_of_two align ≡ true → asked size align < limit granularity →
+    refuse_request granularity size align ≡ None
 not_refused granularity size align power less = rw power (not_large granularity size align less)
 
 -- and a block may get this size
-pub not_refused_resizing : (granularity size : ℕ) (align : Block → ℕ) (block : Block) → asked size (align block) < limit granularity → refuse_resizing granularity size align (Some block) ≡ None
+pub not_refused_resizing : (granularity size : ℕ) (align : Block → ℕ) (block : Block) →
+    asked size (align block) < limit granularity → refuse_resizing granularity size align (Some block) ≡ None
 not_refused_resizing granularity size align block less = not_large granularity size (align block) less
 
-pub large_resizing : (granularity size : ℕ) (align : Block → ℕ) (block : Block) → limit granularity ≤ asked size (align block) → refuse_resizing granularity size align (Some block) ≡ Some TooLarge
+pub large_resizing : (granularity size : ℕ) (align : Block → ℕ) (block : Block) →
+    limit granularity ≤ asked size (align block) → refuse_resizing granularity size align (Some block) ≡ Some TooLarge
 large_resizing granularity size align block most = is_large granularity size (align block) most
 
 -- the chunk of what is asked of the heap is the one that is wanted
@@ -138,10 +150,12 @@ module _ (system : PagedSystem) (m : Seen) (same : m.paged ≡ paged system) (s 
       (subst (λ (pages : ℕ). P s.base pages (paged system).regions) (sym (ap (λ p. p.pages) same) ∙ stands.pages)
       (subst (λ (base : ℕ). P base (paged system).pages (paged system).regions) (sym (ap (λ p. p.base) same) ∙ stands.base) is))
 
-  pub place_same : (pages address : ℕ) → IsPlace (paged system).base (paged system).pages (paged system).regions pages address → IsPlace s.base s.pages (all_regions s) pages address
+  pub place_same : (pages address : ℕ) → IsPlace (paged system).base (paged system).pages (paged system).regions pages
+      address → IsPlace s.base s.pages (all_regions s) pages address
   place_same pages address = placed (λ base window regions. IsPlace base window regions pages address)
 
-  no_place_same : (pages : ℕ) → HasNoPlace (paged system).base (paged system).pages (paged system).regions pages → HasNoPlace s.base s.pages (all_regions s) pages
+  no_place_same : (pages : ℕ) → HasNoPlace (paged system).base (paged system).pages (paged system).regions pages →
+      HasNoPlace s.base s.pages (all_regions s) pages
   no_place_same pages = placed (λ base window regions. HasNoPlace base window regions pages)
 
 module _ {top : ℕ} (heap : Dlmalloc PagedSystem) (blocks : List (Option Live)) (laid : IsLaidOut heap blocks) (s : State) (good : IsGood s)
@@ -168,7 +182,8 @@ module _ {top : ℕ} (heap : Dlmalloc PagedSystem) (blocks : List (Option Live))
   -- the pages have no place
   step_no_space : IsDenied denies heap.system (heap_state heap) n SystemNoSpace → IsStep s call (refused_with NoSpace) m
   step_no_space is =
-      let none_fits : HasNoPlace s.base s.pages (all_regions s) asked_pages = no_place_same heap.system m refl s good stands asked_pages (is.denied (λ e. absurd (cc))) in
+      let none_fits : HasNoPlace s.base s.pages (all_regions s) asked_pages =
+      no_place_same heap.system m refl s good stands asked_pages (is.denied (λ e. absurd (cc))) in
       step_may NoSpace (no_room heap blocks laid s good stands n is.full, subst (HasNoPlace s.base s.pages (all_regions s)) (sym pages_same) none_fits)
 
   -- they have one, but too few frames
@@ -192,17 +207,25 @@ module _ {top : ℕ} (heap : Dlmalloc PagedSystem) (blocks : List (Option Live))
       )
 
 -- What the heap refuses, is refused for the same cause.
-pub step_denied : {top : ℕ} → (heap new : Dlmalloc PagedSystem) → IsGranularity heap.granularity → (blocks : List (Option Live)) (laid : IsLaidOut heap blocks) (s : State) (good : IsGood s)
-    (stands : Stands (seen_of top heap blocks) s) (call : Call) (asked n : ℕ) → padded asked ≡ n → (limit s.granularity ≤ asked → must_refuse s call ≡ Some TooLarge) → (asked < limit s.granularity → must_refuse s call ≡ None) →
-    wanted_by s call ≡ Some n → (error : MallocError) → IsRefusedWith regions word follows refuses denies heap asked error new → (answer : Answer) → IsRefusalOf error answer → IsStep s call answer (seen_of top new blocks)
+pub step_denied : {top : ℕ} → (heap new : Dlmalloc PagedSystem) → IsGranularity heap.granularity →
+    (blocks : List (Option Live)) (laid : IsLaidOut heap blocks) (s : State) (good : IsGood s)
+    (stands : Stands (seen_of top heap blocks) s) (call : Call) (asked n : ℕ) → padded asked ≡ n →
+    (limit s.granularity ≤ asked → must_refuse s call ≡ Some TooLarge) →
+    (asked < limit s.granularity → must_refuse s call ≡ None) →
+    wanted_by s call ≡ Some n → (error : MallocError) → IsRefusedWith regions word follows refuses denies heap asked error
+    new → (answer : Answer) → IsRefusalOf error answer → IsStep s call answer (seen_of top new blocks)
 step_denied {top = top} heap new granularity blocks laid s good stands call asked n same large small wants error denied answer given =
     subst (λ (m : Seen). IsStep s call answer m) (sym (seen_denied heap new blocks asked error denied top))
     (subst (λ (a : Answer). IsStep s call a (seen_of top heap blocks)) (sym given.2) (go error given.0 given.1 denied.refused))
   where
-    go : (error : MallocError) (refusal : Refusal) → refusal_of error ≡ Some refusal → IsMallocRefused denies heap.system (heap_state heap) asked error → IsStep s call (refused_with refusal) (seen_of top heap blocks)
+    go : (error : MallocError) (refusal : Refusal) → refusal_of error ≡ Some refusal →
+        IsMallocRefused denies heap.system (heap_state heap) asked error →
+        IsStep s call (refused_with refusal) (seen_of top heap blocks)
     go MallocTooLarge refusal is most =
         let one : TooLarge ≡ refusal = cc in
-        subst (λ r. IsStep s call (refused_with r) (seen_of top heap blocks)) one (step_refused (seen_of top heap blocks) s call TooLarge (large (subst (λ g. limit g ≤ asked) stands.granularity most)) good stands)
+        subst (λ r. IsStep s call (refused_with r) (seen_of top heap blocks)) one
+        (step_refused (seen_of top heap blocks) s call TooLarge (large
+        (subst (λ g. limit g ≤ asked) stands.granularity most)) good stands)
     go (System SystemNoSpace) refusal is why =
         let one : NoSpace ≡ refusal = cc in
         subst (λ r. IsStep s call (refused_with r) (seen_of top heap blocks)) one

@@ -48,7 +48,8 @@ module _ (low pages : ℕ) (aligned : low % 4096 ≡ 0) where
   cut_are from to (region ∷ rest) laid = go (meets low pages region) (nat_lt region.start low) refl refl (cut_are (end_of region) to rest laid.3)
     where
       go : (met before : Bool) → meets low pages region ≡ met → nat_lt region.start low ≡ before → AreCut rest (cut_of low pages rest) →
-          AreCut (region ∷ rest) (if met then (if before then record region { pages = (low - region.start) / 4096 } ∷ cut_of low pages rest else cut_of low pages rest) else region ∷ cut_of low pages rest)
+          AreCut (region ∷ rest) (if met then (if before then record region { pages = (low - region.start) / 4096 } ∷ cut_of
+          low pages rest else cut_of low pages rest) else region ∷ cut_of low pages rest)
       go false before met test later = inr (region, cut_of low pages rest, inl refl, refl, later)
       go true false met test later = inl later
       go true true met test later =
@@ -62,7 +63,10 @@ users_apart : (low pages from to : ℕ) (regions : List Region) → AreLaid from
     ((address : ℕ) → low ≤ address → address < low + 4096 * pages → AllByRecursion (λ region. region.heap ≡ false → is_within address region ≡ false) regions) →
     AllByRecursion (λ region. region.heap ≡ false → meets low pages region ≡ false) regions
 users_apart low pages from to [] laid more none = tt
-users_apart low pages from to (region ∷ rest) laid more none = (λ user. apart user (meets low pages region) refl, users_apart low pages (end_of region) to rest laid.3 more (λ address low_is high_is. (none address low_is high_is).1))
+users_apart low pages from to (region ∷ rest) laid more none = (
+  λ user. apart user (meets low pages region) refl,
+  users_apart low pages (end_of region) to rest laid.3 more (λ address low_is high_is. (none address low_is high_is).1),
+)
   where
     apart : region.heap ≡ false → (met : Bool) → meets low pages region ≡ met → meets low pages region ≡ false
     apart user false is = is
@@ -93,17 +97,23 @@ users_stay low pages (region ∷ rest) apart = go (not region.heap) refl (users_
   where
     -- what a cut makes of a region of the heap is no region of the user
     own : (met before : Bool) → not region.heap ≡ false →
-        user_regions (if met then (if before then record region { pages = (low - region.start) / 4096 } ∷ cut_of low pages rest else cut_of low pages rest) else region ∷ cut_of low pages rest)
+        user_regions (if met then (if before then record region { pages = (low - region.start) / 4096 } ∷ cut_of low pages
+        rest else cut_of low pages rest) else region ∷ cut_of low pages rest)
         ≡ user_regions (cut_of low pages rest)
-    own true true heap = ap (λ (b : Bool). cond b (record region { pages = (low - region.start) / 4096 } ∷ user_regions (cut_of low pages rest)) (user_regions (cut_of low pages rest))) heap
+    own true true heap = ap (λ (b : Bool). cond b (record region { pages = (low - region.start) / 4096 } ∷ user_regions
+        (cut_of low pages rest)) (user_regions (cut_of low pages rest))) heap
     own true false heap = refl
     own false before heap = ap (λ (b : Bool). cond b (region ∷ user_regions (cut_of low pages rest)) (user_regions (cut_of low pages rest))) heap
 
-    go : (user : Bool) → not region.heap ≡ user → user_regions (cut_of low pages rest) ≡ user_regions rest → user_regions (cut_of low pages (region ∷ rest)) ≡ user_regions (region ∷ rest)
-    go false heap later = own (meets low pages region) (nat_lt region.start low) heap ∙ (later ∙ sym (ap (λ (b : Bool). cond b (region ∷ user_regions rest) (user_regions rest)) heap))
+    go : (user : Bool) → not region.heap ≡ user → user_regions (cut_of low pages rest) ≡ user_regions rest →
+        user_regions (cut_of low pages (region ∷ rest)) ≡ user_regions (region ∷ rest)
+    go false heap later = own (meets low pages region) (nat_lt region.start low) heap
+        ∙ (later ∙ sym (ap (λ (b : Bool). cond b (region ∷ user_regions rest) (user_regions rest)) heap))
     go true user later =
         let out : meets low pages region ≡ false = apart.0 (not_not region.heap user) in
-        ap (λ (met : Bool). user_regions (if met then (if nat_lt region.start low then record region { pages = (low - region.start) / 4096 } ∷ cut_of low pages rest else cut_of low pages rest) else region ∷ cut_of low pages rest)) out
+        ap (λ (met : Bool). user_regions (if met then (if nat_lt region.start low
+        then record region { pages = (low - region.start) / 4096 } ∷ cut_of low pages rest else cut_of low pages rest)
+        else region ∷ cut_of low pages rest)) out
         ∙ ap (λ (rs : List Region). cond (not region.heap) (region ∷ rs) rs) later
 
 -- a byte is the user's where a region of the user has it
@@ -112,7 +122,8 @@ user_same address [] = refl
 user_same address (region ∷ rest) = go region.heap (user_same address rest)
   where
     go : (heap : Bool) → is_of_user rest address ≡ list_any (is_within address) (user_regions rest) →
-        (not heap && is_within address region || is_of_user rest address) ≡ list_any (is_within address) (cond (not heap) (region ∷ user_regions rest) (user_regions rest))
+        (not heap && is_within address region || is_of_user rest address) ≡ list_any (is_within address)
+        (cond (not heap) (region ∷ user_regions rest) (user_regions rest))
     go true later = later
     go false later = ap (λ (b : Bool). is_within address region || b) later
 
@@ -151,7 +162,8 @@ pub some_not_none : {A : Type 0} (o : Option A) → IsSome o → o ≡ None → 
 some_not_none None is none = absurd (cc)
 some_not_none (Some x) is none = cc
 
-still_shortened : (p : Paged) (words : List ℕ) → AreLaid 0 p.regions (2 ^ 64) → OnlyHeapBytesChange p (record p { words = words }) → AreShortened p (record p { words = words }) None
+still_shortened : (p : Paged) (words : List ℕ) → AreLaid 0 p.regions (2 ^ 64) →
+    OnlyHeapBytesChange p (record p { words = words }) → AreShortened p (record p { words = words }) None
 unfolding walk_of
 still_shortened p words laid still = record {
   base = refl;
@@ -176,7 +188,8 @@ still_shortened p words laid still = record {
 
 -- with no event
 pub shortened_still : (old new : Paged) → AreLaid 0 old.regions (2 ^ 64) → OnlyHeapBytesChange old new → AreShortened old new None
-shortened_still old new laid still = subst (λ (p : Paged). AreShortened old p None) (sym still.others) (still_shortened old new.words laid (subst (OnlyHeapBytesChange old) still.others still))
+shortened_still old new laid still = subst (λ (p : Paged). AreShortened old p None) (sym still.others)
+    (still_shortened old new.words laid (subst (OnlyHeapBytesChange old) still.others still))
 
 -- what was cut in the first time, or in the second
 module _ (x y z : Paged) (second_slot : Option ℕ) (first : AreShortened x y None) (second : AreShortened y z second_slot) where
@@ -206,10 +219,12 @@ module _ (x y z : Paged) (second_slot : Option ℕ) (first : AreShortened x y No
     pages_go = λ number none. second.pages_go number (first.pages_go number none);
     user_pages = λ address canonical user. second.user_pages address canonical (still_user address user) ∙ first.user_pages address canonical user;
     user_bytes = λ address canonical user some.
-        second.user_bytes address canonical (still_user address user) (subst IsSome (sym (first.user_pages address canonical user)) some) ∙ first.user_bytes address canonical user some;
+        second.user_bytes address canonical (still_user address user) (subst IsSome
+        (sym (first.user_pages address canonical user)) some) ∙ first.user_bytes address canonical user some;
   }
     where
-      left : (number : ℕ) → number < 2 ^ 27 → IsSome (large_of x.words x.root number) → large_of z.words z.root number ≡ None → (o : Option Place) → large_of y.words y.root number ≡ o →
+      left : (number : ℕ) → number < 2 ^ 27 → IsSome (large_of x.words x.root number) →
+          large_of z.words z.root number ≡ None → (o : Option Place) → large_of y.words y.root number ≡ o →
           (k : ℕ) × (k < 512) × (reach z.words z.root 4 (512 * number + k) ≡ None)
       left number small is gone None none = let page = first.large_gone number small is none in (page.0, page.1, second.pages_go (512 * number + page.0) page.2)
       left number small is gone (Some large) some = second.large_gone number small (subst IsSome (sym some) (let h : IsSome (Some large) = cc in h)) gone
@@ -241,10 +256,12 @@ module _ (x y z : Paged) (one : ℕ) (first : AreShortened x y (Some one)) (seco
     pages_go = λ number none. second.pages_go number (first.pages_go number none);
     user_pages = λ address canonical user. second.user_pages address canonical (user_still address user) ∙ first.user_pages address canonical user;
     user_bytes = λ address canonical user some.
-        second.user_bytes address canonical (user_still address user) (subst IsSome (sym (first.user_pages address canonical user)) some) ∙ first.user_bytes address canonical user some;
+        second.user_bytes address canonical (user_still address user) (subst IsSome
+        (sym (first.user_pages address canonical user)) some) ∙ first.user_bytes address canonical user some;
   }
     where
-      left : (number : ℕ) → number < 2 ^ 27 → IsSome (large_of x.words x.root number) → large_of z.words z.root number ≡ None → (o : Option Place) → large_of y.words y.root number ≡ o →
+      left : (number : ℕ) → number < 2 ^ 27 → IsSome (large_of x.words x.root number) →
+          large_of z.words z.root number ≡ None → (o : Option Place) → large_of y.words y.root number ≡ o →
           (k : ℕ) × (k < 512) × (reach z.words z.root 4 (512 * number + k) ≡ None)
       left number small is gone None none = let page = first.large_gone number small is none in (page.0, page.1, second.pages_go (512 * number + page.0) page.2)
       left number small is gone (Some large) some = second.large_gone number small (subst IsSome (sym some) (let h : IsSome (Some large) = cc in h)) gone
@@ -281,8 +298,10 @@ module _ (old new : Paged) (at size left : ℕ) (kept : IsPagedKept old) (is : I
       not_of_user 0 (2 ^ 64) (at + left + 4096 * k) address old.regions laid (omega arith)
       (sym (granted_same (heap_regions old.regions) (at + left + 4096 * k)) ∙ is.run.granted (at + left + 4096 * k) (omega arith) (omega arith)) user
 
-  page_same : (address : ℕ) → IsTrue (is_canonical address) → is_of_user old.regions address ≡ true → walk_of new.words old.root (address / 4096) ≡ walk_of old.words old.root (address / 4096)
-  page_same address canonical user = gone.gone.others (address / 4096) (first_canonical address canonical) (λ k among same. other_page address k user among same)
+  page_same : (address : ℕ) → IsTrue (is_canonical address) → is_of_user old.regions address ≡ true →
+      walk_of new.words old.root (address / 4096) ≡ walk_of old.words old.root (address / 4096)
+  page_same address canonical user = gone.gone.others (address / 4096) (first_canonical address canonical)
+      (λ k among same. other_page address k user among same)
 
   abbrev first : ℕ
   first = (at + left) / 4096
@@ -310,7 +329,8 @@ module _ (old new : Paged) (at size left : ℕ) (kept : IsPagedKept old) (is : I
   index_of k among = omega arith
 
   in_range : (k : ℕ) → k < pages → reach new.words old.root 4 (prefix_of (first + k) 4) ≡ None
-  in_range k less = un.gone (prefix_of (first + k) 4) (let a = page_in first pages k range less in among_is first pages (prefix_of (first + k) 4) (omega arith) (omega arith))
+  in_range k less = un.gone (prefix_of (first + k) 4) (let a = page_in first pages k range less in
+      among_is first pages (prefix_of (first + k) 4) (omega arith) (omega arith))
 
   no_larger : (number : ℕ) → number < 2 ^ 27 → IsSome (large_of new.words new.root number) → IsSome (large_of old.words old.root number)
   no_larger number small some = elim (slot_in first pages number range) [
@@ -329,7 +349,8 @@ module _ (old new : Paged) (at size left : ℕ) (kept : IsPagedKept old) (is : I
           ∙ (ap (λ n. reach new.words old.root 4 (512 * n + (first + inside.0) % 512)) inside.1.1
           ∙ (ap (reach new.words old.root 4) (index_of inside.0 inside.1.0) ∙ in_range inside.0 inside.1.0)),
     )
-    | inr beside ↦ absurd (some_not_none (large_of old.words old.root number) some (sym (un.larges_stay number beside) ∙ (sym (to_large new.words number) ∙ none)))
+    | inr beside ↦ absurd (some_not_none (large_of old.words old.root number) some
+        (sym (un.larges_stay number beside) ∙ (sym (to_large new.words number) ∙ none)))
   ]
 
   none_comes : (number : ℕ) → reach old.words old.root 4 number ≡ None → reach new.words new.root 4 number ≡ None
@@ -347,28 +368,35 @@ module _ (old new : Paged) (at size left : ℕ) (kept : IsPagedKept old) (is : I
   begun_number = page_number first
 
   walks_by : (cut : Bool) → is_cut old.words old.root first ≡ cut → (level number : ℕ) → level < 4 →
-      ((one : ℕ) → (if cut then Some begun else None) ≡ Some one → level ≡ 3 → number ≡ slot_number one → ⊥) → reach new.words new.root level number ≡ reach old.words old.root level number
-  walks_by true cut level number low other = to_root new.words level number ∙ un.tables_stay level number low (λ three at. absurd (other begun refl three (at ∙ sym begun_number)))
+      ((one : ℕ) → (if cut then Some begun else None) ≡ Some one → level ≡ 3 → number ≡ slot_number one → ⊥) →
+      reach new.words new.root level number ≡ reach old.words old.root level number
+  walks_by true cut level number low other = to_root new.words level number
+      ∙ un.tables_stay level number low (λ three at. absurd (other begun refl three (at ∙ sym begun_number)))
   walks_by false none level number low other = to_root new.words level number ∙ un.tables_stay level number low (λ three at. none)
 
-  table_by : (cut : Bool) → is_cut old.words old.root first ≡ cut → (one : ℕ) → (if cut then Some begun else None) ≡ Some one → IsSome (reach new.words new.root 3 (slot_number one))
+  table_by : (cut : Bool) → is_cut old.words old.root first ≡ cut → (one : ℕ) →
+      (if cut then Some begun else None) ≡ Some one → IsSome (reach new.words new.root 3 (slot_number one))
   table_by false none one is = absurd (cc)
   table_by true cut one is = elim (cut_or_not old.words old.root first) [
     | inl page ↦ (
         let one_is : begun ≡ one = cc in
         let there = un.table page.0 page.1 in
         let there' : reach new.words new.root 3 (slot_number one) ≡ Some (top (page.0.frame + first % 512)) =
-        ap (λ slot. reach new.words new.root 3 (slot_number slot)) (sym one_is) ∙ (ap (reach new.words new.root 3) begun_number ∙ (to_root new.words 3 (prefix_of first 3) ∙ there)) in
+        ap (λ slot. reach new.words new.root 3 (slot_number slot)) (sym one_is)
+        ∙ (ap (reach new.words new.root 3) begun_number ∙ (to_root new.words 3 (prefix_of first 3) ∙ there)) in
         rw there' refl)
     | inr none ↦ absurd (cc)
   ]
 
-  large_by : (cut : Bool) → is_cut old.words old.root first ≡ cut → (one : ℕ) → (if cut then Some begun else None) ≡ Some one → IsSlot one × IsSome (large_of old.words old.root (slot_number one))
+  large_by : (cut : Bool) → is_cut old.words old.root first ≡ cut → (one : ℕ) →
+      (if cut then Some begun else None) ≡ Some one → IsSlot one × IsSome (large_of old.words old.root (slot_number one))
   large_by false none one is = absurd (cc)
   large_by true cut one is = elim (cut_or_not old.words old.root first) [
     | inl page ↦ (
         let one_is : begun ≡ one = cc in
-        let there : large_of old.words old.root (slot_number one) ≡ Some page.0 = ap (λ slot. large_of old.words old.root (slot_number slot)) (sym one_is) ∙ (ap (large_of old.words old.root) begun_number ∙ page.1.there) in
+        let there : large_of old.words old.root (slot_number one) ≡ Some page.0 =
+        ap (λ slot. large_of old.words old.root (slot_number slot)) (sym one_is)
+        ∙ (ap (large_of old.words old.root) begun_number ∙ page.1.there) in
         (subst IsSlot one_is (page_slot first first_page), rw there refl))
     | inr none ↦ absurd (cc)
   ]
@@ -392,7 +420,8 @@ module _ (old new : Paged) (at size left : ℕ) (kept : IsPagedKept old) (is : I
         users = ap user_regions g.regions ∙ users_stay (at + left) ((size - left) / 4096) old.regions
             (users_apart (at + left) ((size - left) / 4096) 0 (2 ^ 64) old.regions laid (let h = high_is in omega arith)
             (λ address from before. none_of_user 0 (2 ^ 64) address old.regions laid
-            (run_own 0 (2 ^ 64) at size left old.regions laid is.run less is.in_pages address (omega (arith, from)) (let h = high_is in omega (arith, before, h)))));
+            (run_own 0 (2 ^ 64) at size left old.regions laid is.run less is.in_pages address (omega (arith, from))
+            (let h = high_is in omega (arith, before, h)))));
         size = un.size;
         walks = walks_by (is_cut old.words old.root first) refl;
         table = table_by (is_cut old.words old.root first) refl;
@@ -401,7 +430,8 @@ module _ (old new : Paged) (at size left : ℕ) (kept : IsPagedKept old) (is : I
         large_gone = page_gone;
         pages_go = none_comes;
         user_pages = λ address canonical user. ap (λ r. walk_of new.words r (address / 4096)) g.gone.root ∙ page_same address canonical user;
-        user_bytes = λ address canonical user some. ap (λ r. reached new.words r address) g.gone.root ∙ g.gone.bytes address (subst IsSome (sym (page_same address canonical user)) some);
+        user_bytes = λ address canonical user some. ap (λ r. reached new.words r address) g.gone.root
+            ∙ g.gone.bytes address (subst IsSome (sym (page_same address canonical user)) some);
       }
 
 -- ---- whole runs cut no slot
@@ -421,18 +451,21 @@ whole_from from to slot (region ∷ rest) laid is = elim (or_cases (has_whole sl
 ]
 
 -- No region has all of a slot in which a run begins behind the first byte: the run is made of whole regions.
-none_whole : (low high slot from to : ℕ) (regions : List Region) → AreLaid from regions to → low < high → slot < low → low < slot + 2 ^ 21 → AreBeside low high regions →
+none_whole : (low high slot from to : ℕ) (regions : List Region) → AreLaid from regions to → low < high → slot < low →
+    low < slot + 2 ^ 21 → AreBeside low high regions →
     list_any (is_own low) regions ≡ true → is_whole_in regions slot ≡ true → ⊥
 none_whole low high slot from to [] laid some after before beside own whole = let no : false ≡ true = own in cc
 none_whole low high slot from to (region ∷ rest) laid some after before beside own whole =
     go region.heap refl (or_cases (is_own low region) (list_any (is_own low) rest) own) (or_cases (has_whole slot region) (is_whole_in rest slot) whole)
     (λ all. none_whole low high slot (end_of region) to rest laid.3 some after before all)
   where
-    go : (heap : Bool) → region.heap ≡ heap → (is_own low region ≡ true) ⊎ (list_any (is_own low) rest ≡ true) → (has_whole slot region ≡ true) ⊎ (is_whole_in rest slot ≡ true) →
+    go : (heap : Bool) → region.heap ≡ heap → (is_own low region ≡ true) ⊎ (list_any (is_own low) rest ≡ true) →
+        (has_whole slot region ≡ true) ⊎ (is_whole_in rest slot ≡ true) →
         (AreBeside low high rest → list_any (is_own low) rest ≡ true → is_whole_in rest slot ≡ true → ⊥) → ⊥
     -- it has the run's first byte, so it is the region that begins the run, or one of the user, and then no other has the byte
     go true heap at (inl all) later =
-        let each = subst (λ (b : Bool). AllByRecursion (λ grant. IsApart low high grant ⊎ IsWithin low high grant) (map grant_of (cond b (region ∷ heap_regions rest) (heap_regions rest)))) heap beside in
+        let each = subst (λ (b : Bool). AllByRecursion (λ grant. IsApart low high grant ⊎ IsWithin low high grant)
+        (map grant_of (cond b (region ∷ heap_regions rest) (heap_regions rest)))) heap beside in
         let bounds = whole_bounds slot region all in
         elim each.0 [
           | inl (inl below) ↦ omega (arith, bounds.1, below)
@@ -440,24 +473,30 @@ none_whole low high slot from to (region ∷ rest) laid some after before beside
           | inr within ↦ (let from' = within.0 in omega (arith, bounds.0, from'))
         ]
     go false user (inl here) all later = grind (arith, nat_tests)
-    go false user (inr at) (inl all) later = (let bounds = whole_bounds slot region all in let behind = own_from (end_of region) to low rest laid.3 at in omega (arith, bounds.1, behind))
+    go false user (inr at) (inl all) later = (let bounds = whole_bounds slot region all in let behind =
+        own_from (end_of region) to low rest laid.3 at in omega (arith, bounds.1, behind))
     go true heap (inl here) (inr all) later = (let behind = whole_from (end_of region) to slot rest laid.3 all in grind (arith, nat_tests))
     go true heap (inr at) (inr all) later =
-        later (subst (λ (b : Bool). AllByRecursion (λ grant. IsApart low high grant ⊎ IsWithin low high grant) (map grant_of (cond b (region ∷ heap_regions rest) (heap_regions rest)))) heap beside).1 at all
+        later (subst (λ (b : Bool). AllByRecursion (λ grant. IsApart low high grant ⊎ IsWithin low high grant)
+        (map grant_of (cond b (region ∷ heap_regions rest) (heap_regions rest)))) heap beside).1 at all
     go false user (inr at) (inr all) later =
-        later (subst (λ (b : Bool). AllByRecursion (λ grant. IsApart low high grant ⊎ IsWithin low high grant) (map grant_of (cond b (region ∷ heap_regions rest) (heap_regions rest)))) user beside) at all
+        later (subst (λ (b : Bool). AllByRecursion (λ grant. IsApart low high grant ⊎ IsWithin low high grant)
+        (map grant_of (cond b (region ∷ heap_regions rest) (heap_regions rest)))) user beside) at all
 
 -- a whole run cuts no slot
-whole_run : (old : Paged) (at size : ℕ) → IsPagedKept old → IsRun (grants_of old) at (at + size) → 0 < size → IsTrue (is_canonical (at / 4096 * 4096)) → at % 4096 ≡ 0 → slot_cut old (at / 4096) ≡ None
+whole_run : (old : Paged) (at size : ℕ) → IsPagedKept old → IsRun (grants_of old) at (at + size) → 0 < size →
+    IsTrue (is_canonical (at / 4096 * 4096)) → at % 4096 ≡ 0 → slot_cut old (at / 4096) ≡ None
 whole_run old at size kept run some canonical page = elim (cut_or_not old.words old.root (at / 4096)) [
   | inr none ↦ rw none refl
   | inl cut ↦ absurd (
       let slot = at / 4096 / 512 * 2 ^ 21 in
       let there : IsSome (large_of old.words old.root (slot_number (at / 4096 / 512 * 2 ^ 21))) =
-      (let at_slot : large_of old.words old.root (slot_number (at / 4096 / 512 * 2 ^ 21)) ≡ Some cut.0 = ap (large_of old.words old.root) (page_number (at / 4096)) ∙ cut.1.there in rw at_slot refl) in
+      (let at_slot : large_of old.words old.root (slot_number (at / 4096 / 512 * 2 ^ 21)) ≡ Some cut.0 =
+      ap (large_of old.words old.root) (page_number (at / 4096)) ∙ cut.1.there in rw at_slot refl) in
       let whole = kept.mapped.larges (at / 4096 / 512 * 2 ^ 21) (page_slot (at / 4096) canonical) there in
       let behind = cut.1.behind in
-      none_whole at (at + size) (at / 4096 / 512 * 2 ^ 21) 0 (2 ^ 64) old.regions kept.laid run.some (omega (arith, behind, page)) (omega (arith, page)) run.whole
+      none_whole at (at + size) (at / 4096 / 512 * 2 ^ 21) 0 (2 ^ 64) old.regions kept.laid run.some
+      (omega (arith, behind, page)) (omega (arith, page)) run.whole
       (sym (own_granted at old.regions) ∙ run.granted at (omega arith) (omega (arith, some))) whole)
 ]
 
@@ -467,10 +506,12 @@ whole_run old at size kept run some canonical page = elim (cut_or_not old.words 
 abbrev pub slot_of_event : Paged → ℕ → ℕ → ℕ → Option ℕ
 slot_of_event p at size left = if nat_lt left size then slot_cut p ((at + left) / 4096) else None
 
-pub released_shortened : (old new : Paged) (at size left : ℕ) → IsPagedKept old → IsReleasedFor old new at size left → AreShortened old new (slot_of_event old at size left)
+pub released_shortened : (old new : Paged) (at size left : ℕ) → IsPagedKept old → IsReleasedFor old new at size left →
+    AreShortened old new (slot_of_event old at size left)
 released_shortened old new at size left kept is = elim (cases_lt left size) [
   | inr more ↦ (let test : nat_lt left size ≡ false = not_less left size more in
-      rw test (subst (λ (p : Paged). AreShortened old p None) (sym (is.none (let w = is.within in omega arith))) (shortened_still old old kept.laid (still_none old))))
+      rw test (subst (λ (p : Paged). AreShortened old p None) (sym (is.none (let w = is.within in omega arith)))
+      (shortened_still old old kept.laid (still_none old))))
   | inl less ↦ (let test : nat_lt left size ≡ true = is_less left size less in rw test (run_shortened old new at size left kept is less))
 ]
 
@@ -523,13 +564,15 @@ follows_whole old new (Released at size left ∷ events) kept all follows =
     let kept_before : IsPagedKept before = kept_still old before kept follows.2 in
     let one = shortened_still old before kept.laid follows.2 in
     let two = whole_shortened before later at size kept_before (subst (IsReleasedFor before later at size) all.0 follows.3) in
-    shortened_on old before new None one (shortened_on before later new None two (follows_whole later new events (kept_released before later at size left kept_before follows.3) all.1 follows.4))
+    shortened_on old before new None one (shortened_on before later new None two
+    (follows_whole later new events (kept_released before later at size left kept_before follows.3) all.1 follows.4))
 
 -- The slot that was cut, if one was: it begins before the first event's end of what stays, and ends behind it.
 pub record IsShortenedBy (old new : Paged) (events : List Event) : Type 0 where
   pub slot : Option ℕ
   pub short : AreShortened old new slot
-  pub cut : (one : ℕ) → slot ≡ Some one → (at : ℕ) × (size : ℕ) × (left : ℕ) × (more : List Event) × (events ≡ Released at size left ∷ more) × (0 < left) × (left < size) × (one < at + left) × (at + left < one + 2 ^ 21)
+  pub cut : (one : ℕ) → slot ≡ Some one → (at : ℕ) × (size : ℕ) × (left : ℕ) × (more : List Event) × (events ≡ Released at
+      size left ∷ more) × (0 < left) × (left < size) × (one < at + left) × (at + left < one + 2 ^ 21)
 
 pub follows_shortened : (old new : Paged) (events : List Event) → IsPagedKept old → AreReleases events → Follows old events new → IsShortenedBy old new events
 follows_shortened old new [] kept all still = record { slot = None; short = shortened_still old new kept.laid still; cut = λ one is. absurd (cc) }
@@ -544,19 +587,24 @@ follows_shortened old new (Released at size left ∷ events) kept all follows =
     elim (cases_lt 0 left) [
       | inl some ↦ record {
         slot = slot_of_event before at size left;
-        short = shortened_then old before new (slot_of_event before at size left) one (shortened_on before later new (slot_of_event before at size left) (released_shortened before later at size left kept_before follows.3) rest);
+        short = shortened_then old before new (slot_of_event before at size left) one
+            (shortened_on before later new (slot_of_event before at size left)
+            (released_shortened before later at size left kept_before follows.3) rest);
         cut = λ slot is. part_of before later at size left events kept_before follows.3 some slot is;
       }
       | inr none ↦ record {
         slot = None;
         short = shortened_on old before new None one
-            (shortened_on before later new None (whole_shortened before later at size kept_before (subst (IsReleasedFor before later at size) (let e : left ≡ 0 = omega arith in e) follows.3)) rest);
+            (shortened_on before later new None (whole_shortened before later at size kept_before
+            (subst (IsReleasedFor before later at size) (let e : left ≡ 0 = omega arith in e) follows.3)) rest);
         cut = λ slot is. absurd (cc);
       }
     ]
   where
-    part_of : (before later : Paged) (at size left : ℕ) (more : List Event) → IsPagedKept before → IsReleasedFor before later at size left → 0 < left → (one : ℕ) → slot_of_event before at size left ≡ Some one →
-        (at' : ℕ) × (size' : ℕ) × (left' : ℕ) × (more' : List Event) × (Released at size left ∷ more ≡ Released at' size' left' ∷ more') × (0 < left') × (left' < size') × (one < at' + left') × (at' + left' < one + 2 ^ 21)
+    part_of : (before later : Paged) (at size left : ℕ) (more : List Event) → IsPagedKept before →
+        IsReleasedFor before later at size left → 0 < left → (one : ℕ) → slot_of_event before at size left ≡ Some one →
+        (at' : ℕ) × (size' : ℕ) × (left' : ℕ) × (more' : List Event) × (Released at size left ∷ more ≡ Released at' size'
+        left' ∷ more') × (0 < left') × (left' < size') × (one < at' + left') × (at' + left' < one + 2 ^ 21)
     part_of before later at size left more kept is some one of = elim (cases_lt left size) [
       | inr more_left ↦ absurd (let test : nat_lt left size ≡ false = not_less left size more_left in let none : None ≡ Some one = rw test at of in cc)
       | inl less ↦ (

@@ -28,12 +28,14 @@ use Rattle.kernel_heap.proofs.ReleasedRegions.{AreShortened, some_not_none}
 whole_within : (slot at : ℕ) (regions : List Region) → slot ≤ at → at < slot + 2 ^ 21 → is_whole_in regions slot ≡ true → list_any (is_within at) regions ≡ true
 whole_within slot at [] from to is = absurd (let no : false ≡ true = is in cc)
 whole_within slot at (region ∷ rest) from to is = elim (or_cases (has_whole slot region) (is_whole_in rest slot) is) [
-  | inl here ↦ (let bounds = whole_bounds slot region here in or_left (is_within at region) (list_any (is_within at) rest) (within at region (omega (arith, bounds.0, from)) (omega (arith, bounds.1, to))))
+  | inl here ↦ (let bounds = whole_bounds slot region here in or_left (is_within at region) (list_any (is_within at) rest)
+      (within at region (omega (arith, bounds.0, from)) (omega (arith, bounds.1, to))))
   | inr later ↦ or_right (is_within at region) (list_any (is_within at) rest) (whole_within slot at rest from to later)
 ]
 
 -- regions that meet a slot have the first address of one of its pages
-part_page : (base window slot : ℕ) (regions : List Region) → AllByRecursion (IsRegion base window) regions → slot % 2 ^ 21 ≡ 0 → meets_any slot 512 regions ≡ true →
+part_page : (base window slot : ℕ) (regions : List Region) → AllByRecursion (IsRegion base window) regions →
+    slot % 2 ^ 21 ≡ 0 → meets_any slot 512 regions ≡ true →
     (k : ℕ) × (k < 512) × (list_any (is_within (slot + 4096 * k)) regions ≡ true)
 part_page base window slot [] all aligned met = absurd (let no : false ≡ true = met in cc)
 part_page base window slot (region ∷ rest) all aligned met = elim (or_cases (meets slot 512 region) (meets_any slot 512 rest) met) [
@@ -49,9 +51,19 @@ part_page base window slot (region ∷ rest) all aligned met = elim (or_cases (m
           or_left (is_within (slot + 4096 * ((region.start - slot) / 4096)) region) (list_any (is_within (slot + 4096 * ((region.start - slot) / 4096))) rest)
               (within (slot + 4096 * ((region.start - slot) / 4096)) region (omega arith) (omega arith)),
         )
-        | inr from ↦ (0, omega arith, or_left (is_within (slot + 4096 * 0) region) (list_any (is_within (slot + 4096 * 0)) rest) (within (slot + 4096 * 0) region (omega arith) (omega arith)))
+        | inr from ↦ (
+          0,
+          omega arith,
+          or_left (is_within (slot + 4096 * 0) region)
+              (list_any (is_within (slot + 4096 * 0)) rest) (within (slot + 4096 * 0) region (omega arith) (omega arith)),
+        )
       ])
-  | inr later ↦ (let page = part_page base window slot rest all.1 aligned later in (page.0, page.1, or_right (is_within (slot + 4096 * page.0) region) (list_any (is_within (slot + 4096 * page.0)) rest) page.2))
+  | inr later ↦ (let page = part_page base window slot rest all.1 aligned later in (
+    page.0,
+    page.1,
+    or_right (is_within (slot + 4096 * page.0) region) (list_any (is_within (slot + 4096 * page.0)) rest)
+        page.2,
+  ))
 ]
 
 -- a page of a slot: its address is canonical, and its four indices are the slot's with its place there
@@ -72,25 +84,32 @@ index_slot n k less = omega arith
 
 module _ (old new : Paged) (slot : Option ℕ) (mapped : IsMapped new) (short : AreShortened old new slot) where
   -- a page of a region is mapped
-  page_mapped : (one k : ℕ) → IsSlot one → k < 512 → list_any (is_within (one + 4096 * k)) new.regions ≡ true → IsSome (reach new.words new.root 4 (512 * slot_number one + k))
+  page_mapped : (one k : ℕ) → IsSlot one → k < 512 → list_any (is_within (one + 4096 * k)) new.regions ≡ true →
+      IsSome (reach new.words new.root 4 (512 * slot_number one + k))
   page_mapped one k is less there =
-      let kind : IsSome (kind_at new.regions (4096 * (one / 4096 + k))) = subst (λ (a : ℕ). IsSome (kind_at new.regions a)) (sym (page_address one k is.aligned)) (kind_some (one + 4096 * k) new.regions there) in
-      let walk = some_mapped (walk_of new.words new.root (one / 4096 + k)) (kind_at new.regions (4096 * (one / 4096 + k))) (mapped.found (one / 4096 + k) (page_canonical one k is less)) kind in
+      let kind : IsSome (kind_at new.regions (4096 * (one / 4096 + k))) =
+      subst (λ (a : ℕ). IsSome (kind_at new.regions a)) (sym (page_address one k is.aligned))
+      (kind_some (one + 4096 * k) new.regions there) in
+      let walk = some_mapped (walk_of new.words new.root (one / 4096 + k)) (kind_at new.regions (4096 * (one / 4096 + k)))
+      (mapped.found (one / 4096 + k) (page_canonical one k is less)) kind in
       subst (λ n. IsSome (reach new.words new.root 4 n)) (page_index one k is.aligned less) (subst IsSome (walk_reach new.words new.root (one / 4096 + k)) walk)
 
   -- a large page of which a region has all stays
-  stays_large : (one : ℕ) → IsSlot one → IsSome (large_of old.words old.root (slot_number one)) → IsTrue (is_whole_in new.regions one) → IsSome (large_of new.words new.root (slot_number one))
+  stays_large : (one : ℕ) → IsSlot one → IsSome (large_of old.words old.root (slot_number one)) →
+      IsTrue (is_whole_in new.regions one) → IsSome (large_of new.words new.root (slot_number one))
   stays_large one is was whole = go (large_of new.words new.root (slot_number one)) refl
     where
       go : (o : Option Place) → large_of new.words new.root (slot_number one) ≡ o → IsSome (large_of new.words new.root (slot_number one))
       go (Some large) there = rw there refl
       go None none = absurd (
           let page = short.large_gone (slot_number one) (omega arith) was none in
-          let there = page_mapped one page.0 is page.1 (whole_within one (one + 4096 * page.0) new.regions (omega arith) (let less = page.1 in omega arith) whole) in
+          let there = page_mapped one page.0 is page.1 (whole_within one (one + 4096 * page.0) new.regions (omega arith)
+          (let less = page.1 in omega arith) whole) in
           some_not_none (reach new.words new.root 4 (512 * slot_number one + page.0)) there page.2)
 
   -- a slot of which a part is left, and not all, has a table
-  part_has_table : (one : ℕ) → IsSlot one → is_whole_in new.regions one ≡ false → meets_any one 512 new.regions ≡ true → IsSome (reach new.words new.root 3 (slot_number one))
+  part_has_table : (one : ℕ) → IsSlot one → is_whole_in new.regions one ≡ false → meets_any one 512 new.regions ≡ true →
+      IsSome (reach new.words new.root 3 (slot_number one))
   part_has_table one is not_whole met = by (reach new.words new.root 4 (512 * slot_number one + page.0)) refl there
     where
       page : (k : ℕ) × (k < 512) × (list_any (is_within (one + 4096 * k)) new.regions ≡ true)
@@ -99,14 +118,17 @@ module _ (old new : Paged) (slot : Option ℕ) (mapped : IsMapped new) (short : 
       there : IsSome (reach new.words new.root 4 (512 * slot_number one + page.0))
       there = page_mapped one page.0 is page.1 page.2
 
-      by : (o : Option Place) → reach new.words new.root 4 (512 * slot_number one + page.0) ≡ o → IsSome o → IsSome (reach new.words new.root 3 (slot_number one))
+      by : (o : Option Place) → reach new.words new.root 4 (512 * slot_number one + page.0) ≡ o → IsSome o →
+          IsSome (reach new.words new.root 3 (slot_number one))
       by None none some = absurd (cc)
       by (Some place) found some = elim (either_way new.words new.root (512 * slot_number one + page.0) place found) [
         | inl entry ↦ (
-            let at : reach new.words new.root 3 (slot_number one) ≡ Some entry.table = ap (reach new.words new.root 3) (sym (index_slot (slot_number one) page.0 page.1)) ∙ entry.met in
+            let at : reach new.words new.root 3 (slot_number one) ≡ Some entry.table =
+            ap (reach new.words new.root 3) (sym (index_slot (slot_number one) page.0 page.1)) ∙ entry.met in
             rw at refl)
         | inr large ↦ absurd (
-            let at : large_of new.words new.root (slot_number one) ≡ Some large.large = ap (large_of new.words new.root) (sym (index_slot (slot_number one) page.0 page.1)) ∙ large.met in
+            let at : large_of new.words new.root (slot_number one) ≡ Some large.large =
+            ap (large_of new.words new.root) (sym (index_slot (slot_number one) page.0 page.1)) ∙ large.met in
             let whole : is_whole_in new.regions one ≡ true = mapped.larges one is (rw at refl) in
             cc)
       ]
@@ -165,6 +187,8 @@ module _ (old new : Paged) (slot : Option ℕ) (mapped : IsMapped new) (short : 
           let was = short.was_large one cut in
           no_both (reach new.words new.root 3 (slot_number one)) refl (short.table one cut) (stays_large one was.0 was.1 e))
         where
-          no_both : (o : Option Place) → reach new.words new.root 3 (slot_number one) ≡ o → IsSome o → IsSome (large_of new.words new.root (slot_number one)) → ⊥
+          no_both : (o : Option Place) → reach new.words new.root 3 (slot_number one) ≡ o → IsSome o →
+              IsSome (large_of new.words new.root (slot_number one)) → ⊥
           no_both None e some now = absurd (cc)
-          no_both (Some at) e some now = some_not_none (large_of new.words new.root (slot_number one)) now (table_none new.words new.root (slot_number one) at e)
+          no_both (Some at) e some now = some_not_none (large_of new.words new.root (slot_number one)) now
+              (table_none new.words new.root (slot_number one) at e)

@@ -55,7 +55,9 @@ starts_behind : (from to : ℕ) (list : List Region) → AreLaid from list to �
 starts_behind from to [] laid = tt
 starts_behind from to (first ∷ rest) laid = (
   laid.0,
-  all_more (λ region. end_of first ≤ region.start) (λ region. from ≤ region.start) (λ region behind. (let low = laid.0 in omega (arith, low, behind))) rest (starts_behind (end_of first) to rest laid.3),
+  all_more (λ region. end_of first ≤ region.start) (λ region. from ≤ region.start)
+      (λ region behind. (let low = laid.0 in omega (arith, low, behind))) rest
+      (starts_behind (end_of first) to rest laid.3),
 )
 
 -- ---- regions of both, by address
@@ -64,7 +66,8 @@ goes_first : (region : Region) (list : List Region) → AllByRecursion (λ later
 goes_first region [] all = refl
 goes_first region (first ∷ rest) all = (let less = all.0 in let test : nat_lt region.start first.start ≡ true = grind (arith, nat_tests) in rw test refl)
 
-stays_first : (first : Region) (list users : List Region) → AllByRecursion (λ user. first.start ≤ user.start) users → joined (first ∷ list) users ≡ first ∷ joined list users
+stays_first : (first : Region) (list users : List Region) → AllByRecursion (λ user. first.start ≤ user.start) users →
+    joined (first ∷ list) users ≡ first ∷ joined list users
 stays_first first list [] all = refl
 stays_first first list (user ∷ users) all = ap (λ (regions : List Region). joined regions users) behind ∙ stays_first first (with_region user list) users all.1
   where
@@ -85,12 +88,14 @@ parts_joined from to (first ∷ rest) laid = go first.heap refl (parts_joined (e
 
     heap_behind : AllByRecursion (λ region. first.start < region.start) (heap_regions rest)
     heap_behind = all_some (λ region. region.heap) (λ region. first.start < region.start) rest
-        (all_more (λ region. end_of first ≤ region.start) (λ region. first.start < region.start) (λ region low. (let some = laid.2 in omega (arith, low, some))) rest behind)
+        (all_more (λ region. end_of first ≤ region.start) (λ region. first.start < region.start)
+        (λ region low. (let some = laid.2 in omega (arith, low, some))) rest behind)
 
     whole : joined (heap_regions rest) (user_regions rest) ≡ rest → joined (first ∷ heap_regions rest) (user_regions rest) ≡ first ∷ rest
     whole later = stays_first first (heap_regions rest) (user_regions rest) users_behind ∙ ap (λ (regions : List Region). first ∷ regions) later
 
-    go : (heap : Bool) → first.heap ≡ heap → joined (heap_regions rest) (user_regions rest) ≡ rest → joined (heap_regions (first ∷ rest)) (user_regions (first ∷ rest)) ≡ first ∷ rest
+    go : (heap : Bool) → first.heap ≡ heap → joined (heap_regions rest) (user_regions rest) ≡ rest →
+        joined (heap_regions (first ∷ rest)) (user_regions (first ∷ rest)) ≡ first ∷ rest
     go true is later = (λ i. joined (heap_first first rest is i) (user_skipped first rest is i)) ∙ whole later
     go false is later = (λ i. joined (user_first first rest is i) (user_kept first rest is i))
         ∙ (ap (λ (regions : List Region). joined regions (user_regions rest)) (goes_first first (heap_regions rest) heap_behind) ∙ whole later)
@@ -100,25 +105,31 @@ user_with : (user : Region) (list : List Region) → user.heap ≡ false → Sor
 user_with user [] is order = user_kept user [] is
 user_with user (first ∷ rest) is order = go (nat_lt user.start first.start) refl first.heap refl (user_with user rest is order.1)
   where
-    go : (before : Bool) → nat_lt user.start first.start ≡ before → (heap : Bool) → first.heap ≡ heap → user_regions (with_region user rest) ≡ with_region user (user_regions rest) →
+    go : (before : Bool) → nat_lt user.start first.start ≡ before → (heap : Bool) → first.heap ≡ heap →
+        user_regions (with_region user rest) ≡ with_region user (user_regions rest) →
         user_regions (with_region user (first ∷ rest)) ≡ with_region user (user_regions (first ∷ rest))
     go true before heap of later =
         let less : user.start < first.start = grind (arith, nat_tests) in
         let all = all_some (λ region. not region.heap) (λ region. user.start < region.start) (first ∷ rest)
         (less, all_more (λ region. first.start ≤ region.start) (λ region. user.start < region.start) (λ region low. omega (arith, less, low)) rest order.0) in
         rw before (user_kept user (first ∷ rest) is ∙ sym (goes_first user (user_regions (first ∷ rest)) all))
-    go false before true of later = rw before (user_skipped first (with_region user rest) of ∙ (later ∙ sym (ap (with_region user) (user_skipped first rest of))))
+    go false before true of later = rw before (user_skipped first (with_region user rest) of
+        ∙ (later ∙ sym (ap (with_region user) (user_skipped first rest of))))
     go false before false of later =
         let there : with_region user (first ∷ user_regions rest) ≡ first ∷ with_region user (user_regions rest) = rw before refl in
-        rw before (user_kept first (with_region user rest) of ∙ (ap (λ (regions : List Region). first ∷ regions) later ∙ (sym there ∙ sym (ap (with_region user) (user_kept first rest of)))))
+        rw before (user_kept first (with_region user rest) of ∙ (ap (λ (regions : List Region). first ∷ regions) later
+        ∙ (sym there ∙ sym (ap (with_region user) (user_kept first rest of)))))
 
-users_joined : (list users : List Region) → Sorted list → AllByRecursion (λ region. region.heap ≡ false) users → user_regions (joined list users) ≡ joined (user_regions list) users
+users_joined : (list users : List Region) → Sorted list → AllByRecursion (λ region. region.heap ≡ false) users →
+    user_regions (joined list users) ≡ joined (user_regions list) users
 users_joined list [] order all = refl
-users_joined list (user ∷ users) order all = users_joined (with_region user list) users (sorted_with user list order) all.1 ∙ ap (λ (regions : List Region). joined regions users) (user_with user list all.0 order)
+users_joined list (user ∷ users) order all = users_joined (with_region user list) users (sorted_with user list order) all.1
+    ∙ ap (λ (regions : List Region). joined regions users) (user_with user list all.0 order)
 
 alone : (users : List Region) → AreInOrder users → joined [] users ≡ users
 alone [] order = refl
-alone (user ∷ users) order = stays_first user [] users (all_more (λ later. end_of user ≤ later.start) (λ later. user.start ≤ later.start) (λ later behind. omega (arith, behind)) users order.0)
+alone (user ∷ users) order = stays_first user [] users (all_more (λ later. end_of user ≤ later.start)
+    (λ later. user.start ≤ later.start) (λ later behind. omega (arith, behind)) users order.0)
     ∙ ap (λ (regions : List Region). user ∷ regions) (alone users order.1)
 
 none_of_users : (list : List Region) → AllByRecursion (λ region. region.heap ≡ true) list → user_regions list ≡ []
@@ -135,11 +146,13 @@ none_ahead : (at : ℕ) (list : List Region) → AllByRecursion (λ region. at <
 none_ahead at [] all = refl
 none_ahead at (first ∷ rest) all = or_neither (is_within at first) (list_any (is_within at) rest) (not_within at first (inl all.0)) (none_ahead at rest all.1)
 
-pub found_in_parts : (at from to : ℕ) (list : List Region) → AreLaid from list to → find (is_within at) (heap_regions list ++ user_regions list) ≡ find (is_within at) list
+pub found_in_parts : (at from to : ℕ) (list : List Region) → AreLaid from list to →
+    find (is_within at) (heap_regions list ++ user_regions list) ≡ find (is_within at) list
 found_in_parts at from to [] laid = refl
 found_in_parts at from to (first ∷ rest) laid = go (is_within at first) refl first.heap refl (found_in_parts at (end_of first) to rest laid.3)
   where
-    go : (here : Bool) → is_within at first ≡ here → (heap : Bool) → first.heap ≡ heap → find (is_within at) (heap_regions rest ++ user_regions rest) ≡ find (is_within at) rest →
+    go : (here : Bool) → is_within at first ≡ here → (heap : Bool) → first.heap ≡ heap →
+        find (is_within at) (heap_regions rest ++ user_regions rest) ≡ find (is_within at) rest →
         find (is_within at) (heap_regions (first ∷ rest) ++ user_regions (first ∷ rest)) ≡ find (is_within at) (first ∷ rest)
     go true here true is later =
         let one : find (is_within at) (first ∷ (heap_regions rest ++ user_regions rest)) ≡ Some first = rw here refl in
@@ -148,13 +161,16 @@ found_in_parts at from to (first ∷ rest) laid = go (is_within at first) refl f
     go true here false is later =
         let bounds = within_bounds at first here in
         let ahead = all_some (λ region. region.heap) (λ region. at < region.start) rest
-        (all_more (λ region. end_of first ≤ region.start) (λ region. at < region.start) (λ region behind. (let high = bounds.1 in omega (arith, high, behind))) rest (starts_behind (end_of first) to rest laid.3)) in
+        (all_more (λ region. end_of first ≤ region.start) (λ region. at < region.start)
+        (λ region behind. (let high = bounds.1 in omega (arith, high, behind))) rest
+        (starts_behind (end_of first) to rest laid.3)) in
         let one : find (is_within at) (first ∷ user_regions rest) ≡ Some first = rw here refl in
         let other : find (is_within at) (first ∷ rest) ≡ Some first = rw here refl in
         (λ i. find (is_within at) (user_first first rest is i ++ user_kept first rest is i))
         ∙ (find_behind (is_within at) (heap_regions rest) (first ∷ user_regions rest) (none_ahead at (heap_regions rest) ahead) ∙ (one ∙ sym other))
     go false here true is later =
-        let one : find (is_within at) (first ∷ (heap_regions rest ++ user_regions rest)) ≡ find (is_within at) (heap_regions rest ++ user_regions rest) = rw here refl in
+        let one : find (is_within at) (first ∷ (heap_regions rest ++ user_regions rest)) ≡ find (is_within at)
+        (heap_regions rest ++ user_regions rest) = rw here refl in
         let other : find (is_within at) (first ∷ rest) ≡ find (is_within at) rest = rw here refl in
         (λ i. find (is_within at) (heap_first first rest is i ++ user_skipped first rest is i)) ∙ (one ∙ (later ∙ sym other))
     go false here false is later =
@@ -169,8 +185,10 @@ pages_of_parts (first ∷ rest) = go first.heap refl (pages_of_parts rest)
   where
     go : (heap : Bool) → first.heap ≡ heap → total_pages rest ≡ total_pages (heap_regions rest) + total_pages (user_regions rest) →
         total_pages (first ∷ rest) ≡ total_pages (heap_regions (first ∷ rest)) + total_pages (user_regions (first ∷ rest))
-    go true is later = (let heap = ap total_pages (heap_first first rest is) in let users = ap total_pages (user_skipped first rest is) in omega (arith, later, heap, users))
-    go false is later = (let heap = ap total_pages (user_first first rest is) in let users = ap total_pages (user_kept first rest is) in omega (arith, later, heap, users))
+    go true is later = (let heap = ap total_pages (heap_first first rest is) in let users =
+        ap total_pages (user_skipped first rest is) in omega (arith, later, heap, users))
+    go false is later = (let heap = ap total_pages (user_first first rest is) in let users =
+        ap total_pages (user_kept first rest is) in omega (arith, later, heap, users))
 
 -- ---- the machine
 
@@ -178,7 +196,8 @@ pages_of_parts (first ∷ rest) = go first.heap refl (pages_of_parts rest)
 abbrev pub left_state : State → List Region → List (Option Block) → State
 left_state s heap blocks = settled (record s { heap = heap; blocks = blocks })
 
-module _ (m : Seen) (new : Paged) (s : State) (slot : Option ℕ) (good : IsGood s) (stands : Stands m s) (mapped_before : IsMapped m.paged) (mapped : IsMapped new) (short : AreShortened m.paged new slot)
+module _ (m : Seen) (new : Paged) (s : State) (slot : Option ℕ) (good : IsGood s) (stands : Stands m s)
+    (mapped_before : IsMapped m.paged) (mapped : IsMapped new) (short : AreShortened m.paged new slot)
     (part_left : (one : ℕ) → slot ≡ Some one → IsTrue (meets_any one 512 new.regions)) where
   pub heap_before : heap_regions m.paged.regions ≡ s.heap
   heap_before = ap heap_regions stands.regions ∙ heap_of_all s good
@@ -214,11 +233,20 @@ module _ (m : Seen) (new : Paged) (s : State) (slot : Option ℕ) (good : IsGood
   abbrev pub larges_left : List ℕ
   larges_left = filter (is_whole_in new.regions) s.large
 
-  pub left_is : (blocks : List (Option Block)) → left_state s (heap_regions new.regions) blocks ≡ record s { heap = heap_regions new.regions; blocks = blocks; tables = tables_left; large = larges_left }
-  left_is blocks = ap (λ (regions : List Region). record s { heap = heap_regions new.regions; blocks = blocks; tables = s.tables ++ map slot_prefix (filter (is_part_in regions) s.large); large = filter (is_whole_in regions) s.large }) (regions_now blocks)
+  pub left_is : (blocks : List (Option Block)) → left_state s (heap_regions new.regions)
+      blocks ≡ record s { heap = heap_regions new.regions; blocks = blocks; tables = tables_left; large = larges_left }
+  left_is blocks = ap (λ (regions : List Region). record s {
+    heap = heap_regions new.regions;
+    blocks = blocks;
+    tables =
+        s.tables ++ map slot_prefix (filter (is_part_in regions) s.large);
+    large = filter (is_whole_in regions) s.large;
+  })
+      (regions_now blocks)
 
   tables_count : length tables_left ≡ length s.tables + length (cut_slots slot)
-  tables_count = settled_count m.paged.words new.words m.paged.root new.root new.regions slot settles s.large s.tables good.are_slots good.no_slot_twice stands.larges_met stands.tables_met
+  tables_count = settled_count m.paged.words new.words m.paged.root new.root new.regions slot settles s.large s.tables
+      good.are_slots good.no_slot_twice stands.larges_met stands.tables_met
 
   table_count : new.tables ≡ 1 + length tables_left
   table_count = (let a = short.tables in let b = stands.table_count in let c = tables_count in omega (arith, a, b, c))
@@ -234,7 +262,8 @@ module _ (m : Seen) (new : Paged) (s : State) (slot : Option ℕ) (good : IsGood
       let frames = stands.frames in
       omega (arith, count, tables, parts, users, size, frames))
 
-  module _ (lives : List (Option Live)) (blocks : List (Option Block)) (same : lives ≡ map (option_map outline) blocks) (holds : HoldsBytes (reached new.words new.root) blocks) where
+  module _ (lives : List (Option Live)) (blocks : List (Option Block)) (same : lives ≡ map (option_map outline) blocks)
+      (holds : HoldsBytes (reached new.words new.root) blocks) where
     abbrev s' : State
     s' = record s { heap = heap_regions new.regions; blocks = blocks; tables = tables_left; large = larges_left }
 
@@ -262,8 +291,10 @@ module _ (m : Seen) (new : Paged) (s : State) (slot : Option ℕ) (good : IsGood
       pages_found = λ page canonical.
           mapped.found page (subst (λ (a : ℕ). IsTrue (is_canonical a)) (mul_comm 4096 page) canonical)
           ∙ (kinds (4096 * page) ∙ sym (ap (option_map (λ (region : Region). region.rights)) (in_state (4096 * page))));
-      tables_met = settled_tables m.paged.words new.words m.paged.root new.root new.regions slot settles s.large s.tables good.are_slots good.no_slot_twice stands.larges_met stands.tables_met;
-      larges_met = settled_larges m.paged.words new.words m.paged.root new.root new.regions slot settles s.large s.tables good.are_slots good.no_slot_twice stands.larges_met stands.tables_met;
+      tables_met = settled_tables m.paged.words new.words m.paged.root new.root new.regions slot settles s.large s.tables
+          good.are_slots good.no_slot_twice stands.larges_met stands.tables_met;
+      larges_met = settled_larges m.paged.words new.words m.paged.root new.root new.regions slot settles s.large s.tables
+          good.are_slots good.no_slot_twice stands.larges_met stands.tables_met;
       regions = sym (regions_now blocks);
       blocks = same;
       base = short.base ∙ stands.base;
@@ -278,10 +309,13 @@ module _ (m : Seen) (new : Paged) (s : State) (slot : Option ℕ) (good : IsGood
         in_state : (at : ℕ) → region_at s' at ≡ find (is_within at) new.regions
         in_state at = (λ i. find (is_within at) (heap_regions new.regions ++ sym users_now i)) ∙ found_in_parts at 0 (2 ^ 64) new.regions short.laid
 
-        kinds : (at : ℕ) → option_map (λ (kind : Bool × Rights). kind.1) (kind_at new.regions at) ≡ option_map (λ (region : Region). region.rights) (find (is_within at) new.regions)
+        kinds : (at : ℕ) → option_map (λ (kind : Bool × Rights). kind.1) (kind_at new.regions at) ≡ option_map
+            (λ (region : Region). region.rights) (find (is_within at) new.regions)
         kinds at = go (find (is_within at) new.regions)
           where
-            go : (o : Option Region) → option_map (λ (kind : Bool × Rights). kind.1) (option_map (λ (region : Region). (region.heap, region.rights)) o) ≡ option_map (λ (region : Region). region.rights) o
+            go : (o : Option Region) → option_map (λ (kind : Bool × Rights). kind.1)
+                (option_map (λ (region : Region). (region.heap, region.rights)) o) ≡ option_map
+                (λ (region : Region). region.rights) o
             go None = refl
             go (Some region) = refl
 

@@ -27,17 +27,21 @@ use Rattle.kernel_heap.proofs.RunPages.{begins, count_is, held, boundary, grants
 use Rattle.kernel_heap.proofs.Still.{granted_canonical, granted_mapped}
 
 -- granted bytes lie in the window
-granted_bounds : (p : Paged) (address : ℕ) → IsPagedKept p → IsTrue (is_granted (grants_of p) address) → (p.base ≤ address) × (address < p.base + 4096 * p.pages)
+granted_bounds : (p : Paged) (address : ℕ) → IsPagedKept p → IsTrue (is_granted (grants_of p) address) →
+    (p.base ≤ address) × (address < p.base + 4096 * p.pages)
 granted_bounds p address kept granted = own_bounds p.base p.pages address p.regions kept.mapped.regions (sym (own_granted address p.regions) ∙ granted)
 
-module _ (old new : List ℕ) (free free' : List Bool) (root first pages : ℕ) (some : 0 < pages) (tree : IsTree old root free) (gone : AreUnmapped old new free free' root first pages) where
+module _ (old new : List ℕ) (free free' : List Bool) (root first pages : ℕ) (some : 0 < pages) (tree : IsTree old root free)
+    (gone : AreUnmapped old new free free' root first pages) where
   -- a word of a page that is still mapped is as it was, since it is in no table
-  pub word_stays : (page index : ℕ) (place : Place) → index < 512 → walk_of new root page ≡ Some place → word_at new place.frame index ≡ word_at old place.frame index
+  pub word_stays : (page index : ℕ) (place : Place) → index < 512 → walk_of new root page ≡ Some place →
+      word_at new place.frame index ≡ word_at old place.frame index
   unfolding walk_of
   word_stays page index place less found = unmapped_words old new free free' root first pages some tree gone (page % 2 ^ 36) index place less found
 
 -- What is behind the first `left` bytes of a run: pages of the window, which regions have.
-module _ (p : Paged) (at size left : ℕ) (kept : IsPagedKept p) (run : IsRun (grants_of p) at (at + size)) (less : left < size) (in_pages : left % 4096 ≡ 0) where
+module _ (p : Paged) (at size left : ℕ) (kept : IsPagedKept p) (run : IsRun (grants_of p) at (at + size))
+    (less : left < size) (in_pages : left % 4096 ≡ 0) where
   end_is : at + left + 4096 * ((size - left) / 4096) ≡ at + size
   end_is = count_is 0 (2 ^ 64) at size left p.regions kept.laid run less in_pages
 
@@ -67,7 +71,9 @@ module _ (p : Paged) (at size left : ℕ) (kept : IsPagedKept p) (run : IsRun (g
   cut_ends = subst (λ (high : ℕ). IsBoundary high p.regions) (sym end_is) (boundary 0 (2 ^ 64) at size left p.regions kept.laid run less in_pages)
 
 -- where nothing is behind them, all stays
-pub none_behind : (start high : ℕ) (regions : List Grant) → start ≤ high → AllByRecursion (λ region. IsApart start high region ⊎ IsWithin start high region) regions → without_run high high regions ≡ regions
+pub none_behind : (start high : ℕ) (regions : List Grant) → start ≤ high →
+    AllByRecursion (λ region. IsApart start high region ⊎ IsWithin start high region) regions →
+    without_run high high regions ≡ regions
 none_behind start high [] after whole = refl
 none_behind start high (region ∷ rest) after whole =
     let more = none_behind start high rest after whole.1 in
@@ -79,7 +85,8 @@ none_behind start high (region ∷ rest) after whole =
     ] in
     rw (in_none) (rw over_none (ap (λ gs. region ∷ gs) more))
 
-module _ (old new : Paged) (at size left : ℕ) (kept : IsPagedKept old) (run : IsRun (grants_of old) at (at + size)) (less : left < size) (in_pages : left % 4096 ≡ 0) (gone : AreGone old new (at + left) ((size - left) / 4096)) where
+module _ (old new : Paged) (at size left : ℕ) (kept : IsPagedKept old) (run : IsRun (grants_of old) at (at + size))
+    (less : left < size) (in_pages : left % 4096 ≡ 0) (gone : AreGone old new (at + left) ((size - left) / 4096)) where
   low_page : (at + left) % 4096 ≡ 0
   low_page = let a = begins 0 (2 ^ 64) at size left old.regions kept.laid run less in_pages in omega arith
 
@@ -92,10 +99,12 @@ module _ (old new : Paged) (at size left : ℕ) (kept : IsPagedKept old) (run : 
   -- every word that stays granted is as it was
   pub released_words : (k : ℕ) → IsWordOf (grants_of new) k → word_reached new k ≡ word_reached old k
   released_words k word =
-      let stays : IsTrue (is_granted (without_run (at + left) (at + size) (grants_of old)) k) = subst (λ gs. IsTrue (is_granted gs k)) released_regions word.granted in
+      let stays : IsTrue (is_granted (without_run (at + left) (at + size) (grants_of old)) k) =
+      subst (λ gs. IsTrue (is_granted gs k)) released_regions word.granted in
       let was : IsTrue (is_granted (grants_of old) k) = granted_before (at + left) (at + size) (grants_of old) k stays in
       let exact = granted_without at (at + left) (at + size) (grants_of old) k run.whole (omega arith) (omega arith) in
-      let out : (nat_le (at + left) k && nat_lt k (at + size)) ≡ false = kept_out (is_granted (grants_of old) k) (nat_le (at + left) k && nat_lt k (at + size)) (sym exact ∙ stays) in
+      let out : (nat_le (at + left) k && nat_lt k (at + size)) ≡ false =
+      kept_out (is_granted (grants_of old) k) (nat_le (at + left) k && nat_lt k (at + size)) (sym exact ∙ stays) in
       let canonical : IsTrue (is_canonical (k / 4096 * 4096)) = first_canonical k (granted_canonical old k kept was) in
       let other : (i : ℕ) → i < (size - left) / 4096 → k / 4096 ≡ (at + left) / 4096 + i → ⊥ = λ i in_it same. beyond k i out in_it same in
       let same = gone.gone.others (k / 4096) canonical other in
@@ -113,12 +122,16 @@ module _ (old new : Paged) (at size left : ℕ) (kept : IsPagedKept old) (run : 
       kept_out true true e = absurd (let no : false ≡ true = e in cc)
       kept_out false out e = absurd (let no : false ≡ true = e in cc)
 
-      place_of : (o : Option Place) → walk_of old.words old.root (k / 4096) ≡ o → IsSome o → walk_of new.words old.root (k / 4096) ≡ walk_of old.words old.root (k / 4096) → word_reached new k ≡ word_reached old k
+      place_of : (o : Option Place) → walk_of old.words old.root (k / 4096) ≡ o → IsSome o →
+          walk_of new.words old.root (k / 4096) ≡ walk_of old.words old.root (k / 4096) →
+          word_reached new k ≡ word_reached old k
       place_of None found some same = cc
       place_of (Some place) found some same =
           let there : walk_of new.words new.root (k / 4096) ≡ Some place = ap (λ (r : ℕ). walk_of new.words r (k / 4096)) gone.gone.root ∙ (same ∙ found) in
           ap (word_in new.words k) there
-          ∙ (word_stays old.words new.words old.free new.free old.root ((at + left) / 4096) ((size - left) / 4096) (omega (arith, less, in_pages, low_page, high_is)) kept.mapped.tree gone.gone.gone (k / 4096) (k % 4096 / 8) place (omega arith) (same ∙ found)
+          ∙ (word_stays old.words new.words old.free new.free old.root ((at + left) / 4096) ((size - left) / 4096)
+          (omega (arith, less, in_pages, low_page, high_is)) kept.mapped.tree gone.gone.gone (k / 4096) (k % 4096 / 8)
+          place (omega arith) (same ∙ found)
           ∙ sym (ap (word_in old.words k) found))
 
 -- what a system keeps, it keeps then

@@ -70,25 +70,35 @@ module _ (start low pages : ℕ) (aligned : low % 4096 ≡ 0) (some : 0 < pages)
     where
       -- a region of the user is not seen, whatever the cut does to it
       unseen : (b met before : Bool) → region.heap ≡ false → b ≡ met →
-          heap_grants (if met then (if before then record region { pages = (low - region.start) / 4096 } ∷ cut_of low pages rest else cut_of low pages rest) else region ∷ cut_of low pages rest)
+          heap_grants (if met then (if before then record region { pages = (low - region.start) / 4096 } ∷ cut_of low pages
+          rest else cut_of low pages rest) else region ∷ cut_of low pages rest)
           ≡ heap_grants (cut_of low pages rest)
       unseen b true true user is = rw user refl
       unseen b true false user is = refl
       unseen b false before user is = rw user refl
 
-      go : (heap : Bool) → region.heap ≡ heap → (AllByRecursion (λ grant. IsApart start (low + 4096 * pages) grant ⊎ IsWithin start (low + 4096 * pages) grant) (heap_grants rest) → heap_grants (cut_of low pages rest) ≡ without_run low (low + 4096 * pages) (heap_grants rest)) →
+      go : (heap : Bool) → region.heap ≡ heap → (AllByRecursion (λ grant.
+          IsApart start (low + 4096 * pages) grant ⊎ IsWithin start (low + 4096 * pages) grant) (heap_grants rest) →
+          heap_grants (cut_of low pages rest) ≡ without_run low (low + 4096 * pages) (heap_grants rest)) →
           heap_grants (cut_of low pages (region ∷ rest)) ≡ without_run low (low + 4096 * pages) (heap_grants (region ∷ rest))
       go false user others =
           let rest_whole : AllByRecursion (λ grant. IsApart start (low + 4096 * pages) grant ⊎ IsWithin start (low + 4096 * pages) grant) (heap_grants rest) =
-          subst (λ (b : Bool). AllByRecursion (λ grant. IsApart start (low + 4096 * pages) grant ⊎ IsWithin start (low + 4096 * pages) grant) (map grant_of (cond b (region ∷ heap_regions rest) (heap_regions rest)))) user whole in
+          subst (λ (b : Bool). AllByRecursion (λ grant. IsApart start (low + 4096 * pages) grant ⊎ IsWithin start
+          (low + 4096 * pages) grant) (map grant_of (cond b (region ∷ heap_regions rest) (heap_regions rest)))) user
+          whole in
           unseen (meets low pages region) (meets low pages region) (nat_lt region.start low) user refl
-          ∙ (others rest_whole ∙ sym (ap (λ (b : Bool). without_run low (low + 4096 * pages) (map grant_of (cond b (region ∷ heap_regions rest) (heap_regions rest)))) user))
+          ∙ (others rest_whole ∙ sym (ap (λ (b : Bool). without_run low (low + 4096 * pages)
+          (map grant_of (cond b (region ∷ heap_regions rest) (heap_regions rest)))) user))
       go true own others =
-          let all : AllByRecursion (λ grant. IsApart start (low + 4096 * pages) grant ⊎ IsWithin start (low + 4096 * pages) grant) (grant_of region ∷ heap_grants rest) =
-          subst (λ (b : Bool). AllByRecursion (λ grant. IsApart start (low + 4096 * pages) grant ⊎ IsWithin start (low + 4096 * pages) grant) (map grant_of (cond b (region ∷ heap_regions rest) (heap_regions rest)))) own whole in
+          let all : AllByRecursion (λ grant. IsApart start (low + 4096 * pages) grant ⊎ IsWithin start (low + 4096 * pages)
+          grant) (grant_of region ∷ heap_grants rest) =
+          subst (λ (b : Bool). AllByRecursion (λ grant. IsApart start (low + 4096 * pages) grant ⊎ IsWithin start
+          (low + 4096 * pages) grant) (map grant_of (cond b (region ∷ heap_regions rest) (heap_regions rest)))) own
+          whole in
           let rest_is = others all.1 in
           elim (one_cut region laid.1 laid.2 all.0) [
             | inl stays ↦ rw (own, stays.apart, stays.before) (rw stays.whole (ap (λ gs. grant_of region ∷ gs) rest_is))
-            | inr (inl ends) ↦ rw (own, ends.met, ends.from, ends.before) (rw ends.cut (ap (λ gs. grant_of (record region { pages = (low - region.start) / 4096 }) ∷ gs) rest_is))
+            | inr (inl ends) ↦ rw (own, ends.met, ends.from, ends.before) (rw ends.cut
+                (ap (λ gs. grant_of (record region { pages = (low - region.start) / 4096 }) ∷ gs) rest_is))
             | inr (inr leaves) ↦ rw (own, leaves.met, leaves.from, leaves.within) rest_is
           ]

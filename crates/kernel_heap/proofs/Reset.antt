@@ -61,7 +61,9 @@ run_flags (first ∷ rest) low size flags some none granted whole =
     go (or_cases (nat_le first.base low && nat_lt low (first.base + first.size)) (is_granted rest low) granted) whole.0
     (λ later. run_flags rest low size flags some none.1 later whole.1)
   where
-    go : ((nat_le first.base low && nat_lt low (first.base + first.size)) ≡ true) ⊎ (is_granted rest low ≡ true) → IsApart low (low + size) first ⊎ IsWithin low (low + size) flags first → (is_granted rest low ≡ true → flags ≡ 0) → flags ≡ 0
+    go : ((nat_le first.base low && nat_lt low (first.base + first.size)) ≡ true) ⊎ (is_granted rest low ≡ true) →
+        IsApart low (low + size) first ⊎ IsWithin low (low + size) flags first → (is_granted rest low ≡ true → flags ≡ 0) →
+        flags ≡ 0
     go (inl here) (inl (inl before)) behind_it = absurd (let high : low < first.base + first.size = grind (arith, nat_tests) in omega (arith, before, high))
     go (inl here) (inl (inr behind)) behind_it = absurd (let from : first.base ≤ low = grind (arith, nat_tests) in omega (arith, behind, from, some))
     go (inl here) (inr within) behind_it = sym within.2 ∙ none.0
@@ -72,9 +74,12 @@ all_own list words [] are = refl
 all_own list words (segment ∷ segments) are =
     let is : IsSegment (map grant_of list) words segment = are.0 in
     let long = is.long in
-    let flags : segment.flags ≡ 0 = run_flags (map grant_of list) segment.base segment.size segment.flags (omega (arith, long)) (no_flags list) (is.run.covered segment.base (omega arith) (omega (arith, long))) is.run.whole in
+    let flags : segment.flags ≡ 0 = run_flags (map grant_of list) segment.base segment.size segment.flags
+    (omega (arith, long)) (no_flags list) (is.run.covered segment.base (omega arith) (omega (arith, long))) is.run.whole
+    in
     let own : is_own segment ≡ true = ap (λ n. n % 2 == 0) flags in
-    ap (λ (b : Bool). cond b (segment ∷ filter is_own segments) (filter is_own segments)) own ∙ ap (λ (rest : List Segment). segment ∷ rest) (all_own list words segments are.1)
+    ap (λ (b : Bool). cond b (segment ∷ filter is_own segments) (filter is_own segments)) own
+    ∙ ap (λ (rest : List Segment). segment ∷ rest) (all_own list words segments are.1)
 
 -- ---- no region is left
 
@@ -124,12 +129,15 @@ module _ (heap new : Dlmalloc PagedSystem) (sound : IsSound regions word heap) (
   laid_reset = record {
     has = subst (λ (list : List Region). HaveRegions (heap_state new).segments (map grant_of list)) (sym none_left) tt;
     lives = λ number live is. absurd (no_live (length blocks) number live is);
-    used = λ extent used there. absurd (let gone : extent_at extent.at (extents_in (fresh_heap heap.granularity heap.rate)) ≡ Some extent = subst (λ (h : HeapState). extent_at extent.at (extents_in h) ≡ Some extent) state there in cc);
+    used = λ extent used there. absurd (let gone : extent_at extent.at
+        (extents_in (fresh_heap heap.granularity heap.rate)) ≡ Some extent =
+        subst (λ (h : HeapState). extent_at extent.at (extents_in h) ≡ Some extent) state there in cc);
     distinct = λ i j a b is_a is_b differ. absurd (no_live (length blocks) i a is_a);
   }
 
   short : AreShortened (paged heap.system) (paged new.system) None
-  short = follows_whole (paged heap.system) (paged new.system) (releases (filter is_own (heap_state heap).segments)) heap.system.kept (whole_releases (filter is_own (heap_state heap).segments)) out.followed
+  short = follows_whole (paged heap.system) (paged new.system) (releases (filter is_own (heap_state heap).segments))
+      heap.system.kept (whole_releases (filter is_own (heap_state heap).segments)) out.followed
 
   -- whole segments cut no slot
   no_part : (one : ℕ) → None ≡ Some one → IsTrue (meets_any one 512 (paged new.system).regions)
@@ -159,9 +167,11 @@ module _ (heap new : Dlmalloc PagedSystem) (sound : IsSound regions word heap) (
     s_reset = left_state s [] (all_ended s.blocks)
 
     good_reset : IsGood s_reset
-    good_reset = good_cut (record s { blocks = all_ended s.blocks }) [] (good_none s good) cut_all (λ number block is k less. absurd (none_live s.blocks number block is))
+    good_reset = good_cut (record s { blocks = all_ended s.blocks }) [] (good_none s good) cut_all
+        (λ number block is k less. absurd (none_live s.blocks number block is))
         (subst (λ (list : List Region). used_frames (left_state s list (all_ended s.blocks)) ≤ s.frames) none_left
-        (enough_left (seen_of top heap blocks) (paged new.system) s None good stands heap.system.kept.mapped new.system.kept.mapped short no_part (all_ended s.blocks)))
+        (enough_left (seen_of top heap blocks) (paged new.system) s None good stands heap.system.kept.mapped
+        new.system.kept.mapped short no_part (all_ended s.blocks)))
 
     lives_same : blocks' ≡ map (option_map outline) (all_ended s.blocks)
     lives_same = ap none_live_of (ap length stands.blocks ∙ length_outline s.blocks) ∙ ended_lives s.blocks
@@ -170,8 +180,10 @@ module _ (heap new : Dlmalloc PagedSystem) (sound : IsSound regions word heap) (
     stands_reset =
         let same : new.granularity ≡ heap.granularity = ap (λ (h : HeapState). h.granularity) state in
         subst (λ (list : List Region). Stands (seen_of top new blocks') (left_state s list (all_ended s.blocks))) none_left
-        (subst (λ g. Stands (record (seen_of top new blocks') { granularity = g }) (left_state s (heap_regions (paged new.system).regions) (all_ended s.blocks))) (sym same)
-        (stands_left (seen_of top heap blocks) (paged new.system) s None good stands heap.system.kept.mapped new.system.kept.mapped short no_part blocks' (all_ended s.blocks) lives_same
+        (subst (λ g. Stands (record (seen_of top new blocks') { granularity = g })
+        (left_state s (heap_regions (paged new.system).regions) (all_ended s.blocks))) (sym same)
+        (stands_left (seen_of top heap blocks) (paged new.system) s None good stands heap.system.kept.mapped
+        new.system.kept.mapped short no_part blocks' (all_ended s.blocks) lives_same
         (holds_ended_all (reached (paged new.system).words (paged new.system).root) s.blocks)))
 
     -- as many frames are free as before and those of the regions
@@ -184,20 +196,38 @@ module _ (heap new : Dlmalloc PagedSystem) (sound : IsSound regions word heap) (
 
     -- where none are, there was no region
     was_empty : total_pages s.heap ≡ 0 → [] ≡ s.heap
-    was_empty none = none_gone s.heap [] (all_more (IsHeapRegion s) (λ region. 0 < region.pages) (λ region whole. whole.0.1.some) s.heap good.heap) cut_all (omega (arith, none))
+    was_empty none = none_gone s.heap [] (all_more (IsHeapRegion s) (λ region. 0 < region.pages)
+        (λ region whole. whole.0.1.some) s.heap good.heap) cut_all (omega (arith, none))
 
     -- the regions are listed where frames were given back
     pub step_reset : (frames : ℕ) (answered : Option (List Region)) → frames ≡ free_count (paged new.system).free - free_count (paged heap.system).free →
         (frames ≡ 0 → answered ≡ None) → (frames ≢ 0 → answered ≡ Some []) →
         IsStep s Reset (record { reply = Released (frames * 4096); regions = answered; large = None }) (seen_of top new blocks')
     step_reset frames answered is none some = elim (same_or_other frames 0) [
-      | inl same ↦ subst (λ (a : Option (List Region)). IsStep s Reset (record { reply = Released (frames * 4096); regions = a; large = None }) (seen_of top new blocks')) (sym (none same)) (record {
+      | inl same ↦ subst (λ (a : Option (List Region)). IsStep s Reset (record {
+        reply = Released (frames * 4096);
+        regions =
+            a;
+        large = None;
+      }) (seen_of top new blocks')) (sym (none same)) (record {
         allowed = record { reply = (refl, (sym (empty same), bytes, small)); listed = tt; large = tt };
         good = good_none s good;
-        stands = subst (Stands (seen_of top new blocks')) (ap (λ (list : List Region). left_state s list (all_ended s.blocks)) (empty same) ∙ settled_same (record s { blocks = all_ended s.blocks }) (good_none s good).slots) stands_reset;
+        stands = subst (Stands (seen_of top new blocks')) (ap (λ (list : List Region).
+            left_state s list (all_ended s.blocks)) (empty same) ∙ settled_same (record s { blocks = all_ended s.blocks })
+            (good_none s good).slots) stands_reset;
       })
-      | inr more ↦ subst (λ (a : Option (List Region)). IsStep s Reset (record { reply = Released (frames * 4096); regions = a; large = None }) (seen_of top new blocks')) (sym (some more)) (record {
-        allowed = record { reply = (refl, (refl, bytes, small)); listed = λ e. more (let g = gained in let none = ap total_pages e in omega (arith, is, g, none)); large = tt };
+      | inr more ↦ subst (λ (a : Option (List Region)). IsStep s Reset (record {
+        reply = Released (frames * 4096);
+        regions =
+            a;
+        large = None;
+      }) (seen_of top new blocks')) (sym (some more)) (record {
+        allowed = record {
+          reply = (refl, (refl, bytes, small));
+          listed =
+              λ e. more (let g = gained in let none = ap total_pages e in omega (arith, is, g, none));
+          large = tt;
+        };
         good = good_reset;
         stands = stands_reset;
       })

@@ -19,7 +19,8 @@ abbrev pub is_own : ℕ → Region → Bool
 is_own address region = region.heap && is_within address region
 
 -- an address before regions is in none
-none_before : (from to address : ℕ) (regions : List Region) → AreLaid from regions to → address < from → AllByRecursion (λ region. region.heap ≡ false → is_within address region ≡ false) regions
+none_before : (from to address : ℕ) (regions : List Region) → AreLaid from regions to → address < from →
+    AllByRecursion (λ region. region.heap ≡ false → is_within address region ≡ false) regions
 none_before from to address [] laid before = tt
 none_before from to address (region ∷ rest) laid before = (
   λ user. (let low = laid.0 in grind (arith, nat_tests)),
@@ -48,12 +49,14 @@ pub own_granted : (address : ℕ) (regions : List Region) → is_granted (heap_g
 own_granted address [] = refl
 own_granted address (region ∷ rest) = go region.heap refl (own_granted address rest)
   where
-    go : (heap : Bool) → region.heap ≡ heap → is_granted (heap_grants rest) address ≡ list_any (is_own address) rest → is_granted (heap_grants (region ∷ rest)) address ≡ list_any (is_own address) (region ∷ rest)
+    go : (heap : Bool) → region.heap ≡ heap → is_granted (heap_grants rest) address ≡ list_any (is_own address) rest →
+        is_granted (heap_grants (region ∷ rest)) address ≡ list_any (is_own address) (region ∷ rest)
     go true own later = rw own (ap (λ b. is_within address region || b) later)
     go false user later = rw user later
 
 -- they lie in the window
-pub own_bounds : (base pages address : ℕ) (regions : List Region) → AllByRecursion (IsRegion base pages) regions → list_any (is_own address) regions ≡ true → (base ≤ address) × (address < base + 4096 * pages)
+pub own_bounds : (base pages address : ℕ) (regions : List Region) → AllByRecursion (IsRegion base pages) regions →
+    list_any (is_own address) regions ≡ true → (base ≤ address) × (address < base + 4096 * pages)
 own_bounds base pages address [] all is = cc
 own_bounds base pages address (region ∷ rest) all is = elim (or_cases (is_own address region) (list_any (is_own address) rest) is) [
   | inl here ↦ (
@@ -71,9 +74,12 @@ pub run_boundary : (start high last : ℕ) (regions : List Region) → start < h
 run_boundary start high last [] some is whole users = tt
 run_boundary start high last (region ∷ rest) some is whole users = go region.heap refl (λ all. run_boundary start high last rest some is all users.1)
   where
-    go : (heap : Bool) → region.heap ≡ heap → (AllByRecursion (λ grant. IsApart start high grant ⊎ IsWithin start high grant) (heap_grants rest) → IsBoundary high rest) → IsBoundary high (region ∷ rest)
+    go : (heap : Bool) → region.heap ≡ heap → (AllByRecursion (λ grant.
+        IsApart start high grant ⊎ IsWithin start high grant) (heap_grants rest) → IsBoundary high rest) →
+        IsBoundary high (region ∷ rest)
     go true own others =
-        let all = subst (λ (b : Bool). AllByRecursion (λ grant. IsApart start high grant ⊎ IsWithin start high grant) (map grant_of (cond b (region ∷ heap_regions rest) (heap_regions rest)))) own whole in (
+        let all = subst (λ (b : Bool). AllByRecursion (λ grant. IsApart start high grant ⊎ IsWithin start high grant)
+        (map grant_of (cond b (region ∷ heap_regions rest) (heap_regions rest)))) own whole in (
           elim all.0 [
             | inl (inl below) ↦ inl (omega arith)
             | inl (inr above) ↦ inr above
@@ -82,7 +88,8 @@ run_boundary start high last (region ∷ rest) some is whole users = go region.h
           others all.1,
         )
     go false user others =
-        let all = subst (λ (b : Bool). AllByRecursion (λ grant. IsApart start high grant ⊎ IsWithin start high grant) (map grant_of (cond b (region ∷ heap_regions rest) (heap_regions rest)))) user whole in
+        let all = subst (λ (b : Bool). AllByRecursion (λ grant. IsApart start high grant ⊎ IsWithin start high grant)
+        (map grant_of (cond b (region ∷ heap_regions rest) (heap_regions rest)))) user whole in
         let out : is_within last region ≡ false = users.0 user in (
           elim (cases_lt region.start high) [
             | inr behind ↦ inr behind
@@ -99,13 +106,15 @@ abbrev pub AreBeside : ℕ → ℕ → List Region → Type 0
 AreBeside low high regions = AllByRecursion (λ grant. IsApart low high grant ⊎ IsWithin low high grant) (heap_grants regions)
 
 -- a run begins at a page, and ends at one
-run_from : (low high from to : ℕ) (regions : List Region) → AreLaid from regions to → low < high → AreBeside low high regions → list_any (is_own low) regions ≡ true → low % 4096 ≡ 0
+run_from : (low high from to : ℕ) (regions : List Region) → AreLaid from regions to → low < high →
+    AreBeside low high regions → list_any (is_own low) regions ≡ true → low % 4096 ≡ 0
 run_from low high from to [] laid some whole is = cc
 run_from low high from to (region ∷ rest) laid some whole is = go region.heap refl (run_from low high (end_of region) to rest laid.3 some)
   where
     go : (heap : Bool) → region.heap ≡ heap → (AreBeside low high rest → list_any (is_own low) rest ≡ true → low % 4096 ≡ 0) → low % 4096 ≡ 0
     go true own others =
-        let all = subst (λ (b : Bool). AllByRecursion (λ grant. IsApart low high grant ⊎ IsWithin low high grant) (map grant_of (cond b (region ∷ heap_regions rest) (heap_regions rest)))) own whole in
+        let all = subst (λ (b : Bool). AllByRecursion (λ grant. IsApart low high grant ⊎ IsWithin low high grant)
+        (map grant_of (cond b (region ∷ heap_regions rest) (heap_regions rest)))) own whole in
         let at_page = laid.1 in
         let later : list_any (is_own low) rest ≡ true → low % 4096 ≡ 0 = others all.1 in
         elim all.0 [
@@ -114,17 +123,20 @@ run_from low high from to (region ∷ rest) laid some whole is = go region.heap 
           | inr within ↦ grind (arith, nat_tests)
         ]
     go false user others =
-        let all = subst (λ (b : Bool). AllByRecursion (λ grant. IsApart low high grant ⊎ IsWithin low high grant) (map grant_of (cond b (region ∷ heap_regions rest) (heap_regions rest)))) user whole in
+        let all = subst (λ (b : Bool). AllByRecursion (λ grant. IsApart low high grant ⊎ IsWithin low high grant)
+        (map grant_of (cond b (region ∷ heap_regions rest) (heap_regions rest)))) user whole in
         let later : list_any (is_own low) rest ≡ true → low % 4096 ≡ 0 = others all in
         grind (arith, nat_tests)
 
-run_to : (low high last from to : ℕ) (regions : List Region) → AreLaid from regions to → low ≤ last → last + 1 ≡ high → AreBeside low high regions → list_any (is_own last) regions ≡ true → high % 4096 ≡ 0
+run_to : (low high last from to : ℕ) (regions : List Region) → AreLaid from regions to → low ≤ last → last + 1 ≡ high →
+    AreBeside low high regions → list_any (is_own last) regions ≡ true → high % 4096 ≡ 0
 run_to low high last from to [] laid some next whole is = cc
 run_to low high last from to (region ∷ rest) laid some next whole is = go region.heap refl (run_to low high last (end_of region) to rest laid.3 some next)
   where
     go : (heap : Bool) → region.heap ≡ heap → (AreBeside low high rest → list_any (is_own last) rest ≡ true → high % 4096 ≡ 0) → high % 4096 ≡ 0
     go true own others =
-        let all = subst (λ (b : Bool). AllByRecursion (λ grant. IsApart low high grant ⊎ IsWithin low high grant) (map grant_of (cond b (region ∷ heap_regions rest) (heap_regions rest)))) own whole in
+        let all = subst (λ (b : Bool). AllByRecursion (λ grant. IsApart low high grant ⊎ IsWithin low high grant)
+        (map grant_of (cond b (region ∷ heap_regions rest) (heap_regions rest)))) own whole in
         let at_page = laid.1 in
         let later : list_any (is_own last) rest ≡ true → high % 4096 ≡ 0 = others all.1 in
         elim all.0 [
@@ -135,12 +147,14 @@ run_to low high last from to (region ∷ rest) laid some next whole is = go regi
               grind (arith, nat_tests))
         ]
     go false user others =
-        let all = subst (λ (b : Bool). AllByRecursion (λ grant. IsApart low high grant ⊎ IsWithin low high grant) (map grant_of (cond b (region ∷ heap_regions rest) (heap_regions rest)))) user whole in
+        let all = subst (λ (b : Bool). AllByRecursion (λ grant. IsApart low high grant ⊎ IsWithin low high grant)
+        (map grant_of (cond b (region ∷ heap_regions rest) (heap_regions rest)))) user whole in
         let later : list_any (is_own last) rest ≡ true → high % 4096 ≡ 0 = others all in
         grind (arith, nat_tests)
 
 -- The bytes behind the first `left` of a run are given back.
-module _ (from to at size left : ℕ) (regions : List Region) (laid : AreLaid from regions to) (run : IsRun (heap_grants regions) at (at + size)) (less : left < size) (whole : left % 4096 ≡ 0) where
+module _ (from to at size left : ℕ) (regions : List Region) (laid : AreLaid from regions to)
+    (run : IsRun (heap_grants regions) at (at + size)) (less : left < size) (whole : left % 4096 ≡ 0) where
   -- each byte of the run is in a region of the heap
   pub run_own : (address : ℕ) → at ≤ address → address < at + size → list_any (is_own address) regions ≡ true
   run_own address low high = sym (own_granted address regions) ∙ run.granted address low high
@@ -149,7 +163,8 @@ module _ (from to at size left : ℕ) (regions : List Region) (laid : AreLaid fr
   begins = let some : at < at + size = run.some in run_from at (at + size) from to regions laid some run.whole (run_own at (omega arith) some)
 
   pub ends : (at + size) % 4096 ≡ 0
-  ends = let some : at < at + size = run.some in run_to at (at + size) (at + size - 1) from to regions laid (omega arith) (omega arith) run.whole (run_own (at + size - 1) (omega arith) (omega arith))
+  ends = let some : at < at + size = run.some in run_to at (at + size) (at + size - 1) from to regions laid (omega arith)
+      (omega arith) run.whole (run_own (at + size - 1) (omega arith) (omega arith))
 
   -- they are so many pages
   pub count_is : at + left + 4096 * ((size - left) / 4096) ≡ at + size

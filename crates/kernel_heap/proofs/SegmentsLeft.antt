@@ -30,11 +30,13 @@ abbrev pub HaveAll : List Segment → List Grant → Type 0
 HaveAll segments regions = AllByRecursion (Has segments) regions
 
 -- regions of a paged system have pages
-pub have_all : (from to : ℕ) (list : List Region) → AreLaid from list to → (segments : List Segment) → HaveRegions segments (heap_grants list) → HaveAll segments (heap_grants list)
+pub have_all : (from to : ℕ) (list : List Region) → AreLaid from list to → (segments : List Segment) →
+    HaveRegions segments (heap_grants list) → HaveAll segments (heap_grants list)
 have_all from to [] laid segments have = tt
 have_all from to (first ∷ rest) laid segments have = go first.heap have (have_all (end_of first) to rest laid.3 segments)
   where
-    go : (heap : Bool) → HaveRegions segments (map grant_of (cond heap (first ∷ heap_regions rest) (heap_regions rest))) → (HaveRegions segments (heap_grants rest) → HaveAll segments (heap_grants rest)) →
+    go : (heap : Bool) → HaveRegions segments (map grant_of (cond heap (first ∷ heap_regions rest) (heap_regions rest))) →
+        (HaveRegions segments (heap_grants rest) → HaveAll segments (heap_grants rest)) →
         HaveAll segments (map grant_of (cond heap (first ∷ heap_regions rest) (heap_regions rest)))
     go true all later = (((let some = laid.2 in omega (arith, some)), all.0), later all.1)
     go false all later = later all
@@ -47,7 +49,8 @@ front_some place region some = grind (arith, nat_tests)
 front_has : (place : ℕ) (region : Grant) (segment : Segment) → has_region region segment ≡ true → has_region (up_to place region) segment ≡ true
 front_has place region segment is = let bounds = has_bounds region segment is in grind (arith, nat_tests, bounds.0, bounds.1)
 
-front_any : (place : ℕ) (region : Grant) (segments : List Segment) → list_any (has_region region) segments ≡ true → list_any (has_region (up_to place region)) segments ≡ true
+front_any : (place : ℕ) (region : Grant) (segments : List Segment) → list_any (has_region region) segments ≡ true →
+    list_any (has_region (up_to place region)) segments ≡ true
 front_any place region [] is = is
 front_any place region (segment ∷ segments) is = elim (or_cases (has_region region segment) (list_any (has_region region) segments) is) [
   | inl here ↦ or_left (has_region (up_to place region) segment) (list_any (has_region (up_to place region)) segments) (front_has place region segment here)
@@ -56,11 +59,14 @@ front_any place region (segment ∷ segments) is = elim (or_cases (has_region re
 
 -- ---- one segment goes, and then others
 
-one_left : (gone : Segment) (others : List Segment) (region : Grant) → Has (gone ∷ others) region → begins_in gone.base (gone.base + gone.size) region ≡ false → Has others (up_to gone.base region)
+one_left : (gone : Segment) (others : List Segment) (region : Grant) → Has (gone ∷ others) region →
+    begins_in gone.base (gone.base + gone.size) region ≡ false → Has others (up_to gone.base region)
 one_left gone others region is out = (
   front_some gone.base region is.0,
   elim (or_cases (has_region region gone) (list_any (has_region region) others) is.1) [
-    | inl here ↦ absurd (let bounds = has_bounds region gone here in let some = is.0 in let there : begins_in gone.base (gone.base + gone.size) region ≡ true = grind (arith, nat_tests, bounds.0, bounds.1) in cc)
+    | inl here ↦ absurd (let bounds = has_bounds region gone here in let some = is.0 in
+        let there : begins_in gone.base (gone.base + gone.size) region ≡ true = grind (arith, nat_tests, bounds.0, bounds.1)
+        in cc)
     | inr later ↦ front_any gone.base region others later
   ],
 )
@@ -68,14 +74,16 @@ one_left gone others region is out = (
 pub have_without : (gone others : List Segment) (regions : List Grant) → HaveAll (gone ++ others) regions → HaveAll others (regions_without gone regions)
 have_without [] others regions have = have
 have_without (segment ∷ gone) others regions have = have_without gone others (without_run segment.base (segment.base + segment.size) regions)
-    (all_without segment.base (segment.base + segment.size) (Has (segment ∷ (gone ++ others))) (Has (gone ++ others)) (one_left segment (gone ++ others)) regions have)
+    (all_without segment.base (segment.base + segment.size) (Has (segment ∷ (gone ++ others))) (Has (gone ++ others))
+    (one_left segment (gone ++ others)) regions have)
 
 any_behind : (test : Segment → Bool) (first second : List Segment) → list_any test second ≡ true → list_any test (first ++ second) ≡ true
 any_behind test [] second there = there
 any_behind test (segment ∷ first) second there = or_right (test segment) (list_any test (first ++ second)) (any_behind test first second there)
 
 -- with one segment more behind the head it is there still
-any_more : (test : Segment → Bool) (head segment : Segment) (kept first : List Segment) → list_any test (first ++ (head ∷ kept)) ≡ true → list_any test (first ++ (head ∷ (segment ∷ kept))) ≡ true
+any_more : (test : Segment → Bool) (head segment : Segment) (kept first : List Segment) →
+    list_any test (first ++ (head ∷ kept)) ≡ true → list_any test (first ++ (head ∷ (segment ∷ kept))) ≡ true
 any_more test head segment kept [] any = elim (or_cases (test head) (list_any test kept) any) [
   | inl here ↦ or_left (test head) (test segment || list_any test kept) here
   | inr later ↦ or_right (test head) (test segment || list_any test kept) (or_right (test segment) (list_any test kept) later)
@@ -101,14 +109,16 @@ parted_later test leaves head (segment ∷ rest) there = by (leaves segment) ref
       | inr later ↦ or_right (test segment) (list_any test (filter leaves rest ++ (head ∷ kept))) (rest_there later)
     ]
     by false is rest_there = elim (or_cases (test segment) (list_any test rest) there) [
-      | inl here ↦ any_behind test (filter leaves rest) (head ∷ (segment ∷ kept)) (or_right (test head) (test segment || list_any test kept) (or_left (test segment) (list_any test kept) here))
+      | inl here ↦ any_behind test (filter leaves rest) (head ∷ (segment ∷ kept))
+          (or_right (test head) (test segment || list_any test kept) (or_left (test segment) (list_any test kept) here))
       | inr later ↦ any_more test head segment kept (filter leaves rest) (rest_there later)
     ]
 
 any_parted : (test : Segment → Bool) (leaves : Segment → Bool) (head : Segment) (segments : List Segment) → list_any test (head ∷ segments) ≡ true →
     list_any test (filter leaves segments ++ (head ∷ filter (λ segment. not (leaves segment)) segments)) ≡ true
 any_parted test leaves head segments is = elim (or_cases (test head) (list_any test segments) is) [
-  | inl here ↦ any_behind test (filter leaves segments) (head ∷ filter (λ segment. not (leaves segment)) segments) (or_left (test head) (list_any test (filter (λ segment. not (leaves segment)) segments)) here)
+  | inl here ↦ any_behind test (filter leaves segments) (head ∷ filter (λ segment. not (leaves segment)) segments)
+      (or_left (test head) (list_any test (filter (λ segment. not (leaves segment)) segments)) here)
   | inr later ↦ parted_later test leaves head segments later
 ]
 
@@ -118,33 +128,47 @@ have_passed : (frees parts : Bool) (segments : List Segment) (regions : List Gra
     HaveAll (if frees then staying parts segments else segments) (regions_without (taken_back frees (handed_out parts segments)) regions)
 have_passed false parts segments regions have = have
 have_passed true parts [] regions have = have
-have_passed true parts (head ∷ segments) regions have = have_without (filter (may_leave parts) segments) (head ∷ filter (λ segment. not (may_leave parts segment)) segments) regions
+have_passed true parts (head ∷ segments) regions have = have_without (filter (may_leave parts) segments)
+    (head ∷ filter (λ segment. not (may_leave parts segment)) segments) regions
     (all_more (Has (head ∷ segments)) (Has (filter (may_leave parts) segments ++ (head ∷ filter (λ segment. not (may_leave parts segment)) segments)))
     (λ region is. (is.0, any_parted (has_region region) (may_leave parts) head segments is.1)) regions have)
 
 -- ---- a cut
 
-cut_left : (less : ℕ) (head : Segment) (rest : List Segment) (region : Grant) → Has (head ∷ rest) region → begins_in (head.base + (head.size - less)) (head.base + head.size) region ≡ false →
+cut_left : (less : ℕ) (head : Segment) (rest : List Segment) (region : Grant) → Has (head ∷ rest) region →
+    begins_in (head.base + (head.size - less)) (head.base + head.size) region ≡ false →
     Has (shortened less head ∷ rest) (up_to (head.base + (head.size - less)) region)
 cut_left less head rest region is out = (
   front_some place region is.0,
   elim (or_cases (has_region region head) (list_any (has_region region) rest) is.1) [
     | inl here ↦ or_left (has_region (up_to place region) (shortened less head)) (list_any (has_region (up_to place region)) rest)
         (let bounds = has_bounds region head here in let some = is.0 in grind (arith, nat_tests, bounds.0, bounds.1))
-    | inr later ↦ or_right (has_region (up_to place region) (shortened less head)) (list_any (has_region (up_to place region)) rest) (front_any place region rest later)
+    | inr later ↦ or_right (has_region (up_to place region) (shortened less head))
+        (list_any (has_region (up_to place region)) rest) (front_any place region rest later)
   ],
 )
   where
     place : ℕ
     place = head.base + (head.size - less)
 
-have_cut : (less : ℕ) (heap : HeapState) (regions : List Grant) → HaveAll heap.segments regions → HaveAll (cut_top less heap).segments (without_end less heap.segments regions)
+have_cut : (less : ℕ) (heap : HeapState) (regions : List Grant) → HaveAll heap.segments regions →
+    HaveAll (cut_top less heap).segments (without_end less heap.segments regions)
 have_cut less heap regions have = go heap.segments have
   where
     go : (segments : List Segment) → HaveAll segments regions →
-        HaveAll (cut_top less (record { segments = segments; victim = heap.victim; granularity = heap.granularity; rate = heap.rate; countdown = heap.countdown; trim_check = heap.trim_check })).segments (without_end less segments regions)
+        HaveAll (cut_top less (record {
+          segments = segments;
+          victim = heap.victim;
+          granularity = heap.granularity;
+          rate =
+              heap.rate;
+          countdown = heap.countdown;
+          trim_check = heap.trim_check;
+        })).segments
+        (without_end less segments regions)
     go [] all = all
-    go (head ∷ rest) all = all_without (head.base + (head.size - less)) (head.base + head.size) (Has (head ∷ rest)) (Has (shortened less head ∷ rest)) (cut_left less head rest) regions all
+    go (head ∷ rest) all = all_without (head.base + (head.size - less)) (head.base + head.size) (Has (head ∷ rest))
+        (Has (shortened less head ∷ rest)) (cut_left less head rest) regions all
 
 -- ---- what a free does further
 
@@ -155,7 +179,8 @@ have_trimmed frees parts unit pad heap regions have = made (is_trimmed pad heap)
     after : HeapState
     after = after_cut parts unit pad heap
 
-    cut : (b : Bool) → HaveAll (if b then cut_top (cut_of heap pad) heap else heap).segments (if b then without_end (cut_of heap pad) heap.segments regions else regions)
+    cut : (b : Bool) → HaveAll (if b then cut_top (cut_of heap pad) heap else heap).segments
+        (if b then without_end (cut_of heap pad) heap.segments regions else regions)
     cut true = have_cut (cut_of heap pad) heap regions have
     cut false = have
 
@@ -164,28 +189,44 @@ have_trimmed frees parts unit pad heap regions have = made (is_trimmed pad heap)
     handed true = by heap.segments
       where
         by : (segments : List Segment) →
-            handed_out parts (cut_top (cut_of heap pad) (record { segments = segments; victim = heap.victim; granularity = heap.granularity; rate = heap.rate; countdown = heap.countdown; trim_check = heap.trim_check })).segments ≡ handed_out parts segments
+            handed_out parts (cut_top (cut_of heap pad) (record {
+              segments = segments;
+              victim = heap.victim;
+              granularity =
+                  heap.granularity;
+              rate = heap.rate;
+              countdown = heap.countdown;
+              trim_check =
+                  heap.trim_check;
+            })).segments ≡ handed_out parts segments
         by [] = refl
         by (head ∷ rest) = refl
     handed false = refl
 
-    whole : HaveAll (passed frees parts (after_cut parts unit pad heap)).segments (regions_without (taken_back frees (handed_out parts heap.segments)) (regions_cut parts unit pad heap regions))
-    whole = subst (λ (gone : List Segment). HaveAll (passed frees parts (after_cut parts unit pad heap)).segments (regions_without (taken_back frees gone) (regions_cut parts unit pad heap regions))) (handed (is_cut parts unit pad heap))
+    whole : HaveAll (passed frees parts (after_cut parts unit pad heap)).segments
+        (regions_without (taken_back frees (handed_out parts heap.segments)) (regions_cut parts unit pad heap regions))
+    whole = subst (λ (gone : List Segment). HaveAll (passed frees parts (after_cut parts unit pad heap)).segments
+        (regions_without (taken_back frees gone) (regions_cut parts unit pad heap regions)))
+        (handed (is_cut parts unit pad heap))
         (have_passed frees parts (after_cut parts unit pad heap).segments (regions_cut parts unit pad heap regions) (cut (is_cut parts unit pad heap)))
 
-    up : (b : Bool) (left : HeapState) (list : List Grant) → HaveAll left.segments list → HaveAll (if b then record left { trim_check = 2 ^ 64 - 1 } else left).segments list
+    up : (b : Bool) (left : HeapState) (list : List Grant) → HaveAll left.segments list →
+        HaveAll (if b then record left { trim_check = 2 ^ 64 - 1 } else left).segments list
     up true left list all = all
     up false left list all = all
 
-    gave : (b : Bool) → HaveAll (if b then passed frees parts (after_cut parts unit pad heap) else given_up (passed frees parts (after_cut parts unit pad heap))).segments
+    gave : (b : Bool) → HaveAll (if b then passed frees parts (after_cut parts unit pad heap) else given_up
+        (passed frees parts (after_cut parts unit pad heap))).segments
         (regions_without (taken_back frees (handed_out parts heap.segments)) (regions_cut parts unit pad heap regions))
     gave true = whole
     gave false =
         let left = passed frees parts (after_cut parts unit pad heap) in
-        up (nat_lt left.trim_check (top_bytes left)) left (regions_without (taken_back frees (handed_out parts heap.segments)) (regions_cut parts unit pad heap regions)) whole
+        up (nat_lt left.trim_check (top_bytes left)) left (regions_without
+        (taken_back frees (handed_out parts heap.segments)) (regions_cut parts unit pad heap regions)) whole
 
     made : (b : Bool) →
-        HaveAll (if b then (if gives_back frees parts unit pad heap then passed frees parts (after_cut parts unit pad heap) else given_up (passed frees parts (after_cut parts unit pad heap))) else heap).segments
+        HaveAll (if b then (if gives_back frees parts unit pad heap then passed frees parts (after_cut parts unit pad heap)
+        else given_up (passed frees parts (after_cut parts unit pad heap))) else heap).segments
         (if b then regions_without (taken_back frees (handed_out parts heap.segments)) (regions_cut parts unit pad heap regions) else regions)
     made true = gave (gives_back frees parts unit pad heap)
     made false = have
@@ -213,7 +254,9 @@ have_after frees parts unit heap at regions have = go (is_above_check heap at)
 pub have_freed : (frees parts : Bool) (unit : ℕ) (heap : HeapState) (at : ℕ) (regions : List Grant) → HaveAll heap.segments regions →
     HaveRegions (after_free frees parts unit (freed heap at) at).segments (regions_after frees parts unit (freed heap at) at regions)
 have_freed frees parts unit heap at regions have =
-    all_more (Has (after_free frees parts unit (freed heap at) at).segments) (λ region. IsTrue (list_any (has_region region) (after_free frees parts unit (freed heap at) at).segments)) (λ region is. is.1)
+    all_more (Has (after_free frees parts unit (freed heap at) at).segments)
+    (λ region. IsTrue (list_any (has_region region) (after_free frees parts unit (freed heap at) at).segments))
+    (λ region is. is.1)
     (regions_after frees parts unit (freed heap at) at regions)
     (have_after frees parts unit (freed heap at) at regions (both regions have))
   where

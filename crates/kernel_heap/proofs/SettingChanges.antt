@@ -25,7 +25,8 @@ module _ (heap new : Dlmalloc PagedSystem) (blocks : List (Option Live)) (system
       has = subst (λ (p : PagedSystem). HaveRegions (heap_state new).segments (regions p)) (sym system)
           (subst (λ (segments : List Segment). HaveRegions segments (regions heap.system)) (sym same) laid.has);
       lives = λ number live is. (let was = laid.lives number live is in record {
-        block = block_moved (heap_state heap) live.address live.size was.block (heap_state new) (extents_same was.block.extent.at ∙ block_there (heap_state heap) live.address live.size was.block);
+        block = block_moved (heap_state heap) live.address live.size was.block (heap_state new)
+            (extents_same was.block.extent.at ∙ block_there (heap_state heap) live.address live.size was.block);
         align = was.align;
       });
       used = λ extent used there. laid.used extent used (sym (extents_same extent.at) ∙ there);

@@ -23,9 +23,13 @@ module _ (old new : Parts) (call : Call) where
   -- a numbered heap that served a call over the root in CR3
   pub stepped : (result : Result Answer AllocError) → new.cpu.cr3 ≡ old.cpu.cr3 → IsIntact regions word new.heap.heap →
       ((top : ℕ) (s : State) → IsGood s → Stands (seen_with top old.heap) s → IfOk result (λ answer. IsStep s call answer (seen_with top new.heap))) →
-      ((top : ℕ) (s : State) → IsGood s → Stands (seen_with top old.heap) s → IfOk result (λ answer. AreRunsUsedFor (paged (system_of old.heap)) (paged (system_of new.heap)) (lasting_pages s call answer))) →
-      IfOk result (λ answer. HeapMoves old.heap call answer.reply answer.large new.heap) → IfOk result (λ answer. IsSeenAsBefore answer.reply old.heap new.heap) →
-      IfOk result (λ answer. new.cpu ≡ cpu_after old.cpu call answer.reply) → IfOk result (λ answer. IsReachedByte (paged (system_of new.heap)) call answer.reply) →
+      ((top : ℕ) (s : State) → IsGood s → Stands (seen_with top old.heap) s →
+      IfOk result (λ answer. AreRunsUsedFor (paged (system_of old.heap)) (paged (system_of new.heap))
+      (lasting_pages s call answer))) →
+      IfOk result (λ answer. HeapMoves old.heap call answer.reply answer.large new.heap) →
+      IfOk result (λ answer. IsSeenAsBefore answer.reply old.heap new.heap) →
+      IfOk result (λ answer. new.cpu ≡ cpu_after old.cpu call answer.reply) →
+      IfOk result (λ answer. IsReachedByte (paged (system_of new.heap)) call answer.reply) →
       IfOk result (λ answer. HasStepped old call answer new)
   stepped (Ok answer) root intact allowed runs heap kept registers reached =
       let top : root_of new.cpu.cr3 ≡ root_of old.cpu.cr3 = ap root_of root in
@@ -41,7 +45,9 @@ module _ (old new : Parts) (call : Call) where
   stepped (Err error) root intact allowed runs heap kept registers reached = tt
 
   -- and one that could not
-  pub not_stepped : (result : Result Answer AllocError) → new.cpu ≡ old.cpu → ((top : ℕ) → OnErr result (seen_with top new.heap ≡ seen_with top old.heap)) → OnErr result (IsStill old.heap.heap new.heap.heap) →
+  pub not_stepped : (result : Result Answer AllocError) → new.cpu ≡ old.cpu →
+      ((top : ℕ) → OnErr result (seen_with top new.heap ≡ seen_with top old.heap)) →
+      OnErr result (IsStill old.heap.heap new.heap.heap) →
       OnErr result (HasNotStepped old new)
   not_stepped (Ok answer) registers same still = tt
   not_stepped (Err error) registers same still = record {

@@ -27,10 +27,12 @@ pub granted_canonical : (p : Paged) (address : ℕ) → IsPagedKept p → IsTrue
 granted_canonical p address kept granted =
     within_canonical p.base p.pages address p.regions kept.mapped.regions (heap_any (is_within address) p.regions (granted_within p address granted))
 
-pub granted_mapped : (p : Paged) (address a : ℕ) → IsPagedKept p → IsTrue (is_granted (grants_of p) address) → a ≡ address → IsSome (walk_of p.words p.root (a / 4096))
+pub granted_mapped : (p : Paged) (address a : ℕ) → IsPagedKept p → IsTrue (is_granted (grants_of p) address) → a ≡ address →
+    IsSome (walk_of p.words p.root (a / 4096))
 granted_mapped p address a kept granted same =
     subst (λ b. IsSome (walk_of p.words p.root (b / 4096))) (sym same)
-    (mapped_at p address kept.mapped (granted_canonical p address kept granted) (kind_some address p.regions (heap_any (is_within address) p.regions (granted_within p address granted))))
+    (mapped_at p address kept.mapped (granted_canonical p address kept granted)
+    (kind_some address p.regions (heap_any (is_within address) p.regions (granted_within p address granted))))
 
 pub mapped_word : (p : Paged) (at : ℕ) → IsPagedKept p → IsWordOf (grants_of p) at → IsMappedWord p at
 mapped_word p at kept word = record {
@@ -48,7 +50,8 @@ kept_still old new kept still = subst IsPagedKept (sym still.others) (record {
 })
 
 -- the word at an address whose page is mapped
-pub word_at_place : (p : Paged) (at : ℕ) (place : Place) → walk_of p.words p.root (at / 4096) ≡ Some place → word_reached p at ≡ word_at p.words place.frame (at % 4096 / 8)
+pub word_at_place : (p : Paged) (at : ℕ) (place : Place) → walk_of p.words p.root (at / 4096) ≡ Some place →
+    word_reached p at ≡ word_at p.words place.frame (at % 4096 / 8)
 word_at_place p at place is = ap (word_in p.words at) is
 
 -- the place of a page that is mapped
@@ -60,12 +63,14 @@ place_at p at some = go (walk_of p.words p.root (at / 4096)) some
     go (Some place) some = (place, refl)
 
 -- words of one page of the regions were put, and no other: that page is no table
-pub still_beside : (p : Paged) (words : List ℕ) (at : ℕ) (place : Place) → IsPagedKept p → walk_of p.words p.root (at / 4096) ≡ Some place → length words ≡ length p.words →
+pub still_beside : (p : Paged) (words : List ℕ) (at : ℕ) (place : Place) → IsPagedKept p →
+    walk_of p.words p.root (at / 4096) ≡ Some place → length words ≡ length p.words →
     ((free : List Bool) → IsTree p.words p.root free → (level number : ℕ) → level ≤ 4 → reach words p.root level number ≡ reach p.words p.root level number) →
     ((free : List Bool) → IsTree p.words p.root free → (number : ℕ) → large_of words p.root number ≡ large_of p.words p.root number) →
     ((free : List Bool) → IsTree p.words p.root free → IsTree words p.root free) →
     ((frame index : ℕ) → index < 512 → frame ≢ place.frame → word_at words frame index ≡ word_at p.words frame index) →
-    ((address : ℕ) → IsTrue (is_of_user p.regions address) → reached words p.root address ≡ reached p.words p.root address) → OnlyHeapBytesChange p (record p { words = words })
+    ((address : ℕ) → IsTrue (is_of_user p.regions address) → reached words p.root address ≡ reached p.words p.root
+    address) → OnlyHeapBytesChange p (record p { words = words })
 unfolding walk_of
 still_beside p words at place kept found size walks larges tree others users = record {
   others = refl;
@@ -77,35 +82,44 @@ still_beside p words at place kept found size walks larges tree others users = r
   users = users;
 }
   where
-    tables : (level number index : ℕ) (met : Place) → level < 4 → index < 512 → reach p.words p.root level number ≡ Some met → word_at words met.frame index ≡ word_at p.words met.frame index
+    tables : (level number index : ℕ) (met : Place) → level < 4 → index < 512 →
+        reach p.words p.root level number ≡ Some met → word_at words met.frame index ≡ word_at p.words met.frame index
     tables level number index met low small is =
-        others met.frame index small (λ same. (let both = kept.mapped.tree.distinct level number 4 (at / 4096 % 2 ^ 36) met place (omega arith) (omega arith) (λ _ _. refl) is found same in omega (arith, both.0)))
+        others met.frame index small (λ same. (let both = kept.mapped.tree.distinct level number 4 (at / 4096 % 2 ^ 36) met
+        place (omega arith) (omega arith) (λ _ _. refl) is found same in omega (arith, both.0)))
 
 -- A word was stored in a page of the regions, at the address that a is.
 module _ (p : Paged) (words : List ℕ) (at value a : ℕ)
     (kept : IsPagedKept p) (word : IsWordOf (grants_of p) at) (at_is : a ≡ at)
     (size : length words ≡ length p.words)
     (set : IfSome (walk_of p.words p.root (a / 4096)) (λ place. words ≡ slice_set p.words (512 * place.frame + a % 4096 / 8) value))
-    (walks : (free : List Bool) → IsTree p.words p.root free → (level number : ℕ) → level ≤ 4 → reach words p.root level number ≡ reach p.words p.root level number)
+    (walks : (free : List Bool) → IsTree p.words p.root free → (level number : ℕ) → level ≤ 4 →
+    reach words p.root level number ≡ reach p.words p.root level number)
     (larges : (free : List Bool) → IsTree p.words p.root free → (number : ℕ) → large_of words p.root number ≡ large_of p.words p.root number)
     (tree : (free : List Bool) → IsTree p.words p.root free → IsTree words p.root free)
-    (stored : (free : List Bool) → IsTree p.words p.root free → IfSome (walk_of p.words p.root (a / 4096)) (λ place. word_at words place.frame (a % 4096 / 8) ≡ value))
+    (stored : (free : List Bool) → IsTree p.words p.root free → IfSome (walk_of p.words p.root (a / 4096))
+    (λ place. word_at words place.frame (a % 4096 / 8) ≡ value))
     (others : (free : List Bool) → IsTree p.words p.root free → (other : ℕ) → IsTrue (is_canonical other) → (other / 8 ≡ a / 8 → ⊥) →
     IfSome (walk_of p.words p.root (other / 4096)) (λ place. word_at words place.frame (other % 4096 / 8) ≡ word_at p.words place.frame (other % 4096 / 8)))
-    (bytes : (free : List Bool) → IsTree p.words p.root free → (other : ℕ) → IsTrue (is_canonical other) → (other / 8 ≡ a / 8 → ⊥) → reached words p.root other ≡ reached p.words p.root other) where
+    (bytes : (free : List Bool) → IsTree p.words p.root free → (other : ℕ) → IsTrue (is_canonical other) →
+    (other / 8 ≡ a / 8 → ⊥) → reached words p.root other ≡ reached p.words p.root other) where
   tree_is : IsTree p.words p.root p.free
   tree_is = kept.mapped.tree
 
   pub still_stored : OnlyHeapBytesChange p (record p { words = words })
   still_stored =
       let place = place_at p a (granted_mapped p at a kept word.granted at_is) in
-      let is_set : words ≡ slice_set p.words (512 * place.0.frame + a % 4096 / 8) value = subst (λ o. IfSome o (λ q. words ≡ slice_set p.words (512 * q.frame + a % 4096 / 8) value)) place.1 set in
+      let is_set : words ≡ slice_set p.words (512 * place.0.frame + a % 4096 / 8) value =
+      subst (λ o. IfSome o (λ q. words ≡ slice_set p.words (512 * q.frame + a % 4096 / 8) value)) place.1 set in
       still_beside p words a place.0 kept place.1 size walks larges tree
-      (λ frame index small apart. ap (λ ws. word_at ws frame index) is_set ∙ get_or-set_other p.words (512 * place.0.frame + a % 4096 / 8) (512 * frame + index) value 0 (λ e. apart (omega arith))) users
+      (λ frame index small apart. ap (λ ws. word_at ws frame index) is_set
+      ∙ get_or-set_other p.words (512 * place.0.frame + a % 4096 / 8) (512 * frame + index) value 0
+      (λ e. apart (omega arith))) users
     where
       -- and in that of a page of the heap
       users : (address : ℕ) → IsTrue (is_of_user p.regions address) → reached words p.root address ≡ reached p.words p.root address
-      users address user = bytes p.free tree_is address (within_canonical p.base p.pages address p.regions kept.mapped.regions (user_any address p.regions user))
+      users address user = bytes p.free tree_is address (within_canonical p.base p.pages address p.regions
+          kept.mapped.regions (user_any address p.regions user))
           (λ same. not_of_user 0 (2 ^ 64) at address p.regions kept.laid (omega (arith, same, at_is)) (granted_within p at word.granted) user)
 
   pub kept_stored : IsPagedKept (record p { words = words })

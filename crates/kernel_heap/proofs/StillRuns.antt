@@ -18,10 +18,13 @@ use Rattle.kernel_heap.proofs.HeapRegions.{user_any, within_canonical, not_of_us
 use Rattle.kernel_heap.proofs.Still.{still_beside, granted_within, granted_canonical, granted_mapped, mapped_word, kept_still, word_at_place, place_at}
 
 -- a part of words that stand in the regions stands there still
-pub in_page : (old mid : Paged) (at count done run : ℕ) → OnlyHeapBytesChange old mid → AreWordsOf (grants_of old) at count → done + run ≤ count → 0 < run → (at + 8 * done) % 4096 / 8 + run ≤ 512 → AreInPage mid (at + 8 * done) run
+pub in_page : (old mid : Paged) (at count done run : ℕ) → OnlyHeapBytesChange old mid →
+    AreWordsOf (grants_of old) at count → done + run ≤ count → 0 < run → (at + 8 * done) % 4096 / 8 + run ≤ 512 →
+    AreInPage mid (at + 8 * done) run
 in_page old mid at count done run still words few some page = record {
   words = record {
-    granted = λ k from before. subst (λ (p : Paged). IsTrue (is_granted (grants_of p) k)) (sym still.others) (words.granted k (omega arith) (omega (arith, few, before)));
+    granted = λ k from before. subst (λ (p : Paged). IsTrue (is_granted (grants_of p) k)) (sym still.others)
+        (words.granted k (omega arith) (omega (arith, few, before)));
     aligned = (let whole = words.aligned in omega (arith, whole));
     small = (let small = words.small in omega (arith, small, few));
   };
@@ -46,10 +49,12 @@ same_page a b one two same = grind (arith, nat_tests)
 module _ (p : Paged) (words run : List ℕ) (at : ℕ) (kept : IsPagedKept p) (there : AreInPage p at (length run))
     (size : length words ≡ length p.words)
     (set : IfSome (walk_of p.words p.root (at / 4096)) (λ place. AreWordsWritten p.words words place.frame (at % 4096 / 8) run))
-    (walks : (free : List Bool) → IsTree p.words p.root free → (level number : ℕ) → level ≤ 4 → reach words p.root level number ≡ reach p.words p.root level number)
+    (walks : (free : List Bool) → IsTree p.words p.root free → (level number : ℕ) → level ≤ 4 →
+    reach words p.root level number ≡ reach p.words p.root level number)
     (larges : (free : List Bool) → IsTree p.words p.root free → (number : ℕ) → large_of words p.root number ≡ large_of p.words p.root number)
     (tree : (free : List Bool) → IsTree p.words p.root free → IsTree words p.root free)
-    (bytes : (free : List Bool) → IsTree p.words p.root free → (other : ℕ) → IsTrue (is_canonical other) → (other < at) ⊎ (at + 8 * length run ≤ other) → reached words p.root other ≡ reached p.words p.root other) where
+    (bytes : (free : List Bool) → IsTree p.words p.root free → (other : ℕ) → IsTrue (is_canonical other) →
+    (other < at) ⊎ (at + 8 * length run ≤ other) → reached words p.root other ≡ reached p.words p.root other) where
   tree_is : IsTree p.words p.root p.free
   tree_is = kept.mapped.tree
 
@@ -67,7 +72,8 @@ module _ (p : Paged) (words run : List ℕ) (at : ℕ) (kept : IsPagedKept p) (t
   stays page = walks p.free tree_is 4 (page % 2 ^ 36) (omega arith)
 
   pub still_put : OnlyHeapBytesChange p (record p { words = words })
-  still_put = still_beside p words at place.0 kept place.1 size walks larges tree (λ frame index small apart. written.others frame index small (λ same from to. absurd (apart same))) users
+  still_put = still_beside p words at place.0 kept place.1 size walks larges tree
+      (λ frame index small apart. written.others frame index small (λ same from to. absurd (apart same))) users
     where
       -- and in that of a page of the heap
       beside : (address : ℕ) → IsTrue (is_of_user p.regions address) → (address < at) ⊎ (at + 8 * length run ≤ address)
@@ -83,7 +89,8 @@ module _ (p : Paged) (words run : List ℕ) (at : ℕ) (kept : IsPagedKept p) (t
       ]
 
       users : (address : ℕ) → IsTrue (is_of_user p.regions address) → reached words p.root address ≡ reached p.words p.root address
-      users address user = bytes p.free tree_is address (within_canonical p.base p.pages address p.regions kept.mapped.regions (user_any address p.regions user)) (beside address user)
+      users address user = bytes p.free tree_is address (within_canonical p.base p.pages address p.regions
+          kept.mapped.regions (user_any address p.regions user)) (beside address user)
 
   pub kept_put : IsPagedKept (record p { words = words })
   kept_put = kept_still p (record p { words = words }) kept still_put
@@ -102,13 +109,15 @@ module _ (p : Paged) (words run : List ℕ) (at : ℕ) (kept : IsPagedKept p) (t
       found.frame ≡ place.0.frame → at % 4096 / 8 ≤ other % 4096 / 8 → other % 4096 / 8 < at % 4096 / 8 + length run → ⊥
   unfolding walk_of
   apart other found is beside walked same from to =
-      let both = tree_is.distinct 4 (other / 4096 % 2 ^ 36) 4 (at / 4096 % 2 ^ 36) found place.0 (omega arith) (omega arith) (λ _ _. refl) walked place.1 same in
+      let both = tree_is.distinct 4 (other / 4096 % 2 ^ 36) 4 (at / 4096 % 2 ^ 36) found place.0 (omega arith) (omega arith)
+      (λ _ _. refl) walked place.1 same in
       let page = same_page other at (granted_canonical p other kept is.granted) (granted_canonical p at kept first.granted) both.1 in
       let one : other % 8 ≡ 0 = is.aligned in
       let two : at % 8 ≡ 0 = first.aligned in
       elim beside [ inl low ↦ absurd (omega arith) | inr high ↦ absurd (omega arith) ]
 
-  elsewhere : (other : ℕ) → IsWordOf (grants_of p) other → IsBeside at (length run) other → word_reached (record p { words = words }) other ≡ word_reached p other
+  elsewhere : (other : ℕ) → IsWordOf (grants_of p) other → IsBeside at (length run) other →
+      word_reached (record p { words = words }) other ≡ word_reached p other
   elsewhere other is beside =
       let found = place_at p other (granted_mapped p other other kept is.granted refl) in
       word_at_place (record p { words = words }) other found.0 (stays (other / 4096) ∙ found.1)

@@ -24,10 +24,12 @@ module _ (old new : NumberedHeap) (joins : ℕ) (told : AreTold old new joins) w
   pub step_told : (top : ℕ) (s : State) (call : Call) (answer : Answer) → IsStep s call answer (seen_with top old) → IsStep s call answer (seen_with top new)
   step_told top s call answer step = elim (same_or_other (paged (system_of old)).joins joins) [
     | inl same ↦ subst (λ (n : NumberedHeap). IsStep s call answer (seen_with top n)) (sym (told.none same)) step
-    | inr differ ↦ subst (IsStep s call answer) (sym (seen_is differ)) (record { allowed = step.allowed; good = step.good; stands = stands_taken (seen_with top old) _ [] step.stands })
+    | inr differ ↦ subst (IsStep s call answer) (sym (seen_is differ))
+        (record { allowed = step.allowed; good = step.good; stands = stands_taken (seen_with top old) _ [] step.stands })
   ]
     where
-      seen_is : ((paged (system_of old)).joins ≡ joins → ⊥) → seen_with top new ≡ record (seen_with top old) { paged = record (paged (system_of old)) { slots = [] } }
+      seen_is : ((paged (system_of old)).joins ≡ joins → ⊥) → seen_with top
+          new ≡ record (seen_with top old) { paged = record (paged (system_of old)) { slots = [] } }
       seen_is differ = λ i. record { paged = told.taken differ i; granularity = (told.rest i).granularity; blocks = (told.blocks i).items; top = top }
 
   pub runs_told : (p : Paged) (pages : Option NewPages) → AreRunsUsedFor p (paged (system_of old)) pages → AreRunsUsedFor p (paged (system_of new)) pages
@@ -45,6 +47,10 @@ module _ (old new : NumberedHeap) (joins : ℕ) (told : AreTold old new joins) w
     where
       system_is : paged (system_of new) ≡ record (paged (system_of old)) { slots = (paged (system_of new)).slots }
       system_is = elim (same_or_other (paged (system_of old)).joins joins) [
-        | inl same ↦ subst (λ (n : NumberedHeap). paged (system_of n) ≡ record (paged (system_of old)) { slots = (paged (system_of n)).slots }) (sym (told.none same)) refl
-        | inr differ ↦ told.taken differ ∙ ap (λ (slots : List ℕ). record (paged (system_of old)) { slots = slots }) (sym (ap (λ (p : Paged). p.slots) (told.taken differ)))
+        | inl same ↦ subst (λ (n : NumberedHeap). paged (system_of n) ≡ record (paged (system_of old)) {
+          slots =
+              (paged (system_of n)).slots;
+        }) (sym (told.none same)) refl
+        | inr differ ↦ told.taken differ ∙ ap (λ (slots : List ℕ). record (paged (system_of old)) { slots = slots })
+            (sym (ap (λ (p : Paged). p.slots) (told.taken differ)))
       ]

@@ -62,7 +62,8 @@ module _ (pad : ℕ) (heap : HeapState) where
       go (is_trimmed pad heap) (gives_back true true 4096 pad heap) (is_cut true 4096 pad heap)
       (nat_lt (after (is_cut true 4096 pad heap)).trim_check (top_bytes (after (is_cut true 4096 pad heap))))
     where
-      go : (b c d e : Bool) → (if b then (if c then after d else (if e then record (after d) { trim_check = 2 ^ 64 - 1 } else after d)) else heap).granularity ≡ heap.granularity
+      go : (b c d e : Bool) → (if b then (if c then after d else (if e then record (after d) { trim_check = 2 ^ 64 - 1 }
+          else after d)) else heap).granularity ≡ heap.granularity
       go false c d e = refl
       go true true d e = cut d
       go true false d true = cut d
@@ -70,14 +71,16 @@ module _ (pad : ℕ) (heap : HeapState) where
 
 -- ---- the machine
 
-module _ (heap new : Dlmalloc PagedSystem) (blocks : List (Option Live)) (pad : ℕ) (answer : Bool) (laid : IsLaidOut heap blocks) (out : IsTrimmed regions word follows true true 4096 heap pad answer new) where
+module _ (heap new : Dlmalloc PagedSystem) (blocks : List (Option Live)) (pad : ℕ) (answer : Bool)
+    (laid : IsLaidOut heap blocks) (out : IsTrimmed regions word follows true true 4096 heap pad answer new) where
   -- a live block has its extent still
   live_now : (number : ℕ) (live : Live) → live_at blocks number ≡ Some live → IsLive (heap_state new) live
   live_now number live is =
       let was = laid.lives number live is in
       let b = was.block in
       record {
-        block = block_moved (heap_state heap) live.address live.size b (heap_state new) (out.used.still b.extent b.used (block_there (heap_state heap) live.address live.size b));
+        block = block_moved (heap_state heap) live.address live.size b (heap_state new)
+            (out.used.still b.extent b.used (block_there (heap_state heap) live.address live.size b));
         align = was.align;
       }
 
@@ -85,16 +88,20 @@ module _ (heap new : Dlmalloc PagedSystem) (blocks : List (Option Live)) (pad : 
   laid_trimmed = record {
     has = subst (λ (h : HeapState). HaveRegions h.segments (regions new.system)) (sym out.state)
         (subst (HaveRegions (trimmed true true 4096 pad (heap_state heap)).segments) (sym out.regions_are)
-        (all_more (Has (trimmed true true 4096 pad (heap_state heap)).segments) (λ region. IsTrue (list_any (has_region region) (trimmed true true 4096 pad (heap_state heap)).segments)) (λ region is. is.1)
+        (all_more (Has (trimmed true true 4096 pad (heap_state heap)).segments)
+        (λ region. IsTrue (list_any (has_region region) (trimmed true true 4096 pad (heap_state heap)).segments))
+        (λ region is. is.1)
         (regions_trimmed true true 4096 pad (heap_state heap) (regions heap.system))
-        (have_trimmed true true 4096 pad (heap_state heap) (regions heap.system) (have_all 0 (2 ^ 64) (paged heap.system).regions heap.system.kept.laid (heap_state heap).segments laid.has))));
+        (have_trimmed true true 4096 pad (heap_state heap) (regions heap.system)
+        (have_all 0 (2 ^ 64) (paged heap.system).regions heap.system.kept.laid (heap_state heap).segments laid.has))));
     lives = live_now;
     used = λ extent used there. laid.used extent used (out.used.before extent used there);
     distinct = laid.distinct;
   }
 
   by : IsShortenedBy (paged heap.system) (paged new.system) (trim_releases true true 4096 pad (heap_state heap))
-  by = follows_shortened (paged heap.system) (paged new.system) (trim_releases true true 4096 pad (heap_state heap)) heap.system.kept (trim_gives_back true true 4096 pad (heap_state heap)) out.followed
+  by = follows_shortened (paged heap.system) (paged new.system) (trim_releases true true 4096 pad (heap_state heap))
+      heap.system.kept (trim_gives_back true true 4096 pad (heap_state heap)) out.followed
 
   short : AreShortened (paged heap.system) (paged new.system) by.slot
   short = by.short
@@ -106,7 +113,9 @@ module _ (heap new : Dlmalloc PagedSystem) (blocks : List (Option Live)) (pad : 
   pub few_left : length (paged new.system).regions ≤ length (paged heap.system).regions
   few_left = length_cut (paged heap.system).regions (paged new.system).regions short.cut
 
-  module _ (placed_before : ArePlaced (regions heap.system) (heap_state heap)) (placed_now : ArePlaced (regions new.system) (heap_state new)) {top : ℕ} (s : State) (good : IsGood s) (stands : Stands (seen_of top heap blocks) s) where
+  module _ (placed_before : ArePlaced (regions heap.system) (heap_state heap))
+      (placed_now : ArePlaced (regions new.system) (heap_state new)) {top : ℕ} (s : State) (good : IsGood s)
+      (stands : Stands (seen_of top heap blocks) s) where
     abbrev left : List Region
     left = heap_regions (paged new.system).regions
 
@@ -122,14 +131,17 @@ module _ (heap new : Dlmalloc PagedSystem) (blocks : List (Option Live)) (pad : 
           let b' = (live_now i (outline it) at).block in
           let many = (good.each i it is).cells in
           let less = known_within it.cells k byte cell in
-          byte_kept heap new placed_before placed_now (extents_in (heap_state heap)) out.kept it.address it.size b b' (block_there (heap_state heap) it.address it.size b) k (omega arith)
+          byte_kept heap new placed_before placed_now (extents_in (heap_state heap)) out.kept it.address it.size b b'
+          (block_there (heap_state heap) it.address it.size b) k (omega arith)
           ∙ stands.bytes.known i k byte it is cell;
     }
 
-    granted_now : (number : ℕ) (block : Block) → block_at s.blocks number ≡ Some block → (k : ℕ) → k < cover block → IsTrue (list_any (is_within (block.address + k)) left)
+    granted_now : (number : ℕ) (block : Block) → block_at s.blocks number ≡ Some block → (k : ℕ) → k < cover block →
+        IsTrue (list_any (is_within (block.address + k)) left)
     granted_now number block is k less =
         granted_within (paged new.system) (block.address + k)
-        ((placed_now block.address block.size (live_now number (outline block) (live_of number block is)).block).granted (block.address + k) (omega arith) (omega arith))
+        ((placed_now block.address block.size (live_now number (outline block) (live_of number block is)).block).granted
+        (block.address + k) (omega arith) (omega arith))
 
     cut_now : AreCut s.heap left
     cut_now = regions_cut (seen_of top heap blocks) (paged new.system) s by.slot good stands heap.system.kept.mapped new.system.kept.mapped short part_left
@@ -138,13 +150,15 @@ module _ (heap new : Dlmalloc PagedSystem) (blocks : List (Option Live)) (pad : 
     s_left = left_state s left s.blocks
 
     good_now : IsGood s_left
-    good_now = good_cut s left good cut_now granted_now (enough_left (seen_of top heap blocks) (paged new.system) s by.slot good stands heap.system.kept.mapped new.system.kept.mapped short part_left s.blocks)
+    good_now = good_cut s left good cut_now granted_now (enough_left (seen_of top heap blocks) (paged new.system) s by.slot
+        good stands heap.system.kept.mapped new.system.kept.mapped short part_left s.blocks)
 
     stands_now : Stands (seen_of top new blocks) s_left
     stands_now =
         let same : new.granularity ≡ heap.granularity = ap (λ (h : HeapState). h.granularity) out.state ∙ trimmed_granularity pad (heap_state heap) in
         subst (λ g. Stands (record (seen_of top new blocks) { granularity = g }) s_left) (sym same)
-        (stands_left (seen_of top heap blocks) (paged new.system) s by.slot good stands heap.system.kept.mapped new.system.kept.mapped short part_left blocks s.blocks stands.blocks held)
+        (stands_left (seen_of top heap blocks) (paged new.system) s by.slot good stands heap.system.kept.mapped
+        new.system.kept.mapped short part_left blocks s.blocks stands.blocks held)
 
     pages_left : pageless_frames (paged new.system) + total_pages left ≡ pageless_frames (paged heap.system) + total_pages s.heap
     pages_left = frames_left (seen_of top heap blocks) (paged new.system) s by.slot good stands heap.system.kept.mapped new.system.kept.mapped short part_left
@@ -152,7 +166,8 @@ module _ (heap new : Dlmalloc PagedSystem) (blocks : List (Option Live)) (pad : 
     same_left : pageless_frames (paged new.system) ≡ pageless_frames (paged heap.system) → left ≡ s.heap
     same_left is =
         let pages = pages_left in
-        none_gone s.heap left (all_more (IsHeapRegion s) (λ region. 0 < region.pages) (λ region whole. whole.0.1.some) s.heap good.heap) cut_now (omega (arith, pages, is))
+        none_gone s.heap left (all_more (IsHeapRegion s) (λ region. 0 < region.pages) (λ region whole. whole.0.1.some)
+        s.heap good.heap) cut_now (omega (arith, pages, is))
 
     other_left : pageless_frames (paged new.system) ≢ pageless_frames (paged heap.system) → left ≢ s.heap
     other_left differ same = differ (let pages = pages_left in let total = ap total_pages same in omega (arith, pages, total))
@@ -160,17 +175,23 @@ module _ (heap new : Dlmalloc PagedSystem) (blocks : List (Option Live)) (pad : 
     -- the regions are listed where another number of frames has no page
     pub step_trimmed : (answered : Option (List Region)) →
         ((paged new.system).joins ≡ (paged heap.system).joins → pageless_frames (paged new.system) ≡ pageless_frames (paged heap.system) → answered ≡ None) →
-        (((paged new.system).joins ≡ (paged heap.system).joins → pageless_frames (paged new.system) ≡ pageless_frames (paged heap.system) → ⊥) → answered ≡ Some left) →
+        (((paged new.system).joins ≡ (paged heap.system).joins → pageless_frames (paged new.system) ≡ pageless_frames
+        (paged heap.system) → ⊥) → answered ≡ Some left) →
         IsStep s (Trim pad) (record { reply = Trimmed (is_some answered); regions = answered; large = None }) (seen_of top new blocks)
     step_trimmed answered same other = elim (same_or_other (pageless_frames (paged new.system)) (pageless_frames (paged heap.system))) [
-      | inl is ↦ subst (λ (a : Option (List Region)). IsStep s (Trim pad) (record { reply = Trimmed (is_some a); regions = a; large = None }) (seen_of top new blocks)) (sym (same short.joins is)) (record {
-        allowed = record { reply = (refl, (none_cut s.heap, refl)); listed = tt; large = tt };
-        good = good;
-        stands = subst (Stands (seen_of top new blocks)) (ap (λ (list : List Region). left_state s list s.blocks) (same_left is) ∙ settled_same s good.slots) stands_now;
-      })
-      | inr differ ↦ subst (λ (a : Option (List Region)). IsStep s (Trim pad) (record { reply = Trimmed (is_some a); regions = a; large = None }) (seen_of top new blocks)) (sym (other (λ joins few. differ few))) (record {
-        allowed = record { reply = (refl, (cut_now, refl)); listed = other_left differ; large = tt };
-        good = good_now;
-        stands = stands_now;
-      })
+      | inl is ↦ subst (λ (a : Option (List Region)). IsStep s (Trim pad)
+          (record { reply = Trimmed (is_some a); regions = a; large = None }) (seen_of top new blocks))
+          (sym (same short.joins is)) (record {
+            allowed = record { reply = (refl, (none_cut s.heap, refl)); listed = tt; large = tt };
+            good = good;
+            stands = subst (Stands (seen_of top new blocks)) (ap (λ (list : List Region). left_state s list s.blocks)
+                (same_left is) ∙ settled_same s good.slots) stands_now;
+          })
+      | inr differ ↦ subst (λ (a : Option (List Region)). IsStep s (Trim pad)
+          (record { reply = Trimmed (is_some a); regions = a; large = None }) (seen_of top new blocks))
+          (sym (other (λ joins few. differ few))) (record {
+            allowed = record { reply = (refl, (cut_now, refl)); listed = other_left differ; large = tt };
+            good = good_now;
+            stands = stands_now;
+          })
     ]

@@ -75,7 +75,8 @@ twin_put old new flat flat' at count told twin still here elsewhere put = record
     go k word (inr from) (inr above) = put.elsewhere k word.aligned (twin.covered k word) (inr above) ∙ (twin.equal k word ∙ sym (elsewhere k word (inr above)))
 
 -- there are flat words for those of a run
-pub covered_run : (p : Paged) (flat : FlatWindow) (at count : ℕ) → IsTwin p flat → AreWordsOf (grants_of p) at count → (k : ℕ) → k % 8 ≡ 0 → at ≤ k → k < at + 8 * count → IsCovered flat k
+pub covered_run : (p : Paged) (flat : FlatWindow) (at count : ℕ) → IsTwin p flat → AreWordsOf (grants_of p) at count →
+    (k : ℕ) → k % 8 ≡ 0 → at ≤ k → k < at + 8 * count → IsCovered flat k
 covered_run p flat at count twin words k m low high = twin.covered k (record { granted = words.granted k low high; aligned = m })
 
 pub twin_filled : (old new : Paged) (flat flat' : FlatWindow) (at count value : ℕ) → IsTwin old flat → OnlyHeapBytesChange old new →
@@ -92,7 +93,8 @@ flat_filled p flat flat' at count value twin put = record {
 
 pub twin_copied : (old new : Paged) (flat flat' : FlatWindow) (from to count : ℕ) → IsTwin old flat → OnlyHeapBytesChange old new →
     AreWordsOf (grants_of old) from count → AreWordsOf (grants_of old) to count →
-    AreCopied (grants_of old) (word_reached old) from to count (word_reached new) → ArePutAt flat flat' to count (λ k. flat_word flat (from + (k - to))) → IsTwin new flat'
+    AreCopied (grants_of old) (word_reached old) from to count (word_reached new) →
+    ArePutAt flat flat' to count (λ k. flat_word flat (from + (k - to))) → IsTwin new flat'
 twin_copied old new flat flat' from to count twin still source target copied put =
     twin_put old new flat flat' to count (λ k. flat_word flat (from + (k - to))) twin still here copied.elsewhere put
   where
@@ -102,10 +104,15 @@ twin_copied old new flat flat' from to count twin still source target copied put
         let to_aligned = target.aligned in
         let place : k ≡ to + (k - to) = omega arith in
         let whole : (k - to) % 8 ≡ 0 = omega arith in
-        let word : IsWordOf (grants_of old) (from + (k - to)) = record { granted = source.granted (from + (k - to)) (omega arith) (omega arith); aligned = omega arith } in
+        let word : IsWordOf (grants_of old) (from + (k - to)) = record {
+          granted =
+              source.granted (from + (k - to)) (omega arith) (omega arith);
+          aligned = omega arith;
+        } in
         ap (λ (a : ℕ). word_reached new a) place ∙ (copied.here (k - to) (omega arith) whole ∙ sym (twin.equal (from + (k - to)) word))
 
-pub flat_copied : (p : Paged) (flat flat' : FlatWindow) (from to count : ℕ) → IsTwin p flat → to % 8 ≡ 0 → ArePutAt flat flat' to count (λ k. flat_word flat (from + (k - to))) →
+pub flat_copied : (p : Paged) (flat flat' : FlatWindow) (from to count : ℕ) → IsTwin p flat → to % 8 ≡ 0 →
+    ArePutAt flat flat' to count (λ k. flat_word flat (from + (k - to))) →
     AreCopied (grants_of p) (flat_word flat) from to count (flat_word flat')
 flat_copied p flat flat' from to count twin aligned put = record {
   here = λ k small m.
@@ -168,7 +175,8 @@ twin_granted old new grant flat flat' twin base regions apart zeros words covere
     outside : (k : ℕ) → IsTrue (is_granted (grants_of old) k) → (k < grant.base) ⊎ (grant.base + 8 * (grant.size / 8) ≤ k)
     outside k was = elim (apart_from grant.base (grant.base + grant.size) (grants_of old) k apart was) [ inl below ↦ inl below | inr above ↦ inr (omega arith) ]
 
-    equal : (k : ℕ) → ((grant.base ≤ k) × (k < grant.base + grant.size)) ⊎ IsTrue (is_granted (grants_of old) k) → k % 8 ≡ 0 → flat_word flat' k ≡ word_reached new k
+    equal : (k : ℕ) → ((grant.base ≤ k) × (k < grant.base + grant.size)) ⊎ IsTrue (is_granted (grants_of old) k) →
+        k % 8 ≡ 0 → flat_word flat' k ≡ word_reached new k
     equal k (inl fresh) aligned = cleared.here k aligned fresh.0 (omega arith) ∙ sym (zeros k fresh.0 fresh.1 aligned)
     equal k (inr was) aligned =
         let word : IsWordOf (grants_of old) k = record { granted = was; aligned = aligned } in

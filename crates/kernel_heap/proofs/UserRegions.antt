@@ -48,7 +48,8 @@ start_elsewhere : (start pages : ℕ) (heap list : List Region) → 0 < pages �
     AllByRecursion (λ user. user.start ≢ start) list
 start_elsewhere start pages heap [] some all clear = tt
 start_elsewhere start pages heap (region ∷ rest) some all clear =
-    let parts : (meets start pages region ≡ false) × (meets_any start pages rest ≡ false) = neither_or (meets start pages region) (meets_any start pages rest) clear in
+    let parts : (meets start pages region ≡ false) × (meets_any start pages rest ≡ false) =
+    neither_or (meets start pages region) (meets_any start pages rest) clear in
     (apart region some all.0.1.1.some parts.0, start_elsewhere start pages heap rest some all.1 parts.1)
   where
     apart : (region : Region) → 0 < pages → 0 < region.pages → meets start pages region ≡ false → region.start ≢ start
@@ -58,7 +59,8 @@ start_elsewhere start pages heap (region ∷ rest) some all clear =
 none_just : (start pages : ℕ) (list : List Region) → 0 < pages → meets_any start pages list ≡ false → list_any (is_at start pages) list ≡ false
 none_just start pages [] some clear = refl
 none_just start pages (region ∷ rest) some clear =
-    let parts : (meets start pages region ≡ false) × (meets_any start pages rest ≡ false) = neither_or (meets start pages region) (meets_any start pages rest) clear in
+    let parts : (meets start pages region ≡ false) × (meets_any start pages rest ≡ false) =
+    neither_or (meets start pages region) (meets_any start pages rest) clear in
     or_neither (is_at start pages region) (list_any (is_at start pages) rest) (other region some parts.0) (none_just start pages rest some parts.1)
   where
     other : (region : Region) → 0 < pages → meets start pages region ≡ false → is_at start pages region ≡ false
@@ -68,20 +70,23 @@ pub sorted : (list : List Region) → AreInOrder list → Sorted list
 sorted [] order = tt
 sorted (region ∷ rest) order = (starts region.start (end_of region) rest (omega arith) order.0, sorted rest order.1)
   where
-    starts : (low high : ℕ) (list : List Region) → low ≤ high → AllByRecursion (λ later. high ≤ later.start) list → AllByRecursion (λ later. low ≤ later.start) list
+    starts : (low high : ℕ) (list : List Region) → low ≤ high → AllByRecursion (λ later. high ≤ later.start) list →
+        AllByRecursion (λ later. low ≤ later.start) list
     starts low high [] less all = tt
     starts low high (later ∷ more) less all = (omega (arith, all.0), starts low high more less all.1)
 
 module _ (m : Seen) (s : State) (start pages : ℕ) (good : IsGood s) (stands : Stands m s) where
   -- what the machine sees of its regions holds of the state's
   heap_same : meets_any_heap m.paged start pages ≡ meets_any start pages s.heap
-  heap_same = ap (λ list. meets_any_heap (record m.paged { regions = list }) start pages) stands.regions ∙ heap_met s start pages (all_of_heap s s.heap good.heap) (all_of_users s.heap s.users good.users)
+  heap_same = ap (λ list. meets_any_heap (record m.paged { regions = list }) start pages) stands.regions
+      ∙ heap_met s start pages (all_of_heap s s.heap good.heap) (all_of_users s.heap s.users good.users)
 
   any_same : meets_any start pages m.paged.regions ≡ (meets_any start pages s.heap || meets_any start pages s.users)
   any_same = ap (meets_any start pages) stands.regions ∙ any_all (meets start pages) s.heap s.users
 
   listed_same : has_user_region m.paged start pages ≡ list_any (is_at start pages) s.users
-  listed_same = ap (λ list. has_user_region (record m.paged { regions = list }) start pages) stands.regions ∙ user_listed s start pages (all_of_heap s s.heap good.heap) (all_of_users s.heap s.users good.users)
+  listed_same = ap (λ list. has_user_region (record m.paged { regions = list }) start pages) stands.regions
+      ∙ user_listed s start pages (all_of_heap s s.heap good.heap) (all_of_users s.heap s.users good.users)
 
   clear : meets_any start pages m.paged.regions ≡ false → (meets_any start pages s.heap ≡ false) × (meets_any start pages s.users ≡ false)
   clear none = neither_or (meets_any start pages s.heap) (meets_any start pages s.users) (sym any_same ∙ none)
@@ -98,7 +103,8 @@ module _ (m : Seen) (s : State) (start pages : ℕ) (good : IsGood s) (stands : 
 
   -- ---- the refusals
 
-  pub map_refused : (rights : Rights) (fault : MapFault) (refusal : Refusal) → map_refusal fault ≡ Some refusal → IsMapRefused m.paged start pages fault → must_refuse s (Map start pages rights) ≡ Some refusal
+  pub map_refused : (rights : Rights) (fault : MapFault) (refusal : Refusal) → map_refusal fault ≡ Some refusal →
+      IsMapRefused m.paged start pages fault → must_refuse s (Map start pages rights) ≡ Some refusal
   map_refused rights Mapping.BadRange refusal is why = (let bad = no_range why in rw bad is)
   map_refused rights Mapping.HeapRegion refusal is why =
       let range : is_page_range start pages ≡ true = whole_range start pages why.0.0 why.0.1 in
@@ -156,11 +162,13 @@ module _ (m : Seen) (s : State) (start pages : ℕ) (good : IsGood s) (stands : 
       let beside : meets_any start pages s.heap ≡ false = (user_beside s start pages good there).1 in
       let regions : new.regions ≡ all_regions (without_user s start pages) =
       left.regions ∙ (ap (without_region start pages) stands.regions
-      ∙ sym (left_users start pages s.heap s.users can.range.1.some (sorted s.heap good.heap_order) (none_just start pages s.heap can.range.1.some beside) good.user_order)) in
+      ∙ sym (left_users start pages s.heap s.users can.range.1.some (sorted s.heap good.heap_order)
+      (none_just start pages s.heap can.range.1.some beside) good.user_order)) in
       step_unmapped m new s start pages good there (stands_unmapped m new s start pages good stands there left.gone left.whole regions)
 
   -- pages are not mapped, or not unmapped
-  pub map_denied : (rights : Rights) (fault : MapFault) → IsMapRefused m.paged start pages fault → (answer : Answer) → IsRefusal (map_refusal fault) answer → IsStep s (Map start pages rights) answer m
+  pub map_denied : (rights : Rights) (fault : MapFault) → IsMapRefused m.paged start pages fault → (answer : Answer) →
+      IsRefusal (map_refusal fault) answer → IsStep s (Map start pages rights) answer m
   map_denied rights fault why answer given =
       subst (λ (a : Answer). IsStep s (Map start pages rights) a m) (sym given.2)
       (step_refused m s (Map start pages rights) given.0 (map_refused rights fault given.0 given.1 why) good stands)

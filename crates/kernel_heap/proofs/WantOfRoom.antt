@@ -29,17 +29,21 @@ not_for_room : (refusal : Refusal) → refusal_of TooLarge ≡ Some refusal → 
 not_for_room refusal is = (let one : IsTooLarge ≡ refusal = cc in subst (λ (r : Refusal). is_for_room r ≡ false) one refl)
 
 module _ (heap : Dlmalloc PagedSystem) (size align : ℕ) where
-  pub none_for : (error : MallocError) (refusal : Refusal) → refusal_of error ≡ Some refusal → IsMallocRefused denies heap.system (heap_state heap) (asked size align) error → HasNoneFor (heap_state heap) size align refusal
+  pub none_for : (error : MallocError) (refusal : Refusal) → refusal_of error ≡ Some refusal →
+      IsMallocRefused denies heap.system (heap_state heap) (asked size align) error →
+      HasNoneFor (heap_state heap) size align refusal
   none_for TooLarge refusal is why room = (let no = not_for_room refusal is in absurd (cc))
   none_for (System NoSpace) refusal is why room = why.1.none_chosen
   none_for (System NoFrames) refusal is why room = why.1.none_chosen
   none_for (System OutOfMemory) refusal is why room = absurd (cc)
 
-  pub none_beside : (from : ℕ) (error : MallocError) (refusal : Refusal) → refusal_of error ≡ Some refusal → IsMallocRefused denies heap.system (heap_state heap) (asked size align) error →
+  pub none_beside : (from : ℕ) (error : MallocError) (refusal : Refusal) → refusal_of error ≡ Some refusal →
+      IsMallocRefused denies heap.system (heap_state heap) (asked size align) error →
       (error ≢ TooLarge → align ≤ 16 → in_place (heap_state heap) (from - 16) (padded size) ≡ None) → HasNoneBeside (heap_state heap) from size align refusal
   none_beside from error refusal is why tried = (none_for error refusal is why, beside error is tried)
     where
-      beside : (error : MallocError) → refusal_of error ≡ Some refusal → (error ≢ TooLarge → align ≤ 16 → in_place (heap_state heap) (from - 16) (padded size) ≡ None) →
+      beside : (error : MallocError) → refusal_of error ≡ Some refusal →
+          (error ≢ TooLarge → align ≤ 16 → in_place (heap_state heap) (from - 16) (padded size) ≡ None) →
           IsTrue (is_for_room refusal) → align ≤ 16 → in_place (heap_state heap) (from - 16) (padded size) ≡ None
       beside TooLarge is tried room few = (let no = not_for_room refusal is in absurd (cc))
       beside (System fault) is tried room few = tried (λ e. absurd (cc)) few
@@ -56,18 +60,23 @@ pub left_refused : (old new : Dlmalloc PagedSystem) (size : ℕ) (error : Malloc
 left_refused old new size error refusal is out = rw (tells error refusal is) out
 
 -- a request that is refused moves nothing
-pub request_refused_moves : (cleared : Bool) (old : NumberedHeap) (size align : ℕ) (refusal : Refusal) (large : Option (List ℕ)) (new : NumberedHeap) → IsLeft old.heap (asked size align) refusal new.heap → HasNoneFor (heap_of old) size align refusal →
+pub request_refused_moves : (cleared : Bool) (old : NumberedHeap) (size align : ℕ) (refusal : Refusal)
+    (large : Option (List ℕ)) (new : NumberedHeap) → IsLeft old.heap (asked size align) refusal new.heap →
+    HasNoneFor (heap_of old) size align refusal →
     HeapMoves old (request cleared size align) (Refused refusal) large new
 request_refused_moves false old size align refusal large new same none = (same, none)
 request_refused_moves true old size align refusal large new same none = (same, none)
 
 -- and so does another size that is refused, of a block or of none
-pub resizing_refused_moves : (keeps : Bool) (old : NumberedHeap) (number size : ℕ) (refusal : Refusal) (large : Option (List ℕ)) (new : NumberedHeap) (live : Live) → live_at old.blocks.items number ≡ Some live → IsLeft old.heap (asked size (align_kept keeps live)) refusal new.heap →
+pub resizing_refused_moves : (keeps : Bool) (old : NumberedHeap) (number size : ℕ) (refusal : Refusal)
+    (large : Option (List ℕ)) (new : NumberedHeap) (live : Live) → live_at old.blocks.items number ≡ Some live →
+    IsLeft old.heap (asked size (align_kept keeps live)) refusal new.heap →
     HasNoneBeside (heap_of old) live.address size (align_kept keeps live) refusal → HeapMoves old (resizing keeps number size) (Refused refusal) large new
 resizing_refused_moves true old number size refusal large new live is same none = rw is (same, none)
 resizing_refused_moves false old number size refusal large new live is same none = rw is (same, none)
 
-pub unknown_moves : (keeps : Bool) (old : NumberedHeap) (number size : ℕ) (refusal : Refusal) (large : Option (List ℕ)) (new : NumberedHeap) → live_at old.blocks.items number ≡ None → new.heap ≡ old.heap →
+pub unknown_moves : (keeps : Bool) (old : NumberedHeap) (number size : ℕ) (refusal : Refusal) (large : Option (List ℕ))
+    (new : NumberedHeap) → live_at old.blocks.items number ≡ None → new.heap ≡ old.heap →
     HeapMoves old (resizing keeps number size) (Refused refusal) large new
 unknown_moves true old number size refusal large new none same = rw none same
 unknown_moves false old number size refusal large new none same = rw none same

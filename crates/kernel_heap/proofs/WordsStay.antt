@@ -28,36 +28,46 @@ words_added old new start pages rights kept added at word =
 
 -- ---- pages left
 
-pub words_left : (old new : Paged) (start pages : ℕ) → 0 < pages → IsPagedKept old → IsPagedKept new → grants_of new ≡ grants_of old → IsLeft old new start pages →
+pub words_left : (old new : Paged) (start pages : ℕ) → 0 < pages → IsPagedKept old → IsPagedKept new →
+    grants_of new ≡ grants_of old → IsLeft old new start pages →
     (at : ℕ) → IsWordOf (grants_of old) at → word_reached new at ≡ word_reached old at
 unfolding walk_of
 words_left old new start pages some_pages kept kept' same left at word =
     let place = place_at old at (granted_mapped old at at kept word.granted refl) in
-    let still : IsSome (walk_of new.words new.root (at / 4096)) = granted_mapped new at at kept' (subst (λ gs. IsTrue (is_granted gs at)) (sym same) word.granted) refl in
-    let in_old : IsSome (reach new.words old.root 4 (at / 4096 % 2 ^ 36)) = subst (λ r. IsSome (reach new.words r 4 (at / 4096 % 2 ^ 36))) left.gone.root still in
+    let still : IsSome (walk_of new.words new.root (at / 4096)) = granted_mapped new at at kept'
+    (subst (λ gs. IsTrue (is_granted gs at)) (sym same) word.granted) refl in
+    let in_old : IsSome (reach new.words old.root 4 (at / 4096 % 2 ^ 36)) =
+    subst (λ r. IsSome (reach new.words r 4 (at / 4096 % 2 ^ 36))) left.gone.root still in
     let there : reach new.words new.root 4 (at / 4096 % 2 ^ 36) ≡ Some place.0 =
-    ap (λ (r : ℕ). reach new.words r 4 (at / 4096 % 2 ^ 36)) left.gone.root ∙ (stays place.0 place.1 in_old (among (start / 4096) pages (at / 4096 % 2 ^ 36)) refl ∙ place.1) in
+    ap (λ (r : ℕ). reach new.words r 4 (at / 4096 % 2 ^ 36)) left.gone.root
+    ∙ (stays place.0 place.1 in_old (among (start / 4096) pages (at / 4096 % 2 ^ 36)) refl ∙ place.1) in
     word_at_place new at place.0 there
-    ∙ (unmapped_words old.words new.words old.free new.free old.root (start / 4096) pages some_pages kept.mapped.tree left.gone.gone (at / 4096 % 2 ^ 36) (at % 4096 / 8) place.0 (omega arith)
+    ∙ (unmapped_words old.words new.words old.free new.free old.root (start / 4096) pages some_pages kept.mapped.tree
+    left.gone.gone (at / 4096 % 2 ^ 36) (at % 4096 / 8) place.0 (omega arith)
     (sym (ap (λ (r : ℕ). reach new.words r 4 (at / 4096 % 2 ^ 36)) left.gone.root) ∙ there)
     ∙ sym (word_at_place old at place.0 place.1))
   where
     -- a page that is mapped still is not one of those that left
     stays : (place : Place) → reach old.words old.root 4 (at / 4096 % 2 ^ 36) ≡ Some place → IsSome (reach new.words old.root 4 (at / 4096 % 2 ^ 36)) →
-        (b : Bool) → among (start / 4096) pages (at / 4096 % 2 ^ 36) ≡ b → reach new.words old.root 4 (at / 4096 % 2 ^ 36) ≡ reach old.words old.root 4 (at / 4096 % 2 ^ 36)
+        (b : Bool) → among (start / 4096) pages (at / 4096 % 2 ^ 36) ≡ b →
+        reach new.words old.root 4 (at / 4096 % 2 ^ 36) ≡ reach old.words old.root 4 (at / 4096 % 2 ^ 36)
     stays place was some false beside = left.gone.gone.pages_stay (at / 4096 % 2 ^ 36) beside
     stays place was some true gone = absurd (let none = left.gone.gone.gone (at / 4096 % 2 ^ 36) gone in let no = subst IsSome none some in cc)
 
 -- ---- regions of the user
 
-pub beside_joined : {A B : Type 0} (answer : Result A B) (old new : Paged) (start pages : ℕ) (rights : Rights) → OnOk answer (IsRegionJoined old new (user_region start pages rights)) → OnErr answer (new ≡ old) → IsPagedKept old → IsBeside old new
+pub beside_joined : {A B : Type 0} (answer : Result A B) (old new : Paged) (start pages : ℕ) (rights : Rights) →
+    OnOk answer (IsRegionJoined old new (user_region start pages rights)) → OnErr answer (new ≡ old) → IsPagedKept old →
+    IsBeside old new
 beside_joined (Ok a) old new start pages rights ok err kept = record {
   regions = ap (λ regions. map grant_of (heap_regions regions)) ok.regions ∙ ap (map grant_of) (heap_beside (user_region start pages rights) old.regions refl);
   words = words_added old new start pages rights kept ok.added;
 }
 beside_joined (Err e) old new start pages rights ok err kept = record { regions = ap grants_of err; words = λ at word. ap (λ p. word_reached p at) err }
 
-pub beside_left : {A B : Type 0} (answer : Result A B) (old new : Paged) (start pages : ℕ) → OnOk answer (IsLeft old new start pages) → OnOk answer (CanUnmap old start pages) → OnErr answer (new ≡ old) → IsPagedKept old → IsPagedKept new → IsBeside old new
+pub beside_left : {A B : Type 0} (answer : Result A B) (old new : Paged) (start pages : ℕ) →
+    OnOk answer (IsLeft old new start pages) → OnOk answer (CanUnmap old start pages) → OnErr answer (new ≡ old) →
+    IsPagedKept old → IsPagedKept new → IsBeside old new
 beside_left (Ok a) old new start pages ok can err kept kept' =
     let same : grants_of new ≡ grants_of old =
     ap (λ regions. map grant_of (heap_regions regions)) ok.regions ∙ ap (map grant_of) (heap_left start pages 0 (2 ^ 64) old.regions kept.laid can.there) in

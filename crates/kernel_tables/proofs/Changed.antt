@@ -34,7 +34,8 @@ none_only {pages} {old} {mid} {new} a b = record {
 
 -- ---- from inside: the root stays, and other words are there
 
-module _ {old inside : TableState} {words : List ℕ} {area : Area} {free : List Bool} (view : inside ≡ old) (same : area ≡ inside.area) (size : length words ≡ length inside.words)
+module _ {old inside : TableState} {words : List ℕ} {area : Area} {free : List Bool} (view : inside ≡ old)
+    (same : area ≡ inside.area) (size : length words ≡ length inside.words)
     (tables : (l n : ℕ) (met : Place) → l < 4 → reach inside.words inside.root l n ≡ Some met → reach words inside.root l n ≡ Some met) where
   pub only_seen : {pages : ℕ → Bool} →
       ((other : ℕ) → IsTrue (is_canonical (other * 4096)) → pages other ≡ false → walk_of words inside.root other ≡ walk_of inside.words inside.root other) →
@@ -57,13 +58,15 @@ other_page page other not e = grind (arith, nat_tests)
 pub other_slot : (page other : ℕ) → pages_of_slot page other ≡ false → other / 512 ≡ page → ⊥
 other_slot page other not e = grind (arith, nat_tests)
 
-pub page_others : {page : ℕ} {old new : TableState} → ChangesOnly (page_alone page) old new → (other : ℕ) → IsTrue (is_canonical (other * 4096)) → (other ≡ page → ⊥) → leads new other ≡ leads old other
+pub page_others : {page : ℕ} {old new : TableState} → ChangesOnly (page_alone page) old new → (other : ℕ) →
+    IsTrue (is_canonical (other * 4096)) → (other ≡ page → ⊥) → leads new other ≡ leads old other
 page_others {page} only other canonical ne = only.elsewhere other canonical (beside other page ne)
   where
     beside : (a b : ℕ) → (a ≡ b → ⊥) → page_alone b a ≡ false
     beside a b ne = grind (arith, nat_tests)
 
-pub slot_others : {slot : ℕ} {old new : TableState} → ChangesOnly (pages_of_slot slot) old new → (other : ℕ) → IsTrue (is_canonical (other * 4096)) → (other / 512 ≡ slot → ⊥) → leads new other ≡ leads old other
+pub slot_others : {slot : ℕ} {old new : TableState} → ChangesOnly (pages_of_slot slot) old new → (other : ℕ) →
+    IsTrue (is_canonical (other * 4096)) → (other / 512 ≡ slot → ⊥) → leads new other ≡ leads old other
 slot_others {slot} only other canonical ne = only.elsewhere other canonical (beside (other / 512) slot ne)
   where
     beside : (a b : ℕ) → (a ≡ b → ⊥) → page_alone b a ≡ false
@@ -89,14 +92,18 @@ pub flush_of : {pages : ℕ → Bool} {old new : TableState} → ChangesOnly pag
 flush_of only = λ other place canonical not is. only.elsewhere other canonical not ∙ is
 
 -- nothing, if these were not mapped
-pub range_flush : {old new : TableState} (page pages : ℕ) → ((k : ℕ) → k < pages → leads old (page + k) ≡ None) → ChangesOnly (pages_of_range page pages) old new →
+pub range_flush : {old new : TableState} (page pages : ℕ) → ((k : ℕ) → k < pages → leads old (page + k) ≡ None) →
+    ChangesOnly (pages_of_range page pages) old new →
     IsFlushEnough old new no_page
-range_flush {old} {new} page pages unmapped only = λ other place canonical not is. only.elsewhere other canonical (beside other place is (cases_Bool (pages_of_range page pages other))) ∙ is
+range_flush {old} {new} page pages unmapped only = λ other place canonical not is.
+    only.elsewhere other canonical (beside other place is (cases_Bool (pages_of_range page pages other))) ∙ is
   where
     within : (other : ℕ) → pages_of_range page pages other ≡ true → (page ≤ other) × (other < page + pages)
     within other is = (grind (arith, nat_tests), grind (arith, nat_tests))
 
-    beside : (other : ℕ) (place : Place) → leads old other ≡ Some place → (pages_of_range page pages other ≡ true) ⊎ (pages_of_range page pages other ≡ false) → pages_of_range page pages other ≡ false
+    beside : (other : ℕ) (place : Place) → leads old other ≡ Some place →
+        (pages_of_range page pages other ≡ true) ⊎ (pages_of_range page pages other ≡ false) →
+        pages_of_range page pages other ≡ false
     beside other place is (inr x) = x
     beside other place is (inl x) =
         let w = within other x in

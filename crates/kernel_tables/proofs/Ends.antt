@@ -34,7 +34,8 @@ leads_at state page (Large met) is = is.1
 leads_at state page (Missing tables) is = is.1
 
 -- a page with an entry is part of no large page
-pub entry_alone : (state : TableState) (page table index : ℕ) → IsEntryOf state.words state.root page table index → large_of state.words state.root (slot_of (page / 512)) ≡ None
+pub entry_alone : (state : TableState) (page table index : ℕ) → IsEntryOf state.words state.root page table index →
+    large_of state.words state.root (slot_of (page / 512)) ≡ None
 entry_alone state page table index entry =
     let e : slot_of (page / 512) ≡ prefix_of page 3 = omega arith in
     ap (large_of state.words state.root) e ∙ table_none state.words state.root (prefix_of page 3) entry.met entry.reached
@@ -43,7 +44,8 @@ pub end_leads : (state : TableState) (page : ℕ) (end : WalkEnd) → IsWalkEnd 
 end_leads state page end is some = rw (leads_at state page end is) some
 
 -- so nothing hinders its change
-pub alone_open : (state : TableState) (page : ℕ) → IsSome (leads state page) → large_of state.words state.root (slot_of (page / 512)) ≡ None → entry_fault state page ≡ None
+pub alone_open : (state : TableState) (page : ℕ) → IsSome (leads state page) →
+    large_of state.words state.root (slot_of (page / 512)) ≡ None → entry_fault state page ≡ None
 alone_open state page some alone = rw (some_is (leads state page) some, none (free_count state.free) (split_of state page) (not_split state page alone)) refl
   where
     none : (a b : ℕ) → b ≡ 0 → ltb a b ≡ false
@@ -53,7 +55,8 @@ pub mapped_fault : (state : TableState) (page frame : ℕ) (place : Place) → l
 mapped_fault state page frame place e = rw e refl
 
 -- a page with an entry misses no table
-pub nothing_missing : (state : TableState) (page table index : ℕ) → IsEntryOf state.words state.root page table index → 0 ≡ missing_of state.words state.root page 1
+pub nothing_missing : (state : TableState) (page table index : ℕ) → IsEntryOf state.words state.root page table index →
+    0 ≡ missing_of state.words state.root page 1
 nothing_missing state page table index entry = sym (none_missing state.words state.root page entry.met entry.reached)
 
 -- the table of a page's entry lies in the area

@@ -4,7 +4,8 @@ use Rattle.paging_core.specs.Large.{IsLargeAdded}
 use Rattle.paging_core.specs.Walk.{Place, walk_of}
 use Rattle.paging_core.specs.declared.page_table.Rights.{Rights}
 
-pub stays_mapped : (old new : List ℕ) (free free' : List Bool) (root page frame : ℕ) (rights : Rights) → IsLargeAdded old new free free' root page frame rights →
+pub stays_mapped : (old new : List ℕ) (free free' : List Bool) (root page frame : ℕ) (rights : Rights) →
+    IsLargeAdded old new free free' root page frame rights →
     (other : ℕ) (place : Place) → walk_of old root other ≡ Some place → walk_of new root other ≡ Some place
 unfolding walk_of
 stays_mapped old new free free' root page frame rights added other place is = added.stayed 4 (other % 2 ^ 36) place (omega arith) is

@@ -25,10 +25,12 @@ pub row_outside : (area : Area) (from count : ℕ) → area_meets area from coun
 row_outside Whole from count out k lt = absurd (let m : ltb 0 count ≡ true = grind (arith, nat_tests) in let z : true ≡ false = sym m ∙ out in cc)
 row_outside (Part first end) from count out k lt = grind (arith, nat_tests)
 
-pub row_used : (area : Area) (free : List Bool) (count from : ℕ) → FreeIn area free count → area_meets area from 512 ≡ false → (k : ℕ) → k < 512 → is_free free (from + k) ≡ false
+pub row_used : (area : Area) (free : List Bool) (count from : ℕ) → FreeIn area free count →
+    area_meets area from 512 ≡ false → (k : ℕ) → k < 512 → is_free free (from + k) ≡ false
 row_used area free count from known out k lt = outside_used area free count (from + k) known (row_outside area from 512 out k lt)
 
-pub row_unmet : (area : Area) (words : List ℕ) (root from : ℕ) (free : List Bool) → IsTreeIn area words root free → area_meets area from 512 ≡ false → IsRunUnmet area words root from
+pub row_unmet : (area : Area) (words : List ℕ) (root from : ℕ) (free : List Bool) → IsTreeIn area words root free →
+    area_meets area from 512 ≡ false → IsRunUnmet area words root from
 row_unmet Whole words root from free tree out = absurd (let m : ltb 0 512 ≡ true = refl in let z : true ≡ false = sym m ∙ out in cc)
 row_unmet (Part first end) words root from free tree out = λ k l n met lk lt is e.
     let i : in_area (Part first end) met.frame ≡ true = tree.inside l n met lt is in
@@ -36,7 +38,8 @@ row_unmet (Part first end) words root from free tree out = λ k l n met lk lt is
     let z : true ≡ false = sym i ∙ j in absurd (cc)
 
 -- a slot with neither a large page nor a table has no page
-pub slot_empty : (words : List ℕ) (root page : ℕ) → large_of words root (slot_of page) ≡ None → reach words root 3 (slot_of page) ≡ None → IsSlotEmpty words root page
+pub slot_empty : (words : List ℕ) (root page : ℕ) → large_of words root (slot_of page) ≡ None →
+    reach words root 3 (slot_of page) ≡ None → IsSlotEmpty words root page
 slot_empty words root page small none = record {
   unmapped = λ k lt.
       let q : prefix_of (512 * page + k) 4 / 512 ≡ slot_of page = omega arith in
@@ -46,7 +49,8 @@ slot_empty words root page small none = record {
 }
 
 -- the tables that are missing for the first page of the slot: those above it, and the slot's own
-pub slot_missing : (words : List ℕ) (root page : ℕ) → reach words root 3 (slot_of page) ≡ None → missing_of words root (512 * page) 1 ≡ missing_above words root page + 1
+pub slot_missing : (words : List ℕ) (root page : ℕ) → reach words root 3 (slot_of page) ≡ None →
+    missing_of words root (512 * page) 1 ≡ missing_above words root page + 1
 slot_missing words root page none =
     let m = missing_one words root (512 * page) in
     let q : prefix_of (512 * page) 3 ≡ slot_of page = omega arith in
@@ -110,7 +114,9 @@ no_large_fault state page frame none =
     }
   where
     go : (large table past meets few : Bool) →
-        cond large (Some IsMapped) (cond table (Some HasTable) (cond past (Some PastLimit) (cond meets (Some InArea) (cond few (Some (NoFrames (missing_above state.words state.root page - free_count state.free))) None)))) ≡ None →
+        cond large (Some IsMapped) (cond table (Some HasTable) (cond past (Some PastLimit)
+        (cond meets (Some InArea) (cond few (Some (NoFrames (missing_above state.words state.root page - free_count
+        state.free))) None)))) ≡ None →
         (large ≡ false) × (table ≡ false) × (past ≡ false) × (meets ≡ false) × (few ≡ false)
     go true table past meets few e = absurd (cc)
     go false true past meets few e = absurd (cc)

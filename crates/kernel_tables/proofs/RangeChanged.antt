@@ -39,7 +39,8 @@ split_stay old new free free' root page split l n met lt is = split.others l n (
   where
     taken : (l n : ℕ) → l ≡ 3 → n ≡ slot_of page → reach old root l n ≡ Some met → ⊥
     taken l n e s is =
-        let none : reach old root l n ≡ None = ap (λ k. reach old root k n) e ∙ (ap (reach old root 3) s ∙ large_none old root (slot_of page) split.large split.was) in
+        let none : reach old root l n ≡ None = ap (λ k. reach old root k n) e
+        ∙ (ap (reach old root 3) s ∙ large_none old root (slot_of page) split.large split.was) in
         is_hole (reach old root l n) none (rw is refl)
 
 -- the first `done` pages of the range are changed; `change` says what becomes of a page that led to
@@ -103,12 +104,14 @@ module _ (old now : TableState) (page pages done : ℕ) (change : Place → Opti
     }
       where
         changed : (k : ℕ) (was : Place) → leads old (page + k) ≡ Some was → (k < done) ⊎ (done ≤ k) → k < done + 1 → leads new (page + k) ≡ change was
-        changed k was is (inl x) lt = page_others only (page + k) (page_canonical page pages k range (omega arith)) (λ e. omega arith) ∙ before.changed k was x is
+        changed k was is (inl x) lt = page_others only (page + k) (page_canonical page pages k range (omega arith))
+            (λ e. omega arith) ∙ before.changed k was x is
         changed k was is (inr x) lt =
             let e : k ≡ done = omega arith in
             rw e (changes was (still done (omega arith) more ∙ (ap (λ j. leads old (page + j)) (sym e) ∙ is)))
 
-        past : (slot : ℕ) → IsSome (large_of now.words now.root (slot_of slot)) → page + done ≤ 512 * slot → (512 * slot ≡ page + done) ⊎ (512 * slot ≡ page + done → ⊥) →
+        past : (slot : ℕ) → IsSome (large_of now.words now.root (slot_of slot)) → page + done ≤ 512 * slot →
+            (512 * slot ≡ page + done) ⊎ (512 * slot ≡ page + done → ⊥) →
             page + (done + 1) ≤ 512 * slot
         past slot some le (inl e) = let same : (page + done) / 512 ≡ slot = omega arith in absurd (small (rw same some))
         past slot some le (inr ne) = omega arith
@@ -154,7 +157,8 @@ module _ (old now : TableState) (page pages done : ℕ) (change : Place → Opti
             let b = begins_there large in
             let first = b.0 in
             let s : IsSome (large_of now.words now.root (slot_of slot)) =
-            rw (larges (slot_of slot) (λ e. ne (slots_apart page pages slot ((page + done) / 512) range (omega arith) (omega arith) (omega arith) (omega arith) e))) at some in
+            rw (larges (slot_of slot) (λ e. ne (slots_apart page pages slot ((page + done) / 512) range (omega arith)
+            (omega arith) (omega arith) (omega arith) e))) at some in
             let w = before.whole slot (omega arith) hi s in
             let x = w.0 in
             let y = w.1 in
@@ -170,7 +174,8 @@ some_is (Some x) h = refl
 pub unsplit : (state : TableState) (page pages slot : ℕ) → is_split state page pages slot ≡ false → IsSome (large_of state.words state.root (slot_of slot)) →
     (page ≤ 512 * slot) × (512 * slot + 512 ≤ page + pages)
 unsplit state page pages slot e some =
-    let f = go (is_some (large_of state.words state.root (slot_of slot))) (nat_le page (512 * slot)) (nat_le (512 * slot + 512) (page + pages)) e (some_is (large_of state.words state.root (slot_of slot)) some) in
+    let f = go (is_some (large_of state.words state.root (slot_of slot))) (nat_le page (512 * slot))
+    (nat_le (512 * slot + 512) (page + pages)) e (some_is (large_of state.words state.root (slot_of slot)) some) in
     let a = f.0 in
     let b = f.1 in
     (grind (arith, nat_tests), grind (arith, nat_tests))
@@ -181,7 +186,8 @@ unsplit state page pages slot e some =
     go true true false e s = absurd (cc)
     go true true true e s = (refl, refl)
 
-pub all_within : (state : TableState) (page pages : ℕ) → 0 < pages → is_split state page pages (page / 512) ≡ false → is_split state page pages ((page + (pages - 1)) / 512) ≡ false →
+pub all_within : (state : TableState) (page pages : ℕ) → 0 < pages → is_split state page pages (page / 512) ≡ false →
+    is_split state page pages ((page + (pages - 1)) / 512) ≡ false →
     AreWithin state page pages
 all_within state page pages some first last = λ slot lo hi large. go slot lo hi large (cases_eq slot (page / 512)) (cases_eq slot ((page + (pages - 1)) / 512))
   where
@@ -223,10 +229,12 @@ slot_led words root page large k lt is =
     ∙ (reach_in words root (prefix_of (512 * page + k) 4) large (ap (large_of words root) up ∙ is) ∙ ap (λ j. Some (page_in j large)) at)
 
 -- the end: all pages are changed, and only these
-pub only_range : (old now : TableState) (page pages : ℕ) (change : Place → Option Place) → IsChangedTo old now page pages pages change → ChangesOnly (pages_of_range page pages) old now
+pub only_range : (old now : TableState) (page pages : ℕ) (change : Place → Option Place) →
+    IsChangedTo old now page pages pages change → ChangesOnly (pages_of_range page pages) old now
 only_range old now page pages change all = range_only page pages all.place all.tables all.elsewhere
 
-pub gone_all : (old now : TableState) (page pages : ℕ) → ((k : ℕ) → k < pages → IsSome (leads old (page + k))) → IsChangedTo old now page pages pages (λ was. None) →
+pub gone_all : (old now : TableState) (page pages : ℕ) → ((k : ℕ) → k < pages → IsSome (leads old (page + k))) →
+    IsChangedTo old now page pages pages (λ was. None) →
     (k : ℕ) → k < pages → leads now (page + k) ≡ None
 gone_all old now page pages mapped all k lk = go (some_or_none (leads old (page + k)))
   where
@@ -239,7 +247,8 @@ pub granted_all : (old now : TableState) (page pages : ℕ) (rights : Rights) �
     (k : ℕ) → k < pages → IfSome (leads old (page + k)) (λ was. leads now (page + k) ≡ Some (granted was.frame rights))
 granted_all old now page pages rights mapped all k lk = go (some_or_none (leads old (page + k)))
   where
-    go : ((x : Place) × (leads old (page + k) ≡ Some x)) ⊎ (leads old (page + k) ≡ None) → IfSome (leads old (page + k)) (λ was. leads now (page + k) ≡ Some (granted was.frame rights))
+    go : ((x : Place) × (leads old (page + k) ≡ Some x)) ⊎ (leads old (page + k) ≡ None) →
+        IfSome (leads old (page + k)) (λ was. leads now (page + k) ≡ Some (granted was.frame rights))
     go (inl x) = rw x.1 (all.changed k x.0 lk x.1)
     go (inr none) = absurd (is_hole (leads old (page + k)) none (mapped k lk))
 
@@ -257,12 +266,14 @@ table_there words root page some small = go (some_or_none (reach words root 3 (p
     none_large None h = refl
     none_large (Some x) h = absurd (h refl)
 
-    go : ((x : Place) × (reach words root 3 (prefix_of page 3) ≡ Some x)) ⊎ (reach words root 3 (prefix_of page 3) ≡ None) → IsSome (reach words root 3 (prefix_of page 3))
+    go : ((x : Place) × (reach words root 3 (prefix_of page 3) ≡ Some x)) ⊎ (reach words root 3 (prefix_of page 3) ≡ None) →
+        IsSome (reach words root 3 (prefix_of page 3))
     go (inl x) = rw x.1 refl
     go (inr none) =
         let up : prefix_of page 4 / 512 ≡ prefix_of page 3 = omega arith in
         let at : slot_of (page / 512) ≡ prefix_of page 3 = omega arith in
-        let l : large_of words root (prefix_of page 3) ≡ None = ap (large_of words root) (sym at) ∙ none_large (large_of words root (slot_of (page / 512))) small in
+        let l : large_of words root (prefix_of page 3) ≡ None = ap (large_of words root) (sym at)
+        ∙ none_large (large_of words root (slot_of (page / 512))) small in
         let w : walk_of words root page ≡ None = walk_reach words root page ∙ reach_none words root (prefix_of page 4) (rw up none) (rw up l) in
         absurd (is_hole (walk_of words root page) w some)
 
@@ -271,7 +282,8 @@ pub large_there : (words : List ℕ) (root page : ℕ) → IsSome (walk_of words
     IsSome (large_of words root (slot_of (page / 512)))
 large_there words root page some none = go (some_or_none (large_of words root (slot_of (page / 512))))
   where
-    go : ((x : Place) × (large_of words root (slot_of (page / 512)) ≡ Some x)) ⊎ (large_of words root (slot_of (page / 512)) ≡ None) → IsSome (large_of words root (slot_of (page / 512)))
+    go : ((x : Place) × (large_of words root (slot_of (page / 512)) ≡ Some x)) ⊎ (large_of words root
+        (slot_of (page / 512)) ≡ None) → IsSome (large_of words root (slot_of (page / 512)))
     go (inl x) = rw x.1 refl
     go (inr l) =
         let up : prefix_of page 4 / 512 ≡ prefix_of page 3 = omega arith in
@@ -284,10 +296,12 @@ pub slot_granted : (old new : List ℕ) (root page : ℕ) (rights : Rights) → 
     IfSome (walk_of old root (512 * page + k)) (λ was. walk_of new root (512 * page + k) ≡ Some (granted was.frame rights))
 slot_granted old new root page rights all k lt = rw (slot_led old root page all.large k lt all.was) (all.there k lt)
 
-pub slot_outside : (area : Area) (old new : List ℕ) (root page : ℕ) (rights : Rights) → AreLargeGranted old new root page rights → LeadsOutside area old root → LeadsOutside area new root
+pub slot_outside : (area : Area) (old new : List ℕ) (root page : ℕ) (rights : Rights) →
+    AreLargeGranted old new root page rights → LeadsOutside area old root → LeadsOutside area new root
 slot_outside area old new root page rights all before = λ other place is. go other place is (cases_eq (other / 512 % 2 ^ 27) (slot_of page))
   where
-    go : (other : ℕ) (place : Place) → walk_of new root other ≡ Some place → (other / 512 % 2 ^ 27 ≡ slot_of page) ⊎ (other / 512 % 2 ^ 27 ≡ slot_of page → ⊥) → in_area area place.frame ≡ false
+    go : (other : ℕ) (place : Place) → walk_of new root other ≡ Some place →
+        (other / 512 % 2 ^ 27 ≡ slot_of page) ⊎ (other / 512 % 2 ^ 27 ≡ slot_of page → ⊥) → in_area area place.frame ≡ false
     go other place is (inl e) =
         let same : (512 * page + other % 512) % 2 ^ 36 ≡ other % 2 ^ 36 = omega arith in
         let p : Some (granted (all.large.frame + other % 512) rights) ≡ Some place =
@@ -303,7 +317,8 @@ slot_outside area old new root page rights all before = λ other place is. go ot
 -- ---- the split of the ends
 
 pub split_some : (state : TableState) (page pages slot : ℕ) → is_split state page pages slot ≡ true → IsSome (large_of state.words state.root (slot_of slot))
-split_some state page pages slot e = go (large_of state.words state.root (slot_of slot)) (nat_le page (512 * slot) && nat_le (512 * slot + 512) (page + pages)) e
+split_some state page pages slot e = go (large_of state.words state.root (slot_of slot))
+    (nat_le page (512 * slot) && nat_le (512 * slot + 512) (page + pages)) e
   where
     go : (o : Option Place) (b : Bool) → (is_some o && not b) ≡ true → IsSome o
     go None b e = absurd (cc)
@@ -311,7 +326,8 @@ split_some state page pages slot e = go (large_of state.words state.root (slot_o
 
 -- the first slot stays whole if the last one is split
 pub first_still : (mid new : TableState) (page pages last : ℕ) → is_split mid page pages (page / 512) ≡ false → is_split new page pages (last / 512) ≡ false →
-    ((n : ℕ) → (n ≡ slot_of (last / 512) → ⊥) → large_of new.words new.root n ≡ large_of mid.words mid.root n) → (slot_of (page / 512) ≡ slot_of (last / 512)) ⊎ (slot_of (page / 512) ≡ slot_of (last / 512) → ⊥) →
+    ((n : ℕ) → (n ≡ slot_of (last / 512) → ⊥) → large_of new.words new.root n ≡ large_of mid.words mid.root n) →
+    (slot_of (page / 512) ≡ slot_of (last / 512)) ⊎ (slot_of (page / 512) ≡ slot_of (last / 512) → ⊥) →
     (slot_of (page / 512) ≡ slot_of (last / 512) → page / 512 ≡ last / 512) → is_split new page pages (page / 512) ≡ false
 first_still mid new page pages last first second larges (inl e) same = ap (is_split new page pages) (same e) ∙ second
 first_still mid new page pages last first second larges (inr ne) same = rw (larges (slot_of (page / 512)) ne) first
@@ -326,10 +342,13 @@ mapped_of : (o : Option Place) → is_none o ≡ false → IsSome o
 mapped_of None e = absurd (cc)
 mapped_of (Some x) e = refl
 
-pub no_change_fault : (state : TableState) (page pages : ℕ) → 0 < pages → IsTrue (is_canonical (page * 4096)) → change_range_fault state page pages ≡ None → HasNoChangeFault state page pages
+pub no_change_fault : (state : TableState) (page pages : ℕ) → 0 < pages → IsTrue (is_canonical (page * 4096)) →
+    change_range_fault state page pages ≡ None → HasNoChangeFault state page pages
 no_change_fault state page pages some canonical none =
     let zero_not : (pages == 0) ≡ false = grind (arith, nat_tests) in
-    let f = go (pages == 0) (lies_in_half page pages) (lowest_unmapped state page pages) (ltb (free_count state.free) (splits state page pages)) (splits state page pages - free_count state.free) none zero_not in
+    let f = go (pages == 0) (lies_in_half page pages) (lowest_unmapped state page pages)
+    (ltb (free_count state.free) (splits state page pages)) (splits state page pages - free_count state.free) none
+    zero_not in
     let half = f.0 in
     let few = f.2 in
     record {

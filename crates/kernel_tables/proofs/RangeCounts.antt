@@ -21,7 +21,8 @@ by_level : (words : List ℕ) (root page pages : ℕ) → 0 < pages →
 by_level words root page zero pos = absurd (omega arith)
 by_level words root page (suc more) pos =
     let e : page + more ≡ page + suc more - 1 = omega arith in
-    missing_by_level words root page more ∙ ap (λ last. absent_for words root page last 1 + absent_for words root page last 2 + absent_for words root page last 3) e
+    missing_by_level words root page more ∙ ap (λ last. absent_for words root page last 1 + absent_for words root page last
+    2 + absent_for words root page last 3) e
 
 pub piece_range : (page pages p m : ℕ) → IsCanonicalRange page pages → page ≤ p → p + m ≤ page + pages → 0 < m → IsCanonicalRange p m
 piece_range page pages p m range lo hi some =
@@ -80,7 +81,8 @@ parts words root level a n p m lo hi =
     let y = absent_on words root level p (p + m) (a + n) (omega arith) hi in
     let d : a + n - a ≡ n = omega arith in
     let e : p + m - p ≡ m = omega arith in
-    let x' : absent words root level a n ≡ absent words root level a (p - a) + absent words root level p (a + n - p) = sym (ap (absent words root level a) d) ∙ x in
+    let x' : absent words root level a n ≡ absent words root level a (p - a) + absent words root level p (a + n - p) =
+    sym (ap (absent words root level a) d) ∙ x in
     let y' : absent words root level p (a + n - p) ≡ absent words root level p m + absent words root level (p + m) (a + n - (p + m)) =
     y ∙ ap (λ k. absent words root level p k + absent words root level (p + m) (a + n - (p + m))) e in
     omega arith
@@ -177,7 +179,8 @@ pub record Spanned (page pages frame : ℕ) : Type 0 where
   pub counts : (state : TableState) → large_count state page pages frame ≡ absent state.words state.root 3 p m
 
 -- the first slot that lies whole in the range, by its place among those that the range meets
-pub slot_here : (page pages k : ℕ) → IsCanonicalRange page pages → page ≤ 512 * k → 512 * k + 512 ≤ page + pages → slot_of k * 512 ≡ page % 2 ^ 36 + (512 * k - page)
+pub slot_here : (page pages k : ℕ) → IsCanonicalRange page pages → page ≤ 512 * k → 512 * k + 512 ≤ page + pages →
+    slot_of k * 512 ≡ page % 2 ^ 36 + (512 * k - page)
 slot_here page pages k range lo hi =
     let e : page + (512 * k - page) ≡ 512 * k = omega arith in
     let h = page_in page pages (512 * k - page) range (omega arith) in
@@ -187,7 +190,9 @@ slot_here page pages k range lo hi =
 -- the count of the slots that become large, once all that lie whole in the range were gone through
 pub large_counted : (state : TableState) (page pages frame slot count : ℕ) → page % 512 ≡ frame % 512 → (page + 511) / 512 ≤ slot →
     ((page + 511) / 512 < (page + pages) / 512 → slot ≤ (page + pages) / 512) → (page + pages) / 512 ≤ slot →
-    ((page + pages) / 512 ≤ (page + 511) / 512 → slot ≡ (page + 511) / 512) → count ≡ absent state.words state.root 3 (slot_of ((page + 511) / 512)) (slot - (page + 511) / 512) → count ≡ large_count state page pages frame
+    ((page + pages) / 512 ≤ (page + 511) / 512 → slot ≡ (page + 511) / 512) →
+    count ≡ absent state.words state.root 3 (slot_of ((page + 511) / 512)) (slot - (page + 511) / 512) →
+    count ≡ large_count state page pages frame
 large_counted state page pages frame slot count aligned from to end still counted =
     let e : (page % 512 == frame % 512) ≡ true = grind (arith, nat_tests) in
     rw e (go (cases_lt ((page + 511) / 512) ((page + pages) / 512)))
@@ -215,8 +220,10 @@ slot_on page pages first slot range lo on hi =
     omega arith
 
 -- a slot that has a table is not counted
-pub count_skip : (words : List ℕ) (root page pages first slot : ℕ) → IsCanonicalRange page pages → page ≤ 512 * first → first ≤ slot → 512 * slot + 512 ≤ page + pages →
-    is_none (reach words root 3 (slot_of slot)) ≡ false → absent words root 3 (slot_of first) (slot + 1 - first) ≡ absent words root 3 (slot_of first) (slot - first)
+pub count_skip : (words : List ℕ) (root page pages first slot : ℕ) → IsCanonicalRange page pages → page ≤ 512 * first →
+    first ≤ slot → 512 * slot + 512 ≤ page + pages →
+    is_none (reach words root 3 (slot_of slot)) ≡ false → absent words root 3 (slot_of first) (slot + 1 - first) ≡ absent
+    words root 3 (slot_of first) (slot - first)
 count_skip words root page pages first slot range lo on hi there =
     let e = slot_on page pages first slot range lo on hi in
     let d : slot + 1 - first ≡ slot - first + 1 = omega arith in
@@ -246,7 +253,8 @@ spanned page pages frame range = go (page % 512 == frame % 512) refl (cases_lt (
     some = range.some
 
     last : (page + pages - 1) % 2 ^ 36 ≡ page % 2 ^ 36 + (pages - 1)
-    last = let e : page + (pages - 1) ≡ page + pages - 1 = let s = some in omega arith in ap (λ n. n % 2 ^ 36) (sym e) ∙ page_in page pages (pages - 1) range (let s = some in omega arith)
+    last = let e : page + (pages - 1) ≡ page + pages - 1 = let s = some in omega arith in ap (λ n. n % 2 ^ 36) (sym e)
+        ∙ page_in page pages (pages - 1) range (let s = some in omega arith)
 
     empty : ((slot : ℕ) → page ≤ 512 * slot → 512 * slot + 512 ≤ page + pages → page % 512 ≡ frame % 512 → ⊥) → IsSpan page pages frame (prefix_of page 3) 0
     empty none = record {
@@ -256,7 +264,8 @@ spanned page pages frame range = go (page % 512 == frame % 512) refl (cases_lt (
       each = λ n lo hi. absurd (omega arith);
     }
 
-    go : (b : Bool) → (page % 512 == frame % 512) ≡ b → ((page + 511) / 512 < (page + pages) / 512) ⊎ ((page + pages) / 512 ≤ (page + 511) / 512) → Spanned page pages frame
+    go : (b : Bool) → (page % 512 == frame % 512) ≡ b →
+        ((page + 511) / 512 < (page + pages) / 512) ⊎ ((page + pages) / 512 ≤ (page + 511) / 512) → Spanned page pages frame
     go false e _ = record {
       p = prefix_of page 3;
       m = 0;
@@ -328,7 +337,8 @@ module _ (words : List ℕ) (root page pages frame p m : ℕ) (range : IsCanonic
       let r = row in
       omega arith
 
-  pub room_above : (k : ℕ) → k < pages → missing_at words root (page + k) 1 + missing_at words root (page + k) 2 + absent words root 3 p m ≤ missing_of words root page pages
+  pub room_above : (k : ℕ) → k < pages → missing_at words root (page + k) 1 + missing_at words root (page + k) 2 + absent
+      words root 3 p m ≤ missing_of words root page pages
   room_above k lk =
       let x = by_level words root page pages range.some in
       let a = one_less k 1 lk (omega arith) in
@@ -336,7 +346,8 @@ module _ (words : List ℕ) (root page pages frame p m : ℕ) (range : IsCanonic
       let r = row in
       omega arith
 
-  pub room_page : (k : ℕ) → k < pages → (p ≤ prefix_of (page + k) 3 → prefix_of (page + k) 3 < p + m → is_none (reach words root 3 (prefix_of (page + k) 3)) ≡ false) →
+  pub room_page : (k : ℕ) → k < pages → (p ≤ prefix_of (page + k) 3 → prefix_of (page + k) 3 < p + m →
+      is_none (reach words root 3 (prefix_of (page + k) 3)) ≡ false) →
       missing_of words root (page + k) 1 + absent words root 3 p m ≤ missing_of words root page pages
   room_page k lk there = go (cases_Bool (is_none (reach words root 3 (prefix_of (page + k) 3))))
     where
@@ -353,7 +364,8 @@ module _ (words : List ℕ) (root page pages frame p m : ℕ) (range : IsCanonic
           let hi = h.1 in
           let f = span.from in
           let t = span.to in
-          let b = beside words root 3 (prefix_of page 3) (prefix_of (page + pages - 1) 3 + 1 - prefix_of page 3) p m (prefix_of (page + k) 3) f (omega arith) lo (omega arith)
+          let b = beside words root 3 (prefix_of page 3) (prefix_of (page + pages - 1) 3 + 1 - prefix_of page 3) p m
+          (prefix_of (page + k) 3) f (omega arith) lo (omega arith)
           (λ from to. let n = there from to in let c : true ≡ false = sym lacks ∙ n in absurd (cc)) in
           let e = one_absent words root 3 (prefix_of (page + k) 3) in
           let o = missing_one words root (page + k) in
@@ -366,7 +378,8 @@ module _ (words : List ℕ) (root page pages frame p m : ℕ) (range : IsCanonic
   of_page : (n l : ℕ) → 0 < l → l < 4 → prefix_of page l ≤ n → n ≤ prefix_of (page + pages - 1) l → (k : ℕ) × (k < pages) × (n ≡ prefix_of (page + k) l)
   of_page n l pos lt lo hi = go pages refl range (cases_eq (prefix_of page l) n)
     where
-      go : (c : ℕ) → pages ≡ c → IsCanonicalRange page c → (prefix_of page l ≡ n) ⊎ (prefix_of page l ≡ n → ⊥) → (k : ℕ) × (k < pages) × (n ≡ prefix_of (page + k) l)
+      go : (c : ℕ) → pages ≡ c → IsCanonicalRange page c → (prefix_of page l ≡ n) ⊎ (prefix_of page l ≡ n → ⊥) →
+          (k : ℕ) × (k < pages) × (n ≡ prefix_of (page + k) l)
       go zero e r _ = absurd (let s : 0 < pages = range.some in omega arith)
       go (suc more) e r (inl x) =
           let z : page ≡ page + 0 = omega arith in
@@ -395,7 +408,8 @@ module _ (words : List ℕ) (root page pages frame p m : ℕ) (range : IsCanonic
       (λ n lo hi. at 3 n (omega arith) (omega arith) (omega arith) (omega arith) (λ _ from to. omega arith)) in
       omega arith
     where
-      at : (l n : ℕ) → 0 < l → l < 4 → prefix_of page l ≤ n → n ≤ prefix_of (page + pages - 1) l → (l ≡ 3 → p ≤ n → n < p + m → ⊥) → is_none (reach words root l n) ≡ false
+      at : (l n : ℕ) → 0 < l → l < 4 → prefix_of page l ≤ n → n ≤ prefix_of (page + pages - 1) l →
+          (l ≡ 3 → p ≤ n → n < p + m → ⊥) → is_none (reach words root l n) ≡ false
       at l n pos lt lo hi out =
           let q = of_page n l pos lt lo hi in
           ap (λ z. is_none (reach words root l z)) q.2

@@ -42,11 +42,13 @@ pub record HasNoRangeFault (state : TableState) (page pages frame : ℕ) : Type 
   pub outside : area_meets state.area frame pages ≡ false
   pub room : tables_wanted state page pages frame ≤ free_count state.free
 
-pub no_range_fault : (state : TableState) (page pages frame : ℕ) → 0 < pages → IsTrue (is_canonical (page * 4096)) → map_range_fault state page pages frame ≡ None →
+pub no_range_fault : (state : TableState) (page pages frame : ℕ) → 0 < pages → IsTrue (is_canonical (page * 4096)) →
+    map_range_fault state page pages frame ≡ None →
     HasNoRangeFault state page pages frame
 no_range_fault state page pages frame some canonical none =
     let zero_not : (pages == 0) ≡ false = grind (arith, nat_tests) in
-    let f = go (pages == 0) (lies_in_half page pages) (lowest_mapped state page pages) (ltb (limit_of state) (frame + pages)) (area_meets state.area frame pages)
+    let f = go (pages == 0) (lies_in_half page pages) (lowest_mapped state page pages)
+    (ltb (limit_of state) (frame + pages)) (area_meets state.area frame pages)
     (ltb (free_count state.free) (tables_wanted state page pages frame)) (tables_wanted state page pages frame - free_count state.free) none zero_not in
     let half = f.0 in
     let past = f.2 in
@@ -80,7 +82,8 @@ none_wanted state page frame = let z = missing_none state.words state.root page 
 none_large : (state : TableState) (page frame : ℕ) (rights : Rights) → AreSlotsLarge state state page 0 frame rights
 none_large state page frame rights = λ slot canonical. let e = not_large slot (cases_Bool (becomes_large state page 0 frame slot)) in rw e refl
   where
-    not_large : (slot : ℕ) → (becomes_large state page 0 frame slot ≡ true) ⊎ (becomes_large state page 0 frame slot ≡ false) → becomes_large state page 0 frame slot ≡ false
+    not_large : (slot : ℕ) → (becomes_large state page 0 frame slot ≡ true) ⊎ (becomes_large state page 0 frame
+        slot ≡ false) → becomes_large state page 0 frame slot ≡ false
     not_large slot (inl x) = let b = becomes state page 0 frame slot x in let f = b.from in let t = b.to in absurd (omega arith)
     not_large slot (inr x) = x
 

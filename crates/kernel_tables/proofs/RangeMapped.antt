@@ -43,7 +43,8 @@ none_is (Some x) e = absurd (cc)
 
 pub becomes : (state : TableState) (page pages frame slot : ℕ) → becomes_large state page pages frame slot ≡ true → Becomes state page pages frame slot
 becomes state page pages frame slot e =
-    let f = all_four (nat_le page (512 * slot)) (nat_le (512 * slot + 512) (page + pages)) (page % 512 == frame % 512) (is_none (reach state.words state.root 3 (slot_of slot))) e in
+    let f = all_four (nat_le page (512 * slot)) (nat_le (512 * slot + 512) (page + pages)) (page % 512 == frame % 512)
+    (is_none (reach state.words state.root 3 (slot_of slot))) e in
     let a = f.0 in
     let b = f.1 in
     let c = f.2 in
@@ -96,7 +97,8 @@ mapped_start old page pages frame rights = record {
 }
 
 -- the slots of one range have different prefixes
-pub slots_apart : (page pages a b : ℕ) → IsCanonicalRange page pages → page < 512 * a + 512 → 512 * a < page + pages → page < 512 * b + 512 → 512 * b < page + pages →
+pub slots_apart : (page pages a b : ℕ) → IsCanonicalRange page pages → page < 512 * a + 512 → 512 * a < page + pages →
+    page < 512 * b + 512 → 512 * b < page + pages →
     slot_of a ≡ slot_of b → a ≡ b
 slots_apart page pages a b range al ah bl bh e =
     let some : 0 < pages = range.some in
@@ -108,10 +110,12 @@ module _ (old now : TableState) (page pages frame done : ℕ) (rights : Rights)
     (before : IsMappedTo old now page pages frame done rights)
     (more : done < pages) where
   -- if the test for such a slot holds, it becomes large
-  pub begins : ((page + done) % 512 == 0 && ((frame + done) % 512 == 0 && (nat_le 512 (pages - done) && is_none (reach now.words now.root 3 (slot_of ((page + done) / 512)))))) ≡ true →
+  pub begins : ((page + done) % 512 == 0 && ((frame + done) % 512 == 0 &&
+      (nat_le 512 (pages - done) && is_none (reach now.words now.root 3 (slot_of ((page + done) / 512)))))) ≡ true →
       Becomes old page pages frame ((page + done) / 512)
   begins e =
-      let f = all_four ((page + done) % 512 == 0) ((frame + done) % 512 == 0) (nat_le 512 (pages - done)) (is_none (reach now.words now.root 3 (slot_of ((page + done) / 512)))) e in
+      let f = all_four ((page + done) % 512 == 0) ((frame + done) % 512 == 0) (nat_le 512 (pages - done))
+      (is_none (reach now.words now.root 3 (slot_of ((page + done) / 512)))) e in
       let a = f.0 in
       let b = f.1 in
       let c = f.2 in
@@ -119,7 +123,8 @@ module _ (old now : TableState) (page pages frame done : ℕ) (rights : Rights)
       let to : (frame + done) % 512 ≡ 0 = grind (arith, nat_tests) in
       let fits : 512 ≤ pages - done = grind (arith, nat_tests) in
       let none : reach now.words old.root 3 (slot_of ((page + done) / 512)) ≡ None =
-      sym (ap (λ r. reach now.words r 3 (slot_of ((page + done) / 512))) before.place.root) ∙ none_is (reach now.words now.root 3 (slot_of ((page + done) / 512))) f.3 in
+      sym (ap (λ r. reach now.words r 3 (slot_of ((page + done) / 512))) before.place.root)
+      ∙ none_is (reach now.words now.root 3 (slot_of ((page + done) / 512))) f.3 in
       record {
         from = omega arith;
         to = omega arith;
@@ -128,15 +133,18 @@ module _ (old now : TableState) (page pages frame done : ℕ) (rights : Rights)
       }
     where
       go : reach now.words old.root 3 (slot_of ((page + done) / 512)) ≡ None →
-          ((x : Place) × (reach old.words old.root 3 (slot_of ((page + done) / 512)) ≡ Some x)) ⊎ (reach old.words old.root 3 (slot_of ((page + done) / 512)) ≡ None) →
+          ((x : Place) × (reach old.words old.root 3 (slot_of ((page + done) / 512)) ≡ Some x)) ⊎ (reach old.words old.root
+          3 (slot_of ((page + done) / 512)) ≡ None) →
           reach old.words old.root 3 (slot_of ((page + done) / 512)) ≡ None
       go none (inr x) = x
       go none (inl x) = let t = before.tables 3 (slot_of ((page + done) / 512)) x.0 (omega arith) x.1 in absurd (cc)
 
-  pub begins_at : ((page + done) % 512 == 0 && ((frame + done) % 512 == 0 && (nat_le 512 (pages - done) && is_none (reach now.words now.root 3 (slot_of ((page + done) / 512)))))) ≡ true →
+  pub begins_at : ((page + done) % 512 == 0 && ((frame + done) % 512 == 0 &&
+      (nat_le 512 (pages - done) && is_none (reach now.words now.root 3 (slot_of ((page + done) / 512)))))) ≡ true →
       ((page + done) % 512 ≡ 0) × ((frame + done) % 512 ≡ 0) × (done + 512 ≤ pages)
   begins_at e =
-      let f = all_four ((page + done) % 512 == 0) ((frame + done) % 512 == 0) (nat_le 512 (pages - done)) (is_none (reach now.words now.root 3 (slot_of ((page + done) / 512)))) e in
+      let f = all_four ((page + done) % 512 == 0) ((frame + done) % 512 == 0) (nat_le 512 (pages - done))
+      (is_none (reach now.words now.root 3 (slot_of ((page + done) / 512)))) e in
       let a = f.0 in
       let b = f.1 in
       let c = f.2 in
@@ -144,7 +152,8 @@ module _ (old now : TableState) (page pages frame done : ℕ) (rights : Rights)
       (grind (arith, nat_tests), grind (arith, nat_tests), omega arith)
 
   -- and if it fails, the page's slot does not
-  pub single : ((page + done) % 512 == 0 && ((frame + done) % 512 == 0 && (nat_le 512 (pages - done) && is_none (reach now.words now.root 3 (slot_of ((page + done) / 512)))))) ≡ false →
+  pub single : ((page + done) % 512 == 0 && ((frame + done) % 512 == 0 &&
+      (nat_le 512 (pages - done) && is_none (reach now.words now.root 3 (slot_of ((page + done) / 512)))))) ≡ false →
       Becomes old page pages frame ((page + done) / 512) → ⊥
   single e b =
       let w = before.whole ((page + done) / 512) b in
@@ -159,7 +168,8 @@ module _ (old now : TableState) (page pages frame done : ℕ) (rights : Rights)
       let z : nat_le 512 (pages - done) ≡ true = grind (arith, nat_tests) in
       let none : reach now.words now.root 3 (slot_of ((page + done) / 512)) ≡ None =
       ap (λ r. reach now.words r 3 (slot_of ((page + done) / 512))) before.place.root ∙ before.no_table ((page + done) / 512) b in
-      let all : ((page + done) % 512 == 0 && ((frame + done) % 512 == 0 && (nat_le 512 (pages - done) && is_none (reach now.words now.root 3 (slot_of ((page + done) / 512)))))) ≡ true =
+      let all : ((page + done) % 512 == 0 && ((frame + done) % 512 == 0 &&
+      (nat_le 512 (pages - done) && is_none (reach now.words now.root 3 (slot_of ((page + done) / 512)))))) ≡ true =
       rw (x, y, z, none) refl in
       let c : true ≡ false = sym all ∙ e in absurd (cc)
     where
@@ -178,7 +188,9 @@ module _ (old now : TableState) (page pages frame done : ℕ) (rights : Rights)
   spare s room =
       let c = before.count in
       let n = s.counts old in
-      let a : absent now.words old.root 3 s.p s.m ≡ absent old.words old.root 3 s.p s.m = absent_alike old.words now.words old.root 3 s.m s.p (λ n lo hi. alike n lo hi (some_or_none (reach old.words old.root 3 n))) in
+      let a : absent now.words old.root 3 s.p s.m ≡ absent old.words old.root 3 s.p s.m =
+      absent_alike old.words now.words old.root 3 s.m s.p (λ n lo hi.
+      alike n lo hi (some_or_none (reach old.words old.root 3 n))) in
       omega arith
     where
       alike : (n : ℕ) → s.p ≤ n → n < s.p + s.m → ((x : Place) × (reach old.words old.root 3 n ≡ Some x)) ⊎ (reach old.words old.root 3 n ≡ None) →
@@ -197,7 +209,8 @@ module _ (old now : TableState) (page pages frame done : ℕ) (rights : Rights)
   page_room room not =
       let s = spanned page pages frame range in
       let r = spare s room in
-      let p = room_page now.words old.root page pages frame s.p s.m range s.is done more (λ lo hi. there s lo hi (some_or_none (reach now.words old.root 3 (prefix_of (page + done) 3)))) in
+      let p = room_page now.words old.root page pages frame s.p s.m range s.is done more
+      (λ lo hi. there s lo hi (some_or_none (reach now.words old.root 3 (prefix_of (page + done) 3)))) in
       rw before.place.root (omega arith)
     where
       there : (s : Spanned page pages frame) → s.p ≤ prefix_of (page + done) 3 → prefix_of (page + done) 3 < s.p + s.m →
@@ -208,13 +221,21 @@ module _ (old now : TableState) (page pages frame done : ℕ) (rights : Rights)
           let q = s.is.each (prefix_of (page + done) 3) lo hi in
           let i = q.2 in
           let j = q.3 in
-          let e : (page + done) / 512 ≡ q.0 = slots_apart page pages ((page + done) / 512) q.0 range (omega arith) (omega arith) (omega arith) (omega arith) (sym here ∙ sym q.1) in
-          absurd (not (record { from = rw e i; to = rw e j; aligned = q.4; no_table = old_none (some_or_none (reach old.words old.root 3 (slot_of ((page + done) / 512)))) }))
+          let e : (page + done) / 512 ≡ q.0 = slots_apart page pages ((page + done) / 512) q.0 range (omega arith)
+          (omega arith) (omega arith) (omega arith) (sym here ∙ sym q.1) in
+          absurd (not (record {
+            from = rw e i;
+            to = rw e j;
+            aligned = q.4;
+            no_table =
+                old_none (some_or_none (reach old.words old.root 3 (slot_of ((page + done) / 512))));
+          }))
         where
           here : prefix_of (page + done) 3 ≡ slot_of ((page + done) / 512)
           here = omega arith
 
-          old_none : ((x : Place) × (reach old.words old.root 3 (slot_of ((page + done) / 512)) ≡ Some x)) ⊎ (reach old.words old.root 3 (slot_of ((page + done) / 512)) ≡ None) →
+          old_none : ((x : Place) × (reach old.words old.root 3 (slot_of ((page + done) / 512)) ≡ Some x)) ⊎ (reach
+              old.words old.root 3 (slot_of ((page + done) / 512)) ≡ None) →
               reach old.words old.root 3 (slot_of ((page + done) / 512)) ≡ None
           old_none (inr x) = x
           old_none (inl x) =
@@ -261,7 +282,8 @@ module _ (old now : TableState) (page pages frame done : ℕ) (rights : Rights)
               let t = b.to in
               added.others 3 (slot_of slot) (omega arith)
               (λ e.
-              let same : (page + done) / 512 ≡ slot = slots_apart page pages ((page + done) / 512) slot range (omega arith) (omega arith) (omega arith) (omega arith)
+              let same : (page + done) / 512 ≡ slot = slots_apart page pages ((page + done) / 512) slot range (omega arith)
+              (omega arith) (omega arith) (omega arith)
               (let h : slot_of ((page + done) / 512) ≡ prefix_of (page + done) 3 = omega arith in h ∙ sym e) in
               not (rw same b))
               ∙ before.no_table slot b;
@@ -284,7 +306,8 @@ module _ (old now : TableState) (page pages frame done : ℕ) (rights : Rights)
             let e : k ≡ done = omega arith in
             rw (e, only.place.root) was.there
 
-        whole : (slot : ℕ) → Becomes old page pages frame slot → (512 * slot ≡ page + done) ⊎ (512 * slot ≡ page + done → ⊥) → 512 * slot < page + (done + 1) → 512 * slot + 512 ≤ page + (done + 1)
+        whole : (slot : ℕ) → Becomes old page pages frame slot → (512 * slot ≡ page + done) ⊎ (512 * slot ≡ page + done →
+            ⊥) → 512 * slot < page + (done + 1) → 512 * slot + 512 ≤ page + (done + 1)
         whole slot b (inl x) lt = let e : (page + done) / 512 ≡ slot = omega arith in absurd (not (rw e b))
         whole slot b (inr x) lt = let w = before.whole slot b (omega arith) in omega arith
 
@@ -319,7 +342,8 @@ module _ (old now : TableState) (page pages frame done : ℕ) (rights : Rights)
           count =
               let c = added.count in
               let d = before.count in
-              let m : missing_of new.words old.root page pages + missing_above now.words old.root ((page + done) / 512) ≡ missing_of now.words old.root page pages =
+              let m : missing_of new.words old.root page pages + missing_above now.words old.root
+              ((page + done) / 512) ≡ missing_of now.words old.root page pages =
               rw (only.place.root ∙ before.place.root, before.place.root) at missing in
               omega arith;
         }
@@ -334,7 +358,8 @@ module _ (old now : TableState) (page pages frame done : ℕ) (rights : Rights)
             let f : frame + k ≡ 512 * run + (k - done) = omega arith in
             rw (p, f, only.place.root) t
 
-        whole : (slot : ℕ) → Becomes old page pages frame slot → (512 * slot < page + done) ⊎ (page + done ≤ 512 * slot) → 512 * slot < page + (done + 512) → 512 * slot + 512 ≤ page + (done + 512)
+        whole : (slot : ℕ) → Becomes old page pages frame slot → (512 * slot < page + done) ⊎ (page + done ≤ 512 * slot) →
+            512 * slot < page + (done + 512) → 512 * slot + 512 ≤ page + (done + 512)
         whole slot b (inl x) lt = let w = before.whole slot b x in omega arith
         whole slot b (inr x) lt = omega arith
 
@@ -369,12 +394,17 @@ mapped_free old now page pages frame rights range unmapped all =
     let s = spanned page pages frame range in
     let n = s.counts old in
     let r = row_less old.words old.root page pages frame s.p s.m range s.is in
-    let m = missing_after now.words old.root page pages frame s.p s.m range s.is (λ k l lk pos lt out. there_of (reach now.words old.root l (prefix_of (page + k) l)) (λ none. there s k l lk pos lt out none)) in
-    let a : absent now.words old.root 3 s.p s.m ≡ absent old.words old.root 3 s.p s.m = absent_alike old.words now.words old.root 3 s.m s.p (λ n lo hi. alike s n lo hi (some_or_none (reach old.words old.root 3 n))) in
+    let m = missing_after now.words old.root page pages frame s.p s.m range s.is
+    (λ k l lk pos lt out. there_of (reach now.words old.root l (prefix_of (page + k) l))
+    (λ none. there s k l lk pos lt out none)) in
+    let a : absent now.words old.root 3 s.p s.m ≡ absent old.words old.root 3 s.p s.m =
+    absent_alike old.words now.words old.root 3 s.m s.p (λ n lo hi. alike s n lo hi
+    (some_or_none (reach old.words old.root 3 n))) in
     let c = all.count in
     omega arith
   where
-    alike : (s : Spanned page pages frame) (n : ℕ) → s.p ≤ n → n < s.p + s.m → ((x : Place) × (reach old.words old.root 3 n ≡ Some x)) ⊎ (reach old.words old.root 3 n ≡ None) →
+    alike : (s : Spanned page pages frame) (n : ℕ) → s.p ≤ n → n < s.p + s.m →
+        ((x : Place) × (reach old.words old.root 3 n ≡ Some x)) ⊎ (reach old.words old.root 3 n ≡ None) →
         is_none (reach now.words old.root 3 n) ≡ is_none (reach old.words old.root 3 n)
     alike s n lo hi (inl x) = rw (all.tables 3 n x.0 (omega arith) x.1, x.1) refl
     alike s n lo hi (inr none) =
@@ -391,7 +421,8 @@ mapped_free old now page pages frame rights range unmapped all =
     two : (k : ℕ) → k < pages → reach now.words old.root 2 (prefix_of (page + k) 2) ≡ None → ⊥
     two k lk none = unmapped_at k lk (walk_stops now.words old.root (page + k) none)
 
-    there : (s : Spanned page pages frame) (k l : ℕ) → k < pages → 0 < l → l < 4 → (l ≡ 3 → s.p ≤ prefix_of (page + k) 3 → prefix_of (page + k) 3 < s.p + s.m → ⊥) →
+    there : (s : Spanned page pages frame) (k l : ℕ) → k < pages → 0 < l → l < 4 →
+        (l ≡ 3 → s.p ≤ prefix_of (page + k) 3 → prefix_of (page + k) 3 < s.p + s.m → ⊥) →
         reach now.words old.root l (prefix_of (page + k) l) ≡ None → ⊥
     there s k zero lk pos lt out none = absurd (omega arith)
     there s k (suc zero) lk pos lt out none = two k lk (none_more now.words old.root (page + k) 1 (omega arith) none)
@@ -405,11 +436,14 @@ mapped_free old now page pages frame rights range unmapped all =
         unmapped_at k lk (walk_reach now.words old.root (page + k) ∙ reach_none now.words old.root (prefix_of (page + k) 4) (rw up none) (rw up small))
     there s k (suc (suc (suc (suc l)))) lk pos lt out none = absurd (omega arith)
 
-mapped_large : (old now : TableState) (page pages frame : ℕ) (rights : Rights) → IsCanonicalRange page pages → IsMappedTo old now page pages frame pages rights →
+mapped_large : (old now : TableState) (page pages frame : ℕ) (rights : Rights) → IsCanonicalRange page pages →
+    IsMappedTo old now page pages frame pages rights →
     AreSlotsLarge old now page pages frame rights
-mapped_large old now page pages frame rights range all = λ slot canonical. rw all.place.root (go slot canonical (cases_Bool (becomes_large old page pages frame slot)))
+mapped_large old now page pages frame rights range all = λ slot canonical.
+    rw all.place.root (go slot canonical (cases_Bool (becomes_large old page pages frame slot)))
   where
-    go : (slot : ℕ) → IsTrue (is_canonical (512 * slot * 4096)) → (becomes_large old page pages frame slot ≡ true) ⊎ (becomes_large old page pages frame slot ≡ false) →
+    go : (slot : ℕ) → IsTrue (is_canonical (512 * slot * 4096)) → (becomes_large old page pages frame
+        slot ≡ true) ⊎ (becomes_large old page pages frame slot ≡ false) →
         large_of now.words old.root (slot_of slot)
         ≡ cond (becomes_large old page pages frame slot) (Some (granted (frame + (512 * slot - page)) rights)) (large_of old.words old.root (slot_of slot))
     go slot canonical (inl e) = let b = becomes old page pages frame slot e in rw e (all.large slot b b.to)
@@ -427,10 +461,13 @@ mapped_large old now page pages frame rights range all = λ slot canonical. rw a
         let z : true ≡ false = sym large ∙ e in absurd (cc)))
 
 -- only pages of the range are changed, and no table is gone
-pub mapped_only : (old now : TableState) (page pages frame : ℕ) (rights : Rights) → IsMappedTo old now page pages frame pages rights → ChangesOnly (pages_of_range page pages) old now
-mapped_only old now page pages frame rights all = range_only page pages all.place (λ l n met lt is. ap (λ r. reach now.words r l n) all.place.root ∙ all.tables l n met lt is) all.elsewhere
+pub mapped_only : (old now : TableState) (page pages frame : ℕ) (rights : Rights) →
+    IsMappedTo old now page pages frame pages rights → ChangesOnly (pages_of_range page pages) old now
+mapped_only old now page pages frame rights all = range_only page pages all.place
+    (λ l n met lt is. ap (λ r. reach now.words r l n) all.place.root ∙ all.tables l n met lt is) all.elsewhere
 
-pub mapped_range : (old now : TableState) (page pages frame : ℕ) (rights : Rights) → IsCanonicalRange page pages → ((k : ℕ) → k < pages → leads old (page + k) ≡ None) →
+pub mapped_range : (old now : TableState) (page pages frame : ℕ) (rights : Rights) → IsCanonicalRange page pages →
+    ((k : ℕ) → k < pages → leads old (page + k) ≡ None) →
     IsMappedTo old now page pages frame pages rights → IsRangeMapped old now page pages frame rights
 mapped_range old now page pages frame rights range unmapped all = record {
   mapped = all.mapped;

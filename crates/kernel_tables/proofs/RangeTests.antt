@@ -44,7 +44,8 @@ lowest_at test from (suc count) (suc k) lt h is =
     let e : test from ≡ false = ap test (sym z) ∙ h 0 (omega arith) in
     let s : from + 1 + k ≡ from + suc k = omega arith in
     rw e
-    (lowest_at test (from + 1) count k (omega arith) (λ j lj. let t : from + 1 + j ≡ from + suc j = omega arith in ap test t ∙ h (suc j) (omega arith)) (ap test s ∙ is)
+    (lowest_at test (from + 1) count k (omega arith) (λ j lj. let t : from + 1 + j ≡ from + suc j = omega arith in ap test t
+    ∙ h (suc j) (omega arith)) (ap test s ∙ is)
     ∙ ap (λ n. Some n) s)
 
 -- what a walk finds is a place exactly if there is one
@@ -87,7 +88,8 @@ in_large_page words root page some = go (some_or_none (large_of words root (slot
     nothing None e h = cc
     nothing (Some x) e h = cc
 
-    go : ((x : Place) × (large_of words root (slot_of (page / 512)) ≡ Some x)) ⊎ (large_of words root (slot_of (page / 512)) ≡ None) → IsSome (walk_of words root page)
+    go : ((x : Place) × (large_of words root (slot_of (page / 512)) ≡ Some x)) ⊎ (large_of words root
+        (slot_of (page / 512)) ≡ None) → IsSome (walk_of words root page)
     go (inl x) =
         let up : prefix_of page 4 / 512 ≡ slot_of (page / 512) = omega arith in
         let e : walk_of words root page ≡ Some (page_in (prefix_of page 4 % 512) x.0) =
@@ -98,14 +100,16 @@ in_large_page words root page some = go (some_or_none (large_of words root (slot
 missing_here : (words : List ℕ) (root page level : ℕ) → reach words root level (prefix_of page level) ≡ None → missing_at words root page level ≡ 1
 missing_here words root page level e = rw e refl
 
-present_here : (words : List ℕ) (root page level : ℕ) (met : Place) → reach words root level (prefix_of page level) ≡ Some met → missing_at words root page level ≡ 0
+present_here : (words : List ℕ) (root page level : ℕ) (met : Place) →
+    reach words root level (prefix_of page level) ≡ Some met → missing_at words root page level ≡ 0
 present_here words root page level met e = rw e refl
 
 -- a page misses at most three tables
 one_at_most : (words : List ℕ) (root page level : ℕ) → missing_at words root page level ≤ 1
 one_at_most words root page level = go (some_or_none (reach words root level (prefix_of page level)))
   where
-    go : ((x : Place) × (reach words root level (prefix_of page level) ≡ Some x)) ⊎ (reach words root level (prefix_of page level) ≡ None) → missing_at words root page level ≤ 1
+    go : ((x : Place) × (reach words root level (prefix_of page level) ≡ Some x)) ⊎ (reach words root level
+        (prefix_of page level) ≡ None) → missing_at words root page level ≤ 1
     go (inl x) = let e = present_here words root page level x.0 x.1 in omega (arith, e)
     go (inr none) = let e = missing_here words root page level none in omega (arith, e)
 
@@ -129,7 +133,8 @@ pub alike : (words : List ℕ) (root page other missing block : ℕ) → missing
     (walk_of words root page ≡ None → walk_of words root other ≡ None)
     × (reach words root 3 (prefix_of page 3) ≡ None → reach words root 3 (prefix_of other 3) ≡ None)
 alike words root page other missing block m b lo hi =
-    go (some_or_none (reach words root 1 (prefix_of page 1))) (some_or_none (reach words root 2 (prefix_of page 2))) (some_or_none (reach words root 3 (prefix_of page 3)))
+    go (some_or_none (reach words root 1 (prefix_of page 1))) (some_or_none (reach words root 2 (prefix_of page 2)))
+    (some_or_none (reach words root 3 (prefix_of page 3)))
   where
     stops : reach words root 2 (prefix_of other 2) ≡ None → Alike words root page other
     stops none = (λ _. walk_stops words root other none, λ _. none_more words root other 2 (omega arith) none)
@@ -193,7 +198,8 @@ alike_end words root page missing block m b three =
     go (some_or_none (reach words root 1 (prefix_of page 1))) (some_or_none (reach words root 2 (prefix_of page 2)))
   where
     go : ((x : Place) × (reach words root 1 (prefix_of page 1) ≡ Some x)) ⊎ (reach words root 1 (prefix_of page 1) ≡ None) →
-        ((x : Place) × (reach words root 2 (prefix_of page 2) ≡ Some x)) ⊎ (reach words root 2 (prefix_of page 2) ≡ None) → (page - page % block + block) % 512 ≡ 0
+        ((x : Place) × (reach words root 2 (prefix_of page 2) ≡ Some x)) ⊎ (reach words root 2 (prefix_of page 2) ≡ None) →
+        (page - page % block + block) % 512 ≡ 0
     go (inr one) _ =
         let two = none_more words root page 1 (omega arith) one in
         let c = missing_one words root page in

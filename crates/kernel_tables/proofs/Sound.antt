@@ -30,7 +30,8 @@ outside_used area free count frame known out = go (cases_Bool (is_free free fram
     go (inr x) = x
     go (inl x) = let y = free_inside area free count known frame x in absurd (cc)
 
-pub outside_unmet : (area : Area) (words : List ℕ) (root frame : ℕ) (free : List Bool) → IsTreeIn area words root free → in_area area frame ≡ false → IsUnmet area words root frame
+pub outside_unmet : (area : Area) (words : List ℕ) (root frame : ℕ) (free : List Bool) → IsTreeIn area words root free →
+    in_area area frame ≡ false → IsUnmet area words root frame
 outside_unmet Whole words root frame free tree out = absurd (cc)
 outside_unmet (Part first end) words root frame free tree out = λ l n met lt is e.
     let i : in_area (Part first end) met.frame ≡ true = tree.inside l n met lt is in
@@ -65,20 +66,26 @@ outside_kept area old new root before met page place is =
     let p = met (page % 2 ^ 36) place is in
     ap (in_area area) (sym p.2) ∙ before page p.0 p.1
 
-pub removed_outside : (area : Area) (old new : List ℕ) (root page : ℕ) → ArePagesChanged old new root removal (only page) → LeadsOutside area old root → LeadsOutside area new root
-removed_outside area old new root page all before = outside_kept area old new root before (λ n b is. met_before old new root removal (only page) all removal_keeps 4 n b (omega arith) is)
+pub removed_outside : (area : Area) (old new : List ℕ) (root page : ℕ) → ArePagesChanged old new root removal (only page) →
+    LeadsOutside area old root → LeadsOutside area new root
+removed_outside area old new root page all before = outside_kept area old new root before
+    (λ n b is. met_before old new root removal (only page) all removal_keeps 4 n b (omega arith) is)
 
 pub regranted_outside : (area : Area) (old new : List ℕ) (root page : ℕ) (rights : Rights) → ArePagesChanged old new root (regrant rights) (only page) →
     LeadsOutside area old root → LeadsOutside area new root
-regranted_outside area old new root page rights all before = outside_kept area old new root before (λ n b is. met_before old new root (regrant rights) (only page) all (regrant_keeps rights) 4 n b (omega arith) is)
+regranted_outside area old new root page rights all before = outside_kept area old new root before
+    (λ n b is. met_before old new root (regrant rights) (only page) all (regrant_keeps rights) 4 n b (omega arith) is)
 
 -- no fault, and so the frame lies outside the area
 pub no_fault : (state : TableState) (page frame : ℕ) → map_fault state page frame ≡ None → in_area state.area frame ≡ false
 no_fault state page frame none =
-    go (is_some (leads state page)) (not (ltb frame (limit_of state))) (in_area state.area frame) (ltb (free_count state.free) (missing_of state.words state.root page 1)) none
+    go (is_some (leads state page)) (not (ltb frame (limit_of state))) (in_area state.area frame)
+    (ltb (free_count state.free) (missing_of state.words state.root page 1)) none
   where
     go : (mapped past inside few : Bool) →
-        cond mapped (Some IsMapped) (cond past (Some PastLimit) (cond inside (Some InArea) (cond few (Some (NoFrames (missing_of state.words state.root page 1 - free_count state.free))) None))) ≡ None → inside ≡ false
+        cond mapped (Some IsMapped) (cond past (Some PastLimit) (cond inside (Some InArea)
+        (cond few (Some (NoFrames (missing_of state.words state.root page 1 - free_count state.free))) None))) ≡ None →
+        inside ≡ false
     go true past inside few e = absurd (cc)
     go false true inside few e = absurd (cc)
     go false false true few e = absurd (cc)
@@ -86,7 +93,8 @@ no_fault state page frame none =
 
 -- ---- the area at the start: each frame is free
 
-pub start_known : (area : Area) (ws words : List ℕ) (free : List Bool) (first limit end : ℕ) → area ≡ Part first end → ws ≡ padded words first limit → free ≡ ahead first end →
+pub start_known : (area : Area) (ws words : List ℕ) (free : List Bool) (first limit end : ℕ) → area ≡ Part first end →
+    ws ≡ padded words first limit → free ≡ ahead first end →
     512 * first + length words ≡ 512 * end → end ≤ limit → FreeIn area free (frame_count ws)
 start_known area ws words free first limit end e f g size le =
     rw (e, f, g) (λ frame is.

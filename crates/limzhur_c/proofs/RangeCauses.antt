@@ -16,16 +16,19 @@ off_half address away = go (cases_Bool (is_canonical address))
     go (inl is) = absurd (away is)
     go (inr is) = is
 
-pub map_off_half : (tables : TableState) (address pages frame : ℕ) → (IsTrue (is_canonical address) → ⊥) → map_range_cause tables address pages frame ≡ Some NotCanonical
+pub map_off_half : (tables : TableState) (address pages frame : ℕ) → (IsTrue (is_canonical address) → ⊥) →
+    map_range_cause tables address pages frame ≡ Some NotCanonical
 map_off_half tables address pages frame away = rw (off_half address away) refl
 
-pub map_far : (tables : TableState) (address pages frame : ℕ) → IsTrue (is_canonical address) → 2 ^ 40 ≤ frame → map_range_cause tables address pages frame ≡ Some PastLimit
+pub map_far : (tables : TableState) (address pages frame : ℕ) → IsTrue (is_canonical address) → 2 ^ 40 ≤ frame →
+    map_range_cause tables address pages frame ≡ Some PastLimit
 map_far tables address pages frame is far = rw (is, not_below frame far) refl
   where
     not_below : (f : ℕ) → 2 ^ 40 ≤ f → ltb f (2 ^ 40) ≡ false
     not_below f far = grind (arith, nat_tests)
 
-pub map_asked : (tables now : TableState) (address pages frame page to : ℕ) → IsTrue (is_canonical address) → frame < 2 ^ 40 → now ≡ tables → page ≡ address / 4096 → to ≡ frame →
+pub map_asked : (tables now : TableState) (address pages frame page to : ℕ) → IsTrue (is_canonical address) →
+    frame < 2 ^ 40 → now ≡ tables → page ≡ address / 4096 → to ≡ frame →
     map_range_cause tables address pages frame ≡ map_range_fault now page pages to
 map_asked tables now address pages frame page to is near same at led =
     let e : map_range_cause tables address pages frame ≡ map_range_fault tables (address / 4096) pages frame = rw (is, below frame near) refl in
@@ -34,7 +37,8 @@ map_asked tables now address pages frame page to is near same at led =
     below : (f : ℕ) → f < 2 ^ 40 → ltb f (2 ^ 40) ≡ true
     below f near = grind (arith, nat_tests)
 
-pub change_off_half : (tables : TableState) (address pages : ℕ) → (IsTrue (is_canonical address) → ⊥) → change_range_cause tables address pages ≡ Some NotCanonical
+pub change_off_half : (tables : TableState) (address pages : ℕ) → (IsTrue (is_canonical address) → ⊥) →
+    change_range_cause tables address pages ≡ Some NotCanonical
 change_off_half tables address pages away = rw (off_half address away) refl
 
 pub change_asked : (tables now : TableState) (address pages page : ℕ) → IsTrue (is_canonical address) → now ≡ tables → page ≡ address / 4096 →

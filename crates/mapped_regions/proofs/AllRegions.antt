@@ -30,8 +30,10 @@ joined_users region heap [] h = refl
 joined_users region heap (user ∷ users) h = go (nat_lt region.start user.start) refl (joined_users region (with_region user heap) users h.1)
   where
     go : (b : Bool) → nat_lt region.start user.start ≡ b →
-        fold (λ list r. with_region r list) (with_region user heap) (with_region region users) ≡ with_region region (fold (λ list r. with_region r list) (with_region user heap) users) →
-        fold (λ list r. with_region r list) heap (with_region region (user ∷ users)) ≡ with_region region (fold (λ list r. with_region r list) heap (user ∷ users))
+        fold (λ list r. with_region r list) (with_region user heap) (with_region region users) ≡ with_region region
+        (fold (λ list r. with_region r list) (with_region user heap) users) →
+        fold (λ list r. with_region r list) heap (with_region region (user ∷ users)) ≡ with_region region
+        (fold (λ list r. with_region r list) heap (user ∷ users))
     go true before later = rw before (joined_all region heap (user ∷ users) h)
     go false behind later = rw behind later
 
@@ -74,7 +76,8 @@ none_of_heap : (at n : ℕ) (list : List Region) → AllByRecursion (λ r. r.hea
 none_of_heap at n [] h = refl
 none_of_heap at n (r ∷ rs) h = rw h.0 (none_of_heap at n rs h.1)
 
-some_of_users : (at n : ℕ) (list : List Region) → AllByRecursion (λ r. r.heap ≡ false) list → list_any (λ r. not r.heap && is_at at n r) list ≡ list_any (is_at at n) list
+some_of_users : (at n : ℕ) (list : List Region) → AllByRecursion (λ r. r.heap ≡ false) list →
+    list_any (λ r. not r.heap && is_at at n r) list ≡ list_any (is_at at n) list
 some_of_users at n [] h = refl
 some_of_users at n (r ∷ rs) h = rw h.0 (ap (λ t. is_at at n r || t) (some_of_users at n rs h.1))
 
@@ -112,10 +115,12 @@ goes_first : (r : Region) (low : ℕ) (list : List Region) → r.start < low →
 goes_first r low [] h a = refl
 goes_first r low (x ∷ xs) h a = let t : nat_lt r.start x.start ≡ true = grind (arith, nat_tests, h, a.0) in rw t refl
 
-skips : (start pages : ℕ) (r : Region) (list : List Region) → Sorted list → is_at start pages r ≡ false → without_region start pages (with_region r list) ≡ with_region r (without_region start pages list)
+skips : (start pages : ℕ) (r : Region) (list : List Region) → Sorted list → is_at start pages r ≡ false →
+    without_region start pages (with_region r list) ≡ with_region r (without_region start pages list)
 skips start pages r [] s other = rw other refl
 skips start pages r (x ∷ xs) s other = go (cases_lt r.start x.start) (is_at start pages x) refl (skips start pages r xs s.1 other) where
-  go : (r.start < x.start) ⊎ (x.start ≤ r.start) → (t : Bool) → is_at start pages x ≡ t → without_region start pages (with_region r xs) ≡ with_region r (without_region start pages xs) →
+  go : (r.start < x.start) ⊎ (x.start ≤ r.start) → (t : Bool) → is_at start pages x ≡ t →
+      without_region start pages (with_region r xs) ≡ with_region r (without_region start pages xs) →
       without_region start pages (with_region r (x ∷ xs)) ≡ with_region r (without_region start pages (x ∷ xs))
   go (inl before) true is i =
       let t : nat_lt r.start x.start ≡ true = grind (arith, nat_tests) in
@@ -135,10 +140,12 @@ pub left_all : (start pages : ℕ) (heap users : List Region) → Sorted heap �
     fold (λ list r. with_region r list) (without_region start pages heap) users ≡ without_region start pages (fold (λ list r. with_region r list) heap users)
 left_all start pages heap [] s h = refl
 left_all start pages heap (user ∷ users) s h =
-    ap (λ list. fold (λ list r. with_region r list) list users) (sym (skips start pages user heap s h.0)) ∙ left_all start pages (with_region user heap) users (sorted_with user heap s) h.1
+    ap (λ list. fold (λ list r. with_region r list) list users) (sym (skips start pages user heap s h.0))
+    ∙ left_all start pages (with_region user heap) users (sorted_with user heap s) h.1
 
 -- one that was put in is taken out again, if no other is just there
-put_back : (start pages : ℕ) (r : Region) (list : List Region) → is_at start pages r ≡ true → list_any (is_at start pages) list ≡ false → without_region start pages (with_region r list) ≡ list
+put_back : (start pages : ℕ) (r : Region) (list : List Region) → is_at start pages r ≡ true →
+    list_any (is_at start pages) list ≡ false → without_region start pages (with_region r list) ≡ list
 put_back start pages r [] is none = rw is refl
 put_back start pages r (x ∷ xs) is none = go (nat_lt r.start x.start) (put_back start pages r xs is both.1)
   where
@@ -158,11 +165,14 @@ left_users start pages heap [] some sorted none order = sym (absent start pages 
     absent : (start pages : ℕ) (list : List Region) → list_any (is_at start pages) list ≡ false → without_region start pages list ≡ list
     absent start pages [] none = refl
     absent start pages (x ∷ xs) none =
-        let both : (is_at start pages x ≡ false) × (list_any (is_at start pages) xs ≡ false) = neither_or (is_at start pages x) (list_any (is_at start pages) xs) none in
+        let both : (is_at start pages x ≡ false) × (list_any (is_at start pages) xs ≡ false) =
+        neither_or (is_at start pages x) (list_any (is_at start pages) xs) none in
         rw both.0 (ap (λ ys. x ∷ ys) (absent start pages xs both.1))
-left_users start pages heap (user ∷ users) some sorted none order = go (is_at start pages user) refl (left_users start pages (with_region user heap) users some (sorted_with user heap sorted))
+left_users start pages heap (user ∷ users) some sorted none order = go (is_at start pages user) refl
+    (left_users start pages (with_region user heap) users some (sorted_with user heap sorted))
   where
-    behind : (from : ℕ) (list : List Region) → start < from → AllByRecursion (λ later. from ≤ later.start) list → AllByRecursion (λ later. is_at start pages later ≡ false) list
+    behind : (from : ℕ) (list : List Region) → start < from → AllByRecursion (λ later. from ≤ later.start) list →
+        AllByRecursion (λ later. is_at start pages later ≡ false) list
     behind from [] less all = tt
     behind from (x ∷ xs) less all = (other x less all.0, behind from xs less all.1)
       where
@@ -171,13 +181,16 @@ left_users start pages heap (user ∷ users) some sorted none order = go (is_at 
 
     go : (b : Bool) → is_at start pages user ≡ b →
         (list_any (is_at start pages) (with_region user heap) ≡ false → AreInOrder users →
-        fold (λ list r. with_region r list) (with_region user heap) (without_region start pages users) ≡ without_region start pages (fold (λ list r. with_region r list) (with_region user heap) users)) →
-        fold (λ list r. with_region r list) heap (without_region start pages (user ∷ users)) ≡ without_region start pages (fold (λ list r. with_region r list) heap (user ∷ users))
+        fold (λ list r. with_region r list) (with_region user heap) (without_region start pages users) ≡ without_region
+        start pages (fold (λ list r. with_region r list) (with_region user heap) users)) →
+        fold (λ list r. with_region r list) heap (without_region start pages (user ∷ users)) ≡ without_region start pages
+        (fold (λ list r. with_region r list) heap (user ∷ users))
     go true is later =
         let same : user.start ≡ start = grind (arith, nat_tests) in
         let long : user.pages ≡ pages = grind (arith, nat_tests) in
         rw is (ap (λ list. fold (λ list r. with_region r list) list users) (sym (put_back start pages user heap is none))
         ∙ left_all start pages (with_region user heap) users (sorted_with user heap sorted) (behind (end_of user) users (omega arith) order.0))
     go false is later =
-        let none_now : list_any (is_at start pages) (with_region user heap) ≡ false = any_with (is_at start pages) user heap ∙ or_neither (is_at start pages user) (list_any (is_at start pages) heap) is none in
+        let none_now : list_any (is_at start pages) (with_region user heap) ≡ false = any_with (is_at start pages) user heap
+        ∙ or_neither (is_at start pages user) (list_any (is_at start pages) heap) is none in
         rw is (later none_now order.1)

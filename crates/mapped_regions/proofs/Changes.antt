@@ -27,7 +27,8 @@ neither true b h = let no : true ≡ false = h in absurd (cc)
 neither false b h = (refl, h)
 
 -- pages that miss a pair lie before or after it
-beside : (x e : Interval ℕ × Kind) → x.0.start < x.0.end → e.0.start < e.0.end → meets (4096 * x.0.start) (x.0.end - x.0.start) (region_of e) ≡ false → (x.0.end ≤ e.0.start) ⊎ (e.0.end ≤ x.0.start)
+beside : (x e : Interval ℕ × Kind) → x.0.start < x.0.end → e.0.start < e.0.end →
+    meets (4096 * x.0.start) (x.0.end - x.0.start) (region_of e) ≡ false → (x.0.end ≤ e.0.start) ⊎ (e.0.end ≤ x.0.start)
 beside x e s t h = grind (arith, nat_tests)
 
 less : (x e : Interval ℕ × Kind) → x.0.start < e.0.start → by_ends nat_cmp x.0 e.0 ≡ Less
@@ -40,7 +41,9 @@ pub record IsAdded (x : Interval ℕ × Kind) (from : ℕ) (es : List (Interval 
   pub follow : Follow from (with_entry (by_ends nat_cmp) x es) to
   pub regions : regions_of (with_entry (by_ends nat_cmp) x es) ≡ with_region (region_of x) (regions_of es)
 
-pub added : (x : Interval ℕ × Kind) (from : ℕ) (es : List (Interval ℕ × Kind)) (to : ℕ) → Follow from es to → x.0.start < x.0.end → from ≤ x.0.start → x.0.end ≤ to → meets_any (4096 * x.0.start) (x.0.end - x.0.start) (regions_of es) ≡ false → IsAdded x from es to
+pub added : (x : Interval ℕ × Kind) (from : ℕ) (es : List (Interval ℕ × Kind)) (to : ℕ) → Follow from es to →
+    x.0.start < x.0.end → from ≤ x.0.start → x.0.end ≤ to → meets_any (4096 * x.0.start) (x.0.end - x.0.start)
+    (regions_of es) ≡ false → IsAdded x from es to
 added x from [] to f some above below h = record { follow = (above, some, below); regions = refl }
 added x from (e ∷ es) to f some above below h = by_side (beside x e some f.1 apart.0) (λ over. added x e.0.end es to f.2 some over below apart.1) where
   apart : (meets (4096 * x.0.start) (x.0.end - x.0.start) (region_of e) ≡ false) × (meets_any (4096 * x.0.start) (x.0.end - x.0.start) (regions_of es) ≡ false)
@@ -60,7 +63,8 @@ added x from (e ∷ es) to f some above below h = by_side (beside x e some f.1 a
 -- ---- taking out
 
 -- an interval is that of a pair exactly if the pair's region is the one of its pages
-same_pages : (i : Interval ℕ) (e : Interval ℕ × Kind) → i.start ≤ i.end → e.0.start < e.0.end → is_eq (by_ends nat_cmp i e.0) ≡ is_at (4096 * i.start) (i.end - i.start) (region_of e)
+same_pages : (i : Interval ℕ) (e : Interval ℕ × Kind) → i.start ≤ i.end → e.0.start < e.0.end →
+    is_eq (by_ends nat_cmp i e.0) ≡ is_at (4096 * i.start) (i.end - i.start) (region_of e)
 same_pages i e h s = grind (arith, nat_tests)
 
 pub record IsRemoved (i : Interval ℕ) (from : ℕ) (es : List (Interval ℕ × Kind)) (to : ℕ) : Type 0 where
@@ -100,8 +104,25 @@ cut i end from (e ∷ es) to f some shorter = by_test (is_eq (by_ends nat_cmp i 
       let same : is_at (4096 * i.start) (i.end - i.start) (region_of e) ≡ true = sym (same_pages i e (omega (arith, some, shorter)) f.1) ∙ is in
       let ends = equal_ends i e.0 is in
       record {
-        follow = rw is (f.0, omega (arith, some, ends.0), follow_down e.0.end end (map (with_end nat_cmp i end) es) to rest.follow (omega (arith, shorter, ends.1)));
-        regions = rw is (rw same (ap (λ (n : ℕ). record { start = 4096 * e.0.start; pages = end - n; heap = e.1.heap; rights = e.1.rights } ∷ regions_of (map (with_end nat_cmp i end) es)) (sym ends.0) ∙ ap (λ rs. record { start = 4096 * e.0.start; pages = end - i.start; heap = e.1.heap; rights = e.1.rights } ∷ rs) rest.regions));
+        follow = rw is (
+          f.0,
+          omega (arith, some, ends.0),
+          follow_down e.0.end end (map (with_end nat_cmp i end) es) to
+              rest.follow (omega (arith, shorter, ends.1)),
+        );
+        regions = rw is (rw same (ap (λ (n : ℕ). record {
+          start = 4096 * e.0.start;
+          pages = end - n;
+          heap = e.1.heap;
+          rights = e.1.rights;
+        } ∷ regions_of (map (with_end nat_cmp i end) es)) (sym ends.0)
+            ∙ ap (λ rs. record {
+              start = 4096 * e.0.start;
+              pages = end - i.start;
+              heap = e.1.heap;
+              rights =
+                  e.1.rights;
+            } ∷ rs) rest.regions));
       }
   by_test false is rest =
       let same : is_at (4096 * i.start) (i.end - i.start) (region_of e) ≡ false = sym (same_pages i e (omega (arith, some, shorter)) f.1) ∙ is in
@@ -113,20 +134,28 @@ equal_start i j h = grind (arith, nat_tests)
 -- no pair after a start has it
 own_behind : (i : Interval ℕ) (from : ℕ) (es : List (Interval ℕ × Kind)) (to : ℕ) → Follow from es to → i.start < from → AllItems (HasOwnStart nat_cmp i) es
 own_behind i from [] to f h = tt
-own_behind i from (e ∷ es) to f h = ((λ q. (let s = equal_start i e.0 q in absurd (omega (arith, s, h, f.0)))), own_behind i e.0.end es to f.2 (omega (arith, h, f.0, f.1)))
+own_behind i from (e ∷ es) to f h = (
+  (λ q. (let s = equal_start i e.0 q in absurd (omega (arith, s, h, f.0)))),
+  own_behind i e.0.end es to f.2 (omega (arith, h, f.0, f.1)),
+)
 
 -- if a pair's region is listed, its interval's start is its own
-listed_from : (i : Interval ℕ) (from : ℕ) (es : List (Interval ℕ × Kind)) (to : ℕ) → Follow from es to → list_any (is_at (4096 * i.start) (i.end - i.start)) (regions_of es) ≡ true → from ≤ i.start
+listed_from : (i : Interval ℕ) (from : ℕ) (es : List (Interval ℕ × Kind)) (to : ℕ) → Follow from es to →
+    list_any (is_at (4096 * i.start) (i.end - i.start)) (regions_of es) ≡ true → from ≤ i.start
 listed_from i from [] to f h = let no : false ≡ true = h in absurd (cc)
 listed_from i from (e ∷ es) to f h = by_test (is_at (4096 * i.start) (i.end - i.start) (region_of e)) refl (listed_from i e.0.end es to f.2) where
-  by_test : (t : Bool) → is_at (4096 * i.start) (i.end - i.start) (region_of e) ≡ t → (list_any (is_at (4096 * i.start) (i.end - i.start)) (regions_of es) ≡ true → e.0.end ≤ i.start) → from ≤ i.start
+  by_test : (t : Bool) → is_at (4096 * i.start) (i.end - i.start) (region_of e) ≡ t →
+      (list_any (is_at (4096 * i.start) (i.end - i.start)) (regions_of es) ≡ true → e.0.end ≤ i.start) → from ≤ i.start
   by_test true is rest = grind (arith, nat_tests, f.0)
   by_test false is rest = let r = rest (rw is at h) in omega (arith, r, f.0, f.1)
 
-pub own_start : (i : Interval ℕ) (from : ℕ) (es : List (Interval ℕ × Kind)) (to : ℕ) → Follow from es to → i.start ≤ i.end → list_any (is_at (4096 * i.start) (i.end - i.start)) (regions_of es) ≡ true → AllItems (HasOwnStart nat_cmp i) es
+pub own_start : (i : Interval ℕ) (from : ℕ) (es : List (Interval ℕ × Kind)) (to : ℕ) → Follow from es to → i.start ≤ i.end →
+    list_any (is_at (4096 * i.start) (i.end - i.start)) (regions_of es) ≡ true → AllItems (HasOwnStart nat_cmp i) es
 own_start i from [] to f s h = tt
 own_start i from (e ∷ es) to f s h = by_test (is_at (4096 * i.start) (i.end - i.start) (region_of e)) refl (own_start i e.0.end es to f.2 s) where
-  by_test : (t : Bool) → is_at (4096 * i.start) (i.end - i.start) (region_of e) ≡ t → (list_any (is_at (4096 * i.start) (i.end - i.start)) (regions_of es) ≡ true → AllItems (HasOwnStart nat_cmp i) es) → AllItems (HasOwnStart nat_cmp i) (e ∷ es)
+  by_test : (t : Bool) → is_at (4096 * i.start) (i.end - i.start) (region_of e) ≡ t →
+      (list_any (is_at (4096 * i.start) (i.end - i.start)) (regions_of es) ≡ true → AllItems (HasOwnStart nat_cmp i) es) →
+      AllItems (HasOwnStart nat_cmp i) (e ∷ es)
   by_test true is rest =
       let same : is_eq (by_ends nat_cmp i e.0) ≡ true = same_pages i e s f.1 ∙ is in
       let ends = equal_ends i e.0 same in

@@ -34,7 +34,8 @@ module _ (low pages : ℕ) (aligned : low % 4096 ≡ 0) (some : 0 < pages) where
         let from_is : next ≡ from = elim is [ inl e ↦ absurd (omega arith) | inr e ↦ e ] in
         let starts = laid.0 in
         let apart : meets low pages region ≡ false = grind (arith, nat_tests) in
-        let more = cut_pages (end_of region) to (end_of region) rest laid.3 ends.1 (omega arith) (omega arith) (inr refl) (let s = laid.1 in omega arith) (λ address low' high'. absurd (omega arith)) in
+        let more = cut_pages (end_of region) to (end_of region) rest laid.3 ends.1 (omega arith) (omega arith) (inr refl)
+        (let s = laid.1 in omega arith) (λ address low' high'. absurd (omega arith)) in
         rw apart (omega arith))
     | inl less ↦ elim (or_cases (is_within next region) (list_any (is_within next) rest) (held next (omega arith) less)) [
       | inl here ↦ (
@@ -42,14 +43,16 @@ module _ (low pages : ℕ) (aligned : low % 4096 ≡ 0) (some : 0 < pages) where
           let ends_behind : next < end_of region = grind (arith, nat_tests) in
           let s = laid.1 in
           inside less starts ends_behind
-          (cut_pages (end_of region) to (end_of region) rest laid.3 ends.1 (omega arith) (omega arith) (inr refl) (omega arith) (λ address past high. held_on address past (omega arith) high)))
+          (cut_pages (end_of region) to (end_of region) rest laid.3 ends.1 (omega arith) (omega arith) (inr refl)
+          (omega arith) (λ address past high. held_on address past (omega arith) high)))
       | inr later ↦ (
           let past : end_of region ≤ next = at_or_behind (end_of region) to next rest laid.3 later in
           let starts = laid.0 in
           let long = laid.2 in
           let low_is : next ≡ low = elim is [ inl e ↦ e | inr e ↦ absurd (omega arith) ] in
           let apart : meets low pages region ≡ false = grind (arith, nat_tests) in
-          let more = cut_pages (end_of region) to next rest laid.3 ends.1 above past (inl low_is) whole (λ address from' before. held_on address (omega arith) from' before) in
+          let more = cut_pages (end_of region) to next rest laid.3 ends.1 above past (inl low_is) whole
+          (λ address from' before. held_on address (omega arith) from' before) in
           rw apart (omega arith))
     ]
   ]
@@ -84,7 +87,8 @@ module _ (low pages : ℕ) (aligned : low % 4096 ≡ 0) (some : 0 < pages) where
       total_pages (cut_of low pages regions) + pages ≡ total_pages regions
   cut_count to regions laid ends held =
       let same : (low + 4096 * pages - low) / 4096 ≡ pages = omega arith in
-      ap (λ (n : ℕ). total_pages (cut_of low pages regions) + n) (sym same) ∙ cut_pages 0 to low regions laid ends (omega arith) (omega arith) (inl refl) aligned held
+      ap (λ (n : ℕ). total_pages (cut_of low pages regions) + n) (sym same)
+      ∙ cut_pages 0 to low regions laid ends (omega arith) (omega arith) (inl refl) aligned held
 
 -- a region that ends earlier is a region
 shorter_range : (start old new : ℕ) → IsPageRange start old → 0 < new → new ≤ old → IsPageRange start new
@@ -92,12 +96,18 @@ shorter_range start old new range some less =
     let half = range.1.one_half in
     (range.0, record { some = some; canonical = range.1.canonical; one_half = omega arith })
 
-pub regions_cut : (base window low pages : ℕ) (regions : List Region) → low % 4096 ≡ 0 → AllByRecursion (IsRegion base window) regions → AllByRecursion (IsRegion base window) (cut_of low pages regions)
+pub regions_cut : (base window low pages : ℕ) (regions : List Region) → low % 4096 ≡ 0 →
+    AllByRecursion (IsRegion base window) regions → AllByRecursion (IsRegion base window) (cut_of low pages regions)
 regions_cut base window low pages [] whole all = tt
-regions_cut base window low pages (region ∷ rest) whole all = go (meets low pages region) (nat_lt region.start low) refl refl (regions_cut base window low pages rest whole all.1)
+regions_cut base window low pages (region ∷ rest) whole all = go (meets low pages region) (nat_lt region.start low) refl
+    refl (regions_cut base window low pages rest whole all.1)
   where
     go : (met before : Bool) → meets low pages region ≡ met → nat_lt region.start low ≡ before → AllByRecursion (IsRegion base window) (cut_of low pages rest) →
-        AllByRecursion (IsRegion base window) (if met then (if before then record region { pages = (low - region.start) / 4096 } ∷ cut_of low pages rest else cut_of low pages rest) else region ∷ cut_of low pages rest)
+        AllByRecursion (IsRegion base window) (if met then (if before then record region {
+          pages =
+              (low - region.start) / 4096;
+        } ∷ cut_of low pages rest else cut_of low pages rest) else region ∷ cut_of low pages
+        rest)
     go false before met test later = (all.0, later)
     go true false met test later = later
     go true true met test later =

@@ -60,10 +60,12 @@ passed : (at n : ℕ) (x : Region) (old new : List Region) → meets at n x ≡ 
 passed at n x old new h s = record { same = rw h (ap (λ rs. x ∷ rs) s.same); fewer = rw h s.fewer }
 
 pub removes :
-    (at n : ℕ) (rs : List Region) (r : Region) → meets at n r ≡ true → find (meets at n) rs ≡ Some r → at ≤ r.start → IsStep at n rs (without_region r.start r.pages rs)
+    (at n : ℕ) (rs : List Region) (r : Region) → meets at n r ≡ true → find (meets at n) rs ≡ Some r → at ≤ r.start →
+    IsStep at n rs (without_region r.start r.pages rs)
 removes at n [] r m h k = absurd (cc)
 removes at n (x ∷ rs) r m h k = by_test (meets at n x) refl (λ i. removes at n rs r m i k) where
-  by_test : (t : Bool) → meets at n x ≡ t → (find (meets at n) rs ≡ Some r → IsStep at n rs (without_region r.start r.pages rs)) → IsStep at n (x ∷ rs) (without_region r.start r.pages (x ∷ rs))
+  by_test : (t : Bool) → meets at n x ≡ t → (find (meets at n) rs ≡ Some r →
+      IsStep at n rs (without_region r.start r.pages rs)) → IsStep at n (x ∷ rs) (without_region r.start r.pages (x ∷ rs))
   by_test true is rest =
       let same : Some x ≡ Some r = rw is at h in
       let is_it : x ≡ r = cc in

@@ -22,7 +22,10 @@ use Rattle.mapped_regions.specs.Mapped.{IsPageRange, IsRegion, IsMapped}
 
 behind : (address from to : ℕ) (list : List Region) → AreLaid from list to → address ≤ from → IsBoundary address list
 behind address from to [] laid less = tt
-behind address from to (first ∷ rest) laid less = (inr (omega (arith, less, laid.0)), behind address (end_of first) to rest laid.3 (omega (arith, less, laid.0)))
+behind address from to (first ∷ rest) laid less = (
+  inr (omega (arith, less, laid.0)),
+  behind address (end_of first) to rest laid.3 (omega (arith, less, laid.0)),
+)
 
 listed_from : (start pages from to : ℕ) (list : List Region) → AreLaid from list to → list_any (is_at start pages) list ≡ true → from ≤ start
 listed_from start pages from to [] laid there = cc
@@ -31,7 +34,8 @@ listed_from start pages from to (first ∷ rest) laid there = elim (or_cases (is
   | inr later ↦ (let more = listed_from start pages (end_of first) to rest laid.3 later in omega (arith, laid.0, more))
 ]
 
-pub listed_ends : (start pages from to : ℕ) (list : List Region) → AreLaid from list to → list_any (is_at start pages) list ≡ true → IsBoundary (start + 4096 * pages) list
+pub listed_ends : (start pages from to : ℕ) (list : List Region) → AreLaid from list to →
+    list_any (is_at start pages) list ≡ true → IsBoundary (start + 4096 * pages) list
 listed_ends start pages from to [] laid there = tt
 listed_ends start pages from to (first ∷ rest) laid there = elim (or_cases (is_at start pages first) (list_any (is_at start pages) rest) there) [
   | inl here ↦ (
@@ -66,7 +70,8 @@ whole_ends slot address (first ∷ rest) ends whole less = elim (or_cases (has_w
 ]
 
 -- so no large page does
-pub none_over : (p : Paged) (start pages : ℕ) → IsMapped p → IsPageRange start pages → IsBoundary (start + 4096 * pages) p.regions → NoLargePageReachesOver p.words p.root (start / 4096) pages
+pub none_over : (p : Paged) (start pages : ℕ) → IsMapped p → IsPageRange start pages →
+    IsBoundary (start + 4096 * pages) p.regions → NoLargePageReachesOver p.words p.root (start / 4096) pages
 none_over p start pages m range ends = λ k less some.
     let aligned = range.0 in
     let canonical = page_canonical (start / 4096) pages k range.1 less in
@@ -94,9 +99,11 @@ pub whole_without : (start pages slot : ℕ) (list : List Region) → (slot + 2 
     is_whole_in (without_region start pages list) slot ≡ true
 whole_without start pages slot [] beside whole = whole
 whole_without start pages slot (first ∷ rest) beside whole =
-    go (λ later. whole_without start pages slot rest beside later) (is_at start pages first) refl (or_cases (has_whole slot first) (is_whole_in rest slot) whole)
+    go (λ later. whole_without start pages slot rest beside later) (is_at start pages first) refl
+    (or_cases (has_whole slot first) (is_whole_in rest slot) whole)
   where
-    go : (is_whole_in rest slot ≡ true → is_whole_in (without_region start pages rest) slot ≡ true) → (b : Bool) → is_at start pages first ≡ b → (has_whole slot first ≡ true) ⊎ (is_whole_in rest slot ≡ true) →
+    go : (is_whole_in rest slot ≡ true → is_whole_in (without_region start pages rest) slot ≡ true) → (b : Bool) →
+        is_at start pages first ≡ b → (has_whole slot first ≡ true) ⊎ (is_whole_in rest slot ≡ true) →
         is_whole_in (if b then rest else first ∷ without_region start pages rest) slot ≡ true
     go more true at (inl here) =
         let bounds = whole_bounds slot first here in
@@ -107,20 +114,28 @@ whole_without start pages slot (first ∷ rest) beside whole =
     go more false at (inl here) = or_left (has_whole slot first) (is_whole_in (without_region start pages rest) slot) here
     go more false at (inr later) = or_right (has_whole slot first) (is_whole_in (without_region start pages rest) slot) (more later)
 
-pub whole_cut : (base window start pages slot : ℕ) (list : List Region) → AllByRecursion (IsRegion base window) list → start % 4096 ≡ 0 → slot % 2 ^ 21 ≡ 0 → IsBoundary (start + 4096 * pages) list →
+pub whole_cut : (base window start pages slot : ℕ) (list : List Region) → AllByRecursion (IsRegion base window) list →
+    start % 4096 ≡ 0 → slot % 2 ^ 21 ≡ 0 → IsBoundary (start + 4096 * pages) list →
     (slot + 2 ^ 21 ≤ start) ⊎ (start + 4096 * pages ≤ slot) → is_whole_in list slot ≡ true → is_whole_in (cut_of start pages list) slot ≡ true
 whole_cut base window start pages slot [] all aligned whole_slot ends beside whole = whole
 whole_cut base window start pages slot (first ∷ rest) all aligned whole_slot ends beside whole =
-    go (λ later. whole_cut base window start pages slot rest all.1 aligned whole_slot ends.1 beside later) (meets start pages first) refl (nat_lt first.start start) refl (or_cases (has_whole slot first) (is_whole_in rest slot) whole)
+    go (λ later. whole_cut base window start pages slot rest all.1 aligned whole_slot ends.1 beside later)
+    (meets start pages first) refl (nat_lt first.start start) refl (or_cases (has_whole slot first)
+    (is_whole_in rest slot) whole)
   where
-    go : (is_whole_in rest slot ≡ true → is_whole_in (cut_of start pages rest) slot ≡ true) → (met : Bool) → meets start pages first ≡ met → (before : Bool) → nat_lt first.start start ≡ before → (has_whole slot first ≡ true) ⊎ (is_whole_in rest slot ≡ true) →
-        is_whole_in (if met then (if before then record first { pages = (start - first.start) / 4096 } ∷ cut_of start pages rest else cut_of start pages rest) else first ∷ cut_of start pages rest) slot ≡ true
+    go : (is_whole_in rest slot ≡ true → is_whole_in (cut_of start pages rest) slot ≡ true) → (met : Bool) →
+        meets start pages first ≡ met → (before : Bool) → nat_lt first.start start ≡ before →
+        (has_whole slot first ≡ true) ⊎ (is_whole_in rest slot ≡ true) →
+        is_whole_in (if met then (if before then record first { pages = (start - first.start) / 4096 } ∷ cut_of start pages
+        rest else cut_of start pages rest) else first ∷ cut_of start pages rest) slot ≡ true
     go more false meet b is (inl here) = or_left (has_whole slot first) (is_whole_in (cut_of start pages rest) slot) here
     go more false meet b is (inr later) = or_right (has_whole slot first) (is_whole_in (cut_of start pages rest) slot) (more later)
-    go more true meet true is (inr later) = or_right (has_whole slot (record first { pages = (start - first.start) / 4096 })) (is_whole_in (cut_of start pages rest) slot) (more later)
+    go more true meet true is (inr later) = or_right (has_whole slot (record
+        first { pages = (start - first.start) / 4096 })) (is_whole_in (cut_of start pages rest) slot) (more later)
     go more true meet false is (inr later) = more later
     go more true meet true is (inl here) =
-        or_left (has_whole slot (record first { pages = (start - first.start) / 4096 })) (is_whole_in (cut_of start pages rest) slot) (shorter (whole_bounds slot first here))
+        or_left (has_whole slot (record first { pages = (start - first.start) / 4096 }))
+        (is_whole_in (cut_of start pages rest) slot) (shorter (whole_bounds slot first here))
       where
         shorter : (first.start ≤ slot) × (slot + 2 ^ 21 ≤ end_of first) → has_whole slot (record first { pages = (start - first.start) / 4096 }) ≡ true
         shorter bounds =

@@ -20,7 +20,8 @@ held_first address n (r ∷ rs) some h = by_test (is_within address r) refl (hel
   or_right true u k = refl
   or_right false u k = k
 
-  by_test : (t : Bool) → is_within address r ≡ t → (list_any (is_within address) rs ≡ true → meets_any address n rs ≡ true) → meets_any address n (r ∷ rs) ≡ true
+  by_test : (t : Bool) → is_within address r ≡ t → (list_any (is_within address) rs ≡ true →
+      meets_any address n rs ≡ true) → meets_any address n (r ∷ rs) ≡ true
   by_test true is rest = let here = within_meets address n r some is in rw here refl
   by_test false is rest = or_right (meets address n r) (meets_any address n rs) (rest (rw is at h))
 
@@ -37,7 +38,13 @@ place_behind :
     (base hint pages n address : ℕ) (regions : List Region) → AreHeld (4096 * base) (4096 * hint) regions → 0 < n → base ≤ hint → hint ≤ base + pages →
     IsPlace (4096 * hint) (base + pages - hint) regions n address → IsPlace (4096 * base) pages regions n address
 place_behind base hint pages n address regions held some from to place = record {
-  fit = record { aligned = place.fit.aligned; from = omega (arith, from, place.fit.from); within = omega (arith, place.fit.within, to); clear = place.fit.clear };
+  fit = record {
+    aligned = place.fit.aligned;
+    from = omega (arith, from, place.fit.from);
+    within =
+        omega (arith, place.fit.within, to);
+    clear = place.fit.clear;
+  };
   least = λ other lower fit. place.least other lower (fit_behind base hint pages n other regions held some to fit);
 }
 
@@ -48,7 +55,8 @@ none_behind base hint pages n regions held some to none address fit = none addre
 
 pub some_behind :
     (o : Option ℕ) (base hint pages n : ℕ) (regions : List Region) → AreHeld (4096 * base) (4096 * hint) regions → 0 < n → base ≤ hint → hint ≤ base + pages →
-    IfSome o (λ page. IsPlace (4096 * hint) (base + pages - hint) regions n (4096 * page)) → IfSome o (λ page. IsPlace (4096 * base) pages regions n (4096 * page))
+    IfSome o (λ page. IsPlace (4096 * hint) (base + pages - hint) regions n (4096 * page)) →
+    IfSome o (λ page. IsPlace (4096 * base) pages regions n (4096 * page))
 some_behind None base hint pages n regions held some from to h = tt
 some_behind (Some page) base hint pages n regions held some from to h = place_behind base hint pages n (4096 * page) regions held some from to h
 

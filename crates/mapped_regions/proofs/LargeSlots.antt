@@ -17,7 +17,10 @@ all_are P Q (slot ∷ rest) each all = (each slot all.0, all_are P Q rest each a
 
 ascending_append : (slots : List ℕ) (slot : ℕ) → AreAscending slots → AllByRecursion (λ one. one < slot) slots → AreAscending (slots ++ slot ∷ [])
 ascending_append [] slot up below = (tt, tt)
-ascending_append (first ∷ rest) slot up below = (all_append (λ later. first < later) rest (slot ∷ []) up.0 (below.0, tt), ascending_append rest slot up.1 below.1)
+ascending_append (first ∷ rest) slot up below = (
+  all_append (λ later. first < later) rest (slot ∷ []) up.0 (below.0, tt),
+  ascending_append rest slot up.1 below.1,
+)
 
 -- there is none if no slot is whole
 pub slots_none : (words : List ℕ) (root address pages : ℕ) → ((slot : ℕ) → IsSlotOf address pages slot → ⊥) → AreLargeSlots words root address pages []
@@ -54,7 +57,8 @@ module _ (words : List ℕ) (root address pages slot : ℕ) (slots : List ℕ)
 
   pub slots_more : IsSome (large_of words root (slot_number slot)) → AreLargeSlots words root address (pages + 512) (slots ++ slot ∷ [])
   slots_more some = record {
-    ascending = ascending_append slots slot are.ascending (all_are (IsSlotOf address pages) (λ one. one < slot) slots (λ one of. (let to = of.within in omega arith)) are.within);
+    ascending = ascending_append slots slot are.ascending (all_are (IsSlotOf address pages) (λ one. one < slot) slots
+        (λ one of. (let to = of.within in omega arith)) are.within);
     within = all_append (IsSlotOf address (pages + 512)) slots (slot ∷ [])
         (all_are (IsSlotOf address pages) (IsSlotOf address (pages + 512)) slots longer are.within)
         (record { is_slot = is_slot; from = omega arith; within = omega arith }, tt);
@@ -94,7 +98,8 @@ slots_of words root address pages more slots are either all = record {
   exactly = λ slot of. go slot (either slot of);
 }
   where
-    go : (slot : ℕ) → IsSlotOf address pages slot ⊎ (large_of words root (slot_number slot) ≡ None) → IsSome (large_of words root (slot_number slot)) ↔ IsTrue (has_slot slots slot)
+    go : (slot : ℕ) → IsSlotOf address pages slot ⊎ (large_of words root (slot_number slot) ≡ None) →
+        IsSome (large_of words root (slot_number slot)) ↔ IsTrue (has_slot slots slot)
     go slot (inl of) = are.exactly slot of
     go slot (inr none) = (
       λ large. absurd (some_not_none (large_of words root (slot_number slot)) large none),

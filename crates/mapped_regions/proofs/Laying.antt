@@ -12,20 +12,32 @@ pub laid_from : (low from to : ℕ) (list : List Region) → low ≤ from → Ar
 laid_from low from to [] less laid = omega (arith, less, laid)
 laid_from low from to (first ∷ rest) less laid = (omega (arith, less, laid.0), laid.1, laid.2, laid.3)
 
-pub laid_with : (region : Region) (from to : ℕ) (list : List Region) → region.start % 4096 ≡ 0 → 0 < region.pages → from ≤ region.start → end_of region ≤ to → meets_any region.start region.pages list ≡ false → AreLaid from list to →
+pub laid_with : (region : Region) (from to : ℕ) (list : List Region) → region.start % 4096 ≡ 0 → 0 < region.pages →
+    from ≤ region.start → end_of region ≤ to → meets_any region.start region.pages list ≡ false → AreLaid from list to →
     AreLaid from (with_region region list) to
 laid_with region from to [] whole some above below clear laid = (above, whole, some, below)
 laid_with region from to (first ∷ rest) whole some above below clear laid =
-    let both : (meets region.start region.pages first ≡ false) × (meets_any region.start region.pages rest ≡ false) = neither_or (meets region.start region.pages first) (meets_any region.start region.pages rest) clear in
-    go (nat_lt region.start first.start) (λ less. grind (arith, nat_tests)) (λ more. grind (arith, nat_tests)) both.0 (λ behind. laid_with region (end_of first) to rest whole some behind below both.1 laid.3)
+    let both : (meets region.start region.pages first ≡ false) × (meets_any region.start region.pages rest ≡ false) =
+    neither_or (meets region.start region.pages first) (meets_any region.start region.pages rest) clear in
+    go (nat_lt region.start first.start) (λ less. grind (arith, nat_tests)) (λ more. grind (arith, nat_tests)) both.0
+    (λ behind. laid_with region (end_of first) to rest whole some behind below both.1 laid.3)
   where
     go : (b : Bool) → (b ≡ true → region.start < first.start) → (b ≡ false → first.start ≤ region.start) → meets region.start region.pages first ≡ false →
-        (end_of first ≤ region.start → AreLaid (end_of first) (with_region region rest) to) → AreLaid from (cond b (region ∷ first ∷ rest) (first ∷ with_region region rest)) to
+        (end_of first ≤ region.start → AreLaid (end_of first) (with_region region rest) to) →
+        AreLaid from (cond b (region ∷ first ∷ rest) (first ∷ with_region region rest)) to
     go true sooner later none rest_laid = (
       above,
       whole,
       some,
-      (elim (beside region.start region.pages first none) [ inl behind ↦ absurd (omega (arith, behind, sooner refl, laid.2)) | inr before ↦ before ], laid.1, laid.2, laid.3),
+      (
+        elim (beside region.start region.pages first none) [
+          | inl behind ↦ absurd (omega (arith, behind, sooner refl, laid.2))
+          | inr before ↦ before
+        ],
+        laid.1,
+        laid.2,
+        laid.3,
+      ),
     )
     go false sooner later none rest_laid = (
       laid.0,
@@ -44,13 +56,15 @@ laid_without start pages from to (first ∷ rest) laid = go (is_at start pages f
 
 pub laid_cut : (address pages from to : ℕ) (list : List Region) → address % 4096 ≡ 0 → AreLaid from list to → AreLaid from (cut_of address pages list) to
 laid_cut address pages from to [] whole laid = laid
-laid_cut address pages from to (first ∷ rest) whole laid = go (meets address pages first) refl (nat_lt first.start address) refl (laid_cut address pages (end_of first) to rest whole laid.3)
+laid_cut address pages from to (first ∷ rest) whole laid = go (meets address pages first) refl (nat_lt first.start address)
+    refl (laid_cut address pages (end_of first) to rest whole laid.3)
   where
     before : meets address pages first ≡ true → address < end_of first
     before met = grind (arith, nat_tests)
 
     go : (m : Bool) → meets address pages first ≡ m → (b : Bool) → nat_lt first.start address ≡ b → AreLaid (end_of first) (cut_of address pages rest) to →
-        AreLaid from (cond m (cond b (record first { pages = (address - first.start) / 4096 } ∷ cut_of address pages rest) (cut_of address pages rest)) (first ∷ cut_of address pages rest)) to
+        AreLaid from (cond m (cond b (record first { pages = (address - first.start) / 4096 } ∷ cut_of address pages rest)
+        (cut_of address pages rest)) (first ∷ cut_of address pages rest)) to
     go true met true less later =
         let below = before met in
         let above : first.start < address = grind (arith, nat_tests) in
@@ -58,7 +72,8 @@ laid_cut address pages from to (first ∷ rest) whole laid = go (meets address p
           laid.0,
           laid.1,
           omega (arith, above, at_page, whole),
-          laid_from (first.start + 4096 * ((address - first.start) / 4096)) (end_of first) to (cut_of address pages rest) (omega (arith, above, below, at_page, whole)) later,
+          laid_from (first.start + 4096 * ((address - first.start) / 4096)) (end_of first) to (cut_of address pages rest)
+              (omega (arith, above, below, at_page, whole)) later,
         )
     go true met false more later = laid_from from (end_of first) to (cut_of address pages rest) (omega (arith, laid.0)) later
     go false met b is later = (laid.0, laid.1, laid.2, later)

@@ -34,11 +34,13 @@ ge_test : (at : ℕ) (e : Interval ℕ × Kind) → at ≤ e.0.start → starts_
 ge_test at e h = grind (arith, nat_tests)
 
 -- the first after the front is the first of the back
-past_front : (at : ℕ) (front back : List (Interval ℕ × Kind)) → AllItems (λ e. e.0.start < at) front → first (starts_from nat_cmp at) (front ++ back) ≡ first (starts_from nat_cmp at) back
+past_front : (at : ℕ) (front back : List (Interval ℕ × Kind)) → AllItems (λ e. e.0.start < at) front →
+    first (starts_from nat_cmp at) (front ++ back) ≡ first (starts_from nat_cmp at) back
 past_front at [] back h = refl
 past_front at (e ∷ front) back h = let t = lt_test at e h.0 in rw t (past_front at front back h.1)
 
-head_is : (at : ℕ) (back : List (Interval ℕ × Kind)) (to : ℕ) (next : Interval ℕ × Kind) → Follow at back to → first (starts_from nat_cmp at) back ≡ Some next → (rest : List (Interval ℕ × Kind)) × (back ≡ next ∷ rest)
+head_is : (at : ℕ) (back : List (Interval ℕ × Kind)) (to : ℕ) (next : Interval ℕ × Kind) → Follow at back to →
+    first (starts_from nat_cmp at) back ≡ Some next → (rest : List (Interval ℕ × Kind)) × (back ≡ next ∷ rest)
 head_is at [] to next f h = absurd (cc)
 head_is at (e ∷ rest) to next f h =
     let t = ge_test at e f.0 in
@@ -50,7 +52,8 @@ none_is : (at : ℕ) (back : List (Interval ℕ × Kind)) (to : ℕ) → Follow 
 none_is at [] to f h = refl
 none_is at (e ∷ rest) to f h = let t = ge_test at e f.0 in let no : Some e ≡ None = rw t at h in absurd (cc)
 
-all_later : (at later : ℕ) (front : List (Interval ℕ × Kind)) (e : Interval ℕ × Kind) → at ≤ later → e.0.start < later → AllItems (λ e. e.0.start < at) front → AllItems (λ e. e.0.start < later) (front ++ e ∷ [])
+all_later : (at later : ℕ) (front : List (Interval ℕ × Kind)) (e : Interval ℕ × Kind) → at ≤ later → e.0.start < later →
+    AllItems (λ e. e.0.start < at) front → AllItems (λ e. e.0.start < later) (front ++ e ∷ [])
 all_later at later [] e h k a = (k, tt)
 all_later at later (x ∷ front) e h k a = (omega (arith, h, a.0), all_later at later front e h k a.1)
 
@@ -61,7 +64,8 @@ regions_more (x ∷ front) e = ap (λ rs. region_of x ∷ rs) (regions_more fron
 pub listed_none : (es : List (Interval ℕ × Kind)) (items : List Region) (to : ℕ) → Follow 0 es to → items ≡ [] → Listed 0 es items to
 listed_none es items to f h = record { front = []; back = es; whole = refl; before = tt; follow = f; items_are = h }
 
-pub listed_all : (at : ℕ) (es : List (Interval ℕ × Kind)) (items : List Region) (to : ℕ) → Listed at es items to → first (starts_from nat_cmp at) es ≡ None → items ≡ regions_of es
+pub listed_all : (at : ℕ) (es : List (Interval ℕ × Kind)) (items : List Region) (to : ℕ) → Listed at es items to →
+    first (starts_from nat_cmp at) es ≡ None → items ≡ regions_of es
 listed_all at es items to l h =
     let gone = none_is at l.back to l.follow (sym (past_front at l.front l.back l.before) ∙ (sym (ap (first (starts_from nat_cmp at)) l.whole) ∙ h)) in
     l.items_are ∙ ap regions_of (sym (append-nil l.front) ∙ (ap (λ b. l.front ++ b) (sym gone) ∙ sym l.whole))
@@ -74,7 +78,8 @@ length_front : (front rest : List (Interval ℕ × Kind)) (e : Interval ℕ × K
 length_front [] rest e = omega arith
 length_front (x ∷ front) rest e = let i = length_front front rest e in omega (arith, i)
 
-pub listed_on : (at : ℕ) (es : List (Interval ℕ × Kind)) (items : List Region) (to : ℕ) (next : Interval ℕ × Kind) → Listed at es items to → first (starts_from nat_cmp at) es ≡ Some next → IsListedOn at es items to next
+pub listed_on : (at : ℕ) (es : List (Interval ℕ × Kind)) (items : List Region) (to : ℕ) (next : Interval ℕ × Kind) →
+    Listed at es items to → first (starts_from nat_cmp at) es ≡ Some next → IsListedOn at es items to next
 listed_on at es items to next l h =
     let head = head_is at l.back to next l.follow (sym (past_front at l.front l.back l.before) ∙ (sym (ap (first (starts_from nat_cmp at)) l.whole) ∙ h)) in
     let rest = head.0 in
@@ -89,7 +94,9 @@ listed_on at es items to next l h =
         follow = f.2;
         items_are = ap (λ rs. rs ++ region_of next ∷ []) l.items_are ∙ sym (regions_more l.front next);
       };
-      fewer = subst (λ (rs : List Region). length rs < length (regions_of es)) (sym l.items_are) (subst (λ (fs : List (Interval ℕ × Kind)). length (regions_of l.front) < length (regions_of fs)) (sym whole) (length_front l.front rest next));
+      fewer = subst (λ (rs : List Region). length rs < length (regions_of es)) (sym l.items_are)
+          (subst (λ (fs : List (Interval ℕ × Kind)). length (regions_of l.front) < length (regions_of fs)) (sym whole)
+          (length_front l.front rest next));
     }
 
 -- ---- those of the heap
@@ -102,13 +109,17 @@ fewer_of_heap (r ∷ rs) = go r.heap (fewer_of_heap rs) where
   go false more = omega (arith, more)
 
 -- the list has a place for one more
-pub heap_place : (at : ℕ) (es : List (Interval ℕ × Kind)) (all items : List Region) (to capacity : ℕ) (next : Interval ℕ × Kind) → IsListedOn at es all to next → items ≡ filter (λ r. r.heap) all →
+pub heap_place : (at : ℕ) (es : List (Interval ℕ × Kind)) (all items : List Region) (to capacity : ℕ)
+    (next : Interval ℕ × Kind) → IsListedOn at es all to next → items ≡ filter (λ r. r.heap) all →
     length (regions_of es) ≤ capacity → length items < capacity
 heap_place at es all items to capacity next on is places =
     let few = fewer_of_heap all in
     let same : length items ≡ length (filter (λ r. r.heap) all) = ap length is in
     omega (arith, few, same, on.fewer, places)
 
-pub heap_more : (all items items' : List Region) (region next : Region) → items ≡ filter (λ r. r.heap) all → region ≡ next → items' ≡ items ++ filter (λ r. r.heap) (region ∷ []) → items' ≡ filter (λ r. r.heap) (all ++ next ∷ [])
+pub heap_more : (all items items' : List Region) (region next : Region) → items ≡ filter (λ r. r.heap) all → region ≡ next →
+    items' ≡ items ++ filter (λ r. r.heap) (region ∷ []) → items' ≡ filter (λ r. r.heap) (all ++ next ∷ [])
 heap_more all items items' region next is same more =
-    more ∙ (ap (λ rs. rs ++ filter (λ r. r.heap) (region ∷ [])) is ∙ (ap (λ r. filter (λ r. r.heap) all ++ filter (λ r. r.heap) (r ∷ [])) same ∙ sym (filter-append (λ r. r.heap) all (next ∷ []))))
+    more ∙ (ap (λ rs. rs ++ filter (λ r. r.heap) (region ∷ [])) is ∙ (ap
+    (λ r. filter (λ r. r.heap) all ++ filter (λ r. r.heap) (r ∷ [])) same
+    ∙ sym (filter-append (λ r. r.heap) all (next ∷ []))))

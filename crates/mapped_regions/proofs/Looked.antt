@@ -31,7 +31,8 @@ page_within at r whole = go (is_within at r) (is_within (4096 * (at / 4096)) r) 
 kind_page : (base window at : ℕ) (list : List Region) → AllByRecursion (IsRegion base window) list → kind_at list at ≡ kind_at list (4096 * (at / 4096))
 kind_page base window at [] all = refl
 kind_page base window at (r ∷ rs) all = go (is_within at r) refl (page_within at r all.0.range.0) (kind_page base window at rs all.1) where
-  go : (b : Bool) → is_within at r ≡ b → is_within at r ≡ is_within (4096 * (at / 4096)) r → kind_at rs at ≡ kind_at rs (4096 * (at / 4096)) → kind_at (r ∷ rs) at ≡ kind_at (r ∷ rs) (4096 * (at / 4096))
+  go : (b : Bool) → is_within at r ≡ b → is_within at r ≡ is_within (4096 * (at / 4096)) r →
+      kind_at rs at ≡ kind_at rs (4096 * (at / 4096)) → kind_at (r ∷ rs) at ≡ kind_at (r ∷ rs) (4096 * (at / 4096))
   go true is same rest = let first = sym same ∙ is in rw (is, first) refl
   go false is same rest = let first = sym same ∙ is in rw (is, first) rest
 
@@ -41,8 +42,10 @@ first_canonical at canonical =
     ap (λ q. nat_eq q 0 || nat_eq q (2 ^ 17 - 1)) same ∙ canonical
 
 -- the walk finds at an address what its region says
-pub found_at : (p : Paged) (at : ℕ) → IsMapped p → IsTrue (is_canonical at) → option_map rights_of (walk_of p.words p.root (at / 4096)) ≡ option_map (λ kind. kind.1) (kind_at p.regions at)
-found_at p at m canonical = m.found (at / 4096) (first_canonical at canonical) ∙ ap (option_map (λ (kind : Bool × Rights). kind.1)) (sym (kind_page p.base p.pages at p.regions m.regions))
+pub found_at : (p : Paged) (at : ℕ) → IsMapped p → IsTrue (is_canonical at) →
+    option_map rights_of (walk_of p.words p.root (at / 4096)) ≡ option_map (λ kind. kind.1) (kind_at p.regions at)
+found_at p at m canonical = m.found (at / 4096) (first_canonical at canonical)
+    ∙ ap (option_map (λ (kind : Bool × Rights). kind.1)) (sym (kind_page p.base p.pages at p.regions m.regions))
 
 pub mapped_at : (p : Paged) (at : ℕ) → IsMapped p → IsTrue (is_canonical at) → IsSome (kind_at p.regions at) → IsSome (walk_of p.words p.root (at / 4096))
 mapped_at p at m canonical there = some_mapped (walk_of p.words p.root (at / 4096)) (kind_at p.regions at) (found_at p at m canonical) there
@@ -51,7 +54,8 @@ mapped_at p at m canonical there = some_mapped (walk_of p.words p.root (at / 409
 pub walked_none : (o : Option Mapped) (w : Option Place) (k : Option Rights) → option_map place_of o ≡ w → option_map rights_of w ≡ k → o ≡ None → None ≡ k
 walked_none o w k walked found is = ap (option_map rights_of) (ap (option_map place_of) (sym is)) ∙ (ap (option_map rights_of) walked ∙ found)
 
-pub walked_some : (o : Option Mapped) (mapped : Mapped) (w : Option Place) (k : Option Rights) → option_map place_of o ≡ w → option_map rights_of w ≡ k → o ≡ Some mapped →
+pub walked_some : (o : Option Mapped) (mapped : Mapped) (w : Option Place) (k : Option Rights) → option_map place_of o ≡ w →
+    option_map rights_of w ≡ k → o ≡ Some mapped →
     Some (record { write = mapped.write; user = mapped.user; fetch = mapped.fetch }) ≡ k
 walked_some o mapped w k walked found is = ap (option_map rights_of) (ap (option_map place_of) (sym is)) ∙ (ap (option_map rights_of) walked ∙ found)
 

@@ -26,19 +26,23 @@ use Rattle.mapped_regions.specs.Mapped.{IsPageRange, IsRegion, IsMapped, CanMap,
 
 -- no region has an address of pages that meet none
 pub kind_none : (start pages at : ℕ) (list : List Region) → meets_any start pages list ≡ false → start ≤ at → at < start + 4096 * pages → kind_at list at ≡ None
-kind_none start pages at list clear above below = ap (option_map (λ (r : Region). (r.heap, r.rights))) (find_none (is_within at) list (none_within start pages at list above below clear))
+kind_none start pages at list clear above below = ap (option_map (λ (r : Region). (r.heap, r.rights)))
+    (find_none (is_within at) list (none_within start pages at list above below clear))
 
 -- the region of a number of pages at an address has each of their addresses
-pub kind_there : (start pages at : ℕ) (list : List Region) → list_any (is_at start pages) list ≡ true → start ≤ at → at < start + 4096 * pages → IsSome (kind_at list at)
+pub kind_there : (start pages at : ℕ) (list : List Region) → list_any (is_at start pages) list ≡ true → start ≤ at →
+    at < start + 4096 * pages → IsSome (kind_at list at)
 kind_there start pages at [] there above below = let no : false ≡ true = there in absurd (cc)
-kind_there start pages at (r ∷ rs) there above below = go (is_within at r) (is_at start pages r) refl refl (λ t. kind_there start pages at rs t above below) where
-  same : is_at start pages r ≡ true → is_within at r ≡ true
-  same is = grind (arith, nat_tests)
+kind_there start pages at (r ∷ rs) there above below = go (is_within at r) (is_at start pages r) refl refl
+    (λ t. kind_there start pages at rs t above below) where
+      same : is_at start pages r ≡ true → is_within at r ≡ true
+      same is = grind (arith, nat_tests)
 
-  go : (w t : Bool) → is_within at r ≡ w → is_at start pages r ≡ t → (list_any (is_at start pages) rs ≡ true → IsSome (kind_at rs at)) → IsSome (kind_at (r ∷ rs) at)
-  go true t is here rest = rw is refl
-  go false true is here rest = let no = same here in absurd (cc)
-  go false false is here rest = rw is (rest (rw here at there))
+      go : (w t : Bool) → is_within at r ≡ w → is_at start pages r ≡ t → (list_any (is_at start pages) rs ≡ true →
+          IsSome (kind_at rs at)) → IsSome (kind_at (r ∷ rs) at)
+      go true t is here rest = rw is refl
+      go false true is here rest = let no = same here in absurd (cc)
+      go false false is here rest = rw is (rest (rw here at there))
 
 -- ---- pages of a range
 
@@ -67,10 +71,12 @@ unmapped p start pages k m can less =
     none_mapped (walk_of p.words p.root (start / 4096 + k)) (m.found (start / 4096 + k) (page_canonical (start / 4096) pages k can.range.1 less)
     ∙ ap (option_map (λ (kind : Bool × Rights). kind.1)) (kind_none start pages (4096 * (start / 4096 + k)) p.regions can.clear (omega arith) (omega arith)))
 
-pub mapped : (p : Paged) (start pages k : ℕ) → IsMapped p → IsPageRange start pages → list_any (is_at start pages) p.regions ≡ true → k < pages → IsSome (walk_of p.words p.root (start / 4096 + k))
+pub mapped : (p : Paged) (start pages k : ℕ) → IsMapped p → IsPageRange start pages →
+    list_any (is_at start pages) p.regions ≡ true → k < pages → IsSome (walk_of p.words p.root (start / 4096 + k))
 mapped p start pages k m range there less =
     let whole = range.0 in
-    some_mapped (walk_of p.words p.root (start / 4096 + k)) (kind_at p.regions (4096 * (start / 4096 + k))) (m.found (start / 4096 + k) (page_canonical (start / 4096) pages k range.1 less))
+    some_mapped (walk_of p.words p.root (start / 4096 + k)) (kind_at p.regions (4096 * (start / 4096 + k)))
+    (m.found (start / 4096 + k) (page_canonical (start / 4096) pages k range.1 less))
     (kind_there start pages (4096 * (start / 4096 + k)) p.regions there (omega arith) (omega arith))
 
 -- and so are those of which regions have each address
@@ -81,10 +87,12 @@ kind_held at (r ∷ rs) held = go (is_within at r) refl (kind_held at rs) where
   go true is rest = rw is refl
   go false is rest = rw is (rest (rw is at held))
 
-pub held_mapped : (p : Paged) (start pages k : ℕ) → IsMapped p → IsPageRange start pages → AreHeld start (start + 4096 * pages) p.regions → k < pages → IsSome (walk_of p.words p.root (start / 4096 + k))
+pub held_mapped : (p : Paged) (start pages k : ℕ) → IsMapped p → IsPageRange start pages →
+    AreHeld start (start + 4096 * pages) p.regions → k < pages → IsSome (walk_of p.words p.root (start / 4096 + k))
 held_mapped p start pages k m range held less =
     let whole = range.0 in
-    some_mapped (walk_of p.words p.root (start / 4096 + k)) (kind_at p.regions (4096 * (start / 4096 + k))) (m.found (start / 4096 + k) (page_canonical (start / 4096) pages k range.1 less))
+    some_mapped (walk_of p.words p.root (start / 4096 + k)) (kind_at p.regions (4096 * (start / 4096 + k)))
+    (m.found (start / 4096 + k) (page_canonical (start / 4096) pages k range.1 less))
     (kind_held (4096 * (start / 4096 + k)) p.regions (held (4096 * (start / 4096 + k)) (omega arith) (omega arith)))
 
 -- if no slot is large, there is nothing to say of them
@@ -94,9 +102,11 @@ none_large words root regions none slot is some = absurd (some_not_none (large_o
 
 -- ---- a region joins
 
-pub joined_mapped : (old new : Paged) (region : Region) → IsMapped old → IsRegion old.base old.pages region → CanMap old region.start region.pages → IsRegionJoined old new region →
+pub joined_mapped : (old new : Paged) (region : Region) → IsMapped old → IsRegion old.base old.pages region →
+    CanMap old region.start region.pages → IsRegionJoined old new region →
     IsPutIn region old.regions new.regions →
-    ((other : ℕ) → IsTrue (is_canonical (other * 4096)) → ((k : ℕ) → k < region.pages → other ≡ region.start / 4096 + k → ⊥) → walk_of new.words old.root other ≡ walk_of old.words old.root other) →
+    ((other : ℕ) → IsTrue (is_canonical (other * 4096)) → ((k : ℕ) → k < region.pages → other ≡ region.start / 4096 + k →
+    ⊥) → walk_of new.words old.root other ≡ walk_of old.words old.root other) →
     IsMapped new
 joined_mapped old new region m kind can j put elsewhere = record {
   window = subst (λ b. IsPageRange b new.pages) (sym j.added.base) (subst (λ n. IsPageRange old.base n) (sym j.added.pages_is) m.window);
@@ -107,12 +117,15 @@ joined_mapped old new region m kind can j put elsewhere = record {
   few_frames = (let s = j.added.added.pages_added.size in let h = m.few_frames in omega arith);
   count = (let s = j.added.added.pages_added.size in let h = m.count in let c = j.added.added.count in let t = j.added.tables in
       let all : total_pages new.regions ≡ region.pages + total_pages old.regions = ap total_pages j.regions ∙ pages_with region old.regions in omega arith);
-  regions = subst (λ b. AllByRecursion (IsRegion b new.pages) new.regions) (sym j.added.base) (subst (λ n. AllByRecursion (IsRegion old.base n) new.regions) (sym j.added.pages_is)
+  regions = subst (λ b. AllByRecursion (IsRegion b new.pages) new.regions) (sym j.added.base)
+      (subst (λ n. AllByRecursion (IsRegion old.base n) new.regions) (sym j.added.pages_is)
       (subst (AllByRecursion (IsRegion old.base old.pages)) (sym j.regions) (all_with (IsRegion old.base old.pages) region old.regions kind m.regions)));
-  found = λ page canonical. subst (λ r. option_map rights_of (walk_of new.words r page) ≡ option_map (λ (kind : Bool × Rights). kind.1) (kind_at new.regions (4096 * page))) (sym j.added.root)
+  found = λ page canonical. subst (λ r. option_map rights_of (walk_of new.words r page) ≡ option_map
+      (λ (kind : Bool × Rights). kind.1) (kind_at new.regions (4096 * page))) (sym j.added.root)
       (found page canonical (is_within (4096 * page) region) refl);
   larges = λ slot is some. ap (λ regions. is_whole_in regions slot) j.regions ∙ (any_with (has_whole slot) region old.regions
-      ∙ whole slot is (subst (λ r. IsSome (large_of new.words r (slot_number slot))) j.added.root some) (large_of old.words old.root (slot_number slot)) refl (has_whole slot region) refl);
+      ∙ whole slot is (subst (λ r. IsSome (large_of new.words r (slot_number slot))) j.added.root some)
+      (large_of old.words old.root (slot_number slot)) refl (has_whole slot region) refl);
 }
   where
     known : FreeBelow new.free (frame_count new.words)
@@ -122,7 +135,8 @@ joined_mapped old new region m kind can j put elsewhere = record {
     ] refl
 
     -- a large page that was there lies whole in a region as before, and a new one in the region that joined
-    whole : (slot : ℕ) → IsSlot slot → IsSome (large_of new.words old.root (slot_number slot)) → (was : Option Place) → large_of old.words old.root (slot_number slot) ≡ was →
+    whole : (slot : ℕ) → IsSlot slot → IsSome (large_of new.words old.root (slot_number slot)) → (was : Option Place) →
+        large_of old.words old.root (slot_number slot) ≡ was →
         (b : Bool) → has_whole slot region ≡ b → (b || is_whole_in old.regions slot) ≡ true
     whole slot is some was at true here = refl
     whole slot is some (Some large) at false here = m.larges slot is (subst IsSome (sym at) refl)
@@ -144,7 +158,8 @@ joined_mapped old new region m kind can j put elsewhere = record {
         let bounds = within_bounds (4096 * page) region is in
         let n = j.added.added.mapped (page - region.start / 4096) (omega (arith, bounds.0, bounds.1)) in
         let same : region.start / 4096 + (page - region.start / 4096) ≡ page = omega (arith, bounds.0) in
-        let at : walk_of new.words old.root page ≡ Some (granted n.frame region.rights) = subst (λ q. walk_of new.words old.root q ≡ Some (granted n.frame region.rights)) same n.found in
+        let at : walk_of new.words old.root page ≡ Some (granted n.frame region.rights) =
+        subst (λ q. walk_of new.words old.root q ≡ Some (granted n.frame region.rights)) same n.found in
         let here : kind_at new.regions (4096 * page) ≡ Some (region.heap, region.rights) = put (4096 * page) ∙ rw is refl in
         ap (option_map rights_of) at ∙ sym (ap (option_map (λ (kind : Bool × Rights). kind.1)) here)
     found page canonical false is =
@@ -158,10 +173,13 @@ joined_mapped old new region m kind can j put elsewhere = record {
 
 -- its pages are unmapped
 pub pages_gone : (old : Paged) (words : List ℕ) (free : List Bool) (regions : List Region) (tables first start pages : ℕ) → first ≡ start / 4096 →
-    AreUnmapped old.words words old.free free old.root first pages → IsTree words old.root free → ((k : ℕ) → k < pages → walk_of words old.root (first + k) ≡ None) →
-    ((other : ℕ) → IsTrue (is_canonical (other * 4096)) → ((k : ℕ) → k < pages → other ≡ first + k → ⊥) → walk_of words old.root other ≡ walk_of old.words old.root other) →
+    AreUnmapped old.words words old.free free old.root first pages → IsTree words old.root free →
+    ((k : ℕ) → k < pages → walk_of words old.root (first + k) ≡ None) →
+    ((other : ℕ) → IsTrue (is_canonical (other * 4096)) → ((k : ℕ) → k < pages → other ≡ first + k → ⊥) →
+    walk_of words old.root other ≡ walk_of old.words old.root other) →
     ((address : ℕ) → IsSome (walk_of words old.root (address / 4096)) → reached words old.root address ≡ reached old.words old.root address) →
-    tables ≡ old.tables + cut_tables old.words old.root (start / 4096) → ArePagesGone old (record old { words = words; free = free; regions = regions; tables = tables }) start pages
+    tables ≡ old.tables + cut_tables old.words old.root (start / 4096) →
+    ArePagesGone old (record old { words = words; free = free; regions = regions; tables = tables }) start pages
 pages_gone old words free regions tables first start pages first_is gone tree unmapped others bytes count = record {
   base = refl;
   pages_is = refl;
@@ -185,7 +203,8 @@ inside_bounds from to at is = (grind (arith, nat_tests), grind (arith, nat_tests
 pub fewer_mapped : (old new : Paged) (start pages : ℕ) → IsMapped old → IsPageRange start pages → total_pages new.regions + pages ≡ total_pages old.regions →
     AllByRecursion (IsRegion old.base old.pages) new.regions → ArePagesGone old new start pages →
     AreTakenOut start (start + 4096 * pages) old.regions new.regions → FreeBelow new.free (frame_count new.words) →
-    ((slot : ℕ) → IsSlot slot → (slot + 2 ^ 21 ≤ start) ⊎ (start + 4096 * pages ≤ slot) → is_whole_in old.regions slot ≡ true → is_whole_in new.regions slot ≡ true) → IsMapped new
+    ((slot : ℕ) → IsSlot slot → (slot + 2 ^ 21 ≤ start) ⊎ (start + 4096 * pages ≤ slot) →
+    is_whole_in old.regions slot ≡ true → is_whole_in new.regions slot ≡ true) → IsMapped new
 fewer_mapped old new start pages m range all regions g taken known whole = record {
   window = subst (λ b. IsPageRange b new.pages) (sym g.base) (subst (λ n. IsPageRange old.base n) (sym g.pages_is) m.window);
   tree = subst (λ r. IsTree new.words r new.free) (sym g.root) g.tree;
@@ -194,9 +213,11 @@ fewer_mapped old new start pages m range all regions g taken known whole = recor
   root_in = (let r = g.root in let s = g.gone.size in let h = m.root_in in omega arith);
   few_frames = (let s = g.gone.size in let h = m.few_frames in omega arith);
   count = (let s = g.gone.size in let h = m.count in let c = g.gone.count in let t = g.tables in omega arith);
-  regions = subst (λ b. AllByRecursion (IsRegion b new.pages) new.regions) (sym g.base) (subst (λ n. AllByRecursion (IsRegion old.base n) new.regions) (sym g.pages_is)
+  regions = subst (λ b. AllByRecursion (IsRegion b new.pages) new.regions) (sym g.base)
+      (subst (λ n. AllByRecursion (IsRegion old.base n) new.regions) (sym g.pages_is)
       regions);
-  found = λ page canonical. subst (λ r. option_map rights_of (walk_of new.words r page) ≡ option_map (λ (kind : Bool × Rights). kind.1) (kind_at new.regions (4096 * page))) (sym g.root)
+  found = λ page canonical. subst (λ r. option_map rights_of (walk_of new.words r page) ≡ option_map
+      (λ (kind : Bool × Rights). kind.1) (kind_at new.regions (4096 * page))) (sym g.root)
       (found page canonical (nat_le start (4096 * page) && nat_lt (4096 * page) (start + 4096 * pages)) refl);
   larges = λ slot is some. larges slot is (subst (λ r. IsSome (large_of new.words r (slot_number slot))) g.root some);
 }
@@ -212,7 +233,8 @@ fewer_mapped old new start pages m range all regions g taken known whole = recor
         let above : start ≤ 4096 * page = bounds.0 in
         let below : 4096 * page < start + 4096 * pages = bounds.1 in
         let same : start / 4096 + (page - start / 4096) ≡ page = omega arith in
-        let gone : walk_of new.words old.root page ≡ None = subst (λ q. walk_of new.words old.root q ≡ None) same (g.unmapped (page - start / 4096) (omega arith)) in
+        let gone : walk_of new.words old.root page ≡ None = subst (λ q. walk_of new.words old.root q ≡ None) same
+        (g.unmapped (page - start / 4096) (omega arith)) in
         let here : kind_at new.regions (4096 * page) ≡ None = taken (4096 * page) ∙ rw is refl in
         ap (option_map rights_of) gone ∙ sym (ap (option_map (λ (kind : Bool × Rights). kind.1)) here)
     found page canonical false is =

@@ -30,7 +30,8 @@ record IsStepTo (words : List ℕ) (root level number : ℕ) (to : Place) : Type
 entry_names : (words : List ℕ) (level index : ℕ) (from to : Place) → step words level from index ≡ Some to →
     (to.frame ≡ frame_of (word_at words from.frame index)) × (ends_walk level (word_at words from.frame index) ≡ false)
 unfolding step
-entry_names words level index from to is = go (word_at words from.frame index) (is_present words (word_at words from.frame index)) (ends_walk level (word_at words from.frame index)) is
+entry_names words level index from to is = go (word_at words from.frame index)
+    (is_present words (word_at words from.frame index)) (ends_walk level (word_at words from.frame index)) is
   where
     go : (entry : ℕ) (b e : Bool) → cond (b && not e) (Some (named from entry)) None ≡ Some to → (to.frame ≡ frame_of entry) × (e ≡ false)
     go entry true false e = (sym (found_frame (Some (named from entry)) to e), refl)
@@ -40,7 +41,8 @@ entry_names words level index from to is = go (word_at words from.frame index) (
 large_names : (words : List ℕ) (index : ℕ) (from to : Place) → large_step words from index ≡ Some to →
     (to.frame ≡ frame_of (word_at words from.frame index)) × (has_bit (word_at words from.frame index) 7 ≡ true)
 unfolding large_step
-large_names words index from to is = go (word_at words from.frame index) (is_present words (word_at words from.frame index)) (has_bit (word_at words from.frame index) 7) (is_run words (frame_of (word_at words from.frame index))) is
+large_names words index from to is = go (word_at words from.frame index) (is_present words (word_at words from.frame index))
+    (has_bit (word_at words from.frame index) 7) (is_run words (frame_of (word_at words from.frame index))) is
   where
     go : (entry : ℕ) (b h r : Bool) → cond (b && (h && r)) (Some (named from entry)) None ≡ Some to → (to.frame ≡ frame_of entry) × (h ≡ true)
     go entry true true true e = (sym (found_frame (Some (named from entry)) to e), refl)
@@ -48,7 +50,8 @@ large_names words index from to is = go (word_at words from.frame index) (is_pre
     go entry true false r e = absurd (cc)
     go entry false h r e = absurd (cc)
 
-step_to : (words : List ℕ) (root level number : ℕ) (to : Place) → level < 3 → reach words root (suc level) number ≡ Some to → IsStepTo words root level number to
+step_to : (words : List ℕ) (root level number : ℕ) (to : Place) → level < 3 →
+    reach words root (suc level) number ≡ Some to → IsStepTo words root level number to
 step_to words root level number to low is = go (reach words root level (number / 512)) refl (sym (reach_suc words root level number low) ∙ is)
   where
     go : (o : Option Place) → reach words root level (number / 512) ≡ o → next_from words level o (number % 512) ≡ Some to → IsStepTo words root level number to
@@ -123,7 +126,8 @@ passed words root page within some = go (walk_of words root page) refl some
           third = s2.from;
           second = second;
           place = place;
-          third_is = s1.names ∙ (ap (λ f. frame_of (word_at words f (page % 2 ^ 36 / 512 / 512 / 512 % 512))) top ∙ ap (λ i. frame_of (word_at words root i)) i1);
+          third_is = s1.names ∙ (ap (λ f. frame_of (word_at words f (page % 2 ^ 36 / 512 / 512 / 512 % 512))) top
+              ∙ ap (λ i. frame_of (word_at words root i)) i1);
           second_is = s2.names ∙ ap (λ i. frame_of (word_at words s2.from.frame i)) i2;
           found = found;
           third_below = reach_below words root 1 (page % 2 ^ 36 / 512 / 512 / 512) s2.from (omega arith) within s2.met;
@@ -136,7 +140,8 @@ passed words root page within some = go (walk_of words root page) refl some
         place.frame ≡ large.frame + page % 2 ^ 36 % 512 → IsPassed words root page
     in_large place large found met is = by (reach words root 2 (page % 2 ^ 36 / 512 / 512)) refl (sym (large_is words root (page % 2 ^ 36 / 512)) ∙ met)
       where
-        by : (o : Option Place) → reach words root 2 (page % 2 ^ 36 / 512 / 512) ≡ o → large_from words o (page % 2 ^ 36 / 512 % 512) ≡ Some large → IsPassed words root page
+        by : (o : Option Place) → reach words root 2 (page % 2 ^ 36 / 512 / 512) ≡ o →
+            large_from words o (page % 2 ^ 36 / 512 % 512) ≡ Some large → IsPassed words root page
         by None at e = absurd (cc)
         by (Some second) at e =
             let n = large_names words (page % 2 ^ 36 / 512 % 512) second large e in
@@ -171,21 +176,28 @@ passed words root page within some = go (walk_of words root page) refl some
     go (Some place) is some = at place is
 
 -- a frame that is named where the walk passes is the one that it passes
-pub third_named : (words : List ℕ) (root page index entry frame : ℕ) (w : IsPassed words root page) → index ≡ page * 4096 / 2 ^ 39 % 512 → entry ≡ word_at words root index → frame ≡ frame_of entry → w.third.frame ≡ frame
-third_named words root page index entry frame w at is names = w.third_is ∙ (sym (ap (λ i. frame_of (word_at words root i)) at) ∙ (sym (ap frame_of is) ∙ sym names))
+pub third_named : (words : List ℕ) (root page index entry frame : ℕ) (w : IsPassed words root page) →
+    index ≡ page * 4096 / 2 ^ 39 % 512 → entry ≡ word_at words root index → frame ≡ frame_of entry → w.third.frame ≡ frame
+third_named words root page index entry frame w at is names = w.third_is
+    ∙ (sym (ap (λ i. frame_of (word_at words root i)) at) ∙ (sym (ap frame_of is) ∙ sym names))
 
-pub second_named : (words : List ℕ) (root page table index entry frame : ℕ) (w : IsPassed words root page) → w.third.frame ≡ table → index ≡ page * 4096 / 2 ^ 30 % 512 → entry ≡ word_at words table index → frame ≡ frame_of entry →
+pub second_named : (words : List ℕ) (root page table index entry frame : ℕ) (w : IsPassed words root page) →
+    w.third.frame ≡ table → index ≡ page * 4096 / 2 ^ 30 % 512 → entry ≡ word_at words table index →
+    frame ≡ frame_of entry →
     w.second.frame ≡ frame
 second_named words root page table index entry frame w from at is names =
-    w.second_is ∙ (ap (λ t. frame_of (word_at words t (page * 4096 / 2 ^ 30 % 512))) from ∙ (sym (ap (λ i. frame_of (word_at words table i)) at) ∙ (sym (ap frame_of is) ∙ sym names)))
+    w.second_is ∙ (ap (λ t. frame_of (word_at words t (page * 4096 / 2 ^ 30 % 512))) from
+    ∙ (sym (ap (λ i. frame_of (word_at words table i)) at) ∙ (sym (ap frame_of is) ∙ sym names)))
 
 -- the entry of the third step, as it was read
-entry_is : (words : List ℕ) (root page table index entry : ℕ) (w : IsPassed words root page) → w.second.frame ≡ table → index ≡ page * 4096 / 2 ^ 21 % 512 → entry ≡ word_at words table index →
+entry_is : (words : List ℕ) (root page table index entry : ℕ) (w : IsPassed words root page) → w.second.frame ≡ table →
+    index ≡ page * 4096 / 2 ^ 21 % 512 → entry ≡ word_at words table index →
     entry ≡ third_entry words w.second.frame page
 entry_is words root page table index entry w from at is = is ∙ (ap (word_at words table) at ∙ ap (λ t. third_entry words t page) (sym from))
 
 -- without bit 7 it names the table of the slot, and with it the large page
-pub names_table : (words : List ℕ) (root page table index entry frame : ℕ) (w : IsPassed words root page) → w.second.frame ≡ table → index ≡ page * 4096 / 2 ^ 21 % 512 → entry ≡ word_at words table index →
+pub names_table : (words : List ℕ) (root page table index entry frame : ℕ) (w : IsPassed words root page) →
+    w.second.frame ≡ table → index ≡ page * 4096 / 2 ^ 21 % 512 → entry ≡ word_at words table index →
     has_bit entry 7 ≡ false → frame ≡ frame_of entry → IsTable words root (prefix_of page 3) frame
 names_table words root page table index entry frame w from at is small names =
     let same = entry_is words root page table index entry w from at is in
@@ -194,7 +206,8 @@ names_table words root page table index entry frame w from at is small names =
       | inr l ↦ absurd (let big : has_bit entry 7 ≡ true = ap (λ e. has_bit e 7) same ∙ l.bit in let no : true ≡ false = sym big ∙ small in cc)
     ]
 
-pub names_large : (words : List ℕ) (root page table index entry frame : ℕ) (w : IsPassed words root page) → w.second.frame ≡ table → index ≡ page * 4096 / 2 ^ 21 % 512 → entry ≡ word_at words table index →
+pub names_large : (words : List ℕ) (root page table index entry frame : ℕ) (w : IsPassed words root page) →
+    w.second.frame ≡ table → index ≡ page * 4096 / 2 ^ 21 % 512 → entry ≡ word_at words table index →
     has_bit entry 7 ≡ true → frame ≡ frame_of entry → IsLargePage words root (prefix_of page 3) frame
 names_large words root page table index entry frame w from at is big names =
     let same = entry_is words root page table index entry w from at is in
@@ -208,7 +221,8 @@ pub record IsEntryOf (words : List ℕ) (table page frame : ℕ) : Type 0 where
   pub below : table < frame_count words
   pub frame_is : frame ≡ frame_of (word_at words table (page % 512))
 
-pub by_table : (words : List ℕ) (root page table : ℕ) (w : IsPassed words root page) → IsTable words root (prefix_of page 3) table → IsEntryOf words table page w.place.frame
+pub by_table : (words : List ℕ) (root page table : ℕ) (w : IsPassed words root page) →
+    IsTable words root (prefix_of page 3) table → IsEntryOf words table page w.place.frame
 by_table words root page table w is = elim w.way [
   | inl t ↦ (
       let e : Some t.last.frame ≡ Some table = sym (ap (option_map (λ (place : Place). place.frame)) t.met) ∙ is in
@@ -224,7 +238,8 @@ pub record IsPageOf (page first frame : ℕ) : Type 0 where
   pub fits : first + page % 512 < 2 ^ 40
   pub frame_is : frame ≡ first + page % 512
 
-pub by_large : (words : List ℕ) (root page first : ℕ) (w : IsPassed words root page) → IsLargePage words root (prefix_of page 3) first → IsPageOf page first w.place.frame
+pub by_large : (words : List ℕ) (root page first : ℕ) (w : IsPassed words root page) →
+    IsLargePage words root (prefix_of page 3) first → IsPageOf page first w.place.frame
 by_large words root page first w is = elim w.way [
   | inl t ↦ absurd (go (large_of words root (prefix_of page 3)) refl is t.last t.met)
   | inr l ↦ (
@@ -235,20 +250,24 @@ by_large words root page first w is = elim w.way [
       record { fits = omega arith; frame_is = l.frame_is ∙ ap (λ f. f + page % 512) same })
 ]
   where
-    go : (o : Option Place) → large_of words root (prefix_of page 3) ≡ o → option_map (λ (place : Place). place.frame) o ≡ Some first → (last : Place) → reach words root 3 (prefix_of page 3) ≡ Some last → ⊥
+    go : (o : Option Place) → large_of words root (prefix_of page 3) ≡ o →
+        option_map (λ (place : Place). place.frame) o ≡ Some first → (last : Place) →
+        reach words root 3 (prefix_of page 3) ≡ Some last → ⊥
     go None at is last met = let no : None ≡ Some first = is in cc
     go (Some large) at is last met = let none = large_none words root (prefix_of page 3) large at in let no : None ≡ Some last = sym none ∙ met in cc
 
 -- ---- what is kept of slots
 
-some_stays : (old new : Option Place) (frame : ℕ) → ((place : Place) → old ≡ Some place → new ≡ Some place) → option_map (λ (place : Place). place.frame) old ≡ Some frame →
+some_stays : (old new : Option Place) (frame : ℕ) → ((place : Place) → old ≡ Some place → new ≡ Some place) →
+    option_map (λ (place : Place). place.frame) old ≡ Some frame →
     option_map (λ (place : Place). place.frame) new ≡ Some frame
 some_stays None new frame stay is = absurd (let no : None ≡ Some frame = is in cc)
 some_stays (Some place) new frame stay is = ap (option_map (λ (place : Place). place.frame)) (stay place refl) ∙ is
 
 -- tables are still kept if tables stay
 pub tables_stay : (old new : List ℕ) (root : ℕ) (slots : List Met) →
-    ((number : ℕ) (met : Place) → reach old root 3 number ≡ Some met → reach new root 3 number ≡ Some met) → AreTablesMet old root slots → AreTablesMet new root slots
+    ((number : ℕ) (met : Place) → reach old root 3 number ≡ Some met → reach new root 3 number ≡ Some met) →
+    AreTablesMet old root slots → AreTablesMet new root slots
 tables_stay old new root slots tables are = λ k d less some.
     let met = get_or slots k d in
     some_stays (reach old root 3 met.number) (reach new root 3 met.number) met.frame (tables met.number) (are k d less some)
@@ -256,8 +275,14 @@ tables_stay old new root slots tables are = λ k d less some.
 -- and what is kept of pages and of large pages too, if these stay
 pub met_stay : (old new : List ℕ) (root : ℕ) (slots : MetSlots) →
     ((l number : ℕ) (met : Place) → l ≤ 4 → reach old root l number ≡ Some met → reach new root l number ≡ Some met) →
-    ((number : ℕ) (large : Place) → large_of old root number ≡ Some large → large_of new root number ≡ Some large) → AreMet old root slots → AreMet new root slots
-met_stay old new root slots steps larges are = (tables_stay old new root slots.tables (λ number met is. steps 3 number met (omega arith) is) are.0, larges_stay, pages_stay)
+    ((number : ℕ) (large : Place) → large_of old root number ≡ Some large → large_of new root number ≡ Some large) →
+    AreMet old root slots → AreMet new root slots
+met_stay old new root slots steps larges are = (
+  tables_stay old new root slots.tables
+      (λ number met is. steps 3 number met (omega arith) is) are.0,
+  larges_stay,
+  pages_stay,
+)
   where
     larges_stay : AreLargePagesMet new root slots.large_pages
     larges_stay = λ k d less some.
@@ -268,17 +293,20 @@ met_stay old new root slots steps larges are = (tables_stay old new root slots.t
     pages_stay = λ k d less some.
         let met = get_or slots.pages k d in
         some_stays (walk_of old root met.number) (walk_of new root met.number) met.frame
-        (λ place is. walk_reach new root met.number ∙ steps 4 (prefix_of met.number 4) place (omega arith) (sym (walk_reach old root met.number) ∙ is)) (are.2 k d less some)
+        (λ place is. walk_reach new root met.number ∙ steps 4 (prefix_of met.number 4) place (omega arith)
+        (sym (walk_reach old root met.number) ∙ is)) (are.2 k d less some)
 
 -- a page that is kept: the walk to it finds its frame
-pub kept_frame : (words : List ℕ) (root page frame : ℕ) → root < frame_count words → IsSome (walk_of words root page) → IsPage words root page frame → IsFrameOf words root page frame
+pub kept_frame : (words : List ℕ) (root page frame : ℕ) → root < frame_count words → IsSome (walk_of words root page) →
+    IsPage words root page frame → IsFrameOf words root page frame
 kept_frame words root page frame within some is =
     let w = passed words root page within some in
     let same : Some w.place.frame ≡ Some frame = sym (ap (option_map (λ (place : Place). place.frame)) w.found) ∙ is in
     let to : w.place.frame ≡ frame = ap (λ o. unwrap_or o 0) same in
     record { place = w.place; found = w.found; to_frame = to; below = subst (λ f. f < frame_count words) to w.place_below }
 
-pub found_frame_kept : (words : List ℕ) (root page number frame : ℕ) (o : Option ℕ) → root < frame_count words → IsSome (walk_of words root page) → number ≡ page →
+pub found_frame_kept : (words : List ℕ) (root page number frame : ℕ) (o : Option ℕ) → root < frame_count words →
+    IsSome (walk_of words root page) → number ≡ page →
     IfSome o (IsPage words root number) → o ≡ Some frame → IsFrameOf words root page frame
 found_frame_kept words root page number frame None within some same is e = absurd (cc)
 found_frame_kept words root page number frame (Some x) within some same is e =
@@ -301,15 +329,18 @@ cut_stay old new root first slots same = tables_stay old new root slots (λ numb
 
 -- ---- words at a frame that was found
 
-pub frame_at : (words : List ℕ) (root at address page frame : ℕ) → page ≡ address / 4096 → address ≡ at → IsFrameOf words root page frame → IsFrameOf words root (at / 4096) frame
+pub frame_at : (words : List ℕ) (root at address page frame : ℕ) → page ≡ address / 4096 → address ≡ at →
+    IsFrameOf words root page frame → IsFrameOf words root (at / 4096) frame
 frame_at words root at address page frame page_is address_is f = subst (λ p. IsFrameOf words root p frame) (page_is ∙ ap (λ a. a / 4096) address_is) f
 
-pub set_at : (old new : List ℕ) (root at index frame value : ℕ) (f : IsFrameOf old root (at / 4096) frame) → index ≡ at % 4096 / 8 → new ≡ set old (512 * frame + index) value →
+pub set_at : (old new : List ℕ) (root at index frame value : ℕ) (f : IsFrameOf old root (at / 4096) frame) →
+    index ≡ at % 4096 / 8 → new ≡ set old (512 * frame + index) value →
     new ≡ set old (512 * f.place.frame + at % 4096 / 8) value
 set_at old new root at index frame value f index_is put =
     put ∙ (ap (λ i. set old (512 * frame + i) value) index_is ∙ ap (λ n. set old (512 * n + at % 4096 / 8) value) (sym f.to_frame))
 
-pub put_at : (old new : List ℕ) (root at index frame : ℕ) (words : List ℕ) (f : IsFrameOf old root (at / 4096) frame) → index ≡ at % 4096 / 8 → AreWordsWritten old new frame index words →
+pub put_at : (old new : List ℕ) (root at index frame : ℕ) (words : List ℕ) (f : IsFrameOf old root (at / 4096) frame) →
+    index ≡ at % 4096 / 8 → AreWordsWritten old new frame index words →
     AreWordsWritten old new f.place.frame (at % 4096 / 8) words
 put_at old new root at index frame words f index_is put =
     subst (λ i. AreWordsWritten old new f.place.frame i words) index_is (subst (λ n. AreWordsWritten old new n index words) (sym f.to_frame) put)

@@ -17,7 +17,8 @@ use Rattle.mapped_regions.specs.Mapped.{IsMapped, CanMap}
 use Rattle.mapped_regions.proofs.Mapped.{unmapped}
 
 -- a slot that lies whole in the range and had no table is one that may be large
-open_slot : (words : List ℕ) (root start pages slot : ℕ) → start % 4096 ≡ 0 → IsSlotOf start pages slot → reach words root 3 (slot_number slot) ≡ None → IsOpenSlot words root (start / 4096) pages (slot / 2 ^ 21)
+open_slot : (words : List ℕ) (root start pages slot : ℕ) → start % 4096 ≡ 0 → IsSlotOf start pages slot →
+    reach words root 3 (slot_number slot) ≡ None → IsOpenSlot words root (start / 4096) pages (slot / 2 ^ 21)
 open_slot words root start pages slot whole of none =
     let aligned = of.is_slot.aligned in
     let from = of.from in
@@ -25,8 +26,10 @@ open_slot words root start pages slot whole of none =
     let number : slot_of (slot / 2 ^ 21) ≡ slot_number slot = omega arith in
     record { from = omega arith; to = omega arith; no_table = ap (reach words root 3) number ∙ none }
 
-pub runs_used : (old new : List ℕ) (free free' : List Bool) (root start pages stop : ℕ) (rights : Rights) → start % 4096 ≡ 0 → IsRangeMapped old new free free' root (start / 4096) pages stop rights →
-    (slot : ℕ) → IsSlotOf start pages slot → reach old root 3 (slot_number slot) ≡ None → large_of new root (slot_number slot) ≡ None → (run : ℕ) → IsRunFree free' run → ⊥
+pub runs_used : (old new : List ℕ) (free free' : List Bool) (root start pages stop : ℕ) (rights : Rights) →
+    start % 4096 ≡ 0 → IsRangeMapped old new free free' root (start / 4096) pages stop rights →
+    (slot : ℕ) → IsSlotOf start pages slot → reach old root 3 (slot_number slot) ≡ None →
+    large_of new root (slot_number slot) ≡ None → (run : ℕ) → IsRunFree free' run → ⊥
 runs_used old new free free' root start pages stop rights whole added slot of no_table none run is = elim (cases_lt (slot / 2 ^ 21) stop) [
   | inr behind ↦ added.no_run (slot / 2 ^ 21) (open_slot old root start pages slot whole of no_table) behind run is
   | inl before ↦ (
@@ -43,7 +46,8 @@ by_address old new free free' root page start pages stop rights at mapped = subs
 
 -- no slot is large from the one on at which mapping them ended
 pub none_behind : (p : Paged) (new : List ℕ) (free' : List Bool) (start pages stop : ℕ) (rights : Rights) → IsMapped p → CanMap p start pages →
-    IsRangeMapped p.words new p.free free' p.root (start / 4096) pages stop rights → (slot : ℕ) → IsSlotOf start pages slot → stop ≤ slot / 2 ^ 21 → large_of new p.root (slot_number slot) ≡ None
+    IsRangeMapped p.words new p.free free' p.root (start / 4096) pages stop rights → (slot : ℕ) →
+    IsSlotOf start pages slot → stop ≤ slot / 2 ^ 21 → large_of new p.root (slot_number slot) ≡ None
 none_behind p new free' start pages stop rights m can added slot of behind =
     let whole = can.range.0 in
     let aligned = of.is_slot.aligned in

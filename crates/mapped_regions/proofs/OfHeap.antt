@@ -42,7 +42,8 @@ alike :
 alike at next end from [] to l h a b = refl
 alike at next end from (x ∷ rs) to l h a b =
     let same : meets (4096 * at) (end - at) x ≡ meets (4096 * next) (end - next) x = grind (arith, nat_tests, l.0, l.2) in
-    rw same (ap (λ (o : Option Region). cond (meets_heap (4096 * next) (end - next) x) (Some x) o) (alike at next end (end_of x) rs to l.3 (omega (arith, h, l.0)) a b))
+    rw same (ap (λ (o : Option Region). cond (meets_heap (4096 * next) (end - next) x) (Some x) o)
+    (alike at next end (end_of x) rs to l.3 (omega (arith, h, l.0)) a b))
 
 -- past a region of the user
 pub goes_past :
@@ -50,27 +51,28 @@ pub goes_past :
     r.heap ≡ false → end_of r ≡ 4096 * next → next < end →
     find (meets_heap (4096 * at) (end - at)) rs ≡ find (meets_heap (4096 * next) (end - next)) rs
 goes_past at next end from [] to r l s h k e n = absurd (cc)
-goes_past at next end from (x ∷ rs) to r l s h k e n = by_test (meets (4096 * at) (end - at) x) refl (λ i. goes_past at next end (end_of x) rs to r l.3 s i k e n) where
-  by_test :
-      (t : Bool) → meets (4096 * at) (end - at) x ≡ t →
-      (find (meets (4096 * at) (end - at)) rs ≡ Some r → find (meets_heap (4096 * at) (end - at)) rs ≡ find (meets_heap (4096 * next) (end - next)) rs) →
-      find (meets_heap (4096 * at) (end - at)) (x ∷ rs) ≡ find (meets_heap (4096 * next) (end - next)) (x ∷ rs)
-  by_test true is rest =
-      let same : Some x ≡ Some r = rw is at h in
-      let is_it : x ≡ r = cc in
-      let heap : x.heap ≡ false = ap (λ (y : Region). y.heap) is_it ∙ k in
-      let ends : end_of x ≡ 4096 * next = ap end_of is_it ∙ e in
-      let before : 4096 * at < end_of x = grind (arith, nat_tests, is) in
-      rw heap (alike at next end (end_of x) rs to l.3 (omega (arith, ends)) (omega (arith, ends, before)) (omega (arith, n)))
-  by_test false is rest =
-      let later = rw is at h in
-      let f = found (4096 * at) (end - at) (end_of x) rs to r l.3 later in
-      let no : meets (4096 * next) (end - next) x ≡ false = before x (omega (arith, f.after, f.some, e)) in
-      let m = missed (4096 * at) (end - at) x is in
-      let m' = missed (4096 * next) (end - next) x no in
-      rw m (rw m' (rest later)) where
-        before : (x : Region) → end_of x ≤ 4096 * next → meets (4096 * next) (end - next) x ≡ false
-        before x h = grind (arith, nat_tests)
+goes_past at next end from (x ∷ rs) to r l s h k e n = by_test (meets (4096 * at) (end - at) x) refl
+    (λ i. goes_past at next end (end_of x) rs to r l.3 s i k e n) where
+      by_test :
+          (t : Bool) → meets (4096 * at) (end - at) x ≡ t →
+          (find (meets (4096 * at) (end - at)) rs ≡ Some r → find (meets_heap (4096 * at) (end - at)) rs ≡ find (meets_heap (4096 * next) (end - next)) rs) →
+          find (meets_heap (4096 * at) (end - at)) (x ∷ rs) ≡ find (meets_heap (4096 * next) (end - next)) (x ∷ rs)
+      by_test true is rest =
+          let same : Some x ≡ Some r = rw is at h in
+          let is_it : x ≡ r = cc in
+          let heap : x.heap ≡ false = ap (λ (y : Region). y.heap) is_it ∙ k in
+          let ends : end_of x ≡ 4096 * next = ap end_of is_it ∙ e in
+          let before : 4096 * at < end_of x = grind (arith, nat_tests, is) in
+          rw heap (alike at next end (end_of x) rs to l.3 (omega (arith, ends)) (omega (arith, ends, before)) (omega (arith, n)))
+      by_test false is rest =
+          let later = rw is at h in
+          let f = found (4096 * at) (end - at) (end_of x) rs to r l.3 later in
+          let no : meets (4096 * next) (end - next) x ≡ false = before x (omega (arith, f.after, f.some, e)) in
+          let m = missed (4096 * at) (end - at) x is in
+          let m' = missed (4096 * next) (end - next) x no in
+          rw m (rw m' (rest later)) where
+            before : (x : Region) → end_of x ≤ 4096 * next → meets (4096 * next) (end - next) x ≡ false
+            before x h = grind (arith, nat_tests)
 
 -- if a region of the user reaches to the end of the pages
 pub last_of_user :
@@ -87,7 +89,8 @@ last_of_user at end from (x ∷ rs) to r l s h k e = by_test (meets (4096 * at) 
 
   by_test :
       (t : Bool) → meets (4096 * at) (end - at) x ≡ t →
-      (find (meets (4096 * at) (end - at)) rs ≡ Some r → find (meets_heap (4096 * at) (end - at)) rs ≡ None) → find (meets_heap (4096 * at) (end - at)) (x ∷ rs) ≡ None
+      (find (meets (4096 * at) (end - at)) rs ≡ Some r → find (meets_heap (4096 * at) (end - at)) rs ≡ None) →
+      find (meets_heap (4096 * at) (end - at)) (x ∷ rs) ≡ None
   by_test true is rest =
       let same : Some x ≡ Some r = rw is at h in
       let is_it : x ≡ r = cc in

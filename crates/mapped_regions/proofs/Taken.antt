@@ -30,11 +30,13 @@ ends_before : (low left address : ℕ) (x : Region) → x.start + 4096 * left �
 ends_before low left address x e h = grind (arith, nat_tests)
 
 still_holds :
-    (low left address : ℕ) (x : Region) → x.start + 4096 * left ≡ low → address < low → is_within address x ≡ true → is_within address (record x { pages = left }) ≡ true
+    (low left address : ℕ) (x : Region) → x.start + 4096 * left ≡ low → address < low → is_within address x ≡ true →
+    is_within address (record x { pages = left }) ≡ true
 still_holds low left address x e h w = grind (arith, nat_tests)
 
 holds_no_more :
-    (low n left address : ℕ) (x : Region) → x.start + 4096 * left ≡ low → meets low n x ≡ true → is_within address x ≡ false → is_within address (record x { pages = left }) ≡ false
+    (low n left address : ℕ) (x : Region) → x.start + 4096 * left ≡ low → meets low n x ≡ true →
+    is_within address x ≡ false → is_within address (record x { pages = left }) ≡ false
 holds_no_more low n left address x e m w = grind (arith, nat_tests)
 
 pub taken_out :
@@ -45,12 +47,15 @@ taken_out low n from [] to p l b address = go (nat_le low address && nat_lt addr
   go true = refl
   go false = refl
 taken_out low n from (x ∷ rs) to p l b address =
-    by_tests (meets low n x) (nat_lt x.start low) (is_within address x) (nat_le low address && nat_lt address (low + 4096 * n)) refl refl refl refl (taken_out low n (end_of x) rs to p l.3 b.1 address) where
+    by_tests (meets low n x) (nat_lt x.start low) (is_within address x)
+    (nat_le low address && nat_lt address (low + 4096 * n)) refl refl refl refl
+    (taken_out low n (end_of x) rs to p l.3 b.1 address) where
       meet_end : nat_lt x.start low ≡ true → x.start + 4096 * ((low - x.start) / 4096) ≡ low
       meet_end c = let before : x.start < low = grind (arith, nat_tests, c) in omega (arith, before, p, l.1)
 
       by_tests :
-          (t u v r : Bool) → meets low n x ≡ t → nat_lt x.start low ≡ u → is_within address x ≡ v → (nat_le low address && nat_lt address (low + 4096 * n)) ≡ r →
+          (t u v r : Bool) → meets low n x ≡ t → nat_lt x.start low ≡ u → is_within address x ≡ v →
+          (nat_le low address && nat_lt address (low + 4096 * n)) ≡ r →
           kind_at (cut_of low n rs) address ≡ cond (nat_le low address && nat_lt address (low + 4096 * n)) None (kind_at rs address) →
           kind_at (cut_of low n (x ∷ rs)) address ≡ cond (nat_le low address && nat_lt address (low + 4096 * n)) None (kind_at (x ∷ rs) address)
       by_tests false u true r is c w q i = let o = outside low n address x is w in rw is (rw w (rw o refl))
@@ -90,7 +95,8 @@ listed_from start pages from (x ∷ rs) to l h = go (is_at start pages x) refl (
   go true is rest = grind (arith, nat_tests, l.0)
   go false is rest = let r = rest (rw is at h) in omega (arith, r, l.0)
 
-same_range : (start pages address : ℕ) (x : Region) → is_at start pages x ≡ true → (nat_le start address && nat_lt address (start + 4096 * pages)) ≡ is_within address x
+same_range : (start pages address : ℕ) (x : Region) → is_at start pages x ≡ true →
+    (nat_le start address && nat_lt address (start + 4096 * pages)) ≡ is_within address x
 same_range start pages address x is = grind (arith, nat_tests)
 
 before_range : (start pages address : ℕ) → address < start → (nat_le start address && nat_lt address (start + 4096 * pages)) ≡ false
@@ -100,22 +106,25 @@ pub taken_without :
     (start pages from : ℕ) (rs : List Region) (to : ℕ) → AreLaid from rs to → list_any (is_at start pages) rs ≡ true →
     AreTakenOut start (start + 4096 * pages) rs (without_region start pages rs)
 taken_without start pages from [] to l h address = let no : false ≡ true = h in absurd (cc)
-taken_without start pages from (x ∷ rs) to l h address = go (is_at start pages x) (is_within address x) refl refl (λ k. taken_without start pages (end_of x) rs to l.3 k address) where
-  go :
-      (t v : Bool) → is_at start pages x ≡ t → is_within address x ≡ v →
-      (list_any (is_at start pages) rs ≡ true → kind_at (without_region start pages rs) address ≡ cond (nat_le start address && nat_lt address (start + 4096 * pages)) None (kind_at rs address)) →
-      kind_at (without_region start pages (x ∷ rs)) address ≡ cond (nat_le start address && nat_lt address (start + 4096 * pages)) None (kind_at (x ∷ rs) address)
-  go true true is w rest =
-      let r = same_range start pages address x is ∙ w in
-      let before : address < end_of x = grind (arith, nat_tests, w) in
-      rw is (rw r (none_behind address (end_of x) rs to l.3 before))
-  go true false is w rest = let r = same_range start pages address x is ∙ w in rw is (rw r (rw w refl))
-  go false true is w rest =
-      let behind = listed_from start pages (end_of x) rs to l.3 (rw is at h) in
-      let before : address < end_of x = grind (arith, nat_tests, w) in
-      let r = before_range start pages address (omega (arith, before, behind)) in
-      rw is (rw w (rw r refl))
-  go false false is w rest = rw is (rw w (rest (rw is at h)))
+taken_without start pages from (x ∷ rs) to l h address = go (is_at start pages x) (is_within address x) refl refl
+    (λ k. taken_without start pages (end_of x) rs to l.3 k address) where
+      go :
+          (t v : Bool) → is_at start pages x ≡ t → is_within address x ≡ v →
+          (list_any (is_at start pages) rs ≡ true → kind_at (without_region start pages rs) address ≡ cond
+          (nat_le start address && nat_lt address (start + 4096 * pages)) None (kind_at rs address)) →
+          kind_at (without_region start pages (x ∷ rs)) address ≡ cond (nat_le start address && nat_lt address
+          (start + 4096 * pages)) None (kind_at (x ∷ rs) address)
+      go true true is w rest =
+          let r = same_range start pages address x is ∙ w in
+          let before : address < end_of x = grind (arith, nat_tests, w) in
+          rw is (rw r (none_behind address (end_of x) rs to l.3 before))
+      go true false is w rest = let r = same_range start pages address x is ∙ w in rw is (rw r (rw w refl))
+      go false true is w rest =
+          let behind = listed_from start pages (end_of x) rs to l.3 (rw is at h) in
+          let before : address < end_of x = grind (arith, nat_tests, w) in
+          let r = before_range start pages address (omega (arith, before, behind)) in
+          rw is (rw w (rw r refl))
+      go false false is w rest = rw is (rw w (rest (rw is at h)))
 
 -- ---- a region that joins
 
@@ -129,18 +138,20 @@ neither false b h = (refl, h)
 -- the one that joins is at its addresses, and every other address is as it was
 pub put_in : (region : Region) (rs : List Region) → meets_any region.start region.pages rs ≡ false → IsPutIn region rs (with_region region rs)
 put_in region [] h address = go (is_within address region) refl where
-  go : (v : Bool) → is_within address region ≡ v → kind_at (region ∷ []) address ≡ cond (is_within address region) (Some (region.heap, region.rights)) (kind_at [] address)
+  go : (v : Bool) → is_within address region ≡ v → kind_at (region ∷ []) address ≡ cond (is_within address region)
+      (Some (region.heap, region.rights)) (kind_at [] address)
   go true w = rw w refl
   go false w = rw w refl
-put_in region (x ∷ rs) h address = go (nat_lt region.start x.start) (is_within address region) (is_within address x) refl refl refl (put_in region rs both.1 address) where
-  both : (meets region.start region.pages x ≡ false) × (meets_any region.start region.pages rs ≡ false)
-  both = neither (meets region.start region.pages x) (meets_any region.start region.pages rs) h
+put_in region (x ∷ rs) h address = go (nat_lt region.start x.start) (is_within address region) (is_within address x) refl
+    refl refl (put_in region rs both.1 address) where
+      both : (meets region.start region.pages x ≡ false) × (meets_any region.start region.pages rs ≡ false)
+      both = neither (meets region.start region.pages x) (meets_any region.start region.pages rs) h
 
-  go :
-      (t u v : Bool) → nat_lt region.start x.start ≡ t → is_within address region ≡ u → is_within address x ≡ v →
-      kind_at (with_region region rs) address ≡ cond (is_within address region) (Some (region.heap, region.rights)) (kind_at rs address) →
-      kind_at (with_region region (x ∷ rs)) address ≡ cond (is_within address region) (Some (region.heap, region.rights)) (kind_at (x ∷ rs) address)
-  go true true v is w y i = rw is (rw w refl)
-  go true false v is w y i = rw is (rw w refl)
-  go false u true is w y i = let no = apart address region x both.0 y in rw is (rw y (rw no refl))
-  go false u false is w y i = rw is (rw y i)
+      go :
+          (t u v : Bool) → nat_lt region.start x.start ≡ t → is_within address region ≡ u → is_within address x ≡ v →
+          kind_at (with_region region rs) address ≡ cond (is_within address region) (Some (region.heap, region.rights)) (kind_at rs address) →
+          kind_at (with_region region (x ∷ rs)) address ≡ cond (is_within address region) (Some (region.heap, region.rights)) (kind_at (x ∷ rs) address)
+      go true true v is w y i = rw is (rw w refl)
+      go true false v is w y i = rw is (rw w refl)
+      go false u true is w y i = let no = apart address region x both.0 y in rw is (rw y (rw no refl))
+      go false u false is w y i = rw is (rw y i)

@@ -16,8 +16,11 @@ use Rattle.meminterval.proofs.Search.{rest_none, rest_some}
 
 module _ {T V : Type 0} (cmp : T → T → Ordering) (c : Cursor T V) where
   -- a write at the pair that was passed last leaves the same pairs
-  pub left_same : (w : V) (k : ℕ) → c.passed ≡ suc k → filter (λ e. overlaps cmp e.0 c.interval) (drop c.passed (visited (map_at (with_value w) c.tree.now k))) ≡ left_of cmp c
-  left_same w k h = ap (λ es. filter (λ e. overlaps cmp e.0 c.interval) es) (subst (λ n. drop n (visited (map_at (with_value w) c.tree.now k)) ≡ drop n (visited c.tree.now)) (sym h) (drop_at w c.tree.now k))
+  pub left_same : (w : V) (k : ℕ) → c.passed ≡ suc k → filter (λ e. overlaps cmp e.0 c.interval)
+      (drop c.passed (visited (map_at (with_value w) c.tree.now k))) ≡ left_of cmp c
+  left_same w k h = ap (λ es. filter (λ e. overlaps cmp e.0 c.interval) es)
+      (subst (λ n. drop n (visited (map_at (with_value w) c.tree.now k)) ≡ drop n (visited c.tree.now)) (sym h)
+      (drop_at w c.tree.now k))
 
   -- the pair at the next place is the first of those that are left
   abbrev IsFirst : ℕ → Option (Interval T × V) → Type 0
@@ -26,7 +29,8 @@ module _ {T V : Type 0} (cmp : T → T → Ordering) (c : Cursor T V) where
   first_at : (j : ℕ) → place_from (λ e. overlaps cmp e.0 c.interval) c.passed (visited c.tree.now) ≡ Some j → IsFirst j (last_passed (moved_to c (Some j)))
   first_at j f =
       let more : suc j ≡ j + 1 = omega arith in
-      subst (λ n. MatchOption (last_of (visited c.tree.now) n) ⊥ (λ pair. left_of cmp c ≡ pair ∷ filter (λ e. overlaps cmp e.0 c.interval) (drop n (visited c.tree.now)))) more
+      subst (λ n. MatchOption (last_of (visited c.tree.now) n) ⊥ (λ pair.
+      left_of cmp c ≡ pair ∷ filter (λ e. overlaps cmp e.0 c.interval) (drop n (visited c.tree.now)))) more
       (rest_some (λ e. overlaps cmp e.0 c.interval) (visited c.tree.now) c.passed j f)
 
   first_by : (j : ℕ) (p : Option (Interval T × V)) → IsFirst j p → (o : Option (Entry T V)) → option_map pair_of o ≡ p

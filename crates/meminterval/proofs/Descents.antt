@@ -35,14 +35,17 @@ past_end (x ∷ xs) (suc k) h = past_end xs k (omega (arith, h))
 
 module _ {T V : Type 0} where
   -- the rest of the way after one turn
-  pub after_right : (b : Box (Node T V) Global) (d k : ℕ) → k < length (visited (tree_of b.value.right)) → left_after (suc d) (Fork b) (suc k) ≡ left_after d b.value.right k
+  pub after_right : (b : Box (Node T V) Global) (d k : ℕ) → k < length (visited (tree_of b.value.right)) →
+      left_after (suc d) (Fork b) (suc k) ≡ left_after d b.value.right k
   after_right b d k h = rw (lt_true k (length (visited (tree_of b.value.right))) h) refl
 
-  pub after_left : (b : Box (Node T V) Global) (d k : ℕ) → length (visited (tree_of b.value.right)) ≤ k → left_after (suc d) (Fork b) (suc k) ≡ left_after d b.value.left (k - length (visited (tree_of b.value.right)))
+  pub after_left : (b : Box (Node T V) Global) (d k : ℕ) → length (visited (tree_of b.value.right)) ≤ k →
+      left_after (suc d) (Fork b) (suc k) ≡ left_after d b.value.left (k - length (visited (tree_of b.value.right)))
   after_left b d k h = rw (lt_false k (length (visited (tree_of b.value.right))) h) refl
 
   -- a way that ends within a number of turns ends there within more
-  pub ends : (d m : ℕ) (t : Subtree T V) (k : ℕ) → d ≤ m → left_after d t k ≡ 0 → (reached m t k ≡ reached d t k) × ((w : Node T V) → put_reached m t k w ≡ put_reached d t k w)
+  pub ends : (d m : ℕ) (t : Subtree T V) (k : ℕ) → d ≤ m → left_after d t k ≡ 0 →
+      (reached m t k ≡ reached d t k) × ((w : Node T V) → put_reached m t k w ≡ put_reached d t k w)
   ends d m Empty k le h = (refl, λ w. refl)
   ends d m (Fork' p l i v g n s r) zero le h = (refl, λ w. refl)
   ends zero m (Fork' p l i v g n s r) (suc k) le h = absurd (omega (arith, h))
@@ -59,7 +62,8 @@ module _ {T V : Type 0} where
   ]
 
   -- if nothing was reached there is no pair
-  pub nothing : (d m : ℕ) (t : Subtree T V) (k : ℕ) → d ≤ m → reached d t k ≡ None → (reached m t k ≡ None) × ((w : Node T V) → put_reached m t k w ≡ put_reached d t k w)
+  pub nothing : (d m : ℕ) (t : Subtree T V) (k : ℕ) → d ≤ m → reached d t k ≡ None →
+      (reached m t k ≡ None) × ((w : Node T V) → put_reached m t k w ≡ put_reached d t k w)
   nothing d m Empty k le h = (refl, λ w. refl)
   nothing d m (Fork' p l i v g n s r) zero le h = cc
   nothing zero m (Fork' p l i v g n s r) (suc k) le h = cc
@@ -79,10 +83,12 @@ module _ {T V : Type 0} where
   whole l i v g u s r = record { left = l; interval = i; value = v; greatest = g; levels = u; size = s; right = r }
 
   abbrev Goes : (d e m : ℕ) → Subtree T V → ℕ → Node T V → ℕ → Type 0
-  Goes d e m t k n j = (reached m t k ≡ reached e (turn n j) (rest n j)) × ((w : Node T V) → put_reached m t k w ≡ put_reached d t k (put_turn n j (put_reached e (turn n j) (rest n j) w)))
+  Goes d e m t k n j = (reached m t k ≡ reached e (turn n j) (rest n j)) × ((w : Node T V) →
+      put_reached m t k w ≡ put_reached d t k (put_turn n j (put_reached e (turn n j) (rest n j) w)))
 
   -- a longer way goes on from the node that a shorter one reached
-  pub further : (d e m : ℕ) (t : Subtree T V) (k : ℕ) → m ≡ suc (d + e) → (n : Node T V) (j : ℕ) → reached d t k ≡ Some n → left_after d t k ≡ suc j → Goes d e m t k n j
+  pub further : (d e m : ℕ) (t : Subtree T V) (k : ℕ) → m ≡ suc (d + e) → (n : Node T V) (j : ℕ) → reached d t k ≡ Some n →
+      left_after d t k ≡ suc j → Goes d e m t k n j
   further d e m Empty k q n j f h = cc
   further d e m (Fork' p l i v g u s r) zero q n j f h = absurd (omega (arith, h))
   further zero e zero (Fork' p l i v g u s r) (suc k) q n j f h = absurd (omega (arith, q))
@@ -109,7 +115,8 @@ module _ {T V : Type 0} where
         (rw b ih.0, λ w. rw b (ap (λ x. Fork' p x i v g u s r) (ih.1 w)))
   ]
 
-  pub recorded_at : (cmp : T → T → Ordering) (d : ℕ) (t : Subtree T V) (k : ℕ) → IsRecorded cmp t → (n : Node T V) → reached d t k ≡ Some n → IsRecorded cmp n.left × IsRecorded cmp n.right
+  pub recorded_at : (cmp : T → T → Ordering) (d : ℕ) (t : Subtree T V) (k : ℕ) → IsRecorded cmp t → (n : Node T V) →
+      reached d t k ≡ Some n → IsRecorded cmp n.left × IsRecorded cmp n.right
   recorded_at cmp d Empty k a n f = cc
   recorded_at cmp d (Fork' p l i v g u s r) zero a n f =
       let same : whole l i v g u s r ≡ n = cc in subst (λ (x : Node T V). IsRecorded cmp x.left × IsRecorded cmp x.right) same (a.0, a.1)
@@ -133,7 +140,8 @@ module _ {T V : Type 0} where
         let ih : put_reached d r k n ≡ r = put_back d r k n (rw b at f) in rw b (ap (λ x. Fork' p l i v g u s x) ih)
     | inr ge ↦
         let b = lt_false k (length (visited (tree_of r))) ge in
-        let ih : put_reached d l (k - length (visited (tree_of r))) n ≡ l = put_back d l (k - length (visited (tree_of r))) n (rw b at f) in rw b (ap (λ x. Fork' p x i v g u s r) ih)
+        let ih : put_reached d l (k - length (visited (tree_of r))) n ≡ l =
+        put_back d l (k - length (visited (tree_of r))) n (rw b at f) in rw b (ap (λ x. Fork' p x i v g u s r) ih)
   ]
 
   pub turn_back : (n : Node T V) (j : ℕ) → put_turn n j (turn n j) ≡ n
@@ -154,7 +162,8 @@ module _ {T V : Type 0} where
   no_levels Empty h = refl
   no_levels (Fork' p l i v g u s r) h = absurd (omega (arith, h))
 
-  size_of : (l r : Subtree T V) (e : Interval T × V) → length (visited (tree.Fork (tree_of l) e (tree_of r))) ≡ suc (length (visited (tree_of r)) + length (visited (tree_of l)))
+  size_of : (l r : Subtree T V) (e : Interval T × V) → length (visited (tree.Fork (tree_of l) e (tree_of r))) ≡ suc
+      (length (visited (tree_of r)) + length (visited (tree_of l)))
   size_of l r e = omega (arith, length-append (visited (tree_of r)) (visited (tree_of l)))
 
   -- a way of some number of turns reaches each pair of a tree that has at most one level more
@@ -162,27 +171,33 @@ module _ {T V : Type 0} where
       → option_map (λ n. n.value) (reached d t k) ≡ option_map (λ e. e.1) (slice_get (visited (tree_of t)) k)
   value_reached d Empty k low lt = absurd (omega (arith, lt))
   value_reached d (Fork' p l i v g u s r) zero low lt = refl
-  value_reached zero (Fork' p l i v g u s r) (suc k) low lt = absurd (omega (arith, lt, size_of l r (i, v), no_levels l (omega (arith, low)), no_levels r (omega (arith, low))))
+  value_reached zero (Fork' p l i v g u s r) (suc k) low lt = absurd (omega
+      (arith, lt, size_of l r (i, v), no_levels l (omega (arith, low)), no_levels r (omega (arith, low))))
   value_reached (suc d) (Fork' p l i v g u s r) (suc k) low lt = elim (cases_lt k (length (visited (tree_of r)))) [
     | inl less ↦
         let b = lt_true k (length (visited (tree_of r))) less in
         rw (b, get_front (visited (tree_of r)) (visited (tree_of l)) k less) (value_reached d r k (omega (arith, low)) less)
     | inr ge ↦
         let b = lt_false k (length (visited (tree_of r))) ge in
-        rw (b, get_back (visited (tree_of r)) (visited (tree_of l)) k ge) (value_reached d l (k - length (visited (tree_of r))) (omega (arith, low)) (omega (arith, lt, ge, size_of l r (i, v))))
+        rw (b, get_back (visited (tree_of r)) (visited (tree_of l)) k ge)
+        (value_reached d l (k - length (visited (tree_of r))) (omega (arith, low))
+        (omega (arith, lt, ge, size_of l r (i, v))))
   ]
 
   pub value_put : (d : ℕ) (t : Subtree T V) (k : ℕ) → levels (tree_of t) ≤ suc d → k < length (visited (tree_of t)) → (n : Node T V) → reached d t k ≡ Some n
       → (w : V) → put_reached d t k (record n { value = w }) ≡ put_value w t k
   value_put d Empty k low lt n f w = refl
   value_put d (Fork' p l i v g u s r) zero low lt n f w =
-      let same : whole l i v g u s r ≡ n = cc in subst (λ (x : Node T V). put_reached d (Fork' p l i v g u s r) zero (record x { value = w }) ≡ Fork' p l i w g u s r) same refl
-  value_put zero (Fork' p l i v g u s r) (suc k) low lt n f w = absurd (omega (arith, lt, size_of l r (i, v), no_levels l (omega (arith, low)), no_levels r (omega (arith, low))))
+      let same : whole l i v g u s r ≡ n = cc in subst (λ (x : Node T V).
+      put_reached d (Fork' p l i v g u s r) zero (record x { value = w }) ≡ Fork' p l i w g u s r) same refl
+  value_put zero (Fork' p l i v g u s r) (suc k) low lt n f w = absurd
+      (omega (arith, lt, size_of l r (i, v), no_levels l (omega (arith, low)), no_levels r (omega (arith, low))))
   value_put (suc d) (Fork' p l i v g u s r) (suc k) low lt n f w = elim (cases_lt k (length (visited (tree_of r)))) [
     | inl less ↦
         let b = lt_true k (length (visited (tree_of r))) less in
         let ih = value_put d r k (omega (arith, low)) less n (rw b at f) w in rw b (ap (λ x. Fork' p l i v g u s x) ih)
     | inr ge ↦
         let b = lt_false k (length (visited (tree_of r))) ge in
-        let ih = value_put d l (k - length (visited (tree_of r))) (omega (arith, low)) (omega (arith, lt, ge, size_of l r (i, v))) n (rw b at f) w in rw b (ap (λ x. Fork' p x i v g u s r) ih)
+        let ih = value_put d l (k - length (visited (tree_of r))) (omega (arith, low))
+        (omega (arith, lt, ge, size_of l r (i, v))) n (rw b at f) w in rw b (ap (λ x. Fork' p x i v g u s r) ih)
   ]

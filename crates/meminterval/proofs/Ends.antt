@@ -40,7 +40,8 @@ module _ {T : Type 0} (cmp : T → T → Ordering) (o : IsTotalOrder cmp) where
   same_starts a b Equal q p h = p
   same_starts a b Greater q p h = cc
 
-  apart_by : (x y : Interval T) (r q : Ordering) → cmp x.start y.start ≡ r → ordering_then r q ≡ Less → (cmp x.start y.start ≡ Equal → ⊥) → cmp x.start y.start ≡ Less
+  apart_by : (x y : Interval T) (r q : Ordering) → cmp x.start y.start ≡ r → ordering_then r q ≡ Less →
+      (cmp x.start y.start ≡ Equal → ⊥) → cmp x.start y.start ≡ Less
   apart_by x y Less q p h f = p
   apart_by x y Equal q p h f = absurd (f p)
   apart_by x y Greater q p h f = cc
@@ -48,14 +49,16 @@ module _ {T : Type 0} (cmp : T → T → Ordering) (o : IsTotalOrder cmp) where
 module _ {T V : Type 0} (cmp : T → T → Ordering) (o : IsTotalOrder cmp) (k : Interval T) (end : T) where
   -- two pairs of which one has the key start apart
   starts_apart : (x y : Interval T × V) (b d : Bool) → is_eq (by_ends cmp k x.0) ≡ b → is_eq (by_ends cmp k y.0) ≡ d → HasOwnStart cmp k x → HasOwnStart cmp k y
-      → by_ends cmp x.0 y.0 ≡ Less → (cmp x.0.start y.0.start ≡ Equal → (cmp k.start x.0.start ≡ Equal) × (cmp k.start y.0.start ≡ Equal)) → cmp x.0.start y.0.start ≡ Less
+      → by_ends cmp x.0 y.0 ≡ Less → (cmp x.0.start y.0.start ≡ Equal →
+      (cmp k.start x.0.start ≡ Equal) × (cmp k.start y.0.start ≡ Equal)) → cmp x.0.start y.0.start ≡ Less
   starts_apart x y b d p q u v h both = apart_by cmp o x.0 y.0 (cmp x.0.start y.0.start) (cmp x.0.end y.0.end) refl h (λ e.
       let t = both e in
       let w = sym (((by_ends-total o).congr k x.0 y.0 (u t.0))) ∙ v t.1 in
       let less : Less ≡ Equal = sym h ∙ w in
       cc)
 
-  kept_by : (x y : Interval T × V) (b d : Bool) → is_eq (by_ends cmp k x.0) ≡ b → is_eq (by_ends cmp k y.0) ≡ d → HasOwnStart cmp k x → HasOwnStart cmp k y → by_ends cmp x.0 y.0 ≡ Less
+  kept_by : (x y : Interval T × V) (b d : Bool) → is_eq (by_ends cmp k x.0) ≡ b → is_eq (by_ends cmp k y.0) ≡ d →
+      HasOwnStart cmp k x → HasOwnStart cmp k y → by_ends cmp x.0 y.0 ≡ Less
       → by_ends cmp (cond b (record { start = x.0.start; end = end }, x.1) x).0 (cond d (record { start = y.0.start; end = end }, y.1) y).0 ≡ Less
   kept_by x y false false p q u v h = h
   kept_by x y true d p q u v h =
@@ -67,15 +70,21 @@ module _ {T V : Type 0} (cmp : T → T → Ordering) (o : IsTotalOrder cmp) (k :
       ]
   kept_by x y false true p q u v h =
       let ky = same_starts cmp o k y.0 (cmp k.start y.0.start) (cmp k.end y.0.end) refl ((Equal-is (by_ends cmp k y.0)).0 q) in
-      let less = starts_apart x y false true p q u v h (λ e. (o.congr k.start y.0.start x.0.start ky ∙ o.antisymm y.0.start x.0.start ∙ ap ordering_reverse e, ky)) in
+      let less = starts_apart x y false true p q u v h (λ e. (
+        o.congr k.start y.0.start x.0.start ky
+            ∙ o.antisymm y.0.start x.0.start ∙ ap ordering_reverse e,
+        ky,
+      )) in
       ap (λ r. ordering_then r (cmp x.0.end end)) less
 
-  after_kept : (x : Interval T × V) (es : List (Interval T × V)) → HasOwnStart cmp k x → AllItems (HasOwnStart cmp k) es → AllItems (λ f. by_ends cmp x.0 f.0 ≡ Less) es
+  after_kept : (x : Interval T × V) (es : List (Interval T × V)) → HasOwnStart cmp k x → AllItems (HasOwnStart cmp k) es →
+      AllItems (λ f. by_ends cmp x.0 f.0 ≡ Less) es
       → AllItems (λ f. by_ends cmp (with_end cmp k end x).0 f.0 ≡ Less) (map (with_end cmp k end) es)
   after_kept x [] u a b = tt
   after_kept x (y ∷ es) u a b = (kept_by x y (is_eq (by_ends cmp k x.0)) (is_eq (by_ends cmp k y.0)) refl refl u a.0 b.0, after_kept x es u a.1 b.1)
 
-  pub ordered_ends : (es : List (Interval T × V)) → AllItems (HasOwnStart cmp k) es → IsOrdered (by_ends cmp) es → IsOrdered (by_ends cmp) (map (with_end cmp k end) es)
+  pub ordered_ends : (es : List (Interval T × V)) → AllItems (HasOwnStart cmp k) es → IsOrdered (by_ends cmp) es →
+      IsOrdered (by_ends cmp) (map (with_end cmp k end) es)
   ordered_ends [] a s = tt
   ordered_ends (x ∷ es) a s = (after_kept x es a.0 a.1 s.0, ordered_ends es a.1 s.1)
 
@@ -88,11 +97,17 @@ module _ {T V : Type 0} (cmp : T → T → Ordering) (o : IsTotalOrder cmp) (k :
   all_other_above : (es : List (Interval T × V)) → AllItems (λ f. by_ends cmp k f.0 ≡ Less) es → AllItems (λ f. with_end cmp k end f ≡ f) es
   all_other_above es a = all_map (λ f. by_ends cmp k f.0 ≡ Less) (λ f. with_end cmp k end f ≡ f) (λ f q. other_end f Less q refl) es a
 
-  same_below : (l : Tree (Interval T × V)) (e : Interval T × V) (r : Tree (Interval T × V)) → is_lt (by_ends cmp k e.0) ≡ false → IsOrdered (by_ends cmp) (entries l ++ e ∷ entries r) → map_pairs (with_end cmp k end) l ≡ l
-  same_below l e r h s = map_same (with_end cmp k end) l (all_other_below (entries l) (above_before (by_ends cmp) (by_ends-total o) k (entries l) e (entries r) h s))
+  same_below : (l : Tree (Interval T × V)) (e : Interval T × V) (r : Tree (Interval T × V)) →
+      is_lt (by_ends cmp k e.0) ≡ false → IsOrdered (by_ends cmp) (entries l ++ e ∷ entries r) →
+      map_pairs (with_end cmp k end) l ≡ l
+  same_below l e r h s = map_same (with_end cmp k end) l (all_other_below (entries l)
+      (above_before (by_ends cmp) (by_ends-total o) k (entries l) e (entries r) h s))
 
-  same_above : (l : Tree (Interval T × V)) (e : Interval T × V) (r : Tree (Interval T × V)) → is_gt (by_ends cmp k e.0) ≡ false → IsOrdered (by_ends cmp) (entries l ++ e ∷ entries r) → map_pairs (with_end cmp k end) r ≡ r
-  same_above l e r h s = map_same (with_end cmp k end) r (all_other_above (entries r) (below_after (by_ends cmp) (by_ends-total o) k (entries l) e (entries r) h s))
+  same_above : (l : Tree (Interval T × V)) (e : Interval T × V) (r : Tree (Interval T × V)) →
+      is_gt (by_ends cmp k e.0) ≡ false → IsOrdered (by_ends cmp) (entries l ++ e ∷ entries r) →
+      map_pairs (with_end cmp k end) r ≡ r
+  same_above l e r h s = map_same (with_end cmp k end) r (all_other_above (entries r)
+      (below_after (by_ends cmp) (by_ends-total o) k (entries l) e (entries r) h s))
 
   module _ (l : Tree (Interval T × V)) (e : Interval T × V) (r : Tree (Interval T × V)) (s : IsOrdered (by_ends cmp) (entries l ++ e ∷ entries r)) where
     pub ends_left : by_ends cmp k e.0 ≡ Less → map_pairs (with_end cmp k end) (Fork l e r) ≡ Fork (map_pairs (with_end cmp k end) l) e r

@@ -40,12 +40,16 @@ heights_right l r r' t near low high lower upper same = elim (cases_lt (l + 1) r
 module _ {T V : Type 0} (cmp : T → T → Ordering) (total : IsTotalOrder cmp) (x : Interval T × V) (b : Box (Node T V) Global)
     (s : IsOrdered (by_ends cmp) (entries (tree_of (Fork b)))) where
   pub added_left : (below after : Subtree T V) → by_ends cmp x.0 b.value.interval ≡ Less → IsBalanced (tree_of (Fork b)) → IsAdded cmp x b.value.left below
-      → IsRestored (tree_of below) (b.value.interval, b.value.value) (tree_of b.value.right) (tree_of after) → IsRecorded cmp after → IsAdded cmp x (Fork b) after
+      → IsRestored (tree_of below) (b.value.interval, b.value.value) (tree_of b.value.right) (tree_of after) →
+      IsRecorded cmp after → IsAdded cmp x (Fork b) after
   added_left below after h balanced a restored recorded =
-      let high = heights_left (levels (tree_of b.value.left)) (levels (tree_of b.value.right)) (levels (tree_of below)) (levels (tree_of after)) balanced.2 a.not_lower a.not_higher restored.not_lower restored.not_higher restored.in_balance in
+      let high = heights_left (levels (tree_of b.value.left)) (levels (tree_of b.value.right)) (levels (tree_of below))
+      (levels (tree_of after)) balanced.2 a.not_lower a.not_higher restored.not_lower restored.not_higher
+      restored.in_balance in
       record {
         absent = value_left (by_ends cmp) (by_ends-total total) _ _ _ s _ h ∙ a.absent;
-        pairs = restored.pairs ∙ ap (λ es. es ++ (b.value.interval, b.value.value) ∷ entries (tree_of b.value.right)) a.pairs ∙ sym (with_left (by_ends cmp) x _ _ _ h);
+        pairs = restored.pairs ∙ ap (λ es. es ++ (b.value.interval, b.value.value) ∷ entries (tree_of b.value.right))
+            a.pairs ∙ sym (with_left (by_ends cmp) x _ _ _ h);
         recorded = recorded;
         balanced = restored.balanced;
         not_lower = high.0;
@@ -53,12 +57,16 @@ module _ {T V : Type 0} (cmp : T → T → Ordering) (total : IsTotalOrder cmp) 
       }
 
   pub added_right : (below after : Subtree T V) → by_ends cmp x.0 b.value.interval ≡ Greater → IsBalanced (tree_of (Fork b)) → IsAdded cmp x b.value.right below
-      → IsRestored (tree_of b.value.left) (b.value.interval, b.value.value) (tree_of below) (tree_of after) → IsRecorded cmp after → IsAdded cmp x (Fork b) after
+      → IsRestored (tree_of b.value.left) (b.value.interval, b.value.value) (tree_of below) (tree_of after) →
+      IsRecorded cmp after → IsAdded cmp x (Fork b) after
   added_right below after h balanced a restored recorded =
-      let high = heights_right (levels (tree_of b.value.left)) (levels (tree_of b.value.right)) (levels (tree_of below)) (levels (tree_of after)) balanced.2 a.not_lower a.not_higher restored.not_lower restored.not_higher restored.in_balance in
+      let high = heights_right (levels (tree_of b.value.left)) (levels (tree_of b.value.right)) (levels (tree_of below))
+      (levels (tree_of after)) balanced.2 a.not_lower a.not_higher restored.not_lower restored.not_higher
+      restored.in_balance in
       record {
         absent = value_right (by_ends cmp) (by_ends-total total) _ _ _ s _ h ∙ a.absent;
-        pairs = restored.pairs ∙ ap (λ es. entries (tree_of b.value.left) ++ (b.value.interval, b.value.value) ∷ es) a.pairs ∙ sym (with_right (by_ends cmp) (by_ends-total total) _ _ _ s x h);
+        pairs = restored.pairs ∙ ap (λ es. entries (tree_of b.value.left) ++ (b.value.interval, b.value.value) ∷ es) a.pairs
+            ∙ sym (with_right (by_ends cmp) (by_ends-total total) _ _ _ s x h);
         recorded = recorded;
         balanced = restored.balanced;
         not_lower = high.0;
@@ -68,14 +76,19 @@ module _ {T V : Type 0} (cmp : T → T → Ordering) (total : IsTotalOrder cmp) 
   pub present_here : by_ends cmp x.0 b.value.interval ≡ Equal → IsPresent cmp x (Fork b) (Fork b)
   present_here h = record { there = rw (value_middle (by_ends cmp) (by_ends-total total) _ _ _ s _ h) refl; same = refl }
 
-  pub present_left : (after : Subtree T V) → by_ends cmp x.0 b.value.interval ≡ Less → IsSome (value_at (by_ends cmp) x.0 (entries (tree_of b.value.left))) → after ≡ Fork b → IsPresent cmp x (Fork b) after
+  pub present_left : (after : Subtree T V) → by_ends cmp x.0 b.value.interval ≡ Less →
+      IsSome (value_at (by_ends cmp) x.0 (entries (tree_of b.value.left))) → after ≡ Fork b → IsPresent cmp x (Fork b) after
   present_left after h there same = record { there = rw (value_left (by_ends cmp) (by_ends-total total) _ _ _ s _ h) there; same = same }
 
-  pub present_right : (after : Subtree T V) → by_ends cmp x.0 b.value.interval ≡ Greater → IsSome (value_at (by_ends cmp) x.0 (entries (tree_of b.value.right))) → after ≡ Fork b → IsPresent cmp x (Fork b) after
+  pub present_right : (after : Subtree T V) → by_ends cmp x.0 b.value.interval ≡ Greater →
+      IsSome (value_at (by_ends cmp) x.0 (entries (tree_of b.value.right))) → after ≡ Fork b →
+      IsPresent cmp x (Fork b) after
   present_right after h there same = record { there = rw (value_right (by_ends cmp) (by_ends-total total) _ _ _ s _ h) there; same = same }
 
-  pub refused_left : (below after : Subtree T V) → by_ends cmp x.0 b.value.interval ≡ Less → IsInsertRefused cmp x b.value.left below → after ≡ Fork b → IsInsertRefused cmp x (Fork b) after
+  pub refused_left : (below after : Subtree T V) → by_ends cmp x.0 b.value.interval ≡ Less →
+      IsInsertRefused cmp x b.value.left below → after ≡ Fork b → IsInsertRefused cmp x (Fork b) after
   refused_left below after h a same = record { absent = value_left (by_ends cmp) (by_ends-total total) _ _ _ s _ h ∙ a.absent; same = same }
 
-  pub refused_right : (below after : Subtree T V) → by_ends cmp x.0 b.value.interval ≡ Greater → IsInsertRefused cmp x b.value.right below → after ≡ Fork b → IsInsertRefused cmp x (Fork b) after
+  pub refused_right : (below after : Subtree T V) → by_ends cmp x.0 b.value.interval ≡ Greater →
+      IsInsertRefused cmp x b.value.right below → after ≡ Fork b → IsInsertRefused cmp x (Fork b) after
   refused_right below after h a same = record { absent = value_right (by_ends cmp) (by_ends-total total) _ _ _ s _ h ∙ a.absent; same = same }

@@ -45,7 +45,8 @@ module _ {A : Type 0} where
 
   pub last-append : (p : A → Bool) (xs ys : List A) → last p (xs ++ ys) ≡ or_else (last p ys) (last p xs)
   last-append p [] ys = sym (or_else-none (last p ys))
-  last-append p (x ∷ xs) ys = ap (λ o. or_else o (cond (p x) (Some x) None)) (last-append p xs ys) ∙ or_else-assoc (last p ys) (last p xs) (cond (p x) (Some x) None)
+  last-append p (x ∷ xs) ys = ap (λ o. or_else o (cond (p x) (Some x) None)) (last-append p xs ys)
+      ∙ or_else-assoc (last p ys) (last p xs) (cond (p x) (Some x) None)
 
   pub first_none : (p : A → Bool) (xs : List A) → AllItems (λ x. p x ≡ false) xs → first p xs ≡ None
   first_none p [] a = refl
@@ -60,13 +61,16 @@ module _ {A : Type 0} (p : A → Bool) (l : List A) (e : A) (r : List A) where
   first_left h = first-append p l (e ∷ r) ∙ ap (λ b. or_else (first p l) (cond b (Some e) (first p r))) h
 
   pub first_right : AllItems (λ x. p x ≡ false) l → p e ≡ false → first p (l ++ e ∷ r) ≡ first p r
-  first_right a h = first-append p l (e ∷ r) ∙ ap (λ o. or_else o (cond (p e) (Some e) (first p r))) (first_none p l a) ∙ ap (λ b. cond b (Some e) (first p r)) h
+  first_right a h = first-append p l (e ∷ r) ∙ ap (λ o. or_else o (cond (p e) (Some e) (first p r))) (first_none p l a)
+      ∙ ap (λ b. cond b (Some e) (first p r)) h
 
   pub last_right : p e ≡ true → last p (l ++ e ∷ r) ≡ or_else (last p r) (Some e)
-  last_right h = last-append p l (e ∷ r) ∙ ap (λ b. or_else (or_else (last p r) (cond b (Some e) None)) (last p l)) h ∙ or_else-assoc (last p r) (Some e) (last p l)
+  last_right h = last-append p l (e ∷ r) ∙ ap (λ b. or_else (or_else (last p r) (cond b (Some e) None)) (last p l)) h
+      ∙ or_else-assoc (last p r) (Some e) (last p l)
 
   pub last_left : AllItems (λ x. p x ≡ false) r → p e ≡ false → last p (l ++ e ∷ r) ≡ last p l
-  last_left a h = last-append p l (e ∷ r) ∙ ap (λ o. or_else (or_else o (cond (p e) (Some e) None)) (last p l)) (last_none p r a) ∙ ap (λ b. or_else (cond b (Some e) None) (last p l)) h
+  last_left a h = last-append p l (e ∷ r) ∙ ap (λ o. or_else (or_else o (cond (p e) (Some e) None)) (last p l))
+      (last_none p r a) ∙ ap (λ b. or_else (cond b (Some e) None) (last p l)) h
 
 pub is_some-map : {A B : Type 0} (f : A → B) (o : Option A) → is_some (option_map f o) ≡ is_some o
 is_some-map f None = refl
@@ -116,11 +120,14 @@ module _ {K V : Type 0} (cmp : K → K → Ordering) where
 
   module _ (o : IsTotalOrder cmp) where
     -- a key that is not below a pair is above all that stand before it
-    pub above_before : (k : K) (l : List (K × V)) (e : K × V) (r : List (K × V)) → is_lt (cmp k e.0) ≡ false → IsOrdered cmp (l ++ e ∷ r) → AllItems (λ f. cmp k f.0 ≡ Greater) l
-    above_before k l e r h s = all_map (λ f. cmp f.0 e.0 ≡ Less) (λ f. cmp k f.0 ≡ Greater) (λ f q. above_by cmp o k e.0 f.0 (cmp k e.0) refl h q) l (before l e r s)
+    pub above_before : (k : K) (l : List (K × V)) (e : K × V) (r : List (K × V)) → is_lt (cmp k e.0) ≡ false →
+        IsOrdered cmp (l ++ e ∷ r) → AllItems (λ f. cmp k f.0 ≡ Greater) l
+    above_before k l e r h s = all_map (λ f. cmp f.0 e.0 ≡ Less) (λ f. cmp k f.0 ≡ Greater)
+        (λ f q. above_by cmp o k e.0 f.0 (cmp k e.0) refl h q) l (before l e r s)
 
     -- a key that is not above a pair is below all that stand after it
-    pub below_after : (k : K) (l : List (K × V)) (e : K × V) (r : List (K × V)) → is_gt (cmp k e.0) ≡ false → IsOrdered cmp (l ++ e ∷ r) → AllItems (λ f. cmp k f.0 ≡ Less) r
+    pub below_after : (k : K) (l : List (K × V)) (e : K × V) (r : List (K × V)) → is_gt (cmp k e.0) ≡ false →
+        IsOrdered cmp (l ++ e ∷ r) → AllItems (λ f. cmp k f.0 ≡ Less) r
     below_after k l e r h s = all_map (λ f. cmp e.0 f.0 ≡ Less) (λ f. cmp k f.0 ≡ Less) (λ f q. below_by cmp o k e.0 f.0 (cmp k e.0) refl h q) r (after l e r s)
 
   -- past pairs that are all below
@@ -157,12 +164,14 @@ module _ {K V : Type 0} (cmp : K → K → Ordering) where
   without_before k [] m h = h
   without_before k (x ∷ l) m h = without_cases (is_eq (cmp k x.0)) x l m (without_key cmp k l) (without_key cmp k (l ++ m)) (without_before k l m h)
 
-  with_cases : (r : Ordering) (x y : K × V) (l m u v : List (K × V)) → v ≡ u ++ m → by_order r (x ∷ y ∷ (l ++ m)) (y ∷ (l ++ m)) (y ∷ v) ≡ by_order r (x ∷ y ∷ l) (y ∷ l) (y ∷ u) ++ m
+  with_cases : (r : Ordering) (x y : K × V) (l m u v : List (K × V)) → v ≡ u ++ m →
+      by_order r (x ∷ y ∷ (l ++ m)) (y ∷ (l ++ m)) (y ∷ v) ≡ by_order r (x ∷ y ∷ l) (y ∷ l) (y ∷ u) ++ m
   with_cases Less x y l m u v e = refl
   with_cases Equal x y l m u v e = refl
   with_cases Greater x y l m u v e = ap (λ es. y ∷ es) e
 
-  pub with_left : (x : K × V) (l : List (K × V)) (e : K × V) (r : List (K × V)) → cmp x.0 e.0 ≡ Less → with_entry cmp x (l ++ e ∷ r) ≡ with_entry cmp x l ++ e ∷ r
+  pub with_left : (x : K × V) (l : List (K × V)) (e : K × V) (r : List (K × V)) → cmp x.0 e.0 ≡ Less →
+      with_entry cmp x (l ++ e ∷ r) ≡ with_entry cmp x l ++ e ∷ r
   with_left x [] e r h = rw h
   with_left x (y ∷ l) e r h = with_cases (cmp x.0 y.0) x y l (e ∷ r) (with_entry cmp x l) (with_entry cmp x (l ++ e ∷ r)) (with_left x l e r h)
 
@@ -193,7 +202,8 @@ module _ {K V : Type 0} (cmp : K → K → Ordering) where
 
 -- if a start is below a key, so are the starts before it
 module _ {T : Type 0} (cmp : T → T → Ordering) (o : IsTotalOrder cmp) (key : T) where
-  starts_by : (a b : Interval T) (r q : Ordering) → cmp a.start b.start ≡ r → ordering_then r q ≡ Less → is_lt (cmp b.start key) ≡ true → is_lt (cmp a.start key) ≡ true
+  starts_by : (a b : Interval T) (r q : Ordering) → cmp a.start b.start ≡ r → ordering_then r q ≡ Less →
+      is_lt (cmp b.start key) ≡ true → is_lt (cmp a.start key) ≡ true
   starts_by a b Less q p h k = lower (cmp b.start key) refl k where
     lower : (s : Ordering) → cmp b.start key ≡ s → is_lt s ≡ true → is_lt (cmp a.start key) ≡ true
     lower Less e f = ap is_lt (o.trans a.start b.start key p e)
@@ -205,16 +215,20 @@ module _ {T : Type 0} (cmp : T → T → Ordering) (o : IsTotalOrder cmp) (key :
 module _ {T V : Type 0} (cmp : T → T → Ordering) (o : IsTotalOrder cmp) (key : T) where
   module _ (l : List (Interval T × V)) (e : Interval T × V) (r : List (Interval T × V)) (s : IsOrdered (by_ends cmp) (l ++ e ∷ r)) where
     pub all_below : starts_below cmp key e ≡ true → AllItems (λ f. starts_below cmp key f ≡ true) l
-    all_below h = all_map (λ f. by_ends cmp f.0 e.0 ≡ Less) (λ f. starts_below cmp key f ≡ true) (λ f q. starts_by cmp o key f.0 e.0 (cmp f.0.start e.0.start) (cmp f.0.end e.0.end) refl q h) l (before (by_ends cmp) l e r s)
+    all_below h = all_map (λ f. by_ends cmp f.0 e.0 ≡ Less) (λ f. starts_below cmp key f ≡ true)
+        (λ f q. starts_by cmp o key f.0 e.0 (cmp f.0.start e.0.start) (cmp f.0.end e.0.end) refl q h) l
+        (before (by_ends cmp) l e r s)
 
     pub none_below : starts_below cmp key e ≡ false → AllItems (λ f. starts_below cmp key f ≡ false) r
-    none_below h = all_map (λ f. by_ends cmp e.0 f.0 ≡ Less) (λ f. starts_below cmp key f ≡ false) (λ f q. not_below f (starts_below cmp key f) refl q) r (after (by_ends cmp) l e r s) where
-      not_below : (f : Interval T × V) (b : Bool) → starts_below cmp key f ≡ b → by_ends cmp e.0 f.0 ≡ Less → starts_below cmp key f ≡ false
-      not_below f true p q = absurd (true≢false (sym (starts_by cmp o key e.0 f.0 (cmp e.0.start f.0.start) (cmp e.0.end f.0.end) refl q p) ∙ h))
-      not_below f false p q = p
+    none_below h = all_map (λ f. by_ends cmp e.0 f.0 ≡ Less) (λ f. starts_below cmp key f ≡ false)
+        (λ f q. not_below f (starts_below cmp key f) refl q) r (after (by_ends cmp) l e r s) where
+          not_below : (f : Interval T × V) (b : Bool) → starts_below cmp key f ≡ b → by_ends cmp e.0 f.0 ≡ Less → starts_below cmp key f ≡ false
+          not_below f true p q = absurd (true≢false (sym (starts_by cmp o key e.0 f.0 (cmp e.0.start f.0.start) (cmp e.0.end f.0.end) refl q p) ∙ h))
+          not_below f false p q = p
 
     pub first_below : starts_below cmp key e ≡ true → first (starts_from cmp key) (l ++ e ∷ r) ≡ first (starts_from cmp key) r
-    first_below h = first_right (starts_from cmp key) l e r (all_map (λ f. starts_below cmp key f ≡ true) (λ f. starts_from cmp key f ≡ false) (λ f q. ap not q) l (all_below h)) (ap not h)
+    first_below h = first_right (starts_from cmp key) l e r (all_map (λ f. starts_below cmp key f ≡ true)
+        (λ f. starts_from cmp key f ≡ false) (λ f q. ap not q) l (all_below h)) (ap not h)
 
     pub first_above : starts_below cmp key e ≡ false → first (starts_from cmp key) (l ++ e ∷ r) ≡ or_else (first (starts_from cmp key) l) (Some e)
     first_above h = first_left (starts_from cmp key) l e r (ap not h)
@@ -226,7 +240,8 @@ module _ {T V : Type 0} (cmp : T → T → Ordering) (o : IsTotalOrder cmp) (key
     last_above h = last_left (starts_below cmp key) l e r (none_below h) h
 
 module _ {K V : Type 0} (cmp : K → K → Ordering) where
-  length_by : (r : Ordering) (x e : K × V) (es fs : List (K × V)) → length fs ≤ length es + 1 → length (by_order r (x ∷ e ∷ es) (e ∷ es) (e ∷ fs)) ≤ length es + 2
+  length_by : (r : Ordering) (x e : K × V) (es fs : List (K × V)) → length fs ≤ length es + 1 →
+      length (by_order r (x ∷ e ∷ es) (e ∷ es) (e ∷ fs)) ≤ length es + 2
   length_by Less x e es fs h = omega arith
   length_by Equal x e es fs h = omega arith
   length_by Greater x e es fs h = omega arith
@@ -235,7 +250,8 @@ module _ {K V : Type 0} (cmp : K → K → Ordering) where
   with_entry_length x [] = omega arith
   with_entry_length x (e ∷ es) = let h = length_by (cmp x.0 e.0) x e es (with_entry cmp x es) (with_entry_length x es) in omega (arith, h)
 
-  all_by : (P : K × V → Type 0) (r : Ordering) (x e : K × V) (es fs : List (K × V)) → P x → P e × AllItems P es → AllItems P fs → AllItems P (by_order r (x ∷ e ∷ es) (e ∷ es) (e ∷ fs))
+  all_by : (P : K × V → Type 0) (r : Ordering) (x e : K × V) (es fs : List (K × V)) → P x → P e × AllItems P es →
+      AllItems P fs → AllItems P (by_order r (x ∷ e ∷ es) (e ∷ es) (e ∷ fs))
   all_by P Less x e es fs p a b = (p, a)
   all_by P Equal x e es fs p a b = a
   all_by P Greater x e es fs p a b = (a.0, b)
@@ -245,7 +261,8 @@ module _ {K V : Type 0} (cmp : K → K → Ordering) where
   all_with P x (e ∷ es) p a = all_by P (cmp x.0 e.0) x e es (with_entry cmp x es) p a (all_with P x es p a.1)
 
   module _ (o : IsTotalOrder cmp) where
-    ordered_by : (r : Ordering) (x e : K × V) (es : List (K × V)) → cmp x.0 e.0 ≡ r → IsOrdered cmp (e ∷ es) → IsOrdered cmp (with_entry cmp x es) → IsOrdered cmp (by_order r (x ∷ e ∷ es) (e ∷ es) (e ∷ with_entry cmp x es))
+    ordered_by : (r : Ordering) (x e : K × V) (es : List (K × V)) → cmp x.0 e.0 ≡ r → IsOrdered cmp (e ∷ es) →
+        IsOrdered cmp (with_entry cmp x es) → IsOrdered cmp (by_order r (x ∷ e ∷ es) (e ∷ es) (e ∷ with_entry cmp x es))
     ordered_by Less x e es h s t = ((h, all_map (λ f. cmp e.0 f.0 ≡ Less) (λ f. cmp x.0 f.0 ≡ Less) (λ f q. o.trans x.0 e.0 f.0 h q) es s.0), s)
     ordered_by Equal x e es h s t = s
     ordered_by Greater x e es h s t = (all_with (λ f. cmp e.0 f.0 ≡ Less) x es (turned_back cmp o x.0 e.0 h) s.0, t)
@@ -262,13 +279,15 @@ module _ {K V : Type 0} (cmp : K → K → Ordering) where
   all_without P k [] a = tt
   all_without P k (e ∷ es) a = all_cond P (is_eq (cmp k e.0)) e es (without_key cmp k es) a (all_without P k es a.1)
 
-  ordered_cond : (b : Bool) (e : K × V) (es fs : List (K × V)) → IsOrdered cmp (e ∷ es) → AllItems (λ f. cmp e.0 f.0 ≡ Less) fs → IsOrdered cmp fs → IsOrdered cmp (cond b es (e ∷ fs))
+  ordered_cond : (b : Bool) (e : K × V) (es fs : List (K × V)) → IsOrdered cmp (e ∷ es) →
+      AllItems (λ f. cmp e.0 f.0 ≡ Less) fs → IsOrdered cmp fs → IsOrdered cmp (cond b es (e ∷ fs))
   ordered_cond true e es fs s a t = s.1
   ordered_cond false e es fs s a t = (a, t)
 
   pub ordered_without : (k : K) (es : List (K × V)) → IsOrdered cmp es → IsOrdered cmp (without_key cmp k es)
   ordered_without k [] s = tt
-  ordered_without k (e ∷ es) s = ordered_cond (is_eq (cmp k e.0)) e es (without_key cmp k es) s (all_without (λ f. cmp e.0 f.0 ≡ Less) k es s.0) (ordered_without k es s.1)
+  ordered_without k (e ∷ es) s = ordered_cond (is_eq (cmp k e.0)) e es (without_key cmp k es) s
+      (all_without (λ f. cmp e.0 f.0 ≡ Less) k es s.0) (ordered_without k es s.1)
 
   shorter_cond : (b : Bool) (e : K × V) (es fs : List (K × V)) → length fs ≤ length es → length (cond b es (e ∷ fs)) ≤ length es + 1
   shorter_cond true e es fs h = omega arith
@@ -280,7 +299,9 @@ module _ {K V : Type 0} (cmp : K → K → Ordering) where
 
 module _ {K V : Type 0} (cmp : K → K → Ordering) (o : IsTotalOrder cmp) where
   there_by : (r : Ordering) (x e : K × V) (es : List (K × V)) → cmp x.0 e.0 ≡ r → AllItems (λ f. cmp e.0 f.0 ≡ Less) es
-      → (IsSome (value_at cmp x.0 es) → with_entry cmp x es ≡ es) → IsSome (cond (is_eq r) (Some e.1) (value_at cmp x.0 es)) → by_order r (x ∷ e ∷ es) (e ∷ es) (e ∷ with_entry cmp x es) ≡ e ∷ es
+      → (IsSome (value_at cmp x.0 es) → with_entry cmp x es ≡ es) → IsSome
+      (cond (is_eq r) (Some e.1) (value_at cmp x.0 es)) → by_order r (x ∷ e ∷ es) (e ∷ es)
+      (e ∷ with_entry cmp x es) ≡ e ∷ es
   there_by Less x e es h a f s =
       let none = value_none cmp x.0 es (all_map (λ f. cmp e.0 f.0 ≡ Less) (λ f. cmp x.0 f.0 ≡ Less) (λ f q. o.trans x.0 e.0 f.0 h q) es a) in
       absurd (true≢false (sym (rw none at s)))

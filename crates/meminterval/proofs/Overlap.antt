@@ -76,11 +76,13 @@ module _ {T : Type 0} (cmp : T → T → Ordering) (o : IsTotalOrder cmp) where
   -- one interval ends before the other starts
   pub ends_before : (a b : Interval T) → UpTo cmp a.end b.start → overlaps cmp a b ≡ false
   ends_before a b h = not_below (common cmp a b).start (common cmp a b).end
-      (chain (common cmp a b).end a.end (common cmp a b).start (min_below a.end b.end).0 (chain a.end b.start (common cmp a b).start h (max_above a.start b.start).1))
+      (chain (common cmp a b).end a.end (common cmp a b).start (min_below a.end b.end).0
+      (chain a.end b.start (common cmp a b).start h (max_above a.start b.start).1))
 
   pub starts_after : (a b : Interval T) → UpTo cmp b.end a.start → overlaps cmp a b ≡ false
   starts_after a b h = not_below (common cmp a b).start (common cmp a b).end
-      (chain (common cmp a b).end b.end (common cmp a b).start (min_below a.end b.end).1 (chain b.end a.start (common cmp a b).start h (max_above a.start b.start).0))
+      (chain (common cmp a b).end b.end (common cmp a b).start (min_below a.end b.end).1
+      (chain b.end a.start (common cmp a b).start h (max_above a.start b.start).0))
 
   raised_above : (x y : T) (m : Option T) → UpTo cmp x y → UpToSome cmp x (Some (raised cmp y m))
   raised_above x y None h = h
@@ -115,19 +117,22 @@ module _ {T V : Type 0} (cmp : T → T → Ordering) (o : IsTotalOrder cmp) wher
 
   module _ (i : Interval T) (l : Tree (Interval T × V)) (e : Interval T × V) (r : Tree (Interval T × V)) where
     -- if nothing ends above the start
-    pub nothing_overlaps : (g : T) → Some g ≡ greatest_end cmp (Fork l e r) → is_lt (cmp i.start g) ≡ false → AllItems (λ f. overlaps cmp f.0 i ≡ false) (visited (Fork l e r))
+    pub nothing_overlaps : (g : T) → Some g ≡ greatest_end cmp (Fork l e r) → is_lt (cmp i.start g) ≡ false →
+        AllItems (λ f. overlaps cmp f.0 i ≡ false) (visited (Fork l e r))
     nothing_overlaps g p h = visited_all (λ f. overlaps cmp f.0 i ≡ false) (Fork l e r)
         (all_map (λ f. UpToSome cmp f.0.end (greatest_end cmp (Fork l e r))) (λ f. overlaps cmp f.0 i ≡ false)
         (λ f q. let q' = subst (UpToSome cmp f.0.end) (sym p) q in ends_before cmp o f.0 i (chain cmp o f.0.end g i.start q' (up_to cmp o i.start g h)))
         (entries (Fork l e r)) (ends_within (Fork l e r)))
 
     -- if the node starts at the end or above
-    pub right_overlaps : IsOrdered (by_ends cmp) (entries (Fork l e r)) → is_lt (cmp e.0.start i.end) ≡ false → AllItems (λ f. overlaps cmp f.0 i ≡ false) (visited r)
+    pub right_overlaps : IsOrdered (by_ends cmp) (entries (Fork l e r)) → is_lt (cmp e.0.start i.end) ≡ false →
+        AllItems (λ f. overlaps cmp f.0 i ≡ false) (visited r)
     right_overlaps s h =
         let far = up_to cmp o e.0.start i.end h in
         visited_all (λ f. overlaps cmp f.0 i ≡ false) r
         (all_map (λ f. by_ends cmp e.0 f.0 ≡ Less) (λ f. overlaps cmp f.0 i ≡ false)
-        (λ f q. starts_after cmp o f.0 i (chain cmp o i.end e.0.start f.0.start far (start_up_to cmp o e.0 f.0 (cmp e.0.start f.0.start) (cmp e.0.end f.0.end) refl q)))
+        (λ f q. starts_after cmp o f.0 i (chain cmp o i.end e.0.start f.0.start far
+        (start_up_to cmp o e.0 f.0 (cmp e.0.start f.0.start) (cmp e.0.end f.0.end) refl q)))
         (entries r) (after (by_ends cmp) (entries l) e (entries r) s))
 
     pub node_overlaps : is_lt (cmp e.0.start i.end) ≡ false → overlaps cmp e.0 i ≡ false
@@ -137,14 +142,16 @@ module _ {T V : Type 0} (cmp : T → T → Ordering) (o : IsTotalOrder cmp) wher
         → filter (λ f. overlaps cmp f.0 i) (visited (Fork l e r)) ≡ filter (λ f. overlaps cmp f.0 i) (visited l)
     left_overlaps s h =
         let right = filter_none (λ f. overlaps cmp f.0 i) (visited r) (right_overlaps s h) in
-        rw (node_overlaps h) (filter-append (λ f. overlaps cmp f.0 i) (visited r) (visited l) ∙ ap (λ es. es ++ filter (λ f. overlaps cmp f.0 i) (visited l)) right)
+        rw (node_overlaps h) (filter-append (λ f. overlaps cmp f.0 i) (visited r) (visited l)
+        ∙ ap (λ es. es ++ filter (λ f. overlaps cmp f.0 i) (visited l)) right)
 
     pub not_true : (b : Bool) → not b ≡ true → b ≡ false
     not_true true h = absurd (true≢false (sym h))
     not_true false h = refl
 
     -- no place in a tree below which nothing ends above the start
-    pub no_place : (g : T) → Some g ≡ greatest_end cmp (Fork l e r) → not (is_lt (cmp i.start g)) ≡ true → (k : ℕ) → place_from (λ f. overlaps cmp f.0 i) k (visited (Fork l e r)) ≡ None
+    pub no_place : (g : T) → Some g ≡ greatest_end cmp (Fork l e r) → not (is_lt (cmp i.start g)) ≡ true → (k : ℕ) →
+        place_from (λ f. overlaps cmp f.0 i) k (visited (Fork l e r)) ≡ None
     no_place g p h k = place_nowhere (λ f. overlaps cmp f.0 i) (visited (Fork l e r)) k (nothing_overlaps g p (not_true (is_lt (cmp i.start g)) h))
 
     -- nor in the right subtree if the node starts at the end or above
@@ -157,23 +164,29 @@ module _ {T V : Type 0} (cmp : T → T → Ordering) (o : IsTotalOrder cmp) wher
     -- the tree is passed over
     pub pruned : (g : T) → Some g ≡ greatest_end cmp (Fork l e r) → not (is_lt (cmp i.start g)) ≡ true → (rest : List (Interval T × V))
         → filter (λ f. overlaps cmp f.0 i) (visited (Fork l e r) ++ rest) ≡ filter (λ f. overlaps cmp f.0 i) rest
-    pruned g p h rest = filter-append (λ f. overlaps cmp f.0 i) (visited (Fork l e r)) rest ∙ ap (λ es. es ++ filter (λ f. overlaps cmp f.0 i) rest) (filter_none (λ f. overlaps cmp f.0 i) (visited (Fork l e r)) (nothing_overlaps g p (not_true (is_lt (cmp i.start g)) h)))
+    pruned g p h rest = filter-append (λ f. overlaps cmp f.0 i) (visited (Fork l e r)) rest
+        ∙ ap (λ es. es ++ filter (λ f. overlaps cmp f.0 i) rest) (filter_none (λ f. overlaps cmp f.0 i)
+        (visited (Fork l e r)) (nothing_overlaps g p (not_true (is_lt (cmp i.start g)) h)))
 
     -- the right subtree is passed over
     pub pruned_right : IsOrdered (by_ends cmp) (entries (Fork l e r)) → is_lt (cmp e.0.start i.end) ≡ false → (rest : List (Interval T × V))
         → filter (λ f. overlaps cmp f.0 i) (visited (Fork l e r) ++ rest) ≡ filter (λ f. overlaps cmp f.0 i) (visited l ++ rest)
-    pruned_right s h rest = filter-append (λ f. overlaps cmp f.0 i) (visited (Fork l e r)) rest ∙ ap (λ es. es ++ filter (λ f. overlaps cmp f.0 i) rest) (left_overlaps s h) ∙ sym (filter-append (λ f. overlaps cmp f.0 i) (visited l) rest)
+    pruned_right s h rest = filter-append (λ f. overlaps cmp f.0 i) (visited (Fork l e r)) rest
+        ∙ ap (λ es. es ++ filter (λ f. overlaps cmp f.0 i) rest) (left_overlaps s h)
+        ∙ sym (filter-append (λ f. overlaps cmp f.0 i) (visited l) rest)
 
 module _ {T V : Type 0} where
   pub to_visit-append : (ms ns : List (Bor (Node T V))) → to_visit (ms ++ ns) ≡ to_visit ns ++ to_visit ms
   to_visit-append [] ns = sym (append-nil (to_visit ns))
-  to_visit-append (m ∷ ms) ns = ap (λ es. es ++ visited (tree_of_node m.now)) (to_visit-append ms ns) ∙ append_assoc (to_visit ns) (to_visit ms) (visited (tree_of_node m.now))
+  to_visit-append (m ∷ ms) ns = ap (λ es. es ++ visited (tree_of_node m.now)) (to_visit-append ms ns)
+      ∙ append_assoc (to_visit ns) (to_visit ms) (visited (tree_of_node m.now))
 
   pub to_visit-push : (ns : List (Bor (Node T V))) (n : Bor (Node T V)) → to_visit (ns ++ n ∷ []) ≡ visited (tree_of_node n.now) ++ to_visit ns
   to_visit-push ns n = to_visit-append ns (n ∷ [])
 
   module _ (cmp : T → T → Ordering) where
-    pub walk-push : (places k : ℕ) (ns : List (Bor (Node T V))) (n : Bor (Node T V)) → IsWalk cmp places k ns → IsSoundNode cmp n.now → levels (tree_of_node n.now) + (k + length ns) ≤ places → IsWalk cmp places k (ns ++ n ∷ [])
+    pub walk-push : (places k : ℕ) (ns : List (Bor (Node T V))) (n : Bor (Node T V)) → IsWalk cmp places k ns →
+        IsSoundNode cmp n.now → levels (tree_of_node n.now) + (k + length ns) ≤ places → IsWalk cmp places k (ns ++ n ∷ [])
     walk-push places k [] n w s h = (s, omega arith, tt)
     walk-push places k (m ∷ ns) n w s h = (w.0, w.1, walk-push places (k + 1) ns n w.2 s (omega arith))
 
@@ -181,7 +194,8 @@ module _ {T V : Type 0} where
     walk-front places k [] n w = tt
     walk-front places k (m ∷ ns) n w = (w.0, w.1, walk-front places (k + 1) ns n w.2)
 
-    pub walk-last : (places k : ℕ) (ns : List (Bor (Node T V))) (n : Bor (Node T V)) → IsWalk cmp places k (ns ++ n ∷ []) → IsSoundNode cmp n.now × (levels (tree_of_node n.now) + (k + length ns) ≤ places)
+    pub walk-last : (places k : ℕ) (ns : List (Bor (Node T V))) (n : Bor (Node T V)) → IsWalk cmp places k (ns ++ n ∷ []) →
+        IsSoundNode cmp n.now × (levels (tree_of_node n.now) + (k + length ns) ≤ places)
     walk-last places k [] n w = (w.0, omega arith)
     walk-last places k (m ∷ ns) n w = let h = walk-last places (k + 1) ns n w.2 in (h.0, omega (arith, h.1))
 

@@ -72,8 +72,12 @@ module _ {T V : Type 0} (w : V) where
   keys_at (tree.Fork l e r) zero = map-append (λ f. f.0) (entries l) (with_value w e ∷ entries r) ∙ sym (map-append (λ f. f.0) (entries l) (e ∷ entries r))
   keys_at (tree.Fork l e r) (suc k) =
       cond_both (λ t. map (λ f. f.0) (entries t) ≡ map (λ f. f.0) (entries (tree.Fork l e r))) (nat_lt k (length (visited r))) _ _
-      (map-append (λ f. f.0) (entries l) (e ∷ entries (map_at (with_value w) r k)) ∙ ap (λ ks. map (λ f. f.0) (entries l) ++ e.0 ∷ ks) (keys_at r k) ∙ sym (map-append (λ f. f.0) (entries l) (e ∷ entries r)))
-      (map-append (λ f. f.0) (entries (map_at (with_value w) l (k - length (visited r)))) (e ∷ entries r) ∙ ap (λ ks. ks ++ e.0 ∷ map (λ f. f.0) (entries r)) (keys_at l (k - length (visited r))) ∙ sym (map-append (λ f. f.0) (entries l) (e ∷ entries r)))
+      (map-append (λ f. f.0) (entries l) (e ∷ entries (map_at (with_value w) r k))
+      ∙ ap (λ ks. map (λ f. f.0) (entries l) ++ e.0 ∷ ks) (keys_at r k)
+      ∙ sym (map-append (λ f. f.0) (entries l) (e ∷ entries r)))
+      (map-append (λ f. f.0) (entries (map_at (with_value w) l (k - length (visited r)))) (e ∷ entries r)
+      ∙ ap (λ ks. ks ++ e.0 ∷ map (λ f. f.0) (entries r)) (keys_at l (k - length (visited r)))
+      ∙ sym (map-append (λ f. f.0) (entries l) (e ∷ entries r)))
 
   length_at : (t : Tree (Interval T × V)) (k : ℕ) → length (entries (map_at (with_value w) t k)) ≡ length (entries t)
   length_at t k = sym (length-map (entries (map_at (with_value w) t k)) (λ f. f.0)) ∙ ap (λ ks. length ks) (keys_at t k) ∙ length-map (entries t) (λ f. f.0)
@@ -102,10 +106,16 @@ module _ {T V : Type 0} (w : V) where
   drop_at (tree.Fork l e r) (suc k) = elim (cases_lt k (length (visited r))) [
     | inl lt ↦
         let lt' : suc k ≤ length (visited (map_at (with_value w) r k)) = rw (length_same r k) (omega (arith, lt)) in
-        rw (lt_true k (length (visited r)) lt) (drop-append-le (suc k) (visited (map_at (with_value w) r k)) (visited l) lt' ∙ ap (λ es. es ++ visited l) (drop_at r k) ∙ sym (drop-append-le (suc k) (visited r) (visited l) (omega (arith, lt))))
+        rw (lt_true k (length (visited r)) lt) (drop-append-le (suc k) (visited (map_at (with_value w) r k)) (visited l) lt'
+        ∙ ap (λ es. es ++ visited l) (drop_at r k) ∙ sym (drop-append-le (suc k) (visited r) (visited l)
+        (omega (arith, lt))))
     | inr ge ↦
         let n : suc k ≡ length (visited r) + suc (k - length (visited r)) = omega (arith, ge) in
-        rw (lt_false k (length (visited r)) ge) (ap (λ m. drop m (visited r ++ visited (map_at (with_value w) l (k - length (visited r))))) n ∙ drop-append-add (visited r) (visited (map_at (with_value w) l (k - length (visited r)))) (suc (k - length (visited r))) ∙ drop_at l (k - length (visited r)) ∙ sym (ap (λ m. drop m (visited r ++ visited l)) n ∙ drop-append-add (visited r) (visited l) (suc (k - length (visited r)))))
+        rw (lt_false k (length (visited r)) ge) (ap (λ m. drop m (visited r ++ visited
+        (map_at (with_value w) l (k - length (visited r))))) n ∙ drop-append-add (visited r)
+        (visited (map_at (with_value w) l (k - length (visited r)))) (suc (k - length (visited r)))
+        ∙ drop_at l (k - length (visited r)) ∙ sym (ap (λ m. drop m (visited r ++ visited l)) n
+        ∙ drop-append-add (visited r) (visited l) (suc (k - length (visited r)))))
   ]
 
   tree_of-cond : (b : Bool) (x y : Subtree T V) → tree_of (cond b x y) ≡ cond b (tree_of x) (tree_of y)
@@ -116,8 +126,10 @@ module _ {T V : Type 0} (w : V) where
   tree_of-put Empty k = refl
   tree_of-put (Fork' p l i v g n s r) zero = refl
   tree_of-put (Fork' p l i v g n s r) (suc k) =
-      tree_of-cond (nat_lt k (length (visited (tree_of r)))) (Fork' p l i v g n s (put_value w r k)) (Fork' p (put_value w l (k - length (visited (tree_of r)))) i v g n s r)
-      ∙ cond_same (nat_lt k (length (visited (tree_of r)))) _ _ _ _ (ap (λ t. tree.Fork (tree_of l) (i, v) t) (tree_of-put r k)) (ap (λ t. tree.Fork t (i, v) (tree_of r)) (tree_of-put l (k - length (visited (tree_of r)))))
+      tree_of-cond (nat_lt k (length (visited (tree_of r)))) (Fork' p l i v g n s (put_value w r k))
+      (Fork' p (put_value w l (k - length (visited (tree_of r)))) i v g n s r)
+      ∙ cond_same (nat_lt k (length (visited (tree_of r)))) _ _ _ _ (ap (λ t. tree.Fork (tree_of l) (i, v) t)
+      (tree_of-put r k)) (ap (λ t. tree.Fork t (i, v) (tree_of r)) (tree_of-put l (k - length (visited (tree_of r)))))
 
 module _ {T V : Type 0} (w : V) where
   module _ (cmp : T → T → Ordering) where
@@ -131,7 +143,14 @@ module _ {T V : Type 0} (w : V) where
 
     recorded_put : (t : Subtree T V) (k : ℕ) → IsRecorded cmp t → IsRecorded cmp (put_value w t k)
     recorded_put Empty k a = a
-    recorded_put (Fork' p l i v g n s r) zero a = (a.0, a.1, a.2, a.3, a.4 ∙ length_fork (tree_of l) (i, v) (tree_of r) ∙ sym (length_fork (tree_of l) (i, w) (tree_of r)))
+    recorded_put (Fork' p l i v g n s r) zero a = (
+      a.0,
+      a.1,
+      a.2,
+      a.3,
+      a.4 ∙ length_fork (tree_of l) (i, v) (tree_of r)
+          ∙ sym (length_fork (tree_of l) (i, w) (tree_of r)),
+    )
     recorded_put (Fork' p l i v g n s r) (suc k) a =
         let j = k - length (visited (tree_of r)) in
         let size = a.4 ∙ length_fork (tree_of l) (i, v) (tree_of r) in
@@ -153,7 +172,8 @@ module _ {T V : Type 0} (w : V) where
     sound_put t k a = record {
       recorded = recorded_put t k a.recorded;
       balanced = rw (tree_of-put w t k) (balanced_at w (tree_of t) k a.balanced);
-      ordered = rw (tree_of-put w t k) (ordered_keys (by_ends cmp) (entries (tree_of t)) (entries (map_at (with_value w) (tree_of t) k)) (sym (keys_at w (tree_of t) k)) a.ordered);
+      ordered = rw (tree_of-put w t k) (ordered_keys (by_ends cmp) (entries (tree_of t))
+          (entries (map_at (with_value w) (tree_of t) k)) (sym (keys_at w (tree_of t) k)) a.ordered);
       few = let few = a.few in rw (tree_of-put w t k, length_at w (tree_of t) k) few;
     }
 
@@ -166,8 +186,12 @@ module _ {T V : Type 0} (w : V) where
   tree_of-put_last t (suc k) = tree_of-put w t k
 
 module _ {T V : Type 0} (w : V) (b : Box (Node T V) Global) (k : ℕ) where
-  pub put_right : k < length (visited (tree_of b.value.right)) → put_value w (Fork b) (suc k) ≡ Fork (record b { value = record b.value { right = put_value w b.value.right k } })
+  pub put_right : k < length (visited (tree_of b.value.right)) → put_value w (Fork b) (suc k) ≡ Fork
+      (record b { value = record b.value { right = put_value w b.value.right k } })
   put_right h = rw (lt_true k (length (visited (tree_of b.value.right))) h) refl
 
-  pub put_left : length (visited (tree_of b.value.right)) ≤ k → put_value w (Fork b) (suc k) ≡ Fork (record b { value = record b.value { left = put_value w b.value.left (k - length (visited (tree_of b.value.right))) } })
+  pub put_left : length (visited (tree_of b.value.right)) ≤ k → put_value w (Fork b) (suc k) ≡ Fork
+      (record b {
+        value = record b.value { left = put_value w b.value.left (k - length (visited (tree_of b.value.right))) };
+      })
   put_left h = rw (lt_false k (length (visited (tree_of b.value.right))) h) refl

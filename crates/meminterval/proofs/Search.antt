@@ -37,28 +37,37 @@ module _ {E : Type 0} (p : E → Bool) where
   first_of true a c = refl
   first_of false a c = refl
 
-  place_append : (xs ys : List E) (k : ℕ) → place_from p k (xs ++ ys) ≡ or_else (place_from p k xs) (option_map (λ n. n + length xs) (place_from p (k - length xs) ys))
+  place_append : (xs ys : List E) (k : ℕ) → place_from p k (xs ++ ys) ≡ or_else (place_from p k xs)
+      (option_map (λ n. n + length xs) (place_from p (k - length xs) ys))
   place_append [] ys k = map_zero (place_from p k ys) ∙ ap (λ n. option_map (λ m. m + 0) (place_from p n ys)) (omega arith)
   place_append (x ∷ xs) ys zero =
       ap (λ o. cond (p x) (Some 0) (option_map (λ n. n + 1) o)) (place_append xs ys zero)
       ∙ ap (λ o. cond (p x) (Some 0) o) (map_or_else (place_from p zero xs) (option_map (λ n. n + length xs) (place_from p (0 - length xs) ys))
-      ∙ ap (λ o. or_else (option_map (λ n. n + 1) (place_from p zero xs)) o) (map_add (length xs) (length (x ∷ xs)) (place_from p (0 - length xs) ys) (omega arith)))
+      ∙ ap (λ o. or_else (option_map (λ n. n + 1) (place_from p zero xs)) o)
+      (map_add (length xs) (length (x ∷ xs)) (place_from p (0 - length xs) ys) (omega arith)))
       ∙ first_of (p x) (option_map (λ n. n + 1) (place_from p zero xs)) (option_map (λ n. n + length (x ∷ xs)) (place_from p (0 - length xs) ys))
-      ∙ ap (λ n. or_else (cond (p x) (Some 0) (option_map (λ m. m + 1) (place_from p zero xs))) (option_map (λ m. m + length (x ∷ xs)) (place_from p n ys))) (omega arith)
+      ∙ ap (λ n. or_else (cond (p x) (Some 0) (option_map (λ m. m + 1) (place_from p zero xs)))
+      (option_map (λ m. m + length (x ∷ xs)) (place_from p n ys))) (omega arith)
   place_append (x ∷ xs) ys (suc k) =
       ap (λ o. option_map (λ n. n + 1) o) (place_append xs ys k)
       ∙ map_or_else (place_from p k xs) (option_map (λ n. n + length xs) (place_from p (k - length xs) ys))
-      ∙ ap (λ o. or_else (option_map (λ n. n + 1) (place_from p k xs)) o) (map_add (length xs) (length (x ∷ xs)) (place_from p (k - length xs) ys) (omega arith))
+      ∙ ap (λ o. or_else (option_map (λ n. n + 1) (place_from p k xs)) o)
+      (map_add (length xs) (length (x ∷ xs)) (place_from p (k - length xs) ys) (omega arith))
       ∙ ap (λ n. or_else (option_map (λ m. m + 1) (place_from p k xs)) (option_map (λ m. m + length (x ∷ xs)) (place_from p n ys))) (omega arith)
 
   module _ (x : E) (xs ys : List E) (k : ℕ) (h : k ≡ 0 → p x ≡ false) where
     -- found in the first part
     pub place_first : (j : ℕ) → Some j ≡ place_from p (k - 1) xs → Some (j + 1) ≡ place_from p k (x ∷ (xs ++ ys))
-    place_first j f = sym (place_step x (xs ++ ys) k h ∙ ap (λ o. option_map (λ n. n + 1) o) (place_append xs ys (k - 1) ∙ ap (λ o. or_else o (option_map (λ n. n + length xs) (place_from p (k - 1 - length xs) ys))) (sym f)))
+    place_first j f = sym (place_step x (xs ++ ys) k h ∙ ap (λ o. option_map (λ n. n + 1) o)
+        (place_append xs ys (k - 1) ∙ ap (λ o. or_else o (option_map (λ n. n + length xs)
+        (place_from p (k - 1 - length xs) ys))) (sym f)))
 
     -- not found in the first part
-    pub place_second : None ≡ place_from p (k - 1) xs → option_map (λ n. n + (length xs + 1)) (place_from p (k - 1 - length xs) ys) ≡ place_from p k (x ∷ (xs ++ ys))
-    place_second f = sym (place_step x (xs ++ ys) k h ∙ ap (λ o. option_map (λ n. n + 1) o) (place_append xs ys (k - 1) ∙ ap (λ o. or_else o (option_map (λ n. n + length xs) (place_from p (k - 1 - length xs) ys))) (sym f))
+    pub place_second : None ≡ place_from p (k - 1) xs → option_map (λ n. n + (length xs + 1))
+        (place_from p (k - 1 - length xs) ys) ≡ place_from p k (x ∷ (xs ++ ys))
+    place_second f = sym (place_step x (xs ++ ys) k h ∙ ap (λ o. option_map (λ n. n + 1) o)
+        (place_append xs ys (k - 1) ∙ ap (λ o. or_else o (option_map (λ n. n + length xs)
+        (place_from p (k - 1 - length xs) ys))) (sym f))
         ∙ map_add (length xs) (length xs + 1) (place_from p (k - 1 - length xs) ys) refl)
 
   mapped : (o : Option ℕ) (j : ℕ) → option_map (λ n. n + 1) o ≡ Some j → (i : ℕ) × (o ≡ Some i) × (j ≡ i + 1)

@@ -17,12 +17,20 @@ use Rattle.memory_image.specs.Traced.{AreTraced, IsTracing, behind, probed_addre
 use Rattle.memory_image.specs.TracedLaws.{tracing_on}
 
 -- an item is answered, and the walk of a probe stands after that
-pub traced_one : (x y : Traced) (item : Option Call) (before middle after last : List ℕ) → HasResponded IsAnswering x.machine (item ∷ []) before middle y.machine
+pub traced_one : (x y : Traced) (item : Option Call) (before middle after last : List ℕ) →
+    HasResponded IsAnswering x.machine (item ∷ []) before middle y.machine
     → behind (probed_address item) y.machine ≡ last → after ≡ middle ++ last → HasResponded IsTracing x (item ∷ []) before after y
 traced_one x y item before middle after last h is written = record {
   told = h.told ++ last;
   output = written ∙ ap (λ (l : List ℕ). l ++ last) h.output ∙ append_assoc before h.told last;
-  responses = (y.machine, h.told ++ last, [], sym (append-nil (h.told ++ last)), record { answer = h.told; answered = h.responses; text = ap (λ (l : List ℕ). h.told ++ l) (sym is) }, (refl, refl));
+  responses = (
+    y.machine,
+    h.told ++ last,
+    [],
+    sym (append-nil (h.told ++ last)),
+    record { answer = h.told; answered = h.responses; text = ap (λ (l : List ℕ). h.told ++ l) (sym is) },
+    (refl, refl),
+  );
 }
 
 read_whole : (l l1 : Option (List ℕ)) (bytes : List ℕ) → Consumes l l1 bytes → IsAtEnd l1 → IsReadWhole l l1 bytes
@@ -32,8 +40,11 @@ read_whole (Some xs) (Some ys) bytes consumed end =
     (sym (consumed ∙ ap (λ (l : List ℕ). bytes ++ l) end ∙ append-nil bytes), ap (λ (l : List ℕ). Some l) end)
 
 -- the last line is answered, and the image stands after all
-pub imaged : (first last end : Traced) (line : List ℕ) (l l1 t t1 t2 : Option (List ℕ)) (flushed : Option ℕ) (n : ℕ) (before after output : List ℕ) → HasRead IsTracing first last line l l1 t t1 n → IsAtEnd l1
-    → before ≡ [] → HasResponded IsTracing last (items_of line) before after end → output ≡ after ++ image_text end.machine → Appends t1 t2 output → IsAllFlushed t2 flushed → IsImaged first.machine l l1 t t2 flushed end.machine
+pub imaged : (first last end : Traced) (line : List ℕ) (l l1 t t1 t2 : Option (List ℕ)) (flushed : Option ℕ) (n : ℕ)
+    (before after output : List ℕ) → HasRead IsTracing first last line l l1 t t1 n → IsAtEnd l1
+    → before ≡ [] → HasResponded IsTracing last (items_of line) before after end →
+    output ≡ after ++ image_text end.machine → Appends t1 t2 output → IsAllFlushed t2 flushed →
+    IsImaged first.machine l l1 t t2 flushed end.machine
 imaged first last end line l l1 t t1 t2 flushed n before after output h done empty k is written all =
     let a = h.responded in
     let image = image_text end.machine in
@@ -46,6 +57,7 @@ imaged first last end line l l1 t t1 t2 flushed n before after output h done emp
       read = read_whole l l1 h.bytes h.consumed done;
       told = h.told ++ k.told;
       traced = subst (λ (its : List (Option Call)). AreTraced first.machine its (h.told ++ k.told) end.machine) (sym items) both;
-      written = subst (Appends t t2) (sym (append_assoc h.told k.told image)) (appends_more t t1 t2 h.told (k.told ++ image) h.appended (subst (Appends t1 t2) text written));
+      written = subst (Appends t t2) (sym (append_assoc h.told k.told image))
+          (appends_more t t1 t2 h.told (k.told ++ image) h.appended (subst (Appends t1 t2) text written));
       flushed_all = all;
     }

@@ -6,9 +6,11 @@ use Rattle.paging_core.specs.declared.page_walk.Mapped.{Mapped}
 abbrev place_at : ℕ → Place → ℕ
 place_at at place = place.frame * 4096 + at % 4096
 
-pub walked_none : (o : Option Mapped) (w : Option Place) (at : ℕ) → option_map place_of o ≡ w → o ≡ None → None ≡ option_map (λ place. place.frame * 4096 + at % 4096) w
+pub walked_none : (o : Option Mapped) (w : Option Place) (at : ℕ) → option_map place_of o ≡ w → o ≡ None →
+    None ≡ option_map (λ place. place.frame * 4096 + at % 4096) w
 walked_none o w at walked is = ap (option_map (place_at at)) (ap (option_map place_of) (sym is) ∙ walked)
 
-pub walked_some : (o : Option Mapped) (mapped : Mapped) (w : Option Place) (at value : ℕ) → option_map place_of o ≡ w → o ≡ Some mapped → value ≡ mapped.frame * 4096 + at % 4096
+pub walked_some : (o : Option Mapped) (mapped : Mapped) (w : Option Place) (at value : ℕ) → option_map place_of o ≡ w →
+    o ≡ Some mapped → value ≡ mapped.frame * 4096 + at % 4096
     → Some value ≡ option_map (λ place. place.frame * 4096 + at % 4096) w
 walked_some o mapped w at value walked is same = ap (λ (n : ℕ). Some n) same ∙ ap (option_map (place_at at)) (ap (option_map place_of) (sym is) ∙ walked)

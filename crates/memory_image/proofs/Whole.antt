@@ -14,7 +14,8 @@ use Rattle.memory_image.specs.Image.{registers_line, memory_text, image_text}
 pub behind : (old part new text rest : List ℕ) → new ≡ part ++ rest → part ≡ old ++ text → new ≡ old ++ (text ++ rest)
 behind old part new text rest last first = last ∙ ap (λ (t : List ℕ). t ++ rest) first ∙ append_assoc old text rest
 
-pub whole : (machine : Parts) (system : PagedSystem) (cpu : Cpu) (regions : List Region) (words old one two new : List ℕ) → system ≡ system_of machine.heap → cpu ≡ machine.cpu → regions ≡ (paged system).regions → words ≡ (paged system).words
+pub whole : (machine : Parts) (system : PagedSystem) (cpu : Cpu) (regions : List Region) (words old one two new : List ℕ) →
+    system ≡ system_of machine.heap → cpu ≡ machine.cpu → regions ≡ (paged system).regions → words ≡ (paged system).words
     → one ≡ old ++ registers_line cpu → two ≡ one ++ flat_map region_line regions → new ≡ two ++ memory_text words → new ≡ old ++ image_text machine
 whole machine system cpu regions words old one two new is same listed held first second last =
     let lines = flat_map region_line regions in
@@ -24,5 +25,7 @@ whole machine system cpu regions words old one two new is same listed held first
     ∙ append_assoc (old ++ registers_line cpu) lines memory
     ∙ append_assoc old (registers_line cpu) (lines ++ memory)
     ∙ ap (λ (x : Cpu). old ++ (registers_line x ++ (lines ++ memory))) same
-    ∙ ap (λ (rs : List Region). old ++ (registers_line machine.cpu ++ (flat_map region_line rs ++ memory))) (listed ∙ ap (λ (y : PagedSystem). (paged y).regions) is)
-    ∙ ap (λ (ws : List ℕ). old ++ (registers_line machine.cpu ++ (flat_map region_line (paged (system_of machine.heap)).regions ++ memory_text ws))) (held ∙ ap (λ (y : PagedSystem). (paged y).words) is)
+    ∙ ap (λ (rs : List Region). old ++ (registers_line machine.cpu ++ (flat_map region_line rs ++ memory)))
+    (listed ∙ ap (λ (y : PagedSystem). (paged y).regions) is)
+    ∙ ap (λ (ws : List ℕ). old ++ (registers_line machine.cpu ++ (flat_map region_line
+    (paged (system_of machine.heap)).regions ++ memory_text ws))) (held ∙ ap (λ (y : PagedSystem). (paged y).words) is)

@@ -32,11 +32,13 @@ bytes_with word b byte less small = le_bytes_8 (slice_set (to_le_bytes w64 word)
     each : (i : ℕ) → get_or (slice_set (to_le_bytes w64 word) b byte) i 0 < 256
     each i = elim (same_or_other i b) [
       | inr other ↦ rw (get_or-set_other (to_le_bytes w64 word) b i byte 0 other) (byte_small word i)
-      | inl same ↦ subst (λ j. get_or (slice_set (to_le_bytes w64 word) b byte) j 0 < 256) (sym same) (rw (get_or-set_same (to_le_bytes w64 word) b byte 0 less) small)
+      | inl same ↦ subst (λ j. get_or (slice_set (to_le_bytes w64 word) b byte) j 0 < 256) (sym same)
+          (rw (get_or-set_same (to_le_bytes w64 word) b byte 0 less) small)
     ]
 
 -- the bytes of the word of eight bytes
-pub word_bytes : (bytes run : List ℕ) (result place : ℕ) → ((i : ℕ) → i < length bytes → get_or bytes i 0 < 256) → length run ≡ 8 → place + 8 ≤ length bytes → run ≡ take (place + 8 - place) (drop place bytes) →
+pub word_bytes : (bytes run : List ℕ) (result place : ℕ) → ((i : ℕ) → i < length bytes → get_or bytes i 0 < 256) →
+    length run ≡ 8 → place + 8 ≤ length bytes → run ≡ take (place + 8 - place) (drop place bytes) →
     result ≡ from_le_bytes w64 run → (k : ℕ) → k < 8 → get_or (to_le_bytes w64 result) k 0 ≡ get_or bytes (place + k) 0
 word_bytes bytes run result place small len fits is value k less = ap (λ xs. get_or xs k 0) (le_bytes_8 run result len low value) ∙ each k less
   where
@@ -59,7 +61,8 @@ module _ (regions : List Grant) (whole : IsTrue (are_whole regions)) (old new : 
         ∙ (ap (λ bs. slice_index bs (at % 8)) (bytes_with (old (at - at % 8)) (at % 8) byte (omega arith) small)
         ∙ get_or-set_same (to_le_bytes w64 (old (at - at % 8))) (at % 8) byte 0 (omega arith))
 
-    same_bytes : (other : ℕ) → other ≢ at → ((other - other % 8) ≡ (at - at % 8)) ⊎ ((other - other % 8) ≢ (at - at % 8)) → IsTrue (is_granted regions other) → byte_in new other ≡ byte_in old other
+    same_bytes : (other : ℕ) → other ≢ at → ((other - other % 8) ≡ (at - at % 8)) ⊎ ((other - other % 8) ≢ (at - at % 8)) →
+        IsTrue (is_granted regions other) → byte_in new other ≡ byte_in old other
     same_bytes other apart (inl same) there =
         ap (λ a. slice_index (to_le_bytes w64 (new a)) (other % 8)) same
         ∙ (ap (λ w. slice_index (to_le_bytes w64 w) (other % 8)) stored.here
@@ -71,9 +74,16 @@ module _ (regions : List Grant) (whole : IsTrue (are_whole regions)) (old new : 
 
     byte_written : (bytes : List ℕ) → byte ≡ slice_index bytes 0 → IsWritten regions old at bytes 1 new
     byte_written bytes is = record {
-      here = λ k less. (let zero_is : 0 ≡ k = omega arith in let place : at ≡ at + k = omega arith in subst (λ a. byte_in new a ≡ slice_index bytes k) place (subst (λ j. byte_in new at ≡ slice_index bytes j) zero_is (byte_put ∙ is)));
-      elsewhere = λ k there beside. same_bytes k (λ e. elim beside [ inl low ↦ absurd (omega arith) | inr high ↦ absurd (omega arith) ]) (same_or_other (k - k % 8) (at - at % 8)) there;
-      words = λ k word beside. stored.elsewhere k word (λ e. (let aligned = word.aligned in elim beside [ inl low ↦ absurd (omega arith) | inr high ↦ absurd (omega arith) ]));
+      here = λ k less. (let zero_is : 0 ≡ k = omega arith in let place : at ≡ at + k = omega arith in
+          subst (λ a. byte_in new a ≡ slice_index bytes k) place (subst (λ j. byte_in new at ≡ slice_index bytes j) zero_is
+          (byte_put ∙ is)));
+      elsewhere = λ k there beside. same_bytes k (λ e. elim beside [
+        | inl low ↦ absurd (omega arith)
+        | inr high ↦ absurd
+            (omega arith)
+      ]) (same_or_other (k - k % 8) (at - at % 8)) there;
+      words = λ k word beside. stored.elsewhere k word (λ e. (let aligned = word.aligned in
+          elim beside [ inl low ↦ absurd (omega arith) | inr high ↦ absurd (omega arith) ]));
     }
 
   -- a stored word is its eight bytes
@@ -100,7 +110,8 @@ written_none regions words at bytes = record {
 }
 
 -- behind n bytes a part was written
-pub written_on : (regions : List Grant) (old mid new : ℕ → ℕ) (at n m : ℕ) (bytes part : List ℕ) → AreGranted regions at (n + m) → IsWritten regions old at bytes n mid → IsWritten regions mid (at + n) part m new →
+pub written_on : (regions : List Grant) (old mid new : ℕ → ℕ) (at n m : ℕ) (bytes part : List ℕ) →
+    AreGranted regions at (n + m) → IsWritten regions old at bytes n mid → IsWritten regions mid (at + n) part m new →
     ((k : ℕ) → k < m → slice_index part k ≡ slice_index bytes (n + k)) → IsWritten regions old at bytes (n + m) new
 written_on regions old mid new at n m bytes part there before after same = record {
   here = λ k less. elim (lt_or_le k n) [
@@ -122,15 +133,22 @@ written_on regions old mid new at n m bytes part there before after same = recor
         ap (byte_in new) (sym place) ∙ (after.here j less ∙ same j less)
 
 -- one more byte was written
-pub written_more : (regions : List Grant) (whole : IsTrue (are_whole regions)) (old mid new : ℕ → ℕ) (at : ℕ) (bytes : List ℕ) (n : ℕ) → AreGranted regions at (n + 1) → IsWritten regions old at bytes n mid →
-    slice_index bytes n < 256 → IsStored regions mid (at + n - (at + n) % 8) (with_byte (mid (at + n - (at + n) % 8)) ((at + n) % 8) (slice_index bytes n)) new → IsWritten regions old at bytes (n + 1) new
+pub written_more : (regions : List Grant) (whole : IsTrue (are_whole regions)) (old mid new : ℕ → ℕ) (at : ℕ)
+    (bytes : List ℕ) (n : ℕ) → AreGranted regions at (n + 1) → IsWritten regions old at bytes n mid →
+    slice_index bytes n < 256 → IsStored regions mid (at + n - (at + n) % 8)
+    (with_byte (mid (at + n - (at + n) % 8)) ((at + n) % 8) (slice_index bytes n)) new →
+    IsWritten regions old at bytes (n + 1) new
 written_more regions whole old mid new at bytes n there before small stored =
     written_on regions old mid new at n 1 bytes (slice_index bytes n ∷ []) there before
     (byte_written regions whole mid new (at + n) (slice_index bytes n) small stored (slice_index bytes n ∷ []) refl)
-    (λ k less. (let zero_is : 0 ≡ k = omega arith in let place : n ≡ n + k = omega arith in subst (λ j. slice_index (slice_index bytes n ∷ []) j ≡ slice_index bytes (n + k)) zero_is (ap (slice_index bytes) place)))
+    (λ k less. (let zero_is : 0 ≡ k = omega arith in let place : n ≡ n + k = omega arith in
+    subst (λ j. slice_index (slice_index bytes n ∷ []) j ≡ slice_index bytes (n + k)) zero_is
+    (ap (slice_index bytes) place)))
 
 -- a part at the front was written
-written_front : (regions : List Grant) (old new : ℕ → ℕ) (at n : ℕ) (bytes part : List ℕ) → IsWritten regions old at part n new → ((k : ℕ) → k < n → slice_index part k ≡ slice_index bytes k) → IsWritten regions old at bytes n new
+written_front : (regions : List Grant) (old new : ℕ → ℕ) (at n : ℕ) (bytes part : List ℕ) →
+    IsWritten regions old at part n new → ((k : ℕ) → k < n → slice_index part k ≡ slice_index bytes k) →
+    IsWritten regions old at bytes n new
 written_front regions old new at n bytes part w same = record {
   here = λ k less. w.here k less ∙ same k less;
   elsewhere = w.elsewhere;
@@ -138,13 +156,17 @@ written_front regions old new at n bytes part w same = record {
 }
 
 -- two parts were written, one behind the other
-pub written_parts : (regions : List Grant) (old mid new : ℕ → ℕ) (at n : ℕ) (bytes first last : List ℕ) → AreGranted regions at (length bytes) → first ≡ take n bytes → last ≡ drop n bytes →
-    length first ≡ n → length last + n ≡ length bytes → IsWritten regions old at first (length first) mid → IsWritten regions mid (at + length first) last (length last) new → IsWritten regions old at bytes (length bytes) new
+pub written_parts : (regions : List Grant) (old mid new : ℕ → ℕ) (at n : ℕ) (bytes first last : List ℕ) →
+    AreGranted regions at (length bytes) → first ≡ take n bytes → last ≡ drop n bytes →
+    length first ≡ n → length last + n ≡ length bytes → IsWritten regions old at first (length first) mid →
+    IsWritten regions mid (at + length first) last (length last) new → IsWritten regions old at bytes (length bytes) new
 written_parts regions old mid new at n bytes first last there is_first is_last front back before after =
     let all : n + length last ≡ length bytes = omega arith in
     subst (λ m. IsWritten regions old at bytes m new) all
-    (written_on regions old mid new at n (length last) bytes last (granted_part regions at (length bytes) at (n + length last) there (omega arith) (omega arith))
-    (written_front regions old mid at n bytes first (subst (λ m. IsWritten regions old at first m mid) front before) (λ k less. ap (λ xs. get_or xs k 0) is_first ∙ get_or-take n bytes k 0 less))
+    (written_on regions old mid new at n (length last) bytes last (granted_part regions at (length bytes) at
+    (n + length last) there (omega arith) (omega arith))
+    (written_front regions old mid at n bytes first (subst (λ m. IsWritten regions old at first m mid) front before)
+    (λ k less. ap (λ xs. get_or xs k 0) is_first ∙ get_or-take n bytes k 0 less))
     (subst (λ j. IsWritten regions mid (at + j) last (length last) new) front after)
     (λ k less. ap (λ xs. get_or xs k 0) is_last ∙ get_or-drop n bytes k 0))
 
@@ -159,7 +181,8 @@ bytes_on words at zero m =
 bytes_on words at (suc n) m =
     let more : suc n + m ≡ suc (n + m) = omega arith in
     let place : at + 1 + n ≡ at + suc n = omega arith in
-    ap (bytes_at words at) more ∙ ap (λ (bs : List ℕ). byte_in words at ∷ bs) (bytes_on words (at + 1) n m ∙ ap (λ a. bytes_at words (at + 1) n ++ bytes_at words a m) place)
+    ap (bytes_at words at) more ∙ ap (λ (bs : List ℕ). byte_in words at ∷ bs)
+    (bytes_on words (at + 1) n m ∙ ap (λ a. bytes_at words (at + 1) n ++ bytes_at words a m) place)
 
 both : {a b : ℕ} {xs ys : List ℕ} → a ≡ b → xs ≡ ys → a ∷ xs ≡ b ∷ ys
 both first rest i = first i ∷ rest i
@@ -170,15 +193,18 @@ bytes_same old new at zero same = refl
 bytes_same old new at (suc n) same =
     let start : at + 0 ≡ at = omega arith in
     let here : byte_in new at ≡ byte_in old at = subst (λ a. byte_in new a ≡ byte_in old a) start (same 0 (omega arith)) in
-    both here (bytes_same old new (at + 1) n (λ k less. (let place : at + suc k ≡ at + 1 + k = omega arith in subst (λ a. byte_in new a ≡ byte_in old a) place (same (suc k) (omega arith)))))
+    both here (bytes_same old new (at + 1) n (λ k less. (let place : at + suc k ≡ at + 1 + k = omega arith in
+    subst (λ a. byte_in new a ≡ byte_in old a) place (same (suc k) (omega arith)))))
 
 -- bytes that were written are read
-pub bytes_are : (words : ℕ → ℕ) (at : ℕ) (bytes : List ℕ) → ((k : ℕ) → k < length bytes → byte_in words (at + k) ≡ slice_index bytes k) → bytes_at words at (length bytes) ≡ bytes
+pub bytes_are : (words : ℕ → ℕ) (at : ℕ) (bytes : List ℕ) → ((k : ℕ) → k < length bytes →
+    byte_in words (at + k) ≡ slice_index bytes k) → bytes_at words at (length bytes) ≡ bytes
 bytes_are words at [] here = refl
 bytes_are words at (byte ∷ bytes) here =
     let start : at + 0 ≡ at = omega arith in
     let first : byte_in words at ≡ byte = subst (λ a. byte_in words a ≡ byte) start (here 0 (omega arith)) in
-    both first (bytes_are words (at + 1) bytes (λ k less. (let place : at + suc k ≡ at + 1 + k = omega arith in subst (λ a. byte_in words a ≡ slice_index bytes k) place (here (suc k) (omega arith)))))
+    both first (bytes_are words (at + 1) bytes (λ k less. (let place : at + suc k ≡ at + 1 + k = omega arith in
+    subst (λ a. byte_in words a ≡ slice_index bytes k) place (here (suc k) (omega arith)))))
 
 -- a whole word has eight bytes
 pub word_read : (words : ℕ → ℕ) (at : ℕ) → at % 8 ≡ 0 → bytes_at words at 8 ≡ to_le_bytes w64 (words at)

@@ -44,7 +44,8 @@ trim_is frees parts unit pad heap = made (is_trimmed pad heap)
     cut false = tt
 
     made : (b : Bool) → AllByRecursion IsRelease (if b then cut_off parts unit pad heap ++ releases (taken_back frees (handed_out parts heap.segments)) else [])
-    made true = both (cut_off parts unit pad heap) (releases (taken_back frees (handed_out parts heap.segments))) (cut (is_cut parts unit pad heap)) (segments_are (taken_back frees (handed_out parts heap.segments)))
+    made true = both (cut_off parts unit pad heap) (releases (taken_back frees (handed_out parts heap.segments)))
+        (cut (is_cut parts unit pad heap)) (segments_are (taken_back frees (handed_out parts heap.segments)))
     made false = tt
 
 free_is : (frees parts : Bool) (unit : ℕ) (heap : HeapState) (at : ℕ) → AllByRecursion IsRelease (free_releases frees parts unit heap at)
@@ -58,18 +59,22 @@ slabs_are : (frees parts : Bool) (unit : ℕ) (slabs : List ℕ) (heap : HeapSta
 slabs_are frees parts unit [] heap = tt
 slabs_are frees parts unit (slab ∷ slabs) heap =
     let before = freed (slabs_freed frees parts unit slabs heap) (slab - 16) in
-    both (slab_releases frees parts unit slabs heap) (free_releases frees parts unit before (slab - 16)) (slabs_are frees parts unit slabs heap) (free_is frees parts unit before (slab - 16))
+    both (slab_releases frees parts unit slabs heap) (free_releases frees parts unit before (slab - 16))
+    (slabs_are frees parts unit slabs heap) (free_is frees parts unit before (slab - 16))
 
 -- ---- the slabs that were given back
 
 -- All but the slabs that are left were given back.
-pub record IsEmptying {A : Type 0} (regions : A → List Grant) (word : A → ℕ → ℕ) (follows : A → List Event → A → Type 0) (frees parts : Bool) (unit : ℕ) (old : Dlmalloc A) (slabs : List ℕ) (size : ℕ) (heap : Dlmalloc A) (left : List ℕ) : Type 0 where
+pub record IsEmptying {A : Type 0} (regions : A → List Grant) (word : A → ℕ → ℕ) (follows : A → List Event → A → Type 0)
+    (frees parts : Bool) (unit : ℕ) (old : Dlmalloc A) (slabs : List ℕ) (size : ℕ) (heap : Dlmalloc A)
+    (left : List ℕ) : Type 0 where
   pub intact : IsIntact regions word heap
   pub laid : IsLaidOut regions word heap size left
   pub few : length left ≤ length slabs
   pub front : (i : ℕ) → i < length left → slice_index left i ≡ slice_index slabs i
   pub kept : KeepsOthers word slabs old heap
-  pub only : (address n : ℕ) → IsBlock (state_of word heap) address n → IsBlock (state_of word old) address n × ((i : ℕ) → length left ≤ i → i < length slabs → slice_index slabs i ≢ address)
+  pub only : (address n : ℕ) → IsBlock (state_of word heap) address n →
+      IsBlock (state_of word old) address n × ((i : ℕ) → length left ≤ i → i < length slabs → slice_index slabs i ≢ address)
   pub back : List ℕ
   pub all : slabs ≡ left ++ back
   pub each : AreFreed regions word follows frees parts unit old back heap
@@ -79,8 +84,10 @@ pub record IsEmptying {A : Type 0} (regions : A → List Grant) (word : A → �
   pub granularity : heap.granularity ≡ old.granularity
   pub rate : heap.rate ≡ old.rate
 
-pub emptying_none : {A : Type 0} (regions : A → List Grant) (word : A → ℕ → ℕ) (follows : A → List Event → A → Type 0) (frees parts : Bool) (unit : ℕ) (heap : Dlmalloc A) (slabs : List ℕ) (size : ℕ) →
-    follows heap.system [] heap.system → IsIntact regions word heap → IsLaidOut regions word heap size slabs → IsEmptying regions word follows frees parts unit heap slabs size heap slabs
+pub emptying_none : {A : Type 0} (regions : A → List Grant) (word : A → ℕ → ℕ) (follows : A → List Event → A → Type 0)
+    (frees parts : Bool) (unit : ℕ) (heap : Dlmalloc A) (slabs : List ℕ) (size : ℕ) →
+    follows heap.system [] heap.system → IsIntact regions word heap → IsLaidOut regions word heap size slabs →
+    IsEmptying regions word follows frees parts unit heap slabs size heap slabs
 emptying_none regions word follows frees parts unit heap slabs size followed intact laid = record {
   intact = intact;
   laid = laid;
@@ -102,7 +109,8 @@ none_left : (left : List ℕ) → length left ≡ 0 → left ≡ []
 none_left [] none = refl
 none_left (first ∷ rest) none = absurd (omega (arith, none))
 
-pub emptied : {A : Type 0} (regions : A → List Grant) (word : A → ℕ → ℕ) (follows : A → List Event → A → Type 0) (frees parts : Bool) (unit : ℕ) (old heap : Dlmalloc A) (slabs : List ℕ) (size : ℕ) (left : List ℕ) → length left ≡ 0 →
+pub emptied : {A : Type 0} (regions : A → List Grant) (word : A → ℕ → ℕ) (follows : A → List Event → A → Type 0)
+    (frees parts : Bool) (unit : ℕ) (old heap : Dlmalloc A) (slabs : List ℕ) (size : ℕ) (left : List ℕ) → length left ≡ 0 →
     IsEmptying regions word follows frees parts unit old slabs size heap left → IsEmptied regions word follows frees parts unit old slabs heap
 emptied regions word follows frees parts unit old heap slabs size left none e =
     let same : e.back ≡ slabs = sym (e.all ∙ ap (λ (list : List ℕ). list ++ e.back) (none_left left none)) in
@@ -121,8 +129,10 @@ emptied regions word follows frees parts unit old heap slabs size left none e =
     }
 
 -- No call changes what a system takes back.
-fixed_free : {A : Type 0} (regions : A → List Grant) (word : A → ℕ → ℕ) (follows : A → List Event → A → Type 0) (zeros frees parts : A → Bool) (unit : A → ℕ) (first : A) (heap : Dlmalloc A) (address : ℕ) (new : Dlmalloc A) →
-    IsFixed zeros frees parts unit first heap.system → IsFreed regions word follows (frees heap.system) (parts heap.system) (unit heap.system) heap address new →
+fixed_free : {A : Type 0} (regions : A → List Grant) (word : A → ℕ → ℕ) (follows : A → List Event → A → Type 0)
+    (zeros frees parts : A → Bool) (unit : A → ℕ) (first : A) (heap : Dlmalloc A) (address : ℕ) (new : Dlmalloc A) →
+    IsFixed zeros frees parts unit first heap.system → IsFreed regions word follows (frees heap.system) (parts heap.system)
+    (unit heap.system) heap address new →
     IsFreed regions word follows (frees first) (parts first) (unit first) heap address new
 fixed_free regions word follows zeros frees parts unit first heap address new fixed back =
     subst (λ (b : Bool). IsFreed regions word follows b (parts first) (unit first) heap address new) fixed.frees_same
@@ -130,9 +140,11 @@ fixed_free regions word follows zeros frees parts unit first heap address new fi
     (subst (λ (n : ℕ). IsFreed regions word follows (frees heap.system) (parts heap.system) n heap address new) fixed.unit_same back))
 
 -- one slab more
-module _ {A : Type 0} (regions : A → List Grant) (word : A → ℕ → ℕ) (follows : A → List Event → A → Type 0) (follows_on : (x y z : A) (a b c : List Event) → follows x a y → follows y b z → a ++ b ≡ c → follows x c z)
+module _ {A : Type 0} (regions : A → List Grant) (word : A → ℕ → ℕ) (follows : A → List Event → A → Type 0)
+    (follows_on : (x y z : A) (a b c : List Event) → follows x a y → follows y b z → a ++ b ≡ c → follows x c z)
     (frees parts : Bool) (unit : ℕ) (old heap new : Dlmalloc A) (slabs : List ℕ) (size : ℕ) (left rest : List ℕ) (address : ℕ)
-    (e : IsEmptying regions word follows frees parts unit old slabs size heap left) (is : left ≡ rest ++ address ∷ []) (placed : ArePlaced (regions heap.system) (state_of word heap))
+    (e : IsEmptying regions word follows frees parts unit old slabs size heap left) (is : left ≡ rest ++ address ∷ [])
+    (placed : ArePlaced (regions heap.system) (state_of word heap))
     (back : IsFreed regions word follows frees parts unit heap address new) (linked : IsBinned regions word new) where
   many : length left ≡ length rest + 1
   many = ap length is ∙ length-append rest (address ∷ [])
@@ -153,9 +165,12 @@ module _ {A : Type 0} (regions : A → List Grant) (word : A → ℕ → ℕ) (f
       some = e.laid.some;
       small = e.laid.small;
       blocks = λ i less. subst (λ a. IsBlock (state_of word new) a (64 * size)) (sym (same i less))
-          (freed_keeps regions word follows heap new frees parts unit address placed last_block.low back (slice_index left i) (64 * size) (e.laid.blocks i (omega (arith, many, less)))
-          (λ at. e.laid.distinct i (length rest) (omega (arith, many, less)) (omega (arith, many)) (λ eq. absurd (omega (arith, eq, less))) (at ∙ sym final))).block;
-      distinct = λ i j less_i less_j differ eq. e.laid.distinct i j (omega (arith, many, less_i)) (omega (arith, many, less_j)) differ (sym (same i less_i) ∙ (eq ∙ same j less_j));
+          (freed_keeps regions word follows heap new frees parts unit address placed last_block.low back
+          (slice_index left i) (64 * size) (e.laid.blocks i (omega (arith, many, less)))
+          (λ at. e.laid.distinct i (length rest) (omega (arith, many, less)) (omega (arith, many))
+          (λ eq. absurd (omega (arith, eq, less))) (at ∙ sym final))).block;
+      distinct = λ i j less_i less_j differ eq. e.laid.distinct i j (omega (arith, many, less_i))
+          (omega (arith, many, less_j)) differ (sym (same i less_i) ∙ (eq ∙ same j less_j));
     };
     few = let few = e.few in omega (arith, many, few);
     front = λ i less. same i less ∙ e.front i (omega (arith, many, less));
@@ -179,9 +194,11 @@ module _ {A : Type 0} (regions : A → List Grant) (word : A → ℕ → ℕ) (f
     each = (heap, e.each, e.intact.linked, back);
     all = e.all ∙ (ap (λ (list : List ℕ). list ++ e.back) is ∙ append_assoc rest (address ∷ []) e.back);
     state = back.state ∙ ap (λ (h : HeapState). after_free frees parts unit (freed h (address - 16)) (address - 16)) e.state;
-    followed = follows_on old.system heap.system new.system (slab_releases frees parts unit e.back (state_of word old)) (free_releases frees parts unit (freed (state_of word heap) (address - 16)) (address - 16))
+    followed = follows_on old.system heap.system new.system (slab_releases frees parts unit e.back (state_of word old))
+        (free_releases frees parts unit (freed (state_of word heap) (address - 16)) (address - 16))
         (slab_releases frees parts unit (address ∷ e.back) (state_of word old)) e.followed back.followed
-        (ap (λ (h : HeapState). slab_releases frees parts unit e.back (state_of word old) ++ free_releases frees parts unit (freed h (address - 16)) (address - 16)) e.state);
+        (ap (λ (h : HeapState). slab_releases frees parts unit e.back (state_of word old) ++ free_releases frees parts unit
+        (freed h (address - 16)) (address - 16)) e.state);
     regions_are = back.regions_are
         ∙ (ap (λ (h : HeapState). regions_after frees parts unit (freed h (address - 16)) (address - 16) (regions heap.system)) e.state
         ∙ ap (regions_after frees parts unit (freed (slabs_freed frees parts unit e.back (state_of word old)) (address - 16)) (address - 16)) e.regions_are);
@@ -190,11 +207,17 @@ module _ {A : Type 0} (regions : A → List Grant) (word : A → ℕ → ℕ) (f
   }
 
 -- so it is whatever the system takes back now
-pub emptying_more : {A : Type 0} (regions : A → List Grant) (word : A → ℕ → ℕ) (follows : A → List Event → A → Type 0) (follows_on : (x y z : A) (a b c : List Event) → follows x a y → follows y b z → a ++ b ≡ c → follows x c z)
+pub emptying_more : {A : Type 0} (regions : A → List Grant) (word : A → ℕ → ℕ) (follows : A → List Event → A → Type 0)
+    (follows_on : (x y z : A) (a b c : List Event) → follows x a y → follows y b z → a ++ b ≡ c → follows x c z)
     (zeros frees parts : A → Bool) (unit : A → ℕ) (fixed : (x y : A) (events : List Event) → follows x events y → IsFixed zeros frees parts unit x y)
-    (old heap new : Dlmalloc A) (slabs : List ℕ) (size : ℕ) (left rest : List ℕ) (address : ℕ) → IsEmptying regions word follows (frees old.system) (parts old.system) (unit old.system) old slabs size heap left → left ≡ rest ++ address ∷ [] →
-    ArePlaced (regions heap.system) (state_of word heap) → IsFreed regions word follows (frees heap.system) (parts heap.system) (unit heap.system) heap address new → IsBinned regions word new →
+    (old heap new : Dlmalloc A) (slabs : List ℕ) (size : ℕ) (left rest : List ℕ) (address : ℕ) →
+    IsEmptying regions word follows (frees old.system) (parts old.system) (unit old.system) old slabs size heap left →
+    left ≡ rest ++ address ∷ [] →
+    ArePlaced (regions heap.system) (state_of word heap) → IsFreed regions word follows (frees heap.system)
+    (parts heap.system) (unit heap.system) heap address new → IsBinned regions word new →
     IsEmptying regions word follows (frees old.system) (parts old.system) (unit old.system) old slabs size new rest
 emptying_more regions word follows follows_on zeros frees parts unit fixed old heap new slabs size left rest address e is placed back linked =
     slab_back regions word follows follows_on (frees old.system) (parts old.system) (unit old.system) old heap new slabs size left rest address e is placed
-    (fixed_free regions word follows zeros frees parts unit old.system heap address new (fixed old.system heap.system (slab_releases (frees old.system) (parts old.system) (unit old.system) e.back (state_of word old)) e.followed) back) linked
+    (fixed_free regions word follows zeros frees parts unit old.system heap address new
+    (fixed old.system heap.system (slab_releases (frees old.system) (parts old.system) (unit old.system) e.back
+    (state_of word old)) e.followed) back) linked

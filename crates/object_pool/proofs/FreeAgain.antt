@@ -16,7 +16,9 @@ one b = if b then 1 else 0
 -- the history of a slot has the one object that is in it
 objects_in : (index : ℕ) (slot : Slot) (bytes : List ℕ) → object_count (history index slot bytes) ≡ one slot.used
 objects_in index slot bytes =
-    ap length (filter-append (λ (entry : Entry). is_some entry.bytes) (past index slot.generation) (present index slot bytes) ∙ ap (λ (list : List Entry). list ++ objects (present index slot bytes)) (none_past index slot.generation))
+    ap length (filter-append (λ (entry : Entry). is_some entry.bytes) (past index slot.generation)
+    (present index slot bytes) ∙ ap (λ (list : List Entry). list ++ objects (present index slot bytes))
+    (none_past index slot.generation))
     ∙ go slot.used
   where
     go : (b : Bool) → length (objects (if b then entry_at index slot.generation (Some bytes) ∷ [] else [])) ≡ one b
@@ -25,7 +27,9 @@ objects_in index slot bytes =
 
 entries_in : (index : ℕ) (slot : Slot) (bytes : List ℕ) → length (history index slot bytes) ≡ slot.generation + one slot.used
 entries_in index slot bytes =
-    length-append (past index slot.generation) (present index slot bytes) ∙ (ap (λ n. n + length (present index slot bytes)) (length_past index slot.generation) ∙ ap (λ n. slot.generation + n) (go slot.used))
+    length-append (past index slot.generation) (present index slot bytes)
+    ∙ (ap (λ n. n + length (present index slot bytes)) (length_past index slot.generation)
+    ∙ ap (λ n. slot.generation + n) (go slot.used))
   where
     go : (b : Bool) → length {A = Entry} (if b then entry_at index slot.generation (Some bytes) ∷ [] else []) ≡ one b
     go true = refl
@@ -43,7 +47,8 @@ again_is slot = go slot.used
     go false = ap (again 0) (let same : slot.generation + 0 ≡ slot.generation = omega arith in same)
 
 -- Slots that hold the entries, with the freed ones in the list, make it so.
-pub free_again : (slots : List Slot) (freed : List ℕ) (bytes : ℕ → List ℕ) (lists : Lists) → Holds slots freed bytes lists → AreFreed slots freed → AreFreeAgain lists
+pub free_again : (slots : List Slot) (freed : List ℕ) (bytes : ℕ → List ℕ) (lists : Lists) → Holds slots freed bytes lists →
+    AreFreed slots freed → AreFreeAgain lists
 free_again slots freed bytes lists holds are index =
     let slot = slot_at slots index in
     ap (times index) holds.freed_are

@@ -11,7 +11,8 @@ granted_word : (regions : List Grant) (at : ℕ) → AllByRecursion IsWhole regi
 granted_word [] at whole granted = cc
 granted_word (region ∷ regions) at whole granted = go (is_granted regions at) refl (granted_word regions at whole.1)
   where
-    go : (b : Bool) → is_granted regions at ≡ b → (IsTrue (is_granted regions at) → IsTrue (is_granted regions (at - at % 8))) → IsTrue (is_granted (region ∷ regions) (at - at % 8))
+    go : (b : Bool) → is_granted regions at ≡ b → (IsTrue (is_granted regions at) →
+        IsTrue (is_granted regions (at - at % 8))) → IsTrue (is_granted (region ∷ regions) (at - at % 8))
     go true later rest = let there : IsTrue (is_granted regions (at - at % 8)) = rest later in grind (arith, nat_tests)
     go false none rest =
         let low : region.base ≤ at = grind (arith, nat_tests) in
@@ -44,5 +45,6 @@ below regions at whole granted = granted_small regions at (whole_each regions wh
 pub word_there : (regions : List Grant) (at : ℕ) → IsTrue (are_whole regions) → IsTrue (is_granted regions at) → at % 8 ≡ 0 → IsWordOf regions at
 word_there regions at whole granted aligned = record { granted = granted; aligned = aligned }
 
-pub granted_part : (regions : List Grant) (address count at n : ℕ) → AreGranted regions address count → address ≤ at → at + n ≤ address + count → AreGranted regions at n
+pub granted_part : (regions : List Grant) (address count at n : ℕ) → AreGranted regions address count → address ≤ at →
+    at + n ≤ address + count → AreGranted regions at n
 granted_part regions address count at n there from to k above below = there k (omega arith) (omega arith)

@@ -30,8 +30,10 @@ found_place : (at : ℕ) (extents : List Extent) (extent : Extent) → extent_at
 found_place at [] extent there = absurd (cc)
 found_place at (first ∷ extents) extent there = go (first.at == at) refl there (found_place at extents extent)
   where
-    go : (b : Bool) → (first.at == at) ≡ b → (if b then Some first else extent_at at extents) ≡ Some extent → (extent_at at extents ≡ Some extent → extent.at ≡ at) → extent.at ≡ at
-    go true test is later = (let same : first ≡ extent = cc in let place : first.at ≡ at = grind (arith, nat_tests) in sym (ap (λ (e : Extent). e.at) same) ∙ place)
+    go : (b : Bool) → (first.at == at) ≡ b → (if b then Some first else extent_at at extents) ≡ Some extent →
+        (extent_at at extents ≡ Some extent → extent.at ≡ at) → extent.at ≡ at
+    go true test is later = (let same : first ≡ extent = cc in let place : first.at ≡ at = grind (arith, nat_tests) in
+        sym (ap (λ (e : Extent). e.at) same) ∙ place)
     go false test is later = later is
 
 module _ (heap : HeapState) (address size : ℕ) (block : IsBlock heap address size) where
@@ -40,7 +42,8 @@ module _ (heap : HeapState) (address size : ℕ) (block : IsBlock heap address s
   block_place = let low = block.low in let at = found_place (address - 16) (extents_in heap) block.extent block.there in omega arith
 
   pub block_there : extent_at block.extent.at (extents_in heap) ≡ Some block.extent
-  block_there = subst (λ (at : ℕ). extent_at at (extents_in heap) ≡ Some block.extent) (sym (found_place (address - 16) (extents_in heap) block.extent block.there)) block.there
+  block_there = subst (λ (at : ℕ). extent_at at (extents_in heap) ≡ Some block.extent)
+      (sym (found_place (address - 16) (extents_in heap) block.extent block.there)) block.there
 
   -- a heap that has its extent has the block
   pub block_moved : (new : HeapState) → extent_at block.extent.at (extents_in new) ≡ Some block.extent → IsBlock new address size
@@ -54,7 +57,8 @@ module _ (heap : HeapState) (address size : ℕ) (block : IsBlock heap address s
   }
 
 -- a block has its bytes where its words are kept
-byte_kept : (heap : HeapState) (extents : List Extent) (old new : ℕ → ℕ) (address size : ℕ) (block : IsBlock heap address size) → address % 16 ≡ 0 → KeepsBlocks extents old new →
+byte_kept : (heap : HeapState) (extents : List Extent) (old new : ℕ → ℕ) (address size : ℕ)
+    (block : IsBlock heap address size) → address % 16 ≡ 0 → KeepsBlocks extents old new →
     extent_at block.extent.at extents ≡ Some block.extent → (k : ℕ) → k < size → byte_in new (address + k) ≡ byte_in old (address + k)
 byte_kept heap extents old new address size block aligned keeps there k less =
     let place = block_place heap address size block in
@@ -67,11 +71,14 @@ byte_kept heap extents old new address size block aligned keeps there k less =
 module _ {A : Type 0} (regions : A → List Grant) (word : A → ℕ → ℕ) (follows : A → List Event → A → Type 0) (old new : Dlmalloc A) where
   -- ---- a block more
 
-  module _ (size align address : ℕ) (placed : ArePlaced (regions old.system) (state_of word old)) (out : IsHandedOut regions word follows old size align address new) where
+  module _ (size align address : ℕ) (placed : ArePlaced (regions old.system) (state_of word old))
+      (out : IsHandedOut regions word follows old size align address new) where
     pub handed_keeps : KeepsAll word old new
     handed_keeps at n block = record {
-      block = block_moved (state_of word old) at n block (state_of word new) (out.more.kept block.extent block.used (block_there (state_of word old) at n block));
-      bytes = byte_kept (state_of word old) (extents_in (state_of word old)) (word old.system) (word new.system) at n block (placed at n block).aligned out.kept (block_there (state_of word old) at n block);
+      block = block_moved (state_of word old) at n block (state_of word new)
+          (out.more.kept block.extent block.used (block_there (state_of word old) at n block));
+      bytes = byte_kept (state_of word old) (extents_in (state_of word old)) (word old.system) (word new.system) at n block
+          (placed at n block).aligned out.kept (block_there (state_of word old) at n block);
     }
 
     -- it was none before
@@ -96,7 +103,8 @@ module _ {A : Type 0} (regions : A → List Grant) (word : A → ℕ → ℕ) (f
       IsObtained follows regions old.system (state_of word old) (padded size) (address - 16) new.system (state_of word new)
   served_cut zeros size address served = elim served [ inl here ↦ here.1.cut | inr more ↦ absurd (let over = more.0 in omega (arith, over)) ]
 
-  pub served_once : (zeros : A → Bool) (size address : ℕ) → IsServedAt regions word zeros follows old (64 * size) 16 address new → HasServed regions word follows old size address new
+  pub served_once : (zeros : A → Bool) (size address : ℕ) → IsServedAt regions word zeros follows old (64 * size) 16 address
+      new → HasServed regions word follows old size address new
   unfolding HasServed
   served_once zeros size address served = served_cut zeros (64 * size) address served
 
@@ -106,14 +114,16 @@ module _ {A : Type 0} (regions : A → List Grant) (word : A → ℕ → ℕ) (f
 
   -- ---- a block less
 
-  module _ (frees parts : Bool) (unit : ℕ) (address : ℕ) (placed : ArePlaced (regions old.system) (state_of word old)) (low : 16 ≤ address) (back : IsFreed regions word follows frees parts unit old address new) where
+  module _ (frees parts : Bool) (unit : ℕ) (address : ℕ) (placed : ArePlaced (regions old.system) (state_of word old))
+      (low : 16 ≤ address) (back : IsFreed regions word follows frees parts unit old address new) where
     pub freed_keeps : (at n : ℕ) → IsBlock (state_of word old) at n → at ≢ address → IsBlockKept word old at n new
     freed_keeps at n block apart =
         let place = block_place (state_of word old) at n block in
         let there = back.less.only block.extent block.used (block_there (state_of word old) at n block) (λ e. apart (omega arith)) in
         record {
           block = block_moved (state_of word old) at n block (state_of word new) there;
-          bytes = byte_kept (state_of word old) (extents_in (state_of word new)) (word old.system) (word new.system) at n block (placed at n block).aligned back.kept there;
+          bytes = byte_kept (state_of word old) (extents_in (state_of word new)) (word old.system) (word new.system) at n
+              block (placed at n block).aligned back.kept there;
         }
 
     pub freed_only : (at n : ℕ) → IsBlock (state_of word new) at n → IsBlock (state_of word old) at n × (at ≢ address)
@@ -125,28 +135,38 @@ module _ {A : Type 0} (regions : A → List Grant) (word : A → ℕ → ℕ) (f
 
   -- ---- nothing was granted
 
-  module _ (refuses : A → A → Type 0) (placed : ArePlaced (regions old.system) (state_of word old)) {events : List Event} (same : IsAsItWas regions word follows refuses events old new) where
+  module _ (refuses : A → A → Type 0) (placed : ArePlaced (regions old.system) (state_of word old)) {events : List Event}
+      (same : IsAsItWas regions word follows refuses events old new) where
     pub refused_keeps : KeepsAll word old new
     refused_keeps at n block = record {
       block = subst (λ (h : HeapState). IsBlock h at n) (sym same.state) block;
       bytes = λ k less. (
           let aligned = (placed at n block).aligned in
-          let there : IsWordOf (regions old.system) (at + k - (at + k) % 8) = record { granted = (placed at n block).granted (at + k - (at + k) % 8) (omega arith) (omega arith); aligned = omega arith } in
+          let there : IsWordOf (regions old.system) (at + k - (at + k) % 8) =
+          record {
+            granted = (placed at n block).granted (at + k - (at + k) % 8) (omega arith) (omega arith);
+            aligned =
+                omega arith;
+          } in
           ap (λ w. slice_index (to_le_bytes w64 w) ((at + k) % 8)) (same.words (at + k - (at + k) % 8) there));
     }
 
 -- ---- bytes of a block
 
 -- a system with the same regions keeps those of the segments
-same_regions : {A : Type 0} (regions : A → List Grant) (heap : HeapState) (old new : A) → regions new ≡ regions old → KeepsRegions heap.segments (regions old) (regions new)
+same_regions : {A : Type 0} (regions : A → List Grant) (heap : HeapState) (old new : A) → regions new ≡ regions old →
+    KeepsRegions heap.segments (regions old) (regions new)
 same_regions regions heap old new same = subst (KeepsRegions heap.segments (regions old)) (sym same) (each heap.segments)
   where
-    each : (segments : List Segment) → Rattle.std.specs.List.AllByRecursion (λ (segment : Segment). regions_in segment (regions old) ≡ regions_in segment (regions old)) segments
+    each : (segments : List Segment) → Rattle.std.specs.List.AllByRecursion
+        (λ (segment : Segment). regions_in segment (regions old) ≡ regions_in segment (regions old)) segments
     each [] = tt
     each (segment ∷ segments) = (refl, each segments)
 
-module _ {A : Type 0} (regions : A → List Grant) (word : A → ℕ → ℕ) (heap : Dlmalloc A) (system : A) (address size : ℕ) (block : IsBlock (state_of word heap) address size) (placed : ArePlaced (regions heap.system) (state_of word heap))
-    (at : ℕ) (bytes : List ℕ) (count : ℕ) (from : address ≤ at) (to : at + count ≤ address + size) (written : IsWritten (regions heap.system) (word heap.system) at bytes count (word system)) where
+module _ {A : Type 0} (regions : A → List Grant) (word : A → ℕ → ℕ) (heap : Dlmalloc A) (system : A) (address size : ℕ)
+    (block : IsBlock (state_of word heap) address size) (placed : ArePlaced (regions heap.system) (state_of word heap))
+    (at : ℕ) (bytes : List ℕ) (count : ℕ) (from : address ≤ at) (to : at + count ≤ address + size)
+    (written : IsWritten (regions heap.system) (word heap.system) at bytes count (word system)) where
   -- no word outside of the block is changed
   outside : OnlyBlocksChange (regions heap.system) (state_of word heap) (word heap.system) (word system)
   outside k granted there beside =
@@ -161,17 +181,22 @@ module _ {A : Type 0} (regions : A → List Grant) (word : A → ℕ → ℕ) (h
 
   -- so the heap is sound, in its state, and its bins are linked
   pub written_rests : RestsOutside regions word heap → IsSound regions word heap → regions system ≡ regions heap.system →
-      IsSound regions word (record heap { system = system }) × (state_of word (record heap { system = system }) ≡ state_of word heap) × (IsBinned regions word heap → IsBinned regions word (record heap { system = system }))
+      IsSound regions word (record heap { system = system }) × (state_of word (record heap { system = system }) ≡ state_of
+      word heap) × (IsBinned regions word heap → IsBinned regions word (record heap { system = system }))
   written_rests rests sound same = rests sound system (same_regions regions (state_of word heap) heap.system system same) outside
 
   -- and they have their order
-  pub written_index : OrderRestsOutside regions word heap → IsSound regions word heap → regions system ≡ regions heap.system → KeepsIndex regions word heap (record heap { system = system })
+  pub written_index : OrderRestsOutside regions word heap → IsSound regions word heap →
+      regions system ≡ regions heap.system → KeepsIndex regions word heap (record heap { system = system })
   written_index rests sound same = rests sound system (same_regions regions (state_of word heap) heap.system system same) outside
 
-module _ {A : Type 0} (regions : A → List Grant) (word : A → ℕ → ℕ) (heap new : Dlmalloc A) (address size : ℕ) (block : IsBlock (state_of word heap) address size) (placed : ArePlaced (regions heap.system) (state_of word heap))
-    (at : ℕ) (bytes : List ℕ) (count : ℕ) (from : address ≤ at) (to : at + count ≤ address + size) (written : IsWritten (regions heap.system) (word heap.system) at bytes count (word new.system)) where
+module _ {A : Type 0} (regions : A → List Grant) (word : A → ℕ → ℕ) (heap new : Dlmalloc A) (address size : ℕ)
+    (block : IsBlock (state_of word heap) address size) (placed : ArePlaced (regions heap.system) (state_of word heap))
+    (at : ℕ) (bytes : List ℕ) (count : ℕ) (from : address ≤ at) (to : at + count ≤ address + size)
+    (written : IsWritten (regions heap.system) (word heap.system) at bytes count (word new.system)) where
   -- every other block has the bytes that it had
-  pub written_keeps : BlocksAreApart (state_of word heap) → state_of word new ≡ state_of word heap → (other n : ℕ) → IsBlock (state_of word heap) other n → other ≢ address → IsBlockKept word heap other n new
+  pub written_keeps : BlocksAreApart (state_of word heap) → state_of word new ≡ state_of word heap → (other n : ℕ) →
+      IsBlock (state_of word heap) other n → other ≢ address → IsBlockKept word heap other n new
   written_keeps apart state other n b differ = record {
     block = subst (λ (h : HeapState). IsBlock h other n) (sym state) b;
     bytes = λ k less. written.elsewhere (other + k) ((placed other n b).granted (other + k) (omega arith) (omega arith))

@@ -43,28 +43,34 @@ changed_other old new index other slot changed differ =
     changed other ∙ ap (λ b. if b then slot else slot_at old other) test
 
 -- the history of a slot is that of the same slot with the same bytes, where it has an object
-history_same : (index : ℕ) (slot new : Slot) (bytes new_bytes : List ℕ) → new ≡ slot → (slot.used ≡ true → new_bytes ≡ bytes) → history index slot bytes ≡ history index new new_bytes
+history_same : (index : ℕ) (slot new : Slot) (bytes new_bytes : List ℕ) → new ≡ slot →
+    (slot.used ≡ true → new_bytes ≡ bytes) → history index slot bytes ≡ history index new new_bytes
 history_same index slot new bytes new_bytes same alike = go slot.used refl ∙ ap (λ s. history index s new_bytes) (sym same)
   where
     go : (b : Bool) → slot.used ≡ b → past index slot.generation ++ present index slot bytes ≡ past index slot.generation ++ present index slot new_bytes
     go true is = ap (λ xs. past index slot.generation ++ present index slot xs) (sym (alike is))
-    go false is = ap (λ b. past index slot.generation ++ (if b then entry_at index slot.generation (Some bytes) ∷ [] else [])) is ∙ sym (ap (λ b. past index slot.generation ++ (if b then entry_at index slot.generation (Some new_bytes) ∷ [] else [])) is)
+    go false is = ap (λ b. past index slot.generation ++ (if b then entry_at index slot.generation (Some bytes) ∷ []
+        else [])) is ∙ sym (ap (λ b. past index slot.generation ++ (if b then entry_at index slot.generation
+        (Some new_bytes) ∷ [] else [])) is)
 
 module _ (slots : List Slot) (freed : List ℕ) (bytes : ℕ → List ℕ) (lists : Lists) (h : Holds slots freed bytes lists) where
   -- ---- which keys have an object
 
   pub object_is : (key : Key) → IsIn slots key → object_of key lists.entries ≡ Some (bytes key.index)
   object_is key is =
-      object_at key lists.entries ∙ (ap (object_of key) (h.entries key.index ∙ ap (λ s. history key.index s (bytes key.index)) is) ∙ object_in key.index key.generation (bytes key.index))
+      object_at key lists.entries ∙ (ap (object_of key) (h.entries key.index
+      ∙ ap (λ s. history key.index s (bytes key.index)) is) ∙ object_in key.index key.generation (bytes key.index))
 
   pub object_none : (key : Key) → (IsIn slots key → ⊥) → object_of key lists.entries ≡ None
   object_none key none =
-      object_at key lists.entries ∙ (ap (object_of key) (h.entries key.index) ∙ object_out key.index key.generation (slot_at slots key.index) (bytes key.index) none)
+      object_at key lists.entries ∙ (ap (object_of key) (h.entries key.index)
+      ∙ object_out key.index key.generation (slot_at slots key.index) (bytes key.index) none)
 
   -- the key of an object has one entry
   one_entry : (key : Key) → IsIn slots key → filter (is_of key) lists.entries ≡ entry_at key.index key.generation (Some (bytes key.index)) ∷ []
   one_entry key is =
-      of_at key lists.entries ∙ (ap (filter (is_of key)) (h.entries key.index ∙ ap (λ s. history key.index s (bytes key.index)) is) ∙ filter_in key.index key.generation (bytes key.index))
+      of_at key lists.entries ∙ (ap (filter (is_of key)) (h.entries key.index
+      ∙ ap (λ s. history key.index s (bytes key.index)) is) ∙ filter_in key.index key.generation (bytes key.index))
 
   -- ---- an insert
 
@@ -74,7 +80,8 @@ module _ (slots : List Slot) (freed : List ℕ) (bytes : ℕ → List ℕ) (list
       | inl again ↦ (
           let many : length lists.freed ≡ length new_freed + 1 = ap length (h.freed_are ∙ again.0) ∙ length-append new_freed (key.index ∷ []) in
           let last : slice_get lists.freed (length lists.freed - 1) ≡ Some key.index =
-          ap (λ (list : List ℕ). slice_get list (length lists.freed - 1)) (h.freed_are ∙ again.0) ∙ last_get new_freed key.index (length lists.freed - 1) (omega (arith, many)) in
+          ap (λ (list : List ℕ). slice_get list (length lists.freed - 1)) (h.freed_are ∙ again.0)
+          ∙ last_get new_freed key.index (length lists.freed - 1) (omega (arith, many)) in
           ap (λ found. unwrap_or found (index_count lists.entries)) last)
       | inr fresh ↦ (
           let none : lists.freed ≡ [] = h.freed_are ∙ fresh.0 in
@@ -85,7 +92,8 @@ module _ (slots : List Slot) (freed : List ℕ) (bytes : ℕ → List ℕ) (list
     freed_is = elim next [
       | inl again ↦ (
           let many : length lists.freed ≡ length new_freed + 1 = ap length (h.freed_are ∙ again.0) ∙ length-append new_freed (key.index ∷ []) in
-          ap (λ (list : List ℕ). take (length lists.freed - 1) list) (h.freed_are ∙ again.0) ∙ front_take new_freed key.index (length lists.freed - 1) (omega (arith, many)))
+          ap (λ (list : List ℕ). take (length lists.freed - 1) list) (h.freed_are ∙ again.0)
+          ∙ front_take new_freed key.index (length lists.freed - 1) (omega (arith, many)))
       | inr fresh ↦ (
           let none : lists.freed ≡ [] = h.freed_are ∙ fresh.0 in
           ap (λ (list : List ℕ). take (length list - 1) list) none ∙ sym fresh.1)
@@ -96,12 +104,14 @@ module _ (slots : List Slot) (freed : List ℕ) (bytes : ℕ → List ℕ) (list
     before = h.entries key.index ∙ ap (λ s. history key.index s (bytes key.index)) taken.before
 
     generation_is : length (entries_at (next_index lists) lists.entries) ≡ key.generation
-    generation_is = ap (λ i. length (entries_at i lists.entries)) index_is ∙ (ap length (before ∙ append-nil (past key.index key.generation)) ∙ length_past key.index key.generation)
+    generation_is = ap (λ i. length (entries_at i lists.entries)) index_is
+        ∙ (ap length (before ∙ append-nil (past key.index key.generation)) ∙ length_past key.index key.generation)
 
     pub key_is : next_key lists ≡ key
     key_is i = record { index = index_is i; generation = generation_is i }
 
-    module _ (object : List ℕ) (new_bytes : ℕ → List ℕ) (here : new_bytes key.index ≡ object) (others : (other : ℕ) → other ≢ key.index → (slot_at slots other).used ≡ true → new_bytes other ≡ bytes other) where
+    module _ (object : List ℕ) (new_bytes : ℕ → List ℕ) (here : new_bytes key.index ≡ object)
+        (others : (other : ℕ) → other ≢ key.index → (slot_at slots other).used ≡ true → new_bytes other ≡ bytes other) where
       abbrev entry : Entry
       entry = entry_at key.index key.generation (Some object)
 
@@ -123,22 +133,29 @@ module _ (slots : List Slot) (freed : List ℕ) (bytes : ℕ → List ℕ) (list
               let test : (key.index == other) ≡ false = grind (arith, nat_tests) in
               ap (λ b. entries_at other lists.entries ++ (if b then entry ∷ [] else [])) test
               ∙ (append-nil (entries_at other lists.entries)
-              ∙ (h.entries other ∙ history_same other (slot_at slots other) (slot_at new other) (bytes other) (new_bytes other) (changed_other slots new key.index other _ taken.after differ) (others other differ))))
+              ∙ (h.entries other ∙ history_same other (slot_at slots other) (slot_at new other) (bytes other)
+              (new_bytes other) (changed_other slots new key.index other _ taken.after differ) (others other differ))))
         ];
         indexes = indexes_append lists.entries entry ∙ elim next [
           | inl again ↦ (let indexes = h.indexes in omega (arith, indexes, again.1, again.2))
           | inr fresh ↦ (let indexes = h.indexes in omega (arith, indexes, fresh.2, fresh.3))
         ];
         whole = λ other less.
-            let grown : length (entries_at other (lists.entries ++ entry ∷ [])) ≡ length (entries_at other lists.entries) + length {A = Entry} (if key.index == other then entry ∷ [] else []) =
+            let grown : length (entries_at other (lists.entries ++ entry ∷ [])) ≡ length
+            (entries_at other lists.entries) + length {A = Entry} (if key.index == other then entry ∷ [] else []) =
             ap length (at_append other lists.entries entry) ∙ length-append (entries_at other lists.entries) (if key.index == other then entry ∷ [] else []) in
             elim (same_or_other other key.index) [
               | inl same ↦ (
                   let test : (key.index == other) ≡ true = grind (arith, nat_tests) in
-                  let one : length {A = Entry} (if key.index == other then entry ∷ [] else []) ≡ 1 = ap (λ b. length {A = Entry} (if b then entry ∷ [] else [])) test in
+                  let one : length {A = Entry} (if key.index == other then entry ∷ [] else []) ≡ 1 =
+                  ap (λ b. length {A = Entry} (if b then entry ∷ [] else [])) test in
                   omega (arith, grown, one))
               | inr differ ↦ (
-                  let fewer : other < length slots = elim next [ inl again ↦ omega (arith, less, again.2) | inr fresh ↦ omega (arith, less, differ, fresh.2, fresh.3) ] in
+                  let fewer : other < length slots = elim next [
+                    | inl again ↦ omega (arith, less, again.2)
+                    | inr fresh ↦
+                        omega (arith, less, differ, fresh.2, fresh.3)
+                  ] in
                   let some = h.whole other fewer in
                   omega (arith, grown, some))
             ];
@@ -147,17 +164,24 @@ module _ (slots : List Slot) (freed : List ℕ) (bytes : ℕ → List ℕ) (list
       }
 
       pub holds_inserted : Holds new new_freed new_bytes (inserted object lists)
-      holds_inserted = subst (λ k. Holds new new_freed new_bytes (record { entries = lists.entries ++ (record { key = k; bytes = Some object }) ∷ []; freed = take (length lists.freed - 1) lists.freed })) (sym key_is) holds_after
+      holds_inserted = subst (λ k. Holds new new_freed new_bytes (record {
+        entries =
+            lists.entries ++ (record { key = k; bytes = Some object }) ∷ [];
+        freed =
+            take (length lists.freed - 1) lists.freed;
+      })) (sym key_is) holds_after
 
   -- ---- an object gets other bytes
 
   module _ (key : Key) (is : IsIn slots key) where
     -- the entries of the index of an object's key
-    there : (new : Option (List ℕ)) (other : ℕ) → other ≡ key.index → entries_at other (with_bytes key new lists.entries) ≡ past key.index key.generation ++ entry_at key.index key.generation new ∷ []
+    there : (new : Option (List ℕ)) (other : ℕ) → other ≡ key.index → entries_at other
+        (with_bytes key new lists.entries) ≡ past key.index key.generation ++ entry_at key.index key.generation new ∷ []
     there new other same =
         ap (λ i. entries_at i (with_bytes key new lists.entries)) same
         ∙ (at_with key.index key new lists.entries
-        ∙ (ap (with_bytes key new) (h.entries key.index ∙ ap (λ s. history key.index s (bytes key.index)) is) ∙ with_in key.index key.generation (bytes key.index) new))
+        ∙ (ap (with_bytes key new) (h.entries key.index ∙ ap (λ s. history key.index s (bytes key.index)) is)
+        ∙ with_in key.index key.generation (bytes key.index) new))
 
     elsewhere : (new : Option (List ℕ)) (other : ℕ) → other ≢ key.index → entries_at other (with_bytes key new lists.entries) ≡ entries_at other lists.entries
     elsewhere new other differ = at_with other key new lists.entries ∙ other_with other key new lists.entries differ
@@ -165,7 +189,8 @@ module _ (slots : List Slot) (freed : List ℕ) (bytes : ℕ → List ℕ) (list
     many_same : (new : Option (List ℕ)) (other : ℕ) → length (entries_at other (with_bytes key new lists.entries)) ≡ length (entries_at other lists.entries)
     many_same new other = ap length (at_with other key new lists.entries) ∙ length_with key new (entries_at other lists.entries)
 
-    pub holds_replaced : (object : List ℕ) (new_bytes : ℕ → List ℕ) → new_bytes key.index ≡ object → ((other : ℕ) → other ≢ key.index → (slot_at slots other).used ≡ true → new_bytes other ≡ bytes other) →
+    pub holds_replaced : (object : List ℕ) (new_bytes : ℕ → List ℕ) → new_bytes key.index ≡ object →
+        ((other : ℕ) → other ≢ key.index → (slot_at slots other).used ≡ true → new_bytes other ≡ bytes other) →
         Holds slots freed new_bytes (replaced key object lists)
     holds_replaced object new_bytes here others = record {
       entries = λ other. elim (same_or_other other key.index) [
@@ -199,13 +224,17 @@ module _ (slots : List Slot) (freed : List ℕ) (bytes : ℕ → List ℕ) (list
                 ∙ (ap (λ n. history other (record { generation = n; used = false }) (bytes other)) next
                 ∙ sym (ap (λ s. history other s (bytes other)) (changed_here slots new key.index other _ released.after same)))))
             | inr differ ↦ elsewhere None other differ
-                ∙ (h.entries other ∙ history_same other (slot_at slots other) (slot_at new other) (bytes other) (bytes other) (changed_other slots new key.index other _ released.after differ) (λ used. refl))
+                ∙ (h.entries other ∙ history_same other (slot_at slots other) (slot_at new other) (bytes other)
+                (bytes other) (changed_other slots new key.index other _ released.after differ) (λ used. refl))
           ];
           indexes = indexes_with key None lists.entries ∙ (h.indexes ∙ sym released.same);
-          whole = λ other less. (let same = many_same None other in let some = h.whole other (let s = released.same in omega (arith, less, s)) in omega (arith, same, some));
+          whole = λ other less. (let same = many_same None other in let some =
+              h.whole other (let s = released.same in omega (arith, less, s)) in omega (arith, same, some));
           freed_are = (
               let many : length (entries_at key.index lists.entries) ≡ key.generation + 1 =
-              ap length (h.entries key.index ∙ ap (λ s. history key.index s (bytes key.index)) is) ∙ (length-append (past key.index key.generation) (entry_at key.index key.generation (Some (bytes key.index)) ∷ []) ∙ (let n = length_past key.index key.generation in omega (arith, n))) in
+              ap length (h.entries key.index ∙ ap (λ s. history key.index s (bytes key.index)) is)
+              ∙ (length-append (past key.index key.generation) (entry_at key.index key.generation
+              (Some (bytes key.index)) ∷ []) ∙ (let n = length_past key.index key.generation in omega (arith, n))) in
               ap (λ n. if n == 2 ^ 32 - 1 then lists.freed else lists.freed ++ key.index ∷ []) many
               ∙ (ap (λ (list : List ℕ). if key.generation + 1 == 2 ^ 32 - 1 then list else list ++ key.index ∷ []) h.freed_are ∙ sym released.freed));
           objects = (

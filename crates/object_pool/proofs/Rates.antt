@@ -7,7 +7,15 @@ use Rattle.dlmalloc.specs.Trimmed.{top_bytes, cut_of, cut_top, is_cut, after_cut
 use Rattle.dlmalloc.specs.AfterFree.{is_above_check, after_free}
 
 rate_cut : (less : ℕ) (segments : List Segment) (victim granularity rate countdown trim_check : ℕ) →
-    (cut_top less (record { segments = segments; victim = victim; granularity = granularity; rate = rate; countdown = countdown; trim_check = trim_check })).rate ≡ rate
+    (cut_top less (record {
+      segments = segments;
+      victim = victim;
+      granularity = granularity;
+      rate = rate;
+      countdown =
+          countdown;
+      trim_check = trim_check;
+    })).rate ≡ rate
 rate_cut less [] victim granularity rate countdown trim_check = refl
 rate_cut less (head ∷ rest) victim granularity rate countdown trim_check = refl
 
@@ -22,13 +30,16 @@ rate_after frees parts unit heap at = above (is_above_check heap at)
     given true left = refl
     given false left = refl
 
-    gave : (b : Bool) → (if b then passed frees parts (after_cut parts unit 0 heap) else given_up (passed frees parts (after_cut parts unit 0 heap))).rate ≡ heap.rate
+    gave : (b : Bool) → (if b then passed frees parts (after_cut parts unit 0 heap) else given_up
+        (passed frees parts (after_cut parts unit 0 heap))).rate ≡ heap.rate
     gave true = cut (is_cut parts unit 0 heap)
     gave false =
         let left = passed frees parts (after_cut parts unit 0 heap) in
         given (nat_lt left.trim_check (top_bytes left)) left ∙ cut (is_cut parts unit 0 heap)
 
-    made : (b : Bool) → (if b then (if gives_back frees parts unit 0 heap then passed frees parts (after_cut parts unit 0 heap) else given_up (passed frees parts (after_cut parts unit 0 heap))) else heap).rate ≡ heap.rate
+    made : (b : Bool) → (if b then (if gives_back frees parts unit 0 heap then passed frees parts
+        (after_cut parts unit 0 heap) else given_up (passed frees parts (after_cut parts unit 0 heap)))
+        else heap).rate ≡ heap.rate
     made true = gave (gives_back frees parts unit 0 heap)
     made false = refl
 

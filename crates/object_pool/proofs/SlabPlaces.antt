@@ -28,7 +28,8 @@ next_place size r s less =
     let one : size * (r + 1) ≡ size * r + size = grind arith in
     omega (arith, grown, one)
 
-module _ {A : Type 0} (regions : A → List Grant) (word : A → ℕ → ℕ) (heap : Dlmalloc A) (size : ℕ) (slabs : List ℕ) (laid : IsLaidOut regions word heap size slabs) where
+module _ {A : Type 0} (regions : A → List Grant) (word : A → ℕ → ℕ) (heap : Dlmalloc A) (size : ℕ) (slabs : List ℕ)
+    (laid : IsLaidOut regions word heap size slabs) where
   slab_there : (index : ℕ) → index < 64 * length slabs → index / 64 < length slabs
   slab_there index less = omega (arith, less)
 
@@ -43,7 +44,8 @@ module _ {A : Type 0} (regions : A → List Grant) (word : A → ℕ → ℕ) (h
       let turned : size * 64 ≡ 64 * size = grind arith in
       omega (arith, next, turned)
 
-  pub place_granted : ArePlaced (regions heap.system) (state_of word heap) → (index : ℕ) → index < 64 * length slabs → AreGranted (regions heap.system) (place_of slabs size index) size
+  pub place_granted : ArePlaced (regions heap.system) (state_of word heap) → (index : ℕ) → index < 64 * length slabs →
+      AreGranted (regions heap.system) (place_of slabs size index) size
   place_granted placed index less k from to =
       let end = place_ends index in
       (placed (slice_index slabs (index / 64)) (64 * size) (slab_block index less)).granted k (omega (arith, from)) (omega (arith, to, end))
@@ -68,7 +70,8 @@ module _ {A : Type 0} (regions : A → List Grant) (word : A → ℕ → ℕ) (h
 
   -- ---- an object is written
 
-  pub object_inside : (index : ℕ) → index < 64 * length slabs → (count at : ℕ) → count ≡ size → at ≡ place_of slabs size index → AreInBlock (state_of word heap) at count
+  pub object_inside : (index : ℕ) → index < 64 * length slabs → (count at : ℕ) → count ≡ size →
+      at ≡ place_of slabs size index → AreInBlock (state_of word heap) at count
   object_inside index less count at many is =
       let end = place_ends index in
       record {
@@ -80,7 +83,8 @@ module _ {A : Type 0} (regions : A → List Grant) (word : A → ℕ → ℕ) (h
       }
 
   module _ (placed : ArePlaced (regions heap.system) (state_of word heap)) (apart : BlocksAreApart (state_of word heap)) (follows : A → List Event → A → Type 0)
-      (index : ℕ) (less : index < 64 * length slabs) (new : Dlmalloc A) (stays : StaysInState regions word follows heap new) (bytes : List ℕ) (many : length bytes ≡ size)
+      (index : ℕ) (less : index < 64 * length slabs) (new : Dlmalloc A) (stays : StaysInState regions word follows heap new)
+      (bytes : List ℕ) (many : length bytes ≡ size)
       (written : IsWritten (regions heap.system) (word heap.system) (place_of slabs size index) bytes (length bytes) (word new.system)) where
     within : place_of slabs size index + length bytes ≤ slice_index slabs (index / 64) + 64 * size
     within = let end = place_ends index in omega (arith, end, many)
@@ -94,16 +98,22 @@ module _ {A : Type 0} (regions : A → List Grant) (word : A → ℕ → ℕ) (h
     }
 
     pub written_here : bytes_of word new slabs size index ≡ bytes
-    written_here = subst (λ n. bytes_at (word new.system) (place_of slabs size index) n ≡ bytes) many (bytes_are (word new.system) (place_of slabs size index) bytes written.here)
+    written_here = subst (λ n. bytes_at (word new.system) (place_of slabs size index) n ≡ bytes) many
+        (bytes_are (word new.system) (place_of slabs size index) bytes written.here)
 
     pub written_others : (other : ℕ) → other < 64 * length slabs → other ≢ index → bytes_of word new slabs size other ≡ bytes_of word heap slabs size other
     written_others other there differ = bytes_same (word heap.system) (word new.system) (place_of slabs size other) size (λ k below.
         written.elsewhere (place_of slabs size other + k) (place_granted placed other there (place_of slabs size other + k) (omega arith) (omega arith))
-        (elim (places_apart apart other index there less differ) [ inl before ↦ inl (omega (arith, before, below)) | inr behind ↦ inr (omega (arith, behind, many)) ]))
+        (elim (places_apart apart other index there less differ) [
+          | inl before ↦ inl (omega (arith, before, below))
+          | inr
+              behind ↦ inr (omega (arith, behind, many))
+        ]))
 
     pub written_kept : KeepsOthers word slabs heap new
     written_kept address n block none =
-        written_keeps regions word heap new (slice_index slabs (index / 64)) (64 * size) (slab_block index less) placed (place_of slabs size index) bytes (length bytes) (omega arith) within written apart stays.state
+        written_keeps regions word heap new (slice_index slabs (index / 64)) (64 * size) (slab_block index less) placed
+        (place_of slabs size index) bytes (length bytes) (omega arith) within written apart stays.state
         address n block (λ e. none (index / 64) (slab_there index less) (sym e))
 
   -- ---- a slab more
@@ -111,7 +121,8 @@ module _ {A : Type 0} (regions : A → List Grant) (word : A → ℕ → ℕ) (h
   module _ (follows : A → List Event → A → Type 0) (new : Dlmalloc A) (address : ℕ) (placed : ArePlaced (regions heap.system) (state_of word heap))
       (out : IsHandedOut regions word follows heap (64 * size) 16 address new) where
     slab_other : (i : ℕ) → i < length slabs → slice_index slabs i ≢ address
-    slab_other i there same = handed_fresh regions word follows heap new (64 * size) 16 address placed out (64 * size) (subst (λ a. IsBlock (state_of word heap) a (64 * size)) same (laid.blocks i there))
+    slab_other i there same = handed_fresh regions word follows heap new (64 * size) 16 address placed out (64 * size)
+        (subst (λ a. IsBlock (state_of word heap) a (64 * size)) same (laid.blocks i there))
 
     front : (i : ℕ) → i < length slabs → slice_index (slabs ++ address ∷ []) i ≡ slice_index slabs i
     front i there = get_or_append_left slabs (address ∷ []) 0 i there
@@ -130,7 +141,9 @@ module _ {A : Type 0} (regions : A → List Grant) (word : A → ℕ → ℕ) (h
       some = laid.some;
       small = laid.small;
       blocks = λ i there. elim (lt_or_le i (length slabs)) [
-        | inl old ↦ subst (λ a. IsBlock (state_of word new) a (64 * size)) (sym (front i old)) (handed_keeps regions word follows heap new (64 * size) 16 address placed out (slice_index slabs i) (64 * size) (laid.blocks i old)).block
+        | inl old ↦ subst (λ a. IsBlock (state_of word new) a (64 * size)) (sym (front i old))
+            (handed_keeps regions word follows heap new (64 * size) 16 address placed out (slice_index slabs i) (64 * size)
+            (laid.blocks i old)).block
         | inr past ↦ subst (λ a. IsBlock (state_of word new) a (64 * size)) (sym (last_is i there past)) out.block
       ];
       distinct = λ i j there_i there_j differ. elim (lt_or_le i (length slabs)) [

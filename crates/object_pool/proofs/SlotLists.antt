@@ -70,7 +70,8 @@ once_small true = omega arith
 once_small false = omega arith
 
 -- the slot freed last may be used again
-pub freed_last : (slots : List Slot) (freed rest : List ℕ) (index : ℕ) → AreFreed slots freed → freed ≡ rest ++ index ∷ [] → is_free (slot_at slots index) ≡ true
+pub freed_last : (slots : List Slot) (freed rest : List ℕ) (index : ℕ) → AreFreed slots freed → freed ≡ rest ++ index ∷ [] →
+    is_free (slot_at slots index) ≡ true
 freed_last slots freed rest index are is = go (is_free (slot_at slots index)) refl
   where
     go : (b : Bool) → is_free (slot_at slots index) ≡ b → is_free (slot_at slots index) ≡ true
@@ -78,7 +79,8 @@ freed_last slots freed rest index are is = go (is_free (slot_at slots index)) re
     go false test = absurd (
         let self : (index == index) ≡ true = grind (arith, nat_tests) in
         let count : times index freed ≡ 0 = are index ∙ ap once test in
-        let more : times index freed ≡ times index rest + 1 = ap (times index) is ∙ (times_push index rest index ∙ ap (λ b. times index rest + cond b 1 0) self) in
+        let more : times index freed ≡ times index rest + 1 = ap (times index) is
+        ∙ (times_push index rest index ∙ ap (λ b. times index rest + cond b 1 0) self) in
         omega arith)
 
 -- the slot freed last is used
@@ -88,8 +90,10 @@ freed_taken slots new freed rest index generation are is changed other = elim (s
   | inl same ↦ (
       let test : (other == index) ≡ true = grind (arith, nat_tests) in
       let test' : (index == other) ≡ true = grind (arith, nat_tests) in
-      let slot : slot_at new other ≡ record { generation = generation; used = true } = changed other ∙ ap (λ b. if b then record { generation = generation; used = true } else slot_at slots other) test in
-      let count : times other freed ≡ times other rest + 1 = ap (times other) is ∙ (times_push other rest index ∙ ap (λ b. times other rest + cond b 1 0) test') in
+      let slot : slot_at new other ≡ record { generation = generation; used = true } = changed other
+      ∙ ap (λ b. if b then record { generation = generation; used = true } else slot_at slots other) test in
+      let count : times other freed ≡ times other rest + 1 = ap (times other) is
+      ∙ (times_push other rest index ∙ ap (λ b. times other rest + cond b 1 0) test') in
       let few = once_small (is_free (slot_at slots other)) in
       let was = are other in
       let zero : times other rest ≡ 0 = omega arith in
@@ -97,14 +101,17 @@ freed_taken slots new freed rest index generation are is changed other = elim (s
   | inr differ ↦ (
       let test : (other == index) ≡ false = grind (arith, nat_tests) in
       let test' : (index == other) ≡ false = grind (arith, nat_tests) in
-      let slot : slot_at new other ≡ slot_at slots other = changed other ∙ ap (λ b. if b then record { generation = generation; used = true } else slot_at slots other) test in
-      let count : times other freed ≡ times other rest + 0 = ap (times other) is ∙ (times_push other rest index ∙ ap (λ b. times other rest + cond b 1 0) test') in
+      let slot : slot_at new other ≡ slot_at slots other = changed other
+      ∙ ap (λ b. if b then record { generation = generation; used = true } else slot_at slots other) test in
+      let count : times other freed ≡ times other rest + 0 = ap (times other) is
+      ∙ (times_push other rest index ∙ ap (λ b. times other rest + cond b 1 0) test') in
       let same : times other rest ≡ times other freed = omega arith in
       same ∙ (are other ∙ sym (ap (λ s. once (is_free s)) slot)))
 ]
 
 -- a slot that is not freed is another, which may not be used again
-pub freed_same : (slots new : List Slot) (freed : List ℕ) (index : ℕ) (slot : Slot) → AreFreed slots freed → is_free (slot_at slots index) ≡ false → is_free slot ≡ false → IsChanged slots index slot new → AreFreed new freed
+pub freed_same : (slots new : List Slot) (freed : List ℕ) (index : ℕ) (slot : Slot) → AreFreed slots freed →
+    is_free (slot_at slots index) ≡ false → is_free slot ≡ false → IsChanged slots index slot new → AreFreed new freed
 freed_same slots new freed index slot are before after changed other = elim (same_or_other other index) [
   | inl same ↦ (
       let test : (other == index) ≡ true = grind (arith, nat_tests) in
@@ -117,7 +124,9 @@ freed_same slots new freed index slot are before after changed other = elim (sam
 ]
 
 -- it is one that may be used again
-pub freed_more : (slots new : List Slot) (freed : List ℕ) (index : ℕ) (slot : Slot) → AreFreed slots freed → is_free (slot_at slots index) ≡ false → is_free slot ≡ true → IsChanged slots index slot new → AreFreed new (freed ++ index ∷ [])
+pub freed_more : (slots new : List Slot) (freed : List ℕ) (index : ℕ) (slot : Slot) → AreFreed slots freed →
+    is_free (slot_at slots index) ≡ false → is_free slot ≡ true → IsChanged slots index slot new →
+    AreFreed new (freed ++ index ∷ [])
 freed_more slots new freed index slot are before after changed other = elim (same_or_other other index) [
   | inl same ↦ (
       let test : (other == index) ≡ true = grind (arith, nat_tests) in
@@ -138,7 +147,8 @@ freed_more slots new freed index slot are before after changed other = elim (sam
 
 -- ---- generations
 
-pub young_changed : (slots new : List Slot) (index : ℕ) (slot : Slot) → AreYoung slots → (slot.used ≡ true → slot.generation < 2 ^ 32 - 1) → IsChanged slots index slot new → AreYoung new
+pub young_changed : (slots new : List Slot) (index : ℕ) (slot : Slot) → AreYoung slots →
+    (slot.used ≡ true → slot.generation < 2 ^ 32 - 1) → IsChanged slots index slot new → AreYoung new
 young_changed slots new index slot young fits changed other = go (other == index) refl
   where
     go : (b : Bool) → (other == index) ≡ b → (slot_at new other).used ≡ true → (slot_at new other).generation < 2 ^ 32 - 1
@@ -152,7 +162,8 @@ young_changed slots new index slot young fits changed other = go (other == index
 abbrev pub one_used : Slot → ℕ
 one_used slot = cond slot.used 1 0
 
-pub used_set : (slots : List Slot) (index : ℕ) (slot : Slot) → index < length slots → used_count (slice_set slots index slot) + one_used (slot_at slots index) ≡ used_count slots + one_used slot
+pub used_set : (slots : List Slot) (index : ℕ) (slot : Slot) → index < length slots →
+    used_count (slice_set slots index slot) + one_used (slot_at slots index) ≡ used_count slots + one_used slot
 used_set slots index slot less = sum_by-set one_used slots index slot none less
 
 pub used_push : (slots : List Slot) (slot : Slot) → used_count (slots ++ slot ∷ []) ≡ used_count slots + one_used slot

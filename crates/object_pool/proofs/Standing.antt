@@ -46,7 +46,8 @@ module _ {A : Type 0} (word : A → ℕ → ℕ) where
   pub stands_none : (heap : Dlmalloc A) (size : ℕ) → Stands word (pooled heap size [] [] []) empty
   stands_none heap size = record { holds = holds_none (bytes_of word heap [] size); freed = λ index. refl; slabs = refl }
 
-  module _ (heap : Dlmalloc A) (size : ℕ) (slabs : List ℕ) (slots : List Slot) (freed : List ℕ) (lists : Lists) (stands : Stands word (pooled heap size slabs slots freed) lists) where
+  module _ (heap : Dlmalloc A) (size : ℕ) (slabs : List ℕ) (slots : List Slot) (freed : List ℕ) (lists : Lists)
+      (stands : Stands word (pooled heap size slabs slots freed) lists) where
     pub stands_object : (key : Key) → IsIn slots key → object_of key lists.entries ≡ Some (bytes_of word heap slabs size key.index)
     stands_object key is = object_is slots freed (bytes_of word heap slabs size) lists stands.holds key is
 
@@ -57,36 +58,59 @@ module _ {A : Type 0} (word : A → ℕ → ℕ) where
     slabs_same : (indexes : ℕ) → indexes ≡ length slots → (indexes + 63) / 64 ≡ length slabs
     slabs_same indexes is = ap (λ n. (n + 63) / 64) (is ∙ sym stands.holds.indexes) ∙ stands.slabs
 
-    pub stands_replaced : (new : Dlmalloc A) (size' : ℕ) (slabs' : List ℕ) (key : Key) (bytes : List ℕ) → size' ≡ size → slabs' ≡ slabs → length slots ≤ 64 * length slabs → AreFreed slots freed → IsIn slots key →
-        bytes_of word new slabs size key.index ≡ bytes → ((other : ℕ) → other < 64 * length slabs → other ≢ key.index → bytes_of word new slabs size other ≡ bytes_of word heap slabs size other) →
+    pub stands_replaced : (new : Dlmalloc A) (size' : ℕ) (slabs' : List ℕ) (key : Key) (bytes : List ℕ) → size' ≡ size →
+        slabs' ≡ slabs → length slots ≤ 64 * length slabs → AreFreed slots freed → IsIn slots key →
+        bytes_of word new slabs size key.index ≡ bytes → ((other : ℕ) → other < 64 * length slabs → other ≢ key.index →
+        bytes_of word new slabs size other ≡ bytes_of word heap slabs size other) →
         Stands word (pooled new size' slabs' slots freed) (replaced key bytes lists)
     stands_replaced new size' slabs' key bytes same_size same_slabs within are is here others =
         subst (λ n. Stands word (pooled new n slabs' slots freed) (replaced key bytes lists)) (sym same_size)
         (subst (λ (list : List ℕ). Stands word (pooled new size list slots freed) (replaced key bytes lists)) (sym same_slabs)
         (let holds = holds_replaced slots freed (bytes_of word heap slabs size) lists stands.holds key is bytes (bytes_of word new slabs size) here
         (λ other differ used. others other (let there = used_there slots other used in omega (arith, there, within)) differ) in
-        record { holds = holds; freed = free_again slots freed (bytes_of word new slabs size) (replaced key bytes lists) holds are; slabs = slabs_same (index_count (replaced key bytes lists).entries) holds.indexes }))
+        record {
+          holds = holds;
+          freed = free_again slots freed (bytes_of word new slabs size) (replaced key bytes lists)
+              holds are;
+          slabs = slabs_same (index_count (replaced key bytes lists).entries) holds.indexes;
+        }))
 
-    pub stands_removed : (key : Key) (new : List Slot) (new_freed : List ℕ) → IsIn slots key → IsReleased slots freed key new new_freed → AreFreed new new_freed → Stands word (pooled heap size slabs new new_freed) (removed key lists)
+    pub stands_removed : (key : Key) (new : List Slot) (new_freed : List ℕ) → IsIn slots key →
+        IsReleased slots freed key new new_freed → AreFreed new new_freed →
+        Stands word (pooled heap size slabs new new_freed) (removed key lists)
     stands_removed key new new_freed is released are =
         let holds = holds_removed slots freed (bytes_of word heap slabs size) lists stands.holds key is new new_freed released in
-        record { holds = holds; freed = free_again new new_freed (bytes_of word heap slabs size) (removed key lists) holds are; slabs = slabs_same (index_count (removed key lists).entries) (holds.indexes ∙ released.same) }
+        record {
+          holds = holds;
+          freed = free_again new new_freed (bytes_of word heap slabs size) (removed key lists) holds
+              are;
+          slabs = slabs_same (index_count (removed key lists).entries) (holds.indexes ∙ released.same);
+        }
 
     -- ---- an insert
 
-    pub stands_key : (key : Key) (new : List Slot) (new_freed : List ℕ) → IsNext slots freed key.index new new_freed → IsTaken slots key new → next_key lists ≡ key
+    pub stands_key : (key : Key) (new : List Slot) (new_freed : List ℕ) → IsNext slots freed key.index new new_freed →
+        IsTaken slots key new → next_key lists ≡ key
     stands_key key new new_freed next taken = key_is slots freed (bytes_of word heap slabs size) lists stands.holds key new new_freed next taken
 
-    pub stands_inserted : (new : Dlmalloc A) (size' : ℕ) (slabs' : List ℕ) (key : Key) (bytes : List ℕ) (new_slots : List Slot) (new_freed : List ℕ) → size' ≡ size → length slots ≤ 64 * length slabs →
+    pub stands_inserted : (new : Dlmalloc A) (size' : ℕ) (slabs' : List ℕ) (key : Key) (bytes : List ℕ)
+        (new_slots : List Slot) (new_freed : List ℕ) → size' ≡ size → length slots ≤ 64 * length slabs →
         IsNext slots freed key.index new_slots new_freed → IsTaken slots key new_slots → AreFreed new_slots new_freed →
-        bytes_of word new slabs' size key.index ≡ bytes → ((other : ℕ) → other < 64 * length slabs → other ≢ key.index → bytes_of word new slabs' size other ≡ bytes_of word heap slabs size other) →
+        bytes_of word new slabs' size key.index ≡ bytes → ((other : ℕ) → other < 64 * length slabs → other ≢ key.index →
+        bytes_of word new slabs' size other ≡ bytes_of word heap slabs size other) →
         (length new_slots + 63) / 64 ≡ length slabs' →
         Stands word (pooled new size' slabs' new_slots new_freed) (inserted bytes lists)
     stands_inserted new size' slabs' key bytes new_slots new_freed same_size within next taken are here others many =
         subst (λ n. Stands word (pooled new n slabs' new_slots new_freed) (inserted bytes lists)) (sym same_size)
-        (let holds = holds_inserted slots freed (bytes_of word heap slabs size) lists stands.holds key new_slots new_freed next taken bytes (bytes_of word new slabs' size) here
+        (let holds = holds_inserted slots freed (bytes_of word heap slabs size) lists stands.holds key new_slots new_freed
+        next taken bytes (bytes_of word new slabs' size) here
         (λ other differ used. others other (let there = used_there slots other used in omega (arith, there, within)) differ) in
-        record { holds = holds; freed = free_again new_slots new_freed (bytes_of word new slabs' size) (inserted bytes lists) holds are; slabs = ap (λ n. (n + 63) / 64) holds.indexes ∙ many })
+        record {
+          holds = holds;
+          freed = free_again new_slots new_freed (bytes_of word new slabs' size)
+              (inserted bytes lists) holds are;
+          slabs = ap (λ n. (n + 63) / 64) holds.indexes ∙ many;
+        })
 
     -- ---- what is free
 
@@ -97,23 +121,33 @@ module _ {A : Type 0} (word : A → ℕ → ℕ) where
     lacking_slots lacks = (sym stands.holds.freed_are ∙ lacks.0, sym stands.holds.indexes ∙ (lacks.1 ∙ ap (λ n. 64 * n) stands.slabs))
 
     -- why an insert is refused, by the slots and by the lists
-    pub refused_lists : (denies : A → ℕ → GrantFault → Type 0) (fault : PoolFault) → (freed ≡ []) × (length slots ≡ 64 * length slabs) → IsRefusedBy word denies (pooled heap size slabs slots freed) fault →
+    pub refused_lists : (denies : A → ℕ → GrantFault → Type 0) (fault : PoolFault) →
+        (freed ≡ []) × (length slots ≡ 64 * length slabs) → IsRefusedBy word denies (pooled heap size slabs slots freed)
+        fault →
         IsPoolRefused word denies (pooled heap size slabs slots freed) lists fault
     refused_lists denies Full lacks why = (slots_lacking lacks, stands.holds.indexes ∙ why)
-    refused_lists denies (Heap fault) lacks why = (slots_lacking lacks, (let indexes = stands.holds.indexes in let few = why.0 in omega (arith, indexes, few)), why.1)
+    refused_lists denies (Heap fault) lacks why = (
+      slots_lacking lacks,
+      (let indexes = stands.holds.indexes in let few = why.0 in omega (arith, indexes, few)),
+      why.1,
+    )
     refused_lists denies OutOfMemory lacks why = (slots_lacking lacks, (let indexes = stands.holds.indexes in omega (arith, indexes, why)))
 
     -- where there is no slot at all, the fault says so
-    pub full_fault : (denies : A → ℕ → GrantFault → Type 0) (fault : PoolFault) → IsFull lists → IsRefusedBy word denies (pooled heap size slabs slots freed) fault → fault ≡ Full
+    pub full_fault : (denies : A → ℕ → GrantFault → Type 0) (fault : PoolFault) → IsFull lists →
+        IsRefusedBy word denies (pooled heap size slabs slots freed) fault → fault ≡ Full
     full_fault denies Full full why = refl
-    full_fault denies (Heap fault) full why = absurd (let indexes = stands.holds.indexes in let all = full.1 in let few = why.0 in omega (arith, indexes, all, few))
+    full_fault denies (Heap fault) full why = absurd (let indexes = stands.holds.indexes in let all = full.1 in let few =
+        why.0 in omega (arith, indexes, all, few))
     full_fault denies OutOfMemory full why = absurd (let indexes = stands.holds.indexes in let all = full.1 in omega (arith, indexes, all, why))
 
 -- ---- bytes are written into a heap that served a request
 
-module _ {A : Type 0} (regions : A → List Grant) (word : A → ℕ → ℕ) (follows : A → List Event → A → Type 0) (follows_on : (x y z : A) (a b c : List Event) → follows x a y → follows y b z → a ++ b ≡ c → follows x c z)
+module _ {A : Type 0} (regions : A → List Grant) (word : A → ℕ → ℕ) (follows : A → List Event → A → Type 0)
+    (follows_on : (x y z : A) (a b c : List Event) → follows x a y → follows y b z → a ++ b ≡ c → follows x c z)
     (old heap new : Dlmalloc A) (stays : StaysInState regions word follows heap new) where
-  cut_stays : (n at : ℕ) → IsObtained follows regions old.system (state_of word old) n at heap.system (state_of word heap) → IsObtained follows regions old.system (state_of word old) n at new.system (state_of word new)
+  cut_stays : (n at : ℕ) → IsObtained follows regions old.system (state_of word old) n at heap.system (state_of word heap) →
+      IsObtained follows regions old.system (state_of word old) n at new.system (state_of word new)
   cut_stays n at (inl taken) = inl (
     subst (λ (h : HeapState). IsTakenFromExtent (state_of word old) n at h) (sym stays.state) taken.0,
     follows_on old.system heap.system new.system [] [] [] taken.1 stays.followed refl,
@@ -122,7 +156,8 @@ module _ {A : Type 0} (regions : A → List Grant) (word : A → ℕ → ℕ) (f
   cut_stays n at (inr cut) = inr (
     cut.0,
     subst (λ (h : HeapState). IsTakenFromGrant (state_of word old) n at cut.0 h) (sym stays.state) cut.1,
-    follows_on old.system heap.system new.system (Granted (round_up (n + 96) old.granularity) cut.0 ∷ []) [] (Granted (round_up (n + 96) old.granularity) cut.0 ∷ []) cut.2 stays.followed refl,
+    follows_on old.system heap.system new.system (Granted (round_up (n + 96) old.granularity) cut.0 ∷ []) []
+        (Granted (round_up (n + 96) old.granularity) cut.0 ∷ []) cut.2 stays.followed refl,
     stays.regions_same ∙ cut.3,
     cut.4,
   )
@@ -131,7 +166,8 @@ module _ {A : Type 0} (regions : A → List Grant) (word : A → ℕ → ℕ) (f
   unfolding HasServed
   served_stays size address served = cut_stays (padded (64 * size)) (address - 16) served
 
-  pub added_stays : (size : ℕ) (slabs new_slabs : List ℕ) → IsAdded regions word follows old size slabs heap new_slabs → IsAdded regions word follows old size slabs new new_slabs
+  pub added_stays : (size : ℕ) (slabs new_slabs : List ℕ) → IsAdded regions word follows old size slabs heap new_slabs →
+      IsAdded regions word follows old size slabs new new_slabs
   added_stays size slabs new_slabs added = record {
     address = added.address;
     is = added.is;
@@ -147,8 +183,10 @@ module _ {A : Type 0} (regions : A → List Grant) (word : A → ℕ → ℕ) (f
 
 -- ---- a slot is made free, and used
 
-module _ {A : Type 0} (regions : A → List Grant) (word : A → ℕ → ℕ) (follows : A → List Event → A → Type 0) (old : Pooled A) (heap : Dlmalloc A) (size : ℕ) (slabs : List ℕ) (slots : List Slot) (freed : List ℕ)
-    (laid_old : IsLaidOut regions word old.heap old.size old.slabs) (room : HasRoom regions word follows old (pooled heap size slabs slots freed)) (within : length slots ≤ 64 * length slabs) where
+module _ {A : Type 0} (regions : A → List Grant) (word : A → ℕ → ℕ) (follows : A → List Event → A → Type 0) (old : Pooled A)
+    (heap : Dlmalloc A) (size : ℕ) (slabs : List ℕ) (slots : List Slot) (freed : List ℕ)
+    (laid_old : IsLaidOut regions word old.heap old.size old.slabs) (room : HasRoom regions word follows old
+    (pooled heap size slabs slots freed)) (within : length slots ≤ 64 * length slabs) where
   size_is : size ≡ old.size
   size_is = ap (λ p. p.size) room.others
 
@@ -161,7 +199,9 @@ module _ {A : Type 0} (regions : A → List Grant) (word : A → ℕ → ℕ) (f
   -- there is a slab with a slot that was never used, where none was freed
   pub has_place : freed ≡ [] → length slots < 64 * length slabs
   has_place none = elim room.slab [
-    | inl taken ↦ (let many : length slabs ≡ length old.slabs + 1 = ap length taken.1.is ∙ length-append old.slabs (taken.1.address ∷ []) in let same = ap length slots_are in omega (arith, many, same, taken.0.1))
+    | inl taken ↦ (let many : length slabs ≡ length old.slabs + 1 = ap length taken.1.is
+        ∙ length-append old.slabs (taken.1.address ∷ []) in let same = ap length slots_are in
+        omega (arith, many, same, taken.0.1))
     | inr kept ↦ elim (same_or_other (length slots) (64 * length slabs)) [
       | inl all ↦ absurd (kept.0 (sym freed_are ∙ none, ap length (sym slots_are) ∙ (all ∙ ap (λ p. 64 * length p.slabs) kept.1)))
       | inr other ↦ omega (arith, within, other)
@@ -177,7 +217,8 @@ module _ {A : Type 0} (regions : A → List Grant) (word : A → ℕ → ℕ) (f
 
   fewer : length old.slabs ≤ length slabs
   fewer = elim room.slab [
-    | inl taken ↦ (let many : length slabs ≡ length old.slabs + 1 = ap length taken.1.is ∙ length-append old.slabs (taken.1.address ∷ []) in omega (arith, many))
+    | inl taken ↦ (let many : length slabs ≡ length old.slabs + 1 = ap length taken.1.is
+        ∙ length-append old.slabs (taken.1.address ∷ []) in omega (arith, many))
     | inr kept ↦ (let same = ap (λ p. length p.slabs) kept.1 in omega (arith, same))
   ]
 
@@ -189,7 +230,9 @@ module _ {A : Type 0} (regions : A → List Grant) (word : A → ℕ → ℕ) (f
       | inl taken ↦ (
           let many : length slabs ≡ length old.slabs + 1 = ap length taken.1.is ∙ length-append old.slabs (taken.1.address ∷ []) in
           let last : length old.slabs ≡ i = omega (arith, many, past, less) in
-          let at : slice_index slabs i ≡ taken.1.address = ap (slice_index slabs) (sym last) ∙ (ap (λ list. slice_index list (length old.slabs)) taken.1.is ∙ get_or-append_seam old.slabs taken.1.address [] 0) in
+          let at : slice_index slabs i ≡ taken.1.address = ap (slice_index slabs) (sym last)
+          ∙ (ap (λ list. slice_index list (length old.slabs)) taken.1.is
+          ∙ get_or-append_seam old.slabs taken.1.address [] 0) in
           λ e. taken.1.fresh n (subst (λ a. IsBlock (state_of word old.heap) a n) (sym e ∙ at) block))
       | inr kept ↦ absurd (let same = ap (λ p. length p.slabs) kept.1 in omega (arith, same, past, less))
     ]
@@ -205,9 +248,11 @@ module _ {A : Type 0} (regions : A → List Grant) (word : A → ℕ → ℕ) (f
       ∙ (ap (λ a. bytes_at (word heap.system) (a + old.size * (index % 64)) old.size) (slab_stays (index / 64) there)
       ∙ bytes_same (word old.heap.system) (word heap.system) (place_of old.slabs old.size index) old.size (λ k below.
       (let place : slice_index old.slabs (index / 64) + (old.size * (index % 64) + k) ≡ place_of old.slabs old.size index + k = omega arith in
-      subst (λ a. byte_in (word heap.system) a ≡ byte_in (word old.heap.system) a) place (kept.bytes (old.size * (index % 64) + k) (omega (arith, end, below))))))
+      subst (λ a. byte_in (word heap.system) a ≡ byte_in (word old.heap.system) a) place
+      (kept.bytes (old.size * (index % 64) + k) (omega (arith, end, below))))))
 
-  module _ (key : Key) (new_slots : List Slot) (new_freed : List ℕ) (next : IsNext slots freed key.index new_slots new_freed) (taken : IsTaken slots key new_slots) where
+  module _ (key : Key) (new_slots : List Slot) (new_freed : List ℕ) (next : IsNext slots freed key.index new_slots
+      new_freed) (taken : IsTaken slots key new_slots) where
     pub key_there : key.index < 64 * length slabs
     key_there = elim next [
       | inl again ↦ omega (arith, again.1, within)
@@ -222,7 +267,8 @@ module _ {A : Type 0} (regions : A → List Grant) (word : A → ℕ → ℕ) (f
 
     pub made_key : (lists : Lists) → Stands word old lists → key ≡ next_key lists
     made_key lists stands = sym (stands_key word old.heap old.size old.slabs old.slots old.freed lists stands key new_slots new_freed
-        (subst (λ list. IsNext list old.freed key.index new_slots new_freed) slots_are (subst (λ list. IsNext slots list key.index new_slots new_freed) freed_are next))
+        (subst (λ list. IsNext list old.freed key.index new_slots new_freed) slots_are
+        (subst (λ list. IsNext slots list key.index new_slots new_freed) freed_are next))
         (subst (λ list. IsTaken list key new_slots) slots_are taken))
 
     -- there are as many slabs as the slots need
@@ -232,7 +278,9 @@ module _ {A : Type 0} (regions : A → List Grant) (word : A → ℕ → ℕ) (f
           let many : length slabs ≡ length old.slabs + 1 = ap length taken_slab.1.is ∙ length-append old.slabs (taken_slab.1.address ∷ []) in
           let same = ap length slots_are in
           elim next [
-            | inl again ↦ absurd (let none : length freed ≡ 0 = ap length (freed_are ∙ taken_slab.0.0) in let some : length freed ≡ length new_freed + 1 = ap length again.0 ∙ length-append new_freed (key.index ∷ []) in omega (arith, none, some))
+            | inl again ↦ absurd (let none : length freed ≡ 0 = ap length (freed_are ∙ taken_slab.0.0) in
+                let some : length freed ≡ length new_freed + 1 = ap length again.0
+                ∙ length-append new_freed (key.index ∷ []) in omega (arith, none, some))
             | inr fresh ↦ omega (arith, many, same, fresh.3, taken_slab.0.1)
           ])
       | inr kept ↦ (
@@ -245,17 +293,21 @@ module _ {A : Type 0} (regions : A → List Grant) (word : A → ℕ → ℕ) (f
     ]
 
     module _ (new : Dlmalloc A) (new_size : ℕ) (new_slabs : List ℕ) (bytes : List ℕ) (same_size : new_size ≡ size) (same_slabs : new_slabs ≡ slabs) where
-      pub made_stands : (lists : Lists) → Stands word old lists → length old.slots ≤ 64 * length old.slabs → AreFreed new_slots new_freed → bytes_of word new slabs size key.index ≡ bytes →
+      pub made_stands : (lists : Lists) → Stands word old lists → length old.slots ≤ 64 * length old.slabs →
+          AreFreed new_slots new_freed → bytes_of word new slabs size key.index ≡ bytes →
           ((other : ℕ) → other < 64 * length slabs → other ≢ key.index → bytes_of word new slabs size other ≡ bytes_of word heap slabs size other) →
           Stands word (pooled new new_size new_slabs new_slots new_freed) (inserted bytes lists)
       made_stands lists stands within_old are here others =
           subst (λ list. Stands word (pooled new new_size list new_slots new_freed) (inserted bytes lists)) (sym same_slabs)
-          (stands_inserted word old.heap old.size old.slabs old.slots old.freed lists stands new new_size slabs key bytes new_slots new_freed (same_size ∙ size_is) within_old
-          (subst (λ list. IsNext list old.freed key.index new_slots new_freed) slots_are (subst (λ list. IsNext slots list key.index new_slots new_freed) freed_are next))
+          (stands_inserted word old.heap old.size old.slabs old.slots old.freed lists stands new new_size slabs key bytes
+          new_slots new_freed (same_size ∙ size_is) within_old
+          (subst (λ list. IsNext list old.freed key.index new_slots new_freed) slots_are
+          (subst (λ list. IsNext slots list key.index new_slots new_freed) freed_are next))
           (subst (λ list. IsTaken list key new_slots) slots_are taken)
           are
           (ap (λ n. bytes_of word new slabs n key.index) (sym size_is) ∙ here)
-          (λ other less differ. ap (λ n. bytes_of word new slabs n other) (sym size_is) ∙ (others other (let more = fewer in omega (arith, less, more)) differ ∙ object_stays other less))
+          (λ other less differ. ap (λ n. bytes_of word new slabs n other) (sym size_is)
+          ∙ (others other (let more = fewer in omega (arith, less, more)) differ ∙ object_stays other less))
           (slabs_needed (ap (λ n. (n + 63) / 64) (sym stands.holds.indexes) ∙ stands.slabs)))
 
       pub made_keeps : KeepsOthers word slabs heap new → Keeps word old (pooled new new_size new_slabs new_slots new_freed)
@@ -267,7 +319,8 @@ module _ {A : Type 0} (regions : A → List Grant) (word : A → ℕ → ℕ) (f
             record { block = after.block; bytes = λ k less. after.bytes k less ∙ before.bytes k less });
       }
 
-      pub made_slab : (follows_on : (x y z : A) (a b c : List Event) → follows x a y → follows y b z → a ++ b ≡ c → follows x c z) → StaysInState regions word follows heap new → (lists : Lists) → Stands word old lists →
+      pub made_slab : (follows_on : (x y z : A) (a b c : List Event) → follows x a y → follows y b z → a ++ b ≡ c →
+          follows x c z) → StaysInState regions word follows heap new → (lists : Lists) → Stands word old lists →
           TakesSlabIfNeeded regions word follows old lists (pooled new new_size new_slabs new_slots new_freed)
       made_slab follows_on stays lists stands = elim room.slab [
         | inl taken_slab ↦ inl (

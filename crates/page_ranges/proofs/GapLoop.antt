@@ -120,7 +120,8 @@ module _ (old mid now : List ℕ) (free free1 free2 : List Bool) (root first pag
           p.1 ∙ ap Some e
 
       ascending : (j k : ℕ) (place far : Place) → j < k → k < done + count → walk_of mid root (first + j) ≡ None → walk_of mid root (first + k) ≡ None →
-          walk_of new root (first + j) ≡ Some place → walk_of new root (first + k) ≡ Some far → (j < done) ⊎ (done ≤ j) → (k < done) ⊎ (done ≤ k) → place.frame < far.frame
+          walk_of new root (first + j) ≡ Some place → walk_of new root (first + k) ≡ Some far → (j < done) ⊎ (done ≤ j) →
+          (k < done) ⊎ (done ≤ k) → place.frame < far.frame
       ascending j k place far less lt j_was k_was j_is k_is (inl a) (inl b) =
           filled.ascending j k place far less b j_was k_was (page_before j place a j_is) (page_before k far b k_is)
       ascending j k place far less lt j_was k_was j_is k_is (inl a) (inr b) =
@@ -222,8 +223,10 @@ module _ (old mid new : List ℕ) (free free1 free' : List Bool) (root first pag
 
       go : ByEntry new root (prefix_of (first + k) 4) (met k lt).0 ⊎ InLarge new root (prefix_of (first + k) 4) (met k lt).0 →
           (m : Place) × (reach new root 2 (prefix_of (first + k) 2) ≡ Some m)
-      go (inl x) = parent new root 2 (prefix_of (first + k) 2) (prefix_of (first + k) 3 % 512) x.table (omega arith) (omega arith) (ap (reach new root 3) (sym s) ∙ x.met)
-      go (inr x) = large_parent new root (prefix_of (first + k) 2) (prefix_of (first + k) 3 % 512) x.large (omega arith) (ap (large_of new root) (sym s) ∙ x.met)
+      go (inl x) = parent new root 2 (prefix_of (first + k) 2) (prefix_of (first + k) 3 % 512) x.table (omega arith)
+          (omega arith) (ap (reach new root 3) (sym s) ∙ x.met)
+      go (inr x) = large_parent new root (prefix_of (first + k) 2) (prefix_of (first + k) 3 % 512) x.large (omega arith)
+          (ap (large_of new root) (sym s) ∙ x.met)
 
   tables : (l k : ℕ) → l < 3 → k < pages → (table : ℕ) × (reach new root l (prefix_of (first + k) l) ≡ Some (top table))
   tables l k ll lt = go (some_or_none (reach new root l (prefix_of (first + k) l)))

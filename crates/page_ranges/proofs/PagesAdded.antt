@@ -42,7 +42,8 @@ pages_start words free root first pages rights tree = record {
 }
 
 -- what is met past a table shows the table
-pub parent : (words : List ℕ) (root l n i : ℕ) (p : Place) → l < 3 → i < 512 → reach words root (l + 1) (512 * n + i) ≡ Some p → (m : Place) × (reach words root l n ≡ Some m)
+pub parent : (words : List ℕ) (root l n i : ℕ) (p : Place) → l < 3 → i < 512 →
+    reach words root (l + 1) (512 * n + i) ≡ Some p → (m : Place) × (reach words root l n ≡ Some m)
 parent words root l n i p low li on = go (some_or_none (reach words root l n))
   where
     go : ((m : Place) × (reach words root l n ≡ Some m)) ⊎ (reach words root l n ≡ None) → (m : Place) × (reach words root l n ≡ Some m)
@@ -50,7 +51,8 @@ parent words root l n i p low li on = go (some_or_none (reach words root l n))
     go (inr none) = let gone = none_child words root l n i low li none in absurd (cc)
 
 -- and so does a large page
-pub large_parent : (words : List ℕ) (root n i : ℕ) (p : Place) → i < 512 → large_of words root (512 * n + i) ≡ Some p → (m : Place) × (reach words root 2 n ≡ Some m)
+pub large_parent : (words : List ℕ) (root n i : ℕ) (p : Place) → i < 512 → large_of words root (512 * n + i) ≡ Some p →
+    (m : Place) × (reach words root 2 n ≡ Some m)
 large_parent words root n i p li on = go (some_or_none (reach words root 2 n))
   where
     q : (512 * n + i) / 512 ≡ n
@@ -233,7 +235,8 @@ module _ (old mid new : List ℕ) (free free1 free' : List Bool) (root first pag
       large_of new root (512 * n + i) ≡ Some large → word_at new f i ≡ large_entry large.frame rights
   large_words n f i large li here none now = go (some_or_none (large_of mid root (512 * n + i)))
     where
-      go : ((m : Place) × (large_of mid root (512 * n + i) ≡ Some m)) ⊎ (large_of mid root (512 * n + i) ≡ None) → word_at new f i ≡ large_entry large.frame rights
+      go : ((m : Place) × (large_of mid root (512 * n + i) ≡ Some m)) ⊎ (large_of mid root (512 * n + i) ≡ None) →
+          word_at new f i ≡ large_entry large.frame rights
       go (inr e) = b.entries.large_words n f i large li here e now
       go (inl p) =
           let q = large_parent mid root n i p.0 li p.1 in

@@ -98,7 +98,8 @@ module _ (first pages p m : ℕ)
   of_four n from to = let h = place (n - prefix_of p 4) (omega arith) in omega arith
 
   -- if no page of the piece is mapped, the range has as many
-  pub unmapped_piece : (words : List ℕ) (root : ℕ) → ((k : ℕ) → k < m → reach words root 4 (prefix_of (p + k) 4) ≡ None) → m ≤ unmapped_of words root first pages
+  pub unmapped_piece : (words : List ℕ) (root : ℕ) → ((k : ℕ) → k < m → reach words root 4 (prefix_of (p + k) 4) ≡ None) →
+      m ≤ unmapped_of words root first pages
   unmapped_piece words root none =
       let w = absent_within words root 4 (prefix_of first 4) pages (prefix_of p 4) m from_four to_four in
       let all = absent_all words root 4 m (prefix_of p 4) (λ n from to. ap (reach words root 4) (of_four n from to) ∙ none (n - prefix_of p 4) (omega arith)) in
@@ -135,7 +136,8 @@ module _ (first more p over : ℕ)
       let b = page_in p (suc over) over mine (omega arith) in
       (prefix_le p (p + k) l (omega arith) lt, prefix_le (p + k) (p + over) l (omega arith) lt)
 
-  high : (l : ℕ) → l < 4 → prefix_of p l + (prefix_of (p + over) l + 1 - prefix_of p l) ≤ prefix_of first l + (prefix_of (first + more) l + 1 - prefix_of first l)
+  high : (l : ℕ) → l < 4 → prefix_of p l + (prefix_of (p + over) l + 1 - prefix_of p l) ≤ prefix_of first
+      l + (prefix_of (first + more) l + 1 - prefix_of first l)
   high l lt =
       let a = page_in p (suc over) over mine (omega arith) in
       let s = begin in

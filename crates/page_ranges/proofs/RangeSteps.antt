@@ -46,7 +46,8 @@ module _ (old new : List ℕ) (free free' : List Bool) (root first pages p m : �
   numbered k lt = let h = range_page p m k (piece_range first pages p m range lo hi some) lt in omega arith
 
   added_in : (page : ℕ) (place : Place) → walk_of old root page ≡ None → walk_of new root page ≡ Some place →
-      (prefix_of p 4 ≤ prefix_of page 4) ⊎ (prefix_of page 4 < prefix_of p 4) → (prefix_of page 4 < prefix_of p 4 + m) ⊎ (prefix_of p 4 + m ≤ prefix_of page 4) →
+      (prefix_of p 4 ≤ prefix_of page 4) ⊎ (prefix_of page 4 < prefix_of p 4) →
+      (prefix_of page 4 < prefix_of p 4 + m) ⊎ (prefix_of p 4 + m ≤ prefix_of page 4) →
       IsNewPlace new free place rights
   added_in page place gone now (inl a) (inl b) =
       let e = numbered (prefix_of page 4 - prefix_of p 4) (omega arith) in
@@ -170,7 +171,8 @@ module _ (old mid new : List ℕ) (free free1 free' : List Bool) (root first pag
   large_stayed : (n : ℕ) (large : Place) → large_of old root n ≡ Some large → large_of new root n ≡ Some large
   large_stayed n large is = other_large n (λ e. let x = no_large in let y : large_of old root n ≡ None = ap (large_of old root) e ∙ x in cc) ∙ is
 
-  large_added : (n : ℕ) (large : Place) → large_of old root n ≡ None → large_of new root n ≡ Some large → (n ≡ slot_of page) × (large ≡ granted (512 * run) rights)
+  large_added : (n : ℕ) (large : Place) → large_of old root n ≡ None → large_of new root n ≡ Some large →
+      (n ≡ slot_of page) × (large ≡ granted (512 * run) rights)
   large_added n large gone now = go (cases_eq n (slot_of page))
     where
       go : (n ≡ slot_of page) ⊎ (n ≡ slot_of page → ⊥) → (n ≡ slot_of page) × (large ≡ granted (512 * run) rights)
@@ -204,12 +206,14 @@ module _ (old mid new : List ℕ) (free free1 free' : List Bool) (root first pag
       go (inl e) =
           let n : prefix_of other 4 ≡ prefix_of (512 * page + other % 512) 4 = (let z = page_number (other % 512) (omega arith) in omega arith) in
           let x : walk_of new root other ≡ Some (granted (512 * run + other % 512) rights) =
-          walk_reach new root other ∙ (ap (reach new root 4) n ∙ (sym (walk_reach new root (512 * page + other % 512)) ∙ added.there (other % 512) (omega arith))) in
+          walk_reach new root other ∙ (ap (reach new root 4) n ∙ (sym (walk_reach new root (512 * page + other % 512))
+          ∙ added.there (other % 512) (omega arith))) in
           let s : granted (512 * run + other % 512) rights ≡ place = cc in
           rw (← s) (record {
             granted_all = refl;
             was_free = was_free (512 * run + other % 512) (omega arith);
-            zeros = λ i li. slot_words old mid free free1 root run known tree was_free taken blank new free' page rights added tree' (other % 512) i (omega arith) li;
+            zeros = λ i li. slot_words old mid free free1 root run known tree was_free taken blank new free' page rights
+                added tree' (other % 512) i (omega arith) li;
           })
 
   kept : (f : ℕ) → is_free free f ≡ true → ((l n : ℕ) (met : Place) → l ≤ 4 → reach new root l n ≡ Some met → met.frame ≡ f → ⊥) → is_free free' f ≡ true
@@ -224,9 +228,11 @@ module _ (old mid new : List ℕ) (free free1 free' : List Bool) (root first pag
   bytes_stay : (other : ℕ) (place : Place) (i : ℕ) → walk_of old root other ≡ Some place → i < 512 → word_at new place.frame i ≡ word_at old place.frame i
   bytes_stay other place i is li =
       let was : reach old root 4 (prefix_of other 4) ≡ Some place = sym (walk_reach old root other) ∙ is in
-      let now : reach new root 4 (prefix_of other 4) ≡ Some place = added.stayed 4 (prefix_of other 4) place (omega arith) (same 4 (prefix_of other 4) (omega arith) ∙ was) in
+      let now : reach new root 4 (prefix_of other 4) ≡ Some place = added.stayed 4 (prefix_of other 4) place (omega arith)
+      (same 4 (prefix_of other 4) (omega arith) ∙ was) in
       added.words place.frame i li
-      (λ l ll here. let d = tree'.distinct 4 (prefix_of other 4) l (above page l) place (top place.frame) (omega arith) (omega arith) (λ _ _. refl) now here refl in absurd (omega (arith, d.0)))
+      (λ l ll here. let d = tree'.distinct 4 (prefix_of other 4) l (above page l) place (top place.frame) (omega arith)
+      (omega arith) (λ _ _. refl) now here refl in absurd (omega (arith, d.0)))
       ∙ stay place.frame i li (not_met 4 (prefix_of other 4) place (omega arith) was)
 
   words_of : (f i : ℕ) → i < 512 → is_free free f ≡ false → ((l n : ℕ) → l < 4 → reach old root l n ≡ Some (top f) → ⊥) → word_at new f i ≡ word_at old f i
@@ -327,7 +333,8 @@ module _ (old mid new : List ℕ) (free free1 free' : List Bool) (root first pag
     some_of None o' h is = absurd (cc)
     some_of (Some m) o' h is = rw (h m refl) is
 
-    large_of_slot : (slot : ℕ) → IsOpenSlot start root first pages slot → slot < page + 1 → (slot < page) ⊎ (page ≤ slot) → IsSome (large_of new root (slot_of slot))
+    large_of_slot : (slot : ℕ) → IsOpenSlot start root first pages slot → slot < page + 1 → (slot < page) ⊎ (page ≤ slot) →
+        IsSome (large_of new root (slot_of slot))
     large_of_slot slot whole lt (inl x) =
         some_of (large_of old root (slot_of slot)) (large_of new root (slot_of slot)) (λ m e. large_stayed (slot_of slot) m e) (before.slots.large slot whole x)
     large_of_slot slot whole lt (inr x) =
@@ -351,13 +358,19 @@ module _ (old mid new : List ℕ) (free free1 free' : List Bool) (root first pag
     used_still : (slot f : ℕ) → IsUsedFor old root slot f → IsUsedFor new root slot f
     used_still slot f (inl used) = inl (used.0, large_stayed (slot_of slot) used.0 used.1, used.2)
     used_still slot f (inr used) =
-        let low = used.1 in inr (used.0, used.1, added.stayed used.0 (above slot used.0) (top f) (omega (arith, low)) (same used.0 (above slot used.0) (omega (arith, low)) ∙ used.2))
+        let low = used.1 in inr (
+          used.0,
+          used.1,
+          added.stayed used.0 (above slot used.0) (top f) (omega (arith, low))
+              (same used.0 (above slot used.0) (omega (arith, low)) ∙ used.2),
+        )
 
     large_before : (slot : ℕ) (large : Place) → IsOpenSlot start root first pages slot → slot < page → large_of new root (slot_of slot) ≡ Some large →
         large_of old root (slot_of slot) ≡ Some large
     large_before slot large whole lt is = go (some_or_none (large_of old root (slot_of slot)))
       where
-        go : ((m : Place) × (large_of old root (slot_of slot) ≡ Some m)) ⊎ (large_of old root (slot_of slot) ≡ None) → large_of old root (slot_of slot) ≡ Some large
+        go : ((m : Place) × (large_of old root (slot_of slot) ≡ Some m)) ⊎ (large_of old root (slot_of slot) ≡ None) →
+            large_of old root (slot_of slot) ≡ Some large
         go (inl p) =
             let s = large_stayed (slot_of slot) p.0 p.1 in
             let e : p.0 ≡ large = cc in

@@ -39,7 +39,8 @@ slots_start words free root first pages slot rights tree before = record {
 }
 
 -- the slot to go on to depends only on the slots that lie whole in the range
-pub slots_to : (old mid : List ℕ) (free free1 : List Bool) (root first pages slot stop : ℕ) (rights : Rights) → AreSlotsAdded old mid free free1 root first pages slot rights →
+pub slots_to : (old mid : List ℕ) (free free1 : List Bool) (root first pages slot stop : ℕ) (rights : Rights) →
+    AreSlotsAdded old mid free free1 root first pages slot rights →
     ((s : ℕ) → IsOpenSlot old root first pages s → s < slot → s < stop) → ((s : ℕ) → IsOpenSlot old root first pages s → s < stop → s < slot) →
     AreSlotsAdded old mid free free1 root first pages stop rights
 slots_to old mid free free1 root first pages slot stop rights added before behind = record {
@@ -96,7 +97,8 @@ module _ (old mid : List ℕ) (free free1 : List Bool) (root first pages slot : 
   slot_room =
       let c = before.pages_added.count in
       let u = unmapped_all old root first pages range (λ k lt. sym (walk_reach old root (first + k)) ∙ unmapped k lt) in
-      let v = unmapped_piece first pages (512 * slot) 512 range from to (omega arith) mid root (λ k lt. sym (walk_reach mid root (512 * slot + k)) ∙ free_now k lt) in
+      let v = unmapped_piece first pages (512 * slot) 512 range from to (omega arith) mid root
+      (λ k lt. sym (walk_reach mid root (512 * slot + k)) ∙ free_now k lt) in
       let m = missing_inside first pages (512 * slot) 1 range from (omega arith) mid root in
       let o = missing_one mid root (512 * slot) in
       omega arith
@@ -122,7 +124,8 @@ module _ (old mid : List ℕ) (free free1 : List Bool) (root first pages slot : 
     lowest_tables = before.lowest_tables;
   }
     where
-      lowest : (s run : ℕ) (large : Place) → IsOpenSlot old root first pages s → s < slot + 1 → (s < slot) ⊎ (slot ≤ s) → large_of mid root (slot_of s) ≡ Some large →
+      lowest : (s run : ℕ) (large : Place) → IsOpenSlot old root first pages s → s < slot + 1 → (s < slot) ⊎ (slot ≤ s) →
+          large_of mid root (slot_of s) ≡ Some large →
           512 * run < large.frame → IsRunFree free run →
           ((f earlier : ℕ) → f / 512 ≡ run → IsOpenSlot old root first pages earlier → earlier < s → ¬ (IsUsedFor mid root earlier f)) → ⊥
       lowest s run large whole lt (inl x) is less was unused = before.lowest_runs s run large whole x is less was unused

@@ -57,7 +57,8 @@ module _ (first pages : ℕ)
       ap (λ p. p.frame) q
 
   -- the slot of a large page has no table
-  no_third : (words : List ℕ) (root n i f : ℕ) (large : Place) → large_of words root (slot_of (first / 512)) ≡ Some large → among first pages (512 * n + i) ≡ true →
+  no_third : (words : List ℕ) (root n i f : ℕ) (large : Place) → large_of words root (slot_of (first / 512)) ≡ Some large →
+      among first pages (512 * n + i) ≡ true →
       i < 512 → reach words root 3 n ≡ Some (top f) → ⊥
   no_third words root n i f large was x li at =
       let j = index (512 * n + i) x in
@@ -80,7 +81,8 @@ module _ (first pages : ℕ)
           IsSome (reach words root 3 (prefix_of (first + k) 3))
       go place (inl x) = let t : reach words root 3 (prefix_of (first + k) 3) ≡ Some x.table = ap (reach words root 3) (sym e) ∙ x.met in rw t refl
       go place (inr x) =
-          let t : large_of words root (slot_of (first / 512)) ≡ Some x.large = ap (large_of words root) (sym (slot_at k lt)) ∙ (ap (large_of words root) (sym e) ∙ x.met) in
+          let t : large_of words root (slot_of (first / 512)) ≡ Some x.large = ap (large_of words root) (sym (slot_at k lt))
+          ∙ (ap (large_of words root) (sym e) ∙ x.met) in
           absurd (cc)
 
   -- a large page of the slot ends with the pages

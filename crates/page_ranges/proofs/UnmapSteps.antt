@@ -143,7 +143,8 @@ module _ (old mid new : List ℕ) (free free1 free' : List Bool) (root first p q
   third_stays : (f i n : ℕ) → i < 512 → reach mid root 3 n ≡ Some (top f) → among (first + p) q (512 * n + i) ≡ false → word_at new f i ≡ word_at mid f i
   third_stays f i n li at out =
       b.entries.words f i li
-      (λ m here. let d = tree_mid.distinct 3 m 3 n (top f) (top f) (omega arith) (omega arith) (λ _ _. refl) here at refl in ap (λ k. among (first + p) q (512 * k + i)) d.1 ∙ out)
+      (λ m here. let d = tree_mid.distinct 3 m 3 n (top f) (top f) (omega arith) (omega arith) (λ _ _. refl) here at refl in
+      ap (λ k. among (first + p) q (512 * k + i)) d.1 ∙ out)
       (λ m here. let d = tree_mid.distinct 2 m 3 n (top f) (top f) (omega arith) (omega arith) (λ _ _. refl) here at refl in absurd (omega (arith, d.0)))
       (λ large it _. whole large it)
 
@@ -162,7 +163,8 @@ module _ (old mid new : List ℕ) (free free1 free' : List Bool) (root first p q
   large_between : (n : ℕ) → large_of new root n ≡ large_of old root n → large_of new root n ≡ large_of mid root n
   large_between n keeps = go (some_or_none (large_of mid root n)) (some_or_none (large_of new root n))
     where
-      go : ((m : Place) × (large_of mid root n ≡ Some m)) ⊎ (large_of mid root n ≡ None) → ((m : Place) × (large_of new root n ≡ Some m)) ⊎ (large_of new root n ≡ None) →
+      go : ((m : Place) × (large_of mid root n ≡ Some m)) ⊎ (large_of mid root n ≡ None) →
+          ((m : Place) × (large_of new root n ≡ Some m)) ⊎ (large_of new root n ≡ None) →
           large_of new root n ≡ large_of mid root n
       go (inl m) _ = keeps ∙ (unmapped_large old mid free free1 root first p some tree a range_a n m.0 m.1 ∙ sym m.1)
       go (inr none) (inr gone) = gone ∙ sym none
@@ -220,7 +222,8 @@ module _ (old mid new : List ℕ) (free free1 free' : List Bool) (root first p q
     large_words = large_words;
     table_word = λ f large it at.
         let m : 512 * prefix_of first 2 + prefix_of first 3 % 512 ≡ prefix_of first 3 = prefix_more first 2 (omega arith) in
-        second_stays f (prefix_of first 3 % 512) (prefix_of first 2) (omega arith) (unmapped_tables old mid free free1 root first p some tree a 2 (prefix_of first 2) (top f) (omega arith) at)
+        second_stays f (prefix_of first 3 % 512) (prefix_of first 2) (omega arith)
+        (unmapped_tables old mid free free1 root first p some tree a 2 (prefix_of first 2) (top f) (omega arith) at)
         (ap (large_of mid root) m ∙ first_none) (ap (large_of new root) m ∙ first_gone)
         ∙ a.entries.table_word f large it at;
     kept_words = λ k large it lt. table_stays k large it (omega arith) ∙ a.entries.kept_words k large it lt;
@@ -367,4 +370,5 @@ module _ (old now : List ℕ) (free free1 : List Bool) (root first pages done co
           rw y (rw (x, w, f) at b)
       go (inr lt) =
           unmapped_more old now new free free1 free' root first done count
-          (piece_range first pages first (done + count) range (omega arith) (omega arith) (omega arith)) lt some (l.at_slot lt (omega arith)) tree (l.unmapped lt) b
+          (piece_range first pages first (done + count) range (omega arith) (omega arith) (omega arith)) lt some
+          (l.at_slot lt (omega arith)) tree (l.unmapped lt) b

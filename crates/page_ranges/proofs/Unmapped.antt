@@ -143,7 +143,8 @@ module _ (old new : List ℕ) (free free' : List Bool) (root first pages : ℕ)
   -- no place but the new table is at its frame
   not_new : (l n k j : ℕ) (x y : Place) → k ≤ 4 → IsNewTable l n x → IsOld k j y → x.frame ≡ y.frame → ⊥
   not_new l n k j x y le t o e =
-      let d = tree.distinct 4 (prefix_of first 4) k j (page_in (first % 512) t.large) y (omega arith) le (λ _ _. refl) (cut_page old root first t.large t.cut) o.was
+      let d = tree.distinct 4 (prefix_of first 4) k j (page_in (first % 512) t.large) y (omega arith) le (λ _ _. refl)
+      (cut_page old root first t.large t.cut) o.was
       (sym (ap (λ p. p.frame) t.framed) ∙ e) in
       let out = o.outside (sym d.0) in
       let is : among first pages j ≡ true = ap (among first pages) (sym d.1) ∙ first_among in
@@ -169,7 +170,8 @@ module _ (old new : List ℕ) (free free' : List Bool) (root first pages : ℕ)
   unmapped_tables l n met lt is = a.tables_stay l n lt small ∙ is
     where
       small : l ≡ 3 → n ≡ prefix_of first 3 → is_cut old root first ≡ false
-      small e f = no_cut_small old root first (table_none old root (prefix_of first 3) met (ap (reach old root 3) (sym f) ∙ (ap (λ k. reach old root k n) (sym e) ∙ is)))
+      small e f = no_cut_small old root first (table_none old root (prefix_of first 3) met
+          (ap (reach old root 3) (sym f) ∙ (ap (λ k. reach old root k n) (sym e) ∙ is)))
 
   -- what is met at level 4 was met before
   page_before : (n : ℕ) (met : Place) → reach new root 4 n ≡ Some met → (reach old root 4 n ≡ Some met) × (among first pages n ≡ false)
@@ -187,7 +189,8 @@ module _ (old new : List ℕ) (free free' : List Bool) (root first pages : ℕ)
       (λ m at. absurd (let d = tree.distinct 3 m 4 n (top met.frame) met (omega arith) (omega arith) (λ _ _. refl) at p.0 refl in omega (arith, d.0)))
       (λ m at. absurd (let d = tree.distinct 2 m 4 n (top met.frame) met (omega arith) (omega arith) (λ _ _. refl) at p.0 refl in omega (arith, d.0)))
       (λ large it e.
-      let d = tree.distinct 4 (prefix_of first 4) 4 n (page_in (first % 512) large) met (omega arith) (omega arith) (λ _ _. refl) (cut_page old root first large it) p.0 (sym e) in
+      let d = tree.distinct 4 (prefix_of first 4) 4 n (page_in (first % 512) large) met (omega arith) (omega arith)
+      (λ _ _. refl) (cut_page old root first large it) p.0 (sym e) in
       let is : among first pages n ≡ true = ap (among first pages) (sym d.1) ∙ first_among in
       let out = p.1 in
       cc)
@@ -229,14 +232,16 @@ module _ (old new : List ℕ) (free free' : List Bool) (root first pages : ℕ)
         let b = large_below old root (prefix_of first 3) large it.there in
         let s = large_small old root (prefix_of first 3) large it.there in
         let z = a.size in
-        rw e (λ _. plain_page new (large.frame + i) (record { write = large.write; user = large.user; fetch = large.fetch }) (omega (arith, s, b.0)) (omega (arith, b.1)))
+        rw e (λ _. plain_page new (large.frame + i) (record { write = large.write; user = large.user; fetch = large.fetch })
+        (omega (arith, s, b.0)) (omega (arith, b.1)))
     in_table large it i li (inr hi) = plain_zero new 3 (word_at new (large.frame + first % 512) i) (a.entries.blank i large it hi li)
 
     -- no table that was there is at the frame of the new one
     not_cut : (l n : ℕ) (met : Place) → l < 4 → reach old root l n ≡ Some met → (large : Place) → IsCutPage old root first large →
         met.frame ≡ large.frame + first % 512 → ⊥
     not_cut l n met lt at large it e =
-        let d = tree.distinct 4 (prefix_of first 4) l n (page_in (first % 512) large) met (omega arith) (omega arith) (λ _ _. refl) (cut_page old root first large it) at (sym e) in
+        let d = tree.distinct 4 (prefix_of first 4) l n (page_in (first % 512) large) met (omega arith) (omega arith)
+        (λ _ _. refl) (cut_page old root first large it) at (sym e) in
         absurd (omega (arith, d.0))
 
     -- a word that stays
@@ -246,7 +251,8 @@ module _ (old new : List ℕ) (free free' : List Bool) (root first pages : ℕ)
     stays_plain l n i met lt li at pages_out larges_out =
         plain_kept old new l (word_at old met.frame i) (word_at new met.frame i) a.size
         (a.entries.words met.frame i li
-        (λ m here. let d = tree.distinct 3 m l n (top met.frame) met (omega arith) (omega arith) (λ _ _. refl) here at refl in ap (λ k. among first pages (512 * k + i)) d.1 ∙ pages_out d.0)
+        (λ m here. let d = tree.distinct 3 m l n (top met.frame) met (omega arith) (omega arith) (λ _ _. refl) here at refl
+        in ap (λ k. among first pages (512 * k + i)) d.1 ∙ pages_out d.0)
         (λ m here.
         let d = tree.distinct 2 m l n (top met.frame) met (omega arith) (omega arith) (λ _ _. refl) here at refl in
         ap (λ k. large_of new root (512 * k + i)) d.1 ∙ (larges_out d.0 ∙ ap (λ k. large_of old root (512 * k + i)) (sym d.1)))

@@ -82,14 +82,16 @@ module _ (area : Area) (words real : List ℕ) (root page width : ℕ) (free : L
       ap (λ w. past width 2 w (past_three width page real at_two w))
       (same 2 (page / 2 ^ 18 % 2 ^ 18) at_two (page / 2 ^ 9 % 512) (omega arith) (second_met words root page width tree.plain reaches e f) (omega arith))
       ∙ past_same width 2 entry_three (past_three width page real at_two entry_three) (past_three width page words at_two entry_three)
-      (λ g. onward_same (has_bit entry_three 7) (AtPage (within (2 ^ 9) page at_three)) (walk_four width page real at_three) (walk_four width page words at_three) (four e f g))
+      (λ g. onward_same (has_bit entry_three 7) (AtPage (within (2 ^ 9) page at_three)) (walk_four width page real at_three)
+      (walk_four width page words at_three) (four e f g))
 
   two : has_bit entry_one 0 ≡ true → walk_two width page real at_one ≡ walk_two width page words at_one
   two e =
       ap (λ w. past width 1 w (past_two width page real at_one w))
       (same 1 (page / 2 ^ 27 % 512) at_one (page / 2 ^ 18 % 512) (omega arith) (first_met words root page width tree.plain reaches e) (omega arith))
       ∙ past_same width 1 entry_two (past_two width page real at_one entry_two) (past_two width page words at_one entry_two)
-      (λ f. onward_same (has_bit entry_two 7) (AtPage (within (2 ^ 18) page at_two)) (walk_three width page real at_two) (walk_three width page words at_two) (λ _. three e f))
+      (λ f. onward_same (has_bit entry_two 7) (AtPage (within (2 ^ 18) page at_two)) (walk_three width page real at_two)
+      (walk_three width page words at_two) (λ _. three e f))
 
   one : walk_one width page real (top root) ≡ walk_one width page words (top root)
   one =

@@ -16,7 +16,8 @@ pub free_inside : (area : Area) (free : List Bool) (count : ℕ) → FreeIn area
 free_inside Whole free count known f is = refl
 free_inside (Part first end) free count known f is = (known f is).0
 
-pub free_in : (area : Area) (free : List Bool) (count : ℕ) → FreeBelow free count → ((f : ℕ) → is_free free f ≡ true → in_area area f ≡ true) → FreeIn area free count
+pub free_in : (area : Area) (free : List Bool) (count : ℕ) → FreeBelow free count →
+    ((f : ℕ) → is_free free f ≡ true → in_area area f ≡ true) → FreeIn area free count
 free_in Whole free count below inside = below
 free_in (Part first end) free count below inside = λ f is. (inside f is, below f is)
 
@@ -55,7 +56,8 @@ run_unmet_at (Part from end) words root first unmet k l n b lk le whole is e = g
     go (inr ne) = unmet k l n b lk (omega arith) is e
 
 -- a tree in an area, by another name of it
-pub tree_moved : (area area' : Area) (words : List ℕ) (root : ℕ) (free : List Bool) → area' ≡ area → IsTreeIn area words root free → IsTreeIn area' words root free
+pub tree_moved : (area area' : Area) (words : List ℕ) (root : ℕ) (free : List Bool) → area' ≡ area →
+    IsTreeIn area words root free → IsTreeIn area' words root free
 tree_moved area area' words root free e tree = rw e tree
 
 pub known_moved : (area area' : Area) (free : List Bool) (count : ℕ) → area' ≡ area → FreeIn area free count → FreeIn area' free count

@@ -61,7 +61,8 @@ pub missing_one : (words : List ℕ) (root page : ℕ) → missing_of words root
 missing_one words root page =
     let e : page + 0 ≡ page = omega arith in
     let h : missing_of words root page 1 ≡ absent_for words root page page 1 + absent_for words root page page 2 + absent_for words root page page 3 =
-    missing_by_level words root page 0 ∙ ap (λ last. absent_for words root page last 1 + absent_for words root page last 2 + absent_for words root page last 3) e in
+    missing_by_level words root page 0 ∙ ap (λ last. absent_for words root page last 1 + absent_for words root page last
+    2 + absent_for words root page last 3) e in
     let a = one 1 in
     let b = one 2 in
     let c = one 3 in
@@ -79,7 +80,8 @@ pub absent_all : (words : List ℕ) (root level count from : ℕ) →
 absent_all words root level zero from h = absent_none words root level from
 absent_all words root level (suc count) from h =
     let e : reach words root level from ≡ None = h from (omega arith) (omega arith) in
-    rw (absent_suc words root level from count, e) (let k = absent_all words root level count (from + 1) (λ n lo hi. h n (omega arith) (omega arith)) in omega arith)
+    rw (absent_suc words root level from count, e) (let k = absent_all words root level count (from + 1)
+    (λ n lo hi. h n (omega arith) (omega arith)) in omega arith)
 
 -- if each has one, none is
 pub absent_one_present : (words : List ℕ) (root level from : ℕ) (m : Place) → reach words root level from ≡ Some m → absent words root level from 1 ≡ 0
@@ -96,7 +98,8 @@ none_under words root level (suc d) n le e =
     let a : level + suc d ≡ suc (level + d) = omega arith in
     let b : n / 2 ^ 9 / 2 ^ (9 * d) ≡ n / 2 ^ (9 + 9 * d) = shr-shr n 9 (9 * d) in
     let c : 9 + 9 * d ≡ 9 * suc d = omega arith in
-    let h : reach words root (level + d) (n / 512) ≡ None = none_under words root level d (n / 512) (omega arith) (ap (reach words root level) (b ∙ ap (λ k. n / 2 ^ k) c) ∙ e) in
+    let h : reach words root (level + d) (n / 512) ≡ None = none_under words root level d (n / 512) (omega arith)
+    (ap (reach words root level) (b ∙ ap (λ k. n / 2 ^ k) c) ∙ e) in
     rw (a, reach_suc words root (level + d) n (omega arith), h) refl
 
 -- the prefix one level on, in the walk along a prefix of `level` indices
@@ -105,7 +108,8 @@ ancestor n level met lt =
     let e : 9 * (level - (met + 1)) + 9 ≡ 9 * (level - met) = omega arith in
     shr-shr n (9 * (level - (met + 1))) 9 ∙ ap (λ k. n / 2 ^ k) e
 
-reach_one : (words : List ℕ) (root level n : ℕ) → level < 3 → reach words root (level + 1) n ≡ next_from words level (reach words root level (n / 512)) (n % 512)
+reach_one : (words : List ℕ) (root level n : ℕ) → level < 3 → reach words root (level + 1) n ≡ next_from words level
+    (reach words root level (n / 512)) (n % 512)
 reach_one words root level n lt = let s : level + 1 ≡ suc level = omega arith in ap (λ k. reach words root k n) s ∙ reach_suc words root level n lt
 
 pub reach_on : (words : List ℕ) (root n level met : ℕ) (at : Place) → level < 4 → met < level →

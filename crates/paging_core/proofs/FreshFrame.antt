@@ -7,7 +7,8 @@ use Rattle.paging_core.proofs.Words.{length_cleared, word_at_cleared_same, word_
 use Rattle.paging_core.proofs.Made.{taken_flag, fewer_flags, taken_count}
 
 -- a frame that is free still was free before, if none was given back
-pub free_before : (free free' : List Bool) → ((f : ℕ) → is_free free f ≡ false → is_free free' f ≡ false) → (f : ℕ) → is_free free' f ≡ true → is_free free f ≡ true
+pub free_before : (free free' : List Bool) → ((f : ℕ) → is_free free f ≡ false → is_free free' f ≡ false) → (f : ℕ) →
+    is_free free' f ≡ true → is_free free f ≡ true
 free_before free free' fewer f e = go (cases_Bool (is_free free f))
   where
     go : (is_free free f ≡ true) ⊎ (is_free free f ≡ false) → is_free free f ≡ true

@@ -40,14 +40,86 @@ large_bits n lt rights = go rights.write rights.user rights.fetch
   where
     go : (write user fetch : Bool) →
         IsLargeWord (large_entry n (record { write = write; user = user; fetch = fetch })) n (record { write = write; user = user; fetch = fetch })
-    go true true true = record { names = omega arith; present = grind (arith, nat_tests); writable = grind (arith, nat_tests); usable = grind (arith, nat_tests); large = grind (arith, nat_tests); executable = grind (arith, nat_tests) }
-    go true true false = record { names = omega arith; present = grind (arith, nat_tests); writable = grind (arith, nat_tests); usable = grind (arith, nat_tests); large = grind (arith, nat_tests); executable = grind (arith, nat_tests) }
-    go true false true = record { names = omega arith; present = grind (arith, nat_tests); writable = grind (arith, nat_tests); usable = grind (arith, nat_tests); large = grind (arith, nat_tests); executable = grind (arith, nat_tests) }
-    go true false false = record { names = omega arith; present = grind (arith, nat_tests); writable = grind (arith, nat_tests); usable = grind (arith, nat_tests); large = grind (arith, nat_tests); executable = grind (arith, nat_tests) }
-    go false true true = record { names = omega arith; present = grind (arith, nat_tests); writable = grind (arith, nat_tests); usable = grind (arith, nat_tests); large = grind (arith, nat_tests); executable = grind (arith, nat_tests) }
-    go false true false = record { names = omega arith; present = grind (arith, nat_tests); writable = grind (arith, nat_tests); usable = grind (arith, nat_tests); large = grind (arith, nat_tests); executable = grind (arith, nat_tests) }
-    go false false true = record { names = omega arith; present = grind (arith, nat_tests); writable = grind (arith, nat_tests); usable = grind (arith, nat_tests); large = grind (arith, nat_tests); executable = grind (arith, nat_tests) }
-    go false false false = record { names = omega arith; present = grind (arith, nat_tests); writable = grind (arith, nat_tests); usable = grind (arith, nat_tests); large = grind (arith, nat_tests); executable = grind (arith, nat_tests) }
+    go true true true = record {
+      names = omega arith;
+      present = grind (arith, nat_tests);
+      writable =
+          grind (arith, nat_tests);
+      usable = grind (arith, nat_tests);
+      large = grind (arith, nat_tests);
+      executable =
+          grind (arith, nat_tests);
+    }
+    go true true false = record {
+      names = omega arith;
+      present = grind (arith, nat_tests);
+      writable =
+          grind (arith, nat_tests);
+      usable = grind (arith, nat_tests);
+      large = grind (arith, nat_tests);
+      executable =
+          grind (arith, nat_tests);
+    }
+    go true false true = record {
+      names = omega arith;
+      present = grind (arith, nat_tests);
+      writable =
+          grind (arith, nat_tests);
+      usable = grind (arith, nat_tests);
+      large = grind (arith, nat_tests);
+      executable =
+          grind (arith, nat_tests);
+    }
+    go true false false = record {
+      names = omega arith;
+      present = grind (arith, nat_tests);
+      writable =
+          grind (arith, nat_tests);
+      usable = grind (arith, nat_tests);
+      large = grind (arith, nat_tests);
+      executable =
+          grind (arith, nat_tests);
+    }
+    go false true true = record {
+      names = omega arith;
+      present = grind (arith, nat_tests);
+      writable =
+          grind (arith, nat_tests);
+      usable = grind (arith, nat_tests);
+      large = grind (arith, nat_tests);
+      executable =
+          grind (arith, nat_tests);
+    }
+    go false true false = record {
+      names = omega arith;
+      present = grind (arith, nat_tests);
+      writable =
+          grind (arith, nat_tests);
+      usable = grind (arith, nat_tests);
+      large = grind (arith, nat_tests);
+      executable =
+          grind (arith, nat_tests);
+    }
+    go false false true = record {
+      names = omega arith;
+      present = grind (arith, nat_tests);
+      writable =
+          grind (arith, nat_tests);
+      usable = grind (arith, nat_tests);
+      large = grind (arith, nat_tests);
+      executable =
+          grind (arith, nat_tests);
+    }
+    go false false false = record {
+      names = omega arith;
+      present = grind (arith, nat_tests);
+      writable =
+          grind (arith, nat_tests);
+      usable = grind (arith, nat_tests);
+      large = grind (arith, nat_tests);
+      executable =
+          grind (arith, nat_tests);
+    }
 
 pub step_large : (words : List ℕ) (t j frame : ℕ) (rights : Rights) → frame < 2 ^ 40 → frame % 512 ≡ 0 → frame + 511 < frame_count words →
     word_at words t j ≡ large_entry frame rights → large_step words (top t) j ≡ Some (granted frame rights)
@@ -197,7 +269,8 @@ module _ {area : Area} (old mid new : List ℕ) (free free' : List Bool) (root p
     where
       kept : (l n i : ℕ) (b : Place) → l < 4 → i < 512 → reach mid root l n ≡ Some b → (b.frame ≡ table → i ≡ index → ⊥) →
           has_bit (word_at new b.frame i) 0 ≡ true → IsPlain new l (word_at new b.frame i)
-      kept l n i b lt li is ne = plain_kept mid new l (word_at mid b.frame i) (word_at new b.frame i) size (word_stays b.frame i li ne) (tree.plain.each l n i b lt li is)
+      kept l n i b lt li is ne = plain_kept mid new l (word_at mid b.frame i) (word_at new b.frame i) size
+          (word_stays b.frame i li ne) (tree.plain.each l n i b lt li is)
 
       plain_of : (l n i : ℕ) (b : Place) → l < 4 → i < 512 → reach mid root l n ≡ Some b → (b.frame ≡ table) ⊎ (b.frame ≡ table → ⊥) →
           (i ≡ index) ⊎ (i ≡ index → ⊥) → has_bit (word_at new b.frame i) 0 ≡ true → IsPlain new l (word_at new b.frame i)
@@ -329,7 +402,8 @@ module _ {area : Area} (old mid new : List ℕ) (free free' : List Bool) (root p
       go (inr ne) _ =
           words_of f i li
           (λ k lk now. let p : (l ≡ k) × (n ≡ above page k) =
-          large_tree.distinct l n k (above page k) (top f) (top f) (omega arith) (omega arith) (λ x y. absurd (omega arith)) (stayed l n (top f) (omega arith) was) now refl in
+          large_tree.distinct l n k (above page k) (top f) (top f) (omega arith) (omega arith) (λ x y. absurd (omega arith))
+          (stayed l n (top f) (omega arith) was) now refl in
           ne (p.1 ∙ ap (above page) (sym p.0)))
 
   blank : (l n f i : ℕ) → l < 4 → i < 512 → reach old root l n ≡ None → reach new root l n ≡ Some (top f) →
@@ -403,7 +477,8 @@ module _ {area : Area} (old mid new : List ℕ) (free free' : List Bool) (root p
       let now : reach new root 4 (prefix_of (address / 4096) 4) ≡ Some p.0 = stayed 4 (prefix_of (address / 4096) 4) p.0 (omega arith) was in
       same_byte old new root address p.0 p.0 p.1 (walk_reach new root (address / 4096) ∙ now) refl
       (words_of p.0.frame (address % 4096 / 8) (omega arith)
-      (λ l lt here. let d = large_tree.distinct 4 (prefix_of (address / 4096) 4) l (above page l) p.0 (top p.0.frame) (omega arith) (omega arith) (λ x y. absurd (omega arith)) now here refl in
+      (λ l lt here. let d = large_tree.distinct 4 (prefix_of (address / 4096) 4) l (above page l) p.0 (top p.0.frame)
+      (omega arith) (omega arith) (λ x y. absurd (omega arith)) now here refl in
       absurd (omega (arith, d.0))))
 
 -- a slot is distinguished from others by its indices

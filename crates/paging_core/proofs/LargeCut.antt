@@ -43,7 +43,8 @@ module _ (old new : List ℕ) (free free' : List Bool) (root page keep table : �
   its_page l n k b le lk is e =
       let p : (512 * slot_of page + k) / 512 ≡ slot_of page = omega arith in
       let q : (512 * slot_of page + k) % 512 ≡ k = omega arith in
-      let at : reach old root 4 (512 * slot_of page + k) ≡ Some (page_in k large) = at_page old root page large was (512 * slot_of page + k) p ∙ ap (λ j. Some (page_in j large)) q in
+      let at : reach old root 4 (512 * slot_of page + k) ≡ Some (page_in k large) =
+      at_page old root page large was (512 * slot_of page + k) p ∙ ap (λ j. Some (page_in j large)) q in
       tree.distinct l n 4 (512 * slot_of page + k) b (page_in k large) le (omega arith) (λ _ _. refl) is at e
 
   no_table : (l n : ℕ) (b : Place) → l < 4 → reach old root l n ≡ Some b → b.frame ≡ large.frame + keep → ⊥
@@ -60,18 +61,22 @@ module _ (old new : List ℕ) (free free' : List Bool) (root page keep table : �
   keep_in = let b = large_below old root (slot_of page) large was in omega (arith, b.1)
 
   table_now : reach new root 3 (slot_of page) ≡ Some (top (large.frame + keep))
-  table_now = slot_table old new root page keep table (large.frame + keep) large (omega arith) bounded (omega arith) keep_in was met size page_words entry same alone
+  table_now = slot_table old new root page keep table (large.frame + keep) large (omega arith) bounded (omega arith) keep_in
+      was met size page_words entry same alone
 
   others : (l n : ℕ) → l ≤ 4 → (l ≡ 3 → n ≡ slot_of page → ⊥) → (l ≡ 4 → n / 512 ≡ slot_of page → ⊥) → reach new root l n ≡ reach old root l n
-  others = slot_outside old new root page keep table (large.frame + keep) large (omega arith) bounded (omega arith) keep_in was met size page_words entry same alone
+  others = slot_outside old new root page keep table (large.frame + keep) large (omega arith) bounded (omega arith) keep_in
+      was met size page_words entry same alone
 
   -- the pages of the slot now
   inside_kept : (n : ℕ) → n / 512 ≡ slot_of page → n % 512 < keep → reach new root 4 n ≡ Some (page_in (n % 512) large)
-  inside_kept = slot_kept old new root page keep table (large.frame + keep) large (omega arith) bounded (omega arith) keep_in was met size page_words entry same alone
+  inside_kept = slot_kept old new root page keep table (large.frame + keep) large (omega arith) bounded (omega arith)
+      keep_in was met size page_words entry same alone
 
   inside_gone : (n : ℕ) → n / 512 ≡ slot_of page → keep ≤ n % 512 → reach new root 4 n ≡ None
   inside_gone n e le =
-      slot_inside old new root page keep table (large.frame + keep) large (omega arith) bounded (omega arith) keep_in was met size page_words entry same alone n e
+      slot_inside old new root page keep table (large.frame + keep) large (omega arith) bounded (omega arith) keep_in was
+      met size page_words entry same alone n e
       ∙ step_zero new 3 (top (large.frame + keep)) (n % 512) (blank (n % 512) le (omega arith))
 
   -- what is met now: a page that stays, the new table, or what was met outside the slot
@@ -111,7 +116,8 @@ module _ (old new : List ℕ) (free free' : List Bool) (root page keep table : �
           let q : top (large.frame + keep) ≡ b = cc in
           record { at_three = x; here = y; is = sym q }
 
-      go : (l ≡ 4) ⊎ (l ≡ 4 → ⊥) → (n / 512 ≡ slot_of page) ⊎ (n / 512 ≡ slot_of page → ⊥) → (l ≡ 3) ⊎ (l ≡ 3 → ⊥) → (n ≡ slot_of page) ⊎ (n ≡ slot_of page → ⊥) →
+      go : (l ≡ 4) ⊎ (l ≡ 4 → ⊥) → (n / 512 ≡ slot_of page) ⊎ (n / 512 ≡ slot_of page → ⊥) → (l ≡ 3) ⊎ (l ≡ 3 → ⊥) →
+          (n ≡ slot_of page) ⊎ (n ≡ slot_of page → ⊥) →
           IsKept l n b ⊎ (IsNewTable l n b ⊎ IsOutside l n b)
       go (inl x) (inl y) _ _ = four x y (cases_lt (n % 512) keep)
       go (inl x) (inr y) _ _ =
@@ -186,14 +192,16 @@ module _ (old new : List ℕ) (free free' : List Bool) (root page keep table : �
       -- an entry of the new table
       in_table : (i : ℕ) → i < 512 → (i < keep) ⊎ (keep ≤ i) → has_bit (word_at new (large.frame + keep) i) 0 ≡ true →
           IsPlain new 3 (word_at new (large.frame + keep) i)
-      in_table i li (inl lo) = slot_plain old new root page keep table (large.frame + keep) large (omega arith) bounded (omega arith) keep_in was met size page_words entry same alone i lo
+      in_table i li (inl lo) = slot_plain old new root page keep table (large.frame + keep) large (omega arith) bounded
+          (omega arith) keep_in was met size page_words entry same alone i lo
       in_table i li (inr hi) = plain_zero new 3 (word_at new (large.frame + keep) i) (blank i hi li)
 
       -- an entry of a table that was there
       stays_plain : (l n i : ℕ) (b : Place) → l < 4 → i < 512 → reach old root l n ≡ Some b → (b.frame ≡ table → i ≡ slot_of page % 512 → ⊥) →
           has_bit (word_at new b.frame i) 0 ≡ true → IsPlain new l (word_at new b.frame i)
       stays_plain l n i b lt li at ne =
-          plain_kept old new l (word_at old b.frame i) (word_at new b.frame i) size (words b.frame i li (no_table l n b lt at) ne) (tree.plain.each l n i b lt li at)
+          plain_kept old new l (word_at old b.frame i) (word_at new b.frame i) size
+          (words b.frame i li (no_table l n b lt at) ne) (tree.plain.each l n i b lt li at)
 
       was_there : (l n i : ℕ) (b : Place) → l < 4 → i < 512 → reach old root l n ≡ Some b → (b.frame ≡ table) ⊎ (b.frame ≡ table → ⊥) →
           (i ≡ slot_of page % 512) ⊎ (i ≡ slot_of page % 512 → ⊥) → has_bit (word_at new b.frame i) 0 ≡ true → IsPlain new l (word_at new b.frame i)
@@ -238,9 +246,11 @@ module _ (old new : List ℕ) (free free' : List Bool) (root page keep table : �
         walk_reach new root (512 * page + k)
         ∙ inside_gone (prefix_of (512 * page + k) 4) p.0 (let q : prefix_of (512 * page + k) 4 % 512 ≡ k = p.1 in omega arith);
     table = table_now;
-    no_large = slot_no_large old new root page keep table (large.frame + keep) large (omega arith) bounded (omega arith) keep_in was met size page_words entry same alone;
+    no_large = slot_no_large old new root page keep table (large.frame + keep) large (omega arith) bounded (omega arith)
+        keep_in was met size page_words entry same alone;
     others = others;
-    larges = slot_still old new root page keep table (large.frame + keep) large (omega arith) bounded (omega arith) keep_in was met size page_words entry same alone;
+    larges = slot_still old new root page keep table (large.frame + keep) large (omega arith) bounded (omega arith) keep_in
+        was met size page_words entry same alone;
     given = given;
     kept = kept;
     count = count;
@@ -332,7 +342,8 @@ module _ (old mid filled new : List ℕ) (free free' : List Bool) (root page kee
       let q : (512 * slot_of page + keep) % 512 ≡ keep = omega arith in
       let at : reach old root 4 (512 * slot_of page + keep) ≡ Some (page_in keep large) =
       reach_in old root (512 * slot_of page + keep) large (ap (large_of old root) p ∙ entry.found) ∙ ap (λ j. Some (page_in j large)) q in
-      let d = tree.distinct 2 (above page 2) 4 (512 * slot_of page + keep) (top table) (page_in keep large) (omega arith) (omega arith) (λ _ _. refl) met_top at (e ∙ is_made) in
+      let d = tree.distinct 2 (above page 2) 4 (512 * slot_of page + keep) (top table) (page_in keep large) (omega arith)
+      (omega arith) (λ _ _. refl) met_top at (e ∙ is_made) in
       absurd (omega (arith, d.0))
 
   mid_size : length mid ≡ length old
@@ -379,16 +390,20 @@ module _ (old mid filled new : List ℕ) (free free' : List Bool) (root page kee
   total = omega arith
 
   pub steps_tree : IsTree new root free'
-  steps_tree = cut_tree old new free free' root page keep table large some part (omega arith) tree entry.found met_top size flags page_words rest_blank entry_word words given kept total
+  steps_tree = cut_tree old new free free' root page keep table large some part (omega arith) tree entry.found met_top size
+      flags page_words rest_blank entry_word words given kept total
 
   pub steps_cut : IsLargeCut old new free free' root page keep
-  steps_cut = large_cut old new free free' root page keep table large some part (omega arith) tree entry.found met_top size flags page_words rest_blank entry_word words given kept total
+  steps_cut = large_cut old new free free' root page keep table large some part (omega arith) tree entry.found met_top size
+      flags page_words rest_blank entry_word words given kept total
 
   pub steps_elsewhere : (other : ℕ) → (other / 512 % 2 ^ 27 ≡ slot_of page → ⊥) → walk_of new root other ≡ walk_of old root other
-  steps_elsewhere = cut_elsewhere old new free free' root page keep table large some part (omega arith) tree entry.found met_top size flags page_words rest_blank entry_word words given kept total
+  steps_elsewhere = cut_elsewhere old new free free' root page keep table large some part (omega arith) tree entry.found
+      met_top size flags page_words rest_blank entry_word words given kept total
 
   pub steps_bytes : (address : ℕ) → IsSome (walk_of new root (address / 4096)) → reached new root address ≡ reached old root address
-  steps_bytes = cut_bytes old new free free' root page keep table large some part (omega arith) tree entry.found met_top size flags page_words rest_blank entry_word words given kept total
+  steps_bytes = cut_bytes old new free free' root page keep table large some part (omega arith) tree entry.found met_top
+      size flags page_words rest_blank entry_word words given kept total
 
   -- a frame is free below the count still
   pub steps_known : FreeBelow free (frame_count old) → FreeBelow free' (frame_count new)

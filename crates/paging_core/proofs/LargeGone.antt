@@ -120,7 +120,8 @@ module _ (old new : List ℕ) (root page value : ℕ) (large table : Place)
       met_before : (l n : ℕ) (b : Place) → l ≤ 4 → reach new root l n ≡ Some b → WasMet l n b
       met_before l n b le is = go (cases_eq l 4) (cases_eq (n / 512) (slot_of page))
         where
-          in_slot : l ≡ 4 → n / 512 ≡ slot_of page → ((now : Place) × (large_step new table (slot_of page % 512) ≡ Some now)) ⊎ (large_step new table (slot_of page % 512) ≡ None) →
+          in_slot : l ≡ 4 → n / 512 ≡ slot_of page → ((now : Place) × (large_step new table (slot_of page % 512) ≡ Some
+              now)) ⊎ (large_step new table (slot_of page % 512) ≡ None) →
               WasMet l n b
           in_slot x y (inl p) =
               let i = entry_pages n p.0 y p.1 in
@@ -157,7 +158,10 @@ module _ (old new : List ℕ) (root page value : ℕ) (large table : Place)
             tree.distinct l n k j p.before q.before ll lk apart p.at q.at (p.framed ∙ (e ∙ sym q.framed));
         used = λ l n b le is. let m = met_before l n b le is in ap (is_free free) (sym m.framed) ∙ tree.used l n m.before le m.at;
         inside = λ l n b lt is. tree.inside l n b lt (table_before l n b lt is);
-        plain = record { each = λ l n i b lt li is. plain_of l n i b lt li (table_before l n b lt is) (cases_eq b.frame table.frame) (cases_eq i (slot_of page % 512)) };
+        plain = record {
+          each = λ l n i b lt li is. plain_of l n i b lt li (table_before l n b lt is)
+              (cases_eq b.frame table.frame) (cases_eq i (slot_of page % 512));
+        };
       }
         where
           plain_of : (l n i : ℕ) (b : Place) → l < 4 → i < 512 → reach old root l n ≡ Some b → (b.frame ≡ table.frame) ⊎ (b.frame ≡ table.frame → ⊥) →
@@ -174,7 +178,8 @@ module _ (old new : List ℕ) (root page value : ℕ) (large table : Place)
           let m = met_before 4 (prefix_of (address / 4096) 4) p.0 (omega arith) now in
           same_byte old new root address m.before p.0 (walk_reach old root (address / 4096) ∙ m.at) p.1 (sym m.framed)
           (word_stays m.before.frame (address % 4096 / 8) (omega arith)
-          (λ e _. let d = tree.distinct 4 (prefix_of (address / 4096) 4) 2 (above page 2) m.before table (omega arith) (omega arith) (λ x y. absurd (omega arith)) m.at met e in
+          (λ e _. let d = tree.distinct 4 (prefix_of (address / 4096) 4) 2 (above page 2) m.before table (omega arith)
+          (omega arith) (λ x y. absurd (omega arith)) m.at met e in
           absurd (omega (arith, d.0))))
 
 -- ---- the entry is 0 now
@@ -202,7 +207,8 @@ module _ (old new : List ℕ) (root page : ℕ)
       gone = λ k lt.
           let p : prefix_of (512 * page + k) 4 / 512 ≡ slot_of page = omega arith in
           walk_reach new root (512 * page + k)
-          ∙ entry_none old new root page 0 one.large one.table root_in one.was one.met one.words free tree leads_nowhere (prefix_of (512 * page + k) 4) p maps_none;
+          ∙ entry_none old new root page 0 one.large one.table root_in one.was one.met one.words free tree leads_nowhere
+          (prefix_of (512 * page + k) 4) p maps_none;
       no_large = entry_large old new root page 0 one.large one.table root_in one.was one.met one.words free tree leads_nowhere ∙ maps_none;
       others = entry_others old new root page 0 one.large one.table root_in one.was one.met one.words free tree leads_nowhere;
       larges = entry_larges old new root page 0 one.large one.table root_in one.was one.met one.words free tree leads_nowhere;

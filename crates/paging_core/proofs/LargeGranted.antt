@@ -84,13 +84,15 @@ module _ (old new : List ℕ) (root page : ℕ) (rights : Rights)
     granted_bytes address = go (some_or_none (walk_of new root (address / 4096)))
       where
         gone : reach new root 4 (prefix_of (address / 4096) 4) ≡ None →
-            (prefix_of (address / 4096) 4 / 512 ≡ slot_of page) ⊎ (prefix_of (address / 4096) 4 / 512 ≡ slot_of page → ⊥) → reach old root 4 (prefix_of (address / 4096) 4) ≡ None
+            (prefix_of (address / 4096) 4 / 512 ≡ slot_of page) ⊎ (prefix_of (address / 4096) 4 / 512 ≡ slot_of page → ⊥) →
+            reach old root 4 (prefix_of (address / 4096) 4) ≡ None
         gone none (inl x) = let h = in_slot (prefix_of (address / 4096) 4) x in absurd (cc)
         gone none (inr x) =
             sym (entry_others old new root page (large_entry one.large.frame rights) one.large one.table root_in one.was one.met one.words free tree no_step
             4 (prefix_of (address / 4096) 4) (omega arith) (λ _ e. x e)) ∙ none
 
-        go : ((now : Place) × (walk_of new root (address / 4096) ≡ Some now)) ⊎ (walk_of new root (address / 4096) ≡ None) → reached new root address ≡ reached old root address
+        go : ((now : Place) × (walk_of new root (address / 4096) ≡ Some now)) ⊎ (walk_of new root (address / 4096) ≡ None) →
+            reached new root address ≡ reached old root address
         go (inl p) =
             entry_bytes old new root page (large_entry one.large.frame rights) one.large one.table root_in one.was one.met one.words free tree no_step keeps
             (λ _. plain_large new one.large.frame rights small frames.0 frames.1) address (rw p.1 refl)

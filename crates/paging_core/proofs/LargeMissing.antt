@@ -37,7 +37,8 @@ absent_at old new root level p m others there (suc count) from lo hi =
         let a = absent_suc new root level from count in
         let b = absent_suc old root level from count in
         let z : cond {A = ℕ} (is_none (reach new root level from)) 1 0 ≡ 0 = rw (e, there) refl in
-        let o : cond {A = ℕ} (is_none (reach old root level from)) 1 0 ≡ cond (is_none (reach old root level p)) 1 0 = ap (λ n. cond (is_none (reach old root level n)) 1 0) e in
+        let o : cond {A = ℕ} (is_none (reach old root level from)) 1 0 ≡ cond (is_none (reach old root level p)) 1 0 =
+        ap (λ n. cond (is_none (reach old root level n)) 1 0) e in
         omega arith
     go ih (inr ne) =
         let k = ih ne in
@@ -52,7 +53,8 @@ module _ (old new : List ℕ) (free free' : List Bool) (root page frame : ℕ) (
   there : (l : ℕ) → l < 3 → (m : Place) × (reach new root l (above page l) ≡ Some m)
   there l lt = go (some_or_none (reach old root l (above page l)))
     where
-      go : ((m : Place) × (reach old root l (above page l) ≡ Some m)) ⊎ (reach old root l (above page l) ≡ None) → (m : Place) × (reach new root l (above page l) ≡ Some m)
+      go : ((m : Place) × (reach old root l (above page l) ≡ Some m)) ⊎ (reach old root l (above page l) ≡ None) →
+          (m : Place) × (reach new root l (above page l) ≡ Some m)
       go (inl p) = (p.0, added.stayed l (above page l) p.0 (omega arith) p.1)
       go (inr none) = let t = added.made l lt none in (top t.0, t.1)
 

@@ -80,11 +80,13 @@ module _ (area : Area) (old filled new : List ℕ) (free free' : List Bool) (roo
   same l n b j lt is lj ne = words b.frame j lj (unmet l n b (omega arith) is) ne
 
   table_now : reach new root 3 (slot_of page) ≡ Some (top made)
-  table_now = slot_table old new root page 512 table made large (omega arith) (omega arith) small made_in entry.found met_top size page_words entry_word same alone
+  table_now = slot_table old new root page 512 table made large (omega arith) (omega arith) small made_in entry.found
+      met_top size page_words entry_word same alone
 
   kept : (n : ℕ) → n / 512 ≡ slot_of page → reach new root 4 n ≡ Some (page_in (n % 512) large)
   kept n e =
-      slot_kept old new root page 512 table made large (omega arith) (omega arith) small made_in entry.found met_top size page_words entry_word same alone n e (omega arith)
+      slot_kept old new root page 512 table made large (omega arith) (omega arith) small made_in entry.found met_top size
+      page_words entry_word same alone n e (omega arith)
 
   -- all that is met is met as before, but for the new table
   others : (l n : ℕ) → l ≤ 4 → (l ≡ 3 → n ≡ slot_of page → ⊥) → reach new root l n ≡ reach old root l n
@@ -92,7 +94,8 @@ module _ (area : Area) (old filled new : List ℕ) (free free' : List Bool) (roo
     where
       out : (l ≡ 4 → n / 512 ≡ slot_of page → ⊥) → reach new root l n ≡ reach old root l n
       out ne =
-          slot_outside old new root page 512 table made large (omega arith) (omega arith) small made_in entry.found met_top size page_words entry_word same alone
+          slot_outside old new root page 512 table made large (omega arith) (omega arith) small made_in entry.found met_top
+          size page_words entry_word same alone
           l n le away ne
 
       go : (l ≡ 4) ⊎ (l ≡ 4 → ⊥) → (n / 512 ≡ slot_of page) ⊎ (n / 512 ≡ slot_of page → ⊥) → reach new root l n ≡ reach old root l n
@@ -168,7 +171,8 @@ module _ (area : Area) (old filled new : List ℕ) (free free' : List Bool) (roo
       plain_of l n i b lt li (inl x) =
           let f = x.is in
           let g = x.at_three in
-          rw (f, g) (slot_plain old new root page 512 table made large (omega arith) (omega arith) small made_in entry.found met_top size page_words entry_word same alone i li)
+          rw (f, g) (slot_plain old new root page 512 table made large (omega arith) (omega arith) small made_in entry.found
+          met_top size page_words entry_word same alone i li)
       plain_of l n i b lt li (inr x) = was_there l n i b lt li x (cases_eq b.frame table) (cases_eq i (slot_of page % 512))
 
   number : (k : ℕ) → k < 512 → (prefix_of (512 * page + k) 4 / 512 ≡ slot_of page) × (prefix_of (512 * page + k) 4 % 512 ≡ k)
@@ -191,9 +195,11 @@ module _ (area : Area) (old filled new : List ℕ) (free free' : List Bool) (roo
         let p = number k lt in
         walk_reach new root (512 * page + k) ∙ (kept (prefix_of (512 * page + k) 4) p.0 ∙ ap (λ j. Some (page_in j large)) p.1);
     table = table_now;
-    no_large = slot_no_large old new root page 512 table made large (omega arith) (omega arith) small made_in entry.found met_top size page_words entry_word same alone;
+    no_large = slot_no_large old new root page 512 table made large (omega arith) (omega arith) small made_in entry.found
+        met_top size page_words entry_word same alone;
     others = others;
-    larges = slot_still old new root page 512 table made large (omega arith) (omega arith) small made_in entry.found met_top size page_words entry_word same alone;
+    larges = slot_still old new root page 512 table made large (omega arith) (omega arith) small made_in entry.found met_top
+        size page_words entry_word same alone;
     was_free = was_free;
     lowest = lowest;
     taken = taken;
@@ -215,12 +221,14 @@ module _ (area : Area) (old filled new : List ℕ) (free free' : List Bool) (roo
   pub split_bytes : (address : ℕ) → reached new root address ≡ reached old root address
   split_bytes address = go (some_or_none (walk_of old root (address / 4096)))
     where
-      go : ((was : Place) × (walk_of old root (address / 4096) ≡ Some was)) ⊎ (walk_of old root (address / 4096) ≡ None) → reached new root address ≡ reached old root address
+      go : ((was : Place) × (walk_of old root (address / 4096) ≡ Some was)) ⊎ (walk_of old root (address / 4096) ≡ None) →
+          reached new root address ≡ reached old root address
       go (inl p) =
           let at : reach old root 4 (prefix_of (address / 4096) 4) ≡ Some p.0 = sym (walk_reach old root (address / 4096)) ∙ p.1 in
           same_byte old new root address p.0 p.0 p.1 (split_walk (address / 4096) ∙ p.1) refl
           (words p.0.frame (address % 4096 / 8) (omega arith) (unmet 4 (prefix_of (address / 4096) 4) p.0 (omega arith) at)
-          (λ e _. let d = tree.distinct 4 (prefix_of (address / 4096) 4) 2 (above page 2) p.0 (top table) (omega arith) (omega arith) (λ x y. absurd (omega arith)) at met_top e in
+          (λ e _. let d = tree.distinct 4 (prefix_of (address / 4096) 4) 2 (above page 2) p.0 (top table) (omega arith)
+          (omega arith) (λ x y. absurd (omega arith)) at met_top e in
           absurd (omega (arith, d.0))))
       go (inr none) = let e : walk_of new root (address / 4096) ≡ None = split_walk (address / 4096) ∙ none in rw (none, e) refl
 

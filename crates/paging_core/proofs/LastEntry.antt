@@ -36,14 +36,70 @@ page_bits n lt rights = go rights.write rights.user rights.fetch
   where
     go : (write user fetch : Bool) →
         IsPageWord (page_entry n (record { write = write; user = user; fetch = fetch })) n (record { write = write; user = user; fetch = fetch })
-    go true true true = record { names = omega arith; present = grind (arith, nat_tests); writable = grind (arith, nat_tests); usable = grind (arith, nat_tests); executable = grind (arith, nat_tests) }
-    go true true false = record { names = omega arith; present = grind (arith, nat_tests); writable = grind (arith, nat_tests); usable = grind (arith, nat_tests); executable = grind (arith, nat_tests) }
-    go true false true = record { names = omega arith; present = grind (arith, nat_tests); writable = grind (arith, nat_tests); usable = grind (arith, nat_tests); executable = grind (arith, nat_tests) }
-    go true false false = record { names = omega arith; present = grind (arith, nat_tests); writable = grind (arith, nat_tests); usable = grind (arith, nat_tests); executable = grind (arith, nat_tests) }
-    go false true true = record { names = omega arith; present = grind (arith, nat_tests); writable = grind (arith, nat_tests); usable = grind (arith, nat_tests); executable = grind (arith, nat_tests) }
-    go false true false = record { names = omega arith; present = grind (arith, nat_tests); writable = grind (arith, nat_tests); usable = grind (arith, nat_tests); executable = grind (arith, nat_tests) }
-    go false false true = record { names = omega arith; present = grind (arith, nat_tests); writable = grind (arith, nat_tests); usable = grind (arith, nat_tests); executable = grind (arith, nat_tests) }
-    go false false false = record { names = omega arith; present = grind (arith, nat_tests); writable = grind (arith, nat_tests); usable = grind (arith, nat_tests); executable = grind (arith, nat_tests) }
+    go true true true = record {
+      names = omega arith;
+      present = grind (arith, nat_tests);
+      writable =
+          grind (arith, nat_tests);
+      usable = grind (arith, nat_tests);
+      executable = grind (arith, nat_tests);
+    }
+    go true true false = record {
+      names = omega arith;
+      present = grind (arith, nat_tests);
+      writable =
+          grind (arith, nat_tests);
+      usable = grind (arith, nat_tests);
+      executable = grind (arith, nat_tests);
+    }
+    go true false true = record {
+      names = omega arith;
+      present = grind (arith, nat_tests);
+      writable =
+          grind (arith, nat_tests);
+      usable = grind (arith, nat_tests);
+      executable = grind (arith, nat_tests);
+    }
+    go true false false = record {
+      names = omega arith;
+      present = grind (arith, nat_tests);
+      writable =
+          grind (arith, nat_tests);
+      usable = grind (arith, nat_tests);
+      executable = grind (arith, nat_tests);
+    }
+    go false true true = record {
+      names = omega arith;
+      present = grind (arith, nat_tests);
+      writable =
+          grind (arith, nat_tests);
+      usable = grind (arith, nat_tests);
+      executable = grind (arith, nat_tests);
+    }
+    go false true false = record {
+      names = omega arith;
+      present = grind (arith, nat_tests);
+      writable =
+          grind (arith, nat_tests);
+      usable = grind (arith, nat_tests);
+      executable = grind (arith, nat_tests);
+    }
+    go false false true = record {
+      names = omega arith;
+      present = grind (arith, nat_tests);
+      writable =
+          grind (arith, nat_tests);
+      usable = grind (arith, nat_tests);
+      executable = grind (arith, nat_tests);
+    }
+    go false false false = record {
+      names = omega arith;
+      present = grind (arith, nat_tests);
+      writable =
+          grind (arith, nat_tests);
+      usable = grind (arith, nat_tests);
+      executable = grind (arith, nat_tests);
+    }
 
 pub step_page : (words : List ℕ) (t j frame : ℕ) (rights : Rights) → frame < 2 ^ 40 → frame < frame_count words →
     word_at words t j ≡ page_entry frame rights → step words 3 (top t) j ≡ Some (granted frame rights)
@@ -140,7 +196,8 @@ module _ {area : Area} (old mid new : List ℕ) (free free' : List Bool) (root p
   larges n = link_larges mid new root 3 (prefix_of page 3) index (top table) (granted frame rights) free' link tree n ∙ prepared.larges n
 
   pub mapped_tree : IsTreeIn area new root free'
-  mapped_tree = tree_link mid new root 3 (prefix_of page 3) index (top table) (granted frame rights) free' link tree free' (λ l n b le whole. kept_unmet area old mid free free' root page frame used prepared unmet l n b le (whole refl))
+  mapped_tree = tree_link mid new root 3 (prefix_of page 3) index (top table) (granted frame rights) free' link tree free'
+      (λ l n b le whole. kept_unmet area old mid free free' root page frame used prepared unmet l n b le (whole refl))
       (λ lt. absurd (omega arith)) (λ lt. absurd (omega arith)) (prepared.fewer frame used) (λ f e. e)
 
   low : (l : ℕ) (n : ℕ) → l < 4 → reach new root l n ≡ reach mid root l n
@@ -161,7 +218,8 @@ module _ {area : Area} (old mid new : List ℕ) (free free' : List Bool) (root p
 
   -- the last table is met at its own prefix alone
   here_only : (l f : ℕ) → l < 4 → reach mid root l (prefix_of page l) ≡ Some (top f) → f ≡ table → l ≡ 3
-  here_only l f lt now e = (tree.distinct l (prefix_of page l) 3 (prefix_of page 3) (top f) (top table) (omega arith) (omega arith) (λ x y. absurd (omega arith)) now met e).0
+  here_only l f lt now e = (tree.distinct l (prefix_of page l) 3 (prefix_of page 3) (top f) (top table) (omega arith)
+      (omega arith) (λ x y. absurd (omega arith)) now met e).0
 
   was_low : (l n : ℕ) (m : Place) → l < 4 → reach new root l n ≡ Some m → reach mid root l n ≡ Some m
   was_low l n m lt now = sym (low l n lt) ∙ now
@@ -224,7 +282,8 @@ module _ {area : Area} (old mid new : List ℕ) (free free' : List Bool) (root p
   met_now : (l : ℕ) → l < 4 → (m : Place) × (reach new root (l + 1) (prefix_of page (l + 1)) ≡ Some m)
   met_now l lt = go (cases_lt l 3) (some_or_none (reach old root (l + 1) (prefix_of page (l + 1))))
     where
-      go : (l < 3) ⊎ (3 ≤ l) → ((m : Place) × (reach old root (l + 1) (prefix_of page (l + 1)) ≡ Some m)) ⊎ (reach old root (l + 1) (prefix_of page (l + 1)) ≡ None) →
+      go : (l < 3) ⊎ (3 ≤ l) → ((m : Place) × (reach old root (l + 1) (prefix_of page (l + 1)) ≡ Some m)) ⊎ (reach old root
+          (l + 1) (prefix_of page (l + 1)) ≡ None) →
           (m : Place) × (reach new root (l + 1) (prefix_of page (l + 1)) ≡ Some m)
       go (inr hi) _ = let e : l ≡ 3 = omega arith in (granted frame rights, rw e there)
       go (inl lo) (inl p) = (p.0, stayed (l + 1) (prefix_of page (l + 1)) p.0 (omega arith) p.1)
@@ -259,7 +318,8 @@ module _ {area : Area} (old mid new : List ℕ) (free free' : List Bool) (root p
       go (inr ne) _ =
           mapped_page_words f i li
           (λ k lk now. let p : (l ≡ k) × (n ≡ prefix_of page k) =
-          mapped_tree.distinct l n k (prefix_of page k) (top f) (top f) (omega arith) (omega arith) (λ x y. absurd (omega arith)) (stayed l n (top f) lt was) now refl in
+          mapped_tree.distinct l n k (prefix_of page k) (top f) (top f) (omega arith) (omega arith)
+          (λ x y. absurd (omega arith)) (stayed l n (top f) lt was) now refl in
           ne (p.1 ∙ ap (prefix_of page) (sym p.0)))
 
   -- what was not met and is met now is met on the way to the page

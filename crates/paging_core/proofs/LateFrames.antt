@@ -33,7 +33,8 @@ cleared_made words zs base n le =
     ∙ sym (append_assoc (take base words) (replicate n 0 ++ drop (base + n) words) zs)))
 
 unmade_is_zero : (words : List ℕ) (rest k : ℕ) → length words ≤ k → k < length words + rest → get_or (words ++ replicate rest 0) k 0 ≡ 0
-unmade_is_zero words rest k from to = get_or-append_right words (replicate rest 0) (length words) k 0 refl from ∙ get_or-replicate rest (k - length words) 0 0 (omega arith)
+unmade_is_zero words rest k from to = get_or-append_right words (replicate rest 0) (length words) k 0 refl from
+    ∙ get_or-replicate rest (k - length words) 0 0 (omega arith)
 
 -- words that are not made are clear
 pub cleared_unmade : (words : List ℕ) (rest base n : ℕ) → length words ≤ base → base + n ≤ length words + rest →
@@ -52,7 +53,8 @@ cleared_unmade words rest base n from to = ext_get_or 0 (with_zeros all base n) 
     size : length (with_zeros all base n) ≡ length all
     size = length-with_zeros all base n fits
 
-    go : (k : ℕ) → k < length (with_zeros all base n) → (k < base) ⊎ (base ≤ k) → (k < base + n) ⊎ (base + n ≤ k) → get_or (with_zeros all base n) k 0 ≡ get_or all k 0
+    go : (k : ℕ) → k < length (with_zeros all base n) → (k < base) ⊎ (base ≤ k) → (k < base + n) ⊎ (base + n ≤ k) →
+        get_or (with_zeros all base n) k 0 ≡ get_or all k 0
     go k lk (inl lo) _ = get_or-with_zeros_before all base n k fits lo
     go k lk (inr _) (inr hi) = get_or-with_zeros_after all base n k fits hi
     go k lk (inr lo) (inl hi) = get_or-with_zeros_inside all base n k fits lo hi ∙ sym (unmade_is_zero words rest k (omega arith) (omega arith))

@@ -44,13 +44,16 @@ module _ {area : Area} (old new : List ℕ) (root level prefix index : ℕ) (at 
 
   pub link_there : reach new root (suc level) (512 * prefix + index) ≡ Some to
   link_there =
-      reach_there old new root level prefix index at link.size link.index_bound link.level_bound link.here link.elsewhere alone below below_large large ∙ link.is
+      reach_there old new root level prefix index at link.size link.index_bound link.level_bound link.here link.elsewhere
+      alone below below_large large ∙ link.is
 
   pub link_others : (l n : ℕ) → l ≤ 4 → (l ≡ suc level → n ≡ 512 * prefix + index → ⊥) → reach new root l n ≡ reach old root l n
-  link_others = reach_others old new root level prefix index at link.size link.index_bound link.level_bound link.here link.elsewhere alone below below_large large
+  link_others = reach_others old new root level prefix index at link.size link.index_bound link.level_bound link.here
+      link.elsewhere alone below below_large large
 
   pub link_larges : (n : ℕ) → large_of new root n ≡ large_of old root n
-  link_larges = larges_others old new root level prefix index at link.size link.index_bound link.level_bound link.here link.elsewhere alone below below_large large
+  link_larges = larges_others old new root level prefix index at link.size link.index_bound link.level_bound link.here
+      link.elsewhere alone below below_large large
 
   -- what the new walk meets is the new place or an old one
   met : (l n : ℕ) (b : Place) → l ≤ 4 → reach new root l n ≡ Some b →
@@ -85,7 +88,8 @@ module _ {area : Area} (old new : List ℕ) (root level prefix index : ℕ) (at 
         plain_of l n i b lt li (inr x) = go (cases_eq b.frame at.frame) (cases_eq i index)
           where
             kept : (b.frame ≡ at.frame → i ≡ index → ⊥) → has_bit (word_at new b.frame i) 0 ≡ true → IsPlain new l (word_at new b.frame i)
-            kept ne = plain_kept old new l (word_at old b.frame i) (word_at new b.frame i) link.size (link.elsewhere b.frame i li ne) (tree.plain.each l n i b lt li x)
+            kept ne = plain_kept old new l (word_at old b.frame i) (word_at new b.frame i) link.size
+                (link.elsewhere b.frame i li ne) (tree.plain.each l n i b lt li x)
 
             go : (b.frame ≡ at.frame) ⊎ (b.frame ≡ at.frame → ⊥) → (i ≡ index) ⊎ (i ≡ index → ⊥) →
                 has_bit (word_at new b.frame i) 0 ≡ true → IsPlain new l (word_at new b.frame i)
@@ -97,11 +101,13 @@ module _ {area : Area} (old new : List ℕ) (root level prefix index : ℕ) (at 
         rights_of l n b lt (inl x) = let h : to ≡ top to.frame = rights (omega arith) in rw x.2 h
         rights_of l n b lt (inr x) = tree.rights l n b lt x
 
-        inside_of : (l n : ℕ) (b : Place) → l < 4 → ((l ≡ suc level) × (n ≡ 512 * prefix + index) × (b ≡ to)) ⊎ (reach old root l n ≡ Some b) → in_area area b.frame ≡ true
+        inside_of : (l n : ℕ) (b : Place) → l < 4 → ((l ≡ suc level) × (n ≡ 512 * prefix + index) × (b ≡ to)) ⊎ (reach old
+            root l n ≡ Some b) → in_area area b.frame ≡ true
         inside_of l n b lt (inl x) = let h = within (omega arith) in rw x.2 h
         inside_of l n b lt (inr x) = tree.inside l n b lt x
 
-        used_of : (l n : ℕ) (b : Place) → l ≤ 4 → ((l ≡ suc level) × (n ≡ 512 * prefix + index) × (b ≡ to)) ⊎ (reach old root l n ≡ Some b) → is_free free' b.frame ≡ false
+        used_of : (l n : ℕ) (b : Place) → l ≤ 4 → ((l ≡ suc level) × (n ≡ 512 * prefix + index) × (b ≡ to)) ⊎ (reach old
+            root l n ≡ Some b) → is_free free' b.frame ≡ false
         used_of l n b le (inl x) = rw x.2 taken
         used_of l n b le (inr x) = fewer b.frame (tree.used l n b le x)
 
@@ -109,6 +115,8 @@ module _ {area : Area} (old new : List ℕ) (root level prefix index : ℕ) (at 
             ((l ≡ suc level) × (n ≡ 512 * prefix + index) × (a ≡ to)) ⊎ (reach old root l n ≡ Some a) →
             ((k ≡ suc level) × (j ≡ 512 * prefix + index) × (b ≡ to)) ⊎ (reach old root k j ≡ Some b) → (l ≡ k) × (n ≡ j)
         distinct_of l n k j a b ll lk apart e (inl x) (inl y) = (omega arith, omega arith)
-        distinct_of l n k j a b ll lk apart e (inl x) (inr y) = absurd (fresh k j b lk (λ s f. apart (x.0 ∙ s) f) y (let h : a.frame ≡ to.frame = ap (λ m. m.frame) x.2 in sym e ∙ h))
-        distinct_of l n k j a b ll lk apart e (inr x) (inl y) = absurd (fresh l n a ll (λ s f. apart f (y.0 ∙ s)) x (let h : b.frame ≡ to.frame = ap (λ m. m.frame) y.2 in e ∙ h))
+        distinct_of l n k j a b ll lk apart e (inl x) (inr y) = absurd (fresh k j b lk (λ s f. apart (x.0 ∙ s) f) y
+            (let h : a.frame ≡ to.frame = ap (λ m. m.frame) x.2 in sym e ∙ h))
+        distinct_of l n k j a b ll lk apart e (inr x) (inl y) = absurd (fresh l n a ll (λ s f. apart f (y.0 ∙ s)) x
+            (let h : b.frame ≡ to.frame = ap (λ m. m.frame) y.2 in e ∙ h))
         distinct_of l n k j a b ll lk apart e (inr x) (inr y) = tree.distinct l n k j a b ll lk apart x y e

@@ -20,7 +20,8 @@ use Rattle.paging_core.proofs.Link.{IsLink, link_there, link_others, link_larges
 -- ---- one step
 
 table_bits : (f : ℕ) → f < 2 ^ 40 →
-    (frame_of (table_entry f) ≡ f) × (has_bit (table_entry f) 0 ≡ true) × (has_bit (table_entry f) 1 ≡ true) × (has_bit (table_entry f) 2 ≡ true) × (has_bit (table_entry f) 63 ≡ false)
+    (frame_of (table_entry f) ≡ f) × (has_bit (table_entry f) 0 ≡ true) × (has_bit (table_entry f) 1 ≡ true) × (has_bit
+    (table_entry f) 2 ≡ true) × (has_bit (table_entry f) 63 ≡ false)
 table_bits f lt = (omega arith, grind (arith, nat_tests), grind (arith, nat_tests), grind (arith, nat_tests), grind (arith, nat_tests))
 
 table_small : (f : ℕ) → f < 2 ^ 40 → has_bit (table_entry f) 7 ≡ false
@@ -50,7 +51,8 @@ step_below words level b m j e = bound (word_at words b.frame j) e
   where
     bound : (w : ℕ) → cond (is_present words w && not (ends_walk level w)) (Some (named b w)) None ≡ Some m → m.frame < frame_count words
     bound w e =
-        let p : (is_present words w && not (ends_walk level w) ≡ true) × (named b w ≡ m) = some_of_cond (is_present words w && not (ends_walk level w)) (named b w) m e in
+        let p : (is_present words w && not (ends_walk level w) ≡ true) × (named b w ≡ m) =
+        some_of_cond (is_present words w && not (ends_walk level w)) (named b w) m e in
         let r : (is_present words w ≡ true) × (not (ends_walk level w) ≡ true) = and_parts (is_present words w) (not (ends_walk level w)) p.0 in
         let q : (has_bit w 0 ≡ true) × (ltb (frame_of w) (frame_count words) ≡ true) = and_parts (has_bit w 0) (ltb (frame_of w) (frame_count words)) r.0 in
         let f : frame_of w ≡ m.frame = ap (λ x. x.frame) p.1 in
@@ -62,7 +64,8 @@ step_small words level b m j e = bound (word_at words b.frame j) e
   where
     bound : (w : ℕ) → cond (is_present words w && not (ends_walk level w)) (Some (named b w)) None ≡ Some m → m.frame < 2 ^ 40
     bound w e =
-        let p : (is_present words w && not (ends_walk level w) ≡ true) × (named b w ≡ m) = some_of_cond (is_present words w && not (ends_walk level w)) (named b w) m e in
+        let p : (is_present words w && not (ends_walk level w) ≡ true) × (named b w ≡ m) =
+        some_of_cond (is_present words w && not (ends_walk level w)) (named b w) m e in
         let f : frame_of w ≡ m.frame = ap (λ x. x.frame) p.1 in
         rw (← f) (omega arith)
 
@@ -76,7 +79,8 @@ large_step_below words b m j e = bound (word_at words b.frame j) e
     bound w e =
         let p : (is_present words w && (has_bit w 7 && is_run words (frame_of w)) ≡ true) × (named b w ≡ m) =
         some_of_cond (is_present words w && (has_bit w 7 && is_run words (frame_of w))) (named b w) m e in
-        let r : (is_present words w ≡ true) × (has_bit w 7 && is_run words (frame_of w) ≡ true) = and_parts (is_present words w) (has_bit w 7 && is_run words (frame_of w)) p.0 in
+        let r : (is_present words w ≡ true) × (has_bit w 7 && is_run words (frame_of w) ≡ true) =
+        and_parts (is_present words w) (has_bit w 7 && is_run words (frame_of w)) p.0 in
         let s : (has_bit w 7 ≡ true) × (is_run words (frame_of w) ≡ true) = and_parts (has_bit w 7) (is_run words (frame_of w)) r.1 in
         let q : (eqb (frame_of w % 512) 0 ≡ true) × (ltb (frame_of w + 511) (frame_count words) ≡ true) =
         and_parts (eqb (frame_of w % 512) 0) (ltb (frame_of w + 511) (frame_count words)) s.1 in
@@ -274,7 +278,8 @@ module _ {area : Area} (old new : List ℕ) (free free' : List Bool) (root level
   }
 
   pub made_there : reach new root (level + 1) (512 * prefix + index) ≡ Some (top made)
-  made_there = let e : level + 1 ≡ suc level = omega arith in rw e (link_there (cleared old made) new root level prefix index (top table) (top made) free link mid_tree)
+  made_there = let e : level + 1 ≡ suc level = omega arith in rw e (link_there (cleared old made) new root level prefix
+      index (top table) (top made) free link mid_tree)
 
   pub made_others : (l n : ℕ) → l ≤ 4 → (l ≡ level + 1 → n ≡ 512 * prefix + index → ⊥) → reach new root l n ≡ reach old root l n
   made_others l n le ne =

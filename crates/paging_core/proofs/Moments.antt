@@ -31,7 +31,8 @@ still_free old now root free frame tree was_free only =
   where
     words : (l n : ℕ) (b : Place) (j : ℕ) → l < 4 → reach old root l n ≡ Some b → j < 512 → word_at now b.frame j ≡ word_at old b.frame j
     words l n b j lt is lj =
-        only.others b.frame j lj (λ e. let u : is_free free b.frame ≡ false = tree.used l n b (omega arith) is in let x = ap (λ f. is_free free f) e in let w = was_free in absurd (cc))
+        only.others b.frame j lj (λ e. let u : is_free free b.frame ≡ false = tree.used l n b (omega arith) is in let x =
+        ap (λ f. is_free free f) e in let w = was_free in absurd (cc))
 
 -- tables were made that a page misses
 pub still_prepared : {area : Area} (old now : List ℕ) (root page level : ℕ) (free free' : List Bool) → level ≤ 3 → IsTreeIn area now root free' →

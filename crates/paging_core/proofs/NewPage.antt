@@ -47,8 +47,16 @@ module _ (old mid : List ℕ) (free free1 : List Bool) (root frame : ℕ)
 
   pub mid_tree : IsTree mid root free1
   mid_tree =
-      let t : IsTree mid root free = tree_same old mid root free mid_size (λ l n b j lt is lj. mid_other b.frame j lj (mid_unmet l n b (omega arith) is)) tree in
-      record { rights = t.rights; distinct = t.distinct; plain = t.plain; inside = λ _ _ _ _ _. refl; used = λ l n m le is. mid_fewer m.frame (t.used l n m le is) }
+      let t : IsTree mid root free = tree_same old mid root free mid_size
+      (λ l n b j lt is lj. mid_other b.frame j lj (mid_unmet l n b (omega arith) is)) tree in
+      record {
+        rights = t.rights;
+        distinct = t.distinct;
+        plain = t.plain;
+        inside = λ _ _ _ _ _. refl;
+        used =
+            λ l n m le is. mid_fewer m.frame (t.used l n m le is);
+      }
 
   pub mid_walk : (page : ℕ) → walk_of mid root page ≡ walk_of old root page
   mid_walk page = walk_reach mid root page ∙ (mid_same 4 (prefix_of page 4) (omega arith) ∙ sym (walk_reach old root page))
@@ -111,7 +119,8 @@ module _ (old mid : List ℕ) (free free1 : List Bool) (root frame : ℕ)
 
     page_frame : (l n : ℕ) → l < 4 → reach new root l n ≡ Some (top frame) → ⊥
     page_frame l n lt now =
-        let p : (l ≡ 4) × (n ≡ prefix_of page 4) = tree'.distinct l n 4 (prefix_of page 4) (top frame) (granted frame rights) (omega arith) (omega arith) (λ _ _. refl) now there refl in
+        let p : (l ≡ 4) × (n ≡ prefix_of page 4) = tree'.distinct l n 4 (prefix_of page 4) (top frame)
+        (granted frame rights) (omega arith) (omega arith) (λ _ _. refl) now there refl in
         omega arith
 
     fewer : (f : ℕ) → is_free free f ≡ false → is_free free' f ≡ false
@@ -215,7 +224,8 @@ module _ (old mid : List ℕ) (free free1 : List Bool) (root frame : ℕ)
             found = added.there;
             was_free = was_free;
             taken = added.fewer frame mid_used;
-            zeros = λ i li. added.words frame i li (λ l ll now. page_frame l (prefix_of page l) ll now) ∙ fresh_zero old mid free free1 frame known was_free taken blank i li;
+            zeros = λ i li. added.words frame i li (λ l ll now. page_frame l (prefix_of page l) ll now)
+                ∙ fresh_zero old mid free free1 frame known was_free taken blank i li;
           });
       tables = λ l k lt lk.
           let e : page + k ≡ page = omega arith in

@@ -22,11 +22,13 @@ length_padded words first limit le = simp (length-append, length-replicate) (ome
 pub count_padded : (words : List ℕ) (first limit : ℕ) → 512 * first + length words ≤ 512 * limit → frame_count (padded words first limit) ≡ limit
 count_padded words first limit le = let l = length_padded words first limit le in omega arith
 
-pub padded_inside : (words : List ℕ) (first limit place at : ℕ) → 512 * first + at ≡ place → at < length words → get_or (padded words first limit) place 0 ≡ get_or words at 0
+pub padded_inside : (words : List ℕ) (first limit place at : ℕ) → 512 * first + at ≡ place → at < length words →
+    get_or (padded words first limit) place 0 ≡ get_or words at 0
 unfolding padded
 padded_inside words first limit place at e lt =
     let i : place - 512 * first ≡ at = omega arith in
-    get_or-append_right (replicate (512 * first) 0) (words ++ replicate (512 * limit - (512 * first + length words)) 0) (512 * first) place 0 (length-replicate (512 * first) 0) (omega arith)
+    get_or-append_right (replicate (512 * first) 0) (words ++ replicate (512 * limit - (512 * first + length words)) 0)
+    (512 * first) place 0 (length-replicate (512 * first) 0) (omega arith)
     ∙ (ap (λ k. get_or (words ++ replicate (512 * limit - (512 * first + length words)) 0) k 0) i
     ∙ get_or_append_left words (replicate (512 * limit - (512 * first + length words)) 0) 0 at lt)
 
@@ -40,7 +42,8 @@ padded_below words first limit place lt =
 pub padded_past : (words : List ℕ) (first limit place : ℕ) → 512 * first + length words ≤ place → get_or (padded words first limit) place 0 ≡ 0
 unfolding padded
 padded_past words first limit place le =
-    get_or-append_right (replicate (512 * first) 0) (words ++ replicate (512 * limit - (512 * first + length words)) 0) (512 * first) place 0 (length-replicate (512 * first) 0) (omega arith)
+    get_or-append_right (replicate (512 * first) 0) (words ++ replicate (512 * limit - (512 * first + length words)) 0)
+    (512 * first) place 0 (length-replicate (512 * first) 0) (omega arith)
     ∙ (get_or-append_right words (replicate (512 * limit - (512 * first + length words)) 0) (length words) (place - 512 * first) 0 refl (omega arith)
     ∙ zeros_read (512 * limit - (512 * first + length words)) (place - 512 * first - length words))
 
@@ -53,10 +56,12 @@ padded_set words first limit at place v e lt =
     ap (λ n. replicate (512 * first) 0 ++ (set words at v ++ replicate (512 * limit - (512 * first + n)) 0)) (length-set words at v)
     ∙ (ap (λ xs. replicate (512 * first) 0 ++ xs) (sym (set-append_left words (replicate (512 * limit - (512 * first + length words)) 0) at v lt))
     ∙ (ap (λ k. replicate (512 * first) 0 ++ set (words ++ replicate (512 * limit - (512 * first + length words)) 0) k v) (sym i)
-    ∙ sym (set-append_right (replicate (512 * first) 0) (words ++ replicate (512 * limit - (512 * first + length words)) 0) (512 * first) place v (length-replicate (512 * first) 0) (omega arith))))
+    ∙ sym (set-append_right (replicate (512 * first) 0) (words ++ replicate (512 * limit - (512 * first + length words)) 0)
+    (512 * first) place v (length-replicate (512 * first) 0) (omega arith))))
 
 -- zeros in words that others follow
-zeros_before : (words more : List ℕ) (base count : ℕ) → base + count ≤ length words → with_zeros words base count ++ more ≡ with_zeros (words ++ more) base count
+zeros_before : (words more : List ℕ) (base count : ℕ) → base + count ≤ length words →
+    with_zeros words base count ++ more ≡ with_zeros (words ++ more) base count
 unfolding with_zeros
 zeros_before words more base count le =
     append_assoc (take base words) (replicate count 0 ++ drop (base + count) words) more
@@ -83,6 +88,7 @@ pub padded_zeros : (words : List ℕ) (first limit base place count : ℕ) → 5
     padded (with_zeros words base count) first limit ≡ with_zeros (padded words first limit) place count
 unfolding padded
 padded_zeros words first limit base place count e le =
-    ap (λ n. replicate (512 * first) 0 ++ (with_zeros words base count ++ replicate (512 * limit - (512 * first + n)) 0)) (length-with_zeros words base count le)
+    ap (λ n. replicate (512 * first) 0 ++ (with_zeros words base count ++ replicate (512 * limit - (512 * first + n)) 0))
+    (length-with_zeros words base count le)
     ∙ (ap (λ xs. replicate (512 * first) 0 ++ xs) (zeros_before words (replicate (512 * limit - (512 * first + length words)) 0) base count le)
     ∙ zeros_behind (words ++ replicate (512 * limit - (512 * first + length words)) 0) (512 * first) base place count e)

@@ -145,7 +145,8 @@ page_removed old new root page free root_in one tree =
     (step_zero new 3 one.table (prefix_of page 4 % 512) (entry_here old new root page removal root_in one))
 
 pub page_regranted : {area : Area} (old new : List ℕ) (root page : ℕ) (rights : Rights) (free : List Bool) → root < frame_count old →
-    (one : IsPageChanged old new root page (regrant rights)) → one.place.frame < 2 ^ 40 → IsTreeIn area old root free → ArePagesChanged old new root (regrant rights) (only page)
+    (one : IsPageChanged old new root page (regrant rights)) → one.place.frame < 2 ^ 40 → IsTreeIn area old root free →
+    ArePagesChanged old new root (regrant rights) (only page)
 page_regranted old new root page rights free root_in one small tree =
     let is_top : one.table ≡ top one.table.frame = tree.rights 3 (prefix_of page 3) one.table (omega arith) one.met in
     page_changed old new root page (regrant rights) root_in one free tree
@@ -216,10 +217,12 @@ module _ (old new : List ℕ) (root : ℕ) (change : Change) (chosen : ℕ → B
       word_at new place.frame i ≡ word_at old place.frame i
   words_stay free tree n i place li at =
       all.words place.frame i li (λ m here.
-      let d : (3 ≡ 4) × (m ≡ n) = tree.distinct 3 m 4 n (top place.frame) place (omega arith) (omega arith) (λ x y. absurd (omega arith)) here at refl in absurd (omega (arith, d.0)))
+      let d : (3 ≡ 4) × (m ≡ n) = tree.distinct 3 m 4 n (top place.frame) place (omega arith) (omega arith)
+      (λ x y. absurd (omega arith)) here at refl in absurd (omega (arith, d.0)))
 
   -- and its bytes, if it is still met
-  pub bytes_stay : {area : Area} → KeepsFrame change → (free : List Bool) → IsTreeIn area old root free → (address : ℕ) → (now : Place) → walk_of new root (address / 4096) ≡ Some now →
+  pub bytes_stay : {area : Area} → KeepsFrame change → (free : List Bool) → IsTreeIn area old root free → (address : ℕ) →
+      (now : Place) → walk_of new root (address / 4096) ≡ Some now →
       reached new root address ≡ reached old root address
   bytes_stay keeps free tree address now is =
       let at : reach new root 4 (prefix_of (address / 4096) 4) ≡ Some now = sym (walk_reach new root (address / 4096)) ∙ is in
@@ -233,14 +236,16 @@ pub regranted_bytes : {area : Area} (old new : List ℕ) (root : ℕ) (rights : 
     ArePagesChanged old new root (regrant rights) chosen → IsTreeIn area old root free → (address : ℕ) → reached new root address ≡ reached old root address
 regranted_bytes old new root rights chosen free all tree address = go (some_or_none (walk_of new root (address / 4096)))
   where
-    gone : reach new root 4 (prefix_of (address / 4096) 4) ≡ None → (chosen (prefix_of (address / 4096) 4) ≡ true) ⊎ (chosen (prefix_of (address / 4096) 4) ≡ false) →
+    gone : reach new root 4 (prefix_of (address / 4096) 4) ≡ None → (chosen (prefix_of (address / 4096) 4) ≡ true) ⊎ (chosen
+        (prefix_of (address / 4096) 4) ≡ false) →
         reach old root 4 (prefix_of (address / 4096) 4) ≡ None
     gone none (inl x) =
         let m = all.mapped (prefix_of (address / 4096) 4) x in
         let h = all.changed (prefix_of (address / 4096) 4) m.0 x m.1 in absurd (cc)
     gone none (inr x) = sym (all.stayed 4 (prefix_of (address / 4096) 4) (omega arith) (λ _. x)) ∙ none
 
-    go : ((now : Place) × (walk_of new root (address / 4096) ≡ Some now)) ⊎ (walk_of new root (address / 4096) ≡ None) → reached new root address ≡ reached old root address
+    go : ((now : Place) × (walk_of new root (address / 4096) ≡ Some now)) ⊎ (walk_of new root (address / 4096) ≡ None) →
+        reached new root address ≡ reached old root address
     go (inl p) = bytes_stay old new root (regrant rights) chosen all (regrant_keeps rights) free tree address p.0 p.1
     go (inr none) =
         let e : walk_of old root (address / 4096) ≡ None =
@@ -296,7 +301,8 @@ module _ (old mid new : List ℕ) (root : ℕ) (change : Change) (a b c : ℕ �
     changed_of n place g at (inl x) = two.stayed 4 n (omega arith) (λ _. apart n x) ∙ one.changed n place x at
     changed_of n place g at (inr x) = two.changed n place (is_b n g x) (was n x ∙ at)
 
-    entries_of : (n i f : ℕ) (place : Place) → i < 512 → c (512 * n + i) ≡ true → reach old root 3 n ≡ Some (top f) → reach old root 4 (512 * n + i) ≡ Some place →
+    entries_of : (n i f : ℕ) (place : Place) → i < 512 → c (512 * n + i) ≡ true → reach old root 3 n ≡ Some (top f) →
+        reach old root 4 (512 * n + i) ≡ Some place →
         (a (512 * n + i) ≡ true) ⊎ (a (512 * n + i) ≡ false) → word_at new f i ≡ change.entry place
     entries_of n i f place li g here at (inl x) =
         two.words f i li (λ m is.
@@ -319,7 +325,8 @@ module _ (old mid new : List ℕ) (root : ℕ) (change : Change) (a b c : ℕ �
     }
 
 -- no page
-pub none_changed : (words : List ℕ) (root : ℕ) (change : Change) (chosen : ℕ → Bool) → ((n : ℕ) → chosen n ≡ false) → ArePagesChanged words words root change chosen
+pub none_changed : (words : List ℕ) (root : ℕ) (change : Change) (chosen : ℕ → Bool) → ((n : ℕ) → chosen n ≡ false) →
+    ArePagesChanged words words root change chosen
 none_changed words root change chosen none = record {
   size = refl;
   mapped = λ n g. let e = none n in absurd (cc);

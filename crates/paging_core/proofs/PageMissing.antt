@@ -37,7 +37,8 @@ module _ (old new : List ℕ) (free free' : List Bool) (root page frame : ℕ) (
       one : (l : ℕ) → l < 4 → absent_for new root first (first + more) l + missing_at old root page l ≡ absent_for old root first (first + more) l
       one l lt =
           let e : first + (page - first) ≡ page = omega arith in
-          let p : page % 2 ^ 36 ≡ first % 2 ^ 36 + (page - first) = ap (λ n. n % 2 ^ 36) (sym e) ∙ page_in first (suc more) (page - first) range (omega arith) in
+          let p : page % 2 ^ 36 ≡ first % 2 ^ 36 + (page - first) = ap (λ n. n % 2 ^ 36) (sym e)
+          ∙ page_in first (suc more) (page - first) range (omega arith) in
           let q : (first + more) % 2 ^ 36 ≡ first % 2 ^ 36 + more = page_in first (suc more) more range (omega arith) in
           let from : prefix_of first l ≤ prefix_of page l = prefix_le first page l (omega arith) (omega arith) in
           let to : prefix_of page l ≤ prefix_of (first + more) l = prefix_le page (first + more) l (omega arith) (omega arith) in

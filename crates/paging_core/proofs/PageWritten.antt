@@ -64,7 +64,8 @@ module _ (old new : List ℕ) (root page : ℕ) (place : Place) (free : List Boo
           (sym (walk_reach old root (address / 4096)) ∙ is) here e).1 in
           rw e (same (same_number (address / 4096) page its_page canonical (omega arith)))
 
-      go : ((p : Place) × (walk_of old root (address / 4096) ≡ Some p)) ⊎ (walk_of old root (address / 4096) ≡ None) → reached new root address ≡ reached old root address
+      go : ((p : Place) × (walk_of old root (address / 4096) ≡ Some p)) ⊎ (walk_of old root (address / 4096) ≡ None) →
+          reached new root address ≡ reached old root address
       go (inl p) =
           reached_at new root address p.0 (written_walk (address / 4096) ∙ p.1)
           ∙ (ap (λ w. Some (byte_of w (address % 8))) (word p.0 p.1 (cases_eq p.0.frame place.frame)) ∙ sym (reached_at old root address p.0 p.1))
@@ -85,7 +86,8 @@ module _ (old new : List ℕ) (root page index : ℕ) (run : List ℕ) (place : 
       let z : index + (address % 4096 / 8 - index) ≡ address % 4096 / 8 = omega arith in
       let w : word_at new place.frame (address % 4096 / 8) ≡ get_or run (address % 4096 / 8 - index) 0 =
       ap (word_at new place.frame) (sym z) ∙ put.written (address % 4096 / 8 - index) (omega arith) in
-      reached_at new root address place (written_walk old new root page place free at put.size run_elsewhere tree (address / 4096) ∙ (ap (walk_of old root) e ∙ at))
+      reached_at new root address place (written_walk old new root page place free at put.size run_elsewhere tree
+      (address / 4096) ∙ (ap (walk_of old root) e ∙ at))
       ∙ ap (λ v. Some (byte_of v (address % 8))) w
 
   pub run_others : IsTrue (is_canonical (page * 4096)) → (address : ℕ) → IsTrue (is_canonical address) →

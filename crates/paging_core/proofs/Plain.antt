@@ -35,7 +35,8 @@ plain_table words level frame lt small within = record {
   run = λ e. absurd (let z = seven in cc);
   large = λ e. absurd (let z = seven in cc);
   accessed = grind (arith, nat_tests);
-  dirty = λ e. absurd (let z = seven in let l : eqb level 3 ≡ false = grind (arith, nat_tests) in let f : maps_page level (table_entry frame) ≡ false = rw (l, z) refl in cc);
+  dirty = λ e. absurd (let z = seven in let l : eqb level 3 ≡ false = grind (arith, nat_tests) in
+      let f : maps_page level (table_entry frame) ≡ false = rw (l, z) refl in cc);
   cached = omega arith;
   low = omega arith;
   high = omega arith;

@@ -95,11 +95,13 @@ module _ (first more level number : ℕ) (range : IsCanonicalRange first (suc mo
       let hi : prefix_of (first + p.0) level ≤ prefix_of (first + more) level = prefix_le (first + p.0) (first + more) level (omega arith) lt in
       let n : number ≡ prefix_of (first + p.0) level = p.1.1 in
       let d : prefix_of first level + (number - prefix_of first level) ≡ number = omega arith in
-      rw d at (contains_from level (prefix_of first level) (prefix_of (first + more) level + 1 - prefix_of first level) (number - prefix_of first level) (omega arith))
+      rw d at (contains_from level (prefix_of first level) (prefix_of (first + more) level + 1 - prefix_of first level)
+      (number - prefix_of first level) (omega arith))
 
   pub prefixes_of_pages : Contains (prefixes_of first (suc more)) here → (0 < level) × (level < 4) × OfPage
   unfolding prefixes_of
-  prefixes_of_pages h = go (Contains-append_cases (prefixes_at first (first + more) 1) (prefixes_at first (first + more) 2 ++ prefixes_at first (first + more) 3) here h)
+  prefixes_of_pages h = go (Contains-append_cases (prefixes_at first (first + more) 1)
+      (prefixes_at first (first + more) 2 ++ prefixes_at first (first + more) 3) here h)
     where
       high : Contains (prefixes_at first (first + more) 2) here ⊎ Contains (prefixes_at first (first + more) 3) here → (0 < level) × (level < 4) × OfPage
       high (inl x) = of_page 2 (omega arith) (omega arith) x
@@ -118,11 +120,14 @@ module _ (first more level number : ℕ) (range : IsCanonicalRange first (suc mo
           Contains (prefixes_at first (first + more) 1 ++ (prefixes_at first (first + more) 2 ++ prefixes_at first (first + more) 3)) here
       go zero e h = absurd (omega arith)
       go (suc zero) e h =
-          Contains-append_left (prefixes_at first (first + more) 1) (prefixes_at first (first + more) 2 ++ prefixes_at first (first + more) 3) here (subst (λ k. Contains (prefixes_at first (first + more) k) here) e h)
+          Contains-append_left (prefixes_at first (first + more) 1) (prefixes_at first (first + more) 2 ++ prefixes_at first
+          (first + more) 3) here (subst (λ k. Contains (prefixes_at first (first + more) k) here) e h)
       go (suc (suc zero)) e h =
           Contains-append_right (prefixes_at first (first + more) 1) (prefixes_at first (first + more) 2 ++ prefixes_at first (first + more) 3) here
-          (Contains-append_left (prefixes_at first (first + more) 2) (prefixes_at first (first + more) 3) here (subst (λ k. Contains (prefixes_at first (first + more) k) here) e h))
+          (Contains-append_left (prefixes_at first (first + more) 2) (prefixes_at first (first + more) 3) here
+          (subst (λ k. Contains (prefixes_at first (first + more) k) here) e h))
       go (suc (suc (suc zero))) e h =
           Contains-append_right (prefixes_at first (first + more) 1) (prefixes_at first (first + more) 2 ++ prefixes_at first (first + more) 3) here
-          (Contains-append_right (prefixes_at first (first + more) 2) (prefixes_at first (first + more) 3) here (subst (λ k. Contains (prefixes_at first (first + more) k) here) e h))
+          (Contains-append_right (prefixes_at first (first + more) 2) (prefixes_at first (first + more) 3) here
+          (subst (λ k. Contains (prefixes_at first (first + more) k) here) e h))
       go (suc (suc (suc (suc l)))) e h = absurd (omega arith)

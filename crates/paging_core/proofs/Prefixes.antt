@@ -22,7 +22,8 @@ prefix_split page level n i lt li e = let p = prefix_parent page level lt in (om
 
 pub reach_prefix :
     (words : List ℕ) (root page level : ℕ) → level < 3 →
-    reach words root (level + 1) (prefix_of page (level + 1)) ≡ next_from words level (reach words root level (prefix_of page level)) (prefix_of page (level + 1) % 512)
+    reach words root (level + 1) (prefix_of page (level + 1)) ≡ next_from words level
+    (reach words root level (prefix_of page level)) (prefix_of page (level + 1) % 512)
 reach_prefix words root page level lt =
     let e : level + 1 ≡ suc level = omega arith in
     ap (λ k. reach words root k (prefix_of page (level + 1))) e

@@ -58,7 +58,8 @@ missing_fewer words root page (suc (suc (suc n))) (suc (suc zero)) le top = absu
 missing_none : (words : List ℕ) (root page level : ℕ) → reach words root level (prefix_of page level) ≡ None → missing_at words root page level ≡ 1
 missing_none words root page level e = rw e refl
 
-missing_some : (words : List ℕ) (root page level : ℕ) (m : Place) → reach words root level (prefix_of page level) ≡ Some m → missing_at words root page level ≡ 0
+missing_some : (words : List ℕ) (root page level : ℕ) (m : Place) → reach words root level (prefix_of page level) ≡ Some m →
+    missing_at words root page level ≡ 0
 missing_some words root page level m e = rw e refl
 
 module _ {area : Area} (old mid : List ℕ) (free freem : List Bool) (root page level table index : ℕ)
@@ -81,7 +82,8 @@ module _ {area : Area} (old mid : List ℕ) (free freem : List Bool) (root page 
   small e =
       let p : prefix_of page 3 / 512 ≡ prefix_of page 2 = omega arith in
       let q : prefix_of page 3 % 512 ≡ index = ap (λ l. prefix_of page (l + 1) % 512) (sym e) ∙ sym ix in
-      let m : reach mid root 2 (prefix_of page 3 / 512) ≡ Some (top table) = ap (reach mid root 2) p ∙ (ap (λ l. reach mid root l (prefix_of page l)) (sym e) ∙ met) in
+      let m : reach mid root 2 (prefix_of page 3 / 512) ≡ Some (top table) = ap (reach mid root 2) p
+      ∙ (ap (λ l. reach mid root l (prefix_of page l)) (sym e) ∙ met) in
       ap (large_step mid (top table)) (sym q)
       ∙ (sym (ap (λ o. large_from mid o (prefix_of page 3 % 512)) m)
       ∙ (sym (large_is mid root (prefix_of page 3)) ∙ (prepared.larges (prefix_of page 3) ∙ slot e)))
@@ -224,7 +226,8 @@ module _ {area : Area} (old mid : List ℕ) (free freem : List Bool) (root page 
     -- the table is met at its own prefix alone
     here_only : (l f : ℕ) → l < 4 → reach mid root l (prefix_of page l) ≡ Some (top f) → f ≡ table → l ≡ level
     here_only l f lt4 now e =
-        (tree.distinct l (prefix_of page l) level (prefix_of page level) (top f) (top table) (omega arith) (omega arith) (λ x y. absurd (omega arith)) now met e).0
+        (tree.distinct l (prefix_of page l) level (prefix_of page level) (top f) (top table) (omega arith) (omega arith)
+        (λ x y. absurd (omega arith)) now met e).0
 
     word_linked : word_at new table index ≡ table_entry made
     word_linked =
@@ -235,7 +238,8 @@ module _ {area : Area} (old mid : List ℕ) (free freem : List Bool) (root page 
     word_blank : (i : ℕ) → i < 512 → word_at new made i ≡ 0
     word_blank i li =
         ap (λ w. word_at w made i) m.words
-        ∙ (word_at_set_other (cleared mid made) table index (table_entry made) made i index_in li (λ e _. met_apart level (prefix_of page level) (top table) (omega arith) met (sym e))
+        ∙ (word_at_set_other (cleared mid made) table index (table_entry made) made i index_in li
+        (λ e _. met_apart level (prefix_of page level) (top table) (omega arith) met (sym e))
         ∙ word_at_cleared_same mid made i made_below li)
 
     made_more : IsPrepared old new free free' root page (level + 1)

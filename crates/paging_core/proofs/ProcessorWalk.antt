@@ -59,7 +59,8 @@ none_odd entry e false false true = rw e refl
 none_odd entry e false false false = refl
 
 -- a plain entry has no reserved bit
-unreserved : (words : List ℕ) (width level entry : ℕ) → 4096 * frame_count words ≤ 2 ^ width → IsPlain words level entry → has_reserved width level entry ≡ false
+unreserved : (words : List ℕ) (width level entry : ℕ) → 4096 * frame_count words ≤ 2 ^ width → IsPlain words level entry →
+    has_reserved width level entry ≡ false
 unreserved words width level entry reaches p =
     let address : frame_of entry * 2 ^ 12 / 2 ^ width ≡ 0 = div-eq_of_lt (let f = p.frame in omega arith) in
     let global : has_bit entry 8 ≡ false = let l = p.low in grind (arith, nat_tests) in
@@ -84,7 +85,8 @@ module _ (words : List ℕ) (width page : ℕ)
       EndsAt (past width level w onward) (end (cond (is_present words w && not (ends_walk level w)) (Some (named at w)) None))
   early level at w onward end lt plain none there_on = go (has_bit w 0) refl
     where
-      go : (b : Bool) → has_bit w 0 ≡ b → EndsAt (past width level w onward) (end (cond (is_present words w && not (ends_walk level w)) (Some (named at w)) None))
+      go : (b : Bool) → has_bit w 0 ≡ b → EndsAt (past width level w onward)
+          (end (cond (is_present words w && not (ends_walk level w)) (Some (named at w)) None))
       go false e = rw e (sym none, refl)
       go true e =
           let r = unreserved words width level w reaches (plain e) in
@@ -122,7 +124,8 @@ module _ (words : List ℕ) (width page : ℕ)
       EndsAt (past width 3 w (AtPage (named at w))) (cond (is_present words w && not (ends_walk 3 w)) (Some (named at w)) None)
   fourth at w plain = go (has_bit w 0) refl
     where
-      go : (b : Bool) → has_bit w 0 ≡ b → EndsAt (past width 3 w (AtPage (named at w))) (cond (is_present words w && not (ends_walk 3 w)) (Some (named at w)) None)
+      go : (b : Bool) → has_bit w 0 ≡ b → EndsAt (past width 3 w (AtPage (named at w)))
+          (cond (is_present words w && not (ends_walk 3 w)) (Some (named at w)) None)
       go false e = rw e (refl, refl)
       go true e =
           let r = unreserved words width 3 w reaches (plain e) in
@@ -139,7 +142,8 @@ module _ (words : List ℕ) (width page : ℕ)
       f = there (word_at words at.frame i) level plain
 
       go : (b : Bool) → eqb level 2 ≡ b →
-          cond (is_present words (word_at words at.frame i) && not (ends_walk level (word_at words at.frame i))) (Some (named at (word_at words at.frame i))) None
+          cond (is_present words (word_at words at.frame i) && not (ends_walk level (word_at words at.frame i)))
+          (Some (named at (word_at words at.frame i))) None
           ≡ Some (named at (word_at words at.frame i))
       go false e = rw (present, f, e) refl
       go true e = let s = small (eqb-true level 2 e) in rw (present, f, e, s) refl
@@ -225,12 +229,15 @@ module _ (words : List ℕ) (root page width : ℕ)
   from_fourth e f g h = fourth words width page reaches to_third fourth_entry (plain_fourth e f g h)
 
   abbrev from_third : Outcome
-  from_third = past width 2 third_entry (cond (has_bit third_entry 7) (AtPage (within (2 ^ 9) page to_third)) (past width 3 fourth_entry (AtPage (named to_third fourth_entry))))
+  from_third = past width 2 third_entry (cond (has_bit third_entry 7) (AtPage (within (2 ^ 9) page to_third))
+      (past width 3 fourth_entry (AtPage (named to_third fourth_entry))))
 
   third_ends : has_bit first 0 ≡ true → has_bit second 0 ≡ true →
-      EndsAt from_third (page_or (large_step words to_second (page / 2 ^ 9 % 512)) (page % 512) (next_from words 3 (step words 2 to_second (page / 2 ^ 9 % 512)) (page % 512)))
+      EndsAt from_third (page_or (large_step words to_second (page / 2 ^ 9 % 512)) (page % 512)
+      (next_from words 3 (step words 2 to_second (page / 2 ^ 9 % 512)) (page % 512)))
   unfolding step large_step
-  third_ends e f = third words width page reaches to_second third_entry (past width 3 fourth_entry (AtPage (named to_third fourth_entry))) (plain_third e f) (from_fourth e f)
+  third_ends e f = third words width page reaches to_second third_entry
+      (past width 3 fourth_entry (AtPage (named to_third fourth_entry))) (plain_third e f) (from_fourth e f)
 
   -- where the walk ends from what its second step leads to
   abbrev from_there : Option Place → Option Place
@@ -242,13 +249,15 @@ module _ (words : List ℕ) (root page width : ℕ)
   second_ends : has_bit first 0 ≡ true → EndsAt from_second (from_there (step words 1 to_first (page / 2 ^ 18 % 512)))
   unfolding step
   second_ends e =
-      early words width page reaches 1 to_first second (cond (has_bit second 7) (AtPage (within (2 ^ 18) page to_second)) from_third) from_there (omega arith) (plain_second e) refl
+      early words width page reaches 1 to_first second (cond (has_bit second 7) (AtPage (within (2 ^ 18) page to_second))
+      from_third) from_there (omega arith) (plain_second e) refl
       (λ f. let h = not_large words 1 second (plain_second e f) (λ z. absurd (omega (arith, z))) in rw h (third_ends e f))
 
   first_ends : EndsAt (past width 0 first from_second) (from_there (next_from words 1 (step words 0 (top root) (page / 2 ^ 27 % 512)) (page / 2 ^ 18 % 512)))
   unfolding step
   first_ends =
-      early words width page reaches 0 (top root) first from_second (λ o. from_there (next_from words 1 o (page / 2 ^ 18 % 512))) (omega arith) plain_first refl second_ends
+      early words width page reaches 0 (top root) first from_second (λ o.
+      from_there (next_from words 1 o (page / 2 ^ 18 % 512))) (omega arith) plain_first refl second_ends
 
 ends_alike : (words : List ℕ) (root page width : ℕ) → ArePlain words root → 4096 * frame_count words ≤ 2 ^ width →
     EndsAt (processor_walk width words root page) (walk_of words root page)

@@ -229,7 +229,8 @@ module _ (old mid : List ℕ) (free free1 : List Bool) (root first pages k : ℕ
         (t, next.entries.old_words l n f i ll li t (next.stayed (l + 1) (512 * n + i) p (omega arith) on ∙ sym on))
 
     -- what is met past a table shows the table
-    parent : (words : List ℕ) (l n i : ℕ) (p : Place) → l < 3 → i < 512 → reach words root (l + 1) (512 * n + i) ≡ Some p → (m : Place) × (reach words root l n ≡ Some m)
+    parent : (words : List ℕ) (l n i : ℕ) (p : Place) → l < 3 → i < 512 → reach words root (l + 1) (512 * n + i) ≡ Some p →
+        (m : Place) × (reach words root l n ≡ Some m)
     parent words l n i p low li on = go (some_or_none (reach words root l n))
       where
         go : ((m : Place) × (reach words root l n ≡ Some m)) ⊎ (reach words root l n ≡ None) → (m : Place) × (reach words root l n ≡ Some m)
@@ -268,7 +269,8 @@ module _ (old mid : List ℕ) (free free1 : List Bool) (root first pages k : ℕ
         reach new root (l + 1) (512 * n + i) ≡ Some (top made) → word_at new f i ≡ table_entry made
     table_words l n f i made ll li here none now = go (some_or_none (reach mid root (l + 1) (512 * n + i)))
       where
-        go : ((m : Place) × (reach mid root (l + 1) (512 * n + i) ≡ Some m)) ⊎ (reach mid root (l + 1) (512 * n + i) ≡ None) → word_at new f i ≡ table_entry made
+        go : ((m : Place) × (reach mid root (l + 1) (512 * n + i) ≡ Some m)) ⊎ (reach mid root (l + 1)
+            (512 * n + i) ≡ None) → word_at new f i ≡ table_entry made
         go (inr e) = next.entries.table_words l n f i made ll li here e now
         go (inl p) =
             let q = parent mid l n i p.0 ll li p.1 in
@@ -281,7 +283,8 @@ module _ (old mid : List ℕ) (free free1 : List Bool) (root first pages k : ℕ
         reach new root 4 (512 * n + i) ≡ Some place → word_at new f i ≡ page_entry place.frame rights
     page_words n f i place li here none now = go (some_or_none (reach mid root 4 (512 * n + i)))
       where
-        go : ((m : Place) × (reach mid root 4 (512 * n + i) ≡ Some m)) ⊎ (reach mid root 4 (512 * n + i) ≡ None) → word_at new f i ≡ page_entry place.frame rights
+        go : ((m : Place) × (reach mid root 4 (512 * n + i) ≡ Some m)) ⊎ (reach mid root 4 (512 * n + i) ≡ None) →
+            word_at new f i ≡ page_entry place.frame rights
         go (inr e) = next.entries.page_words n f i place li here e now
         go (inl p) =
             let q = its_table n f i p.0 li here p.1 in

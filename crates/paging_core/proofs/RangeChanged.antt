@@ -50,12 +50,14 @@ module _ (old mid : List ℕ) (root first pages k : ℕ) (change : Change)
   pub next_both : k < pages → (n : ℕ) → among first (k + 1) n ≡ (among first k n || only (first + k) n)
   next_both lt n = among_more first k n (number k lt)
 
-  pub next_changed : {area : Area} → k < pages → (new : List ℕ) (free : List Bool) → IsTreeIn area old root free → ArePagesChanged mid new root change (only (first + k)) →
+  pub next_changed : {area : Area} → k < pages → (new : List ℕ) (free : List Bool) → IsTreeIn area old root free →
+      ArePagesChanged mid new root change (only (first + k)) →
       ArePagesChanged old new root change (among first (k + 1))
   next_changed lt new free tree next =
       changed_more old mid new root change (among first k) (only (first + k)) (among first (k + 1)) all next (next_both lt) free tree (next_apart lt)
 
-  pub range_leads : k ≤ pages → (j : ℕ) → j < k → (place : Place) → walk_of old root (first + j) ≡ Some place → walk_of mid root (first + j) ≡ change.leads place
+  pub range_leads : k ≤ pages → (j : ℕ) → j < k → (place : Place) → walk_of old root (first + j) ≡ Some place →
+      walk_of mid root (first + j) ≡ change.leads place
   range_leads le j lt place at =
       walk_reach mid root (first + j)
       ∙ all.changed (prefix_of (first + j) 4) place (among_is first k j lt (number j (omega arith))) (sym (walk_reach old root (first + j)) ∙ at)

@@ -96,13 +96,16 @@ missing_le words root first (suc a) (suc b) range le =
         let pa = page_in first (suc b) a range (omega arith) in
         let pb = page_in first (suc b) b range (omega arith) in
         let hi : prefix_of (first + a) l ≤ prefix_of (first + b) l = prefix_le (first + a) (first + b) l (omega arith) lt in
-        let d : prefix_of (first + b) l + 1 - prefix_of first l ≡ (prefix_of (first + a) l + 1 - prefix_of first l) + (prefix_of (first + b) l - prefix_of (first + a) l) =
+        let d : prefix_of (first + b) l + 1 - prefix_of first l ≡ (prefix_of (first + a) l + 1 - prefix_of first
+        l) + (prefix_of (first + b) l - prefix_of (first + a) l) =
         (let lo : prefix_of first l ≤ prefix_of (first + a) l = prefix_le first (first + a) l (omega arith) lt in omega arith) in
-        let e = absent_add words root l (prefix_of (first + a) l + 1 - prefix_of first l) (prefix_of (first + b) l - prefix_of (first + a) l) (prefix_of first l) in
+        let e = absent_add words root l (prefix_of (first + a) l + 1 - prefix_of first l)
+        (prefix_of (first + b) l - prefix_of (first + a) l) (prefix_of first l) in
         let f = ap (absent words root l (prefix_of first l)) d in
         omega arith
 
-missing_some : (words : List ℕ) (root page level : ℕ) (m : Place) → reach words root level (prefix_of page level) ≡ Some m → missing_at words root page level ≡ 0
+missing_some : (words : List ℕ) (root page level : ℕ) (m : Place) → reach words root level (prefix_of page level) ≡ Some m →
+    missing_at words root page level ≡ 0
 missing_some words root page level m e = rw e refl
 
 -- `mid` has the tables of the first `k` pages of the range, and else walks as `old` does

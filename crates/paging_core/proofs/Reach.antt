@@ -92,7 +92,8 @@ reach_last words root n at e =
     ∙ (entries_suc words root 3 n ∙ ap (λ o. next_from words 3 o (n % 512)) low))
 
 -- the page's frame, in the slot's large page
-pub reach_in : (words : List ℕ) (root n : ℕ) (large : Place) → large_of words root (n / 512) ≡ Some large → reach words root 4 n ≡ Some (page_in (n % 512) large)
+pub reach_in : (words : List ℕ) (root n : ℕ) (large : Place) → large_of words root (n / 512) ≡ Some large →
+    reach words root 4 n ≡ Some (page_in (n % 512) large)
 reach_in words root n large e = reach_four words root n ∙ ap (λ o. page_or o (n % 512) (by_entries words root 4 n)) e
 
 -- no page is met in a slot with neither
@@ -221,7 +222,8 @@ module _ (old new : List ℕ) (root L N i : ℕ) (at : Place)
       next_from new l (by_entries new root l (n / 512)) (n % 512) ≡ next_from old l (by_entries old root l (n / 512)) (n % 512)
   others l n le ne same arrives (inl c) (inl d) =
       let f : by_entries new root l (n / 512) ≡ step new L at i = ap (by_entries new root l) d ∙ arrives (omega arith) c in
-      let g : by_entries old root l (n / 512) ≡ step old L at i = ap (by_entries old root l) d ∙ (ap (λ k. by_entries old root k (512 * N + i)) c ∙ was_there) in
+      let g : by_entries old root l (n / 512) ≡ step old L at i = ap (by_entries old root l) d
+      ∙ (ap (λ k. by_entries old root k (512 * N + i)) c ∙ was_there) in
       rw (f, g, c) (below (omega arith) (n % 512) (omega arith))
   others l n le ne same arrives (inl c) (inr d) = apart l n le ne same (λ x y. d y)
   others l n le ne same arrives (inr c) _ = apart l n le ne same (λ x y. c x)
@@ -318,7 +320,8 @@ module _ (old new : List ℕ) (root L N i : ℕ) (at : Place)
   pub larges_others : (n : ℕ) → large_of new root n ≡ large_of old root n
   larges_others n = large_is new root n ∙ (go (cases_eq 2 (suc L)) (cases_eq (n / 512) (512 * N + i)) ∙ sym (large_is old root n))
     where
-      away : (2 ≡ suc L → n / 512 ≡ 512 * N + i → ⊥) → large_from new (reach new root 2 (n / 512)) (n % 512) ≡ large_from old (reach old root 2 (n / 512)) (n % 512)
+      away : (2 ≡ suc L → n / 512 ≡ 512 * N + i → ⊥) → large_from new (reach new root 2 (n / 512)) (n % 512) ≡ large_from
+          old (reach old root 2 (n / 512)) (n % 512)
       away ne =
           let e : reach new root 2 (n / 512) ≡ reach old root 2 (n / 512) =
           reach_low new root 2 (n / 512) (omega arith) ∙ (low_others 2 (n / 512) (omega arith) ne ∙ sym (reach_low old root 2 (n / 512) (omega arith))) in

@@ -58,7 +58,14 @@ module _ (old mid : List ℕ) (free free1 : List Bool) (root run : ℕ)
   pub run_tree : IsTree mid root free1
   run_tree =
       let t : IsTree mid root free = tree_same old mid root free blank.size (λ l n b j lt is lj. stays b.frame j lj (unmet l n b (omega arith) is)) tree in
-      record { rights = t.rights; distinct = t.distinct; plain = t.plain; inside = λ _ _ _ _ _. refl; used = λ l n m le is. run_fewer m.frame (t.used l n m le is) }
+      record {
+        rights = t.rights;
+        distinct = t.distinct;
+        plain = t.plain;
+        inside = λ _ _ _ _ _. refl;
+        used =
+            λ l n m le is. run_fewer m.frame (t.used l n m le is);
+      }
 
   pub run_walk : (page : ℕ) → walk_of mid root page ≡ walk_of old root page
   run_walk page = walk_reach mid root page ∙ (run_same 4 (prefix_of page 4) (omega arith) ∙ sym (walk_reach old root page))
@@ -104,7 +111,8 @@ module _ (old mid : List ℕ) (free free1 : List Bool) (root run : ℕ)
     -- each word of the slot is 0
     pub slot_words : (k i : ℕ) → k < 512 → i < 512 → word_at new (512 * run + k) i ≡ 0
     slot_words k i lt li =
-        let met : reach new root 4 (prefix_of (512 * page + k) 4) ≡ Some (granted (512 * run + k) rights) = sym (walk_reach new root (512 * page + k)) ∙ added.there k lt in
+        let met : reach new root 4 (prefix_of (512 * page + k) 4) ≡ Some (granted (512 * run + k) rights) =
+        sym (walk_reach new root (512 * page + k)) ∙ added.there k lt in
         added.words (512 * run + k) i li
         (λ l ll here. let d = tree'.distinct 4 (prefix_of (512 * page + k) 4) l (above page l) (granted (512 * run + k) rights) (top (512 * run + k))
         (omega arith) (omega arith) (λ _ _. refl) met here refl in absurd (omega (arith, d.0)))

@@ -166,7 +166,8 @@ length-whole_runs free = length-map-range_with_len (λ (run : ℕ). eqb (free_in
 
 get_or-whole_runs_in : (free : List Bool) (run : ℕ) → run < (length free + 511) / 512 → get_or (whole_runs free) run false ≡ eqb (free_in free run) 512
 unfolding whole_runs
-get_or-whole_runs_in free run lt = get_or-map-range_with_len (λ (run : ℕ). eqb (free_in free run) 512) 0 ((length free + 511) / 512) run run false lt (omega arith)
+get_or-whole_runs_in free run lt = get_or-map-range_with_len (λ (run : ℕ). eqb (free_in free run) 512) 0
+    ((length free + 511) / 512) run run false lt (omega arith)
 
 pub get_or-whole_runs : (free : List Bool) (run : ℕ) → get_or (whole_runs free) run false ≡ eqb (free_in free run) 512
 get_or-whole_runs free run = go (cases_lt run ((length free + 511) / 512))
@@ -381,11 +382,26 @@ pub new_rest : (count : ℕ) → count < 2 ^ 32 → 0 < count % 512 →
     (set (replicate ((count + 511) / 512) 512) (count / 512) (count % 512))
 new_rest count lt some = record {
   bounded = omega (arith, length-replicate count true);
-  runs = omega (arith, length-replicate count true, length-set (replicate ((count + 511) / 512) 512) (count / 512) (count % 512), length-replicate {A = ℕ} ((count + 511) / 512) 512);
+  runs = omega (
+    arith,
+    length-replicate count true,
+    length-set (replicate ((count + 511) / 512) 512) (count / 512)
+        (count % 512),
+    length-replicate {A = ℕ} ((count + 511) / 512) 512,
+  );
   counted = λ run. each run (cases_lt run (count / 512)) (cases_eq run (count / 512));
   are_whole = whole_runs_are (replicate count true) (set (replicate ((count + 511) / 512) true) (count / 512) false)
-      (omega (arith, length-replicate count true, length-set (replicate ((count + 511) / 512) true) (count / 512) false, length-replicate ((count + 511) / 512) true))
-      (λ run lt. flag run (omega (arith, length-set (replicate ((count + 511) / 512) true) (count / 512) false, length-replicate ((count + 511) / 512) true)) (cases_eq run (count / 512)));
+      (omega (
+        arith,
+        length-replicate count true,
+        length-set (replicate ((count + 511) / 512) true) (count / 512) false,
+        length-replicate ((count + 511) / 512) true,
+      ))
+      (λ run lt. flag run (omega (
+        arith,
+        length-set (replicate ((count + 511) / 512) true) (count / 512) false,
+        length-replicate ((count + 511) / 512) true,
+      )) (cases_eq run (count / 512)));
 }
   where
     full : (run : ℕ) → run < count / 512 → free_in (replicate count true) run ≡ 512
@@ -409,7 +425,8 @@ new_rest count lt some = record {
     each : (run : ℕ) → (run < count / 512) ⊎ (count / 512 ≤ run) → (run ≡ count / 512) ⊎ (run ≡ count / 512 → ⊥) →
         get_or (set (replicate ((count + 511) / 512) 512) (count / 512) (count % 512)) run 0 ≡ free_in (replicate count true) run
     each run _ (inl e) =
-        rw e (get_or-set_same (replicate ((count + 511) / 512) 512) (count / 512) (count % 512) 0 (omega (arith, length-replicate {A = ℕ} ((count + 511) / 512) 512)) ∙ sym rest)
+        rw e (get_or-set_same (replicate ((count + 511) / 512) 512) (count / 512) (count % 512) 0
+        (omega (arith, length-replicate {A = ℕ} ((count + 511) / 512) 512)) ∙ sym rest)
     each run (inl lt) (inr ne) =
         get_or-set_other (replicate ((count + 511) / 512) 512) (count / 512) run (count % 512) 0 ne
         ∙ (get_or-replicate ((count + 511) / 512) run 512 0 (omega arith) ∙ sym (full run lt))

@@ -41,7 +41,8 @@ module _ (old new : List ℕ) (root N i : ℕ) (at : Place)
       large_is new root (512 * N + i) ∙ rw (quotient, rest, e) refl
 
   -- another entry of a table of the third step
-  other_entry : (n : ℕ) (b : Place) → (n ≡ 512 * N + i → ⊥) → reach old root 2 (n / 512) ≡ Some b → word_at new b.frame (n % 512) ≡ word_at old b.frame (n % 512)
+  other_entry : (n : ℕ) (b : Place) → (n ≡ 512 * N + i → ⊥) → reach old root 2 (n / 512) ≡ Some b →
+      word_at new b.frame (n % 512) ≡ word_at old b.frame (n % 512)
   other_entry n b ne is =
       same 2 (n / 512) b (n % 512) (omega arith) is (omega arith)
       (λ x y. let p = alone 2 (n / 512) b (omega arith) is x in ne (let q : n / 512 ≡ N = p.1 in omega arith))

@@ -70,7 +70,11 @@ module _ (words : List ℕ) (root page third last : ℕ) (at : Place)
           let z : Some at ≡ None = sym met ∙ n2 in absurd (cc)
 
   pub ends_from : (end : WalkEnd) → IsEndFrom words at third last end → IsWalkEnd words root page end
-  ends_from (Entry entry leads) is = (go (some_or_none (step words 2 at third)), is.3 ∙ sym (walked ∙ ap (λ o. page_or o last (next_from words 3 (step words 2 at third) last)) is.2))
+  ends_from (Entry entry leads) is = (
+    go (some_or_none (step words 2 at third)),
+    is.3
+        ∙ sym (walked ∙ ap (λ o. page_or o last (next_from words 3 (step words 2 at third) last)) is.2),
+  )
     where
       go : ((m : Place) × (step words 2 at third ≡ Some m)) ⊎ (step words 2 at third ≡ None) → IsEntryOf words root page entry.table entry.index
       go (inl p) =

@@ -7,9 +7,12 @@ use Rattle.heap_model.specs.State.{end_of}
 use Rattle.mapped_regions.specs.Regions.{IsBoundary}
 
 -- no region reaches over an address that each of them misses
-pub missed_by_all : (address : ℕ) (list : List Region) → list_all (λ region. nat_le (end_of region) address || nat_le address region.start) list ≡ true → IsBoundary address list
+pub missed_by_all : (address : ℕ) (list : List Region) → list_all (λ region.
+    nat_le (end_of region) address || nat_le address region.start) list ≡ true → IsBoundary address list
 missed_by_all address [] all = tt
 missed_by_all address (first ∷ rest) all = go (nat_le (end_of first) address || nat_le address first.start) refl (missed_by_all address rest) where
-  go : (t : Bool) → (nat_le (end_of first) address || nat_le address first.start) ≡ t → (list_all (λ region. nat_le (end_of region) address || nat_le address region.start) rest ≡ true → IsBoundary address rest) → IsBoundary address (first ∷ rest)
+  go : (t : Bool) → (nat_le (end_of first) address || nat_le address first.start) ≡ t →
+      (list_all (λ region. nat_le (end_of region) address || nat_le address region.start) rest ≡ true →
+      IsBoundary address rest) → IsBoundary address (first ∷ rest)
   go true is_so later = (grind (arith, nat_tests), later (rw is_so at all))
   go false not_so later = let never : false ≡ true = rw not_so at all in absurd (cc)

@@ -20,7 +20,8 @@ use Rattle.sound_heap.specs.Heap.{HasBlock, usable, IsIntact}
 pub enough : (heap : HeapState) (address size : ℕ) → IsBlock heap address size → size ≤ usable heap address
 enough heap address size block = omega (arith, size_at heap (address - 16) block.extent block.there, block.holds)
 
-module _ {A : Type 0} (regions : A → List Grant) (word : A → ℕ → ℕ) (heap : Dlmalloc A) (sound : IsSound regions word heap) (address : ℕ) (block : HasBlock (state_of word heap) address) where
+module _ {A : Type 0} (regions : A → List Grant) (word : A → ℕ → ℕ) (heap : Dlmalloc A) (sound : IsSound regions word heap)
+    (address : ℕ) (block : HasBlock (state_of word heap) address) where
   place : block.1.extent.at ≡ address - 16
   place = (found (address - 16) block.1.extent (extents_in (state_of word heap)) block.1.there).place
 
@@ -33,7 +34,8 @@ module _ {A : Type 0} (regions : A → List Grant) (word : A → ℕ → ℕ) (h
   size : usable (state_of word heap) address ≡ block.1.extent.size - 8
   size = ap (λ (n : ℕ). n - 8) (size_at (state_of word heap) (address - 16) block.1.extent block.1.there)
 
-  pub word_inside : (offset : ℕ) → offset + 8 ≤ usable (state_of word heap) address → offset % 8 ≡ 0 → IsWordOf (regions heap.system) (address + offset) × (address + offset < 2 ^ 64)
+  pub word_inside : (offset : ℕ) → offset + 8 ≤ usable (state_of word heap) address → offset % 8 ≡ 0 →
+      IsWordOf (regions heap.system) (address + offset) × (address + offset < 2 ^ 64)
   word_inside offset within aligned = (
     record {
       granted = inside.granted (address + offset) (omega (arith, place, block.1.low)) (omega (arith, place, block.1.low, size, within));
@@ -43,7 +45,8 @@ module _ {A : Type 0} (regions : A → List Grant) (word : A → ℕ → ℕ) (h
   )
 
   -- where it alone changes, words of blocks alone do
-  only_block : (offset value : ℕ) (new : ℕ → ℕ) → offset + 8 ≤ usable (state_of word heap) address → offset % 8 ≡ 0 → IsStored (regions heap.system) (word heap.system) (address + offset) value new →
+  only_block : (offset value : ℕ) (new : ℕ → ℕ) → offset + 8 ≤ usable (state_of word heap) address → offset % 8 ≡ 0 →
+      IsStored (regions heap.system) (word heap.system) (address + offset) value new →
       OnlyBlocksChange (regions heap.system) (state_of word heap) (word heap.system) new
   only_block offset value new within aligned stored k is there_is apart =
       stored.elsewhere k is (λ same. elim (apart block.1.extent block.1.used there) [
@@ -52,7 +55,8 @@ module _ {A : Type 0} (regions : A → List Grant) (word : A → ℕ → ℕ) (h
       ])
 
   -- so the heap is as it was
-  pub still_intact : RestsOutside regions word heap → IsBinned regions word heap → (offset value : ℕ) (system : A) → offset + 8 ≤ usable (state_of word heap) address → offset % 8 ≡ 0 →
+  pub still_intact : RestsOutside regions word heap → IsBinned regions word heap → (offset value : ℕ) (system : A) →
+      offset + 8 ≤ usable (state_of word heap) address → offset % 8 ≡ 0 →
       regions system ≡ regions heap.system → IsStored (regions heap.system) (word heap.system) (address + offset) value (word system) →
       IsIntact regions word (record heap { system = system }) × (state_of word (record heap { system = system }) ≡ state_of word heap)
   still_intact rests linked offset value system within aligned same stored =
@@ -60,7 +64,8 @@ module _ {A : Type 0} (regions : A → List Grant) (word : A → ℕ → ℕ) (h
       (record { sound = still.0; linked = still.2 linked }, still.1)
 
   -- and its bins keep their order
-  pub still_ordered : OrderRestsOutside regions word heap → (offset value : ℕ) (system : A) → offset + 8 ≤ usable (state_of word heap) address → offset % 8 ≡ 0 →
+  pub still_ordered : OrderRestsOutside regions word heap → (offset value : ℕ) (system : A) →
+      offset + 8 ≤ usable (state_of word heap) address → offset % 8 ≡ 0 →
       regions system ≡ regions heap.system → IsStored (regions heap.system) (word heap.system) (address + offset) value (word system) →
       KeepsIndex regions word heap (record heap { system = system })
   still_ordered rests offset value system within aligned same stored =

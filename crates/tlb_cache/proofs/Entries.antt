@@ -60,12 +60,14 @@ has_at [] page age h e = absurd (omega arith)
 has_at (x ∷ xs) page zero h e = ap (λ (b : Bool). b || has_page xs page) (eq-eqb x.page page e)
 has_at (x ∷ xs) page (suc age) h e = ap (λ (b : Bool). x.page == page || b) (has_at xs page age (omega arith) e) ∙ or_true (x.page == page)
 
-pub none_at : (entries : List TlbEntry) (page : ℕ) → ((age : ℕ) → age < length entries → slice_index (pages_of entries) age ≡ page → ⊥) → has_page entries page ≡ false
+pub none_at : (entries : List TlbEntry) (page : ℕ) → ((age : ℕ) → age < length entries →
+    slice_index (pages_of entries) age ≡ page → ⊥) → has_page entries page ≡ false
 none_at [] page h = refl
 none_at (x ∷ xs) page h =
     neither (x.page == page) (has_page xs page) (ne_eqb x.page page (h zero (omega arith))) (none_at xs page (λ age l. h (suc age) (omega (arith, l))))
 
-pub has_push : (entries : List TlbEntry) (entry : TlbEntry) (page : ℕ) → has_page entries page ≡ false → (entry.page ≡ page → ⊥) → has_page (entries ++ entry ∷ []) page ≡ false
+pub has_push : (entries : List TlbEntry) (entry : TlbEntry) (page : ℕ) → has_page entries page ≡ false →
+    (entry.page ≡ page → ⊥) → has_page (entries ++ entry ∷ []) page ≡ false
 has_push [] entry page h other = neither (entry.page == page) false (ne_eqb entry.page page other) refl
 has_push (x ∷ xs) entry page h other =
     let parts = or_none (x.page == page) (has_page xs page) h in
@@ -78,7 +80,8 @@ has_drop (suc n) (x ∷ xs) page h = has_drop n xs page (or_none (x.page == page
 
 -- ---- no page has two
 
-pub distinct_push : (entries : List TlbEntry) (entry : TlbEntry) → AreDistinct entries → has_page entries entry.page ≡ false → AreDistinct (entries ++ entry ∷ [])
+pub distinct_push : (entries : List TlbEntry) (entry : TlbEntry) → AreDistinct entries →
+    has_page entries entry.page ≡ false → AreDistinct (entries ++ entry ∷ [])
 distinct_push [] entry d h = (refl, tt)
 distinct_push (x ∷ xs) entry d h =
     let parts = or_none (x.page == entry.page) (has_page xs entry.page) h in
@@ -90,7 +93,8 @@ distinct_drop [] d = tt
 distinct_drop (x ∷ xs) d = d.1
 
 -- the oldest entry's page has no other
-pub first_alone : (entries : List TlbEntry) (entry : TlbEntry) → AreDistinct entries → slice_get entries 0 ≡ Some entry → has_page (drop 1 entries) entry.page ≡ false
+pub first_alone : (entries : List TlbEntry) (entry : TlbEntry) → AreDistinct entries → slice_get entries 0 ≡ Some entry →
+    has_page (drop 1 entries) entry.page ≡ false
 first_alone [] entry d h = cc
 first_alone (x ∷ xs) entry d h = let same : x ≡ entry = cc in subst (λ (e : TlbEntry). has_page xs e.page ≡ false) same d.0
 
@@ -104,7 +108,8 @@ kept_last capacity entries entry some =
     sym (drop-append-le (length entries + 1 - capacity) entries (entry ∷ []) few)
     ∙ ap (λ (n : ℕ). drop (n - capacity) (entries ++ entry ∷ [])) (sym (length-append entries (entry ∷ [])))
 
-pub keep_room : (capacity : ℕ) (entries : List TlbEntry) (entry : TlbEntry) → length entries < capacity → keep_last capacity (entries ++ entry ∷ []) ≡ entries ++ entry ∷ []
+pub keep_room : (capacity : ℕ) (entries : List TlbEntry) (entry : TlbEntry) → length entries < capacity →
+    keep_last capacity (entries ++ entry ∷ []) ≡ entries ++ entry ∷ []
 keep_room capacity entries entry room =
     let none : length (entries ++ entry ∷ []) - capacity ≡ 0 = omega (arith, length-append entries (entry ∷ [])) in
     ap (λ (n : ℕ). drop n (entries ++ entry ∷ [])) none
@@ -145,7 +150,8 @@ turn_first test xs turns h d = ap (λ (zs : List TlbEntry). zs ++ filter test (t
 pub turn_gone : (test : TlbEntry → Bool) (xs : List TlbEntry) (turns : ℕ) → turns < length xs → (d : TlbEntry) → test (get_or xs turns d) ≡ false →
     drop (turns + 1) xs ++ filter test (take turns xs) ≡ turned test xs (turns + 1)
 turn_gone test xs turns h d fails =
-    ap (λ (zs : List TlbEntry). drop (turns + 1) xs ++ zs) (sym (ap (filter test) (take_more xs turns d h) ∙ (filter-append test (take turns xs) (get_or xs turns d ∷ []) ∙ last)))
+    ap (λ (zs : List TlbEntry). drop (turns + 1) xs ++ zs) (sym (ap (filter test) (take_more xs turns d h)
+    ∙ (filter-append test (take turns xs) (get_or xs turns d ∷ []) ∙ last)))
   where
     last : filter test (take turns xs) ++ filter test (get_or xs turns d ∷ []) ≡ filter test (take turns xs)
     last = rw fails (append-nil (filter test (take turns xs)))
@@ -154,7 +160,8 @@ pub turn_back : (test : TlbEntry → Bool) (xs : List TlbEntry) (turns : ℕ) �
     (drop (turns + 1) xs ++ filter test (take turns xs)) ++ get_or xs turns d ∷ [] ≡ turned test xs (turns + 1)
 turn_back test xs turns h d passes =
     append_assoc (drop (turns + 1) xs) (filter test (take turns xs)) (get_or xs turns d ∷ [])
-    ∙ ap (λ (zs : List TlbEntry). drop (turns + 1) xs ++ zs) (sym (ap (filter test) (take_more xs turns d h) ∙ (filter-append test (take turns xs) (get_or xs turns d ∷ []) ∙ last)))
+    ∙ ap (λ (zs : List TlbEntry). drop (turns + 1) xs ++ zs) (sym (ap (filter test) (take_more xs turns d h)
+    ∙ (filter-append test (take turns xs) (get_or xs turns d ∷ []) ∙ last)))
   where
     last : filter test (take turns xs) ++ filter test (get_or xs turns d ∷ []) ≡ filter test (take turns xs) ++ get_or xs turns d ∷ []
     last = rw passes refl
@@ -177,13 +184,15 @@ turn_next test [] turns h = absurd (omega arith)
 turn_next test (x ∷ xs) turns h = turn_once test (x ∷ xs) turns h x
 
 -- the oldest entry's turn: it leaves, or comes back, or there is none
-pub turn_out : (test : TlbEntry → Bool) (xs : List TlbEntry) (x : TlbEntry) → slice_get xs 0 ≡ Some x → test x ≡ false → drop 1 xs ++ filter test (take 1 xs) ≡ drop 1 xs
+pub turn_out : (test : TlbEntry → Bool) (xs : List TlbEntry) (x : TlbEntry) → slice_get xs 0 ≡ Some x → test x ≡ false →
+    drop 1 xs ++ filter test (take 1 xs) ≡ drop 1 xs
 turn_out test [] x h fails = cc
 turn_out test (y ∷ ys) x h fails =
     let same : y ≡ x = cc in
     ap (λ (b : Bool). ys ++ cond b (y ∷ []) []) (ap test same ∙ fails) ∙ append-nil ys
 
-pub turn_in : (test : TlbEntry → Bool) (xs : List TlbEntry) (x : TlbEntry) → slice_get xs 0 ≡ Some x → test x ≡ true → drop 1 xs ++ filter test (take 1 xs) ≡ drop 1 xs ++ x ∷ []
+pub turn_in : (test : TlbEntry → Bool) (xs : List TlbEntry) (x : TlbEntry) → slice_get xs 0 ≡ Some x → test x ≡ true →
+    drop 1 xs ++ filter test (take 1 xs) ≡ drop 1 xs ++ x ∷ []
 turn_in test [] x h passes = cc
 turn_in test (y ∷ ys) x h passes =
     let same : y ≡ x = cc in
@@ -194,16 +203,19 @@ turn_none test [] h = refl
 turn_none test (y ∷ ys) h = cc
 
 -- if no page that is tested has an entry, all stay
-pub filter_kept : (covered : ℕ → Bool) (xs : List TlbEntry) → ((page : ℕ) → covered page ≡ true → has_page xs page ≡ false) → filter (λ (x : TlbEntry). not (covered x.page)) xs ≡ xs
+pub filter_kept : (covered : ℕ → Bool) (xs : List TlbEntry) → ((page : ℕ) → covered page ≡ true →
+    has_page xs page ≡ false) → filter (λ (x : TlbEntry). not (covered x.page)) xs ≡ xs
 filter_kept covered [] h = refl
-filter_kept covered (x ∷ xs) h = go (covered x.page) refl (filter_kept covered xs (λ page is. (or_none (x.page == page) (has_page xs page) (h page is)).1)) where
-  go : (b : Bool) → covered x.page ≡ b → filter (λ (e : TlbEntry). not (covered e.page)) xs ≡ xs →
-      cond (not (covered x.page)) (x ∷ filter (λ (e : TlbEntry). not (covered e.page)) xs) (filter (λ (e : TlbEntry). not (covered e.page)) xs) ≡ x ∷ xs
-  go true is rest = absurd (eqb-false x.page x.page (or_none (x.page == x.page) (has_page xs x.page) (h x.page is)).0 refl)
-  go false is rest = rw is (ap (λ (zs : List TlbEntry). x ∷ zs) rest)
+filter_kept covered (x ∷ xs) h = go (covered x.page) refl (filter_kept covered xs
+    (λ page is. (or_none (x.page == page) (has_page xs page) (h page is)).1)) where
+      go : (b : Bool) → covered x.page ≡ b → filter (λ (e : TlbEntry). not (covered e.page)) xs ≡ xs →
+          cond (not (covered x.page)) (x ∷ filter (λ (e : TlbEntry). not (covered e.page)) xs) (filter (λ (e : TlbEntry). not (covered e.page)) xs) ≡ x ∷ xs
+      go true is rest = absurd (eqb-false x.page x.page (or_none (x.page == x.page) (has_page xs x.page) (h x.page is)).0 refl)
+      go false is rest = rw is (ap (λ (zs : List TlbEntry). x ∷ zs) rest)
 
 -- tests that agree leave the same
-pub filter_same : (f g : ℕ → Bool) (xs : List TlbEntry) → ((page : ℕ) → f page ≡ g page) → filter (λ (x : TlbEntry). not (f x.page)) xs ≡ filter (λ (x : TlbEntry). not (g x.page)) xs
+pub filter_same : (f g : ℕ → Bool) (xs : List TlbEntry) → ((page : ℕ) → f page ≡ g page) →
+    filter (λ (x : TlbEntry). not (f x.page)) xs ≡ filter (λ (x : TlbEntry). not (g x.page)) xs
 filter_same f g [] h = refl
 filter_same f g (x ∷ xs) h = rw (h x.page) (ap (λ (zs : List TlbEntry). cond (not (g x.page)) (x ∷ zs) zs) (filter_same f g xs h))
 
@@ -242,11 +254,13 @@ all_at P (x ∷ xs) (suc k) d a h = all_at P xs k d a.1 (omega arith)
 
 -- ---- each entry is what the walk finds
 
-pub found_at : (words : List ℕ) (root : ℕ) (entries : List TlbEntry) (entry : TlbEntry) → Agrees words root entries → Contains entries entry → IsFound words root entry
+pub found_at : (words : List ℕ) (root : ℕ) (entries : List TlbEntry) (entry : TlbEntry) → Agrees words root entries →
+    Contains entries entry → IsFound words root entry
 found_at words root entries entry agrees (k, within, is) = subst (IsFound words root) is (all_at (IsFound words root) entries k entry agrees within)
 
 pub agrees_kept :
-    (words : List ℕ) (root : ℕ) (cache : Cache) (page : ℕ) (found : Option Mapped) → IsTrue (is_canonical (page * 4096)) → option_map place_of found ≡ walk_of words root page →
+    (words : List ℕ) (root : ℕ) (cache : Cache) (page : ℕ) (found : Option Mapped) → IsTrue (is_canonical (page * 4096)) →
+    option_map place_of found ≡ walk_of words root page →
     IfSome found (λ (mapped : Mapped). mapped.frame < frame_count words) → Agrees words root cache.entries → Agrees words root (kept cache page found).entries
 agrees_kept words root cache page None canonical walked below agrees = agrees
 agrees_kept words root cache page (Some mapped) canonical walked below agrees =

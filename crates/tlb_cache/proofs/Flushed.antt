@@ -25,7 +25,8 @@ bounds : (first count page : ℕ) → list_any (λ (x : ℕ). x == page) (range_
 bounds first zero page h = let no : false ≡ true = h in absurd (cc)
 bounds first (suc n) page h = go (or_cases (first == page) (list_any (λ (x : ℕ). x == page) (range_with_len (first + 1) n)) h) (bounds (first + 1) n page) where
   go : ((first == page) ≡ true) ⊎ (list_any (λ (x : ℕ). x == page) (range_with_len (first + 1) n) ≡ true) →
-      (list_any (λ (x : ℕ). x == page) (range_with_len (first + 1) n) ≡ true → (first + 1 ≤ page) × (page < first + 1 + n)) → (first ≤ page) × (page < first + suc n)
+      (list_any (λ (x : ℕ). x == page) (range_with_len (first + 1) n) ≡ true →
+      (first + 1 ≤ page) × (page < first + 1 + n)) → (first ≤ page) × (page < first + suc n)
   go (inl here) rest = let e : first ≡ page = eqb-true first page here in (omega arith, omega arith)
   go (inr later) rest = let b = rest later in (omega (arith, b.0), omega (arith, b.1))
 
@@ -51,7 +52,8 @@ each_is ecx = go (ecx / 2 ^ 31 == 1) where
   go true = inr refl
   go false = inl refl
 
-pub covers_flushed : (rax ecx edx page : ℕ) → list_any (λ (x : ℕ). x == page) (flushed_by 4096 (Invlpgb rax ecx edx)) ≡ true → covers (Invlpgb rax ecx edx) page ≡ true
+pub covers_flushed : (rax ecx edx page : ℕ) → list_any (λ (x : ℕ). x == page)
+    (flushed_by 4096 (Invlpgb rax ecx edx)) ≡ true → covers (Invlpgb rax ecx edx) page ≡ true
 covers_flushed rax ecx edx page h = go (rax % 2 == 1) where
   b : (rax / 4096 * 4096 / 4096 ≤ page) × (page < rax / 4096 * 4096 / 4096 + max 1 (ecx % 2 ^ 16))
   b = bounds (rax / 4096 * 4096 / 4096) (max 1 (ecx % 2 ^ 16)) page h
@@ -86,13 +88,15 @@ turns_cover flush (turn ∷ turns) page h =
     go (inl here) rest =
         or_left (covers (turn_command 4096 flush turn) page) (list_any (λ (command : FlushCommand). covers command page) (map (turn_command 4096 flush) turns))
         (covers_flushed (turn.page * 4096 / 4096 * 4096 + (1 + options_of flush)) (bit_if (4096 == 2 ^ 21) 31 + turn.count) (identifiers_of flush) page here)
-    go (inr later) rest = or_right (covers (turn_command 4096 flush turn) page) (list_any (λ (command : FlushCommand). covers command page) (map (turn_command 4096 flush) turns)) (rest later)
+    go (inr later) rest = or_right (covers (turn_command 4096 flush turn) page)
+        (list_any (λ (command : FlushCommand). covers command page) (map (turn_command 4096 flush) turns)) (rest later)
 
 -- ---- the pages of a range
 
 halves : (first : ℕ) → IsTrue (is_canonical (first * 4096)) → (first < 2 ^ 35) ⊎ ((2 ^ 52 - 2 ^ 35 ≤ first) × (first < 2 ^ 52))
 halves first h = go (or_cases (first * 4096 / 2 ^ 47 == 0) (first * 4096 / 2 ^ 47 == 2 ^ 17 - 1) h) where
-  go : ((first * 4096 / 2 ^ 47 == 0) ≡ true) ⊎ ((first * 4096 / 2 ^ 47 == 2 ^ 17 - 1) ≡ true) → (first < 2 ^ 35) ⊎ ((2 ^ 52 - 2 ^ 35 ≤ first) × (first < 2 ^ 52))
+  go : ((first * 4096 / 2 ^ 47 == 0) ≡ true) ⊎ ((first * 4096 / 2 ^ 47 == 2 ^ 17 - 1) ≡ true) →
+      (first < 2 ^ 35) ⊎ ((2 ^ 52 - 2 ^ 35 ≤ first) × (first < 2 ^ 52))
   go (inl low) = let e : first * 4096 / 2 ^ 47 ≡ 0 = eqb-true _ _ low in inl (omega arith)
   go (inr high) = let e : first * 4096 / 2 ^ 47 ≡ 131071 = eqb-true _ _ high in inr (omega arith, omega arith)
 
@@ -108,22 +112,29 @@ position_of place = grind (arith, nat_tests)
 pub range_has : (first pages k : ℕ) → IsCanonicalRange first pages → k < pages →
     list_any (λ (x : ℕ). x == first + k) (pages_of 4096 (first, page_at 4096 (position 4096 first + pages))) ≡ true
 range_has first pages k range below =
-    let count : position 4096 (page_at 4096 (position 4096 first + pages)) - position 4096 first ≡ pages = omega (arith, position_of (position 4096 first + pages)) in
-    mapped_in (page_at 4096) (position 4096 first) (position 4096 (page_at 4096 (position 4096 first + pages)) - position 4096 first) (position 4096 first + k) (first + k) (omega arith) (omega (arith, count)) (next_page first pages k range below)
+    let count : position 4096 (page_at 4096 (position 4096 first + pages)) - position 4096 first ≡ pages =
+    omega (arith, position_of (position 4096 first + pages)) in
+    mapped_in (page_at 4096) (position 4096 first) (position 4096 (page_at 4096 (position 4096 first + pages)) - position
+    4096 first) (position 4096 first + k) (first + k) (omega arith) (omega (arith, count))
+    (next_page first pages k range below)
 
 pub turns_flush : (most : ℕ) (flush : Flush) (start pages from to : ℕ) → IsPageRange start pages →
-    FlushesRange 4096 most (start / 4096, page_at 4096 (position 4096 (start / 4096) + pages)) (turn_commands 4096 flush from to) → Flushes (turn_commands 4096 flush from to) start pages
+    FlushesRange 4096 most (start / 4096, page_at 4096 (position 4096 (start / 4096) + pages))
+    (turn_commands 4096 flush from to) → Flushes (turn_commands 4096 flush from to) start pages
 turns_flush most flush start pages from to range flushes = λ k below.
     turns_cover flush (turns 4096 flush.limits.count_max from to) (start / 4096 + k)
     (ap (λ (list : List ℕ). list_any (λ (x : ℕ). x == start / 4096 + k) list) flushes.pages ∙ range_has (start / 4096) pages k range.1 below)
 
 -- ---- the commands, by whether a page comes next after the pages
 
-pub ranged : (first pages : ℕ) → position 4096 first + pages < 2 * half_pages 4096 → range_of first pages ≡ Some (first, page_at 4096 (position 4096 first + pages))
-ranged first pages next = ap (λ (b : Bool). cond b (Some (first, page_at 4096 (position 4096 first + pages))) None) (lt-ltb (position 4096 first + pages) (2 * half_pages 4096) next)
+pub ranged : (first pages : ℕ) → position 4096 first + pages < 2 * half_pages 4096 →
+    range_of first pages ≡ Some (first, page_at 4096 (position 4096 first + pages))
+ranged first pages next = ap (λ (b : Bool). cond b (Some (first, page_at 4096 (position 4096 first + pages))) None)
+    (lt-ltb (position 4096 first + pages) (2 * half_pages 4096) next)
 
 pub unranged : (first pages : ℕ) → (position 4096 first + pages < 2 * half_pages 4096 → ⊥) → range_of first pages ≡ None
-unranged first pages none = ap (λ (b : Bool). cond b (Some (first, page_at 4096 (position 4096 first + pages))) None) (le-ltb (position 4096 first + pages) (2 * half_pages 4096) (omega (arith, none)))
+unranged first pages none = ap (λ (b : Bool). cond b (Some (first, page_at 4096 (position 4096 first + pages))) None)
+    (le-ltb (position 4096 first + pages) (2 * half_pages 4096) (omega (arith, none)))
 
 pub flush_is : (cpu : Cpu) (start pages : ℕ) (range : Option (ℕ × ℕ)) → range_of (start / 4096) pages ≡ range →
     commands 4096 (record (whole (limits_of cpu)) { pages = range }) range ≡ flush_of cpu start pages
@@ -131,12 +142,23 @@ flush_is cpu start pages range is = ap (λ (range : Option (ℕ × ℕ)). comman
 
 pub flushes_range : (most : ℕ) (cpu : Cpu) (start pages : ℕ) → IsPageRange start pages → position 4096 (start / 4096) + pages < 2 * half_pages 4096 →
     FlushesRange 4096 most (start / 4096, page_at 4096 (position 4096 (start / 4096) + pages))
-    (commands 4096 (record (whole (limits_of cpu)) { pages = Some (start / 4096, page_at 4096 (position 4096 (start / 4096) + pages)) }) (Some (start / 4096, page_at 4096 (position 4096 (start / 4096) + pages)))) →
+    (commands 4096 (record (whole (limits_of cpu)) {
+      pages = Some (
+        start / 4096,
+        page_at 4096 (position 4096 (start / 4096) + pages),
+      );
+    }) (Some (
+      start / 4096,
+      page_at 4096 (position 4096 (start / 4096) + pages),
+    ))) →
     Flushes (flush_of cpu start pages) start pages
 flushes_range most cpu start pages range next flushes =
     let flush : Flush = record (whole (limits_of cpu)) { pages = Some (start / 4096, page_at 4096 (position 4096 (start / 4096) + pages)) } in
-    subst (λ (list : List FlushCommand). Flushes list start pages) (flush_is cpu start pages (Some (start / 4096, page_at 4096 (position 4096 (start / 4096) + pages))) (ranged (start / 4096) pages next))
+    subst (λ (list : List FlushCommand). Flushes list start pages) (flush_is cpu start pages
+    (Some (start / 4096, page_at 4096 (position 4096 (start / 4096) + pages))) (ranged (start / 4096) pages next))
     (turns_flush most flush start pages (position 4096 (start / 4096)) (position 4096 (page_at 4096 (position 4096 (start / 4096) + pages))) range flushes)
 
-pub flushes_all : (cpu : Cpu) (start pages : ℕ) → (position 4096 (start / 4096) + pages < 2 * half_pages 4096 → ⊥) → Flushes (flush_of cpu start pages) start pages
-flushes_all cpu start pages none = subst (λ (list : List FlushCommand). Flushes list start pages) (flush_is cpu start pages None (unranged (start / 4096) pages none)) (λ k below. refl)
+pub flushes_all : (cpu : Cpu) (start pages : ℕ) → (position 4096 (start / 4096) + pages < 2 * half_pages 4096 → ⊥) →
+    Flushes (flush_of cpu start pages) start pages
+flushes_all cpu start pages none = subst (λ (list : List FlushCommand). Flushes list start pages)
+    (flush_is cpu start pages None (unranged (start / 4096) pages none)) (λ k below. refl)

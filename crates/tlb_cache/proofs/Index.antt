@@ -24,8 +24,10 @@ none_chained newest older oldest = record {
 
 -- ---- the oldest leaves
 
-leads_as : (hash : ℕ → ℕ) (wanted limit limit' count count' : ℕ) → limit ≡ limit' → count ≡ count' → Leads hash wanted limit count → Leads hash wanted limit' count'
-leads_as hash wanted limit limit' count count' e k leads = subst (λ (c : ℕ). Leads hash wanted limit' c) k (subst (λ (l : ℕ). Leads hash wanted l count) e leads)
+leads_as : (hash : ℕ → ℕ) (wanted limit limit' count count' : ℕ) → limit ≡ limit' → count ≡ count' →
+    Leads hash wanted limit count → Leads hash wanted limit' count'
+leads_as hash wanted limit limit' count count' e k leads = subst (λ (c : ℕ). Leads hash wanted limit' c) k
+    (subst (λ (l : ℕ). Leads hash wanted l count) e leads)
 
 pub popped :
     (newest older : List ℕ) (oldest page : ℕ) (pages : List ℕ) → oldest < length older →
@@ -46,7 +48,8 @@ popped newest older oldest page pages starts heads_in links_in chains = record {
       leads_as (hash_at (length newest) pages) (hash_at (length newest) pages age) age age _ _ refl
       (sym (fewer_up_to (length older) oldest was age starts (links_in (place_at (length older) oldest (suc age))) few)
       ∙ ap (λ (p : ℕ). up_to (length older) (next_place (length older) oldest) p age) (sym same))
-      (leads_later (hash_at (length newest) (page ∷ pages)) (hash_at (length newest) pages) (hash_at (length newest) pages age) age _ (λ _. refl) (chains.links (suc age) (omega (arith, below))));
+      (leads_later (hash_at (length newest) (page ∷ pages)) (hash_at (length newest) pages)
+      (hash_at (length newest) pages age) age _ (λ _. refl) (chains.links (suc age) (omega (arith, below))));
 }
 
 -- ---- one joins
@@ -78,7 +81,8 @@ module _ (newest older newest' older' : List ℕ) (oldest page hash place : ℕ)
 
   same : (age : ℕ) → age < length pages → now age ≡ was age
   unfolding was now
-  same age below = ap (λ (m : ℕ). hash_of m (slice_index (pages ++ page ∷ []) age)) hashes ∙ ap (hash_of (length newest)) (get_or_append_left pages (page ∷ []) 0 age below)
+  same age below = ap (λ (m : ℕ). hash_of m (slice_index (pages ++ page ∷ []) age)) hashes
+      ∙ ap (hash_of (length newest)) (get_or_append_left pages (page ∷ []) 0 age below)
 
   new_hash : now (length pages) ≡ hash
   unfolding now
@@ -95,13 +99,16 @@ module _ (newest older newest' older' : List ℕ) (oldest page hash place : ℕ)
       let count = new_up_to (length older) oldest (length pages) starts room in
       leads_as now other (length pages + 1) _ (length pages + 1) _ more
       (sym count ∙ (ap (λ (p : ℕ). up_to (length older) oldest p (length pages + 1)) (sym at)
-      ∙ (ap (λ (n : ℕ). up_to n oldest (slice_index newest' other) (length pages + 1)) (sym places) ∙ ap (λ (l : ℕ). up_to (length older') oldest (slice_index newest' other) l) more)))
+      ∙ (ap (λ (n : ℕ). up_to n oldest (slice_index newest' other) (length pages + 1)) (sym places)
+      ∙ ap (λ (l : ℕ). up_to (length older') oldest (slice_index newest' other) l) more)))
       (leads_new now other (length pages) (new_hash ∙ sym is))
   head other (inr not) below =
-      let at : slice_index newest' other ≡ slice_index newest other = ap (λ (l : List ℕ). slice_index l other) newest_is ∙ get_or-set_other newest hash other place 0 not in
+      let at : slice_index newest' other ≡ slice_index newest other = ap (λ (l : List ℕ). slice_index l other) newest_is
+      ∙ get_or-set_other newest hash other place 0 not in
       leads_as now other (length pages + 1) _ _ _ more
       (ap (λ (p : ℕ). up_to (length older) oldest p (length pages + 1)) (sym at)
-      ∙ (ap (λ (n : ℕ). up_to n oldest (slice_index newest' other) (length pages + 1)) (sym places) ∙ ap (λ (l : ℕ). up_to (length older') oldest (slice_index newest' other) l) more))
+      ∙ (ap (λ (n : ℕ). up_to n oldest (slice_index newest' other) (length pages + 1)) (sym places)
+      ∙ ap (λ (l : ℕ). up_to (length older') oldest (slice_index newest' other) l) more))
       (up_to_more was now other (length pages) (length older) oldest (slice_index newest other) same (λ e. not (sym e ∙ new_hash)) (chains.heads other below))
 
   link : (age : ℕ) → (age < length pages) ⊎ (length pages ≤ age) → age < length (pages ++ page ∷ []) →
@@ -115,7 +122,8 @@ module _ (newest older newest' older' : List ℕ) (oldest page hash place : ℕ)
       ∙ (ap (λ (l : List ℕ). slice_index l (place_at (length older) oldest age)) older_is
       ∙ get_or-set_other older place (place_at (length older) oldest age) (slice_index newest hash) 0 apart) in
       leads_as now (now age) age age _ _ refl
-      (ap (λ (p : ℕ). up_to (length older) oldest p age) (sym at) ∙ ap (λ (n : ℕ). up_to n oldest (slice_index older' (place_at (length older') oldest age)) age) (sym places))
+      (ap (λ (p : ℕ). up_to (length older) oldest p age) (sym at) ∙ ap (λ (n : ℕ).
+      up_to n oldest (slice_index older' (place_at (length older') oldest age)) age) (sym places))
       (leads_still was now (was age) (now age) age (length pages) _ (omega arith) same (sym (same age old)) (chains.links age old))
   link age (inr new) below =
       let is : age ≡ length pages = omega (arith, more) in

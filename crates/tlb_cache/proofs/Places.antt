@@ -22,7 +22,8 @@ pub next_within : (places oldest : ℕ) → oldest < places → next_place place
 unfolding next_place
 next_within places oldest h = grind (arith, nat_tests)
 
-pub place_after : (places oldest age : ℕ) → oldest < places → suc age < places → place_at places (next_place places oldest) age ≡ place_at places oldest (suc age)
+pub place_after : (places oldest age : ℕ) → oldest < places → suc age < places →
+    place_at places (next_place places oldest) age ≡ place_at places oldest (suc age)
 unfolding place_at next_place
 place_after places oldest age h k = grind (arith, nat_tests)
 

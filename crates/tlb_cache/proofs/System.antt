@@ -21,7 +21,8 @@ still words words' root root' entry same size walks found = record {
   frame = subst (λ (n : ℕ). entry.mapped.frame < n / 512) (sym size) found.frame;
 }
 
-pub mapped_agrees : (old new : Paged) (region : Region) (entries : List TlbEntry) → IsRegionJoined old new region → Agrees old.words old.root entries → Agrees new.words new.root entries
+pub mapped_agrees : (old new : Paged) (region : Region) (entries : List TlbEntry) → IsRegionJoined old new region →
+    Agrees old.words old.root entries → Agrees new.words new.root entries
 unfolding walk_of
 mapped_agrees old new region [] joined agrees = tt
 mapped_agrees old new region (entry ∷ entries) joined agrees =
@@ -33,7 +34,8 @@ mapped_agrees old new region (entry ∷ entries) joined agrees =
 
 -- whether a map was served or refused
 pub map_agrees :
-    {E : Type 0} (old new : Paged) (region : Region) (entries : List TlbEntry) (result : Result (Unit {0}) E) → OnOk result (IsRegionJoined old new region) → OnErr result (new ≡ old) →
+    {E : Type 0} (old new : Paged) (region : Region) (entries : List TlbEntry) (result : Result (Unit {0}) E) →
+    OnOk result (IsRegionJoined old new region) → OnErr result (new ≡ old) →
     Agrees old.words old.root entries → Agrees new.words new.root entries
 map_agrees old new region entries (Ok _) joined same agrees = mapped_agrees old new region entries joined agrees
 map_agrees old new region entries (Err _) joined same agrees = subst (λ (p : Paged). Agrees p.words p.root entries) (sym same) agrees
@@ -43,15 +45,18 @@ pub both : {T E A B C : Type 0} (result : Result T E) → (A → B → C) → On
 both (Ok _) join a b = join a b
 both (Err _) join a b = tt
 
-pub left_agrees : (old new : Paged) (start pages : ℕ) (list : List FlushCommand) (entries : List TlbEntry) → IsLeft old new start pages → Flushes list start pages →
+pub left_agrees : (old new : Paged) (start pages : ℕ) (list : List FlushCommand) (entries : List TlbEntry) →
+    IsLeft old new start pages → Flushes list start pages →
     Agrees old.words old.root entries → Agrees new.words new.root (left_by_all list entries)
 left_agrees old new start pages list [] left flushes agrees = tt
-left_agrees old new start pages list (entry ∷ entries) left flushes agrees = go (list_any (λ (command : FlushCommand). covers command entry.page) list) refl (left_agrees old new start pages list entries left flushes agrees.1) where
-  go : (b : Bool) → list_any (λ (command : FlushCommand). covers command entry.page) list ≡ b → Agrees new.words new.root (left_by_all list entries) →
-      Agrees new.words new.root (cond (not b) (entry ∷ left_by_all list entries) (left_by_all list entries))
-  go true covered rest = rest
-  go false free rest =
-      let apart : (k : ℕ) → k < pages → entry.page ≡ start / 4096 + k → ⊥ =
-      λ k below is. true≢false (sym (flushes k below) ∙ (ap (λ (page : ℕ). list_any (λ (command : FlushCommand). covers command page) list) (sym is) ∙ free)) in
-      let walks = left.gone.others entry.page agrees.0.canonical apart in
-      (still old.words new.words old.root new.root entry left.gone.root left.gone.gone.size walks agrees.0, rest)
+left_agrees old new start pages list (entry ∷ entries) left flushes agrees =
+    go (list_any (λ (command : FlushCommand). covers command entry.page) list) refl
+    (left_agrees old new start pages list entries left flushes agrees.1) where
+      go : (b : Bool) → list_any (λ (command : FlushCommand). covers command entry.page) list ≡ b → Agrees new.words new.root (left_by_all list entries) →
+          Agrees new.words new.root (cond (not b) (entry ∷ left_by_all list entries) (left_by_all list entries))
+      go true covered rest = rest
+      go false free rest =
+          let apart : (k : ℕ) → k < pages → entry.page ≡ start / 4096 + k → ⊥ =
+          λ k below is. true≢false (sym (flushes k below) ∙ (ap (λ (page : ℕ). list_any (λ (command : FlushCommand). covers command page) list) (sym is) ∙ free)) in
+          let walks = left.gone.others entry.page agrees.0.canonical apart in
+          (still old.words new.words old.root new.root entry left.gone.root left.gone.gone.size walks agrees.0, rest)

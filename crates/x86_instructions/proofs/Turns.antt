@@ -158,7 +158,8 @@ module _ (size count_max : ℕ) (fits : count_max ≤ 65535) where
 
   pub length-turns : (from to : ℕ) →
       length (turns size count_max from to)
-      ≡ div_ceil (min (to - from) (half_pages size - from)) (max count_max 1) + div_ceil (to - from - min (to - from) (half_pages size - from)) (max count_max 1)
+      ≡ div_ceil (min (to - from) (half_pages size - from)) (max count_max 1) + div_ceil
+      (to - from - min (to - from) (half_pages size - from)) (max count_max 1)
   unfolding steps low_pages high_pages
   length-turns from to = length-within (to - from) from to (omega arith)
 

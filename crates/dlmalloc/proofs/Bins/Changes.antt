@@ -15,7 +15,12 @@ module _ {A : Type 0} {regions : A → List Grant} {word : A → ℕ → ℕ} (f
       IsWordOf (regions heap.system) k → IsTrue (list_any (has_byte_in k) (segments_of word heap)) → word system k ≡ word heap.system k
   telling one there k tells granted inside = only k granted (λ at size free. out at size (same_or_beside sound free there))
     where
-      out : (at size : ℕ) → (one ≡ record { at = at; size = size; kind = Free }) ⊎ ((one.at + one.size ≤ at) ⊎ (at + size ≤ one.at)) → (k < at + 16) ⊎ (at + size ≤ k)
+      out : (at size : ℕ) → (one ≡ record {
+        at = at;
+        size = size;
+        kind =
+            Free;
+      }) ⊎ ((one.at + one.size ≤ at) ⊎ (at + size ≤ one.at)) → (k < at + 16) ⊎ (at + size ≤ k)
       out at size (inl is) =
           let place : one.at ≡ at = ap (λ e. e.at) is in
           let long : one.size ≡ size = ap (λ e. e.size) is in
@@ -60,7 +65,8 @@ module _ {A : Type 0} {regions : A → List Grant} {word : A → ℕ → ℕ} {h
     now_binned system linked same other apart = record {
       index = with_chunk size at b.index;
       linked = linked;
-      holds = subst (λ s. HoldsBut loose s (with_chunk size at b.index)) (sym same) (binned_one loose (state_of word heap) b.index at size b.holds free other apart);
+      holds = subst (λ s. HoldsBut loose s (with_chunk size at b.index)) (sym same)
+          (binned_one loose (state_of word heap) b.index at size b.holds free other apart);
     }
 
   module _ {loose : List ℕ} (b : IsBinnedBut loose regions word heap) where
@@ -75,7 +81,8 @@ module _ {A : Type 0} {regions : A → List Grant} {word : A → ℕ → ℕ} {h
     now_loose system linked same = record {
       index = without_chunk size at b.index;
       linked = linked;
-      holds = subst (λ s. HoldsBut (at ∷ loose) s (without_chunk size at b.index)) (sym same) (unbinned_one loose (state_of word heap) b.index at size b.holds b.linked.chunks.once free);
+      holds = subst (λ s. HoldsBut (at ∷ loose) s (without_chunk size at b.index)) (sym same)
+          (unbinned_one loose (state_of word heap) b.index at size b.holds b.linked.chunks.once free);
     }
 
     -- if its links are stored, or those to it, chunks went into bins or left them
@@ -88,7 +95,12 @@ module _ {A : Type 0} {regions : A → List Grant} {word : A → ℕ → ℕ} {h
 
     -- the victim is in none
     abbrev pub victim_loose : at ≡ heap.victim → IsBinnedBut (at ∷ loose) regions word heap
-    victim_loose is = record { index = b.index; linked = b.linked; holds = looser loose (state_of word heap) b.index at b.holds (λ n there. b.holds.no_victim at n there is) }
+    victim_loose is = record {
+      index = b.index;
+      linked = b.linked;
+      holds =
+          looser loose (state_of word heap) b.index at b.holds (λ n there. b.holds.no_victim at n there is);
+    }
 
 -- an address at which no chunk is free needs to be in no bin, and may be named so
 abbrev pub none_loose : {A : Type 0} {regions : A → List Grant} {word : A → ℕ → ℕ} {heap : Dlmalloc A} (at : ℕ) (loose : List ℕ) →
@@ -98,7 +110,12 @@ none_loose {word} {heap} at loose b none =
 
 abbrev pub none_binned : {A : Type 0} {regions : A → List Grant} {word : A → ℕ → ℕ} {heap : Dlmalloc A} {at : ℕ} {loose : List ℕ} → IsBinnedBut
     (at ∷ loose) regions word heap → ((n : ℕ) → IsFreeAt (state_of word heap) at n → at ≡ heap.victim) → IsBinnedBut loose regions word heap
-none_binned {word} {heap} {at} {loose} b none = record { index = b.index; linked = b.linked; holds = tighter loose (state_of word heap) b.index at b.holds none }
+none_binned {word} {heap} {at} {loose} b none = record {
+  index = b.index;
+  linked = b.linked;
+  holds =
+      tighter loose (state_of word heap) b.index at b.holds none;
+}
 
 -- the address that is in no bin has another name
 abbrev pub renamed : {A : Type 0} {regions : A → List Grant} {word : A → ℕ → ℕ} {heap : Dlmalloc A} {at other : ℕ} → at ≡ other →
@@ -108,7 +125,14 @@ renamed {word} {heap} same b = record { index = b.index; linked = b.linked; hold
 -- nothing is done
 pub not_rebinned : {A : Type 0} {regions : A → List Grant} {word : A → ℕ → ℕ} (follows : A → List Event → A → Type 0) {heap : Dlmalloc A} →
     IsSound regions word heap → follows heap.system [] heap.system → IsRebinned regions word follows heap heap
-not_rebinned follows sound followed = record { sound = sound; state = refl; fields = refl; words = λ k granted out. refl; regions_same = refl; followed = followed }
+not_rebinned follows sound followed = record {
+  sound = sound;
+  state = refl;
+  fields = refl;
+  words = λ k granted out. refl;
+  regions_same = refl;
+  followed = followed;
+}
 
 -- ---- the heap moves
 
@@ -144,8 +168,18 @@ binned_beside stays sound moved = binned_same stays sound moved.sound (λ k was 
 -- the countdown and the trim check do not matter
 abbrev pub same_bins : {A : Type 0} {regions : A → List Grant} {word : A → ℕ → ℕ} {heap : Dlmalloc A} (countdown : ℕ) →
     IsBinned regions word heap → IsBinned regions word (record heap { countdown = countdown })
-same_bins countdown b = record { index = b.index; linked = b.linked; holds = record { all = b.holds.all; free = b.holds.free; no_victim = b.holds.no_victim; not_loose = b.holds.not_loose } }
+same_bins countdown b = record {
+  index = b.index;
+  linked = b.linked;
+  holds =
+      record { all = b.holds.all; free = b.holds.free; no_victim = b.holds.no_victim; not_loose = b.holds.not_loose };
+}
 
 abbrev pub same_check : {A : Type 0} {regions : A → List Grant} {word : A → ℕ → ℕ} {heap : Dlmalloc A} (check : ℕ) →
     IsBinned regions word heap → IsBinned regions word (record heap { trim_check = check })
-same_check check b = record { index = b.index; linked = b.linked; holds = record { all = b.holds.all; free = b.holds.free; no_victim = b.holds.no_victim; not_loose = b.holds.not_loose } }
+same_check check b = record {
+  index = b.index;
+  linked = b.linked;
+  holds =
+      record { all = b.holds.all; free = b.holds.free; no_victim = b.holds.no_victim; not_loose = b.holds.not_loose };
+}

@@ -9,7 +9,8 @@ in_removed : (k chunk : ℕ) (chunks : List ℕ) → IsIn k chunks → k ≢ chu
 in_removed k chunk [] is other = absurd is
 in_removed k chunk (first ∷ chunks) is other = go (first == chunk) refl is (λ later. in_removed k chunk chunks later other)
   where
-    go : (b : Bool) → (first == chunk) ≡ b → (k ≡ first) ⊎ IsIn k chunks → (IsIn k chunks → IsIn k (removed chunk chunks)) → IsIn k (if b then chunks else first ∷ removed chunk chunks)
+    go : (b : Bool) → (first == chunk) ≡ b → (k ≡ first) ⊎ IsIn k chunks → (IsIn k chunks → IsIn k (removed chunk chunks)) →
+        IsIn k (if b then chunks else first ∷ removed chunk chunks)
     go true test (inl same) rest = absurd (other (same ∙ nat_is test))
     go true test (inr later) rest = later
     go false test (inl same) rest = inl same
@@ -19,7 +20,8 @@ of_removed : (k chunk : ℕ) (chunks : List ℕ) → IsIn k (removed chunk chunk
 of_removed k chunk [] is = is
 of_removed k chunk (first ∷ chunks) is = go (first == chunk) is (of_removed k chunk chunks)
   where
-    go : (b : Bool) → IsIn k (if b then chunks else first ∷ removed chunk chunks) → (IsIn k (removed chunk chunks) → IsIn k chunks) → (k ≡ first) ⊎ IsIn k chunks
+    go : (b : Bool) → IsIn k (if b then chunks else first ∷ removed chunk chunks) →
+        (IsIn k (removed chunk chunks) → IsIn k chunks) → (k ≡ first) ⊎ IsIn k chunks
     go true later rest = inr later
     go false (inl same) rest = inl same
     go false (inr later) rest = inr (rest later)
@@ -97,19 +99,25 @@ module _ (loose : List ℕ) (heap : HeapState) (index : ℕ → List ℕ) (at : 
       go k size free other apart (inr later) = apart later
 
   -- it goes into its bin
-  pub binned_one : (size : ℕ) → HoldsBut (at ∷ loose) heap index → IsFreeAt heap at size → at ≢ heap.victim → (IsIn at loose → ⊥) → HoldsBut loose heap (with_chunk size at index)
+  pub binned_one : (size : ℕ) → HoldsBut (at ∷ loose) heap index → IsFreeAt heap at size → at ≢ heap.victim →
+      (IsIn at loose → ⊥) → HoldsBut loose heap (with_chunk size at index)
   binned_one size h is_free no_victim beside = record {
     all = λ k n free other apart. go k n free other apart (k == at) refl;
     free = λ k n is. elim (of_with size at index k n is)
         [ inl old ↦ h.free k n old | inr new ↦ subst (λ a. IsFreeAt heap a n) (sym new.0) (subst (λ s. IsFreeAt heap at s) (sym new.1) is_free) ];
     no_victim = λ k n is. elim (of_with size at index k n is) [ inl old ↦ h.no_victim k n old | inr new ↦ λ same. no_victim (sym new.0 ∙ same) ];
-    not_loose = λ k n is l. elim (of_with size at index k n is) [ inl old ↦ h.not_loose k n old (inr l) | inr new ↦ beside (subst (λ a. IsIn a loose) new.0 l) ];
+    not_loose = λ k n is l. elim (of_with size at index k n is) [
+      | inl old ↦ h.not_loose k n old (inr l)
+      | inr new ↦ beside
+          (subst (λ a. IsIn a loose) new.0 l)
+    ];
   }
     where
       go : (k n : ℕ) → IsFreeAt heap k n → k ≢ heap.victim → (IsIn k loose → ⊥) → (b : Bool) → (k == at) ≡ b → IsIn k (with_chunk size at index n)
       go k n free other apart true test =
           let same = nat_is test in
-          subst (λ a. IsIn a (with_chunk size at index n)) (sym same) (with_it size at index n (one_size heap (subst (λ a. IsFreeAt heap a n) same free) is_free))
+          subst (λ a. IsIn a (with_chunk size at index n)) (sym same) (with_it size at index n
+          (one_size heap (subst (λ a. IsFreeAt heap a n) same free) is_free))
       go k n free other apart false test = in_with size at index k n (h.all k n free other out)
         where
           out : (k ≡ at) ⊎ IsIn k loose → ⊥
@@ -117,7 +125,8 @@ module _ (loose : List ℕ) (heap : HeapState) (index : ℕ → List ℕ) (at : 
           out (inr later) = apart later
 
   -- and it leaves it
-  pub unbinned_one : (size : ℕ) → HoldsBut loose heap index → ((n : ℕ) → AreDistinct (index n)) → IsFreeAt heap at size → HoldsBut (at ∷ loose) heap (without_chunk size at index)
+  pub unbinned_one : (size : ℕ) → HoldsBut loose heap index → ((n : ℕ) → AreDistinct (index n)) → IsFreeAt heap at size →
+      HoldsBut (at ∷ loose) heap (without_chunk size at index)
   unbinned_one size h distinct is_free = record {
     all = λ k n free other apart. in_without size at index k n (h.all k n free other (λ l. apart (inr l))) (λ same. apart (inl same));
     free = λ k n is. h.free k n (of_without size at index k n is);
@@ -144,7 +153,8 @@ module _ {old new : HeapState} {loose loose' less more : List ℕ} {index : ℕ 
     (moves : FreeMoves old new less more) (are : AreAccounted old new loose loose' less more) where
   -- what the index has is free as before
   pub still_free : (at size : ℕ) → IsIn at (index size) → IsFreeAt new at size × (IsIn at more → ⊥)
-  still_free at size is = moves.stays at size (h.free at size is) (λ left. h.not_loose at size is (are.gone at left size (h.free at size is) (h.no_victim at size is)))
+  still_free at size is = moves.stays at size (h.free at size is) (λ left.
+      h.not_loose at size is (are.gone at left size (h.free at size is) (h.no_victim at size is)))
 
   pub holds_moved : HoldsBut loose' new index
   holds_moved = record {
@@ -152,6 +162,7 @@ module _ {old new : HeapState} {loose loose' less more : List ℕ} {index : ℕ 
         let was = moves.was at size free (λ came. apart (are.come at came size free other)) in
         h.all at size was.0 (λ victim. apart (are.still at was.1 (inl victim) size free other)) (λ l. apart (are.still at was.1 (inr l) size free other));
     free = λ at size is. (still_free at size is).0;
-    no_victim = λ at size is victim. h.not_loose at size is (are.from at (still_free at size is).1 (inl victim) size (h.free at size is) (h.no_victim at size is));
+    no_victim = λ at size is victim. h.not_loose at size is (are.from at (still_free at size is).1 (inl victim) size
+        (h.free at size is) (h.no_victim at size is));
     not_loose = λ at size is l. h.not_loose at size is (are.from at (still_free at size is).1 (inr l) size (h.free at size is) (h.no_victim at size is));
   }

@@ -24,17 +24,32 @@ least_of n (first ∷ sizes) = go (nat_lt first n) refl (least_from n sizes) (le
       | no more ↦ inl (omega arith)
     ]
 
-    go : (b : Bool) → nat_lt first n ≡ b → (o : Option ℕ) → IsLeast n sizes o → IsLeast n (first ∷ sizes) (if b then o else Some (unwrap_or (option_map (min first) o) first))
+    go : (b : Bool) → nat_lt first n ≡ b → (o : Option ℕ) → IsLeast n sizes o →
+        IsLeast n (first ∷ sizes) (if b then o else Some (unwrap_or (option_map (min first) o) first))
     go true test None h = λ size is. elim is [ inl same ↦ (let less : first < n = grind (arith, nat_tests) in omega arith) | inr later ↦ h size later ]
-    go true test (Some least) h = (inr h.0, h.1, λ size is more. elim is [ inl same ↦ absurd (let less : first < n = grind (arith, nat_tests) in omega arith) | inr later ↦ h.2 size later more ])
-    go false test None h = (inl refl, grind (arith, nat_tests), λ size is more. elim is [ inl same ↦ omega arith | inr later ↦ absurd (let less = h size later in omega arith) ])
+    go true test (Some least) h = (
+      inr h.0,
+      h.1,
+      λ size is more. elim is [
+        | inl same ↦ absurd (let less : first < n = grind (arith, nat_tests) in omega arith)
+        | inr later ↦ h.2 size later
+            more
+      ],
+    )
+    go false test None h = (
+      inl refl,
+      grind (arith, nat_tests),
+      λ size is more.
+          elim is [ inl same ↦ omega arith | inr later ↦ absurd (let less = h size later in omega arith) ],
+    )
     go false test (Some least) h = (
       both least h.0,
       (let enough : n ≤ first = grind (arith, nat_tests) in let more = h.1 in omega arith),
       λ size is more. elim is [ inl same ↦ omega arith | inr later ↦ (let less = h.2 size later more in omega arith) ],
     )
 
-pub least_is : (n : ℕ) (sizes : List ℕ) (size : ℕ) → IsIn size sizes → n ≤ size → ((other : ℕ) → IsIn other sizes → n ≤ other → size ≤ other) → least_from n sizes ≡ Some size
+pub least_is : (n : ℕ) (sizes : List ℕ) (size : ℕ) → IsIn size sizes → n ≤ size →
+    ((other : ℕ) → IsIn other sizes → n ≤ other → size ≤ other) → least_from n sizes ≡ Some size
 least_is n sizes size is enough least = go (least_from n sizes) (least_of n sizes)
   where
     go : (o : Option ℕ) → IsLeast n sizes o → o ≡ Some size
@@ -54,11 +69,13 @@ found_among : (k : ℕ) (extents : List Extent) {one : Extent} → extent_at k e
 found_among k [] there = absurd (cc)
 found_among k (first ∷ extents) {one} there = go (first.at == k) there (found_among k extents)
   where
-    go : (b : Bool) → (if b then Some first else extent_at k extents) ≡ Some one → (extent_at k extents ≡ Some one → IsAmong one extents) → (first ≡ one) ⊎ IsAmong one extents
+    go : (b : Bool) → (if b then Some first else extent_at k extents) ≡ Some one →
+        (extent_at k extents ≡ Some one → IsAmong one extents) → (first ≡ one) ⊎ IsAmong one extents
     go true is rest = inl (the_extent is)
     go false is rest = inr (rest is)
 
-in_sizes : (heap : HeapState) (extents : List Extent) (one : Extent) → IsAmong one extents → is_binned heap one ≡ true → IsIn one.size (binned_sizes heap extents)
+in_sizes : (heap : HeapState) (extents : List Extent) (one : Extent) → IsAmong one extents → is_binned heap one ≡ true →
+    IsIn one.size (binned_sizes heap extents)
 in_sizes heap [] one is binned = absurd is
 in_sizes heap (first ∷ extents) one (inl same) binned =
     let test : is_binned heap first ≡ true = ap (is_binned heap) same ∙ binned in
@@ -106,7 +123,8 @@ and_second true true is = sym is
 and_second true false is = refl
 and_second false b is = absurd (cc)
 
-module _ {A : Type 0} {regions : A → List Grant} {word : A → ℕ → ℕ} {heap : Dlmalloc A} (sound : IsSound regions word heap) (b : IsBinned regions word heap) (n : ℕ) where
+module _ {A : Type 0} {regions : A → List Grant} {word : A → ℕ → ℕ} {heap : Dlmalloc A} (sound : IsSound regions word heap)
+    (b : IsBinned regions word heap) (n : ℕ) where
   abbrev state : HeapState
   state = state_of word heap
 
@@ -121,8 +139,11 @@ module _ {A : Type 0} {regions : A → List Grant} {word : A → ℕ → ℕ} {h
       let s = stands_there (regions heap.system) (word heap.system) (segments_of word heap) sound.segments there in
       let free : o.one.kind ≡ Free = plain_free s.0 o.one.kind s.1.kind (and_first (is_free_below_top o.one.kind) (not (o.one.at == heap.victim)) o.binned) in
       let test : (o.one.at == heap.victim) ≡ false = and_second (is_free_below_top o.one.kind) (o.one.at == heap.victim) o.binned in
-      let found : IsFreeAt state o.one.at size = there ∙ (λ i. Some (extent o.one.at (o.is i) (free i))) in
-      (o.one.at, b.holds.all o.one.at size found (λ same. (let no : (o.one.at == heap.victim) ≡ true = (let e = same in grind (arith, nat_tests)) in cc)) (λ none. none))
+      let found : IsFreeAt state o.one.at size = there ∙ (λ i. Some (extent o.one.at (o.is i) (free i))) in (
+        o.one.at,
+        b.holds.all o.one.at size found (λ same. (let no : (o.one.at == heap.victim) ≡ true =
+            (let e = same in grind (arith, nat_tests)) in cc)) (λ none. none),
+      )
 
   none_in : (chunks : List ℕ) (at : ℕ) → chunks ≡ [] → IsIn at chunks → ⊥
   none_in [] at none is = is

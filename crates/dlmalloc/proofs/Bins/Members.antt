@@ -15,7 +15,8 @@ module _ {A : Type 0} (regions : A → List Grant) (word : A → ℕ → ℕ) (h
   none_member n none (Err e) = tt
 
   -- a block after its chunk's head
-  pub member_behind : {n : ℕ} (size chunk : ℕ) → n ≡ padded size → IsMemberChosen regions word heap n chunk → IsMemberChosen regions word heap (padded size) (chunk + 16 - 16)
+  pub member_behind : {n : ℕ} (size chunk : ℕ) → n ≡ padded size → IsMemberChosen regions word heap n chunk →
+      IsMemberChosen regions word heap (padded size) (chunk + 16 - 16)
   member_behind size chunk is member fit chosen_is =
       let back : chunk ≡ chunk + 16 - 16 = omega arith in
       subst (λ a. IsMember regions word heap (padded size) a) back
@@ -30,7 +31,8 @@ module _ {A : Type 0} (regions : A → List Grant) (word : A → ℕ → ℕ) (h
       let place : aligned_place (address - 16)
       align ≡ address - 16 = (let test : ((address - 16 + 16) % align == 0) ≡ true = (let h = here in grind (arith, nat_tests)) in rw test refl) in (
         address - 16,
-        subst (λ m. IsMember regions word heap (padded m) (address - 16)) (sym same) (member fit (subst (λ m. chosen (state_of word heap) (padded m) ≡ Some (OfBins fit)) same is)),
+        subst (λ m. IsMember regions word heap (padded m) (address - 16)) (sym same)
+            (member fit (subst (λ m. chosen (state_of word heap) (padded m) ≡ Some (OfBins fit)) same is)),
         (let p = place in omega arith),
       )
 
@@ -40,13 +42,16 @@ module _ {A : Type 0} (regions : A → List Grant) (word : A → ℕ → ℕ) (h
   member_high size align block many is aligned_is member fit chosen_is =
       let same = sym (asked_high size align many) ∙ sym is in (
         block - 16,
-        subst (λ m. IsMember regions word heap (padded m) (block - 16)) (sym same) (member fit (subst (λ m. chosen (state_of word heap) (padded m) ≡ Some (OfBins fit)) same chosen_is)),
+        subst (λ m. IsMember regions word heap (padded m) (block - 16)) (sym same)
+            (member fit (subst (λ m. chosen (state_of word heap) (padded m) ≡ Some (OfBins fit)) same chosen_is)),
         ap (λ p. p + 16) aligned_is,
       )
 
   -- what is chosen for a request
-  pub chosen_low : (size align : ℕ) → align ≤ 16 → chosen (state_of word heap) (padded size) ≡ None → chosen (state_of word heap) (padded (asked size align)) ≡ None
+  pub chosen_low : (size align : ℕ) → align ≤ 16 → chosen (state_of word heap) (padded size) ≡ None →
+      chosen (state_of word heap) (padded (asked size align)) ≡ None
   chosen_low size align few none = ap (λ m. chosen (state_of word heap) (padded m)) (sym (asked_low size align few)) ∙ none
 
-  pub chosen_high : (size align : ℕ) → 16 < align → chosen (state_of word heap) (padded (enlarged size align)) ≡ None → chosen (state_of word heap) (padded (asked size align)) ≡ None
+  pub chosen_high : (size align : ℕ) → 16 < align → chosen (state_of word heap) (padded (enlarged size align)) ≡ None →
+      chosen (state_of word heap) (padded (asked size align)) ≡ None
   chosen_high size align many none = ap (λ m. chosen (state_of word heap) (padded m)) (sym (asked_high size align many)) ∙ none

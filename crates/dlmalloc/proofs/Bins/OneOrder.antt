@@ -16,8 +16,10 @@ part_unique : (one two chunks : List ℕ) → IsPart one chunks → IsPart two c
     ((k : ℕ) → IsIn k two → IsIn k one) → one ≡ two
 part_unique one two [] a b distinct to from = a ∙ sym b
 part_unique one two (chunk ∷ chunks) (inl a) (inl b) distinct to from = part_unique one two chunks a b distinct.1 to from
-part_unique one two (chunk ∷ chunks) (inl a) (inr (rest, is, b)) distinct to from = absurd (distinct.0 (part_in chunk one chunks a (from chunk (subst (IsIn chunk) (sym is) (inl refl)))))
-part_unique one two (chunk ∷ chunks) (inr (rest, is, a)) (inl b) distinct to from = absurd (distinct.0 (part_in chunk two chunks b (to chunk (subst (IsIn chunk) (sym is) (inl refl)))))
+part_unique one two (chunk ∷ chunks) (inl a) (inr (rest, is, b)) distinct to from =
+    absurd (distinct.0 (part_in chunk one chunks a (from chunk (subst (IsIn chunk) (sym is) (inl refl)))))
+part_unique one two (chunk ∷ chunks) (inr (rest, is, a)) (inl b) distinct to from =
+    absurd (distinct.0 (part_in chunk two chunks b (to chunk (subst (IsIn chunk) (sym is) (inl refl)))))
 part_unique one two (chunk ∷ chunks) (inr (rest, is, a)) (inr (others, same, b)) distinct to from =
     is ∙ (ap (λ more. chunk ∷ more) (part_unique rest others chunks a b distinct.1 (λ k here. later k others (λ at. distinct.0 (part_in chunk rest chunks
     a (subst (λ c. IsIn c rest) at here))) (subst (IsIn k) same (to k (subst (IsIn k) (sym is) (inr here))))) (λ k here. later k rest (λ at. distinct.0
@@ -50,7 +52,8 @@ came_unique (first ∷ []) (second ∷ []) a b to from = elim (to first (inl ref
 came_unique (first ∷ []) (second ∷ third ∷ two) a b to from = absurd (omega arith)
 came_unique (first ∷ third ∷ one) (second ∷ two) a b to from = absurd (omega arith)
 
-pub one_order : (old one two : List ℕ) → AreDistinct old → IsInOrder old one → IsInOrder old two → ((k : ℕ) → IsIn k one → IsIn k two) → ((k : ℕ) → IsIn k two → IsIn k one) → one ≡ two
+pub one_order : (old one two : List ℕ) → AreDistinct old → IsInOrder old one → IsInOrder old two →
+    ((k : ℕ) → IsIn k one → IsIn k two) → ((k : ℕ) → IsIn k two → IsIn k one) → one ≡ two
 one_order old one two distinct a b to from =
     a.are ∙ ((λ i. part_unique a.stayed b.stayed old a.part b.part distinct (stay one two a b to) (stay two one b a from) i
     ++ came_unique a.came b.came a.few b.few (come one two a b to) (come two one b a from) i) ∙ sym b.are)

@@ -63,7 +63,8 @@ added_as size chunk old new is n = go (n == size) refl (is n)
     go false test same = inl same
 
 -- some chunks left, and at most one came that was none of them
-pub in_order : (size chunk : ℕ) (old middle new : ℕ → List ℕ) → IsLessened old middle → IsAdded size chunk middle new → (IsIn chunk (old size) → ⊥) → AreInOrder old new
+pub in_order : (size chunk : ℕ) (old middle new : ℕ → List ℕ) → IsLessened old middle → IsAdded size chunk middle new →
+    (IsIn chunk (old size) → ⊥) → AreInOrder old new
 in_order size chunk old middle new less added other n = elim (added n) [
   | inl same ↦ record { stayed = middle n; came = []; are = same ∙ sym (append-nil (middle n)); part = less n; others = λ k none was. none; few = omega arith }
   | inr (is, more) ↦ record {
@@ -78,7 +79,14 @@ in_order size chunk old middle new less added other n = elim (added n) [
 
 -- nothing came and nothing left
 pub order_same : (index : ℕ → List ℕ) → AreInOrder index index
-order_same index n = record { stayed = index n; came = []; are = sym (append-nil (index n)); part = part_all (index n); others = λ k none was. none; few = omega arith }
+order_same index n = record {
+  stayed = index n;
+  came = [];
+  are = sym (append-nil (index n));
+  part = part_all (index n);
+  others = λ k none was. none;
+  few = omega arith;
+}
 
 -- some chunks left
 pub order_less : (old new : ℕ → List ℕ) → IsLessened old new → AreInOrder old new
@@ -86,4 +94,11 @@ order_less old new less n = record { stayed = new n; came = []; are = sym (appen
 
 -- some chunks left, and the others stayed
 pub order_left : (old middle new : ℕ → List ℕ) → IsLessened old middle → ((n : ℕ) → new n ≡ middle n) → AreInOrder old new
-order_left old middle new less same n = record { stayed = middle n; came = []; are = same n ∙ sym (append-nil (middle n)); part = less n; others = λ k none was. none; few = omega arith }
+order_left old middle new less same n = record {
+  stayed = middle n;
+  came = [];
+  are = same n ∙ sym (append-nil (middle n));
+  part = less n;
+  others = λ k none was. none;
+  few = omega arith;
+}

@@ -6,7 +6,8 @@ use Rattle.dlmalloc.specs.Outcome.{IsAllocated}
 use Rattle.dlmalloc.proofs.Bins.Members.{member_low}
 use Rattle.dlmalloc.proofs.Blocks.HandedOut.{handed_low}
 
-pub allocated_low : {A : Type 0} {regions : A → List Grant} {word : A → ℕ → ℕ} {zeros : A → Bool} {follows : A → List Event → A → Type 0} {old new : Dlmalloc A} {size align address : ℕ} →
+pub allocated_low : {A : Type 0} {regions : A → List Grant} {word : A → ℕ → ℕ} {zeros : A → Bool}
+    {follows : A → List Event → A → Type 0} {old new : Dlmalloc A} {size align address : ℕ} →
     IsPowerOfTwo align → align ≤ 16 → IsServed regions word zeros follows old size address new →
     IsMemberChosen regions word old (padded size) (address - 16) → IsAllocated regions word zeros follows old size align address new
 allocated_low {regions} {word} {old} {size} {align} {address} power low served member =

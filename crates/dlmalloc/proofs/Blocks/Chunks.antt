@@ -57,7 +57,8 @@ module _ {A : Type 0} (regions : A → List Grant) (word : A → ℕ → ℕ) (h
   })
 
   -- its head has the chunk's size
-  pub block_chunk : (told : ℕ) → told ≡ size_of (word heap.system (ptr - 16 + 8)) → extent_at (ptr - 16) (extents_in (state_of word heap)) ≡ Some (extent (ptr - 16) told Used)
+  pub block_chunk : (told : ℕ) → told ≡ size_of (word heap.system (ptr - 16 + 8)) →
+      extent_at (ptr - 16) (extents_in (state_of word heap)) ≡ Some (extent (ptr - 16) told Used)
   block_chunk told is =
       let l = located block.extent.at (segments_of word heap) (block_there sound block) in
       let p = of_located (IsSegment (regions heap.system) (word heap.system)) l sound.segments in
@@ -68,7 +69,8 @@ module _ {A : Type 0} (regions : A → List Grant) (word : A → ℕ → ℕ) (h
       {kind' = Used} place (sym sizes) block.used i))
 
 -- two blocks are apart, and from each other's head
-pub blocks_apart : {A : Type 0} {regions : A → List Grant} {word : A → ℕ → ℕ} {heap : Dlmalloc A} → IsSound regions word heap → BlocksAreApart (state_of word heap)
+pub blocks_apart : {A : Type 0} {regions : A → List Grant} {word : A → ℕ → ℕ} {heap : Dlmalloc A} →
+    IsSound regions word heap → BlocksAreApart (state_of word heap)
 blocks_apart {regions} {word} {heap} sound a m b n one two differ =
     let at_a = block_place sound one in let at_b = block_place sound two in
     let long_a = (block_inside sound one).long in let long_b = (block_inside sound two).long in

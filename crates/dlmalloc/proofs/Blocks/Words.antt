@@ -48,7 +48,8 @@ module _ {A : Type 0} {regions : A → List Grant} {word : A → ℕ → ℕ} {h
   abbrev pub same_binned : IndexStays → (n : ℕ) → n ≤ size → (system : A) → regions system ≡ regions heap.system →
       ((other : ℕ) → IsWordOf (regions heap.system) other → IsBeside address (words_in n) other → word system other ≡ word heap.system other) →
       IsBinned regions word heap → IsBinned regions word (record heap { system = system })
-  same_binned stays n less system same elsewhere = still_binned sound system (same_regions regions word heap sound system same) (only_block n less (word system) elsewhere) stays
+  same_binned stays n less system same elsewhere = still_binned sound system
+      (same_regions regions word heap sound system same) (only_block n less (word system) elsewhere) stays
 
 -- if of a block that was handed out only the first words are written, those before it keep their words
 pub written_kept : {A : Type 0} {regions : A → List Grant} {word : A → ℕ → ℕ} {follows : A → List Event → A → Type 0} {old middle : Dlmalloc A}

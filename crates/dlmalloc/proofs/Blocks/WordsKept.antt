@@ -91,7 +91,8 @@ not_in_free {regions} {word} {heap} sound {block} there used k low high f =
   where
     differ : block.at ≡ f.at → ⊥
     differ same =
-        let one : Some block ≡ Some (record { at = f.at; size = f.size; kind = Free }) = sym there ∙ (ap (λ a. extent_at a (extents_in (state_of word heap))) same ∙ f.free) in
+        let one : Some block ≡ Some (record { at = f.at; size = f.size; kind = Free }) = sym there
+        ∙ (ap (λ a. extent_at a (extents_in (state_of word heap))) same ∙ f.free) in
         let no : Used ≡ Free = sym used ∙ ap (λ o. (unwrap_or o block).kind) one in
         cc
 

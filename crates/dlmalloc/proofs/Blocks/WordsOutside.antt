@@ -17,7 +17,8 @@ IsOfRun segment region = IsApart segment.base (segment.base + segment.size) regi
 -- ---- the regions
 
 -- the granted bytes of a segment are those of its regions
-granted_in : (segment : Segment) (regions : List Grant) (k : ℕ) → segment.base ≤ k → k < segment.base + segment.size → is_granted (regions_in segment regions) k ≡ is_granted regions k
+granted_in : (segment : Segment) (regions : List Grant) (k : ℕ) → segment.base ≤ k → k < segment.base + segment.size →
+    is_granted (regions_in segment regions) k ≡ is_granted regions k
 granted_in segment [] k low high = refl
 granted_in segment (region ∷ regions) k low high = go (meets segment region) refl (granted_in segment regions k low high)
   where
@@ -31,7 +32,8 @@ those_in : (P : Grant → Type 0) (segment : Segment) (regions : List Grant) →
 those_in P segment [] all = tt
 those_in P segment (region ∷ regions) all = go (meets segment region) (those_in P segment regions all.1)
   where
-    go : (b : Bool) → AllByRecursion P (regions_in segment regions) → AllByRecursion P (if b then region ∷ regions_in segment regions else regions_in segment regions)
+    go : (b : Bool) → AllByRecursion P (regions_in segment regions) → AllByRecursion P
+        (if b then region ∷ regions_in segment regions else regions_in segment regions)
     go true rest = (all.0, rest)
     go false rest = rest
 
@@ -50,7 +52,8 @@ others_apart segment (region ∷ regions) all = go (meets segment region) refl a
 run_kept : (segment : Segment) {old : List Grant} (new : List Grant) → regions_in segment new ≡ regions_in segment old →
     IsFlaggedRun old segment.base segment.size segment.flags → IsFlaggedRun new segment.base segment.size segment.flags
 run_kept segment {old} new same run = record {
-  covered = λ k low high. sym (granted_in segment new k low high) ∙ (ap (λ rs. is_granted rs k) same ∙ (granted_in segment old k low high ∙ run.covered k low high));
+  covered = λ k low high. sym (granted_in segment new k low high) ∙ (ap (λ rs. is_granted rs k) same
+      ∙ (granted_in segment old k low high ∙ run.covered k low high));
   whole = others_apart segment new (subst (AllByRecursion (λ region. IsOfRun segment region)) (sym same) (those_in (IsOfRun segment) segment old run.whole));
 }
 
@@ -76,7 +79,8 @@ module _ {A : Type 0} {regions : A → List Grant} {word : A → ℕ → ℕ} {h
 
       go : (used : Extent) → used.kind ≡ Used → extent_at used.at (extents_in (state_of word heap)) ≡ Some used → (b : Bool) →
           (used.at == one.at) ≡ b → (k < used.at + 16) ⊎ (used.at + used.size + 8 ≤ k)
-      go used used_is found true test = of_used used used_is (the_extent (sym found ∙ (ap (λ a. extent_at a (extents_all (segments_of word heap))) (nat_is test) ∙ there)))
+      go used used_is found true test = of_used used used_is (the_extent
+          (sym found ∙ (ap (λ a. extent_at a (extents_all (segments_of word heap))) (nat_is test) ∙ there)))
       go used used_is found false other =
           let above = tells.0 in let below = tells.1 in let m = tells.2 in
           let whole = (stands_there (regions heap.system) (word heap.system) (segments_of word heap) sound.segments there).1.whole in

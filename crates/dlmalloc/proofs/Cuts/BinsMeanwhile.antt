@@ -27,7 +27,8 @@ module _ {A : Type 0} {regions : A → List Grant} {word : A → ℕ → ℕ} {o
   }
 
   -- it was in no bin, and its rest is the victim: the old victim is in no bin
-  pub rest_victim : {rest : ℕ} → more ≡ rest ∷ [] → new.victim ≡ rest → AreAccounted (state_of word old) (state_of word new) (at ∷ []) (old.victim ∷ []) (at ∷ []) more
+  pub rest_victim : {rest : ℕ} → more ≡ rest ∷ [] → new.victim ≡ rest →
+      AreAccounted (state_of word old) (state_of word new) (at ∷ []) (old.victim ∷ []) (at ∷ []) more
   rest_victim is now = record {
     gone = λ k is n free other. is;
     come = λ k there n free other. absurd (elim (subst (IsIn k) is there) [ inl same ↦ other (same ∙ sym now) | inr none ↦ none ]);
@@ -72,18 +73,21 @@ module _ (stays : IndexStays) {A : Type 0} {regions : A → List Grant} {word : 
   victim_rest moves was now = on moves
       (victim_cut new sound moves was (inl (inl now)) (λ k there. elim there [ inl same ↦ same ∙ sym now | inr none ↦ absurd none ]))
 
-  abbrev pub victim_gone : FreeMoves (state_of word old) (state_of word new) (at ∷ []) [] → at ≡ old.victim → new.victim ≡ 0 → IsBinned regions word old → IsBinned regions word new
+  abbrev pub victim_gone : FreeMoves (state_of word old) (state_of word new) (at ∷ []) [] → at ≡ old.victim →
+      new.victim ≡ 0 → IsBinned regions word old → IsBinned regions word new
   victim_gone moves was now = on moves (victim_cut new sound moves was (inr now) (λ k none. absurd none))
 
   -- the victim stays
-  abbrev pub binned_gone : FreeMoves (state_of word old) (state_of word new) (at ∷ []) [] → new.victim ≡ old.victim → IsBinnedBut (at ∷ []) regions word old → IsBinned regions word new
+  abbrev pub binned_gone : FreeMoves (state_of word old) (state_of word new) (at ∷ []) [] → new.victim ≡ old.victim →
+      IsBinnedBut (at ∷ []) regions word old → IsBinned regions word new
   binned_gone moves same = on moves (victim_stays new sound moves same)
 
   abbrev pub binned_rest : FreeMoves (state_of word old) (state_of word new) (at ∷ []) (rest ∷ []) → new.victim ≡ old.victim →
       IsBinnedBut (at ∷ []) regions word old → IsBinnedBut (rest ∷ []) regions word new
   binned_rest moves same = on moves (victim_stays new sound moves same)
 
-  pub rest_no_victim : FreeMoves (state_of word old) (state_of word new) (at ∷ []) (rest ∷ []) → at ≢ old.victim → new.victim ≡ old.victim → 0 < rest → rest ≢ new.victim
+  pub rest_no_victim : FreeMoves (state_of word old) (state_of word new) (at ∷ []) (rest ∷ []) → at ≢ old.victim →
+      new.victim ≡ old.victim → 0 < rest → rest ≢ new.victim
   rest_no_victim moves other same some is = go (old.victim_size == 0) refl
     where
       go : (t : Bool) → (old.victim_size == 0) ≡ t → ⊥
@@ -101,10 +105,12 @@ module _ (stays : IndexStays) {A : Type 0} {regions : A → List Grant} {word : 
 -- if a rest stays free, and if none does
 module _ {old new : HeapState} {at : ℕ} (rest n size : ℕ) (moves : FreeMoves old new (at ∷ []) (if nat_le (n + 32) size then rest ∷ [] else [])) where
   pub moves_rest : n + 32 ≤ size → FreeMoves old new (at ∷ []) (rest ∷ [])
-  moves_rest room = (let test : nat_le (n + 32) size ≡ true = grind (arith, nat_tests) in subst (λ b. FreeMoves old new (at ∷ []) (if b then rest ∷ [] else [])) test moves)
+  moves_rest room = (let test : nat_le (n + 32) size ≡ true = grind (arith, nat_tests) in
+      subst (λ b. FreeMoves old new (at ∷ []) (if b then rest ∷ [] else [])) test moves)
 
   pub moves_whole : size < n + 32 → FreeMoves old new (at ∷ []) []
-  moves_whole little = (let test : nat_le (n + 32) size ≡ false = grind (arith, nat_tests) in subst (λ b. FreeMoves old new (at ∷ []) (if b then rest ∷ [] else [])) test moves)
+  moves_whole little = (let test : nat_le (n + 32) size ≡ false = grind (arith, nat_tests) in
+      subst (λ b. FreeMoves old new (at ∷ []) (if b then rest ∷ [] else [])) test moves)
 
 -- the victim after a chunk was taken, by what is asked of the chunk
 victim_of : (heap : HeapState) (at size n : ℕ) (was rest small : Bool) → (at == heap.victim) ≡ was → nat_le (n + 32) size ≡ rest → nat_lt n 256 ≡ small →
@@ -212,8 +218,18 @@ module _ (stays : IndexStays) {A : Type 0} {regions : A → List Grant} {word : 
       mine = (let e = is in grind (arith, nat_tests))
 
       go : (t : Bool) → nat_le (n + 32) (size + free) ≡ t → (after : IsBinned regions word new) × ((k : ℕ) → after.index k ≡ b.index k)
-      go true test = (victim_rest stays sound joined.moved bins (at + size) (at + n) (moves_rest (at + n) n (size + free) joined.free (grind (arith, nat_tests))) is (victim_grown ∙ rw (mine, test) refl) b, λ k. refl)
-      go false test = (victim_gone stays sound joined.moved bins (at + size) (at + n) (moves_whole (at + n) n (size + free) joined.free (grind (arith, nat_tests))) is (victim_grown ∙ rw (mine, test) refl) b, λ k. refl)
+      go true test = (
+        victim_rest stays sound joined.moved bins (at + size) (at + n)
+            (moves_rest (at + n) n (size + free) joined.free (grind (arith, nat_tests))) is
+            (victim_grown ∙ rw (mine, test) refl) b,
+        λ k. refl,
+      )
+      go false test = (
+        victim_gone stays sound joined.moved bins (at + size) (at + n)
+            (moves_whole (at + n) n (size + free) joined.free (grind (arith, nat_tests))) is
+            (victim_grown ∙ rw (mine, test) refl) b,
+        λ k. refl,
+      )
 
   module _ (other : at + size ≢ old.victim) where
     pub same_victim : new.victim ≡ old.victim
@@ -228,7 +244,8 @@ module _ (stays : IndexStays) {A : Type 0} {regions : A → List Grant} {word : 
         binned_rest stays sound joined.moved bins (at + size) (at + n) (moves_rest (at + n) n (size + free) joined.free room) same_victim loose
 
     pub part_other : n + 32 ≤ size + free → 0 < n → at + n ≢ new.victim
-    part_other room some = rest_no_victim stays sound joined.moved bins (at + size) (at + n) (moves_rest (at + n) n (size + free) joined.free room) other same_victim (omega arith)
+    part_other room some = rest_no_victim stays sound joined.moved bins (at + size) (at + n)
+        (moves_rest (at + n) n (size + free) joined.free room) other same_victim (omega arith)
 
     -- what came was no free chunk
     pub part_came : n + 32 ≤ size + free → size < n → {m : ℕ} → IsFreeAt (state_of word old) (at + n) m → ⊥

@@ -46,11 +46,13 @@ of_top : (kind : Kind) → is_top kind ≡ true → kind ≡ Top
 of_top Top test = refl
 of_top kind test = absurd (cc)
 
-pub top_below : {A : Type 0} {regions : A → List Grant} {word : A → ℕ → ℕ} {heap : Dlmalloc A} → IsSound regions word heap → 0 < heap.size → heap.top + 16 < 2 ^ 64
+pub top_below : {A : Type 0} {regions : A → List Grant} {word : A → ℕ → ℕ} {heap : Dlmalloc A} → IsSound regions word heap →
+    0 < heap.size → heap.top + 16 < 2 ^ 64
 top_below sound some = free_below sound (top_among sound some)
 
 -- the top ends below 2 ^ 64
-pub top_end : {A : Type 0} {regions : A → List Grant} {word : A → ℕ → ℕ} {heap : Dlmalloc A} → IsSound regions word heap → 0 < heap.size → heap.top + heap.top_size < 2 ^ 64
+pub top_end : {A : Type 0} {regions : A → List Grant} {word : A → ℕ → ℕ} {heap : Dlmalloc A} → IsSound regions word heap →
+    0 < heap.size → heap.top + heap.top_size < 2 ^ 64
 top_end sound some = let below = free_below sound (foot_among sound some) in omega arith
 
 module _ {A : Type 0} {regions : A → List Grant} {word : A → ℕ → ℕ} {heap : Dlmalloc A} (sound : IsSound regions word heap) (some : 0 < heap.size) where
@@ -67,7 +69,8 @@ module _ {A : Type 0} {regions : A → List Grant} {word : A → ℕ → ℕ} {h
   victim_size_is : size_where (is_victim state) (extents_in state) ≡ heap.victim_size
   victim_size_is = by_size (heap.victim_size == 0) refl
     where
-      by_size : (b : Bool) → (heap.victim_size == 0) ≡ b → unwrap_or (option_map (λ extent. extent.size) (find (is_victim state) (extents_in state))) 0 ≡ heap.victim_size
+      by_size : (b : Bool) → (heap.victim_size == 0) ≡ b → unwrap_or (option_map (λ extent. extent.size)
+          (find (is_victim state) (extents_in state))) 0 ≡ heap.victim_size
       by_size true test =
           let zero : heap.victim_size ≡ 0 = grind (arith, nat_tests) in
           let at = sound.no_victim zero in
@@ -93,7 +96,8 @@ module _ {A : Type 0} {regions : A → List Grant} {word : A → ℕ → ℕ} {h
 
     -- a binned chunk goes first
     pub bins_chosen : (at : ℕ) {size : ℕ} → least_fit state n ≡ Some size → goes_first n heap.victim_size size ≡ true →
-        extent_at at (extents_in state) ≡ Some (record { at = at; size = size; kind = Free }) → at ≢ heap.victim → IsChosen state n (record { at = at; size = size; kind = Free })
+        extent_at at (extents_in state) ≡ Some (record { at = at; size = size; kind = Free }) → at ≢ heap.victim →
+        IsChosen state n (record { at = at; size = size; kind = Free })
     bins_chosen at {size} fit first there other = record {
       choice = OfBins size;
       is = chosen_is fit ∙ rw first refl;
@@ -127,7 +131,8 @@ module _ {A : Type 0} {regions : A → List Grant} {word : A → ℕ → ℕ} {h
     victim_alone fit fits more = of_victim (chosen_is fit ∙ (let test : nat_le n heap.victim_size ≡ true = grind (arith, nat_tests) in rw test refl)) fits more
 
     -- the top
-    pub top_chosen : least_fit state n ≡ None → heap.victim_size < n → n < heap.top_size → IsChosen state n (record { at = heap.top; size = heap.top_size; kind = Top })
+    pub top_chosen : least_fit state n ≡ None → heap.victim_size < n → n < heap.top_size →
+        IsChosen state n (record { at = heap.top; size = heap.top_size; kind = Top })
     top_chosen fit small fits = record {
       choice = TheTop;
       is = chosen_is fit ∙ (let one : nat_le n heap.victim_size ≡ false = grind (arith, nat_tests) in

@@ -70,7 +70,10 @@ module _ {A : Type 0} {regions : A → List Grant} {word : A → ℕ → ℕ} {h
     -- ---- a rest stays free
 
     module _ (multiple : n % 16 ≡ 0) (least : 32 ≤ n) (room : n + 32 ≤ size)
-        (stored : AreStored (regions heap.system) (word heap.system) ((at + 8, head_of n true true) ∷ (at + n + 8, head_of (size - n) true false) ∷ (at + n + (size - n), size - n) ∷ []) (word system)) where
+        (stored : AreStored (regions heap.system) (word heap.system) ((at + 8, head_of n true true) ∷ (
+          at + n + 8,
+          head_of (size - n) true false,
+        ) ∷ (at + n + (size - n), size - n) ∷ []) (word system)) where
       abbrev halves : List Extent
       halves = extent at n Used ∷ extent (at + n) (size - n) Free ∷ []
 
@@ -108,8 +111,15 @@ module _ {A : Type 0} {regions : A → List Grant} {word : A → ℕ → ℕ} {h
           split_free = free_moves sound (split_step victim victim_size) (at ∷ []) ((at + n) ∷ [])
               (λ k bytes found. inl (sym (ap (λ e. e.at) (the_one k chunk found)))) in_rest (λ k is. elim is
               [ inl same ↦ inr (chunk, subst (λ a. extent_at a (chunk ∷ []) ≡ Some chunk) (sym same) (found_here chunk [])) | inr none ↦ absurd none ])
-              (λ k is. elim is
-              [ inl same ↦ inr (extent (at + n) (size - n) Free, subst (λ a. extent_at a halves ≡ Some (extent (at + n) (size - n) Free)) (sym same) rest_there) | inr none ↦ absurd none ])
+              (λ k is. elim is [
+                | inl same ↦ inr (
+                  extent (at + n) (size - n) Free,
+                  subst (λ a.
+                      extent_at a halves ≡ Some (extent (at + n) (size - n) Free)) (sym same) rest_there,
+                )
+                | inr none ↦ absurd
+                    none
+              ])
 
       -- the rest is the victim
       pub split_victim : (at ≡ heap.victim) ⊎ (n < 256) → Took (at + n) (size - n)
@@ -145,7 +155,11 @@ module _ {A : Type 0} {regions : A → List Grant} {word : A → ℕ → ℕ} {h
     -- ---- nothing stays free
 
     module _ (small : size < n + 32)
-        (stored : AreStored (regions heap.system) (word heap.system) ((at + 8, head_of size true true) ∷ (at + size + 8, with_pinuse (if size == 0 then head_of size true true else word heap.system (at + size + 8))) ∷ []) (word system)) where
+        (stored : AreStored (regions heap.system) (word heap.system) ((at + 8, head_of size true true) ∷ (
+          at + size + 8,
+          with_pinuse (if size == 0 then head_of size true true else word heap.system (at + size + 8)),
+        ) ∷ [])
+        (word system)) where
       abbrev next : HasNext run.last
       next = has_next (regions heap.system) sound.segments run refl
 
@@ -155,7 +169,8 @@ module _ {A : Type 0} {regions : A → List Grant} {word : A → ℕ → ℕ} {h
       abbrev all : List Extent
       all = extent at size Used ∷ next.next ∷ []
 
-      move_two : IsMove (regions heap.system) (word heap.system) (word system) (last_kind Used run.first) at (at + size + next.next.size) (at + size + next.next.size) both all
+      move_two : IsMove (regions heap.system) (word heap.system) (word system) (last_kind Used run.first) at
+          (at + size + next.next.size) (at + size + next.next.size) both all
       move_two =
           let b = behind (regions heap.system) sound.segments run next in
           let long = stands.size.1 in
@@ -178,12 +193,14 @@ module _ {A : Type 0} {regions : A → List Grant} {word : A → ℕ → ℕ} {h
       still k {tail} found other = go (at == k) refl
         where
           go : (b : Bool) → (at == k) ≡ b → extent_at k all ≡ Some tail
-          go true here = absurd (other (ap (λ o. (unwrap_or o chunk).kind) (subst (λ b. (if b then Some chunk else extent_at k (next.next ∷ [])) ≡ Some tail) here found)))
+          go true here = absurd (other (ap (λ o. (unwrap_or o chunk).kind)
+              (subst (λ b. (if b then Some chunk else extent_at k (next.next ∷ [])) ≡ Some tail) here found)))
           go false apart = beside k (λ is. absurd (let t : (at == k) ≡ true = (let e = is in grind (arith, nat_tests)) in cc)) tail found
 
       abbrev whole_step : (victim victim_size : ℕ) → IsStep regions word heap (after victim victim_size) both all
       whole_step victim victim_size = step_beside (after victim victim_size) sound same (with_next (regions heap.system) sound.segments run next) move_two refl
-          (λ k tail found is. still k found (λ free. (let no : Free ≡ Record = free ∙ is in cc))) refl (record { base = refl; size = refl; flags = refl; top = refl; top_size = refl })
+          (λ k tail found is. still k found (λ free. (let no : Free ≡ Record = free ∙ is in cc))) refl
+          (record { base = refl; size = refl; flags = refl; top = refl; top_size = refl })
           (λ k tail found is. still k found (λ free. (let no : Free ≡ Top = free ∙ is in cc)))
 
       no_rest : nat_le (n + 32) size ≡ false
@@ -217,7 +234,14 @@ module _ {A : Type 0} {regions : A → List Grant} {word : A → ℕ → ℕ} {h
 
           whole_free : FreeMoves (state_of word heap) (state_of word (after victim victim_size)) (at ∷ []) []
           whole_free = free_moves sound (whole_step victim victim_size) (at ∷ []) [] in_both in_all
-              (λ k is. elim is [ inl same ↦ inr (chunk, subst (λ a. extent_at a both ≡ Some chunk) (sym same) (found_here chunk (next.next ∷ []))) | inr none ↦ absurd none ])
+              (λ k is. elim is [
+                | inl same ↦ inr (
+                  chunk,
+                  subst (λ a. extent_at a both ≡ Some chunk) (sym same)
+                      (found_here chunk (next.next ∷ [])),
+                )
+                | inr none ↦ absurd none
+              ])
               (λ k is. absurd is)
 
       -- it was the victim, and there is none now

@@ -100,7 +100,14 @@ module _ (regions : List Grant) {old : ℕ → ℕ} (new : ℕ → ℕ) {before 
               refl,
             ),
           );
-          kept = λ k word more. stored.elsewhere k word (more.0, (subst (λ a. k ≢ a + 8) touch (no_head k next.kind next.at next.size behind.size more.1.0), tt));
+          kept = λ k word more. stored.elsewhere k word (
+            more.0,
+            (
+              subst (λ a. k ≢ a + 8) touch
+                  (no_head k next.kind next.at next.size behind.size more.1.0),
+              tt,
+            ),
+          );
         }
 
   -- a rest stays free

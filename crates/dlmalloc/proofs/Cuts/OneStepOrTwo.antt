@@ -13,7 +13,13 @@ use Rattle.dlmalloc.proofs.Extents.Top.{top_among}
 -- a move with no change of bins is one with them
 pub as_turned : {A : Type 0} {regions : A → List Grant} {word : A → ℕ → ℕ} {follows : A → List Event → A → Type 0} {old new : Dlmalloc A} →
     IsMoved regions word follows old new → IsTurned regions word follows old new
-as_turned moved = record { sound = moved.sound; words = λ k inside was own. moved.words k inside (λ boundary. own (inl boundary)); regions_same = moved.regions_same; followed = moved.followed }
+as_turned moved = record {
+  sound = moved.sound;
+  words = λ k inside was own.
+      moved.words k inside (λ boundary. own (inl boundary));
+  regions_same = moved.regions_same;
+  followed = moved.followed;
+}
 
 module _ {A : Type 0} {regions : A → List Grant} {word : A → ℕ → ℕ} {zeros : A → Bool}
     {follows : A → List Event → A → Type 0} {old : Dlmalloc A} (sound : IsSound regions word old) (n : ℕ) where
@@ -38,10 +44,13 @@ module _ {A : Type 0} {regions : A → List Grant} {word : A → ℕ → ℕ} {z
       (state : state_of word new ≡ taken (state_of word middle) (extent middle.top middle.top_size Top) n)
       (after : HasOneMore (state_of word middle) (state_of word new) middle.top) (moved : IsMoved regions word follows middle new)
       (head : IsBoundary (state_of word new) (middle.top + 8)) (foot : IsBoundary (state_of word new) (middle.top + middle.top_size + 8))
-      (others : (one : Extent) → one.at ≢ middle.top → extent_at one.at (extents_in (state_of word middle)) ≡ Some one → extent_at one.at (extents_in (state_of word new)) ≡ Some one) where
+      (others : (one : Extent) → one.at ≢ middle.top → extent_at one.at (extents_in (state_of word middle)) ≡ Some one →
+      extent_at one.at (extents_in (state_of word new)) ≡ Some one) where
     -- what is found there is the top
-    is_the_top : {one : Extent} → extent_at one.at (extents_in (state_of word middle)) ≡ Some one → one.at ≡ middle.top → extent middle.top middle.top_size Top ≡ one
-    is_the_top there same = the_extent (sym (top_among grown.sound grown.there) ∙ (ap (λ a. extent_at a (extents_in (state_of word middle))) (sym same) ∙ there))
+    is_the_top : {one : Extent} → extent_at one.at (extents_in (state_of word middle)) ≡ Some one → one.at ≡ middle.top →
+        extent middle.top middle.top_size Top ≡ one
+    is_the_top there same = the_extent (sym (top_among grown.sound grown.there)
+        ∙ (ap (λ a. extent_at a (extents_in (state_of word middle))) (sym same) ∙ there))
 
     boundary_still : (k : ℕ) → IsBoundary (state_of word middle) k → IsBoundary (state_of word new) k
     boundary_still k b = go (b.extent.at == middle.top) refl
@@ -51,9 +60,15 @@ module _ {A : Type 0} {regions : A → List Grant} {word : A → ℕ → ℕ} {z
             let one = is_the_top b.there (nat_is same) in
             elim (b.is) [
               | inl is ↦ subst (IsBoundary (state_of word new)) (ap (λ a. a + 8) (sym (nat_is same)) ∙ sym is) head
-              | inr is ↦ absurd (let plain = is.0 in let no : is_free_below_top Top ≡ is_free_below_top b.extent.kind = ap (λ e. is_free_below_top e.kind) one in cc)
+              | inr is ↦ absurd (let plain = is.0 in let no : is_free_below_top Top ≡ is_free_below_top b.extent.kind =
+                  ap (λ e. is_free_below_top e.kind) one in cc)
             ]
-        go false other = record { extent = b.extent; there = others b.extent (λ same. (let test : (b.extent.at == middle.top) ≡ true = grind (arith, nat_tests) in cc)) b.there; is = b.is }
+        go false other = record {
+          extent = b.extent;
+          there = others b.extent
+              (λ same. (let test : (b.extent.at == middle.top) ≡ true = grind (arith, nat_tests) in cc)) b.there;
+          is = b.is;
+        }
 
     record_still : {k : ℕ} → IsInRecord (state_of word middle) k → IsInRecord (state_of word new) k
     record_still r = record {

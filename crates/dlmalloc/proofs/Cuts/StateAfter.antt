@@ -64,4 +64,5 @@ replaced_run regions {words} parts apart {extent} others run =
     before = replaced_none words Used run.segment.base run.first extent.at extent.at others (inr (omega arith)) run.first_stand
 
     behind : replaced extent.at others run.last ≡ run.last
-    behind = replaced_none words extent.kind (extent.at + extent.size) run.last (run.segment.base + run.segment.size) extent.at others (inl run.some) run.last_stand
+    behind = replaced_none words extent.kind (extent.at + extent.size) run.last (run.segment.base + run.segment.size)
+        extent.at others (inl run.some) run.last_stand

@@ -35,7 +35,10 @@ module _ {A : Type 0} {regions : A → List Grant} {word : A → ℕ → ℕ} {h
   rest_head = head_at sound (top_among sound some) refl (heap.top + n) (omega arith) (omega (arith, room)) (omega (arith, run.here.1.whole))
 
   module _ (system : A) (same : regions system ≡ regions heap.system)
-      (stored : AreStored (regions heap.system) (word heap.system) ((heap.top + 8, head_of n true true) ∷ (heap.top + n + 8, heap.top_size - n + 1) ∷ []) (word system)) where
+      (stored : AreStored (regions heap.system) (word heap.system) ((heap.top + 8, head_of n true true) ∷ (
+        heap.top + n + 8,
+        heap.top_size - n + 1,
+      ) ∷ []) (word system)) where
     abbrev after : Dlmalloc A
     after = record heap { system = system; top = heap.top + n; top_size = heap.top_size - n }
 
@@ -79,7 +82,8 @@ module _ {A : Type 0} {regions : A → List Grant} {word : A → ℕ → ℕ} {h
         ]) (λ k none. absurd none) (λ k none. absurd none)
 
     -- all others are found as before
-    pub others_still : (one : Extent) → one.at ≢ heap.top → extent_at one.at (extents_in (state_of word heap)) ≡ Some one → extent_at one.at (extents_in (state_of word after)) ≡ Some one
+    pub others_still : (one : Extent) → one.at ≢ heap.top → extent_at one.at (extents_in (state_of word heap)) ≡ Some one →
+        extent_at one.at (extents_in (state_of word after)) ≡ Some one
     others_still one other there = found_again sound cut_step one.at (λ found. absurd (other (ap (λ e. e.at) (sym (the_one one.at chunk found))))) there
 
     -- the heads that the top and its foot had are still boundaries

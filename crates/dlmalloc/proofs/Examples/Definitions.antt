@@ -29,7 +29,8 @@ from-top = refl
 top-serves : chosen (heap (run 0x400000 65456 Top ∷ foot ∷ []) 0) 65440 ≡ Some TheTop
 top-serves = refl
 
-top-keeps-16 : taken (heap (run 0x400000 65456 Top ∷ foot ∷ []) 0) (run 0x400000 65456 Top) 65440 ≡ heap (run 0x400000 65440 Used ∷ run 0x40ffa0 16 Top ∷ foot ∷ []) 0
+top-keeps-16 : taken (heap (run 0x400000 65456 Top ∷ foot ∷ []) 0) (run 0x400000 65456 Top) 65440 ≡ heap
+    (run 0x400000 65440 Used ∷ run 0x40ffa0 16 Top ∷ foot ∷ []) 0
 top-keeps-16 = refl
 
 top-is-not-used-up : chosen (heap (run 0x400000 65456 Top ∷ foot ∷ []) 0) 65456 ≡ None
@@ -38,7 +39,13 @@ top-is-not-used-up = refl
 -- a grant after the segment makes the top longer, and its foot moves
 second-grant : granted (record { base = 0x410000; size = 65536; flags = 0 }) 32 (heap (run 0x400000 65440 Used ∷ run 0x40ffa0 16 Top ∷ foot ∷ []) 0) ≡
     record new_heap {
-      segments = (record { base = 0x400000; size = 131072; flags = 0; extents = run 0x400000 65440 Used ∷ run 0x40ffa0 65552 Top ∷ run 0x41ffb0 80 Foot ∷ [] }) ∷ [];
+      segments = (record {
+        base = 0x400000;
+        size = 131072;
+        flags = 0;
+        extents =
+            run 0x400000 65440 Used ∷ run 0x40ffa0 65552 Top ∷ run 0x41ffb0 80 Foot ∷ [];
+      }) ∷ [];
       countdown = 4095;
       trim_check = 2097152;
     }
@@ -120,5 +127,6 @@ joins-top : freed bins 0x400af0 ≡ heap (run 0x400000 32 Used ∷ run 0x400020 
 joins-top = refl
 
 -- a victim that becomes part of the top is none
-victim-in-top : freed (heap (run 0x400000 976 Free ∷ run 0x4003d0 32 Used ∷ run 0x4003f0 64448 Top ∷ foot ∷ []) 0x400000) 0x4003d0 ≡ heap (run 0x400000 65456 Top ∷ foot ∷ []) 0
+victim-in-top : freed (heap (run 0x400000 976 Free ∷ run 0x4003d0 32 Used ∷ run 0x4003f0 64448 Top ∷ foot ∷ []) 0x400000)
+    0x4003d0 ≡ heap (run 0x400000 65456 Top ∷ foot ∷ []) 0
 victim-in-top = refl

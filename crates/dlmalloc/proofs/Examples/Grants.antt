@@ -55,7 +55,13 @@ before_the_victim : granted (grant 0x1f000 0) 1024 (heap (segment 0x20000 0
 before_the_victim = refl
 
 before_the_top : granted (grant 0x1f000 0) 1024 (heap (segment 0x20000 0 (extent 0x20000 4016 Top ∷ extent 0x20fb0 80 Foot ∷ []) ∷ []) 0 5000) ≡
-    heap ((record { base = 0x1f000; size = 8192; flags = 0; extents = extent 0x1f000 1024 Used ∷ extent 0x1f400 7088 Top ∷ extent 0x20fb0 80 Foot ∷ [] }) ∷ []) 0 5000
+    heap ((record {
+      base = 0x1f000;
+      size = 8192;
+      flags = 0;
+      extents = extent 0x1f000 1024 Used ∷ extent 0x1f400 7088
+          Top ∷ extent 0x20fb0 80 Foot ∷ [];
+    }) ∷ []) 0 5000
 before_the_top = refl
 
 -- before a segment that is not the head
@@ -83,7 +89,13 @@ extern = refl
 
 -- others are if all of their flags are equal
 equal_flags : granted (grant 0x11000 2) 32 (first 0x10000 2) ≡
-    heap ((record { base = 0x10000; size = 8192; flags = 2; extents = extent 0x10000 112 Used ∷ extent 0x10070 8000 Top ∷ extent 0x11fb0 80 Foot ∷ [] }) ∷ []) 0 2097152
+    heap ((record {
+      base = 0x10000;
+      size = 8192;
+      flags = 2;
+      extents = extent 0x10000 112 Used ∷ extent 0x10070 8000
+          Top ∷ extent 0x11fb0 80 Foot ∷ [];
+    }) ∷ []) 0 2097152
 equal_flags = refl
 
 other_flags : granted (grant 0x11000 6) 32 (first 0x10000 2) ≡ heap (segment 0x11000 6 (extent 0x11000 4016 Top ∷ extent 0x11fb0 80 Foot ∷ []) ∷ segment

@@ -19,7 +19,14 @@ module _ (first second third : ℕ) (apart : first ≢ second) (other : third �
     came = third ∷ [];
     are = refl;
     part = inr (second ∷ [], refl, inr ([], refl, refl));
-    others = λ k is was. elim is [ inl same ↦ elim was [ inl a ↦ other (sym same ∙ a) | inr later ↦ elim later [ inl b ↦ another (sym same ∙ b) | inr none ↦ none ] ] | inr none ↦ none ];
+    others = λ k is was. elim is [
+      | inl same ↦ elim was [
+        | inl a ↦ other (sym same ∙ a)
+        | inr later ↦ elim later
+            [ inl b ↦ another (sym same ∙ b) | inr none ↦ none ]
+      ]
+      | inr none ↦ none
+    ];
     few = omega arith;
   }
 
@@ -31,7 +38,8 @@ module _ (first second third : ℕ) (apart : first ≢ second) (other : third �
   not_turned : IsInOrder (first ∷ second ∷ []) (second ∷ first ∷ []) → ⊥
   not_turned o = go o.stayed o.came o.are o.part o.others
     where
-      go : (stayed came : List ℕ) → second ∷ first ∷ [] ≡ stayed ++ came → IsPart stayed (first ∷ second ∷ []) → ((k : ℕ) → IsIn k came → IsIn k (first ∷ second ∷ []) → ⊥) → ⊥
+      go : (stayed came : List ℕ) → second ∷ first ∷ [] ≡ stayed ++ came → IsPart stayed (first ∷ second ∷ []) →
+          ((k : ℕ) → IsIn k came → IsIn k (first ∷ second ∷ []) → ⊥) → ⊥
       go [] came are part others = others second (subst (IsIn second) are (inl refl)) (inr (inl refl))
       go (a ∷ []) came are part others = others first (subst (IsIn first) (ap rest_of are) (inl refl)) (inl refl)
       go (a ∷ b ∷ stayed) came are (inl later) others = elim later [

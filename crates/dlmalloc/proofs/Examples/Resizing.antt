@@ -13,15 +13,18 @@ use Rattle.dlmalloc.proofs.Examples.Definitions.{heap, foot}
 -- ---- a block that keeps its place
 
 -- a size that the chunk has
-stays : in_place (heap (run 0x400000 32 Used ∷ run 0x400020 65424 Top ∷ foot ∷ []) 0) 0x400000 32 ≡ Some (heap (run 0x400000 32 Used ∷ run 0x400020 65424 Top ∷ foot ∷ []) 0)
+stays : in_place (heap (run 0x400000 32 Used ∷ run 0x400020 65424 Top ∷ foot ∷ []) 0) 0x400000 32 ≡ Some
+    (heap (run 0x400000 32 Used ∷ run 0x400020 65424 Top ∷ foot ∷ []) 0)
 stays = refl
 
 -- the top follows, and keeps the rest
-into-top : in_place (heap (run 0x400000 32 Used ∷ run 0x400020 65424 Top ∷ foot ∷ []) 0) 0x400000 112 ≡ Some (heap (run 0x400000 112 Used ∷ run 0x400070 65344 Top ∷ foot ∷ []) 0)
+into-top : in_place (heap (run 0x400000 32 Used ∷ run 0x400020 65424 Top ∷ foot ∷ []) 0) 0x400000 112 ≡ Some
+    (heap (run 0x400000 112 Used ∷ run 0x400070 65344 Top ∷ foot ∷ []) 0)
 into-top = refl
 
 -- of which 16 bytes are enough, and which is never used up
-top-keeps-16 : in_place (heap (run 0x400000 32 Used ∷ run 0x400020 65424 Top ∷ foot ∷ []) 0) 0x400000 65440 ≡ Some (heap (run 0x400000 65440 Used ∷ run 0x40ffa0 16 Top ∷ foot ∷ []) 0)
+top-keeps-16 : in_place (heap (run 0x400000 32 Used ∷ run 0x400020 65424 Top ∷ foot ∷ []) 0) 0x400000 65440 ≡ Some
+    (heap (run 0x400000 65440 Used ∷ run 0x40ffa0 16 Top ∷ foot ∷ []) 0)
 top-keeps-16 = refl
 
 top-is-not-used-up : in_place (heap (run 0x400000 32 Used ∷ run 0x400020 65424 Top ∷ foot ∷ []) 0) 0x400000 65456 ≡ None
@@ -36,11 +39,13 @@ no-block : in_place (heap (run 0x400000 65456 Top ∷ foot ∷ []) 0) 0x400010 3
 no-block = refl
 
 -- a rest of 32 bytes is freed, and joins the top
-rest-of-32 : in_place (heap (run 0x400000 144 Used ∷ run 0x400090 65312 Top ∷ foot ∷ []) 0) 0x400000 112 ≡ Some (heap (run 0x400000 112 Used ∷ run 0x400070 65344 Top ∷ foot ∷ []) 0)
+rest-of-32 : in_place (heap (run 0x400000 144 Used ∷ run 0x400090 65312 Top ∷ foot ∷ []) 0) 0x400000 112 ≡ Some
+    (heap (run 0x400000 112 Used ∷ run 0x400070 65344 Top ∷ foot ∷ []) 0)
 rest-of-32 = refl
 
 -- one of 16 stays with the block
-rest-of-16 : in_place (heap (run 0x400000 128 Used ∷ run 0x400080 65328 Top ∷ foot ∷ []) 0) 0x400000 112 ≡ Some (heap (run 0x400000 128 Used ∷ run 0x400080 65328 Top ∷ foot ∷ []) 0)
+rest-of-16 : in_place (heap (run 0x400000 128 Used ∷ run 0x400080 65328 Top ∷ foot ∷ []) 0) 0x400000 112 ≡ Some
+    (heap (run 0x400000 128 Used ∷ run 0x400080 65328 Top ∷ foot ∷ []) 0)
 rest-of-16 = refl
 
 -- ---- a binned chunk follows
@@ -49,7 +54,8 @@ abbrev beside-bin : HeapState
 beside-bin = heap (run 0x400000 112 Used ∷ run 0x400070 112 Free ∷ run 0x4000e0 32 Used ∷ run 0x400100 65200 Top ∷ foot ∷ []) 0
 
 -- its rest of 64 bytes is in a bin, and no victim
-into-bin : in_place beside-bin 0x400000 160 ≡ Some (heap (run 0x400000 160 Used ∷ run 0x4000a0 64 Free ∷ run 0x4000e0 32 Used ∷ run 0x400100 65200 Top ∷ foot ∷ []) 0)
+into-bin : in_place beside-bin 0x400000 160 ≡ Some (heap (run 0x400000 160 Used ∷ run 0x4000a0 64 Free ∷ run 0x4000e0 32
+    Used ∷ run 0x400100 65200 Top ∷ foot ∷ []) 0)
 into-bin = refl
 
 into-bin-whole : in_place beside-bin 0x400000 208 ≡ Some (heap (run 0x400000 224 Used ∷ run 0x4000e0 32 Used ∷ run 0x400100 65200 Top ∷ foot ∷ []) 0)
@@ -67,7 +73,8 @@ abbrev beside-victim : HeapState
 beside-victim = heap (run 0x400000 32 Used ∷ run 0x400020 976 Free ∷ run 0x4003f0 32 Used ∷ run 0x400410 64416 Top ∷ foot ∷ []) 0x400020
 
 -- its rest is the victim
-into-victim : in_place beside-victim 0x400000 512 ≡ Some (heap (run 0x400000 512 Used ∷ run 0x400200 496 Free ∷ run 0x4003f0 32 Used ∷ run 0x400410 64416 Top ∷ foot ∷ []) 0x400200)
+into-victim : in_place beside-victim 0x400000 512 ≡ Some (heap (run 0x400000 512 Used ∷ run 0x400200 496 Free ∷ run 0x4003f0
+    32 Used ∷ run 0x400410 64416 Top ∷ foot ∷ []) 0x400200)
 into-victim = refl
 
 -- if a rest of 16 stays with the block, there is no victim any longer
@@ -75,7 +82,8 @@ into-victim-whole : in_place beside-victim 0x400000 992 ≡ Some (heap (run 0x40
 into-victim-whole = refl
 
 -- a rest that is freed joins it
-rest-joins-victim : in_place (heap (run 0x400000 512 Used ∷ run 0x400200 496 Free ∷ run 0x4003f0 32 Used ∷ run 0x400410 64416 Top ∷ foot ∷ []) 0x400200) 0x400000 32 ≡ Some beside-victim
+rest-joins-victim : in_place (heap (run 0x400000 512 Used ∷ run 0x400200 496 Free ∷ run 0x4003f0 32 Used ∷ run 0x400410
+    64416 Top ∷ foot ∷ []) 0x400200) 0x400000 32 ≡ Some beside-victim
 rest-joins-victim = refl
 
 -- ---- alignments

@@ -6,7 +6,14 @@ use Rattle.dlmalloc.specs.Trimmed.{cut_of, is_cut, after_cut, given_up}
 use Rattle.dlmalloc.proofs.Extents.Lookup.{extent}
 
 abbrev heap : ℕ → List Segment → ℕ → HeapState
-heap granularity segments trim_check = record { segments = segments; victim = 0; granularity = granularity; rate = 4095; countdown = 4095; trim_check = trim_check }
+heap granularity segments trim_check = record {
+  segments = segments;
+  victim = 0;
+  granularity = granularity;
+  rate = 4095;
+  countdown = 4095;
+  trim_check = trim_check;
+}
 
 -- a head segment of five pages with these flags, all top, and one after it
 abbrev five : ℕ → ℕ → HeapState
@@ -55,7 +62,13 @@ no_units = refl
 -- the cut is made of granularities, and what is left has to be made of units: of the page of a small granularity 3888 bytes
 -- would go
 abbrev small : HeapState
-small = heap 16 ((record { base = 0x10000; size = 4096; flags = 0; extents = extent 0x10000 32 Used ∷ extent 0x10020 3984 Top ∷ extent 0x10fb0 80 Foot ∷ [] }) ∷ []) 5000
+small = heap 16 ((record {
+  base = 0x10000;
+  size = 4096;
+  flags = 0;
+  extents =
+      extent 0x10000 32 Used ∷ extent 0x10020 3984 Top ∷ extent 0x10fb0 80 Foot ∷ [];
+}) ∷ []) 5000
 
 cut_in_units_of_16 : cut_of small 0 ≡ 3888
 cut_in_units_of_16 = refl
@@ -63,7 +76,13 @@ cut_in_units_of_16 = refl
 no_page : is_cut true 4096 0 small ≡ false
 no_page = refl
 
-some_bytes : after_cut true 1 0 small ≡ heap 16 ((record { base = 0x10000; size = 208; flags = 0; extents = extent 0x10000 32 Used ∷ extent 0x10020 96 Top ∷ extent 0x10080 80 Foot ∷ [] }) ∷ []) 2097152
+some_bytes : after_cut true 1 0 small ≡ heap 16 ((record {
+  base = 0x10000;
+  size = 208;
+  flags = 0;
+  extents =
+      extent 0x10000 32 Used ∷ extent 0x10020 96 Top ∷ extent 0x10080 80 Foot ∷ [];
+}) ∷ []) 2097152
 some_bytes = refl
 
 -- a heap without a segment has nothing to cut

@@ -74,7 +74,8 @@ two_segments = (
             kind = inl refl;
             head = refl;
             foot = λ free. absurd (cc);
-            fence = λ is k low high m. (let one : nat_le 4200 k ≡ true = grind (arith, nat_tests) in let two : nat_lt k 4224 ≡ true = grind (arith, nat_tests) in rw (one, two) refl);
+            fence = λ is k low high m. (let one : nat_le 4200 k ≡ true = grind (arith, nat_tests) in
+                let two : nat_lt k 4224 ≡ true = grind (arith, nat_tests) in rw (one, two) refl);
           },
           refl,
         ),

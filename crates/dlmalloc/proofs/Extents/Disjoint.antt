@@ -34,15 +34,19 @@ within regions words segment segments parts apart {one} there =
     elim (of_located (IsApartFrom segment) l apart) [ inl before ↦ inr (omega arith) | inr behind ↦ inl (omega arith) ]
 
 -- in all
-pub beside : (regions : List Grant) (words : ℕ → ℕ) (segments : List Segment) → AreSegments regions words segments → AreApart segments → {one other : Extent} → extent_at one.at (extents_all segments) ≡ Some one → extent_at other.at (extents_all segments) ≡ Some other → one.at ≢ other.at → AreBeside one other
+pub beside : (regions : List Grant) (words : ℕ → ℕ) (segments : List Segment) → AreSegments regions words segments →
+    AreApart segments → {one other : Extent} → extent_at one.at (extents_all segments) ≡ Some one →
+    extent_at other.at (extents_all segments) ≡ Some other → one.at ≢ other.at → AreBeside one other
 beside regions words [] parts apart there there_other differ = absurd (cc)
 beside regions words (segment ∷ segments) parts apart {one} {other} there there_other differ =
     both (found_either one.at segment.extents (extents_all segments) there) (found_either other.at segment.extents (extents_all segments) there_other)
     (λ a b. beside regions words segments parts.1 apart.1 a b differ)
   where
     both : (extent_at one.at segment.extents ≡ Some one) ⊎ ((extent_at one.at segment.extents ≡ None) × (extent_at one.at (extents_all segments) ≡ Some one)) →
-        (extent_at other.at segment.extents ≡ Some other) ⊎ ((extent_at other.at segment.extents ≡ None) × (extent_at other.at (extents_all segments) ≡ Some other)) →
-        (extent_at one.at (extents_all segments) ≡ Some one → extent_at other.at (extents_all segments) ≡ Some other → AreBeside one other) → AreBeside one other
+        (extent_at other.at segment.extents ≡ Some other) ⊎ ((extent_at other.at segment.extents ≡ None) × (extent_at
+        other.at (extents_all segments) ≡ Some other)) →
+        (extent_at one.at (extents_all segments) ≡ Some one → extent_at other.at (extents_all segments) ≡ Some other →
+        AreBeside one other) → AreBeside one other
     both (inl a) (inl b) later = beside_in words Used segment.base segment.extents (segment.base + segment.size) parts.0.extents one other a b differ
     both (inl a) (inr b) later =
         let is = in_part words Used segment.base segment.extents (segment.base + segment.size) parts.0.extents a in

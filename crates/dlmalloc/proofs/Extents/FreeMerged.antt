@@ -22,7 +22,8 @@ inside low high at is above below =
     rw (is, one, two) refl
 
 -- a free chunk has its bytes
-pub has_here : (chunk : Extent) (rest : List Extent) (at : ℕ) → chunk.kind ≡ Free → chunk.at ≤ at → at < chunk.at + chunk.size → find (has at) (chunk ∷ rest) ≡ Some chunk
+pub has_here : (chunk : Extent) (rest : List Extent) (at : ℕ) → chunk.kind ≡ Free → chunk.at ≤ at →
+    at < chunk.at + chunk.size → find (has at) (chunk ∷ rest) ≡ Some chunk
 has_here chunk rest at free low high =
     let test : has at chunk ≡ true = inside chunk.at (chunk.at + chunk.size) at (ap is_free_below_top free) low high in
     rw test refl

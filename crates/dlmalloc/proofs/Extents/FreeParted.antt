@@ -63,7 +63,8 @@ parted words before from extents to h first second there there' free free' less 
           let no : is_free next.kind ≡ false = ap (λ b. b && is_free next.kind) (sym free) ∙ not in cc)
     ]
 
-pub all_parted : (regions : List Grant) (words : ℕ → ℕ) (segments : List Segment) → AreSegments regions words segments → AllByRecursion (λ segment. AreParted segment.extents) segments
+pub all_parted : (regions : List Grant) (words : ℕ → ℕ) (segments : List Segment) → AreSegments regions words segments →
+    AllByRecursion (λ segment. AreParted segment.extents) segments
 all_parted regions words [] parts = tt
 all_parted regions words (segment ∷ segments) parts =
     (parted words Used segment.base segment.extents (segment.base + segment.size) parts.0.extents, all_parted regions words segments parts.1)
@@ -152,10 +153,12 @@ module _ {regions : List Grant} {words : ℕ → ℕ} {segment : Segment} (part 
         ∙ (found_here bare.one (bare.last ∷ []) ∙ ap (λ kind. Some (extent bare.one.at bare.one.size kind)) top)) there)
   ]
 
-module _ {A : Type 0} {regions : A → List Grant} {word : A → ℕ → ℕ} {heap : Dlmalloc A} (sound : IsSound regions word heap) (unused : IsUnused (state_of word heap)) where
+module _ {A : Type 0} {regions : A → List Grant} {word : A → ℕ → ℕ} {heap : Dlmalloc A} (sound : IsSound regions word heap)
+    (unused : IsUnused (state_of word heap)) where
   in_segment : (front : List Segment) (segment : Segment) (back : List Segment) → segments_of word heap ≡ front ++ segment ∷ back →
       (one : Extent) → extent_at one.at segment.extents ≡ Some one → one.kind ≢ Used
-  in_segment front segment back is one there = unused one (among_all (regions heap.system) (word heap.system) sound.segments sound.apart front segment back is one.at there)
+  in_segment front segment back is one there = unused one (among_all (regions heap.system) (word heap.system) sound.segments
+      sound.apart front segment back is one.at there)
 
   in_records : (front segments : List Segment) → segments_of word heap ≡ front ++ segments → AreSegments (regions heap.system) (word heap.system)
       segments → (payload : ℕ) → AreRecords (word heap.system) payload segments → AllByRecursion (λ segment. HasOneFree Free segment.extents) segments

@@ -29,7 +29,8 @@ are_chunks words before at (extent ∷ next ∷ extents) last back end other h =
     (before_all extent.kind next.kind (no_foot next.kind rest.0) h.2.1.kind, rest)
 
 -- a chunk is what its head says
-kind_told : (kind before : Kind) (size : ℕ) → size % 8 ≡ 0 → IsChunkKind kind → MayStand before kind → kind_of (head_of size (is_used before) (is_used kind)) ≡ kind
+kind_told : (kind before : Kind) (size : ℕ) → size % 8 ≡ 0 → IsChunkKind kind → MayStand before kind →
+    kind_of (head_of size (is_used before) (is_used kind)) ≡ kind
 kind_told Used before size whole is h = go (is_used before)
   where
     go : (b : Bool) → kind_of (head_of size b true) ≡ Used
@@ -46,7 +47,8 @@ told {words} {before} {chunk} is h =
     let whole : chunk.size % 8 ≡ 0 = omega arith in
     let head : words (chunk.at + 8) ≡ head_of chunk.size (is_used before) (is_used chunk.kind) = h.head
     ∙ ap (λ n. head_of n (is_used before) (is_used chunk.kind)) (told_chunk chunk.kind chunk.size is) in
-    same_extent refl (ap size_of head ∙ size_of-head_of chunk.size (is_used before) (is_used chunk.kind) whole) (ap kind_of head ∙ kind_told chunk.kind before chunk.size whole is h.kind)
+    same_extent refl (ap size_of head ∙ size_of-head_of chunk.size (is_used before) (is_used chunk.kind) whole)
+    (ap kind_of head ∙ kind_told chunk.kind before chunk.size whole is h.kind)
   where
     told_chunk : (kind : Kind) (size : ℕ) → IsChunkKind kind → told_size kind size ≡ size
     told_chunk kind size (inl is) = ap (λ k. told_size k size) is
@@ -89,8 +91,11 @@ behind_top words from (foot ∷ back) end h tail =
     let kind = only_foot foot.kind h.1.kind in
     let size : foot.size ≡ 80 = subst (λ k. IsSize k foot.size) kind h.1.size in
     let rest = nothing words foot.kind (from + foot.size) back end (ap ends_segment kind) h.2 in
-    let place = h.0 in let ends = rest.1 in
-    (λ i. same_extent {at = foot.at} {at' = end - 80} {size = foot.size} {size' = 80} {kind = foot.kind} {kind' = Foot} (omega arith) size kind i ∷ rest.0 i, omega arith)
+    let place = h.0 in let ends = rest.1 in (
+      λ i. same_extent {at = foot.at} {at' = end - 80} {size = foot.size} {size' = 80} {kind = foot.kind} {kind' = Foot}
+          (omega arith) size kind i ∷ rest.0 i,
+      omega arith,
+    )
 
 module _ {regions : List Grant} {words : ℕ → ℕ} {segment : Segment} (h : IsSegment regions words segment) where
   abbrev end : ℕ
@@ -119,7 +124,8 @@ module _ {regions : List Grant} {words : ℕ → ℕ} {segment : Segment} (h : I
       (λ back tiles tail. let b = behind_top words (top + size) back end tiles tail in let ends = b.1 in
       λ i. same_extent {at = top} {at' = top} {size = size} {size' = end - 80 - top} {kind = Top} {kind' = Top} refl (omega arith) refl i ∷ b.0 i)
 
-  pub read_record : (at : ℕ) → extent_at at segment.extents ≡ Some (record_of at end) → chunks_from words (segment.size / 16) segment.base at ++ record_of at end ∷ [] ≡ segment.extents
+  pub read_record : (at : ℕ) → extent_at at segment.extents ≡ Some (record_of at end) →
+      chunks_from words (segment.size / 16) segment.base at ++ record_of at end ∷ [] ≡ segment.extents
   read_record at there = read (λ is. cc) there (record_of at end ∷ [])
       (λ back tiles tail. ap (λ b. record_of at end ∷ b) (nothing words Record (at + (end - at)) back end refl tiles).0)
 
@@ -132,9 +138,11 @@ records_read regions words zero payload (segment ∷ segments) few parts h = abs
 records_read regions words (suc most) payload (segment ∷ segments) few parts h =
     let some : (payload == 0) ≡ false = nat_isnt (inr (let l = h.0 in omega arith)) in
     let extents = read_record parts.0 (payload - 16) h.4 in
-    let whole : chunks_from words (words (payload + 8) / 16) (words payload) (payload - 16) ++ record_of (payload - 16) (words payload + words (payload + 8)) ∷ [] ≡ segment.extents =
+    let whole : chunks_from words (words (payload + 8) / 16) (words payload) (payload - 16) ++ record_of (payload - 16)
+    (words payload + words (payload + 8)) ∷ [] ≡ segment.extents =
     (λ i. chunks_from words (h.2 i / 16) (h.1 i) (payload - 16) ++ record_of (payload - 16) (h.1 i + h.2 i) ∷ []) ∙ extents in
-    rw some (λ i. (record { base = h.1 i; size = h.2 i; flags = h.3 i; extents = whole i }) ∷ records_read regions words most (words (payload + 16)) segments (omega arith) parts.1 h.5 i)
+    rw some (λ i. (record { base = h.1 i; size = h.2 i; flags = h.3 i; extents = whole i }) ∷ records_read regions words
+    most (words (payload + 16)) segments (omega arith) parts.1 h.5 i)
 
 -- they are no more than are looked for
 pub records_few : (words : ℕ → ℕ) (most payload : ℕ) → length (records_from words most payload) ≤ most
@@ -147,9 +155,11 @@ records_few words (suc most) payload = go (payload == 0) (records_few words most
       base = words payload;
       size = words (payload + 8);
       flags = words (payload + 24);
-      extents = chunks_from words (words (payload + 8) / 16) (words payload) (payload - 16) ++ record_of (payload - 16) (words payload + words (payload + 8)) ∷ [];
+      extents = chunks_from words (words (payload + 8) / 16) (words payload) (payload - 16) ++ record_of (payload - 16)
+          (words payload + words (payload + 8)) ∷ [];
     }
 
-    go : (b : Bool) → length (records_from words most (words (payload + 16))) ≤ most → length (if b then [] else one ∷ records_from words most (words (payload + 16))) ≤ suc most
+    go : (b : Bool) → length (records_from words most (words (payload + 16))) ≤ most →
+        length (if b then [] else one ∷ records_from words most (words (payload + 16))) ≤ suc most
     go true rest = omega arith
     go false rest = omega arith

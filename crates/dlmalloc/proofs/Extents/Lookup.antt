@@ -79,7 +79,8 @@ pub found_either : (at : ℕ) (front back : List Extent) {extent : Extent} → e
     (extent_at at front ≡ Some extent) ⊎ ((extent_at at front ≡ None) × (extent_at at back ≡ Some extent))
 found_either at front back {extent} there = go (extent_at at front) (sym (find-append (λ extent. extent.at == at) front back) ∙ there)
   where
-    go : (first : Option Extent) → option_or first (extent_at at back) ≡ Some extent → (first ≡ Some extent) ⊎ ((first ≡ None) × (extent_at at back ≡ Some extent))
+    go : (first : Option Extent) → option_or first (extent_at at back) ≡ Some extent →
+        (first ≡ Some extent) ⊎ ((first ≡ None) × (extent_at at back ≡ Some extent))
     go None later = inr (refl, later)
     go (Some one) is = inl is
 

@@ -85,7 +85,8 @@ module _ (words : ℕ → ℕ) (n from : ℕ) where
   last_near Used = omega arith
   last_near kind = omega arith
 
-  meets_one : (before : Kind) (at : ℕ) (extents : List Extent) (end : ℕ) → Tiles words before at extents end → AreDistinct extents → at ≤ from + 63 + further before →
+  meets_one : (before : Kind) (at : ℕ) (extents : List Extent) (end : ℕ) → Tiles words before at extents end →
+      AreDistinct extents → at ≤ from + 63 + further before →
       ((one : Extent) → extent_at one.at extents ≡ Some one → (one.kind ≡ Free) ⊎ (one.kind ≡ Top) → one.size ≤ n) → Outcome extents end
   meets_one before at [] end h distinct near short = inr (let most = last_near before in omega arith)
   meets_one before at (first ∷ extents) end h distinct near short =
@@ -98,7 +99,14 @@ module _ (words : ℕ → ℕ) (n from : ℕ) where
       -- one that is met after it is met among all
       later : Outcome extents end → Outcome (first ∷ extents) end
       later (inr past) = inr past
-      later (inl met) = inl (record { used = met.used; there = distinct_later (first ∷ []) extents met.used.at distinct met.there; is = met.is; begins = met.begins; ends = met.ends })
+      later (inl met) = inl (record {
+        used = met.used;
+        there = distinct_later (first ∷ []) extents met.used.at distinct
+            met.there;
+        is = met.is;
+        begins = met.begins;
+        ends = met.ends;
+      })
 
       behind_used : (kind : Kind) → kind ≡ Used → at ≤ from + 63 + further kind → at ≤ from + 63
       behind_used kind is close = let c = subst (λ k. at ≤ from + 63 + further k) is close in omega arith
@@ -141,7 +149,8 @@ module _ (words : ℕ → ℕ) (n from : ℕ) where
 module _ {A : Type 0} {regions : A → List Grant} {word : A → ℕ → ℕ} {heap : Dlmalloc A} (sound : IsSound regions word heap) (some : 0 < heap.size)
     (n : ℕ) (none : chosen (state_of word heap) n ≡ None) where
   small : IsTooSmall n (least_fit (state_of word heap) n) heap.victim_size heap.top_size
-  small = too_small n (least_fit (state_of word heap) n) heap.victim_size heap.top_size (sym (chosen_is sound some n {fit = (least_fit (state_of word heap) n)} refl) ∙ none)
+  small = too_small n (least_fit (state_of word heap) n) heap.victim_size heap.top_size
+      (sym (chosen_is sound some n {fit = (least_fit (state_of word heap) n)} refl) ∙ none)
 
   free_less : (one : Extent) → extent_at one.at (extents_in (state_of word heap)) ≡ Some one → one.kind ≡ Free → one.size < n
   free_less one there free = go (one.at == heap.victim) refl
@@ -179,7 +188,8 @@ module _ {A : Type 0} {regions : A → List Grant} {word : A → ℕ → ℕ} {h
       ]
     where
       part : IsSegment (regions heap.system) (word heap.system) segment
-      part = all_at (IsSegment (regions heap.system) (word heap.system)) front segment back (subst (AreSegments (regions heap.system) (word heap.system)) is sound.segments)
+      part = all_at (IsSegment (regions heap.system) (word heap.system)) front segment back
+          (subst (AreSegments (regions heap.system) (word heap.system)) is sound.segments)
 
       all : (one : Extent) → extent_at one.at segment.extents ≡ Some one → extent_at one.at (extents_in (state_of word heap)) ≡ Some one
       all one there = among_all (regions heap.system) (word heap.system) sound.segments sound.apart front segment back is one.at there
@@ -196,7 +206,8 @@ module _ {A : Type 0} {regions : A → List Grant} {word : A → ℕ → ℕ} {h
 
 -- so all are full
 abbrev AreMet : HeapState → ℕ → List Segment → Type 0
-AreMet heap bytes segments = AllByRecursion (λ segment. (from : ℕ) → segment.base ≤ from → from + bytes ≤ segment.base + segment.size → IsMet heap from (from + bytes)) segments
+AreMet heap bytes segments = AllByRecursion (λ segment. (from : ℕ) → segment.base ≤ from →
+    from + bytes ≤ segment.base + segment.size → IsMet heap from (from + bytes)) segments
 
 pub full : {A : Type 0} {regions : A → List Grant} {word : A → ℕ → ℕ} {heap : Dlmalloc A} → IsSound regions word heap →
     (n : ℕ) → chosen (state_of word heap) n ≡ None → IsFull (state_of word heap) (n + 256)
@@ -209,6 +220,7 @@ full {word} {heap} sound n none = go (segments_of word heap) refl sound.told
       each some (front ++ segment ∷ []) segments (is ∙ sym (append_assoc front (segment ∷ []) segments)),
     )
 
-    go : (segments : List Segment) → segments_of word heap ≡ segments → AreTold (word heap.system) heap segments → AreMet (state_of word heap) (n + 256) segments
+    go : (segments : List Segment) → segments_of word heap ≡ segments → AreTold (word heap.system) heap segments →
+        AreMet (state_of word heap) (n + 256) segments
     go [] is told = tt
     go (segment ∷ segments) is told = each told.0 [] (segment ∷ segments) is

@@ -14,7 +14,8 @@ more_between front {less} {more} back h = record {
   front = used_of front ++ h.front;
   back = h.back ++ used_of back;
   fewer = used_append front (less ++ back) ∙ (ap (λ l. used_of front ++ l) (used_append less back ∙ ap (λ l. l ++ used_of back) h.fewer) ∙ simp append_assoc);
-  further = used_append front (more ++ back) ∙ (ap (λ l. used_of front ++ l) (used_append more back ∙ ap (λ l. l ++ used_of back) h.further) ∙ simp append_assoc);
+  further = used_append front (more ++ back) ∙ (ap (λ l. used_of front ++ l)
+      (used_append more back ∙ ap (λ l. l ++ used_of back) h.further) ∙ simp append_assoc);
 }
 
 -- ---- each extent begins at an address of its own
@@ -28,7 +29,8 @@ distinct_second [] back apart = apart
 distinct_second (first ∷ front) back apart = distinct_second front back apart.1
 
 -- what is found after some is found with them
-pub distinct_later : (front back : List Extent) (k : ℕ) {extent : Extent} → AreDistinct (front ++ back) → extent_at k back ≡ Some extent → extent_at k (front ++ back) ≡ Some extent
+pub distinct_later : (front back : List Extent) (k : ℕ) {extent : Extent} → AreDistinct (front ++ back) →
+    extent_at k back ≡ Some extent → extent_at k (front ++ back) ≡ Some extent
 distinct_later [] back k distinct there = there
 distinct_later (first ∷ front) back k {extent} distinct there = go (first.at == k) refl (distinct_later front back k distinct.1 there)
   where
@@ -49,7 +51,8 @@ replaced_found k front less more back distinct stays there = elim (found_either 
 ]
 
 -- none of the extents of a range begins outside of it
-pub none_outside : (words : ℕ → ℕ) (before : Kind) (from : ℕ) (extents : List Extent) (to k : ℕ) → (k < from) ⊎ (to ≤ k) → Tiles words before from extents to → extent_at k extents ≡ None
+pub none_outside : (words : ℕ → ℕ) (before : Kind) (from : ℕ) (extents : List Extent) (to k : ℕ) → (k < from) ⊎ (to ≤ k) →
+    Tiles words before from extents to → extent_at k extents ≡ None
 none_outside words before from [] to k out h = refl
 none_outside words before from (extent ∷ extents) to k out h =
     let long = (sized extent.kind extent.size h.1.size).1 in
@@ -61,8 +64,10 @@ none_outside words before from (extent ∷ extents) to k out h =
 pub tiles_distinct : (words : ℕ → ℕ) (before : Kind) (from : ℕ) (extents : List Extent) (to : ℕ) → Tiles words before from extents to → AreDistinct extents
 tiles_distinct words before from [] to h = tt
 tiles_distinct words before from (extent ∷ extents) to h =
-    let long = (sized extent.kind extent.size h.1.size).1 in let place = h.0 in
-    (none_outside words extent.kind (from + extent.size) extents to extent.at (inl (omega arith)) h.2, tiles_distinct words extent.kind (from + extent.size) extents to h.2)
+    let long = (sized extent.kind extent.size h.1.size).1 in let place = h.0 in (
+      none_outside words extent.kind (from + extent.size) extents to extent.at (inl (omega arith)) h.2,
+      tiles_distinct words extent.kind (from + extent.size) extents to h.2,
+    )
 
 -- what is found in use is found among those in use
 module _ (k : ℕ) (extent : Extent) (extents : List Extent) where
@@ -80,7 +85,8 @@ module _ (k : ℕ) (extent : Extent) (extents : List Extent) where
   met : (extent.at == k) ≡ true → is_used extent.kind ≡ true → extent_at k (used_of (extent ∷ extents)) ≡ Some extent
   met here used = rw (used, here) refl
 
-pub used_there : (k : ℕ) (extents : List Extent) {used : Extent} → used.kind ≡ Used → extent_at k extents ≡ Some used → extent_at k (used_of extents) ≡ Some used
+pub used_there : (k : ℕ) (extents : List Extent) {used : Extent} → used.kind ≡ Used → extent_at k extents ≡ Some used →
+    extent_at k (used_of extents) ≡ Some used
 used_there k [] is there = there
 used_there k (extent ∷ extents) {used} is there = go (extent.at == k) refl there (used_there k extents is)
   where
@@ -101,7 +107,8 @@ none_used k (extent ∷ extents) none = go (extent.at == k) refl none (none_used
     go false other found later = passed k extent extents other (later found)
 
 -- and the other way round
-pub used_back : (k : ℕ) (extents : List Extent) {used : Extent} → AreDistinct extents → extent_at k (used_of extents) ≡ Some used → extent_at k extents ≡ Some used
+pub used_back : (k : ℕ) (extents : List Extent) {used : Extent} → AreDistinct extents →
+    extent_at k (used_of extents) ≡ Some used → extent_at k extents ≡ Some used
 used_back k [] apart there = there
 used_back k (extent ∷ extents) {used} apart there =
     go (is_used extent.kind) there (λ found. distinct_later (extent ∷ []) extents k apart (used_back k extents apart.1 found))
@@ -154,10 +161,12 @@ pub one_more : (fewer further : HeapState) {one : Extent} → AreDistinct (exten
 one_more fewer further {one} apart apart' h = record {
   kept = λ used is there.
       let among = ap (extent_at used.at) (sym h.fewer) ∙ used_there used.at (extents_in fewer) is there in
-      used_back used.at (extents_in further) apart' (ap (extent_at used.at) h.further ∙ (found_beside used.at h.front h.back one (λ same. none used.at same used among) ∙ among));
+      used_back used.at (extents_in further) apart' (ap (extent_at used.at) h.further
+      ∙ (found_beside used.at h.front h.back one (λ same. none used.at same used among) ∙ among));
   only = λ used is there other.
       let among = ap (extent_at used.at) (sym h.further) ∙ used_there used.at (extents_in further) is there in
-      used_back used.at (extents_in fewer) apart (ap (extent_at used.at) h.fewer ∙ (sym (found_beside used.at h.front h.back one (λ same. other (sym same))) ∙ among));
+      used_back used.at (extents_in fewer) apart (ap (extent_at used.at) h.fewer
+      ∙ (sym (found_beside used.at h.front h.back one (λ same. other (sym same))) ∙ among));
   new = λ used is there same. none used.at (sym same) used (ap (extent_at used.at) (sym h.fewer) ∙ used_there used.at (extents_in fewer) is there);
 }
   where

@@ -120,7 +120,8 @@ module _ {A : Type 0} {regions : A → List Grant} {word : A → ℕ → ℕ} {h
   }
 
   -- what is found in the segment still is, if it is found among the new ones too
-  pub stays : (k : ℕ) {one : Extent} → (extent_at k less ≡ Some one → extent_at k more ≡ Some one) → extent_at k run.segment.extents ≡ Some one → extent_at k run_extents ≡ Some one
+  pub stays : (k : ℕ) {one : Extent} → (extent_at k less ≡ Some one → extent_at k more ≡ Some one) →
+      extent_at k run.segment.extents ≡ Some one → extent_at k run_extents ≡ Some one
   stays k still there = replaced_found k run.first less more run.last
       (tiles_distinct (word new.system) Used run.segment.base run_extents (run.segment.base + run.segment.size) is_now.extents) still
       (ap (extent_at k) (sym run.extents) ∙ there)
@@ -134,7 +135,20 @@ module _ {A : Type 0} {regions : A → List Grant} {word : A → ℕ → ℕ} {h
   }
 
   abbrev step : AreTold (word new.system) new (run.front ++ run_now ∷ run.back) → IsStep regions word heap new less more
-  step told = record { front = run.front; segment = run.segment; back = run.back; is = run.is; now = run_now; first = run.first; last = run.last; old_extents = run.extents; new_extents = refl; changed = changed; told = told }
+  step told = record {
+    front = run.front;
+    segment = run.segment;
+    back = run.back;
+    is = run.is;
+    now = run_now;
+    first =
+        run.first;
+    last = run.last;
+    old_extents = run.extents;
+    new_extents = refl;
+    changed = changed;
+    told = told;
+  }
 
   -- the top stays
   abbrev pub step_beside : new.next ≡ heap.next → HasSameHead heap new → ((k : ℕ) (tail : Extent) → extent_at k less ≡ Some tail →

@@ -17,12 +17,23 @@ pub record IsShownAs (victim : ℕ) (extent other : Extent) : Type 0 where
 pub shown_as : (heap : HeapState) (extent : Extent) → IsShownAs heap.victim extent (shown heap extent)
 shown_as heap extent = of extent.at extent.size extent.kind
   where
-    of : (at size : ℕ) (kind : Kind) → IsShownAs heap.victim (record { at = at; size = size; kind = kind }) (shown heap (record { at = at; size = size; kind = kind }))
+    of : (at size : ℕ) (kind : Kind) → IsShownAs heap.victim (record { at = at; size = size; kind = kind })
+        (shown heap (record { at = at; size = size; kind = kind }))
     of at size Free = go (at == heap.victim) refl
       where
         go : (b : Bool) → (at == heap.victim) ≡ b → IsShownAs heap.victim (record { at = at; size = size; kind = Free })
             (if b then record { at = at; size = size; kind = Victim } else record { at = at; size = size; kind = Free })
-        go true test = record { place = refl; size = refl; free = refl; top = refl; foot = refl; ends = refl; bytes = λ h. h; named = λ no other. absurd (other (nat_is test)) }
+        go true test = record {
+          place = refl;
+          size = refl;
+          free = refl;
+          top = refl;
+          foot = refl;
+          ends = refl;
+          bytes =
+              λ h. h;
+          named = λ no other. absurd (other (nat_is test));
+        }
         go false test = record { place = refl; size = refl; free = refl; top = refl; foot = refl; ends = refl; bytes = λ h. h; named = λ no other. refl }
     of at size Victim = go (at == heap.victim)
       where

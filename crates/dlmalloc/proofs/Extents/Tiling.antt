@@ -37,7 +37,8 @@ pub record Split (words : ℕ → ℕ) (before : Kind) (at : ℕ) (front back : 
   pub first : Tiles words before at front middle
   pub second : Tiles words (last_kind before front) middle back end
 
-pub tiles_split : (words : ℕ → ℕ) (before : Kind) (at : ℕ) (front back : List Extent) (end : ℕ) → Tiles words before at (front ++ back) end → Split words before at front back end
+pub tiles_split : (words : ℕ → ℕ) (before : Kind) (at : ℕ) (front back : List Extent) (end : ℕ) →
+    Tiles words before at (front ++ back) end → Split words before at front back end
 tiles_split words before at [] back end h = record { middle = at; first = refl; second = h }
 tiles_split words before at (extent ∷ front) back end h =
     let rest = tiles_split words extent.kind (at + extent.size) front back end h.2 in
@@ -63,7 +64,8 @@ stands_kept words' {extent} h same =
 
 -- Words up to the end; the word at the end itself only if a free extent is the last.
 pub tiles_kept : (words words' : ℕ → ℕ) (before : Kind) (at : ℕ) (extents : List Extent) (end : ℕ) → Tiles words before at extents end →
-    ((k : ℕ) → at < k → k ≤ end → k % 8 ≡ 0 → (k ≡ end → IsTrue (is_free_below_top (last_kind before extents))) → words' k ≡ words k) → Tiles words' before at extents end
+    ((k : ℕ) → at < k → k ≤ end → k % 8 ≡ 0 → (k ≡ end → IsTrue (is_free_below_top (last_kind before extents))) →
+    words' k ≡ words k) → Tiles words' before at extents end
 tiles_kept words words' before at [] end h same = h
 tiles_kept words words' before at (extent ∷ []) end h same =
     let place = h.0 in let ends = h.2 in (

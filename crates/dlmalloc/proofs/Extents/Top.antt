@@ -56,7 +56,8 @@ module _ {regions : List Grant} {words : ℕ → ℕ} {segment : Segment} (part 
         ]
 
   -- no record is there
-  pub no_record : {at size : ℕ} (record_at : ℕ) → extent_at at segment.extents ≡ Some (extent at size Top) → extent_at record_at segment.extents ≡ Some (record_of record_at end) → ⊥
+  pub no_record : {at size : ℕ} (record_at : ℕ) → extent_at at segment.extents ≡ Some (extent at size Top) →
+      extent_at record_at segment.extents ≡ Some (record_of record_at end) → ⊥
   no_record {at} {size} record_at there record_there =
       let foot = ap (last_kind Used) (top_is there) ∙ last_append Used (chunks there) (extent at size Top ∷ extent (at + size) 80 Foot ∷ []) in
       let kind = ap (last_kind Used) (record_tail part record_at record_there).is
@@ -69,14 +70,16 @@ pub top_among : {A : Type 0} {regions : A → List Grant} {word : A → ℕ → 
     extent_at heap.top (extents_all (segments_of word heap)) ≡ Some (extent heap.top heap.top_size Top)
 top_among {word} {heap} sound some = go (segments_of word heap) sound.told
   where
-    go : (segments : List Segment) → AreTold (word heap.system) heap segments → extent_at heap.top (extents_all segments) ≡ Some (extent heap.top heap.top_size Top)
+    go : (segments : List Segment) → AreTold (word heap.system) heap segments →
+        extent_at heap.top (extents_all segments) ≡ Some (extent heap.top heap.top_size Top)
     go [] h = absurd (omega arith)
     go (segment ∷ segments) h = found_more heap.top segment.extents (extents_all segments) h.4
 
 module _ {A : Type 0} {regions : A → List Grant} {word : A → ℕ → ℕ} {heap : Dlmalloc A} (sound : IsSound regions word heap)
     (front : List Segment) (segment : Segment) (back : List Segment) (is : segments_of word heap ≡ front ++ segment ∷ back) where
   part : IsSegment (regions heap.system) (word heap.system) segment
-  part = all_at (IsSegment (regions heap.system) (word heap.system)) front segment back (subst (AreSegments (regions heap.system) (word heap.system)) is sound.segments)
+  part = all_at (IsSegment (regions heap.system) (word heap.system)) front segment back
+      (subst (AreSegments (regions heap.system) (word heap.system)) is sound.segments)
 
   -- the top stands in the head segment, where the field says
   pub is_top : {at size : ℕ} → extent_at at segment.extents ≡ Some (extent at size Top) → (front ≡ []) × (at ≡ heap.top)

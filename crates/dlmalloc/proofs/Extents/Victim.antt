@@ -14,7 +14,8 @@ outside true low high at (inl below) = grind (arith, nat_tests)
 outside true low high at (inr above) = grind (arith, nat_tests)
 
 -- none of the extents of a range has a byte outside of it
-pub has_none : (words : ℕ → ℕ) (before : Kind) (from : ℕ) (extents : List Extent) (to at : ℕ) → (at < from) ⊎ (to ≤ at) → Tiles words before from extents to → find (has at) extents ≡ None
+pub has_none : (words : ℕ → ℕ) (before : Kind) (from : ℕ) (extents : List Extent) (to at : ℕ) → (at < from) ⊎ (to ≤ at) →
+    Tiles words before from extents to → find (has at) extents ≡ None
 has_none words before from [] to at out h = refl
 has_none words before from (extent ∷ extents) to at out h =
     let long = (sized extent.kind extent.size h.1.size).1 in
@@ -52,7 +53,8 @@ has_in regions words (segment ∷ segments) parts apart {one} at there free low 
     out : extent_at one.at (extents_all segments) ≡ Some one → (at < segment.base) ⊎ (segment.base + segment.size ≤ at)
     out later = elim (within regions words segment segments parts.1 apart.0 later) [ inl before ↦ inl (omega arith) | inr behind ↦ inr (omega arith) ]
 
-pub has_no_zero : (regions : List Grant) (words : ℕ → ℕ) (segments : List Segment) → AreSegments regions words segments → find (has 0) (extents_all segments) ≡ None
+pub has_no_zero : (regions : List Grant) (words : ℕ → ℕ) (segments : List Segment) → AreSegments regions words segments →
+    find (has 0) (extents_all segments) ≡ None
 has_no_zero regions words [] parts = refl
 has_no_zero regions words (segment ∷ segments) parts =
     let low = parts.0.low in
@@ -60,8 +62,10 @@ has_no_zero regions words (segment ∷ segments) parts =
     (inl (omega arith)) parts.0.extents) ∙ has_no_zero regions words segments parts.1
 
 -- a victim that stays free is the victim
-pub victim_same : (regions : List Grant) (words : ℕ → ℕ) (segments : List Segment) → AreSegments regions words segments → AreApart segments → (victim size : ℕ) →
-    (size ≢ 0 → extent_at victim (extents_all segments) ≡ Some (extent victim size Free)) → (size ≡ 0 → victim ≡ 0) → victim ≡ victim_in victim (extents_all segments)
+pub victim_same : (regions : List Grant) (words : ℕ → ℕ) (segments : List Segment) → AreSegments regions words segments →
+    AreApart segments → (victim size : ℕ) →
+    (size ≢ 0 → extent_at victim (extents_all segments) ≡ Some (extent victim size Free)) → (size ≡ 0 → victim ≡ 0) →
+    victim ≡ victim_in victim (extents_all segments)
 victim_same regions words segments parts apart victim size there none = go (size == 0) refl
   where
     at_of : Option Extent → ℕ

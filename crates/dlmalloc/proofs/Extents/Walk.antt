@@ -19,7 +19,8 @@ run_read {words} {from} {to} run = chunks_read words Used (to / 16) from run.chu
       where
         end : (words : ℕ → ℕ) (before : Kind) (at : ℕ) (chunks : List Extent) (to : ℕ) → Tiles words before at chunks to → at % 16 ≡ 0 → to % 16 ≡ 0
         end words before at [] to h w = omega arith
-        end words before at (chunk ∷ chunks) to h w = end words chunk.kind (at + chunk.size) chunks to h.2 (omega (arith, (sized chunk.kind chunk.size h.1.size).0))
+        end words before at (chunk ∷ chunks) to h w = end words chunk.kind (at + chunk.size) chunks to h.2
+            (omega (arith, (sized chunk.kind chunk.size h.1.size).0))
 
 -- the chunks of a range up to an address, of which something is known
 pub record Passed (words : ℕ → ℕ) (from to at : ℕ) (known : List Extent → Type 0) : Type 0 where
@@ -42,12 +43,24 @@ pub record Next (words : ℕ → ℕ) (before : Kind) (at : ℕ) (back : List Ex
   pub kind : IsChunkKind chunk.kind
   pub are : AreChunks rest
 
-next : (words : ℕ → ℕ) (before : Kind) (at : ℕ) (back : List Extent) (to : ℕ) → at < to → Tiles words before at back to → AreChunks back → Next words before at back to
+next : (words : ℕ → ℕ) (before : Kind) (at : ℕ) (back : List Extent) (to : ℕ) → at < to → Tiles words before at back to →
+    AreChunks back → Next words before at back to
 next words before at [] to more h are = absurd (omega arith)
-next words before at (chunk ∷ rest) to more h are = record { chunk = chunk; rest = rest; is = refl; place = h.0; stands = h.1; later = h.2; kind = are.0; are = are.1 }
+next words before at (chunk ∷ rest) to more h are = record {
+  chunk = chunk;
+  rest = rest;
+  is = refl;
+  place = h.0;
+  stands =
+      h.1;
+  later = h.2;
+  kind = are.0;
+  are = are.1;
+}
 
 -- nothing is passed at the beginning
-pub begun : {regions : List Grant} {words : ℕ → ℕ} {from to : ℕ} (known : List Extent → Type 0) → IsChunkRun regions words from to → known [] → Passed words from to from known
+pub begun : {regions : List Grant} {words : ℕ → ℕ} {from to : ℕ} (known : List Extent → Type 0) →
+    IsChunkRun regions words from to → known [] → Passed words from to from known
 begun known run so_far = record { front = []; back = run.chunks; is = run_read run; before = refl; behind = run.stand; are = run.are; so_far = so_far }
 
 -- where a range ends, no chunk is left
@@ -57,7 +70,8 @@ none_left words before at (chunk ∷ chunks) end empty h =
     absurd (let long = (sized chunk.kind chunk.size h.1.size).1 in let later = tiles_le words chunk.kind (at + chunk.size) chunks end h.2 in omega arith)
 
 -- all are passed at the end
-pub all_passed : {words : ℕ → ℕ} {from to at : ℕ} {known : List Extent → Type 0} → to ≤ at → Passed words from to at known → known (chunks_between words from to)
+pub all_passed : {words : ℕ → ℕ} {from to at : ℕ} {known : List Extent → Type 0} → to ≤ at → Passed words from to at known →
+    known (chunks_between words from to)
 all_passed {words} {to} {at} {known} end p = subst known
     (sym (p.is ∙ (ap (λ cs. p.front ++ cs) (none_left words (last_kind Used p.front) at p.back to end p.behind) ∙ append-nil p.front))) p.so_far
 
@@ -167,4 +181,5 @@ record_tail {words} {segment} part at there = has_tail part (λ is. cc) there (r
 pub mapped_more : (each : Extent → Extent) {old new : List Extent} (start front : List Extent) (extent : Extent) {item : Extent} →
     old ≡ start ++ map each front → item ≡ each extent → new ≡ old ++ item ∷ [] → new ≡ start ++ map each (front ++ extent ∷ [])
 mapped_more each start front extent was is added =
-    added ∙ (λ i. was i ++ is i ∷ []) ∙ append_assoc start (map each front) (each extent ∷ []) ∙ ap (λ es. start ++ es) (sym (map-append each front (extent ∷ [])))
+    added ∙ (λ i. was i ++ is i ∷ []) ∙ append_assoc start (map each front) (each extent ∷ [])
+    ∙ ap (λ es. start ++ es) (sym (map-append each front (extent ∷ [])))

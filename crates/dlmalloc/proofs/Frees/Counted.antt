@@ -38,7 +38,12 @@ module _ {A : Type 0} {regions : A → List Grant} {word : A → ℕ → ℕ} {h
   around_head = record {
     aligned = omega (arith, is_in.stands.whole, place);
     small = omega (arith, is_in.high, part.high, (sized one.kind one.size is_in.stands.size).1, place);
-    granted = record { granted = part.run.covered (from + 8) (omega (arith, is_in.low, place)) (omega (arith, is_in.high, (sized one.kind one.size is_in.stands.size).1, place)); aligned = omega (arith, is_in.stands.whole, place) };
+    granted = record {
+      granted = part.run.covered (from + 8) (omega (arith, is_in.low, place))
+          (omega (arith, is_in.high, (sized one.kind one.size is_in.stands.size).1, place));
+      aligned =
+          omega (arith, is_in.stands.whole, place);
+    };
   }
 
   -- it is the top, or a free chunk before it
@@ -51,7 +56,8 @@ module _ {A : Type 0} {regions : A → List Grant} {word : A → ℕ → ℕ} {h
   not_top : one.kind ≡ Free → from ≢ heap.top
   not_top is same =
       let top = top_among sound (some_segment word heap one.at there) in
-      let both : Some one ≡ Some (extent heap.top heap.top_size Top) = sym there ∙ (ap (λ a. extent_at a (extents_all (segments_of word heap))) (place ∙ same) ∙ top) in
+      let both : Some one ≡ Some (extent heap.top heap.top_size Top) = sym there
+      ∙ (ap (λ a. extent_at a (extents_all (segments_of word heap))) (place ∙ same) ∙ top) in
       let no : Free ≡ Top = sym is ∙ ap (λ e. e.kind) (the_extent both) in
       cc
 
@@ -61,20 +67,24 @@ module _ {A : Type 0} {regions : A → List Grant} {word : A → ℕ → ℕ} {h
       (none_has sound there (ap is_free_below_top is) at (omega (arith, place)) (omega (arith, place)))
 
   -- so its head says whether it counts
-  counted_told : {b : Bool} → b ≡ (not (from == heap.top) && (not (from == heap.victim) && nat_le 256 (size_of (word heap.system (from + 8))))) → b ≡ is_counted (state_of word heap) at
+  counted_told : {b : Bool} → b ≡ (not (from == heap.top) && (not (from == heap.victim) && nat_le 256
+      (size_of (word heap.system (from + 8))))) → b ≡ is_counted (state_of word heap) at
   counted_told b_is = b_is ∙ elim (kinds one.kind refl) [
     | inl is ↦ (let same : (from == heap.top) ≡ true = ap (λ n. n == heap.top) (sym place ∙ top_place sound there is) ∙ nat_same heap.top in
         ap (λ c. not c && (not (from == heap.victim) && nat_le 256 (size_of (word heap.system (from + 8))))) same ∙ sym (none_plain is))
     | inr is ↦ (let other : (from == heap.top) ≡ false = (let n = not_top is in grind (arith, nat_tests)) in
-        let found = has_in (regions heap.system) (word heap.system) (segments_of word heap) sound.segments sound.apart at there is (omega (arith, place)) (omega (arith, place)) in
-        let size : size_of (word heap.system (from + 8)) ≡ one.size = ap (λ a. size_of (word heap.system (a + 8))) (sym place) ∙ ap (λ e. e.size) (told (inr is) is_in.stands) in
+        let found = has_in (regions heap.system) (word heap.system) (segments_of word heap) sound.segments sound.apart at
+        there is (omega (arith, place)) (omega (arith, place)) in
+        let size : size_of (word heap.system (from + 8)) ≡ one.size = ap (λ a. size_of (word heap.system (a + 8)))
+        (sym place) ∙ ap (λ e. e.size) (told (inr is) is_in.stands) in
         ap (λ c. not c && (not (from == heap.victim) && nat_le 256 (size_of (word heap.system (from + 8))))) other
         ∙ ((λ i. not (sym place i == heap.victim) && nat_le 256 (size i)) ∙ sym (counts_some found is)))
   ]
     where
       counts_some : find (has at) (extents_all (segments_of word heap)) ≡ Some one → one.kind ≡ Free →
           is_counted (state_of word heap) at ≡ (not (one.at == heap.victim) && nat_le 256 one.size)
-      counts_some found is = ap (is_large_binned (state_of word heap)) found ∙ ap (λ plain. (plain && not (one.at == heap.victim)) && nat_le 256 one.size) (ap is_free_below_top is)
+      counts_some found is = ap (is_large_binned (state_of word heap)) found
+          ∙ ap (λ plain. (plain && not (one.at == heap.victim)) && nat_le 256 one.size) (ap is_free_below_top is)
 
   -- not if it is the top, nor if it is the victim
   pub top_told : from ≡ heap.top → false ≡ is_counted (state_of word heap) at
@@ -93,7 +103,8 @@ module _ {A : Type 0} {regions : A → List Grant} {word : A → ℕ → ℕ} {h
       same = ap (λ n. n == heap.victim) is ∙ nat_same heap.victim
 
   -- else by its size
-  pub size_told : from ≢ heap.top → from ≢ heap.victim → {size : ℕ} → size ≡ size_of (word heap.system (from + 8)) → nat_le 256 size ≡ is_counted (state_of word heap) at
+  pub size_told : from ≢ heap.top → from ≢ heap.victim → {size : ℕ} → size ≡ size_of (word heap.system (from + 8)) →
+      nat_le 256 size ≡ is_counted (state_of word heap) at
   size_told other differs is = counted_told (ap (λ n. nat_le 256 n) is
       ∙ sym (λ i. not (other_top other i) && (not (apart i) && nat_le 256 (size_of (word heap.system (from + 8))))))
     where
@@ -133,12 +144,17 @@ module _ {A : Type 0} {regions : A → List Grant} {word : A → ℕ → ℕ} (f
   counted_less is more =
       let gone = gone_none ((λ i. is i && more i)) in
       record {
-        state = sym ((λ i. if is i then (if more i then passed frees parts (state_of word old) else record (state_of word old) { countdown = old.countdown - 1 }) else state_of word old));
+        state = sym ((λ i. if is i then (if more i then passed frees parts (state_of word old)
+            else record (state_of word old) { countdown = old.countdown - 1 }) else state_of word old));
         sound = countdown_sound sound (old.countdown - 1);
         used = record { still = λ used is there. there; before = λ used is there. there };
         kept = same_words (extents_in (state_of word old)) (word old.system);
         words = λ k inside was out. refl;
-        index = λ b. (same_bins (old.countdown - 1) b, λ n. sym (λ i. (if is i && more i then after_pass frees parts (segments_of word old) b.index else b.index) n));
+        index = λ b. (
+          same_bins (old.countdown - 1) b,
+          λ n. sym (λ i. (if is i && more i then after_pass frees parts
+              (segments_of word old) b.index else b.index) n),
+        );
         regions_are = sym (ap (λ segments. regions_without segments (regions old.system)) gone);
         followed = subst (λ segments. follows old.system (releases segments) old.system) (sym gone) (follows_none old.system);
       }
@@ -156,7 +172,11 @@ module _ {A : Type 0} {regions : A → List Grant} {word : A → ℕ → ℕ} (f
         used = p.used;
         kept = p.kept;
         words = p.words;
-        index = λ b. (let a = p.index b in (a.0, λ n. a.1 n ∙ sym (λ i. (if is i && ends i then after_pass frees parts (segments_of word old) b.index else b.index) n)));
+        index = λ b. (let a = p.index b in (
+          a.0,
+          λ n. a.1 n ∙ sym (λ i. (if is i && ends i then after_pass frees parts
+              (segments_of word old) b.index else b.index) n),
+        ));
         regions_are = p.regions_are ∙ sym (ap (λ segments. regions_without segments (regions old.system)) gone);
         followed = subst (λ segments. follows old.system (releases segments) new.system) (sym gone) p.followed;
       }

@@ -132,7 +132,8 @@ module _ (words : ℕ → ℕ) (segments : List Segment) where
     is = r.is;
     first = l.front;
     last = r.last;
-    extents = r.extents ∙ (ap (λ es. es ++ (run ++ r.last)) l.is ∙ (append_assoc l.front l.lefts (run ++ r.last) ∙ ap (λ es. l.front ++ es) (sym (append_assoc l.lefts run r.last))));
+    extents = r.extents ∙ (ap (λ es. es ++ (run ++ r.last)) l.is ∙ (append_assoc l.front l.lefts (run ++ r.last)
+        ∙ ap (λ es. l.front ++ es) (sym (append_assoc l.lefts run r.last))));
     first_stand = l.front_stand;
     here = tiles_append words (last_kind Used l.front) from l.lefts run at to (subst (λ k. Tiles words k from l.lefts at) (sym l.used) l.lefts_stand)
         (subst (λ k. Tiles words k at run to) (ap (last_kind Used) l.is ∙ last_append Used l.front l.lefts) r.here);
@@ -177,7 +178,8 @@ module _ (regions : List Grant) {words : ℕ → ℕ} {segments : List Segment} 
       let head : words (at + size + 8) ≡ head_of told_size true true =
       ap (λ a. words (a + 8)) (sym stand.0) ∙ (stand.1.head ∙ ap (λ u. head_of told_size true u)
       (elim kind [ inl is ↦ ap is_used is | inr is ↦ ap is_used is ])) in
-      let told : free_of (words (at + size + 8)) ≡ false = ap free_of head ∙ rw (pinuse_of-head_of told_size true true whole, cinuse_of-head_of told_size true true whole) refl in
+      let told : free_of (words (at + size + 8)) ≡ false = ap free_of head
+      ∙ rw (pinuse_of-head_of told_size true true whole, cinuse_of-head_of told_size true true whole) refl in
       subst (λ t. RightChunk words segments at size t) (ap (λ b. if b then at + size + size_of (words (at + size + 8)) else at + size) (sym told)) (record {
         right = record {
           rights = [];
@@ -207,7 +209,8 @@ module _ (regions : List Grant) {words : ℕ → ℕ} {segments : List Segment} 
       let sized : q.size % 8 ≡ 0 = subst (λ n. n % 8 ≡ 0) is_size whole in
       let head : words (at + size + 8) ≡ head_of q.size true false =
       ap (λ a. words (a + 8)) (sym stand.0) ∙ (stand.1.head ∙ ((λ i. head_of (is_size i) true (is_used (free i))))) in
-      let told : free_of (words (at + size + 8)) ≡ true = ap free_of head ∙ rw (pinuse_of-head_of q.size true false sized, cinuse_of-head_of q.size true false sized) refl in
+      let told : free_of (words (at + size + 8)) ≡ true = ap free_of head
+      ∙ rw (pinuse_of-head_of q.size true false sized, cinuse_of-head_of q.size true false sized) refl in
       let bytes : size_of (words (at + size + 8)) ≡ q.size = ap size_of head ∙ size_of-head_of q.size true false sized in
       let unused : is_used q.kind ≡ false = ap is_used free in
       let ends : at + size + q.size ≡ end_of words (at + size) = ap (λ n. at + size + n) (sym bytes)

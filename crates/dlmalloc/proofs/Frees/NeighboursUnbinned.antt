@@ -20,7 +20,8 @@ pub told_stays : {A : Type 0} {regions : A → List Grant} (word : A → ℕ →
     (state_of word heap) (word heap.system) new → (k : ℕ) → at ≤ k → k ≤ at + size + 8 → IsWordOf granted k → new k ≡ word heap.system k
 told_stays word heap sound at size there granted new only k low high inside = only k inside (λ f n free. out f n free (same_or_beside sound free there))
   where
-    out : (f n : ℕ) → IsFreeAt (state_of word heap) f n → (extent at size Used ≡ extent f n Free) ⊎ ((at + size ≤ f) ⊎ (f + n ≤ at)) → (k < f + 16) ⊎ (f + n ≤ k)
+    out : (f n : ℕ) → IsFreeAt (state_of word heap) f n → (extent at size Used ≡ extent f n
+        Free) ⊎ ((at + size ≤ f) ⊎ (f + n ≤ at)) → (k < f + 16) ⊎ (f + n ≤ k)
     out f n free (inl same) = absurd (let no : Used ≡ Free = ap (λ e. e.kind) same in cc)
     out f n free (inr (inl before)) = inl (omega arith)
     out f n free (inr (inr behind)) = inr (omega arith)
@@ -52,7 +53,8 @@ module _ {A : Type 0} {regions : A → List Grant} {word : A → ℕ → ℕ} {h
       let one = run_one sound there in let left = left_one sound there from_is in
       let here = whole_beside words Used from left.lefts at left.beside left.free left.lefts_stand some in
       let first : extent_at from one.first ≡ Some (extent from (at - from) Free) =
-      ap (extent_at from) left.is ∙ (found_later from left.front left.lefts (none_outside words Used one.segment.base left.front from from (inr (omega arith)) left.front_stand) ∙ here) in
+      ap (extent_at from) left.is ∙ (found_later from left.front left.lefts
+      (none_outside words Used one.segment.base left.front from from (inr (omega arith)) left.front_stand) ∙ here) in
       let here = ap (extent_at from) one.extents ∙ found_more from one.first ((extent at size Used ∷ []) ++ one.last) first in
       among_all (regions heap.system) words sound.segments sound.apart one.front one.segment one.back one.is from here
 
@@ -77,7 +79,8 @@ module _ {A : Type 0} {regions : A → List Grant} {word : A → ℕ → ℕ} {h
       r = right sound there from_is to_is goes_on
 
       -- what is found after the chunk in its run is found in the heap
-      behind : (k : ℕ) {one : Extent} → at + size ≤ k → extent_at k (r.rights ++ r.next ∷ []) ≡ Some one → extent_at k (extents_in (state_of word heap)) ≡ Some one
+      behind : (k : ℕ) {one : Extent} → at + size ≤ k → extent_at k (r.rights ++ r.next ∷ []) ≡ Some one →
+          extent_at k (extents_in (state_of word heap)) ≡ Some one
       behind k {one} low found =
           let test : (at == k) ≡ false = nat_isnt (inl (let long = r.run.here.1.size.1 in omega arith)) in
           let here : extent_at k r.run.segment.extents ≡ Some one = ap (extent_at k) r.run.extents
@@ -100,7 +103,8 @@ module _ {A : Type 0} {regions : A → List Grant} {word : A → ℕ → ℕ} {h
           let s = tiles_split words Used (at + size) r.rights (r.next ∷ []) (to + r.next.size) r.run.here.2 in
           let ends : s.middle ≡ to = sym s.second.0 ∙ r.place in
           let next : extent_at (at + size) (r.next ∷ []) ≡ Some f.0 =
-          sym (found_later (at + size) r.rights (r.next ∷ []) (none_outside words Used (at + size) r.rights s.middle (at + size) (inr (omega arith)) s.first)) ∙ f.1 in
+          sym (found_later (at + size) r.rights (r.next ∷ []) (none_outside words Used (at + size) r.rights s.middle
+          (at + size) (inr (omega arith)) s.first)) ∙ f.1 in
           let free : is_free r.next.kind ≡ true = ap (λ e. is_free e.kind) (the_one (at + size) r.next next ∙ same) in
           (let no = sym r.stays ∙ free in cc)
 

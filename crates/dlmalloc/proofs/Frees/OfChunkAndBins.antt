@@ -38,7 +38,8 @@ module _ {A : Type 0} {regions : A → List Grant} {word : A → ℕ → ℕ} {h
       above false false more = omega arith
 
       to_above : at + size ≤ to
-      to_above = subst (λ t. at + size ≤ t) (sym to_is) (above (at + size == heap.top) (free_of (word heap.system (at + size + 8))) (size_of (word heap.system (at + size + 8))))
+      to_above = subst (λ t. at + size ≤ t) (sym to_is) (above (at + size == heap.top)
+          (free_of (word heap.system (at + size + 8))) (size_of (word heap.system (at + size + 8))))
 
   -- the chunks beside it left their bins
   module _ {follows : A → List Event → A → Type 0} {middle : Dlmalloc A} (left : IsRebinned regions word follows heap middle) where
@@ -64,7 +65,8 @@ module _ {A : Type 0} {regions : A → List Grant} {word : A → ℕ → ℕ} {h
     from_still = from_is ∙ (λ i. if pinuse_of ((sym head_same) i) then at else at - (sym foot_same) i)
 
     pub to_still : IsTo (word middle.system) middle.top (at + size) to
-    to_still = to_is ∙ (λ i. if at + size == (sym top_same) i then at + size else if free_of ((sym behind_same) i) then at + size + size_of ((sym behind_same) i) else at + size)
+    to_still = to_is ∙ (λ i. if at + size == (sym top_same) i then at + size else if free_of ((sym behind_same) i)
+        then at + size + size_of ((sym behind_same) i) else at + size)
 
     -- they were joined to it
     module _ (stays : IndexStays) (loose : IsBinnedBut ((at + size) ∷ from ∷ []) regions word middle) {joined : Dlmalloc A}

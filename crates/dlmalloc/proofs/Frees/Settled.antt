@@ -75,20 +75,27 @@ module _ {A : Type 0} {regions : A → List Grant} {word : A → ℕ → ℕ} {h
       go true is =
           let place : from ≡ heap.top = nat_is is in
           (place, omega (arith, size place))
-      go false isnt = absurd (let under = above_none (λ same. (let is : (from == heap.top) ≡ true = ap (λ n. n == heap.top) same ∙ nat_same heap.top in cc)) in cc)
+      go false isnt = absurd (let under = above_none (λ same. (let is : (from == heap.top) ≡ true =
+          ap (λ n. n == heap.top) same ∙ nat_same heap.top in cc)) in cc)
 
 -- ---- so it is settled
 
 module _ {A : Type 0} (regions : A → List Grant) (word : A → ℕ → ℕ) (follows : A → List Event → A → Type 0) (frees parts : Bool) (unit : ℕ)
     (old : Dlmalloc A) (at : ℕ) (new : Dlmalloc A) where
-  pub settled_counted : is_above_check (state_of word old) at ≡ false → IsCounted regions word follows frees parts old at new → IsSettled regions word follows frees parts unit old at new
+  pub settled_counted : is_above_check (state_of word old) at ≡ false →
+      IsCounted regions word follows frees parts old at new → IsSettled regions word follows frees parts unit old at new
   settled_counted none c = record {
     state = c.state ∙ sym (ap (λ b. if b then trimmed frees parts unit 0 (state_of word old) else counted frees parts (state_of word old) at) none);
     sound = c.sound;
     used = c.used;
     kept = c.kept;
     words = λ k inside free own out. c.words k inside free out;
-    index = λ b. (let a = c.index b in (a.0, λ n. a.1 n ∙ sym (ap (λ t. (if t then after_trim frees parts 0 (state_of word old) b.index else after_count frees parts (state_of word old) at b.index) n) none)));
+    index = λ b. (let a = c.index b in (
+      a.0,
+      λ n. a.1 n ∙ sym (ap (λ t.
+          (if t then after_trim frees parts 0 (state_of word old) b.index else after_count frees parts (state_of word old) at
+          b.index) n) none),
+    ));
     regions_are = c.regions_are ∙ sym (ap (λ b. if b then regions_trimmed frees parts unit 0 (state_of word old) (regions old.system) else regions_without
         (left_by_count frees parts (state_of word old) at) (regions old.system)) none);
     followed = subst (λ events. follows old.system events new.system) (sym (ap (λ b. if b then trim_releases frees parts unit 0
@@ -103,7 +110,12 @@ module _ {A : Type 0} (regions : A → List Grant) (word : A → ℕ → ℕ) (f
     used = t.used;
     kept = t.kept;
     words = t.words;
-    index = λ b. (let a = t.index b in (a.0, λ n. a.1 n ∙ sym (ap (λ t. (if t then after_trim frees parts 0 (state_of word old) b.index else after_count frees parts (state_of word old) at b.index) n) above)));
+    index = λ b. (let a = t.index b in (
+      a.0,
+      λ n. a.1 n ∙ sym (ap (λ t.
+          (if t then after_trim frees parts 0 (state_of word old) b.index else after_count frees parts (state_of word old) at
+          b.index) n) above),
+    ));
     regions_are = t.regions_are ∙ sym (ap (λ b. if b then regions_trimmed frees parts unit 0 (state_of word old) (regions old.system) else regions_without
         (left_by_count frees parts (state_of word old) at) (regions old.system)) above);
     followed = subst (λ events. follows old.system events new.system) (sym (ap (λ b. if b then trim_releases frees parts unit 0

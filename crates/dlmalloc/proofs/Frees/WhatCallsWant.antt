@@ -37,7 +37,8 @@ module _ {A : Type 0} {regions : A → List Grant} {word : A → ℕ → ℕ} {h
   pub end_below : at + size ≢ heap.top → free_of (words (at + size + 8)) ≡ true → at + size + size_of (words (at + size + 8)) < 2 ^ 64
   end_below more free =
       let apart : (at + size == heap.top) ≡ false = (let on = more in grind (arith, nat_tests)) in
-      let is : end_of words (at + size) ≡ at + size + size_of (words (at + size + 8)) = ap (λ b. if b then at + size + size_of (words (at + size + 8)) else at + size) free in
+      let is : end_of words (at + size) ≡ at + size + size_of (words (at + size + 8)) =
+      ap (λ b. if b then at + size + size_of (words (at + size + 8)) else at + size) free in
       let to : at + size + size_of (words (at + size + 8)) ≡ (if at + size == heap.top then at + size else end_of words (at + size)) =
       sym is ∙ ap (λ b. if b then at + size else end_of words (at + size)) (sym apart) in
       end_small sound there {from = if pinuse_of (words (at + 8)) then at else at - words at} refl to more

@@ -10,7 +10,8 @@ use Rattle.dlmalloc.proofs.Frees.Settled.{top_around}
 
 -- ---- what is granted after a free was granted before it
 
-end_granted : (less : ℕ) (segments : List Segment) (regions : List Grant) (k : ℕ) → IsTrue (is_granted (without_end less segments regions) k) → IsTrue (is_granted regions k)
+end_granted : (less : ℕ) (segments : List Segment) (regions : List Grant) (k : ℕ) →
+    IsTrue (is_granted (without_end less segments regions) k) → IsTrue (is_granted regions k)
 end_granted less [] regions k granted = granted
 end_granted less (head ∷ rest) regions k granted = granted_before (head.base + (head.size - less)) (head.base + head.size) regions k granted
 
@@ -38,7 +39,15 @@ after_granted frees parts unit heap at regions k =
 -- ---- no free changes the granularity
 
 cut_granularity : (less : ℕ) (segments : List Segment) (victim granularity rate countdown trim_check : ℕ) →
-    (cut_top less (record { segments = segments; victim = victim; granularity = granularity; rate = rate; countdown = countdown; trim_check = trim_check })).granularity ≡ granularity
+    (cut_top less (record {
+      segments = segments;
+      victim = victim;
+      granularity = granularity;
+      rate = rate;
+      countdown =
+          countdown;
+      trim_check = trim_check;
+    })).granularity ≡ granularity
 cut_granularity less [] victim granularity rate countdown trim_check = refl
 cut_granularity less (head ∷ rest) victim granularity rate countdown trim_check = refl
 
@@ -76,13 +85,15 @@ module _ {A : Type 0} {regions : A → List Grant} {word : A → ℕ → ℕ} {f
   head_left : ((new.base ≡ old.base) × (new.size ≡ old.size)) ⊎ IsBehindUsed old (state_of word new) (address - 16)
   head_left = go (is_above_check (state_of word middle) (address - 16)) refl
     where
-      go : (b : Bool) → is_above_check (state_of word middle) (address - 16) ≡ b → ((new.base ≡ old.base) × (new.size ≡ old.size)) ⊎ IsBehindUsed old (state_of word new) (address - 16)
+      go : (b : Bool) → is_above_check (state_of word middle) (address - 16) ≡ b →
+          ((new.base ≡ old.base) × (new.size ≡ old.size)) ⊎ IsBehindUsed old (state_of word new) (address - 16)
       go false under =
           let state : state_of word new ≡ counted frees parts (state_of word middle) (address - 16) = settled.state
           ∙ ap (λ b. if b then trimmed frees parts unit 0 (state_of word middle) else counted frees parts (state_of word middle) (address - 16)) under in
           let same = first_counted frees parts (state_of word middle) (address - 16) in
           let is = ap (λ heap. heap.segments) state in
-          let left = same_head new disposed.sound settled.sound (some_segment word middle from around.there) (ap first_base is ∙ same.0, ap first_size is ∙ same.1) in
+          let left = same_head new disposed.sound settled.sound (some_segment word middle from around.there)
+          (ap first_base is ∙ same.0, ap first_size is ∙ same.1) in
           inl (left.0 ∙ sym head_merged.0, left.1 ∙ sym head_merged.1)
       go true above =
           let place = top_around disposed.sound around above in let low = around.low in

@@ -31,7 +31,8 @@ module _ {A : Type 0} {regions : A → List Grant} {word : A → ℕ → ℕ} {f
 
   module _ {payload : ℕ} (b : IsToldBehind word heap grant payload) (base : word system payload ≡ grant.base)
       (size : word system (payload + 8) ≡ grant.size + word heap.system (payload + 8))
-      (kept : (k : ℕ) → IsWordOf (regions heap.system) k → k ≢ grant.base + 8 → k ≢ grant.base + n + 8 → k ≢ payload → k ≢ payload + 8 → word system k ≡ word heap.system k) where
+      (kept : (k : ℕ) → IsWordOf (regions heap.system) k → k ≢ grant.base + 8 → k ≢ grant.base + n + 8 → k ≢ payload →
+      k ≢ payload + 8 → word system k ≡ word heap.system k) where
     abbrev pub told_new : Dlmalloc A
     told_new = record heap { system = system }
 
@@ -109,8 +110,15 @@ module _ {A : Type 0} {regions : A → List Grant} {word : A → ℕ → ℕ} {f
 
     told_after : AreTold (word system) told_new (front ++ now_told ∷ b.back)
     told_after =
-        let parts = front_parts sound halves joint_told in let keeps = front_keeps sound halves joint_told in
-        (heap_told.0, heap_told.1, heap_told.2, heap_told.3, heap_told.4, told_around (regions heap.system) (word heap.system) (word system) (b.segment ∷ b.back) (now_told ∷ b.back) b.front heap.next b.reached parts.1 keeps.1 heap_told.5 here_told)
+        let parts = front_parts sound halves joint_told in let keeps = front_keeps sound halves joint_told in (
+          heap_told.0,
+          heap_told.1,
+          heap_told.2,
+          heap_told.3,
+          heap_told.4,
+          told_around (regions heap.system) (word heap.system) (word system) (b.segment ∷ b.back) (now_told ∷ b.back)
+              b.front heap.next b.reached parts.1 keeps.1 heap_told.5 here_told,
+        )
 
     recorded : (k : ℕ) → (IsInRecord (state_of word told_new) k → ⊥) → IsUntold k
     recorded k tag = (
@@ -132,7 +140,8 @@ module _ {A : Type 0} {regions : A → List Grant} {word : A → ℕ → ℕ} {f
 
   -- ---- before the head segment
 
-  module _ (b : IsHeadBehind word heap grant) (kept : (k : ℕ) → IsWordOf (regions heap.system) k → k ≢ grant.base + 8 → k ≢ grant.base + n + 8 → word system k ≡ word heap.system k) where
+  module _ (b : IsHeadBehind word heap grant) (kept : (k : ℕ) → IsWordOf (regions heap.system) k → k ≢ grant.base + 8 →
+      k ≢ grant.base + n + 8 → word system k ≡ word heap.system k) where
     abbrev pub head_now : Dlmalloc A
     head_now = record heap { system = system; base = grant.base; size = heap.size + grant.size }
 

@@ -12,7 +12,8 @@ use Rattle.dlmalloc.proofs.Segments.HeadTop.{top_of, top_stands, top_run, top_pa
 use Rattle.dlmalloc.proofs.Grants.Opened.{grant_apart, parts_kept, told_kept}
 
 -- what the test says of a grant at the end of a segment
-pub behind_means : (grant : Grant) (segment : Segment) → is_behind grant segment ≡ true → (grant.base ≡ segment.base + segment.size) × (grant.flags ≡ segment.flags)
+pub behind_means : (grant : Grant) (segment : Segment) → is_behind grant segment ≡ true →
+    (grant.base ≡ segment.base + segment.size) × (grant.flags ≡ segment.flags)
 behind_means grant segment test = (grind (arith, nat_tests), grind (arith, nat_tests))
 
 -- chunks stay as they are
@@ -167,7 +168,13 @@ module _ {A : Type 0} {regions : A → List Grant} {word : A → ℕ → ℕ} {h
           ∙ (λ i. map_grown grant.size old_run.first (head_chunks sound some) i ++ (extent heap.top length_now Top ∷ extent (place i) 80 Foot ∷ [])))
 
       segments_now : segments_of word new ≡ extended grant.size old_run.segment ∷ old_run.back
-      segments_now = exchanged_read sound it ∙ (λ i. (record { base = old_run.segment.base; size = old_run.segment.size + grant.size; flags = old_run.segment.flags; extents = (sym grown_are) i }) ∷ old_run.back)
+      segments_now = exchanged_read sound it ∙ (λ i. (record {
+        base = old_run.segment.base;
+        size =
+            old_run.segment.size + grant.size;
+        flags = old_run.segment.flags;
+        extents = (sym grown_are) i;
+      }) ∷ old_run.back)
 
   pub extended_words : OnlyTagsChange (regions heap.system) (state_of word new) (word heap.system) (word system)
   extended_words k inside boundary recorded =

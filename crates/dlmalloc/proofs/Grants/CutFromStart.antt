@@ -13,7 +13,8 @@ use Rattle.dlmalloc.proofs.Segments.RegionsMore.{word_kept, word_fresh, with_oth
 use Rattle.dlmalloc.proofs.Extents.RunReplaced.{behind}
 
 -- if the grant is put before a segment, the state is that
-pub granted_before : (grant : Grant) (n : ℕ) (heap : HeapState) → is_put_before grant heap.segments ≡ true → granted grant n heap ≡ freed (prepended grant n heap) (grant.base + n)
+pub granted_before : (grant : Grant) (n : ℕ) (heap : HeapState) → is_put_before grant heap.segments ≡ true →
+    granted grant n heap ≡ freed (prepended grant n heap) (grant.base + n)
 granted_before grant n heap test = go heap.segments test
   where
     both : (b c : Bool) → (not b && c) ≡ true → (b ≡ false) × (c ≡ true)
@@ -78,7 +79,8 @@ module _ {A : Type 0} {regions : A → List Grant} {word : A → ℕ → ℕ} {f
 
   -- the bins stay
   abbrev pub prepended_binned : IndexStays → IsSound regions word old → IsSameBins old middle → IsBinned regions word old → IsBinned regions word middle
-  prepended_binned stays sound same = binned_same stays sound first.sound (λ k was is boundary tag tag'. prepended_tags k was boundary tag') same.bins prepended_free same.victim
+  prepended_binned stays sound same = binned_same stays sound first.sound
+      (λ k was is boundary tag tag'. prepended_tags k was boundary tag') same.bins prepended_free same.victim
 
 -- its rest was freed
 pub put_before_is : {A : Type 0} {regions : A → List Grant} {word : A → ℕ → ℕ} {follows : A → List Event → A → Type 0} {old middle new : Dlmalloc A}

@@ -33,7 +33,8 @@ record_of_head heap = record { base = heap.base; size = heap.size; next = heap.n
 
 module _ {A : Type 0} {regions : A → List Grant} {word : A → ℕ → ℕ} {heap : Dlmalloc A} (sound : IsSound regions word heap) (some : 0 < heap.size) where
   -- the record is in the head segment
-  pub bounds_of : {at : ℕ} → at ≡ (if nat_lt heap.top_size 32 then heap.top else heap.top + heap.top_size) → (heap.top ≤ at) × (at + 80 ≤ heap.base + heap.size) × (at % 16 ≡ 0)
+  pub bounds_of : {at : ℕ} → at ≡ (if nat_lt heap.top_size 32 then heap.top else heap.top + heap.top_size) →
+      (heap.top ≤ at) × (at + 80 ≤ heap.base + heap.size) × (at % 16 ≡ 0)
   bounds_of {at} is = go (nat_lt heap.top_size 32) is
     where
       go : (b : Bool) → at ≡ (if b then heap.top else heap.top + heap.top_size) → (heap.top ≤ at) × (at + 80 ≤ heap.base + heap.size) × (at % 16 ≡ 0)
@@ -41,7 +42,8 @@ module _ {A : Type 0} {regions : A → List Grant} {word : A → ℕ → ℕ} {h
       go false is = (omega arith, omega (arith, ends sound some), omega (arith, top_whole sound some, (top_sizes sound some).0))
 
   -- the grant is beside the head segment
-  pub beside_head : (grant : Grant) → IsFreshGrant (regions heap.system) (segments_of word heap) grant → (heap.base + heap.size ≤ grant.base) ⊎ (grant.base + grant.size ≤ heap.base)
+  pub beside_head : (grant : Grant) → IsFreshGrant (regions heap.system) (segments_of word heap) grant →
+      (heap.base + heap.size ≤ grant.base) ⊎ (grant.base + grant.size ≤ heap.base)
   beside_head grant fresh =
       let is = top_segment sound some in
       let apart = (subst (AllByRecursion (λ segment. IsApartFrom segment (opened grant))) (head_first sound some) fresh.apart).0 in

@@ -6,13 +6,19 @@ use Rattle.dlmalloc.proofs.Grants.TopLeft.{left_free}
 use Rattle.dlmalloc.proofs.Grants.NewHead.{new_head, record_of_head, IsNewHead, where_is, added_used, added_free, added_rest, added_sound, added_words, added_new, added_state}
 
 -- what a heap over another system says is the same
-pub ends_same : {A : Type 0} (heap : Dlmalloc A) {middle : Dlmalloc A} → middle ≡ record heap { system = middle.system } → middle.base + middle.size ≡ heap.base + heap.size
+pub ends_same : {A : Type 0} (heap : Dlmalloc A) {middle : Dlmalloc A} → middle ≡ record heap { system = middle.system } →
+    middle.base + middle.size ≡ heap.base + heap.size
 ends_same heap is = ap (λ h. h.base + h.size) is
 
 pub told_same : {A : Type 0} {words : ℕ → ℕ} (at : ℕ) (heap : Dlmalloc A) {middle : Dlmalloc A} → middle ≡ record heap
     { system = middle.system } → IsRecordAt words at (record { base = middle.base; size = middle.size; next = middle.next; flags = middle.flags })
     (middle.base + middle.size) (at == middle.top) → IsRecordAt words at (record_of_head heap) (heap.base + heap.size) (at == heap.top)
-told_same {words} at heap is told = subst (λ h. IsRecordAt words at (record { base = h.base; size = h.size; next = h.next; flags = h.flags }) (h.base + h.size) (at == h.top)) is told
+told_same {words} at heap is told = subst (λ h. IsRecordAt words at (record {
+  base = h.base;
+  size = h.size;
+  next = h.next;
+  flags = h.flags;
+}) (h.base + h.size) (at == h.top)) is told
 
 -- a record rests on its own words
 pub record_kept : {old : ℕ → ℕ} (new : ℕ → ℕ) {at : ℕ} {told : SegmentRecord} {end : ℕ} {behind : Bool} → at % 8 ≡ 0 → at + 80 ≤ end →

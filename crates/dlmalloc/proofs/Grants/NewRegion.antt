@@ -20,7 +20,8 @@ same_in segment grant (region ∷ regions) some apart = split (nat_lt grant.base
     split : (b : Bool) → regions_in segment (with_grant grant regions) ≡ regions_in segment regions →
         regions_in segment (if b then grant ∷ region ∷ regions else region ∷ with_grant grant regions) ≡ regions_in segment (region ∷ regions)
     split true rest = not_in segment grant (region ∷ regions) some apart
-    split false rest = ap (λ others. if nat_lt region.base (segment.base + segment.size) && nat_lt segment.base (region.base + region.size) then region ∷ others else others) rest
+    split false rest = ap (λ others. if nat_lt region.base (segment.base + segment.size) && nat_lt segment.base
+        (region.base + region.size) then region ∷ others else others) rest
 
 module _ {A : Type 0} {regions : A → List Grant} {word : A → ℕ → ℕ} {heap : Dlmalloc A} (sound : IsSound regions word heap) (system : A) {asked : ℕ}
     (enough : 128 ≤ asked) {grant : Grant} (good : IsGoodGrant asked grant)
@@ -33,19 +34,26 @@ module _ {A : Type 0} {regions : A → List Grant} {word : A → ℕ → ℕ} {h
   segments_apart : AllByRecursion (λ segment. IsApartFrom segment (opened grant)) (segments_of word heap)
   segments_apart = go (segments_of word heap) sound.segments
     where
-      go : (segments : List Segment) → AreSegments (regions heap.system) (word heap.system) segments → AllByRecursion (λ segment. IsApartFrom segment (opened grant)) segments
+      go : (segments : List Segment) → AreSegments (regions heap.system) (word heap.system) segments →
+          AllByRecursion (λ segment. IsApartFrom segment (opened grant)) segments
       go [] parts = tt
       go (segment ∷ segments) parts = (
-        elim (run_apart parts.0.run (let some = parts.0.long in omega arith) grant (omega (arith, long)) apart) [ inl before ↦ inr before | inr behind ↦ inl behind ],
+        elim (run_apart parts.0.run (let some = parts.0.long in omega arith) grant (omega (arith, long)) apart)
+            [ inl before ↦ inr before | inr behind ↦ inl behind ],
         go segments parts.1,
       )
 
   pub keeps : KeepsRegions (segments_of word heap) (regions heap.system) (regions system)
   keeps = go (segments_of word heap) segments_apart
     where
-      go : (segments : List Segment) → AllByRecursion (λ segment. IsApartFrom segment (opened grant)) segments → KeepsRegions segments (regions heap.system) (regions system)
+      go : (segments : List Segment) → AllByRecursion (λ segment. IsApartFrom segment (opened grant)) segments →
+          KeepsRegions segments (regions heap.system) (regions system)
       go [] all = tt
-      go (segment ∷ segments) all = (ap (regions_in segment) with_it ∙ same_in segment grant (regions heap.system) (omega (arith, long)) all.0, go segments all.1)
+      go (segment ∷ segments) all = (
+        ap (regions_in segment) with_it ∙ same_in segment grant (regions heap.system)
+            (omega (arith, long)) all.0,
+        go segments all.1,
+      )
 
   -- the heap is as it was
   pub granted_sound : IsSound regions word (record heap { system = system })

@@ -101,7 +101,8 @@ module _ {A : Type 0} {regions : A → List Grant} {word : A → ℕ → ℕ} {h
     pub apart_grant : AllByRecursion (IsApartFrom (opened grant)) run.back
     apart_grant = flip (opened grant) run.back grant_apart.1
 
-    module _ (kept : (k : ℕ) → IsWordOf (regions heap.system) k → IsOutside run.segment k → IsOutside (opened grant) k → word system k ≡ word heap.system k) where
+    module _ (kept : (k : ℕ) → IsWordOf (regions heap.system) k → IsOutside run.segment k → IsOutside (opened grant) k →
+        word system k ≡ word heap.system k) where
       back_keeps : AllByRecursion (KeepsIts (word heap.system) (word system)) run.back
       back_keeps = apart_stay (regions heap.system) (word heap.system) (word system) run.segment (opened grant) run.back (behind_parts sound some)
           (head_beside sound some) grant_apart.1 kept

@@ -10,7 +10,8 @@ use Rattle.dlmalloc.proofs.Segments.WordsKept.{KeepsIts, IsOutside, parts_stay, 
 use Rattle.dlmalloc.proofs.Segments.Exchange.{Exchange, exchanged_read, exchanged_new, exchanged_still, exchanged_was, exchanged_sound}
 
 -- what the test says of a grant before a segment
-pub before_means : (grant : Grant) (segment : Segment) → is_before grant segment ≡ true → (segment.base ≡ grant.base + grant.size) × (grant.flags ≡ segment.flags)
+pub before_means : (grant : Grant) (segment : Segment) → is_before grant segment ≡ true →
+    (segment.base ≡ grant.base + grant.size) × (grant.flags ≡ segment.flags)
 before_means grant segment test = (grind (arith, nat_tests), grind (arith, nat_tests))
 
 pub parts_around : {regions : List Grant} {words : ℕ → ℕ} {now : Segment} (front back : List Segment) → AreSegments regions words front →
@@ -146,7 +147,11 @@ module _ {A : Type 0} {regions : A → List Grant} {word : A → ℕ → ℕ} {f
   around : (others : List Segment) → AreSegments (regions heap.system) (word heap.system) others → AreApart (others ++ segment ∷ back) →
       AllByRecursion (λ other. IsApartFrom other (opened grant)) others → AreApart (others ++ now ∷ back)
   around [] p all two = (now_back back back_parts (back_apart front segment back apart) back_beside, all.1)
-  around (other ∷ others) p all two = (all_with (IsApartFrom other) others segment now back (λ one. step other p.0.long one two.0) all.0, around others p.1 all.1 two.1)
+  around (other ∷ others) p all two = (
+    all_with (IsApartFrom other) others segment now back
+        (λ one. step other p.0.long one two.0) all.0,
+    around others p.1 all.1 two.1,
+  )
 
   apart_now : AreApart (front ++ now ∷ back)
   apart_now = around front front_parts apart front_beside

@@ -30,7 +30,8 @@ any_more : (grant : Grant) (front : List Segment) (segment : Segment) → list_a
     list_any (is_before grant) (front ++ segment ∷ []) ≡ false
 any_more grant front segment none other = list_any-append (is_before grant) front (segment ∷ []) ∙ (let a = none in let b = other in rw (a, b) refl)
 
-module _ {A : Type 0} {regions : A → List Grant} {word : A → ℕ → ℕ} {heap : Dlmalloc A} (sound : IsSound regions word heap) (some : 0 < heap.size) (grant : Grant) where
+module _ {A : Type 0} {regions : A → List Grant} {word : A → ℕ → ℕ} {heap : Dlmalloc A} (sound : IsSound regions word heap)
+    (some : 0 < heap.size) (grant : Grant) where
   pub put_none : is_behind grant (bare_head heap) ≡ true → is_put_before grant (segments_of word heap) ≡ false
   put_none test = ap (is_put_before grant) (head_first sound some) ∙ (let longer = grant_behind_head sound some grant ∙ test in rw longer refl)
 

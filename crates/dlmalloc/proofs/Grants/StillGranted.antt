@@ -28,7 +28,8 @@ module _ {A : Type 0} {regions : A → List Grant} {word : A → ℕ → ℕ} {h
   chunk_granted = chunk_inside.granted block.extent.at (omega arith) (omega (arith, chunk_inside.long))
 
 module _ {A : Type 0} {regions : A → List Grant} {word : A → ℕ → ℕ} {zeros : A → Bool} {follows : A → List Event → A → Type 0} {frees parts : Bool} {unit : ℕ}
-    {old new : Dlmalloc A} {from held align size address n : ℕ} (sound : IsSound regions word old) (power : IsPowerOfTwo align) (block : IsBlock (state_of word old) from n)
+    {old new : Dlmalloc A} {from held align size address n : ℕ} (sound : IsSound regions word old)
+    (power : IsPowerOfTwo align) (block : IsBlock (state_of word old) from n)
     (out : IsElsewhere regions word zeros follows frees parts unit old from held align size address new) where
   abbrev chunk : Extent
   chunk = out.block.extent
@@ -59,8 +60,10 @@ module _ {A : Type 0} {regions : A → List Grant} {word : A → ℕ → ℕ} {z
       not_last : chunk.at + chunk.size ≤ from - 16 → from - 16 < grant.base + grant.size → ⊥
       not_last before within = elim (beside_top sound some block.used (chunk_there sound block)) [
         | inl sooner ↦ omega (arith, chunk_place sound block, top_place sound behind.1.1, (chunk_inside sound block).long)
-        | inr beyond ↦ none_granted grant.base (grant.base + grant.size) (regions old.system) fresh (from - 16) (omega (arith, end, chunk_place sound block)) within
-            ((chunk_inside sound block).granted (from - 16) (omega (arith, chunk_place sound block)) (omega (arith, chunk_place sound block, (chunk_inside sound block).long)))
+        | inr beyond ↦ none_granted grant.base (grant.base + grant.size) (regions old.system) fresh (from - 16)
+            (omega (arith, end, chunk_place sound block)) within
+            ((chunk_inside sound block).granted (from - 16) (omega (arith, chunk_place sound block))
+            (omega (arith, chunk_place sound block, (chunk_inside sound block).long)))
       ]
 
       still_behind : HasByteOf grant (regions new.system)

@@ -31,14 +31,20 @@ in_left false top size k bytes found = elim (of_two k (extent top size Free) (ex
 
 pub left_there : (small : Bool) (top size k : ℕ) → IsIn k (left_free small top) → IsThere k (left small top size)
 left_there true top size k is = absurd is
-left_there false top size k (inl same) = (extent top size Free, subst (λ a. extent_at a (left false top size) ≡ Some (extent top size Free)) (sym same) (found_here (extent top size Free) (extent (top + size) 80 Record ∷ [])))
+left_there false top size k (inl same) = (
+  extent top size Free,
+  subst
+      (λ a. extent_at a (left false top size) ≡ Some (extent top size Free)) (sym same)
+      (found_here (extent top size Free) (extent (top + size) 80 Record ∷ [])),
+)
 left_there false top size k (inr none) = absurd none
 
 abbrev pub place : Bool → ℕ → ℕ → ℕ
 place b at size = if b then at else at + size
 
 -- where the record begins
-pub record_place : (at top size : ℕ) → at ≡ (if nat_lt size 32 then top else top + size) → size % 16 ≡ 0 → 16 ≤ size → ((size == 16) ≡ (at == top)) × (at ≡ place (at == top) top size)
+pub record_place : (at top size : ℕ) → at ≡ (if nat_lt size 32 then top else top + size) → size % 16 ≡ 0 → 16 ≤ size →
+    ((size == 16) ≡ (at == top)) × (at ≡ place (at == top) top size)
 record_place at top size is units long = go (nat_lt size 32) refl is
   where
     go : (b : Bool) → nat_lt size 32 ≡ b → at ≡ (if b then top else top + size) → ((size == 16) ≡ (at == top)) × (at ≡ place (at == top) top size)

@@ -106,7 +106,8 @@ module _ {A : Type 0} {regions : A → List Grant} {word : A → ℕ → ℕ} {h
     (moves : FreeMoves (state_of word heap) (state_of word new) [] (if nat_le 32 heap.top_size then heap.top ∷ [] else [])) (many : 32 ≤ heap.top_size)
     (rest : IsFreeAt (state_of word new) heap.top heap.top_size) where
   -- an extent of the heap is beside the grant
-  beside_grant : {one : Extent} → extent_at one.at (extents_in (state_of word heap)) ≡ Some one → (one.at + one.size ≤ grant.base) ⊎ (grant.base + grant.size ≤ one.at)
+  beside_grant : {one : Extent} → extent_at one.at (extents_in (state_of word heap)) ≡ Some one →
+      (one.at + one.size ≤ grant.base) ⊎ (grant.base + grant.size ≤ one.at)
   beside_grant there = within (regions heap.system) (word heap.system) (opened grant) (segments_of word heap) sound.segments
       (flip (opened grant) (segments_of word heap) fresh.apart) there
 

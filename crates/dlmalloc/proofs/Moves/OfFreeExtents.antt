@@ -10,12 +10,14 @@ abbrev pub IsThere : ℕ → List Extent → Type 0
 IsThere k extents = (one : Extent) × (extent_at k extents ≡ Some one)
 
 -- of two lists of distinct extents one alone has an extent at an address
-not_both : (front back : List Extent) (k : ℕ) {one other : Extent} → AreDistinct (front ++ back) → extent_at k front ≡ Some one → extent_at k back ≡ Some other → ⊥
+not_both : (front back : List Extent) (k : ℕ) {one other : Extent} → AreDistinct (front ++ back) →
+    extent_at k front ≡ Some one → extent_at k back ≡ Some other → ⊥
 not_both [] back k apart here there = (let some = here in cc)
 not_both (first ∷ front) back k {one} apart here there = go (first.at == k) refl here (λ later. not_both front back k apart.1 later there)
   where
     go : (b : Bool) → (first.at == k) ≡ b → (if b then Some first else extent_at k front) ≡ Some one → (extent_at k front ≡ Some one → ⊥) → ⊥
-    go true test is rest = (let none = subst (λ a. extent_at a (front ++ back) ≡ None) (nat_is test) apart.0 in let some = distinct_later front back k apart.1 there in cc)
+    go true test is rest = (let none = subst (λ a. extent_at a (front ++ back) ≡ None) (nat_is test) apart.0 in let some =
+        distinct_later front back k apart.1 there in cc)
     go false test is rest = rest is
 
 -- Some extents give way to others. A free one that is not of those at the addresses `gone` is found as before, and at no

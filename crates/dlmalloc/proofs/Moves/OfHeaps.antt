@@ -24,7 +24,13 @@ pub segments_few : {A : Type 0} (word : A → ℕ → ℕ) (heap : Dlmalloc A) �
 segments_few word heap = go (heap.size == 0)
   where
     head : Segment
-    head = record { base = heap.base; size = heap.size; flags = heap.flags; extents = chunks_from (word heap.system) (heap.size / 16) heap.base heap.top ++ top_and_foot heap.top (heap.base + heap.size) }
+    head = record {
+      base = heap.base;
+      size = heap.size;
+      flags = heap.flags;
+      extents =
+          chunks_from (word heap.system) (heap.size / 16) heap.base heap.top ++ top_and_foot heap.top (heap.base + heap.size);
+    }
 
     go : (b : Bool) → length (if b then [] else head ∷ records_from (word heap.system) (2 ^ 64) heap.next) ≤ suc (2 ^ 64)
     go true = omega arith
@@ -56,7 +62,8 @@ module _ {A : Type 0} {regions : A → List Grant} {word : A → ℕ → ℕ} {h
 
   -- the segments of the new heap
   pub read : segments_of word new ≡ step.front ++ step.now ∷ step.back
-  read = segments_read (regions new.system) word new (step.front ++ step.now ∷ step.back) (segments_after step.changed step.front step.back was_apart was_segments) step.told
+  read = segments_read (regions new.system) word new (step.front ++ step.now ∷ step.back)
+      (segments_after step.changed step.front step.back was_apart was_segments) step.told
       (subst (λ n. n ≤ suc (2 ^ 64)) (ap length step.is ∙ as_many step.front step.segment step.now step.back) (segments_few word heap))
 
   pub segments_now : AreSegments (regions new.system) (word new.system) (segments_of word new)
@@ -72,7 +79,8 @@ module _ {A : Type 0} {regions : A → List Grant} {word : A → ℕ → ℕ} {h
   abbrev pub behind : List Extent
   behind = step.last ++ extents_all step.back
 
-  around : (segment : Segment) (run : List Extent) → segment.extents ≡ step.first ++ (run ++ step.last) → extents_all (step.front ++ segment ∷ step.back) ≡ before ++ (run ++ behind)
+  around : (segment : Segment) (run : List Extent) → segment.extents ≡ step.first ++ (run ++ step.last) →
+      extents_all (step.front ++ segment ∷ step.back) ≡ before ++ (run ++ behind)
   around segment run is =
       all_among step.front segment step.back ∙ (ap (λ es. extents_all step.front ++ (es ++ extents_all step.back)) is
       ∙ (ap (λ es. extents_all step.front ++ es) (append_assoc step.first (run ++ step.last) (extents_all step.back) ∙ ap (λ es. step.first ++ es)
@@ -99,13 +107,15 @@ module _ {A : Type 0} {regions : A → List Grant} {word : A → ℕ → ℕ} {h
   pub found_again : (k : ℕ) {one : Extent} → (extent_at k less ≡ Some one → extent_at k more ≡ Some one) →
       extent_at k (extents_in (state_of word heap)) ≡ Some one → extent_at k (extents_in (state_of word new)) ≡ Some one
   found_again k stays there =
-      ap (extent_at k) all_new ∙ replaced_found k before less more behind (subst AreDistinct all_new distinct_new) stays (ap (extent_at k) (sym all_old) ∙ there)
+      ap (extent_at k) all_new ∙ replaced_found k before less more behind (subst AreDistinct all_new distinct_new) stays
+      (ap (extent_at k) (sym all_old) ∙ there)
 
   -- what is found was there, if it was found among the old ones too
   pub found_before : (k : ℕ) {one : Extent} → (extent_at k more ≡ Some one → extent_at k less ≡ Some one) →
       extent_at k (extents_in (state_of word new)) ≡ Some one → extent_at k (extents_in (state_of word heap)) ≡ Some one
   found_before k stays there =
-      ap (extent_at k) all_old ∙ replaced_found k before more less behind (subst AreDistinct all_old distinct_old) stays (ap (extent_at k) (sym all_new) ∙ there)
+      ap (extent_at k) all_old ∙ replaced_found k before more less behind (subst AreDistinct all_old distinct_old) stays
+      (ap (extent_at k) (sym all_new) ∙ there)
 
   -- all granted words stay but those at boundaries
   pub keeps_words : OnlyBoundariesChange (regions heap.system) (state_of word new) (word heap.system) (word new.system)

@@ -39,7 +39,11 @@ module _ {regions : List Grant} {old new : ℕ → ℕ} (before : Kind) (base : 
       (tiles_append new (last_kind before front) from more back to end move.more_stand (subst (λ kind. Tiles new kind to back end) (sym kind) behind))
     where
       inside : (k : ℕ) → k ≤ end → (k ≡ end → IsTrue (is_free_below_top (last_kind (last_kind (last_kind before front) less) back))) → k < end
-      inside k high free = elim (dec_lt k end) [ yes below ↦ below | no beyond ↦ absurd (no_plain (last_kind (last_kind (last_kind before front) less) back) tail (free (omega arith))) ]
+      inside k high free = elim (dec_lt k end) [
+        | yes below ↦ below
+        | no beyond ↦ absurd
+            (no_plain (last_kind (last_kind (last_kind before front) less) back) tail (free (omega arith)))
+      ]
 
 -- ---- an extent in use, where it stands
 
@@ -91,5 +95,6 @@ standing words before from extents to {block} h tail there used =
       size_whole = size.0;
       long = size.1;
       before = is_used (last_kind before f.front);
-      head = subst (λ kind. words (block.at + 8) ≡ head_of (told_size kind block.size) (is_used (last_kind before f.front)) (is_used kind)) used s.second.1.head;
+      head = subst (λ kind. words (block.at + 8) ≡ head_of (told_size kind block.size) (is_used (last_kind before f.front))
+          (is_used kind)) used s.second.1.head;
     }

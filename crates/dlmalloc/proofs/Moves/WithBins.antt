@@ -37,5 +37,6 @@ module _ {A : Type 0} (regions : A → List Grant) (word : A → ℕ → ℕ) (f
         two.words k behind (out_of (state_of word third) k (λ f. own (inr (subst (λ s. IsInFree s k) (sym two.state) f))))
         ∙ (moved.words k then (λ b. own (inl (subst (λ s. IsBoundary s k) (sym two.state) b))) ∙ one.words k inside (out_of (state_of word first) k was));
     regions_same = two.regions_same ∙ (moved.regions_same ∙ one.regions_same);
-    followed = follows_on first.system third.system last.system [] [] [] (follows_on first.system second.system third.system [] [] [] one.followed moved.followed refl) two.followed refl;
+    followed = follows_on first.system third.system last.system [] [] []
+        (follows_on first.system second.system third.system [] [] [] one.followed moved.followed refl) two.followed refl;
   }

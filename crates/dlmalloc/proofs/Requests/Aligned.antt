@@ -84,14 +84,16 @@ module _ {A : Type 0} {regions : A → List Grant} {word : A → ℕ → ℕ} {h
 -- ---- the block that is handed out
 
 -- what is left of a greater block
-pub record IsAligned {A : Type 0} (regions : A → List Grant) (word : A → ℕ → ℕ) (follows : A → List Event → A → Type 0) (old : Dlmalloc A) (ptr align n result : ℕ) (new : Dlmalloc A) : Type 0 where
+pub record IsAligned {A : Type 0} (regions : A → List Grant) (word : A → ℕ → ℕ) (follows : A → List Event → A → Type 0)
+    (old : Dlmalloc A) (ptr align n result : ℕ) (new : Dlmalloc A) : Type 0 where
   pub place : result ≡ aligned_place (ptr - 16) align
   pub multiple : (result + 16) % align ≡ 0
   pub state : state_of word new ≡ aligned (state_of word old) (ptr - 16) align n
   pub held : (size : ℕ) × (extent_at result (extents_in (state_of word new)) ≡ Some (extent result size Used)) × (n ≤ size) × (size ≤ n + 32)
   pub others : HasOneMoved (state_of word old) (state_of word new) (ptr - 16) result
   pub kept : KeepsOthers (state_of word old) (ptr - 16) (word old.system) (word new.system)
-  pub words : (k : ℕ) → IsWordOf (regions old.system) k → IsPassedOver (state_of word old) (lead_freed (state_of word old) (ptr - 16) result) (state_of word new) k → word new.system k ≡ word old.system k
+  pub words : (k : ℕ) → IsWordOf (regions old.system) k → IsPassedOver (state_of word old)
+      (lead_freed (state_of word old) (ptr - 16) result) (state_of word new) k → word new.system k ≡ word old.system k
   pub sound : IsSound regions word new
   pub regions_same : regions new.system ≡ regions old.system
   pub followed : follows old.system [] new.system

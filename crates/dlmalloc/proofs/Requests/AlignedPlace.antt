@@ -41,7 +41,8 @@ module _ (at align : ℕ) (power : IsPowerOfTwo align) (large : 16 < align) (who
   pub is_place : IsAlignedPlace at align (aligned_place at align)
   is_place = go ((at + 16) % align == 0) refl (nat_le first (at + 48)) refl
     where
-      go : (b : Bool) → ((at + 16) % align == 0) ≡ b → (s : Bool) → nat_le first (at + 48) ≡ s → IsAlignedPlace at align (if b then at else if s then first + align - 16 else first - 16)
+      go : (b : Bool) → ((at + 16) % align == 0) ≡ b → (s : Bool) → nat_le first (at + 48) ≡ s →
+          IsAlignedPlace at align (if b then at else if s then first + align - 16 else first - 16)
       go true is s short = record {
         low = omega arith;
         lead = inl refl;

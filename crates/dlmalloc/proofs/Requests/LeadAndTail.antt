@@ -2,7 +2,8 @@
 use Rattle.dlmalloc.proofs.Names.{ℕ, List, Grant, Event, HeapState, HasOneMore, HasSameOthers, HasOneMoved, KeepsOthers, state_of, IsSound, IsTurned, Dlmalloc}
 use Rattle.dlmalloc.proofs.Blocks.WordsKept.{blocks_law, keeps_on}
 
-pub moved_on : {first second third : HeapState} {from to : ℕ} → HasOneMoved first second from to → HasSameOthers second third to to → HasOneMoved first third from to
+pub moved_on : {first second third : HeapState} {from to : ℕ} → HasOneMoved first second from to →
+    HasSameOthers second third to to → HasOneMoved first third from to
 moved_on one other = record {
   kept = λ used is away there. let beside = one.apart used is away there in other.kept used is beside beside (one.kept used is away there);
   only = λ used is beside there. one.only used is beside (other.only used is beside beside there);

@@ -63,14 +63,21 @@ taken_block old {extent} n size there fits holds near = go (leaves_rest n extent
     back : extent.at + 16 - 16 ≡ extent.at
     back = omega arith
 
-    found : (first : Extent) (rest : List Extent) → cut n extent ≡ first ∷ rest → first.at ≡ extent.at → extent_at (extent.at + 16 - 16) (extents_in (taken old extent n)) ≡ Some first
+    found : (first : Extent) (rest : List Extent) → cut n extent ≡ first ∷ rest → first.at ≡ extent.at →
+        extent_at (extent.at + 16 - 16) (extents_in (taken old extent n)) ≡ Some first
     found first rest is place =
-        (λ i. extent_at (back i) (replaced_segments extent.at (cut n) old.segments i)) ∙ replaced_found extent.at (cut n) (extents_in old) extent first rest there is place
+        (λ i. extent_at (back i) (replaced_segments extent.at (cut n) old.segments i))
+        ∙ replaced_found extent.at (cut n) (extents_in old) extent first rest there is place
 
     go : (b : Bool) → leaves_rest n extent ≡ b → IsBlock (taken old extent n) (extent.at + 16) size
     go true test = record {
       extent = record { at = extent.at; size = n; kind = Used };
-      there = found (record { at = extent.at; size = n; kind = Used }) ((record { at = extent.at + n; size = extent.size - n; kind = extent.kind }) ∷ []) (rw test refl) refl;
+      there = found (record { at = extent.at; size = n; kind = Used }) ((record {
+        at = extent.at + n;
+        size =
+            extent.size - n;
+        kind = extent.kind;
+      }) ∷ []) (rw test refl) refl;
       low = omega arith;
       used = refl;
       holds = holds;
@@ -93,7 +100,8 @@ if_err (Ok x) P is holds = tt
 if_err (Err fault) P is holds = subst P (sym is) holds
 
 -- nothing is chosen in a heap with no segment
-pub none_chosen_empty : {A : Type 0} (regions : A → List Grant) (word : A → ℕ → ℕ) (heap : Dlmalloc A) → heap.size ≡ 0 → (n : ℕ) → 32 ≤ n → chosen (state_of word heap) n ≡ None
+pub none_chosen_empty : {A : Type 0} (regions : A → List Grant) (word : A → ℕ → ℕ) (heap : Dlmalloc A) → heap.size ≡ 0 →
+    (n : ℕ) → 32 ≤ n → chosen (state_of word heap) n ≡ None
 none_chosen_empty regions word heap none n least =
     let some : nat_le n 0 ≡ false = grind (arith, nat_tests) in
     let more : nat_lt n 0 ≡ false = grind (arith, nat_tests) in

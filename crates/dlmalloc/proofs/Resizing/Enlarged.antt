@@ -13,7 +13,8 @@ changed heap system top top_size victim victim_size =
     record heap { system = system; top = top; top_size = top_size; victim = victim; victim_size = victim_size }
 
 -- A chunk in use took bytes of the extent after it, so that it has a given number.
-pub record IsEnlarged {A : Type 0} (regions : A → List Grant) (word : A → ℕ → ℕ) (old : Dlmalloc A) (chunk behind : Extent) (n whole : ℕ) (new : Dlmalloc A) : Type 0 where
+pub record IsEnlarged {A : Type 0} (regions : A → List Grant) (word : A → ℕ → ℕ) (old : Dlmalloc A) (chunk behind : Extent)
+    (n whole : ℕ) (new : Dlmalloc A) : Type 0 where
   pub state : state_of word new ≡ grown_into (state_of word old) chunk behind n
   pub held : extent_at chunk.at (extents_in (state_of word new)) ≡ Some (extent chunk.at whole Used)
   pub others : HasSameOthers (state_of word old) (state_of word new) chunk.at chunk.at
@@ -53,7 +54,8 @@ module _ {A : Type 0} {regions : A → List Grant} {word : A → ℕ → ℕ} {h
     behind = extent (at + size) length kind
 
     pub two : IsRunOf words (segments_of word heap) at (at + size + length) (chunk ∷ behind ∷ [])
-    two = subst (λ e. IsRunOf words (segments_of word heap) at (at + size + e.size) (chunk ∷ e ∷ [])) is (with_next (regions heap.system) sound.segments one next)
+    two = subst (λ e. IsRunOf words (segments_of word heap) at (at + size + e.size) (chunk ∷ e ∷ [])) is
+        (with_next (regions heap.system) sound.segments one next)
 
     pub low : two.segment.base ≤ at
     low = tiles_le words Used two.segment.base two.first at two.first_stand

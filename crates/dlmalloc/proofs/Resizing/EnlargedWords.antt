@@ -124,5 +124,12 @@ module _ (regions : List Grant) {old : ℕ → ℕ} (new : ℕ → ℕ) {before 
             omega arith,
           ),
         );
-        kept = λ k word more. stored.elsewhere k word (more.0, ((λ is. no_head k next.kind next.at next.size after.size more.1.0 (is ∙ ap (λ a. a + 8) (sym sum))), tt));
+        kept = λ k word more. stored.elsewhere k word (
+          more.0,
+          (
+            (λ is. no_head k next.kind next.at next.size after.size
+                more.1.0 (is ∙ ap (λ a. a + 8) (sym sum))),
+            tt,
+          ),
+        );
       }

@@ -63,7 +63,12 @@ module _ {A : Type 0} {regions : A → List Grant} {word : A → ℕ → ℕ} {h
   head = ap (λ a. words (a + 8)) (sym stand.0) ∙ stand.1.head
 
   free_told : free_of (words (at + size + 8)) ≡ not (is_used after.kind)
-  free_told = ap free_of head ∙ rw (pinuse_of-head_of (told_size after.kind after.size) true (is_used after.kind) (told_whole after.kind after.size stand.1.size), cinuse_of-head_of (told_size after.kind after.size) true (is_used after.kind) (told_whole after.kind after.size stand.1.size)) refl
+  free_told = ap free_of head ∙ rw (
+    pinuse_of-head_of (told_size after.kind after.size) true (is_used after.kind)
+        (told_whole after.kind after.size stand.1.size),
+    cinuse_of-head_of (told_size after.kind after.size) true
+        (is_used after.kind) (told_whole after.kind after.size stand.1.size),
+  ) refl
 
   module _ (no_touch : at + size ≢ heap.top) where
     -- it is a free chunk
@@ -71,7 +76,8 @@ module _ {A : Type 0} {regions : A → List Grant} {word : A → ℕ → ℕ} {h
         extent_at (at + size) (extents_in (state_of word heap)) ≡ Some (extent (at + size) told Free)
     free_behind free {told} is = go after.kind refl stand.1.kind
       where
-        go : (kind : Kind) → after.kind ≡ kind → MayStand Used kind → extent_at (at + size) (extents_in (state_of word heap)) ≡ Some (extent (at + size) told Free)
+        go : (kind : Kind) → after.kind ≡ kind → MayStand Used kind → extent_at (at + size)
+            (extents_in (state_of word heap)) ≡ Some (extent (at + size) told Free)
         go Used kind may = absurd (let no : true ≡ false = sym free ∙ (free_told ∙ ap (λ k. not (is_used k)) kind) in cc)
         go Free kind may =
             let size_told : size_of (words (at + size + 8)) ≡ told_size after.kind after.size = ap size_of head

@@ -12,19 +12,24 @@ place_found : (k : ℕ) (extents : List Extent) {one : Extent} → extent_at k e
 place_found k extents {one} there = (found k one extents there).place
 
 -- the size that is found at an address
-pub size_at : (heap : HeapState) (at : ℕ) (one : Extent) → extent_at at (extents_in heap) ≡ Some one → size_where (λ extent. extent.at == at) (extents_in heap) ≡ one.size
+pub size_at : (heap : HeapState) (at : ℕ) (one : Extent) → extent_at at (extents_in heap) ≡ Some one →
+    size_where (λ extent. extent.at == at) (extents_in heap) ≡ one.size
 size_at heap at one there = ap (λ o. unwrap_or (option_map (λ extent. extent.size) o) 0) there
 
 -- its chunk
-pub chunk_there : {heap : HeapState} {ptr n : ℕ} (block : IsBlock heap ptr n) → extent_at (ptr - 16) (extents_in heap) ≡ Some (extent (ptr - 16) block.extent.size Used)
-chunk_there {heap} {ptr} block = block.there ∙ (λ i. Some (extent ((found (ptr - 16) block.extent (extents_in heap) block.there).place i) block.extent.size (block.used i)))
+pub chunk_there : {heap : HeapState} {ptr n : ℕ} (block : IsBlock heap ptr n) →
+    extent_at (ptr - 16) (extents_in heap) ≡ Some (extent (ptr - 16) block.extent.size Used)
+chunk_there {heap} {ptr} block = block.there ∙ (λ i. Some (extent ((found (ptr - 16) block.extent (extents_in heap)
+    block.there).place i) block.extent.size (block.used i)))
 
 -- if an address is given, a block is there
-pub block_told : (heap : HeapState) {ptr : Option ℕ} {address : ℕ} → ptr ≡ Some address → IfSome ptr (λ at. (size : ℕ) × IsBlock heap at size) → (size : ℕ) × IsBlock heap address size
+pub block_told : (heap : HeapState) {ptr : Option ℕ} {address : ℕ} → ptr ≡ Some address →
+    IfSome ptr (λ at. (size : ℕ) × IsBlock heap at size) → (size : ℕ) × IsBlock heap address size
 block_told heap is block = subst (λ o. IfSome o (λ at. (size : ℕ) × IsBlock heap at size)) is block
 
 -- what is found among the others is found, and elsewhere
-pub other_there : (at : ℕ) (extents : List Extent) (k : ℕ) {one : Extent} → extent_at k (others_at at extents) ≡ Some one → (one.at ≢ at) × (extent_at k extents ≡ Some one)
+pub other_there : (at : ℕ) (extents : List Extent) (k : ℕ) {one : Extent} → extent_at k (others_at at extents) ≡ Some one →
+    (one.at ≢ at) × (extent_at k extents ≡ Some one)
 other_there at [] k there = absurd (cc)
 other_there at (first ∷ extents) k {one} there = go (first.at == at) refl (λ later. other_there at extents k later)
   where

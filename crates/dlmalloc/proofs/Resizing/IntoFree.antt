@@ -93,7 +93,14 @@ module _ {A : Type 0} {regions : A → List Grant} {word : A → ℕ → ℕ} {h
     -- ---- a rest stays free
 
     module _ (rest_room : n + 32 ≤ size + length)
-        (stored : AreStored (regions heap.system) words ((at + 8, head_of n (pinuse_of (words (at + 8))) true) ∷ (at + n + 8, head_of (size + length - n) true false) ∷ (at + n + (size + length - n), size + length - n) ∷ []) (word system)) where
+        (stored : AreStored (regions heap.system) words ((
+          at + 8,
+          head_of n (pinuse_of (words (at + 8)))
+              true,
+        ) ∷ (at + n + 8, head_of (size + length - n) true false) ∷ (
+          at + n + (size + length - n),
+          size + length - n,
+        ) ∷ []) (word system)) where
       abbrev rest : Extent
       rest = extent (at + n) (size + length - n) Free
 
@@ -151,7 +158,15 @@ module _ {A : Type 0} {regions : A → List Grant} {word : A → ℕ → ℕ} {h
     -- ---- nothing of it stays free
 
     module _ (no_room : size + length < n + 32)
-        (stored : AreStored (regions heap.system) words ((at + 8, head_of (size + length) (pinuse_of (words (at + 8))) true) ∷ (at + (size + length) + 8, with_pinuse (if size + length == 0 then head_of (size + length) (pinuse_of (words (at + 8))) true else words (at + (size + length) + 8))) ∷ []) (word system)) where
+        (stored : AreStored (regions heap.system) words ((
+          at + 8,
+          head_of (size + length) (pinuse_of (words (at + 8)))
+              true,
+        ) ∷ (
+          at + (size + length) + 8,
+          with_pinuse (if size + length == 0 then head_of (size + length)
+              (pinuse_of (words (at + 8))) true else words (at + (size + length) + 8)),
+        ) ∷ []) (word system)) where
       abbrev last : Extent
       last = third.next
 
@@ -161,13 +176,18 @@ module _ {A : Type 0} {regions : A → List Grant} {word : A → ℕ → ℕ} {h
       abbrev all : List Extent
       all = extent at (size + length) Used ∷ last ∷ []
 
-      move : IsMove (regions heap.system) words (word system) (last_kind Used both.first) at (at + size + length + last.size) (at + size + length + last.size) three all
+      move : IsMove (regions heap.system) words (word system) (last_kind Used both.first) at
+          (at + size + length + last.size) (at + size + length + last.size) three all
       move =
           let some : (size + length == 0) ≡ false = nat_isnt (inr (omega (arith, least))) in
           let place = stands_third.0 in
           grown_whole (regions heap.system) (word system) both.here.1 length last both.here.2.1 stands_third.1 stands_third.0
           (subst (λ t. AreStored (regions heap.system) words ((at + 8, head_of (size + length) (pinuse_of (words (at + 8))) true)
-          ∷ (at + (size + length) + 8, with_pinuse (if t then head_of (size + length) (pinuse_of (words (at + 8))) true else words (at + (size + length) + 8))) ∷ []) (word system)) some stored)
+          ∷ (
+            at + (size + length) + 8,
+            with_pinuse (if t then head_of (size + length) (pinuse_of (words (at + 8))) true
+                else words (at + (size + length) + 8)),
+          ) ∷ []) (word system)) some stored)
           (λ k above under m. run_word (regions heap.system) sound.segments both k
           (omega (arith, low sound can.there next_is)) (omega (arith, below)) m)
 
@@ -180,7 +200,8 @@ module _ {A : Type 0} {regions : A → List Grant} {word : A → ℕ → ℕ} {h
           ]
         where
           go : (b : Bool) → (at == k) ≡ b → extent_at k (chunk ∷ free ∷ []) ≡ None → extent_at k (last ∷ []) ≡ Some tail → extent_at k all ≡ Some tail
-          go true here none found = absurd (let no : Some chunk ≡ None = subst (λ b. (if b then Some chunk else extent_at k (free ∷ [])) ≡ None) here none in cc)
+          go true here none found = absurd (let no : Some chunk ≡ None = subst
+              (λ b. (if b then Some chunk else extent_at k (free ∷ [])) ≡ None) here none in cc)
           go false apart none found = rw apart found
 
       -- what is found now was
@@ -256,6 +277,10 @@ module _ {A : Type 0} {regions : A → List Grant} {word : A → ℕ → ℕ} {h
       let last = subst (λ rs. AreStored rs (word middle)
       ((at + n + 8, head_of (size + length - n) true false) ∷ (at + n + (size + length - n), size + length - n) ∷ []) (word system)) same second in
       record {
-        here = ((λ apart. last.elsewhere (at + 8) (free_head_there at (omega arith) (omega arith) (omega (arith, free_at_whole))).granted apart ∙ first.here.0 (apart.0, tt)), last.here);
+        here = (
+          (λ apart. last.elsewhere (at + 8) (free_head_there at (omega arith) (omega arith)
+              (omega (arith, free_at_whole))).granted apart ∙ first.here.0 (apart.0, tt)),
+          last.here,
+        );
         elsewhere = λ k is apart. last.elsewhere k is apart.1 ∙ first.elsewhere k is (apart.0, (apart.1.0, tt));
       }

@@ -77,7 +77,8 @@ module _ {A : Type 0} {regions : A → List Grant} {word : A → ℕ → ℕ} {h
         (none_outside words Used both.segment.base both.first at (at + n) (inr (omega arith)) both.first_stand)
         ∙ found_second at n (extent (at + n) rest Top) both.last (omega (arith, least))
 
-    move : IsMove (regions heap.system) words (word system) (last_kind Used both.first) at (at + size + heap.top_size) (at + size + heap.top_size) (chunk ∷ top ∷ []) parts
+    move : IsMove (regions heap.system) words (word system) (last_kind Used both.first) at (at + size + heap.top_size)
+        (at + size + heap.top_size) (chunk ∷ top ∷ []) parts
     move = grown_top (regions heap.system) (word system) both.here.1 n both.here.2.1 can.whole least rest_room rest_is stored
 
     abbrev step : IsStep regions word heap after (chunk ∷ top ∷ []) parts

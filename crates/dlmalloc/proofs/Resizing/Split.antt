@@ -10,7 +10,8 @@ use Rattle.dlmalloc.proofs.Cuts.StateAfter.{replaced_run}
 use Rattle.dlmalloc.proofs.Resizing.TwoExtents.{in_two, no_kind, found_second}
 
 -- the move: the two heads are stored
-pub split_used : {regions : List Grant} {old new : ℕ → ℕ} {before : Kind} (at size n : ℕ) → HasChunk old before (extent at size Used) → n % 16 ≡ 0 → 32 ≤ n → n + 32 ≤ size →
+pub split_used : {regions : List Grant} {old new : ℕ → ℕ} {before : Kind} (at size n : ℕ) →
+    HasChunk old before (extent at size Used) → n % 16 ≡ 0 → 32 ≤ n → n + 32 ≤ size →
     AreStored regions old ((at + 8, head_of n (pinuse_of (old (at + 8))) true) ∷ (at + n + 8, head_of (size - n) true true) ∷ []) new →
     IsMove regions old new before at (at + size) (at + size) (extent at size Used ∷ []) (extent at n Used ∷ extent (at + n) (size - n) Used ∷ [])
 split_used {old} {before} at size n stands whole least room stored =
@@ -80,7 +81,10 @@ module _ {A : Type 0} {regions : A → List Grant} {word : A → ℕ → ℕ} {h
   rest_whole = omega (arith, run.here.1.size.0)
 
   module _ {middle system : A} (same_middle : regions middle ≡ regions heap.system) (same_system : regions system ≡ regions middle) {value : ℕ}
-      (first : AreStored (regions heap.system) (word heap.system) ((at + 8, head_of n (pinuse_of (word heap.system (at + 8))) true) ∷ (at + n + 8, value) ∷ []) (word middle))
+      (first : AreStored (regions heap.system) (word heap.system) ((
+        at + 8,
+        head_of n (pinuse_of (word heap.system (at + 8))) true,
+      ) ∷ (at + n + 8, value) ∷ []) (word middle))
       (second : IsStored (regions middle) (word middle) (at + n + 8) (head_of (size - n) true true) (word system)) where
     same : regions system ≡ regions heap.system
     same = same_system ∙ same_middle

@@ -43,7 +43,8 @@ all_keep regions old new kept (segment ∷ segments) parts =
 -- ---- so far
 
 -- the segments of a heap up to a record are given back, if the system takes them, and have this many bytes
-pub record Destroying {A : Type 0} (regions : A → List Grant) (word : A → ℕ → ℕ) (follows : A → List Event → A → Type 0) (takes : Bool) (old : Dlmalloc A) (payload released : ℕ) (system : A) : Type 0 where
+pub record Destroying {A : Type 0} (regions : A → List Grant) (word : A → ℕ → ℕ) (follows : A → List Event → A → Type 0)
+    (takes : Bool) (old : Dlmalloc A) (payload released : ℕ) (system : A) : Type 0 where
   pub done : List Segment
   pub rest : List Segment
   pub given : AreGivenBack regions word follows (taken_back takes (filter is_own done)) old.system released system
@@ -147,7 +148,8 @@ module _ {A : Type 0} {regions : A → List Grant} {word : A → ℕ → ℕ} {f
           let some : 0 < segment.size = (let l = parts.0.long in omega arith) in
           let run = parts.0.run in
           let gone : regions new ≡ without_run segment.base (segment.base + segment.size) (regions old) = given.regions_are in
-          let keeps = apart_keeps segment run some (word old) (word new) (λ k inside. given.words k (subst (λ rs. IsWordOf rs k) (sym gone) inside)) others parts.1 apart in
+          let keeps = apart_keeps segment run some (word old) (word new) (λ k inside.
+          given.words k (subst (λ rs. IsWordOf rs k) (sym gone) inside)) others parts.1 apart in
           (subst (λ rs. AreSegments rs (word new) others) (sym gone) (apart_segments segment run some (word old) (word new) others parts.1 apart keeps), keeps)
       go true false given = kept given.regions_are given.words
       go false own given = kept given.regions_are given.words

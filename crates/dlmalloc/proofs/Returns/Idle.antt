@@ -70,7 +70,8 @@ module _ {regions : List Grant} {words : ℕ → ℕ} {segment : Segment} (part 
   )
 
 module _ {A : Type 0} {regions : A → List Grant} {word : A → ℕ → ℕ} {heap : Dlmalloc A} (sound : IsSound regions word heap) (parts : Bool) where
-  in_records : (segments : List Segment) → AreSegments (regions heap.system) (word heap.system) segments → (payload : ℕ) → AreRecords (word heap.system) payload segments →
+  in_records : (segments : List Segment) → AreSegments (regions heap.system) (word heap.system) segments → (payload : ℕ) →
+      AreRecords (word heap.system) payload segments →
       AllByRecursion (λ segment. IsTrue (may_leave parts segment) ↔ (IsTrue parts × IsTrue (is_own segment) × IsIdle segment)) segments
   in_records [] all payload h = tt
   in_records (segment ∷ segments) all payload h = (
@@ -81,6 +82,7 @@ module _ {A : Type 0} {regions : A → List Grant} {word : A → ℕ → ℕ} {h
   pub idle_handed_out : IdleAreHandedOut parts (segments_of word heap)
   idle_handed_out = go (segments_of word heap) sound.segments sound.told
     where
-      go : (segments : List Segment) → AreSegments (regions heap.system) (word heap.system) segments → AreTold (word heap.system) heap segments → IdleAreHandedOut parts segments
+      go : (segments : List Segment) → AreSegments (regions heap.system) (word heap.system) segments →
+          AreTold (word heap.system) heap segments → IdleAreHandedOut parts segments
       go [] all h = tt
       go (segment ∷ segments) all h = in_records segments all.1 heap.next h.5

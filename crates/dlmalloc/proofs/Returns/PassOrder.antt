@@ -15,12 +15,14 @@ left_of segment index = without_chunk (segment.size - 80) segment.base index
 abbrev made_of : Segment → Bool → Bool → (ℕ → List ℕ) → ℕ → List ℕ
 made_of segment m f index = if m then (if f then left_of segment index else with_chunk (segment.size - 80) segment.base (left_of segment index)) else index
 
-pub visit_same : (frees parts : Bool) (segment : Segment) (i j : ℕ → List ℕ) (n : ℕ) → i n ≡ j n → after_visit frees parts segment i n ≡ after_visit frees parts segment j n
+pub visit_same : (frees parts : Bool) (segment : Segment) (i j : ℕ → List ℕ) (n : ℕ) → i n ≡ j n →
+    after_visit frees parts segment i n ≡ after_visit frees parts segment j n
 visit_same frees parts segment i j n same = go (may_leave parts segment) frees
   where
     go : (m f : Bool) → made_of segment m f i n ≡ made_of segment m f j n
     go true true = without_same (segment.size - 80) segment.base i j n same
-    go true false = with_same (segment.size - 80) segment.base (left_of segment i) (left_of segment j) n (without_same (segment.size - 80) segment.base i j n same)
+    go true false = with_same (segment.size - 80) segment.base (left_of segment i) (left_of segment j) n
+        (without_same (segment.size - 80) segment.base i j n same)
     go false f = same
 
 visits_same : (frees parts : Bool) (segments : List Segment) (i j : ℕ → List ℕ) → ((n : ℕ) → i n ≡ j n) →
@@ -50,4 +52,5 @@ module _ (frees parts : Bool) (segment : Segment) (index : ℕ → List ℕ) (n 
     visit_left takes = (λ i. without_chunk (size_is i) (base_is i) index n) ∙ (λ i. made_of segment (may i) (takes i) index n)
 
     pub visit_kept : false ≡ frees → with_chunk size base (without_chunk size base index) n ≡ after_visit frees parts segment index n
-    visit_kept takes = (λ i. with_chunk (size_is i) (base_is i) (without_chunk (size_is i) (base_is i) index) n) ∙ (λ i. made_of segment (may i) (takes i) index n)
+    visit_kept takes = (λ i. with_chunk (size_is i) (base_is i) (without_chunk (size_is i) (base_is i) index) n)
+        ∙ (λ i. made_of segment (may i) (takes i) index n)

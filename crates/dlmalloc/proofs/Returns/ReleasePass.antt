@@ -38,7 +38,8 @@ remaining_is : (frees parts : Bool) (head : Segment) (segments : List Segment) �
 remaining_is true parts head segments = refl
 remaining_is false parts head segments = ap (λ rest. head ∷ rest) (all_filtered segments)
 
-leaving_is : (frees parts : Bool) (head : Segment) (segments : List Segment) → leaving frees parts segments ≡ taken_back frees (handed_out parts (head ∷ segments))
+leaving_is : (frees parts : Bool) (head : Segment) (segments : List Segment) →
+    leaving frees parts segments ≡ taken_back frees (handed_out parts (head ∷ segments))
 leaving_is true parts head segments = refl
 leaving_is false parts head segments = none_filtered segments
 
@@ -64,7 +65,8 @@ record IsCovered (regions : List Grant) (block : Extent) : Type 0 where
   pub covered : (k : ℕ) → block.at ≤ k → k < block.at + block.size + 8 → IsTrue (is_granted regions k)
 
 module _ {A : Type 0} (regions : A → List Grant) (word : A → ℕ → ℕ) (follows : A → List Event → A → Type 0) where
-  pub left_on : ((x y z : A) (a b c : List Event) → follows x a y → follows y b z → a ++ b ≡ c → follows x c z) → {first second : List Segment} {old middle new : Dlmalloc A} →
+  pub left_on : ((x y z : A) (a b c : List Event) → follows x a y → follows y b z → a ++ b ≡ c → follows x c z) →
+      {first second : List Segment} {old middle new : Dlmalloc A} →
       HaveLeft regions word follows first old middle → HaveLeft regions word follows second middle new → HaveLeft regions word follows (first ++ second) old new
   left_on follows_on {first} {second} {old} {middle} {new} one two = record {
     sound = two.sound;
@@ -74,8 +76,25 @@ module _ {A : Type 0} (regions : A → List Grant) (word : A → ℕ → ℕ) (f
     };
     before = λ extent there. one.before extent (two.before extent there);
     words = λ k inside was out.
-        two.words k inside (λ f. was (record { at = f.at; size = f.size; free = one.before (extent f.at f.size Free) f.free; low = f.low; high = f.high })) (λ r. out (record { extent = r.extent; there = one.before r.extent r.there; is = r.is; low = r.low; high = r.high }))
-        ∙ one.words k (record { granted = still_granted second (regions middle.system) k (subst (λ rs. IsTrue (is_granted rs k)) two.regions_are inside.granted); aligned = inside.aligned }) was out;
+        two.words k inside (λ f. was (record {
+          at = f.at;
+          size = f.size;
+          free = one.before (extent f.at f.size Free) f.free;
+          low = f.low;
+          high = f.high;
+        })) (λ r. out (record {
+          extent = r.extent;
+          there = one.before r.extent r.there;
+          is =
+              r.is;
+          low = r.low;
+          high = r.high;
+        }))
+        ∙ one.words k (record {
+          granted = still_granted second (regions middle.system) k
+              (subst (λ rs. IsTrue (is_granted rs k)) two.regions_are inside.granted);
+          aligned = inside.aligned;
+        }) was out;
     regions_are = two.regions_are ∙ (ap (regions_without second) one.regions_are ∙ sym (without_append first second (regions old.system)));
     followed = follows_on old.system middle.system new.system (releases first) (releases second) (releases (first ++ second)) one.followed two.followed
         (sym (map-append (λ segment. Released segment.base segment.size 0) first second));
@@ -106,7 +125,8 @@ module _ {A : Type 0} (regions : A → List Grant) (word : A → ℕ → ℕ) (f
 
 -- ---- the segments up to a record are visited
 
-pub record Passing {A : Type 0} (regions : A → List Grant) (word : A → ℕ → ℕ) (follows : A → List Event → A → Type 0) (frees parts : Bool) (old : Dlmalloc A) (before payload count released : ℕ) (new : Dlmalloc A) : Type 0 where
+pub record Passing {A : Type 0} (regions : A → List Grant) (word : A → ℕ → ℕ) (follows : A → List Event → A → Type 0)
+    (frees parts : Bool) (old : Dlmalloc A) (before payload count released : ℕ) (new : Dlmalloc A) : Type 0 where
   pub head : Segment
   pub done : List Segment
   pub rest : List Segment
@@ -130,7 +150,8 @@ module _ {A : Type 0} {regions : A → List Grant} {word : A → ℕ → ℕ} {f
   pub begun_passing : 0 < old.size → ((x : A) → follows x [] x) → Passing regions word follows frees parts old 0 old.next 0 0 old
   begun_passing some follows_none = go (segments_of word old) refl sound.told
     where
-      go : (segments : List Segment) → segments_of word old ≡ segments → AreTold (word old.system) old segments → Passing regions word follows frees parts old 0 old.next 0 0 old
+      go : (segments : List Segment) → segments_of word old ≡ segments → AreTold (word old.system) old segments →
+          Passing regions word follows frees parts old 0 old.next 0 0 old
       go [] is h = absurd (omega arith)
       go (head ∷ segments) is h = record {
         head = head;
@@ -176,7 +197,8 @@ module _ {A : Type 0} {regions : A → List Grant} {word : A → ℕ → ℕ} {f
 
       ahead_part : IsSegment (regions now.system) (word now.system) ahead.segment
       ahead_part = all_at (IsSegment (regions now.system) (word now.system)) (p.head ∷ remaining frees parts p.done) ahead.segment ahead.others
-          (subst (AreSegments (regions now.system) (word now.system)) (p.is ∙ ap (λ rest. p.head ∷ (remaining frees parts p.done ++ rest)) ahead.is) p.left.sound.segments)
+          (subst (AreSegments (regions now.system) (word now.system)) (p.is
+          ∙ ap (λ rest. p.head ∷ (remaining frees parts p.done ++ rest)) ahead.is) p.left.sound.segments)
 
       -- what reading its record wants
       pub read_high : payload + 32 < 2 ^ 64
@@ -230,7 +252,8 @@ module _ {A : Type 0} {regions : A → List Grant} {word : A → ℕ → ℕ} {f
           joined true segments others = ap (λ ss. ss ++ others) (sym (append-nil segments))
           joined false segments others = sym (append_assoc segments (ahead.segment ∷ []) others)
 
-          front_is : (b : Bool) (segments : List Segment) → (if b then segments else segments ++ ahead.segment ∷ []) ≡ segments ++ (if not b then ahead.segment ∷ [] else [])
+          front_is : (b : Bool) (segments : List Segment) → (if b then segments
+              else segments ++ ahead.segment ∷ []) ≡ segments ++ (if not b then ahead.segment ∷ [] else [])
           front_is true segments = sym (append-nil segments)
           front_is false segments = refl
 
@@ -241,17 +264,20 @@ module _ {A : Type 0} {regions : A → List Grant} {word : A → ℕ → ℕ} {f
               [ true ↦ refl | false ↦ refl ]
           victim_is false false = refl
 
-          bytes_now : (b : Bool) → (if b then released + told.size else released) ≡ bytes_of (leaving frees parts p.done ++ (if b then ahead.segment ∷ [] else []))
+          bytes_now : (b : Bool) → (if b then released + told.size else released) ≡ bytes_of
+              (leaving frees parts p.done ++ (if b then ahead.segment ∷ [] else []))
           bytes_now true = omega (arith, told_size, bytes_append (leaving frees parts p.done) (ahead.segment ∷ []))
           bytes_now false = p.bytes_are ∙ ap bytes_of (sym (append-nil (leaving frees parts p.done)))
 
           -- one more is
-          pub on_passing : Passing regions word follows frees parts old (if b then before else payload) told.next (count + 1) (if b then released + told.size else released) new
+          pub on_passing : Passing regions word follows frees parts old (if b then before else payload) told.next
+              (count + 1) (if b then released + told.size else released) new
           on_passing = record {
             head = p.head;
             done = p.done ++ ahead.segment ∷ [];
             rest = ahead.others;
-            was = p.was ∙ (ap (λ rest. p.head ∷ (p.done ++ rest)) ahead.is ∙ ap (λ segments. p.head ∷ segments) (sym (append_assoc p.done (ahead.segment ∷ []) ahead.others)));
+            was = p.was ∙ (ap (λ rest. p.head ∷ (p.done ++ rest)) ahead.is
+                ∙ ap (λ segments. p.head ∷ segments) (sym (append_assoc p.done (ahead.segment ∷ []) ahead.others)));
             is = v.segments ∙ ap (λ segments. p.head ∷ segments)
                 (joined b (remaining frees parts p.done) ahead.others ∙ ap (λ segments. segments ++ ahead.others) (sym stay_is));
             records = v.records;
@@ -259,12 +285,17 @@ module _ {A : Type 0} {regions : A → List Grant} {word : A → ℕ → ℕ} {f
                 (front_is b (remaining frees parts p.done) ∙ sym stay_is) v.linked;
             victim = v.victim ∙ (ap (λ victim. if may_leave parts ahead.segment && ahead.segment.base == victim then 0 else victim) p.victim
                 ∙ (victim_is (list_any (λ segment. segment.base == old.victim) (filter (may_leave parts) p.done)) (may_leave parts ahead.segment)
-                ∙ ap (λ a. if a then 0 else old.victim) (sym (ap (list_any (λ segment. segment.base == old.victim)) (filter-append (may_leave parts) p.done (ahead.segment ∷ []))
+                ∙ ap (λ a. if a then 0 else old.victim) (sym (ap (list_any (λ segment. segment.base == old.victim))
+                (filter-append (may_leave parts) p.done (ahead.segment ∷ []))
                 ∙ list_any-append (λ segment. segment.base == old.victim) (filter (may_leave parts) p.done) (filter (may_leave parts) (ahead.segment ∷ []))))));
             left = subst (λ gone. HaveLeft regions word follows gone old new) (sym gone_is) (left_on regions word follows follows_on p.left v.left);
             index = λ b.
-                let was = p.index b in let is = next was.0 in
-                (is.0, λ n. is.1 n ∙ (visit_same frees parts ahead.segment was.0.index (after_visits frees parts p.done b.index) n (was.1 n) ∙ visits_on frees parts p.done ahead.segment b.index n));
+                let was = p.index b in let is = next was.0 in (
+                  is.0,
+                  λ n. is.1 n ∙ (visit_same frees parts ahead.segment was.0.index
+                      (after_visits frees parts p.done b.index) n (was.1 n) ∙ visits_on frees parts p.done ahead.segment
+                      b.index n),
+                );
             bytes_are = bytes_now b ∙ ap bytes_of (sym gone_is);
             counted = omega (arith, length-append p.done (ahead.segment ∷ []));
             some = omega arith;
@@ -276,7 +307,8 @@ module _ {A : Type 0} {regions : A → List Grant} {word : A → ℕ → ℕ} {f
     -- all are at the end, and the countdown begins anew
     module _ (none : payload ≡ 0) (countdown : ℕ) (begins : countdown ≡ max count (countdown_from now.rate)) where
       was_all : segments_of word old ≡ p.head ∷ p.done
-      was_all = p.was ∙ ap (λ segments. p.head ∷ segments) (ap (λ rest. p.done ++ rest) (none_ahead (word now.system) p.rest none p.records) ∙ append-nil p.done)
+      was_all = p.was ∙ ap (λ segments. p.head ∷ segments) (ap (λ rest. p.done ++ rest)
+          (none_ahead (word now.system) p.rest none p.records) ∙ append-nil p.done)
 
       is_all : segments_of word now ≡ p.head ∷ remaining frees parts p.done
       is_all = p.is ∙ ap (λ segments. p.head ∷ segments) (ap (λ rest. remaining frees parts p.done ++ rest)
@@ -286,7 +318,8 @@ module _ {A : Type 0} {regions : A → List Grant} {word : A → ℕ → ℕ} {f
       segments_are = is_all ∙ (remaining_is frees parts p.head p.done ∙ ap (λ segments. if frees then staying parts segments else segments) (sym was_all))
 
       victim_now : now.victim ≡ (if list_any (λ segment. segment.base == old.victim) (handed_out parts (segments_of word old)) then 0 else old.victim)
-      victim_now = p.victim ∙ ap (λ segments. if list_any (λ segment. segment.base == old.victim) (handed_out parts segments) then 0 else old.victim) (sym was_all)
+      victim_now = p.victim ∙ ap (λ segments. if list_any (λ segment. segment.base == old.victim)
+          (handed_out parts segments) then 0 else old.victim) (sym was_all)
 
       countdown_is : countdown ≡ max (visited (segments_of word old)) (countdown_from old.rate)
       countdown_is = begins ∙ (λ i. max ((p.counted ∙ ap visited (sym was_all)) i) (countdown_from (p.rate_same i)))
@@ -296,7 +329,15 @@ module _ {A : Type 0} {regions : A → List Grant} {word : A → ℕ → ℕ} {f
 
       pub passed_all : IsPassed regions word follows frees parts old released (record now { countdown = countdown })
       passed_all = record {
-        state = λ i. record { segments = segments_are i; victim = victim_now i; granularity = p.granularity_same i; rate = p.rate_same i; countdown = countdown_is i; trim_check = p.trim_check_same i };
+        state = λ i. record {
+          segments = segments_are i;
+          victim = victim_now i;
+          granularity = p.granularity_same i;
+          rate =
+              p.rate_same i;
+          countdown = countdown_is i;
+          trim_check = p.trim_check_same i;
+        };
         bytes_are = p.bytes_are ∙ ap bytes_of gone_are;
         sound = countdown_sound p.left.sound countdown;
         used = record { still = p.left.used.still; before = p.left.used.before };

@@ -15,7 +15,8 @@ use Rattle.dlmalloc.proofs.Returns.SegmentVisited.{base_is, size_is, forgetful_n
 
 -- ---- lists without one
 
-all_less : (Is : Segment → Type 0) (front : List Segment) (segment : Segment) (back : List Segment) → AllByRecursion Is (front ++ segment ∷ back) → AllByRecursion Is (front ++ back)
+all_less : (Is : Segment → Type 0) (front : List Segment) (segment : Segment) (back : List Segment) →
+    AllByRecursion Is (front ++ segment ∷ back) → AllByRecursion Is (front ++ back)
 all_less Is [] segment back all = all.1
 all_less Is (first ∷ front) segment back all = (all.0, all_less Is front segment back all.1)
 
@@ -62,7 +63,8 @@ module _ {A : Type 0} {regions : A → List Grant} {word : A → ℕ → ℕ} {h
     split_told = subst (AreRecords words heap.next) split_is it.heap_told.5
 
     last_told : AreRecords words before (l.last ∷ (c.segment ∷ c.back))
-    last_told = subst (λ p. AreRecords words p (l.last ∷ (c.segment ∷ c.back))) (sym l.reached) (records_behind words heap.next l.first (l.last ∷ (c.segment ∷ c.back)) split_told)
+    last_told = subst (λ p. AreRecords words p (l.last ∷ (c.segment ∷ c.back))) (sym l.reached)
+        (records_behind words heap.next l.first (l.last ∷ (c.segment ∷ c.back)) split_told)
 
     last_part : IsSegment granted words l.last
     last_part = all_at (IsSegment granted words) (c.head ∷ l.first) l.last (c.segment ∷ c.back) split_parts
@@ -84,7 +86,8 @@ module _ {A : Type 0} {regions : A → List Grant} {word : A → ℕ → ℕ} {h
     beside_gone k low high = elim (last_behind.0) [ inl first ↦ inr (omega arith) | inr second ↦ inl (omega arith) ]
 
     link_word : IsWordOf granted (before + 16)
-    link_word = payload_word last_part before last_told.0 last_told.4 (before + 16) (omega arith) (omega arith) (omega (arith, payload_whole last_part before last_told.0 last_told.4))
+    link_word = payload_word last_part before last_told.0 last_told.4 (before + 16) (omega arith) (omega arith)
+        (omega (arith, payload_whole last_part before last_told.0 last_told.4))
 
     link_in : IsInRecord (state_of word heap) (before + 16)
     link_in = record {
@@ -140,7 +143,8 @@ module _ {A : Type 0} {regions : A → List Grant} {word : A → ℕ → ℕ} {h
       segments = subst (λ front. AreSegments (regions system) (word system) (c.head ∷ (front ++ c.back))) (sym h.0)
           (subst (λ rs. AreSegments rs (word system) (c.head ∷ c.back)) (sym gone) (apart_segments c.segment it.part.run it.sized words (word system)
           (c.head ∷ c.back) (it.front_parts.0, it.back_parts) (it.front_beside.0, it.back_beside) keeps));
-      records = subst (λ front. AreRecords (word system) next (front ++ c.back)) (sym h.0) (subst (λ p. AreRecords (word system) p c.back) (sym next_now) behind);
+      records = subst (λ front. AreRecords (word system) next (front ++ c.back)) (sym h.0)
+          (subst (λ p. AreRecords (word system) p c.back) (sym next_now) behind);
       behind = behind;
       linked = inl (h.0, h.1, sym next_now);
     }
@@ -161,8 +165,10 @@ module _ {A : Type 0} {regions : A → List Grant} {word : A → ℕ → ℕ} {h
           (subst (λ rs. AreSegments rs (word system) (c.head ∷ (l.first ++ l.last ∷ c.back))) (sym gone) (parts_around (c.head ∷ l.first) c.back
           (apart_segments c.segment it.part.run it.sized words (word system) (c.head ∷ l.first) first_parts first_beside first_keeps) last_now
           (apart_segments c.segment it.part.run it.sized words (word system) c.back it.back_parts it.back_beside back_keeps)));
-      records = subst (λ segments. AreRecords (word system) next segments) (sym (joined_is l)) (subst (λ p. AreRecords (word system) p (l.first ++ l.last ∷ c.back)) (sym next_now)
-          (told_around granted words (word system) (l.last ∷ (c.segment ∷ c.back)) (l.last ∷ c.back) l.first heap.next l.reached first_parts.1 first_keeps.1 (split_told l) (
+      records = subst (λ segments. AreRecords (word system) next segments) (sym (joined_is l))
+          (subst (λ p. AreRecords (word system) p (l.first ++ l.last ∷ c.back)) (sym next_now)
+          (told_around granted words (word system) (l.last ∷ (c.segment ∷ c.back)) (l.last ∷ c.back) l.first heap.next
+          l.reached first_parts.1 first_keeps.1 (split_told l) (
             (last_told l).0,
             stored before (omega arith) (omega arith) (omega (arith, whole)) (λ is. omega arith) ∙ (last_told l).1,
             stored (before + 8) (omega arith) (omega arith) (omega (arith, whole)) (λ is. omega arith) ∙ (last_told l).2,
@@ -192,7 +198,11 @@ module _ {A : Type 0} {regions : A → List Grant} {word : A → ℕ → ℕ} {h
         first_parts = all_front (IsSegment granted words) (c.head ∷ l.first) (l.last ∷ (c.segment ∷ c.back)) (split_parts l)
 
         first_beside : AllByRecursion (IsApartFrom c.segment) (c.head ∷ l.first)
-        first_beside = (it.front_beside.0, all_front (IsApartFrom c.segment) l.first (l.last ∷ []) (subst (AllByRecursion (IsApartFrom c.segment)) l.is it.front_beside.1))
+        first_beside = (
+          it.front_beside.0,
+          all_front (IsApartFrom c.segment) l.first (l.last ∷ [])
+              (subst (AllByRecursion (IsApartFrom c.segment)) l.is it.front_beside.1),
+        )
 
         -- a word outside the last of those segments stays
         kept_beside : (k : ℕ) → IsWordOf granted k → IsOutside c.segment k → IsOutside l.last k → word system k ≡ words k
@@ -214,7 +224,15 @@ module _ {A : Type 0} {regions : A → List Grant} {word : A → ℕ → ℕ} {h
             let is = recorded_stays (last_part l) before (last_told l).0 (last_told l).4 (word system)
             (λ k low high m out. kept_outside k (record { granted = (last_part l).run.covered k (omega arith) high; aligned = m })
             (beside_gone l k (omega arith) high) (λ more same. elim out [ inl below ↦ omega arith | inr above ↦ omega arith ])) in
-            record { run = run_stays c.segment it.part.run it.sized l.last (last_behind l).0 is.run; low = is.low; high = is.high; long = is.long; extents = is.extents; tail = is.tail }
+            record {
+              run = run_stays c.segment it.part.run it.sized l.last (last_behind l).0 is.run;
+              low = is.low;
+              high =
+                  is.high;
+              long = is.long;
+              extents = is.extents;
+              tail = is.tail;
+            }
 
         behind : AreRecords (word system) told.next c.back
         behind = records_stay granted words (word system) c.back it.back_parts back_keeps told.next it.back_told
@@ -233,7 +251,14 @@ module _ {A : Type 0} {regions : A → List Grant} {word : A → ℕ → ℕ} {h
 
     module _ (unused : is_unused c.segment ≡ true) where
       abbrev pub left_heap : Dlmalloc A
-      left_heap = record heap { system = system; next = if before == 0 then told.next else heap.next; victim = if told.base == heap.victim then 0 else heap.victim; victim_size = if told.base == heap.victim then 0 else heap.victim_size }
+      left_heap = record heap {
+        system = system;
+        next = if before == 0 then told.next else heap.next;
+        victim =
+            if told.base == heap.victim then 0 else heap.victim;
+        victim_size =
+            if told.base == heap.victim then 0 else heap.victim_size;
+      }
 
       abbrev now : List Segment
       now = c.head ∷ (c.front ++ c.back)
@@ -255,7 +280,8 @@ module _ {A : Type 0} {regions : A → List Grant} {word : A → ℕ → ℕ} {h
         are = flat_map-append (λ segment. segment.extents) (c.head ∷ c.front) c.back;
       }
 
-      found_before : (k : ℕ) {one : Extent} → extent_at k (extents_in (state_of word left_heap)) ≡ Some one → extent_at k (extents_in (state_of word heap)) ≡ Some one
+      found_before : (k : ℕ) {one : Extent} → extent_at k (extents_in (state_of word left_heap)) ≡ Some one →
+          extent_at k (extents_in (state_of word heap)) ≡ Some one
       found_before k there = exchanged_was sound exchange k (λ found. cc) (λ found. cc) there
 
       -- in the segment a free extent and the record are found
@@ -291,7 +317,8 @@ module _ {A : Type 0} {regions : A → List Grant} {word : A → ℕ → ℕ} {h
           (extents_in (state_of word left_heap)) ≡ Some (extent (if b then 0 else heap.victim) (if b then 0 else heap.victim_size) Free)
       victim_there true test more = absurd (more refl)
       victim_there false test more = exchanged_still sound exchange heap.victim (λ found. elim (in_gone heap.victim found) [
-        | inl free ↦ (let yes : (told.base == heap.victim) ≡ true = ap (λ b. b == heap.victim) ((base_is sound c) ∙ free.1) ∙ nat_same heap.victim in let no = sym test ∙ yes in cc)
+        | inl free ↦ (let yes : (told.base == heap.victim) ≡ true = ap (λ b. b == heap.victim) ((base_is sound c) ∙ free.1)
+            ∙ nat_same heap.victim in let no = sym test ∙ yes in cc)
         | inr tail ↦ (let no : Free ≡ Record = tail in cc)
       ]) (sound.victim more)
 

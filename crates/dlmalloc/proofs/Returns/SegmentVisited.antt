@@ -19,7 +19,8 @@ last_test a b c is = (both b c (both a (b && c) (sym is)).1).1
 
 -- ---- records
 
-pub records_behind : (words : ℕ → ℕ) (payload : ℕ) (front rest : List Segment) → AreRecords words payload (front ++ rest) → AreRecords words (payload_behind words payload front) rest
+pub records_behind : (words : ℕ → ℕ) (payload : ℕ) (front rest : List Segment) → AreRecords words payload (front ++ rest) →
+    AreRecords words (payload_behind words payload front) rest
 records_behind words payload [] rest h = h
 records_behind words payload (segment ∷ front) rest h = records_behind words (words (payload + 16)) front rest h.5
 
@@ -86,11 +87,13 @@ module _ {A : Type 0} {regions : A → List Grant} {word : A → ℕ → ℕ} {h
   run_told = subst (λ base. IsRun granted base (base + told.size)) (sym base_is)
       (subst (λ size. IsRun granted c.segment.base (c.segment.base + size)) (sym size_is) (whole_run around.sized around.part.run))
 
-  pub test_is : (takes : Bool) → (told.flags % 2 == 0 && (takes && (free_of (words (told.base + 8)) && size_of (words (told.base + 8)) == told.size - 80))) ≡ may_leave takes c.segment
+  pub test_is : (takes : Bool) → (told.flags % 2 == 0 && (takes && (free_of (words (told.base + 8)) && size_of
+      (words (told.base + 8)) == told.size - 80))) ≡ may_leave takes c.segment
   test_is takes = λ i. own_is i && (takes && unused i)
     where
       unused : (free_of (words (told.base + 8)) && size_of (words (told.base + 8)) == told.size - 80) ≡ is_unused c.segment
-      unused = (λ i. free_of (words (base_is i + 8)) && size_of (words (base_is i + 8)) == size_is i - 80) ∙ unused_told around.part (c.payload - 16) c.records.4
+      unused = (λ i. free_of (words (base_is i + 8)) && size_of (words (base_is i + 8)) == size_is i - 80)
+          ∙ unused_told around.part (c.payload - 16) c.records.4
 
   -- if it is unused, its first chunk is free
   pub first_is_free : is_unused c.segment ≡ true → IsFreeAt (state_of word heap) told.base (told.size - 80)
@@ -107,7 +110,8 @@ module _ {A : Type 0} {regions : A → List Grant} {word : A → ℕ → ℕ} {h
     where
       go : IsLinked words heap.next before c.payload c.front → c.payload ≡ payload_behind words heap.next c.front
       go (inl h) = h.2 ∙ sym (ap (payload_behind words heap.next) h.0)
-      go (inr l) = l.tells ∙ (ap (λ b. words (b + 16)) l.reached ∙ (sym (behind_more words heap.next l.first l.last) ∙ ap (payload_behind words heap.next) (sym l.is)))
+      go (inr l) = l.tells ∙ (ap (λ b. words (b + 16)) l.reached ∙ (sym (behind_more words heap.next l.first l.last)
+          ∙ ap (payload_behind words heap.next) (sym l.is)))
 
   -- the heap, whose victim is forgotten, or is not
   abbrev pub forgetful : Bool → Dlmalloc A

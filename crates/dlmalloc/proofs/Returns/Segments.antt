@@ -6,12 +6,15 @@ use Rattle.dlmalloc.proofs.Segments.WordsKept.{KeepsIts, IsOutside, one_stays}
 -- ---- regions without those of some segments
 
 -- nothing is granted that was not
-pub still_granted : (segments : List Segment) (regions : List Grant) (k : ℕ) → IsTrue (is_granted (regions_without segments regions) k) → IsTrue (is_granted regions k)
+pub still_granted : (segments : List Segment) (regions : List Grant) (k : ℕ) →
+    IsTrue (is_granted (regions_without segments regions) k) → IsTrue (is_granted regions k)
 still_granted [] regions k granted = granted
 still_granted (segment ∷ segments) regions k granted =
-    granted_before segment.base (segment.base + segment.size) regions k (still_granted segments (without_run segment.base (segment.base + segment.size) regions) k granted)
+    granted_before segment.base (segment.base + segment.size) regions k
+    (still_granted segments (without_run segment.base (segment.base + segment.size) regions) k granted)
 
-pub without_append : (front back : List Segment) (regions : List Grant) → regions_without (front ++ back) regions ≡ regions_without back (regions_without front regions)
+pub without_append : (front back : List Segment) (regions : List Grant) →
+    regions_without (front ++ back) regions ≡ regions_without back (regions_without front regions)
 without_append [] back regions = refl
 without_append (segment ∷ front) back regions = without_append front back (without_run segment.base (segment.base + segment.size) regions)
 
@@ -63,7 +66,8 @@ module _ {regions : List Grant} (gone : Segment) (run : IsFlaggedRun regions gon
   outside_same k out =
       let whole = (whole_run some run).whole in
       let same = granted_without gone.base gone.base (gone.base + gone.size) regions k whole (omega arith) (omega arith) in
-      let beside : (nat_le gone.base k && nat_lt k (gone.base + gone.size)) ≡ false = elim out [ inl below ↦ grind (arith, nat_tests) | inr above ↦ grind (arith, nat_tests) ] in
+      let beside : (nat_le gone.base k && nat_lt k (gone.base + gone.size)) ≡ false =
+      elim out [ inl below ↦ grind (arith, nat_tests) | inr above ↦ grind (arith, nat_tests) ] in
       same ∙ (ap (λ b. is_granted regions k && not b) beside ∙ and_true (is_granted regions k))
     where
       and_true : (b : Bool) → (b && true) ≡ b
@@ -75,9 +79,11 @@ module _ {regions : List Grant} (gone : Segment) (run : IsFlaggedRun regions gon
   word_stays {k} inside out = record { granted = subst IsTrue (sym (outside_same k out)) inside.granted; aligned = inside.aligned }
 
   -- a run that is apart stays one
-  pub run_stays : (segment : Segment) → IsApartFrom gone segment → IsFlaggedRun regions segment.base segment.size segment.flags → IsFlaggedRun after segment.base segment.size segment.flags
+  pub run_stays : (segment : Segment) → IsApartFrom gone segment → IsFlaggedRun regions segment.base segment.size
+      segment.flags → IsFlaggedRun after segment.base segment.size segment.flags
   run_stays segment apart other = record {
-    covered = λ k low high. subst IsTrue (sym (outside_same k (elim apart [ inl before ↦ inr (omega arith) | inr behind ↦ inl (omega arith) ]))) (other.covered k low high);
+    covered = λ k low high. subst IsTrue (sym (outside_same k (elim apart
+        [ inl before ↦ inr (omega arith) | inr behind ↦ inl (omega arith) ]))) (other.covered k low high);
     whole = all_shorter gone.base (gone.base + gone.size) segment.base (segment.base + segment.size) segment.flags regions other.whole;
   }
 
@@ -86,8 +92,17 @@ module _ {regions : List Grant} (gone : Segment) (run : IsFlaggedRun regions gon
       AllByRecursion (KeepsIts old new) segments → AreSegments after new segments
   apart_segments old new [] parts apart keeps = tt
   apart_segments old new (segment ∷ segments) parts apart keeps =
-      let is = one_stays regions old new parts.0 keeps.0 in
-      (record { run = run_stays segment apart.0 is.run; low = is.low; high = is.high; long = is.long; extents = is.extents; tail = is.tail }, apart_segments old new segments parts.1 apart.1 keeps.1)
+      let is = one_stays regions old new parts.0 keeps.0 in (
+        record {
+          run = run_stays segment apart.0 is.run;
+          low = is.low;
+          high = is.high;
+          long = is.long;
+          extents = is.extents;
+          tail = is.tail;
+        },
+        apart_segments old new segments parts.1 apart.1 keeps.1,
+      )
 
   -- they keep their words, if granted words stay
   pub apart_keeps : (old new : ℕ → ℕ) → ((k : ℕ) → IsWordOf after k → new k ≡ old k) → (segments : List Segment) →
@@ -109,7 +124,8 @@ pub bytes_filter : (is : Segment → Bool) (segments : List Segment) → bytes_o
 bytes_filter is [] = omega arith
 bytes_filter is (segment ∷ segments) = go (is segment) (bytes_filter is segments)
   where
-    go : (b : Bool) → bytes_of (filter is segments) ≤ bytes_of segments → bytes_of (cond b (segment ∷ filter is segments) (filter is segments)) ≤ segment.size + bytes_of segments
+    go : (b : Bool) → bytes_of (filter is segments) ≤ bytes_of segments →
+        bytes_of (cond b (segment ∷ filter is segments) (filter is segments)) ≤ segment.size + bytes_of segments
     go true rest = omega arith
     go false rest = omega arith
 
@@ -127,7 +143,11 @@ part_same k segment out = go (nat_lt (suc k) (segment.base + segment.size)) refl
   where
     go : (b : Bool) → nat_lt (suc k) (segment.base + segment.size) ≡ b → (c : Bool) → nat_lt k (segment.base + segment.size) ≡ c →
         (if b then suc k - segment.base else segment.size) ≡ (if c then k - segment.base else segment.size)
-    go true next true here = elim out [ inl below ↦ omega arith | inr above ↦ absurd (let t : k < segment.base + segment.size = grind (arith, nat_tests) in omega arith) ]
+    go true next true here = elim out [
+      | inl below ↦ omega arith
+      | inr above ↦ absurd
+          (let t : k < segment.base + segment.size = grind (arith, nat_tests) in omega arith)
+    ]
     go true next false here = absurd (let t : suc k < segment.base + segment.size = grind (arith, nat_tests) in
         let f : segment.base + segment.size ≤ k = grind (arith, nat_tests) in omega arith)
     go false next true here =
@@ -144,7 +164,8 @@ part_one k segment = go (nat_lt (suc k) (segment.base + segment.size)) refl (nat
     go true next true here = omega arith
     go true next false here = absurd (let t : suc k < segment.base + segment.size = grind (arith, nat_tests) in
         let f : segment.base + segment.size ≤ k = grind (arith, nat_tests) in omega arith)
-    go false next true here = (let f : segment.base + segment.size ≤ suc k = grind (arith, nat_tests) in let t : k < segment.base + segment.size = grind (arith, nat_tests) in omega arith)
+    go false next true here = (let f : segment.base + segment.size ≤ suc k = grind (arith, nat_tests) in
+        let t : k < segment.base + segment.size = grind (arith, nat_tests) in omega arith)
     go false next false here = omega arith
 
 bytes_same : (k : ℕ) (segment : Segment) (segments : List Segment) → segment.base ≤ k → k < segment.base + segment.size →
@@ -174,7 +195,8 @@ unfolding bytes_below part_below
 none_below [] = refl
 none_below (segment ∷ segments) = go (nat_lt zero (segment.base + segment.size)) refl (none_below segments)
   where
-    go : (b : Bool) → nat_lt zero (segment.base + segment.size) ≡ b → bytes_below zero segments ≡ 0 → (if b then zero - segment.base else segment.size) + bytes_below zero segments ≡ 0
+    go : (b : Bool) → nat_lt zero (segment.base + segment.size) ≡ b → bytes_below zero segments ≡ 0 →
+        (if b then zero - segment.base else segment.size) + bytes_below zero segments ≡ 0
     go true some rest = omega arith
     go false none rest = (let f : segment.base + segment.size ≤ zero = grind (arith, nat_tests) in omega arith)
 
@@ -182,7 +204,8 @@ below_most : (k : ℕ) (segments : List Segment) → AreApart segments → bytes
 below_most zero segments apart = omega (arith, none_below segments)
 below_most (suc k) segments apart = (let one = bytes_one k segments apart in let rest = below_most k segments apart in omega arith)
 
-all_below : (k : ℕ) (segments : List Segment) → AllByRecursion (λ segment. segment.base + segment.size ≤ k) segments → bytes_below k segments ≡ bytes_of segments
+all_below : (k : ℕ) (segments : List Segment) → AllByRecursion (λ segment. segment.base + segment.size ≤ k) segments →
+    bytes_below k segments ≡ bytes_of segments
 unfolding bytes_below part_below
 all_below k [] below = refl
 all_below k (segment ∷ segments) below =
@@ -191,7 +214,8 @@ all_below k (segment ∷ segments) below =
     rw here (omega arith)
 
 -- all bytes of segments that are apart are fewer than addresses
-pub bytes_few : (regions : List Grant) (words : ℕ → ℕ) (segments : List Segment) → AreSegments regions words segments → AreApart segments → bytes_of segments < 2 ^ 64
+pub bytes_few : (regions : List Grant) (words : ℕ → ℕ) (segments : List Segment) → AreSegments regions words segments →
+    AreApart segments → bytes_of segments < 2 ^ 64
 bytes_few regions words segments parts apart =
     let most = below_most (2 ^ 64 - 1) segments apart in
     let all = all_below (2 ^ 64 - 1) segments (ends segments parts) in
@@ -218,7 +242,11 @@ module _ {A : Type 0} (regions : A → List Grant) (word : A → ℕ → ℕ) (f
       AreGivenBack regions word follows second middle b new → AreGivenBack regions word follows (first ++ second) old (a + b) new
   given_on {first} {second} {old} middle new one two = record {
     bytes_are = (λ i. one.bytes_are i + two.bytes_are i) ∙ sym (bytes_append first second);
-    words = λ k inside. two.words k inside ∙ one.words k (record { granted = still_granted second (regions middle) k (subst (λ rs. IsTrue (is_granted rs k)) two.regions_are inside.granted); aligned = inside.aligned });
+    words = λ k inside. two.words k inside ∙ one.words k (record {
+      granted =
+          still_granted second (regions middle) k (subst (λ rs. IsTrue (is_granted rs k)) two.regions_are inside.granted);
+      aligned = inside.aligned;
+    });
     regions_are = two.regions_are ∙ (ap (regions_without second) one.regions_are ∙ sym (without_append first second (regions old)));
     followed = follows_on old middle new (releases first) (releases second) (releases (first ++ second)) one.followed two.followed
         (sym (map-append (λ segment. Released segment.base segment.size 0) first second));
@@ -226,7 +254,8 @@ module _ {A : Type 0} (regions : A → List Grant) (word : A → ℕ → ℕ) (f
 
   -- one that another describes is the same
   pub given_same : (told segment : Segment) (b : Bool) (old new : A) {bytes : ℕ} → told.base ≡ segment.base → told.size ≡ segment.size →
-      AreGivenBack regions word follows (if b then told ∷ [] else []) old bytes new → AreGivenBack regions word follows (if b then segment ∷ [] else []) old bytes new
+      AreGivenBack regions word follows (if b then told ∷ [] else []) old bytes new →
+      AreGivenBack regions word follows (if b then segment ∷ [] else []) old bytes new
   given_same told segment false old new base size given = given
   given_same told segment true old new base size given = record {
     bytes_are = given.bytes_are ∙ (λ i. size i + 0);

@@ -36,7 +36,10 @@ module _ {A : Type 0} {regions : A → List Grant} {word : A → ℕ → ℕ} {h
   low = top_low sound some
 
   head_run : IsFlaggedRun (regions heap.system) heap.base heap.size heap.flags
-  head_run = subst (λ f. IsFlaggedRun (regions heap.system) heap.base heap.size f) (sym was.flags) (subst (λ n. IsFlaggedRun (regions heap.system) heap.base n run.segment.flags) (sym was.size) (subst (λ b. IsFlaggedRun (regions heap.system) b run.segment.size run.segment.flags) (sym was.base) (top_part sound some).run))
+  head_run = subst (λ f. IsFlaggedRun (regions heap.system) heap.base heap.size f) (sym was.flags)
+      (subst (λ n. IsFlaggedRun (regions heap.system) heap.base n run.segment.flags) (sym was.size)
+      (subst (λ b. IsFlaggedRun (regions heap.system) b run.segment.size run.segment.flags) (sym was.base)
+      (top_part sound some).run))
 
   -- its bytes can be given back
   pub head_given : IsRun (regions heap.system) heap.base (heap.base + heap.size)
@@ -68,9 +71,11 @@ module _ {A : Type 0} {regions : A → List Grant} {word : A → ℕ → ℕ} {h
       top_still = still_word (heap.top + 8) (omega (arith, low)) (omega (arith, closes)) (omega (arith, top_whole sound some))
 
       pub foot_still : IsWordOf (regions system) (heap.base + (heap.size - less) - 72)
-      foot_still = still_word (heap.base + (heap.size - less) - 72) (omega (arith, closes, low)) (omega (arith, closes, low)) (omega (arith, end_whole sound some, within, closes, low))
+      foot_still = still_word (heap.base + (heap.size - less) - 72) (omega (arith, closes, low))
+          (omega (arith, closes, low)) (omega (arith, end_whole sound some, within, closes, low))
 
-      module _ (head : word system (heap.top + 8) ≡ heap.base + (heap.size - less) - 80 - heap.top + 1) (foot : word system (heap.base + (heap.size - less) - 72) ≡ 80)
+      module _ (head : word system (heap.top + 8) ≡ heap.base + (heap.size - less) - 80 - heap.top + 1)
+          (foot : word system (heap.base + (heap.size - less) - 72) ≡ 80)
           (kept : (k : ℕ) → IsWordOf (regions system) k → k ≢ heap.top + 8 → k ≢ heap.base + (heap.size - less) - 72 → word system k ≡ word heap.system k) where
         abbrev pub after : Dlmalloc A
         after = record heap { system = system; size = heap.size - less; top_size = heap.base + (heap.size - less) - 80 - heap.top; trim_check = trim_threshold }

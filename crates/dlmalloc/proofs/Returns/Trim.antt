@@ -14,7 +14,8 @@ use Rattle.dlmalloc.proofs.Returns.Segments.{still_granted}
 
 -- ---- the head segment stays
 
-module _ {A : Type 0} {regions : A → List Grant} {word : A → ℕ → ℕ} {heap : Dlmalloc A} (sound : IsSound regions word heap) (some : 0 < heap.size) (frees parts : Bool) where
+module _ {A : Type 0} {regions : A → List Grant} {word : A → ℕ → ℕ} {heap : Dlmalloc A} (sound : IsSound regions word heap)
+    (some : 0 < heap.size) (frees parts : Bool) where
   abbrev left : List Segment
   left = if frees then staying parts (segments_of word heap) else segments_of word heap
 
@@ -51,7 +52,8 @@ module _ {A : Type 0} (word : A → ℕ → ℕ) (heap : Dlmalloc A) (pad : ℕ)
   is_made small some = let test : nat_lt pad (limit heap.granularity) ≡ true = grind (arith, nat_tests) in (λ i. test i && has_segment some i)
 
   pub is_not_made : (limit heap.granularity ≤ pad) ⊎ (heap.size ≡ 0) → is_trimmed pad (state_of word heap) ≡ false
-  is_not_made (inl large) = let test : nat_lt pad (limit heap.granularity) ≡ false = grind (arith, nat_tests) in (λ i. test i && nat_lt 0 (length (segments_of word heap)))
+  is_not_made (inl large) = let test : nat_lt pad (limit heap.granularity) ≡ false = grind (arith, nat_tests) in
+      (λ i. test i && nat_lt 0 (length (segments_of word heap)))
   is_not_made (inr none) = let there : (heap.size == 0) ≡ true = grind (arith, nat_tests) in rw there (and_false (nat_lt pad (limit heap.granularity)) refl)
 
   -- then nothing is done
@@ -84,7 +86,8 @@ module _ {A : Type 0} {regions : A → List Grant} {word : A → ℕ → ℕ} {f
       ∙ after_cut_keeps (handed_out parts) (λ one other rest. refl) parts unit pad (state_of word old)
 
   -- whether bytes went back
-  pub answer : {cut_answer : Bool} → cut_answer ≡ is_cut parts unit pad (state_of word old) → (cut_answer || nat_lt 0 bytes) ≡ gives_back frees parts unit pad (state_of word old)
+  pub answer : {cut_answer : Bool} → cut_answer ≡ is_cut parts unit pad (state_of word old) →
+      (cut_answer || nat_lt 0 bytes) ≡ gives_back frees parts unit pad (state_of word old)
   answer is = λ i. is i || nat_lt 0 ((pass.bytes_are ∙ ap (λ ss. bytes_of (taken_back frees ss)) handed_same) i)
 
   state_after : state_of word after ≡ passed frees parts (after_cut parts unit pad (state_of word old))
@@ -105,9 +108,11 @@ module _ {A : Type 0} {regions : A → List Grant} {word : A → ℕ → ℕ} {f
     aligned = inside.aligned;
   }
 
-  module _ (check : ℕ) {gives : Bool} (answer_is : gives ≡ gives_back frees parts unit pad (state_of word old)) (sound : IsSound regions word (record after { trim_check = check }))
+  module _ (check : ℕ) {gives : Bool} (answer_is : gives ≡ gives_back frees parts unit pad (state_of word old))
+      (sound : IsSound regions word (record after { trim_check = check }))
       (state : state_of word (record after { trim_check = check }) ≡ (if gives then state_of word after else given_up (state_of word after)))
-      (followed : follows old.system (cut_off parts unit pad (state_of word old) ++ releases (taken_back frees (handed_out parts (segments_of word middle)))) after.system)
+      (followed : follows old.system (cut_off parts unit pad (state_of word old) ++ releases
+      (taken_back frees (handed_out parts (segments_of word middle)))) after.system)
       (index : IsReindexed regions word (after_trim frees parts pad (state_of word old)) old (record after { trim_check = check })) where
     pub is_done : IsTrimmed regions word follows frees parts unit old pad gives (record after { trim_check = check })
     is_done = record {
@@ -150,7 +155,10 @@ module _ {A : Type 0} {regions : A → List Grant} {word : A → ℕ → ℕ} {h
     victim = sound.victim;
   }
 
-  pub gave_up : 0 < heap.size → state_of word (record heap { trim_check = if nat_lt heap.trim_check heap.top_size then 2 ^ 64 - 1 else heap.trim_check }) ≡ given_up (state_of word heap)
+  pub gave_up : 0 < heap.size → state_of word (record heap {
+    trim_check =
+        if nat_lt heap.trim_check heap.top_size then 2 ^ 64 - 1 else heap.trim_check;
+  }) ≡ given_up (state_of word heap)
   gave_up some = go (nat_lt heap.trim_check heap.top_size) ∙ sym
       (ap (λ top. if nat_lt heap.trim_check top then record (state_of word heap) { trim_check = 2 ^ 64 - 1 } else state_of word heap) (top_size_is sound some))
     where
@@ -186,7 +194,8 @@ module _ {A : Type 0} {regions : A → List Grant} {word : A → ℕ → ℕ} {f
       (subst (λ b. IsPassed regions word follows (frees middle.system) b middle bytes after) same.parts_same given)
 
   abbrev events : List Event
-  events = cut_off (parts old.system) (unit old.system) pad (state_of word old) ++ releases (taken_back (frees old.system) (handed_out (parts old.system) (segments_of word middle)))
+  events = cut_off (parts old.system) (unit old.system) pad (state_of word old) ++ releases
+      (taken_back (frees old.system) (handed_out (parts old.system) (segments_of word middle)))
 
   joined : follows old.system events after.system
   joined = follows_on old.system middle.system after.system (cut_off (parts old.system) (unit old.system) pad (state_of word old))
@@ -205,7 +214,8 @@ module _ {A : Type 0} {regions : A → List Grant} {word : A → ℕ → ℕ} {f
             (frees old.system) (parts old.system) (segments_of word old) b.index else b.index) n) (is_made word old pad small some_old))))),
       )
 
-  pub trim_gave : (is_cut_off || nat_lt 0 bytes) ≡ true → IsTrimmed regions word follows (frees old.system) (parts old.system) (unit old.system) old pad true after
+  pub trim_gave : (is_cut_off || nat_lt 0 bytes) ≡ true → IsTrimmed regions word follows (frees old.system)
+      (parts old.system) (unit old.system) old pad true after
   trim_gave was = is_done (is_made word old pad small some_old) cut some pass
       after.trim_check (sym was ∙ (answer (is_made word old pad small some_old) cut some pass is)) pass.sound refl joined index_now
 

@@ -18,7 +18,8 @@ module _ {A : Type 0} {regions : A → List Grant} {word : A → ℕ → ℕ} {h
     where
       go : (b : Bool) → nat_lt (pad + 80) heap.top_size ≡ b → (if b then (heap.top_size - pad - 80 - 1) / heap.granularity * heap.granularity
           else 0) ≡ (heap.top_size - (pad + 81)) / heap.granularity * heap.granularity
-      go true more = let same : heap.top_size - pad - 80 - 1 ≡ heap.top_size - (pad + 81) = omega arith in ap (λ n. n / heap.granularity * heap.granularity) same
+      go true more = let same : heap.top_size - pad - 80 - 1 ≡ heap.top_size - (pad + 81) = omega arith in
+          ap (λ n. n / heap.granularity * heap.granularity) same
       go false few =
           let less : heap.top_size ≤ pad + 80 = grind (arith, nat_tests) in
           let none : heap.top_size - (pad + 81) ≡ 0 = omega arith in
@@ -37,7 +38,8 @@ module _ {A : Type 0} {regions : A → List Grant} {word : A → ℕ → ℕ} {h
 
   module _ (pad : ℕ) {cut : ℕ} (is : cut ≡ (heap.top_size - (pad + 81)) / heap.granularity * heap.granularity) where
     pub cut_whole : cut % 16 ≡ 0
-    cut_whole = ap (λ n. n % 16) is ∙ granularities_whole ((heap.top_size - (pad + 81)) / heap.granularity) heap.granularity sound.granularity.0 sound.granularity.1
+    cut_whole = ap (λ n. n % 16) is ∙ granularities_whole ((heap.top_size - (pad + 81)) / heap.granularity) heap.granularity
+        sound.granularity.0 sound.granularity.1
 
     pub cut_room : 0 < cut → cut + 80 < heap.top_size
     cut_room more = omega (arith, div-mul-le_self (heap.top_size - (pad + 81)) heap.granularity)
@@ -65,12 +67,15 @@ all_kept sound = record {
 
 module _ {A : Type 0} {regions : A → List Grant} {word : A → ℕ → ℕ} {follows : A → List Event → A → Type 0} {parts : Bool} {unit : ℕ} {heap : Dlmalloc A}
     {pad : ℕ} where
-  not_cut : IsSound regions word heap → follows heap.system [] heap.system → is_cut parts unit pad (state_of word heap) ≡ false → IsCutBack regions word follows parts unit heap pad heap
+  not_cut : IsSound regions word heap → follows heap.system [] heap.system →
+      is_cut parts unit pad (state_of word heap) ≡ false → IsCutBack regions word follows parts unit heap pad heap
   not_cut sound none isnt = record {
     state = sym (ap (λ b. if b then cut_top (cut_of (state_of word heap) pad) (state_of word heap) else state_of word heap) isnt);
     stays = all_kept sound;
-    regions_are = sym (ap (λ b. if b then without_end (cut_of (state_of word heap) pad) (segments_of word heap) (regions heap.system) else regions heap.system) isnt);
-    followed = subst (λ es. follows heap.system es heap.system) (sym (ap (λ b. if b then end_released (cut_of (state_of word heap) pad) (segments_of word heap) else []) isnt)) none;
+    regions_are = sym (ap (λ b. if b then without_end (cut_of (state_of word heap) pad) (segments_of word heap)
+        (regions heap.system) else regions heap.system) isnt);
+    followed = subst (λ es. follows heap.system es heap.system) (sym (ap
+        (λ b. if b then end_released (cut_of (state_of word heap) pad) (segments_of word heap) else []) isnt)) none;
   }
 
   was_cut : 0 < heap.size → is_cut parts unit pad (state_of word heap) ≡ true → (new : Dlmalloc A) →
@@ -87,7 +92,8 @@ module _ {A : Type 0} {regions : A → List Grant} {word : A → ℕ → ℕ} {f
       there : (heap.size == 0) ≡ false
       there = grind (arith, nat_tests)
 
-      head_end : (less : ℕ) (rs : List Grant) → without_end less (segments_of word heap) rs ≡ without_run (heap.base + (heap.size - less)) (heap.base + heap.size) rs
+      head_end : (less : ℕ) (rs : List Grant) → without_end less (segments_of word heap) rs ≡ without_run
+          (heap.base + (heap.size - less)) (heap.base + heap.size) rs
       head_end less rs = rw there refl
 
       head_event : (less : ℕ) → end_released less (segments_of word heap) ≡ Released heap.base heap.size (heap.size - less) ∷ []

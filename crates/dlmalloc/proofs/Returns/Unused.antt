@@ -80,7 +80,8 @@ module _ {regions : List Grant} {words : ℕ → ℕ} {segment : Segment} (part 
       go (chunk ∷ chunks) h are is =
           let same : extent segment.base (size_of (words (segment.base + 8))) (kind_of (words (segment.base + 8))) ≡ chunk =
           subst (λ a. extent a (size_of (words (a + 8))) (kind_of (words (a + 8))) ≡ chunk) h.0 (told are.0 h.1) in
-          let free : free_of (words (segment.base + 8)) ≡ is_free_below_top chunk.kind = sym (plain_told (free_of (words (segment.base + 8)))) ∙ ap (λ e. is_free_below_top e.kind) same in
+          let free : free_of (words (segment.base + 8)) ≡ is_free_below_top chunk.kind =
+          sym (plain_told (free_of (words (segment.base + 8)))) ∙ ap (λ e. is_free_below_top e.kind) same in
           let size : (size_of (words (segment.base + 8)) == segment.size - 80) ≡ (chunk.size + 80 == segment.size) =
           ap (λ e. e.size == segment.size - 80) same ∙ left_of chunk.size segment.size part.long in
           (λ i. free i && size i) ∙ sym (ap (λ es. is_unused (with_extents segment es)) is)

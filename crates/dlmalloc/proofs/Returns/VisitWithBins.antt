@@ -227,7 +227,8 @@ module _ {A : Type 0} {regions : A → List Grant} {word : A → ℕ → ℕ} {f
     where
       go : (b : Bool) → (told.base == old.victim) ≡ b → told.base ≢ new.victim
       go true test = λ is. absurd (let none : told.base ≡ 0 = is ∙ victim test in omega (arith, base_some))
-      go false test = λ is. (let yes : (told.base == old.victim) ≡ true = ap (λ b. b == old.victim) (is ∙ victim test) ∙ nat_same old.victim in let no = sym test ∙ yes in cc)
+      go false test = λ is. (let yes : (told.base == old.victim) ≡ true = ap (λ b. b == old.victim) (is ∙ victim test)
+          ∙ nat_same old.victim in let no = sym test ∙ yes in cc)
 
   -- the victim was that, or stays
   pub was_base : (k : ℕ) → k ≡ old.victim → k ≢ new.victim → k ≡ told.base
@@ -251,7 +252,8 @@ module _ (index_stays : IndexStays) {A : Type 0} {regions : A → List Grant} {w
     (words : (k : ℕ) → IsWordOf (regions new.system) k → (IsInRecord (state_of word old) k → ⊥) → word new.system k ≡ word old.system k)
     (bins : new.bins ≡ old.bins) where
   -- it stays, and is in no bin
-  abbrev pub loose_still : FreeMoves (state_of word old) (state_of word new) [] [] → IsBinnedBut (told.base ∷ []) regions word old → IsBinnedBut (told.base ∷ []) regions word new
+  abbrev pub loose_still : FreeMoves (state_of word old) (state_of word new) [] [] →
+      IsBinnedBut (told.base ∷ []) regions word old → IsBinnedBut (told.base ∷ []) regions word new
   loose_still moves = binned_moved index_stays sound visited.left.sound (λ k was is boundary tag tag'. words k is tag) bins {loose = told.base ∷ []}
       {loose' = told.base ∷ []} moves (record {
         gone = λ k none n free other. absurd none;
@@ -261,7 +263,8 @@ module _ (index_stays : IndexStays) {A : Type 0} {regions : A → List Grant} {w
       })
 
   -- it leaves, and the bins have all the others
-  abbrev pub binned_without : FreeMoves (state_of word old) (state_of word new) (told.base ∷ []) [] → IsBinnedBut (told.base ∷ []) regions word old → IsBinnedBut [] regions word new
+  abbrev pub binned_without : FreeMoves (state_of word old) (state_of word new) (told.base ∷ []) [] →
+      IsBinnedBut (told.base ∷ []) regions word old → IsBinnedBut [] regions word new
   binned_without moves = binned_moved index_stays sound visited.left.sound (λ k was is boundary tag tag'. words k is tag) bins {loose = told.base ∷ []}
       {loose' = []} moves (record {
         gone = λ k is n free other. is;

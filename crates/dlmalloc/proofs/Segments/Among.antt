@@ -13,7 +13,8 @@ extents_all segments = flat_map (λ segment. segment.extents) segments
 abbrev pub with_extents : Segment → List Extent → Segment
 with_extents segment extents = record { base = segment.base; size = segment.size; flags = segment.flags; extents = extents }
 
-pub all_among : (front : List Segment) (segment : Segment) (back : List Segment) → extents_all (front ++ segment ∷ back) ≡ extents_all front ++ (segment.extents ++ extents_all back)
+pub all_among : (front : List Segment) (segment : Segment) (back : List Segment) →
+    extents_all (front ++ segment ∷ back) ≡ extents_all front ++ (segment.extents ++ extents_all back)
 all_among front segment back = flat_map-append (λ s. s.extents) front (segment ∷ back)
 
 -- ---- one of some segments
@@ -54,11 +55,13 @@ located at (segment ∷ segments) there =
     ]
 
 -- what holds of all holds of it
-pub of_located : (Is : Segment → Type 0) {at : ℕ} {extent : Extent} {segments : List Segment} (l : Located at extent segments) → AllByRecursion Is segments → Is l.segment
+pub of_located : (Is : Segment → Type 0) {at : ℕ} {extent : Extent} {segments : List Segment}
+    (l : Located at extent segments) → AllByRecursion Is segments → Is l.segment
 of_located Is l all = all_at Is l.front l.segment l.back (subst (AllByRecursion Is) l.is all)
 
 -- and what one has, some have
-pub any_among : (test : Segment → Bool) (front : List Segment) (segment : Segment) (back : List Segment) → test segment ≡ true → list_any test (front ++ segment ∷ back) ≡ true
+pub any_among : (test : Segment → Bool) (front : List Segment) (segment : Segment) (back : List Segment) →
+    test segment ≡ true → list_any test (front ++ segment ∷ back) ≡ true
 any_among test [] segment back holds = rw holds refl
 any_among test (first ∷ front) segment back holds = go (test first) (any_among test front segment back holds)
   where
@@ -77,11 +80,13 @@ pub flip : (one : Segment) (others : List Segment) → AllByRecursion (λ other.
 flip one [] all = tt
 flip one (other ∷ others) all = (apart_back other one all.0, flip one others all.1)
 
-pub front_apart : (front : List Segment) (segment : Segment) (back : List Segment) → AreApart (front ++ segment ∷ back) → AllByRecursion (λ other. IsApartFrom other segment) front
+pub front_apart : (front : List Segment) (segment : Segment) (back : List Segment) → AreApart (front ++ segment ∷ back) →
+    AllByRecursion (λ other. IsApartFrom other segment) front
 front_apart [] segment back apart = tt
 front_apart (first ∷ front) segment back apart = (all_at (IsApartFrom first) front segment back apart.0, front_apart front segment back apart.1)
 
-pub back_apart : (front : List Segment) (segment : Segment) (back : List Segment) → AreApart (front ++ segment ∷ back) → AllByRecursion (λ other. IsApartFrom other segment) back
+pub back_apart : (front : List Segment) (segment : Segment) (back : List Segment) → AreApart (front ++ segment ∷ back) →
+    AllByRecursion (λ other. IsApartFrom other segment) back
 back_apart [] segment back apart = go back apart.0
   where
     go : (back : List Segment) → AllByRecursion (IsApartFrom segment) back → AllByRecursion (λ other. IsApartFrom other segment) back
@@ -113,11 +118,13 @@ distinct_append words before from [] to others h none distinct = distinct
 distinct_append words before from (extent ∷ extents) to others h none distinct =
     let long = (sized extent.kind extent.size h.1.size).1 in let place = h.0 in
     let later = tiles_le words extent.kind (from + extent.size) extents to h.2 in (
-      found_later extent.at extents others (none_outside words extent.kind (from + extent.size) extents to extent.at (inl (omega arith)) h.2) ∙ none extent.at (omega arith) (omega arith),
+      found_later extent.at extents others (none_outside words extent.kind (from + extent.size) extents to extent.at
+          (inl (omega arith)) h.2) ∙ none extent.at (omega arith) (omega arith),
       distinct_append words extent.kind (from + extent.size) extents to others h.2 (λ k low high. none k (omega arith) high) distinct,
     )
 
-pub all_distinct : (regions : List Grant) (words : ℕ → ℕ) (segments : List Segment) → AreSegments regions words segments → AreApart segments → AreDistinct (extents_all segments)
+pub all_distinct : (regions : List Grant) (words : ℕ → ℕ) (segments : List Segment) → AreSegments regions words segments →
+    AreApart segments → AreDistinct (extents_all segments)
 all_distinct regions words [] parts apart = tt
 all_distinct regions words (segment ∷ segments) parts apart =
     distinct_append words Used segment.base segment.extents (segment.base + segment.size) (extents_all segments) parts.0.extents

@@ -36,7 +36,8 @@ pub record Exchange {A : Type 0} (regions : A → List Grant) (word : A → ℕ 
   pub were : extents_in (state_of word heap) ≡ first ++ (less ++ last)
   pub are : extents_all now ≡ ahead ++ (first ++ (more ++ last))
 
-module _ {A : Type 0} {regions : A → List Grant} {word : A → ℕ → ℕ} {heap new : Dlmalloc A} (sound : IsSound regions word heap) (it : Exchange regions word heap new) where
+module _ {A : Type 0} {regions : A → List Grant} {word : A → ℕ → ℕ} {heap new : Dlmalloc A}
+    (sound : IsSound regions word heap) (it : Exchange regions word heap new) where
   pub exchanged_read : segments_of word new ≡ it.now
   exchanged_read = segments_read (regions new.system) word new it.now it.parts it.told
       (let n = few (regions new.system) (word new.system) it.now it.parts it.apart in omega arith)
@@ -54,7 +55,8 @@ module _ {A : Type 0} {regions : A → List Grant} {word : A → ℕ → ℕ} {h
   distinct_rest = distinct_second it.ahead (it.first ++ (it.more ++ it.last)) distinct_all
 
   -- what is found after those ahead is found
-  pub exchanged_found : (k : ℕ) {one : Extent} → extent_at k (it.first ++ (it.more ++ it.last)) ≡ Some one → extent_at k (extents_in (state_of word new)) ≡ Some one
+  pub exchanged_found : (k : ℕ) {one : Extent} → extent_at k (it.first ++ (it.more ++ it.last)) ≡ Some one →
+      extent_at k (extents_in (state_of word new)) ≡ Some one
   exchanged_found k there = ap (extent_at k) extents_now ∙ distinct_later it.ahead (it.first ++ (it.more ++ it.last)) k distinct_all there
 
   -- what came is found
@@ -85,7 +87,11 @@ module _ {A : Type 0} {regions : A → List Grant} {word : A → ℕ → ℕ} {h
   kind_was {kind} ahead more is k there = exchanged_was k (none_of kind it.ahead k ahead is) (none_of kind it.more k more is) there
 
   pub exchanged_used : HasNo Used it.less → HasNo Used it.ahead → HasNo Used it.more → HasSameUsed (state_of word heap) (state_of word new)
-  exchanged_used less ahead more = record { still = λ used is there. kind_still less is used.at there; before = λ used is there. kind_was ahead more is used.at there }
+  exchanged_used less ahead more = record {
+    still = λ used is there. kind_still less is used.at there;
+    before =
+        λ used is there. kind_was ahead more is used.at there;
+  }
 
   -- free ones go at some addresses and come at others
   pub exchanged_free : HasNo Free it.ahead → (gone come : List ℕ) → ((k size : ℕ) → extent_at k it.less ≡ Some (extent k size Free) →
@@ -125,5 +131,6 @@ module _ {A : Type 0} {regions : A → List Grant} {word : A → ℕ → ℕ} {h
   -- so it is, if no free extent gave way and the victim is the same
   pub exchanged_sound : HasNo Free it.less → new.victim ≡ heap.victim → new.victim_size ≡ heap.victim_size → IsSound regions word new
   exchanged_sound less victim victim_size = sound_as (λ none. victim ∙ sound.no_victim (sym victim_size ∙ none))
-      (λ there. ap (λ v. extent_at v (extents_in (state_of word new))) victim ∙ (kind_still {kind = Free} less {one = extent heap.victim heap.victim_size Free} refl
+      (λ there. ap (λ v. extent_at v (extents_in (state_of word new))) victim
+      ∙ (kind_still {kind = Free} less {one = extent heap.victim heap.victim_size Free} refl
       heap.victim (sound.victim (λ none. there (victim_size ∙ none))) ∙ (λ i. Some (extent ((sym victim) i) ((sym victim_size) i) Free))))

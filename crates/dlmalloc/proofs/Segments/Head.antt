@@ -46,7 +46,8 @@ first_counted frees parts heap at = count (is_counted heap at) (nat_le heap.coun
     stays [] = (refl, refl)
     stays (head ∷ rest) = (refl, refl)
 
-    count : (a b frees : Bool) → HasSameFirst (if a then (if b then passed frees parts heap else record heap { countdown = heap.countdown - 1 }) else heap).segments heap.segments
+    count : (a b frees : Bool) → HasSameFirst (if a then (if b then passed frees parts heap
+        else record heap { countdown = heap.countdown - 1 }) else heap).segments heap.segments
     count true true true = stays heap.segments
     count a b frees = (refl, refl)
 
@@ -72,7 +73,8 @@ module _ {A : Type 0} {regions : A → List Grant} {word : A → ℕ → ℕ} {h
   pub first_told : (heap.size ≡ first_size (segments_of word heap)) × (0 < heap.size → heap.base ≡ first_base (segments_of word heap))
   first_told = go (segments_of word heap) sound.told
     where
-      go : (segments : List Segment) → AreTold (word heap.system) heap segments → (heap.size ≡ first_size segments) × (0 < heap.size → heap.base ≡ first_base segments)
+      go : (segments : List Segment) → AreTold (word heap.system) heap segments →
+          (heap.size ≡ first_size segments) × (0 < heap.size → heap.base ≡ first_base segments)
       go [] told = (told, λ some. omega arith)
       go (segment ∷ segments) told = (told.2, λ some. told.1)
 
@@ -99,11 +101,13 @@ module _ {A : Type 0} {regions : A → List Grant} {word : A → ℕ → ℕ} {h
     pub beside_top : {used : Extent} → used.kind ≡ Used → extent_at used.at (extents_in (state_of word heap)) ≡ Some used →
         (used.at + used.size ≤ heap.top) ⊎ (heap.base + heap.size ≤ used.at)
     beside_top {used} is there =
-        elim (used_apart regions word heap sound used (extent heap.top heap.top_size Top) there top (λ same. no_top (kind_of (extent heap.top heap.top_size Top) same top))) [
+        elim (used_apart regions word heap sound used (extent heap.top heap.top_size Top) there top
+        (λ same. no_top (kind_of (extent heap.top heap.top_size Top) same top))) [
           | inl before ↦ inl before
           | inr behind ↦ elim (used_apart regions word heap sound used (extent (heap.top + heap.top_size) 80 Foot) there foot
               (λ same. no_foot (kind_of (extent (heap.top + heap.top_size) 80 Foot) same foot))) [
-                | inl less ↦ (let low : heap.top + heap.top_size ≤ used.at = behind in let high : used.at + used.size ≤ heap.top + heap.top_size = less in absurd (omega (arith, long)))
+                | inl less ↦ (let low : heap.top + heap.top_size ≤ used.at = behind in
+                    let high : used.at + used.size ≤ heap.top + heap.top_size = less in absurd (omega (arith, long)))
                 | inr more ↦ (let low : heap.top + heap.top_size + 80 ≤ used.at = more in inr (omega (arith, ends sound some)))
               ]
         ]

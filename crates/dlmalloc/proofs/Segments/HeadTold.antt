@@ -64,5 +64,6 @@ told_same {words} heap new {segment} {extents} changed next (first ∷ front) ba
 -- the fields describe the first of the segments
 pub head_is : {A : Type 0} (word : A → ℕ → ℕ) (heap : Dlmalloc A) (front : List Segment) (segment : Segment) (back : List Segment) → front ≡ [] →
     segments_of word heap ≡ front ++ segment ∷ back → AreTold (word heap.system) heap (segments_of word heap) → IsHead heap segment
-head_is word heap [] segment back none is told = let h = subst (AreTold (word heap.system) heap) is told in record { some = h.0; base = h.1; size = h.2; flags = h.3; top = h.4 }
+head_is word heap [] segment back none is told = let h = subst (AreTold (word heap.system) heap) is told in
+    record { some = h.0; base = h.1; size = h.2; flags = h.3; top = h.4 }
 head_is word heap (first ∷ front) segment back none is told = absurd (cc)

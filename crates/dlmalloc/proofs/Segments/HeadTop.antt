@@ -15,10 +15,12 @@ pub no_segments : {A : Type 0} (word : A → ℕ → ℕ) (heap : Dlmalloc A) �
 no_segments word heap none = let test : (heap.size == 0) ≡ true = grind (arith, nat_tests) in rw test refl
 
 -- if an extent is found, there is one
-pub some_segment : {A : Type 0} (word : A → ℕ → ℕ) (heap : Dlmalloc A) (k : ℕ) {one : Extent} → extent_at k (extents_all (segments_of word heap)) ≡ Some one → 0 < heap.size
+pub some_segment : {A : Type 0} (word : A → ℕ → ℕ) (heap : Dlmalloc A) (k : ℕ) {one : Extent} →
+    extent_at k (extents_all (segments_of word heap)) ≡ Some one → 0 < heap.size
 some_segment word heap k {one} there = elim (dec_lt 0 heap.size) [
   | yes some ↦ some
-  | no none ↦ absurd (let gone : extent_at k [] ≡ Some one = ap (λ segments. extent_at k (extents_all segments)) (sym (no_segments word heap (omega arith))) ∙ there in cc)
+  | no none ↦ absurd (let gone : extent_at k [] ≡ Some one = ap (λ segments. extent_at k (extents_all segments))
+      (sym (no_segments word heap (omega arith))) ∙ there in cc)
 ]
 
 -- a top and its foot, as their heads describe them
@@ -58,7 +60,8 @@ module _ {A : Type 0} {regions : A → List Grant} {word : A → ℕ → ℕ} {h
   pub top_segment : IsHead heap top_run.segment
   top_segment = head_is word heap top_run.front top_run.segment top_run.back top_front top_run.is sound.told
 
-  pub top_last : (top_run.last ≡ extent (top_run.segment.base + top_run.segment.size - 80) 80 Foot ∷ []) × (heap.top + heap.top_size + 80 ≡ top_run.segment.base + top_run.segment.size)
+  pub top_last : (top_run.last ≡ extent (top_run.segment.base + top_run.segment.size - 80) 80
+      Foot ∷ []) × (heap.top + heap.top_size + 80 ≡ top_run.segment.base + top_run.segment.size)
   top_last = behind_top (word heap.system) (heap.top + heap.top_size) top_run.last (top_run.segment.base + top_run.segment.size) top_run.last_stand
       (run_tail (regions heap.system) sound.segments top_run)
 
@@ -146,7 +149,11 @@ module _ {A : Type 0} {regions : A → List Grant} {word : A → ℕ → ℕ} {h
 
   -- a word of the head segment
   pub head_word : (k : ℕ) → heap.base ≤ k → k < heap.base + heap.size → k % 8 ≡ 0 → IsWordOf (regions heap.system) k
-  head_word k low high m = record { granted = top_part.run.covered k (omega (arith, top_segment.base)) (omega (arith, top_segment.base, top_segment.size)); aligned = m }
+  head_word k low high m = record {
+    granted = top_part.run.covered k (omega (arith, top_segment.base))
+        (omega (arith, top_segment.base, top_segment.size));
+    aligned = m;
+  }
 
   pub end_whole : (heap.base + heap.size) % 16 ≡ 0
   end_whole = omega (arith, ends, top_whole, top_sizes.0)

@@ -12,7 +12,8 @@ use Rattle.dlmalloc.proofs.Segments.WordsKept.{KeepsIts, segment_kept}
 pub record IsChanged (regions regions' : List Grant) (old new : ℕ → ℕ) (segment segment' : Segment) : Type 0 where
   pub now : IsSegment regions' new segment'
   pub kept : (k : ℕ) → IsWordOf regions k → AllSpare segment'.extents k → new k ≡ old k
-  pub others : (other : Segment) → IsSegment regions old other → IsApartFrom other segment → IsFlaggedRun regions' other.base other.size other.flags × IsApartFrom other segment'
+  pub others : (other : Segment) → IsSegment regions old other → IsApartFrom other segment →
+      IsFlaggedRun regions' other.base other.size other.flags × IsApartFrom other segment'
   pub records : (at : ℕ) → extent_at at segment.extents ≡ Some (record_of at (segment.base + segment.size)) →
       (segment'.base ≡ segment.base) × (segment'.size ≡ segment.size) × (segment'.flags ≡ segment.flags)
       × (extent_at at segment'.extents ≡ Some (record_of at (segment.base + segment.size)))
@@ -47,13 +48,22 @@ module _ {regions regions' : List Grant} {old new : ℕ → ℕ} {segment segmen
   pub segments_after : (front back : List Segment) → AreApart (front ++ segment ∷ back) → AreSegments regions old (front ++ segment ∷ back) →
       AreSegments regions' new (front ++ segment' ∷ back)
   segments_after [] back apart parts = (changed.now, behind_kept back apart.0 parts.1)
-  segments_after (other ∷ front) back apart parts = (other_kept (all_at (IsApartFrom other) front segment back apart.0) parts.0, segments_after front back apart.1 parts.1)
+  segments_after (other ∷ front) back apart parts = (
+    other_kept (all_at (IsApartFrom other) front segment back apart.0)
+        parts.0,
+    segments_after front back apart.1 parts.1,
+  )
 
   behind_apart : (back : List Segment) → AllByRecursion (IsApartFrom segment) back → AreSegments regions old back → AllByRecursion (IsApartFrom segment') back
   behind_apart [] apart parts = tt
-  behind_apart (other ∷ back) apart parts = (apart_back other segment' (changed.others other parts.0 (apart_back segment other apart.0)).1, behind_apart back apart.1 parts.1)
+  behind_apart (other ∷ back) apart parts = (
+    apart_back other segment'
+        (changed.others other parts.0 (apart_back segment other apart.0)).1,
+    behind_apart back apart.1 parts.1,
+  )
 
-  pub apart_after : (front back : List Segment) → AreApart (front ++ segment ∷ back) → AreSegments regions old (front ++ segment ∷ back) → AreApart (front ++ segment' ∷ back)
+  pub apart_after : (front back : List Segment) → AreApart (front ++ segment ∷ back) →
+      AreSegments regions old (front ++ segment ∷ back) → AreApart (front ++ segment' ∷ back)
   apart_after [] back apart parts = (behind_apart back apart.0 parts.1, apart.1)
   apart_after (other ∷ front) back apart parts = (
     all_with (IsApartFrom other) front segment segment' back

@@ -11,11 +11,13 @@ all_without low high Is Now each (region ∷ regions) all = go (begins_in low hi
     others : List Grant
     others = filter (λ r. not (begins_in low high r)) regions
 
-    go : (b : Bool) → begins_in low high region ≡ b → AllByRecursion Now (without_run low high regions) → AllByRecursion Now (map (λ r. up_to low r) (cond (not b) (region ∷ others) others))
+    go : (b : Bool) → begins_in low high region ≡ b → AllByRecursion Now (without_run low high regions) →
+        AllByRecursion Now (map (λ r. up_to low r) (cond (not b) (region ∷ others) others))
     go true leaves rest = rest
     go false stays rest = (each region all.0 stays, rest)
 
-all_both : (Is And : Grant → Type 0) (regions : List Grant) → AllByRecursion Is regions → AllByRecursion And regions → AllByRecursion (λ region. Is region × And region) regions
+all_both : (Is And : Grant → Type 0) (regions : List Grant) → AllByRecursion Is regions → AllByRecursion And regions →
+    AllByRecursion (λ region. Is region × And region) regions
 all_both Is And [] one two = tt
 all_both Is And (region ∷ regions) one two = ((one.0, two.0), all_both Is And regions one.1 two.1)
 

@@ -10,7 +10,8 @@ word_kept grant {old} with_it {k} inside = record {
 }
 
 -- a word of the grant is granted
-pub word_new : (grant : Grant) (old : List Grant) {new : List Grant} → new ≡ with_grant grant old → (k : ℕ) → grant.base ≤ k → k < grant.base + grant.size → k % 8 ≡ 0 → IsWordOf new k
+pub word_new : (grant : Grant) (old : List Grant) {new : List Grant} → new ≡ with_grant grant old → (k : ℕ) →
+    grant.base ≤ k → k < grant.base + grant.size → k % 8 ≡ 0 → IsWordOf new k
 word_new grant old with_it k low high multiple = record {
   granted = subst (λ rs. IsTrue (is_granted rs k)) (sym with_it) (granted_new grant old k low high);
   aligned = multiple;
@@ -45,20 +46,24 @@ with_other grant {regions} same = (let more = longer regions in let as_many = ap
 -- and they say which one it is
 pub one_more : (grant other : Grant) (regions : List Grant) → with_grant grant regions ≡ with_grant other regions → grant ≡ other
 one_more grant other [] same = cc
-one_more grant other (region ∷ regions) same = go (nat_lt grant.base region.base) refl (nat_lt other.base region.base) refl same (λ rest. one_more grant other regions rest)
+one_more grant other (region ∷ regions) same = go (nat_lt grant.base region.base) refl (nat_lt other.base region.base) refl
+    same (λ rest. one_more grant other regions rest)
   where
     go : (a : Bool) → nat_lt grant.base region.base ≡ a → (b : Bool) → nat_lt other.base region.base ≡ b → (if a then grant ∷ region ∷ regions
         else region ∷ with_grant grant regions) ≡ (if b then other ∷ region ∷ regions else region ∷ with_grant other regions) →
         (with_grant grant regions ≡ with_grant other regions → grant ≡ other) → grant ≡ other
     go true first true second same rest = cc
-    go true first false second same rest = absurd (let is : grant ≡ region = cc in let place : grant.base ≡ region.base = ap (λ g. g.base) is in grind (arith, nat_tests))
-    go false first true second same rest = absurd (let is : region ≡ other = cc in let place : region.base ≡ other.base = ap (λ g. g.base) is in grind (arith, nat_tests))
+    go true first false second same rest = absurd (let is : grant ≡ region = cc in let place : grant.base ≡ region.base =
+        ap (λ g. g.base) is in grind (arith, nat_tests))
+    go false first true second same rest = absurd (let is : region ≡ other = cc in let place : region.base ≡ other.base =
+        ap (λ g. g.base) is in grind (arith, nat_tests))
     go false first false second same rest = rest (cc)
 
 -- ---- runs of regions
 
 -- no byte of regions apart from a range is one of it
-pub none_granted : (low high : ℕ) (regions : List Grant) → AllByRecursion (IsApart low high) regions → (k : ℕ) → low ≤ k → k < high → IsTrue (is_granted regions k) → ⊥
+pub none_granted : (low high : ℕ) (regions : List Grant) → AllByRecursion (IsApart low high) regions → (k : ℕ) → low ≤ k →
+    k < high → IsTrue (is_granted regions k) → ⊥
 none_granted low high [] apart k above below granted = cc
 none_granted low high (region ∷ regions) apart k above below granted =
     none_granted low high regions apart.1 k above below (elim apart.0 [ inl before ↦ grind (arith, nat_tests) | inr behind ↦ grind (arith, nat_tests) ])
@@ -70,7 +75,8 @@ run_apart {regions} {base} {size} run some grant more apart =
     elim (dec_lt base (grant.base + grant.size)) [
       | yes before ↦ elim (dec_lt grant.base (base + size)) [
         | yes meets ↦ absurd (elim (dec_lt base grant.base) [
-          | yes later ↦ none_granted grant.base (grant.base + grant.size) regions apart grant.base (omega arith) (omega arith) (run.covered grant.base (omega arith) meets)
+          | yes later ↦ none_granted grant.base (grant.base + grant.size) regions apart grant.base (omega arith)
+              (omega arith) (run.covered grant.base (omega arith) meets)
           | no sooner ↦ none_granted grant.base (grant.base + grant.size) regions apart base (omega arith) before (run.covered base (omega arith) (omega arith))
         ])
         | no behind ↦ inr (omega arith)

@@ -150,7 +150,8 @@ module _ {A : Type 0} {regions : A → List Grant} {word : A → ℕ → ℕ} {h
       }
 
       -- its extents
-      pub extents_told : segment.extents ≡ chunks_between words (words payload) (payload - 16) ++ record_of (payload - 16) (words payload + words (payload + 8)) ∷ []
+      pub extents_told : segment.extents ≡ chunks_between words (words payload) (payload - 16) ++ record_of (payload - 16)
+          (words payload + words (payload + 8)) ∷ []
       extents_told = tail_there.is ∙ (λ i. chunks_between words ((sym ahead_segment.base) i) (payload - 16) ++ record_of (payload - 16)
           ((sym ahead_segment.base) i + (sym ahead_segment.size) i) ∷ [])
 

@@ -20,7 +20,8 @@ segment_kept old new {segment} part run same = record {
   low = part.low;
   high = part.high;
   long = part.long;
-  extents = tiles_kept old new Used segment.base segment.extents (segment.base + segment.size) part.extents (λ k low high m free. same k low (within k high free) m);
+  extents = tiles_kept old new Used segment.base segment.extents (segment.base + segment.size) part.extents
+      (λ k low high m free. same k low (within k high free) m);
   tail = part.tail;
 }
   where

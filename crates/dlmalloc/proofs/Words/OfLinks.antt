@@ -57,7 +57,8 @@ module _ {A : Type 0} {regions : A → List Grant} {word : A → ℕ → ℕ} {h
   no_boundary k low high b = elim (same_or_beside b.there) [
     | inl same ↦ (let place : b.extent.at ≡ at = ap (λ e. e.at) same in let long : b.extent.size ≡ size = ap (λ e. e.size) same in
         elim (b.is) [ inl head ↦ omega arith | inr end ↦ (let e = end.1 in omega arith) ])
-    | inr apart ↦ (let long = (sized b.extent.kind b.extent.size (stands_there (regions heap.system) (word heap.system) (segments_of word heap) sound.segments b.there).1.size).1 in
+    | inr apart ↦ (let long = (sized b.extent.kind b.extent.size (stands_there (regions heap.system) (word heap.system)
+        (segments_of word heap) sound.segments b.there).1.size).1 in
         elim apart [
           | inl before ↦ elim (b.is) [ inl head ↦ omega arith | inr end ↦ (let e = end.1 in omega arith) ]
           | inr behind ↦ elim (b.is) [ inl head ↦ omega arith | inr end ↦ (let e = end.1 in omega arith) ]
@@ -89,7 +90,8 @@ pub only_free : {regions : List Grant} {words : ℕ → ℕ} (heap : HeapState) 
     (old new : ℕ → ℕ) → AreChunks regions words index → ((at n : ℕ) → IsIn at (index n) → IsFreeAt heap at n) → IsFreeAt heap chunk size →
     32 ≤ size → OnlyLinksChange regions index size chunk old new → OnlyFreeChange regions heap old new
 only_free heap {size} chunk old new chunks held free long links k granted out =
-    links k granted (no_link size chunk k long (out chunk size free)) (λ n other is. no_link n other k (chunks.each n other is).long (out other n (held other n is)))
+    links k granted (no_link size chunk k long (out chunk size free)) (λ n other is.
+    no_link n other k (chunks.each n other is).long (out other n (held other n is)))
 
 -- ---- the heap moves
 
@@ -115,5 +117,6 @@ kept regions word old new sound sound' others index was is = record {
         elim (dec_lt k (chunk + 16)) [
           | yes head ↦ (let place : k ≡ chunk + 8 = omega arith in
               ap (word new.system) place ∙ (free_head sound' after ∙ (sym (free_head sound before) ∙ ap (word old.system) (sym place))))
-          | no beyond ↦ others k inside (c.granted k low high m) (no_boundary sound' after k (omega arith) high) (no_record sound before k low high) (no_record sound' after k low high)
+          | no beyond ↦ others k inside (c.granted k low high m) (no_boundary sound' after k (omega arith) high)
+              (no_record sound before k low high) (no_record sound' after k low high)
         ]

@@ -54,11 +54,13 @@ module _ {regions : List Grant} {old : ℕ → ℕ} {segment : Segment} (part : 
   payload_word k low high m = record { granted = part.run.covered k (omega (arith, payload_low)) (omega (arith, payload_high)); aligned = m }
 
   -- and the segment is still one, if others stay
-  module _ (new : ℕ → ℕ) (kept : (k : ℕ) → segment.base < k → k < segment.base + segment.size → k % 8 ≡ 0 → (k < payload) ⊎ (payload + 32 ≤ k) → new k ≡ old k) where
+  module _ (new : ℕ → ℕ) (kept : (k : ℕ) → segment.base < k → k < segment.base + segment.size → k % 8 ≡ 0 →
+      (k < payload) ⊎ (payload + 32 ≤ k) → new k ≡ old k) where
     pub recorded_tiles : Tiles new Used segment.base segment.extents (segment.base + segment.size)
     recorded_tiles =
         let f = found (payload - 16) (record_of (payload - 16) end) segment.extents there in
-        let s = tiles_split old Used segment.base f.front (record_of (payload - 16) end ∷ f.back) end (subst (λ es. Tiles old Used segment.base es end) f.is part.extents) in
+        let s = tiles_split old Used segment.base f.front (record_of (payload - 16) end ∷ f.back) end
+        (subst (λ es. Tiles old Used segment.base es end) f.is part.extents) in
         let at : payload - 16 ≡ s.middle = s.second.0 in
         let low = tiles_le old Used segment.base f.front s.middle s.first in
         let last = nothing old Record (s.middle + (end - (payload - 16))) f.back end refl s.second.2 in

@@ -10,7 +10,8 @@ spared Free at size k head foot = (head, foot refl)
 spared Victim at size k head foot = (head, foot refl)
 spared kind at size k head foot = head
 
-pub spared_before : (words : ℕ → ℕ) (before : Kind) (from : ℕ) (extents : List Extent) (to k : ℕ) → Tiles words before from extents to → k < from + 8 → AllSpare extents k
+pub spared_before : (words : ℕ → ℕ) (before : Kind) (from : ℕ) (extents : List Extent) (to k : ℕ) →
+    Tiles words before from extents to → k < from + 8 → AllSpare extents k
 spared_before words before from [] to k h low = tt
 spared_before words before from (extent ∷ extents) to k h low =
     let place = h.0 in let long = (sized extent.kind extent.size h.1.size).1 in (
@@ -18,7 +19,8 @@ spared_before words before from (extent ∷ extents) to k h low =
       spared_before words extent.kind (from + extent.size) extents to k h.2 (omega arith),
     )
 
-pub spared_behind : (words : ℕ → ℕ) (before : Kind) (from : ℕ) (extents : List Extent) (to k : ℕ) → Tiles words before from extents to → to < k → AllSpare extents k
+pub spared_behind : (words : ℕ → ℕ) (before : Kind) (from : ℕ) (extents : List Extent) (to k : ℕ) →
+    Tiles words before from extents to → to < k → AllSpare extents k
 spared_behind words before from [] to k h high = tt
 spared_behind words before from (extent ∷ extents) to k h high =
     let place = h.0 in let long = (sized extent.kind extent.size h.1.size).1 in

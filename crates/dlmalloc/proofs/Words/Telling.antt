@@ -14,7 +14,8 @@ IsTelling k one = (one.at < k) × (k ≤ one.at + one.size) × (k % 8 ≡ 0) × 
     × (k ≡ one.at + one.size → IsTrue (is_free_below_top one.kind))
 
 -- an extent rests on the words that describe it
-stands_told : {words : ℕ → ℕ} (words' : ℕ → ℕ) {before : Kind} (one : Extent) → HasChunk words before one → ((k : ℕ) → IsTelling k one → words' k ≡ words k) → HasChunk words' before one
+stands_told : {words : ℕ → ℕ} (words' : ℕ → ℕ) {before : Kind} (one : Extent) → HasChunk words before one →
+    ((k : ℕ) → IsTelling k one → words' k ≡ words k) → HasChunk words' before one
 stands_told words' one h same =
     let s = sized one.kind one.size h.size in
     let whole = h.whole in let size = s.0 in let long = s.1 in
@@ -33,7 +34,8 @@ tiles_told words words' before from [] to h distinct same = h
 tiles_told words words' before from (first ∷ extents) to h distinct same = (
   h.0,
   stands_told words' first h.1 (same first (found_here first extents)),
-  tiles_told words words' first.kind (from + first.size) extents to h.2 distinct.1 (λ one there. same one (distinct_later (first ∷ []) extents one.at distinct there)),
+  tiles_told words words' first.kind (from + first.size) extents to h.2 distinct.1
+      (λ one there. same one (distinct_later (first ∷ []) extents one.at distinct there)),
 )
 
 -- a segment has its bytes
@@ -45,8 +47,11 @@ has_its segment k low high =
 
 -- Each segment is still a run, and the words that describe the extents stay. The bins do not matter.
 module _ {A : Type 0} {regions : A → List Grant} {word : A → ℕ → ℕ} {heap : Dlmalloc A} (sound : IsSound regions word heap) (system : A) (bins : Bins)
-    (stay : AllByRecursion (λ (segment : Segment). IsFlaggedRun (regions heap.system) segment.base segment.size segment.flags → IsFlaggedRun (regions system) segment.base segment.size segment.flags) (segments_of word heap))
-    (same : (one : Extent) → extent_at one.at (extents_in (state_of word heap)) ≡ Some one → (k : ℕ) → IsTelling k one → IsWordOf (regions heap.system) k → IsTrue (list_any (has_byte_in k) (segments_of word heap)) → word system k ≡ word heap.system k) where
+    (stay : AllByRecursion (λ (segment : Segment). IsFlaggedRun (regions heap.system) segment.base segment.size
+    segment.flags → IsFlaggedRun (regions system) segment.base segment.size segment.flags) (segments_of word heap))
+    (same : (one : Extent) → extent_at one.at (extents_in (state_of word heap)) ≡ Some one → (k : ℕ) → IsTelling k one →
+    IsWordOf (regions heap.system) k → IsTrue (list_any (has_byte_in k) (segments_of word heap)) →
+    word system k ≡ word heap.system k) where
   abbrev words : ℕ → ℕ
   words = word heap.system
 
@@ -78,7 +83,8 @@ module _ {A : Type 0} {regions : A → List Grant} {word : A → ℕ → ℕ} {h
       inner high = elim (dec_lt k (one.at + one.size)) [
         | yes below ↦ omega arith
         | no at_end ↦ (let below = tells.1 in let e : k ≡ one.at + one.size = omega arith in
-            let room = room_behind words Used segment.base segment.extents (segment.base + segment.size) one part.extents part.tail there (ends one.kind (tells.4 e)) in omega arith)
+            let room = room_behind words Used segment.base segment.extents (segment.base + segment.size) one part.extents
+            part.tail there (ends one.kind (tells.4 e)) in omega arith)
       ]
 
   -- each segment is one still
@@ -115,7 +121,8 @@ module _ {A : Type 0} {regions : A → List Grant} {word : A → ℕ → ℕ} {h
   still_told : AreTold now after (segments_of word heap)
   still_told = go (segments_of word heap) refl sound.segments sound.told
     where
-      go : (segments : List Segment) → segments_of word heap ≡ segments → AreSegments (regions heap.system) words segments → AreTold words heap segments → AreTold now after segments
+      go : (segments : List Segment) → segments_of word heap ≡ segments → AreSegments (regions heap.system) words segments →
+          AreTold words heap segments → AreTold now after segments
       go [] is parts h = h
       go (segment ∷ segments) is parts h = (h.0, h.1, h.2, h.3, h.4, still_records (segment ∷ []) segments is parts.1 heap.next h.5)
 

@@ -9,4 +9,6 @@ pub loop-step-preserved : goal.loop-step-preserved
 loop-step-preserved c =
     let less = c.loop-step-test.true in
     let fits = c.requires.fits in
-    one_put c.args.words.now c.loop-step.words c.args.bytes.now c.args.offset c.loop-step.step c.with_byte.result (slice_index c.args.bytes.now c.loop-step.step) c.loop-step.invariant (omega (arith, less, fits)) refl c.with_byte.ensures.here c.with_byte.ensures.others
+    one_put c.args.words.now c.loop-step.words c.args.bytes.now c.args.offset c.loop-step.step c.with_byte.result
+    (slice_index c.args.bytes.now c.loop-step.step) c.loop-step.invariant (omega (arith, less, fits)) refl
+    c.with_byte.ensures.here c.with_byte.ensures.others

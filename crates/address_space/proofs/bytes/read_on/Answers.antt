@@ -28,12 +28,16 @@ loop-step-preserved c =
     let page : (c.args.at + length c.args.bytes.now.items) / 4096 ≡ c.containing_address-page.result = omega (arith, counted, page_is, at_is) in
     let mapped : IsSome (walk_of words root c.containing_address-page.result) = subst (λ (p : ℕ). IsSome (walk_of words root p)) page c.requires.mapped in
     let byte : reached words root address ≡ Some (byte_at run (address % 4096)) =
-    reached_in words root address 0 (walk_of words root c.containing_address-page.result) (ap (walk_of words root) here) run c.load_words.ensures.words mapped (omega arith) (omega (arith, words_are)) ∙ ap (λ (i : ℕ). Some (byte_at run i)) all in
+    reached_in words root address 0 (walk_of words root c.containing_address-page.result) (ap (walk_of words root) here) run
+    c.load_words.ensures.words mapped (omega arith) (omega (arith, words_are))
+    ∙ ap (λ (i : ℕ). Some (byte_at run i)) all in
     let place : address % 4096 ≡ (c.args.at + c.len-count.result) % 4096 + c.loop-step.step = omega (arith, size, left, less) in
-    let value : Some (byte_at run (address % 4096)) ≡ Some c.byte_of_words.result = ap (λ (i : ℕ). Some (byte_at run i)) place ∙ ap (λ (b : ℕ). Some b) (sym c.byte_of_words.ensures) in
+    let value : Some (byte_at run (address % 4096)) ≡ Some c.byte_of_words.result =
+    ap (λ (i : ℕ). Some (byte_at run i)) place ∙ ap (λ (b : ℕ). Some b) (sym c.byte_of_words.ensures) in
     let longer = ap length c.in_ok-push.ensures.items in
     let sum = length-append bytes (c.byte_of_words.result ∷ []) in
     record {
-      read = byte_more (reached words root) c.args.at bytes c.push.new.self.items c.byte_of_words.result c.loop-step.invariant.read (byte ∙ value) c.in_ok-push.ensures.items;
+      read = byte_more (reached words root) c.args.at bytes c.push.new.self.items c.byte_of_words.result
+          c.loop-step.invariant.read (byte ∙ value) c.in_ok-push.ensures.items;
       size = omega (arith, longer, sum, size);
     }

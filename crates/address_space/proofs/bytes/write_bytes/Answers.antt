@@ -12,9 +12,11 @@ loop-done-preserved c =
     let bytes = c.args.bytes.now in
     let least = c.min-count.ensures in
     let less = c.loop-done-test.true in
-    written_on c.args.frames.now c.loop-done.frames c.write_part.new.frames c.args.root c.args.at done count (c.args.at + done) bytes (take (done + count - done) (drop done bytes))
+    written_on c.args.frames.now c.loop-done.frames c.write_part.new.frames c.args.root c.args.at done count
+    (c.args.at + done) bytes (take (done + count - done) (drop done bytes))
     c.loop-done.invariant refl (sym (part_length bytes done count (omega (arith, least, less)))) (omega (arith, least, less))
-    (λ k k_less. part_byte bytes done count k k_less) c.write_part.ensures.bytes c.write_part.ensures.size c.write_part.ensures.tree c.write_part.ensures.walks c.write_part.ensures.larges c.write_part.ensures.words
+    (λ k k_less. part_byte bytes done count k k_less) c.write_part.ensures.bytes c.write_part.ensures.size
+    c.write_part.ensures.tree c.write_part.ensures.walks c.write_part.ensures.larges c.write_part.ensures.words
 
 pub write_part-requires-clause-tree : goal.write_part-requires-clause-tree
 write_part-requires-clause-tree c = (c.requires.tree.0, c.loop-done.invariant.tree c.requires.tree.0 c.requires.tree.1)

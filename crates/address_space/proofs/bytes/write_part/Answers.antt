@@ -23,7 +23,8 @@ pub put_bytes-requires-clause-fits : goal.put_bytes-requires-clause-fits
 put_bytes-requires-clause-fits c = let size = c.requires.words in let read = c.read_words.ensures.length in omega (arith, size, read)
 
 pub put_bytes-requires-clause-few : goal.put_bytes-requires-clause-few
-put_bytes-requires-clause-few c = let size = c.requires.words in let few = c.requires.fits in let read = c.read_words.ensures.length in omega (arith, size, few, read)
+put_bytes-requires-clause-few c = let size = c.requires.words in let few = c.requires.fits in let read =
+    c.read_words.ensures.length in omega (arith, size, few, read)
 
 pub write_words-requires-clause-fits : goal.write_words-requires-clause-fits
 write_words-requires-clause-fits c =
@@ -33,7 +34,9 @@ write_words-requires-clause-fits c =
     let put = c.put_bytes.ensures.size in
     omega (arith, size, few, read, put)
 
-part : (c : goal.After-write_words) → IsPartWritten c.args.frames.now c.write_words.new.self c.read_words.new.words c.put_bytes.new.words c.args.bytes.now c.args.root c.args.at c.containing_address-page.result (c.args.at % 4096 / 8) (place_of c.in-Some.place)
+part : (c : goal.After-write_words) → IsPartWritten c.args.frames.now c.write_words.new.self c.read_words.new.words
+    c.put_bytes.new.words c.args.bytes.now c.args.root c.args.at c.containing_address-page.result (c.args.at % 4096 / 8)
+    (place_of c.in-Some.place)
 part c = record {
   there = sym c.in-Some.ensures.found;
   page_is = (let page = c.containing_address-page.ensures in let at = c.new.ensures in omega (arith, page, at));
@@ -48,9 +51,11 @@ part c = record {
 
 fits : (c : goal.After-write_words) → c.args.at % 4096 / 8 + length c.put_bytes.new.words ≤ 512
 fits c =
-    part_fits c.args.frames.now c.write_words.new.self c.read_words.new.words c.put_bytes.new.words c.args.bytes.now c.args.root c.args.at c.containing_address-page.result (c.args.at % 4096 / 8) (place_of c.in-Some.place) (part c)
+    part_fits c.args.frames.now c.write_words.new.self c.read_words.new.words c.put_bytes.new.words c.args.bytes.now
+    c.args.root c.args.at c.containing_address-page.result (c.args.at % 4096 / 8) (place_of c.in-Some.place) (part c)
 
-elsewhere : (c : goal.After-write_words) → (f i : ℕ) → i < 512 → (f ≡ c.in-Some.place.frame → ⊥) → word_at c.write_words.new.self f i ≡ word_at c.args.frames.now f i
+elsewhere : (c : goal.After-write_words) → (f i : ℕ) → i < 512 → (f ≡ c.in-Some.place.frame → ⊥) →
+    word_at c.write_words.new.self f i ≡ word_at c.args.frames.now f i
 elsewhere c = λ f i less other. c.write_words.ensures.others f i less (λ same low high. other same)
 
 pub returns-clause-size : goal.returns-clause-size
@@ -58,21 +63,25 @@ returns-clause-size c = c.write_words.ensures.size
 
 pub returns-clause-tree : goal.returns-clause-tree
 returns-clause-tree c = λ free tree.
-    written_tree c.args.frames.now c.write_words.new.self c.args.root c.containing_address-page.result (place_of c.in-Some.place) free (sym c.in-Some.ensures.found) c.write_words.ensures.size (elsewhere c) tree
+    written_tree c.args.frames.now c.write_words.new.self c.args.root c.containing_address-page.result
+    (place_of c.in-Some.place) free (sym c.in-Some.ensures.found) c.write_words.ensures.size (elsewhere c) tree
 
 pub returns-clause-walks : goal.returns-clause-walks
 returns-clause-walks c =
     let t = c.requires.tree in
-    written_walks c.args.frames.now c.write_words.new.self c.args.root c.containing_address-page.result (place_of c.in-Some.place) t.0 (sym c.in-Some.ensures.found) c.write_words.ensures.size (elsewhere c) t.1
+    written_walks c.args.frames.now c.write_words.new.self c.args.root c.containing_address-page.result
+    (place_of c.in-Some.place) t.0 (sym c.in-Some.ensures.found) c.write_words.ensures.size (elsewhere c) t.1
 
 pub returns-clause-larges : goal.returns-clause-larges
 returns-clause-larges c =
     let t = c.requires.tree in
-    written_larges c.args.frames.now c.write_words.new.self c.args.root c.containing_address-page.result (place_of c.in-Some.place) t.0 (sym c.in-Some.ensures.found) c.write_words.ensures.size (elsewhere c) t.1
+    written_larges c.args.frames.now c.write_words.new.self c.args.root c.containing_address-page.result
+    (place_of c.in-Some.place) t.0 (sym c.in-Some.ensures.found) c.write_words.ensures.size (elsewhere c) t.1
 
 pub returns-clause-words : goal.returns-clause-words
 returns-clause-words c =
-    part_words c.args.frames.now c.write_words.new.self c.read_words.new.words c.put_bytes.new.words c.args.bytes.now c.args.root c.args.at c.containing_address-page.result (c.args.at % 4096 / 8) (place_of c.in-Some.place) (part c)
+    part_words c.args.frames.now c.write_words.new.self c.read_words.new.words c.put_bytes.new.words c.args.bytes.now
+    c.args.root c.args.at c.containing_address-page.result (c.args.at % 4096 / 8) (place_of c.in-Some.place) (part c)
 
 pub returns-clause-bytes : goal.returns-clause-bytes
 returns-clause-bytes c =
@@ -81,6 +90,11 @@ returns-clause-bytes c =
     let at = c.new.ensures in
     let half : c.containing_address-page.result * 4096 / 2 ^ 47 ≡ c.args.at / 2 ^ 47 = omega (arith, page, at) in
     let canonical : IsTrue (is_canonical (c.containing_address-page.result * 4096)) = ap (λ (n : ℕ). n == 0 || n == 2 ^ 17 - 1) half ∙ c.requires.canonical in
-    part_written c.args.frames.now c.write_words.new.self c.read_words.new.words c.put_bytes.new.words c.args.bytes.now c.args.root c.args.at c.containing_address-page.result (c.args.at % 4096 / 8) (place_of c.in-Some.place) (part c)
-    (run_bytes c.args.frames.now c.write_words.new.self c.args.root c.containing_address-page.result (c.args.at % 4096 / 8) c.put_bytes.new.words (place_of c.in-Some.place) t.0 (sym c.in-Some.ensures.found) (fits c) c.write_words.ensures t.1)
-    (run_others c.args.frames.now c.write_words.new.self c.args.root c.containing_address-page.result (c.args.at % 4096 / 8) c.put_bytes.new.words (place_of c.in-Some.place) t.0 (sym c.in-Some.ensures.found) (fits c) c.write_words.ensures t.1 canonical)
+    part_written c.args.frames.now c.write_words.new.self c.read_words.new.words c.put_bytes.new.words c.args.bytes.now
+    c.args.root c.args.at c.containing_address-page.result (c.args.at % 4096 / 8) (place_of c.in-Some.place) (part c)
+    (run_bytes c.args.frames.now c.write_words.new.self c.args.root c.containing_address-page.result (c.args.at % 4096 / 8)
+    c.put_bytes.new.words (place_of c.in-Some.place) t.0 (sym c.in-Some.ensures.found) (fits c) c.write_words.ensures
+    t.1)
+    (run_others c.args.frames.now c.write_words.new.self c.args.root c.containing_address-page.result (c.args.at % 4096 / 8)
+    c.put_bytes.new.words (place_of c.in-Some.place) t.0 (sym c.in-Some.ensures.found) (fits c) c.write_words.ensures
+    t.1 canonical)

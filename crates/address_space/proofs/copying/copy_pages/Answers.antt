@@ -26,7 +26,9 @@ copy_to-requires-clause-source c =
     let old = c.args.frames.now in
     let one = c.loop-step.frames in
     let page = c.args.from + c.loop-step.step in
-    let same = c.loop-step.invariant.elsewhere page (canonical_in c.args.from c.args.pages page c.requires.source (omega arith) (omega arith)) (λ k less is. c.requires.apart c.loop-step.step k (omega arith) (omega (arith, less)) is) in
+    let same = c.loop-step.invariant.elsewhere page (canonical_in c.args.from c.args.pages page c.requires.source
+    (omega arith) (omega arith)) (λ k less is. c.requires.apart c.loop-step.step k (omega arith) (omega (arith, less))
+    is) in
     subst (λ (p : ℕ). IsSome (walk_of one c.args.root p)) (sym c.page_at.ensures) (subst IsSome (sym same) (c.requires.read c.loop-step.step (omega arith)))
 
 pub copy_to-requires-clause-target : goal.copy_to-requires-clause-target
@@ -34,14 +36,18 @@ copy_to-requires-clause-target c =
     let old = c.args.frames.now in
     let one = c.loop-step.frames in
     let page = c.args.to + c.loop-step.step in
-    let same = c.loop-step.invariant.elsewhere page (canonical_in c.args.to c.args.pages page c.requires.target (omega arith) (omega arith)) (λ k less is. omega (arith, less, is)) in
-    subst (λ (p : ℕ). IsSome (walk_of one c.args.root p)) (sym c.page_at-in-loop-step.ensures) (subst IsSome (sym same) (c.requires.written c.loop-step.step (omega arith)))
+    let same = c.loop-step.invariant.elsewhere page (canonical_in c.args.to c.args.pages page c.requires.target
+    (omega arith) (omega arith)) (λ k less is. omega (arith, less, is)) in
+    subst (λ (p : ℕ). IsSome (walk_of one c.args.root p)) (sym c.page_at-in-loop-step.ensures)
+    (subst IsSome (sym same) (c.requires.written c.loop-step.step (omega arith)))
 
 pub loop-step-preserved : goal.loop-step-preserved
 loop-step-preserved c =
     let step = c.loop-step.step in
     let t = c.requires.tree in
-    more_copied c.args.frames.now c.loop-step.frames c.copy_to.new.frames c.args.root c.args.from step c.args.to c.page_at.result c.page_at-in-loop-step.result t.0 t.1
+    more_copied c.args.frames.now c.loop-step.frames c.copy_to.new.frames c.args.root c.args.from step c.args.to
+    c.page_at.result c.page_at-in-loop-step.result t.0 t.1
     (part_of_range c.args.to c.args.pages c.args.to (step + 1) c.requires.target (omega arith) (omega arith) (omega arith))
     (canonical_in c.args.from c.args.pages (c.args.from + step) c.requires.source (omega arith) (omega arith))
-    (λ k less is. c.requires.apart step k (omega arith) (omega (arith, less)) is) c.page_at.ensures c.page_at-in-loop-step.ensures c.loop-step.invariant c.copy_to.ensures
+    (λ k less is. c.requires.apart step k (omega arith) (omega (arith, less)) is) c.page_at.ensures
+    c.page_at-in-loop-step.ensures c.loop-step.invariant c.copy_to.ensures

@@ -17,7 +17,9 @@ loop-done-preserved c =
     let more = c.in-Some.ensures.more in
     let starts = c.in-Some.ensures.from in
     let is = c.min-count.ensures in
-    copied_on (entries c.args.runs.now) (entries c.loop-done.runs) (entries c.add.new.runs) c.args.from c.args.pages c.args.to c.loop-done.done c.min-count.result (c.args.to + c.loop-done.done) (c.args.to + c.loop-done.done + c.min-count.result) run.rights
+    copied_on (entries c.args.runs.now) (entries c.loop-done.runs) (entries c.add.new.runs) c.args.from c.args.pages
+    c.args.to c.loop-done.done c.min-count.result (c.args.to + c.loop-done.done)
+    (c.args.to + c.loop-done.done + c.min-count.result) run.rights
     c.requires.held c.requires.free c.loop-done.invariant (omega (arith, is, less))
     (λ any h k. c.in-Some.ensures.pages any (omega (arith, starts, h)) (omega (arith, is, k, more))) refl (omega arith) c.in-Ok.ensures.ok
 
@@ -27,10 +29,13 @@ take_out-requires-clause-apart c =
     let less = c.loop-done-test.true in
     crosses_free (entries c.add.new.runs) at
     (ap (λ (t : List (Interval ℕ × Rights)). rights_in t at) (ap entries c.in-Err.ensures.err)
-    ∙ target_free (entries c.args.runs.now) (entries c.loop-done.runs) c.args.from c.args.pages c.args.to c.loop-done.done at c.requires.free c.loop-done.invariant (omega arith) (omega (arith, less)))
+    ∙ target_free (entries c.args.runs.now) (entries c.loop-done.runs) c.args.from c.args.pages c.args.to c.loop-done.done
+    at c.requires.free c.loop-done.invariant (omega arith) (omega (arith, less)))
 
 pub returns-in-Err-clause-err : goal.returns-in-Err-clause-err
 returns-in-Err-clause-err c =
     let es = entries c.args.runs.now in
-    copied_undone es (entries c.add.new.runs) (entries c.take_out.new.runs) c.args.from c.args.pages c.args.to c.loop-done.done c.requires.follow c.requires.longest c.requires.free
-    (subst (λ (t : List (Interval ℕ × Rights)). AreCopiedTo es t c.args.from c.args.pages c.args.to c.loop-done.done) (sym (ap entries c.in-Err.ensures.err)) c.loop-done.invariant) c.take_out.ensures
+    copied_undone es (entries c.add.new.runs) (entries c.take_out.new.runs) c.args.from c.args.pages c.args.to
+    c.loop-done.done c.requires.follow c.requires.longest c.requires.free
+    (subst (λ (t : List (Interval ℕ × Rights)). AreCopiedTo es t c.args.from c.args.pages c.args.to c.loop-done.done)
+    (sym (ap entries c.in-Err.ensures.err)) c.loop-done.invariant) c.take_out.ensures

@@ -17,7 +17,8 @@ returns-then-run-page-clause-ok c = parted_itself (entries c.args.runs.now) c.ar
 pub returns-clause-ok : goal.returns-clause-ok
 returns-clause-ok c =
     let run = c.in-Some.run' in
-    parted_by (entries c.args.runs.now) (entries c.split.new.runs) run.start run.end c.args.page run.rights c.in-Some.ensures.run c.in-Some.ensures.starts c.in_ok-split.ensures.ok
+    parted_by (entries c.args.runs.now) (entries c.split.new.runs) run.start run.end c.args.page run.rights
+    c.in-Some.ensures.run c.in-Some.ensures.starts c.in_ok-split.ensures.ok
 
 always_err : {A E : Type 0} (r : Result A E) (X : Type 0) → X → IfErr r (λ error. X)
 always_err {A} {E} (Ok a) X x = tt
@@ -30,4 +31,5 @@ returns-in_err-split-clause-over c =
     let starts = c.in-Some.ensures.starts in
     let over = c.if-run-page.false in
     always_err c.from_residual.result (IsSome (rights_in es c.args.page))
-    (is_some_of (rights_in es c.args.page) run.rights (run_rights es run.start run.end run.rights c.args.page c.in-Some.ensures.run (omega (arith, starts)) over))
+    (is_some_of (rights_in es c.args.page) run.rights (run_rights es run.start run.end run.rights c.args.page
+    c.in-Some.ensures.run (omega (arith, starts)) over))

@@ -19,9 +19,13 @@ shorten-requires-clause-alone c =
     let run = c.args.run in
     let h = c.requires.run in
     let w = run_within es run.start run.end run.rights h in
-    let is = inserted_longer es one run.start run.end (2 ^ 53) run.rights c.args.rights c.new.result h (omega (arith, w)) c.new.ensures.start c.new.ensures.end c.in_ok-insert.ensures.ok in
-    let then = deleted one two h.front (run_of run.start (2 ^ 53) c.args.rights ∷ h.back) run.start run.end run.rights c.new-2.result is h.before c.new-2.ensures.start c.new-2.ensures.end c.delete.ensures in
-    own_run two run.start (2 ^ 53) run.end c.args.rights c.new-3.result (record { front = h.front; back = h.back; whole = then; before = h.before; some = h.some; behind = h.behind }) c.new-3.ensures.start c.new-3.ensures.end
+    let is = inserted_longer es one run.start run.end (2 ^ 53) run.rights c.args.rights c.new.result h (omega (arith, w))
+    c.new.ensures.start c.new.ensures.end c.in_ok-insert.ensures.ok in
+    let then = deleted one two h.front (run_of run.start (2 ^ 53) c.args.rights ∷ h.back) run.start run.end run.rights
+    c.new-2.result is h.before c.new-2.ensures.start c.new-2.ensures.end c.delete.ensures in
+    own_run two run.start (2 ^ 53) run.end c.args.rights c.new-3.result
+    (record { front = h.front; back = h.back; whole = then; before = h.before; some = h.some; behind = h.behind })
+    c.new-3.ensures.start c.new-3.ensures.end
 
 pub returns-clause-ok : goal.returns-clause-ok
 returns-clause-ok c =
@@ -32,10 +36,14 @@ returns-clause-ok c =
     let run = c.args.run in
     let h = c.requires.run in
     let w = run_within es run.start run.end run.rights h in
-    let is = inserted_longer es one run.start run.end (2 ^ 53) run.rights c.args.rights c.new.result h (omega (arith, w)) c.new.ensures.start c.new.ensures.end c.in_ok-insert.ensures.ok in
-    let then = deleted one two h.front (run_of run.start (2 ^ 53) c.args.rights ∷ h.back) run.start run.end run.rights c.new-2.result is h.before c.new-2.ensures.start c.new-2.ensures.end c.delete.ensures in
-    let among : IsAmong two run.start (2 ^ 53) run.end c.args.rights = record { front = h.front; back = h.back; whole = then; before = h.before; some = h.some; behind = h.behind } in
-    (run_set es new run.start run.end run.rights c.args.rights h (shortened two new run.start (2 ^ 53) run.end run.end c.args.rights c.new-3.result among c.new-3.ensures.start c.new-3.ensures.end c.shorten.ensures.pairs)).set
+    let is = inserted_longer es one run.start run.end (2 ^ 53) run.rights c.args.rights c.new.result h (omega (arith, w))
+    c.new.ensures.start c.new.ensures.end c.in_ok-insert.ensures.ok in
+    let then = deleted one two h.front (run_of run.start (2 ^ 53) c.args.rights ∷ h.back) run.start run.end run.rights
+    c.new-2.result is h.before c.new-2.ensures.start c.new-2.ensures.end c.delete.ensures in
+    let among : IsAmong two run.start (2 ^ 53) run.end c.args.rights =
+    record { front = h.front; back = h.back; whole = then; before = h.before; some = h.some; behind = h.behind } in
+    (run_set es new run.start run.end run.rights c.args.rights h (shortened two new run.start (2 ^ 53) run.end run.end
+    c.args.rights c.new-3.result among c.new-3.ensures.start c.new-3.ensures.end c.shorten.ensures.pairs)).set
 
 pub returns-clause-apart : goal.returns-clause-apart
 returns-clause-apart c =
@@ -46,7 +54,11 @@ returns-clause-apart c =
     let run = c.args.run in
     let h = c.requires.run in
     let w = run_within es run.start run.end run.rights h in
-    let is = inserted_longer es one run.start run.end (2 ^ 53) run.rights c.args.rights c.new.result h (omega (arith, w)) c.new.ensures.start c.new.ensures.end c.in_ok-insert.ensures.ok in
-    let then = deleted one two h.front (run_of run.start (2 ^ 53) c.args.rights ∷ h.back) run.start run.end run.rights c.new-2.result is h.before c.new-2.ensures.start c.new-2.ensures.end c.delete.ensures in
-    let among : IsAmong two run.start (2 ^ 53) run.end c.args.rights = record { front = h.front; back = h.back; whole = then; before = h.before; some = h.some; behind = h.behind } in
-    (run_set es new run.start run.end run.rights c.args.rights h (shortened two new run.start (2 ^ 53) run.end run.end c.args.rights c.new-3.result among c.new-3.ensures.start c.new-3.ensures.end c.shorten.ensures.pairs)).keeps
+    let is = inserted_longer es one run.start run.end (2 ^ 53) run.rights c.args.rights c.new.result h (omega (arith, w))
+    c.new.ensures.start c.new.ensures.end c.in_ok-insert.ensures.ok in
+    let then = deleted one two h.front (run_of run.start (2 ^ 53) c.args.rights ∷ h.back) run.start run.end run.rights
+    c.new-2.result is h.before c.new-2.ensures.start c.new-2.ensures.end c.delete.ensures in
+    let among : IsAmong two run.start (2 ^ 53) run.end c.args.rights =
+    record { front = h.front; back = h.back; whole = then; before = h.before; some = h.some; behind = h.behind } in
+    (run_set es new run.start run.end run.rights c.args.rights h (shortened two new run.start (2 ^ 53) run.end run.end
+    c.args.rights c.new-3.result among c.new-3.ensures.start c.new-3.ensures.end c.shorten.ensures.pairs)).keeps

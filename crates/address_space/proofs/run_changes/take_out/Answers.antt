@@ -11,7 +11,8 @@ pub loop-run-smaller : goal.loop-run-smaller
 loop-run-smaller c =
     let run = c.in-Some.run' in
     let starts = c.in-Some.ensures.starts in
-    let stop : run.end ≤ c.loop-run.at = run_apart (entries c.loop-run.runs) run.start run.end run.rights c.loop-run.at c.in-Some.ensures.run c.loop-run.invariant.apart starts in
+    let stop : run.end ≤ c.loop-run.at = run_apart (entries c.loop-run.runs) run.start run.end run.rights c.loop-run.at
+    c.in-Some.ensures.run c.loop-run.invariant.apart starts in
     omega (arith, starts, stop, c.if-run-first.false, c.max-from.ensures)
 
 pub loop-run-preserved : goal.loop-run-preserved
@@ -21,7 +22,9 @@ loop-run-preserved c =
     let some = c.in-Some.ensures.run.some in
     let over = c.if-run-first.false in
     let is = c.max-from.ensures in
-    taken_on (entries c.args.runs.now) (entries c.loop-run.runs) (entries c.cut.new.runs) c.args.first c.loop-run.at c.args.end run.start run.end c.max-from.result run.rights c.loop-run.invariant c.in-Some.ensures.run starts over c.in-Some.ensures.last
+    taken_on (entries c.args.runs.now) (entries c.loop-run.runs) (entries c.cut.new.runs) c.args.first c.loop-run.at
+    c.args.end run.start run.end c.max-from.result run.rights c.loop-run.invariant c.in-Some.ensures.run starts over
+    c.in-Some.ensures.last
     (omega (arith, is)) (omega (arith, is)) (omega (arith, is, some, over)) c.cut.ensures
 
 pub returns-then-run-first : goal.returns-then-run-first

@@ -45,7 +45,8 @@ returns-then-ne c =
     let e = pair_of c.in-Some.left in
     let next = pair_of c.in-Some-first_from.right in
     let i = last_is page 0 es (2 ^ 52) e c.requires.follow c.requires.within (sym c.in-Some.ensures) in
-    longest_beside page es e next c.requires.follow i (beside page es e next i (sym c.in-Some-first_from.ensures)) c.if-left-page.false c.if-right-page.false (other_rights e.1 next.1 (sym c.ne.ensures ∙ c.if-ne.true))
+    longest_beside page es e next c.requires.follow i (beside page es e next i (sym c.in-Some-first_from.ensures))
+    c.if-left-page.false c.if-right-page.false (other_rights e.1 next.1 (sym c.ne.ensures ∙ c.if-ne.true))
 
 pub returns : goal.returns
 returns c =
@@ -54,4 +55,5 @@ returns c =
     let e = pair_of c.in-Some.left in
     let next = pair_of c.in-Some-first_from.right in
     let i = last_is page 0 es (2 ^ 52) e c.requires.follow c.requires.within (sym c.in-Some.ensures) in
-    meeting page es e next (beside page es e next i (sym c.in-Some-first_from.ensures)) c.if-left-page.false c.if-right-page.false (equal_rights e.1 next.1 (sym c.ne.ensures ∙ c.if-ne.false))
+    meeting page es e next (beside page es e next i (sym c.in-Some-first_from.ensures)) c.if-left-page.false
+    c.if-right-page.false (equal_rights e.1 next.1 (sym c.ne.ensures ∙ c.if-ne.false))

@@ -18,6 +18,7 @@ returns-in-Some c =
 pub returns-in-None : goal.returns-in-None
 returns-in-None c =
     let es = entries c.args.runs.now in (
-      (λ t. split_clear c.args.first c.args.end es (2 ^ 52) (split_none c.args.first c.args.end es (2 ^ 52) (none_last c.args.end 0 es (2 ^ 52) c.requires.follow c.requires.within (sym c.in-None.ensures)))),
+      (λ t. split_clear c.args.first c.args.end es (2 ^ 52) (split_none c.args.first c.args.end es (2 ^ 52)
+          (none_last c.args.end 0 es (2 ^ 52) c.requires.follow c.requires.within (sym c.in-None.ensures)))),
       (λ clear. refl),
     )

@@ -14,15 +14,21 @@ pub shorten-requires-clause-alone : goal.shorten-requires-clause-alone
 shorten-requires-clause-alone c =
     let es = entries c.args.runs.now in
     let page = c.args.page in
-    let rest = c.delete.ensures ∙ (ap (λ (i : Interval ℕ). without_key (by_ends nat_cmp) i es) (ends_are c.new.result page c.in-Some.last c.new.ensures.start c.new.ensures.end) ∙ without_second es c.in-Some.start page c.in-Some.last c.in-Some.ensures) in
-    subst (λ (i : Interval ℕ). AllItems (HasOwnStart nat_cmp i) (entries c.delete.new.self)) (sym (ends_are c.new-2.result c.in-Some.start page c.new-2.ensures.start c.new-2.ensures.end))
+    let rest = c.delete.ensures ∙ (ap (λ (i : Interval ℕ). without_key (by_ends nat_cmp) i es)
+    (ends_are c.new.result page c.in-Some.last c.new.ensures.start c.new.ensures.end)
+    ∙ without_second es c.in-Some.start page c.in-Some.last c.in-Some.ensures) in
+    subst (λ (i : Interval ℕ). AllItems (HasOwnStart nat_cmp i) (entries c.delete.new.self))
+    (sym (ends_are c.new-2.result c.in-Some.start page c.new-2.ensures.start c.new-2.ensures.end))
     (own_first es (entries c.delete.new.self) c.in-Some.start page c.in-Some.last c.in-Some.ensures rest)
 
 pub returns : goal.returns
 returns c =
     let es = entries c.args.runs.now in
     let page = c.args.page in
-    let rest = c.delete.ensures ∙ (ap (λ (i : Interval ℕ). without_key (by_ends nat_cmp) i es) (ends_are c.new.result page c.in-Some.last c.new.ensures.start c.new.ensures.end) ∙ without_second es c.in-Some.start page c.in-Some.last c.in-Some.ensures) in
+    let rest = c.delete.ensures ∙ (ap (λ (i : Interval ℕ). without_key (by_ends nat_cmp) i es)
+    (ends_are c.new.result page c.in-Some.last c.new.ensures.start c.new.ensures.end)
+    ∙ without_second es c.in-Some.start page c.in-Some.last c.in-Some.ensures) in
     joined es (entries c.shorten.new.self) c.in-Some.start page c.in-Some.last c.in-Some.ensures
-    (c.shorten.ensures.pairs ∙ (ap (λ (i : Interval ℕ). map (with_end nat_cmp i c.in-Some.last) (entries c.delete.new.self)) (ends_are c.new-2.result c.in-Some.start page c.new-2.ensures.start c.new-2.ensures.end)
+    (c.shorten.ensures.pairs ∙ (ap (λ (i : Interval ℕ). map (with_end nat_cmp i c.in-Some.last) (entries c.delete.new.self))
+    (ends_are c.new-2.result c.in-Some.start page c.new-2.ensures.start c.new-2.ensures.end)
     ∙ with_first es (entries c.delete.new.self) c.in-Some.start page c.in-Some.last c.in-Some.ensures rest))

@@ -15,7 +15,8 @@ returns-in-None-clause-place c =
     let below = c.loop-at-test.true in
     let window = c.requires.window in
     is_place es c.args.base c.args.end c.args.pages at c.loop-at.invariant (omega (arith, within, below))
-    (split_clear at end es (2 ^ 52) (split_none at end es (2 ^ 52) (none_last end 0 es (2 ^ 52) c.requires.follow (omega (arith, within, below, window)) (sym c.in-None.ensures))))
+    (split_clear at end es (2 ^ 52) (split_none at end es (2 ^ 52) (none_last end 0 es (2 ^ 52) c.requires.follow
+    (omega (arith, within, below, window)) (sym c.in-None.ensures))))
 
 pub returns-then-entry-at-clause-place : goal.returns-then-entry-at-clause-place
 returns-then-entry-at-clause-place c =

@@ -15,7 +15,8 @@ returns-in_default-clause-none c = λ any from below.
 pub returns-in_default-clause-alone : goal.returns-in_default-clause-alone
 returns-in_default-clause-alone c =
     let es = entries c.args.runs.now in
-    apart_below c.args.page es (2 ^ 52) c.args.page (none_last c.args.page 0 es (2 ^ 52) c.requires.follow c.requires.within (sym c.in_default.ensures)) (omega arith)
+    apart_below c.args.page es (2 ^ 52) c.args.page (none_last c.args.page 0 es (2 ^ 52) c.requires.follow c.requires.within
+    (sym c.in_default.ensures)) (omega arith)
 
 pub returns-clause-run : goal.returns-clause-run
 returns-clause-run c =
@@ -23,7 +24,8 @@ returns-clause-run c =
     record { front = i.front; back = i.back; whole = i.whole; before = i.before; some = i.some; behind = i.next }
 
 pub returns-clause-starts : goal.returns-clause-starts
-returns-clause-starts c = (last_is c.args.page 0 (entries c.args.runs.now) (2 ^ 52) (pair_of c.in-Some.entry) c.requires.follow c.requires.within (sym c.in-Some.ensures)).starts
+returns-clause-starts c = (last_is c.args.page 0 (entries c.args.runs.now) (2 ^ 52) (pair_of c.in-Some.entry)
+    c.requires.follow c.requires.within (sym c.in-Some.ensures)).starts
 
 pub returns-clause-last : goal.returns-clause-last
 returns-clause-last c =

@@ -53,13 +53,31 @@ take_under-requires g t c κs within =
     let levels : 0 < deep = t_levels c.requires.some held in
     let less : deep - 1 ≤ c.args.levels - 1 = omega (arith, levels, r.1.1.1.1.1.0) in
     let low = low_at c.args.is_upper r.1.1.1.0 (width (deep - 1)) in
-    let child = sub_held c.requires.some held c.args.is_upper c.requires.child c.requires.real in
-    (omega (arith, c.decreases, levels, r.1.1.1.1.1.0), (search rules, (search rules, (c.requires.real, (real, (c.first_child-next.ensures.is, (t_rest c.requires.some held, (r.1.0, (c.args.at, (low, (deep - 1, (less, child))))))))))))
+    let child = sub_held c.requires.some held c.args.is_upper c.requires.child c.requires.real in (
+      omega (arith, c.decreases, levels, r.1.1.1.1.1.0),
+      (
+        search rules,
+        (
+          search rules,
+          (
+            c.requires.real,
+            (
+              real,
+              (
+                c.first_child-next.ensures.is,
+                (t_rest c.requires.some held, (r.1.0, (c.args.at, (low, (deep - 1, (less, child)))))),
+              ),
+            ),
+          ),
+        ),
+      ),
+    )
 
 pub returns-clause-taken : goal.returns-clause-taken
 returns-clause-taken g t c = λ index bin parent low deep less held.
     let child = sub_held c.requires.some held c.args.is_upper c.requires.child c.requires.real in
-    let leaf = c.take_under.ensures.taken (t_rest c.requires.some held) bin c.args.at (low_at c.args.is_upper low (width (deep - 1))) (deep - 1) (omega arith) child in
+    let leaf = c.take_under.ensures.taken (t_rest c.requires.some held) bin c.args.at
+    (low_at c.args.is_upper low (width (deep - 1))) (deep - 1) (omega arith) child in
     let kept = left_alone (g.M.Links.regions c.args.memory.now) (g.M.Links.word c.take_under.new.memory) (c.args.at + slot c.args.is_upper) in
     child_taken c.requires.some held c.args.is_upper c.requires.child c.requires.real refl leaf kept (λ e. absurd (c.take_under.ensures.other e)) (λ e. refl)
 
@@ -70,6 +88,7 @@ returns-clause-other g t c =
     let less = r.1.1.1.1.1.0 in
     let held = r.1.1.1.1.1.1 in
     let child = sub_held c.requires.some held c.args.is_upper c.requires.child c.requires.real in
-    let leaf = c.take_under.ensures.taken (t_rest c.requires.some held) r.1.0 c.args.at (low_at c.args.is_upper r.1.1.1.0 (width (deep - 1))) (deep - 1) (omega arith) child in
+    let leaf = c.take_under.ensures.taken (t_rest c.requires.some held) r.1.0 c.args.at
+    (low_at c.args.is_upper r.1.1.1.0 (width (deep - 1))) (deep - 1) (omega arith) child in
     let kept = left_alone (g.M.Links.regions c.args.memory.now) (g.M.Links.word c.take_under.new.memory) (c.args.at + slot c.args.is_upper) in
     leaf_not_at c.requires.some held c.args.is_upper c.requires.child c.requires.real refl leaf kept (λ e. absurd (c.take_under.ensures.other e)) (λ e. refl)

@@ -58,8 +58,37 @@ unlink_under-requires g t c κs within =
     let in_range : c.args.size < c.low_of-child_low.result + width (c.args.levels - 1) = omega (arith, low, below, half) in
     let room : c.low_of-child_low.result + width (c.args.levels - 1) ≤ 2 ^ 64 = omega (arith, low, fits, c.requires.fits) in
     let other : size_of (g.M.Links.word c.args.memory.now (c.load_counted-child.result + 8)) ≢ c.args.size =
-    λ e. c.if-below-size.true (c.size-below.ensures.value ∙ e) in
-    (omega (arith, c.decreases, levels), (search rules, (search rules, (real, (omega arith, (rw low above, (in_range, (bits, (room, (other, (rest l, (c.args.at, (rw low held, b_in l)))))))))))))
+    λ e. c.if-below-size.true (c.size-below.ensures.value ∙ e) in (
+      omega (arith, c.decreases, levels),
+      (
+        search rules,
+        (
+          search rules,
+          (
+            real,
+            (
+              omega arith,
+              (
+                rw low above,
+                (
+                  in_range,
+                  (
+                    bits,
+                    (
+                      room,
+                      (
+                        other,
+                        (rest l, (c.args.at, (rw low held, b_in l))),
+                      ),
+                    ),
+                  ),
+                ),
+              ),
+            ),
+          ),
+        ),
+      ),
+    )
 
 pub returns-then-below-size-clause-trie : goal.returns-then-below-size-clause-trie
 returns-then-below-size-clause-trie g t c = λ index parent held chunk_in.

@@ -7,7 +7,8 @@ use Rattle.bins.proofs.leave.raise_leaf.Goals.{After-pick-child1}
 
 -- what the calls tell of the leaf and of the children that it gets
 raises : (g : _) (c : After-pick-child1 g) (deep : ℕ) → deep ≤ c.args.levels →
-    RaisesLeaf (g.M.Links.regions c.args.memory.now) (g.M.Links.word c.args.memory.now) (g.M.Links.word c.take_leaf-leaf.new.memory) deep c.args.at c.args.is_upper
+    RaisesLeaf (g.M.Links.regions c.args.memory.now) (g.M.Links.word c.args.memory.now)
+    (g.M.Links.word c.take_leaf-leaf.new.memory) deep c.args.at c.args.is_upper
     c.args.child c.take_leaf-leaf.result c.rest_of-rest.result c.load_counted-other.result c.pick-child0.result c.pick-child1.result
 raises g c deep less = record {
   child_is = c.requires.child;

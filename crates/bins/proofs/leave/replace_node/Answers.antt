@@ -21,7 +21,8 @@ load_counted-heir-requires g c =
 pub returns-then-heir-at-clause-trie : goal.returns-then-heir-at-clause-trie
 returns-then-heir-at-clause-trie g c = λ index low deep size less held at_in.
     let one = u_alone c.requires.some held size at_in (sym c.load_counted-heir.ensures.value ∙ c.if-heir-at.true) in
-    u_left (g.M.Links.word c.give_to_leaf.new.memory) index c.args.bin c.args.parent low deep c.args.at size c.give_to_leaf.result one (c.give_to_leaf.ensures.trie index low deep less held size one)
+    u_left (g.M.Links.word c.give_to_leaf.new.memory) index c.args.bin c.args.parent low deep c.args.at size
+    c.give_to_leaf.result one (c.give_to_leaf.ensures.trie index low deep less held size one)
 
 pub give_to_heir-requires-clause-here : goal.give_to_heir-requires-clause-here
 give_to_heir-requires-clause-here g c =

@@ -48,7 +48,8 @@ replace_node-requires-clause-held g c =
 pub returns-clause-trie : goal.returns-clause-trie
 returns-clause-trie g c = λ index low size held at_in chunk_in.
     let same : c.args.at ≡ c.args.chunk = omega (arith, c.if-chunk-at.false) in
-    subst (λ x. IsTrie (g.M.Links.word c.replace_node.new.memory) (without_chunk size x index) c.args.bin c.args.parent low c.args.levels c.replace_node.result) same
+    subst (λ x. IsTrie (g.M.Links.word c.replace_node.new.memory) (without_chunk size x index) c.args.bin c.args.parent low
+    c.args.levels c.replace_node.result) same
     (c.replace_node.ensures.trie index low c.args.levels size (omega arith) held at_in)
 
 pub returns-clause-words : goal.returns-clause-words

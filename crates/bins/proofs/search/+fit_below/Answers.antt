@@ -95,8 +95,34 @@ fit_below-requires g t c κs within =
     omega (arith, low, step.half_is, high, high_fits side c.args.low c.half_width-half.result, c.requires.fits) in
     let child = s_child real read side (step.child_is ∙ ap (g.M.Links.word c.args.memory.now) step.place_is) step.half_is in
     let known = c.or_less-lesser.ensures.enough c.requires.known in
-    let rest = without_size (q real read).node.size r.0 in
-    (omega (arith, c.decreases, levels), (search rules, (search rules, (omega arith, (rw low step.above, (in_range, (bits, (room, (known, (next.0, ((rest, rw low child), next.1.1)))))))))))
+    let rest = without_size (q real read).node.size r.0 in (
+      omega (arith, c.decreases, levels),
+      (
+        search rules,
+        (
+          search rules,
+          (
+            omega arith,
+            (
+              rw low step.above,
+              (
+                in_range,
+                (
+                  bits,
+                  (
+                    room,
+                    (
+                      known,
+                      (next.0, ((rest, rw low child), next.1.1)),
+                    ),
+                  ),
+                ),
+              ),
+            ),
+          ),
+        ),
+      ),
+    )
 
 pub returns-clause-fit : goal.returns-clause-fit
 returns-clause-fit g t c = λ index read other beside_low beside_read apart.

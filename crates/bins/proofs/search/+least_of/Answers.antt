@@ -36,8 +36,16 @@ least_of-requires g t c κs within =
     let real : 0 < c.args.at = omega arith in
     let levels : 0 < c.args.levels = s_levels real read in
     let side = c.first_child-child.result.is_upper in
-    let child = s_child real read side c.first_child-child.ensures.is refl in
-    (omega (arith, c.decreases, levels), (search rules, (search rules, (without_size (q real read).node.size r.0, (low_at side r.1.0 (width (c.args.levels - 1)), child)))))
+    let child = s_child real read side c.first_child-child.ensures.is refl in (
+      omega (arith, c.decreases, levels),
+      (
+        search rules,
+        (
+          search rules,
+          (without_size (q real read).node.size r.0, (low_at side r.1.0 (width (c.args.levels - 1)), child)),
+        ),
+      ),
+    )
 
 -- what is carried on
 carried : (g : _) (t : _) (c : After-or_less-lesser g t) →

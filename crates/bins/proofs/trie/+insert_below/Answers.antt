@@ -74,8 +74,34 @@ insert_below-requires g t c κs within =
     let bits = next_is c.args.low c.args.size c.args.levels c.is_in_upper-is_upper.result levels c.requires.few step.half_is
     c.requires.above c.requires.below c.requires.bits low step.above step.below c.next_bits.ensures in
     let in_range : c.args.size < c.low_of.result + width (c.args.levels - 1) = omega (arith, low, step.below, step.half_is) in
-    let room : c.low_of.result + width (c.args.levels - 1) ≤ 2 ^ 64 = omega (arith, low, fits, c.requires.fits) in
-    (omega (arith, c.decreases, levels), (search rules, (search rules, (real, (omega arith, (rw low step.above, (in_range, (bits, (room, (c.requires.large, (t_rest c.requires.some r.1.1.0, (c.args.at, (rw low held, fresh)))))))))))))
+    let room : c.low_of.result + width (c.args.levels - 1) ≤ 2 ^ 64 = omega (arith, low, fits, c.requires.fits) in (
+      omega (arith, c.decreases, levels),
+      (
+        search rules,
+        (
+          search rules,
+          (
+            real,
+            (
+              omega arith,
+              (
+                rw low step.above,
+                (
+                  in_range,
+                  (
+                    bits,
+                    (
+                      room,
+                      (c.requires.large, (t_rest c.requires.some r.1.1.0, (c.args.at, (rw low held, fresh)))),
+                    ),
+                  ),
+                ),
+              ),
+            ),
+          ),
+        ),
+      ),
+    )
 
 pub returns-then-child-eq0-clause-trie : goal.returns-then-child-eq0-clause-trie
 returns-then-child-eq0-clause-trie g t c = λ index parent held fresh.
@@ -90,12 +116,14 @@ returns-then-child-eq0-clause-words g t c = λ index parent held fresh.
 pub returns-else-child-eq0-clause-trie : goal.returns-else-child-eq0-clause-trie
 returns-else-child-eq0-clause-trie g t c = λ index parent held fresh.
     let step = step g t (goal.at.returns-else-child-eq0-clause-trie g t c).After-load_counted-child in
-    e_child c.requires.some held fresh c.requires.large step (g.M.Links.word c.insert_below.new.memory) c.low_of.ensures (omega arith) c.insert_below.ensures.trie c.insert_below.ensures.words
+    e_child c.requires.some held fresh c.requires.large step (g.M.Links.word c.insert_below.new.memory) c.low_of.ensures
+    (omega arith) c.insert_below.ensures.trie c.insert_below.ensures.words
 
 pub returns-else-child-eq0-clause-words : goal.returns-else-child-eq0-clause-words
 returns-else-child-eq0-clause-words g t c = λ index parent held fresh.
     let step = step g t (goal.at.returns-else-child-eq0-clause-words g t c).After-load_counted-child in
-    e_child_words c.requires.some held fresh c.requires.large step (g.M.Links.word c.insert_below.new.memory) c.low_of.ensures (omega arith) c.insert_below.ensures.trie c.insert_below.ensures.words
+    e_child_words c.requires.some held fresh c.requires.large step (g.M.Links.word c.insert_below.new.memory)
+    c.low_of.ensures (omega arith) c.insert_below.ensures.trie c.insert_below.ensures.words
 
 pub is_in_upper-is_upper-requires-clause-bits : goal.is_in_upper-is_upper-requires-clause-bits
 is_in_upper-is_upper-requires-clause-bits g t c =

@@ -21,7 +21,9 @@ pub malloc-requires-clause-align : goal.malloc-requires-clause-align
 malloc-requires-clause-align g c = (4, refl)
 
 pub c_realloc-requires-clause-block : goal.c_realloc-requires-clause-block
-c_realloc-requires-clause-block g c = block_of (state_of word_of c.args.heap.now) c.in-CRealloc.address c.in_ok-chunk_of-in-CRealloc.field-0 c.in_ok-chunk_of-in-CRealloc.ensures
+c_realloc-requires-clause-block g c = block_of (state_of word_of c.args.heap.now) c.in-CRealloc.address
+    c.in_ok-chunk_of-in-CRealloc.field-0 c.in_ok-chunk_of-in-CRealloc.ensures
 
 pub c_free-requires-clause-block : goal.c_free-requires-clause-block
-c_free-requires-clause-block g c = block_of (state_of word_of c.args.heap.now) c.in-Free.address c.in_ok-chunk_of-in-Free.field-0 c.in_ok-chunk_of-in-Free.ensures
+c_free-requires-clause-block g c = block_of (state_of word_of c.args.heap.now) c.in-Free.address
+    c.in_ok-chunk_of-in-Free.field-0 c.in_ok-chunk_of-in-Free.ensures

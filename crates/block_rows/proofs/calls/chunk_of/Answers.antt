@@ -22,11 +22,13 @@ listed heap at size is = go (extent_at at (extents_in heap)) refl is
     as_used : (one : Extent) → extent_at at (extents_in heap) ≡ Some one → (victim : Bool) → is_victim heap one ≡ victim →
         Some (told (shown heap one)) ≡ Some (Used, size) → extent_at at (extents_in heap) ≡ Some (extent at size Used)
     as_used one there true test is =
-        let other : Some (Victim, one.size) ≡ Some (Used, size) = subst (λ b. Some (told (if b then record one { kind = Victim } else one)) ≡ Some (Used, size)) test is in
+        let other : Some (Victim, one.size) ≡ Some (Used, size) = subst (λ b.
+        Some (told (if b then record one { kind = Victim } else one)) ≡ Some (Used, size)) test is in
         let kinds : Victim ≡ Used = ap (λ (o : Option (Kind × ℕ)). (unwrap_or o (Used, size)).0) other in
         absurd (cc)
     as_used one there false test is =
-        let same : Some (told one) ≡ Some (Used, size) = subst (λ b. Some (told (if b then record one { kind = Victim } else one)) ≡ Some (Used, size)) test is in
+        let same : Some (told one) ≡ Some (Used, size) = subst (λ b. Some
+        (told (if b then record one { kind = Victim } else one)) ≡ Some (Used, size)) test is in
         let kinds : one.kind ≡ Used = ap (λ (o : Option (Kind × ℕ)). (unwrap_or o (Used, size)).0) same in
         let sizes : one.size ≡ size = ap (λ (o : Option (Kind × ℕ)). (unwrap_or o (Used, size)).1) same in
         let place : one.at ≡ at = (found at one (extents_in heap) there).place in

@@ -9,7 +9,9 @@ pub insert-requires : goal.insert-requires
 insert-requires g c =
     let kept = ap (λ (regions : Vec Grant Global). regions.items) c.store.ensures.regions in
     let place : HasPlace c.args.size c.args.at = c.if-not-has_place.ensures (search rules) in
-    let free : list_all (λ entry. is_apart c.args.size c.args.at entry) c.args.list.now.items ≡ true = ap (λ (es : List (ℕ × ℕ)). list_all (λ entry. is_apart c.args.size c.args.at entry) es) (sym c.deref.ensures.value) ∙ sym c.if-not-is_free.ensures in
+    let free : list_all (λ entry. is_apart c.args.size c.args.at entry) c.args.list.now.items ≡ true =
+    ap (λ (es : List (ℕ × ℕ)). list_all (λ entry. is_apart c.args.size c.args.at entry) es) (sym c.deref.ensures.value)
+    ∙ sym c.if-not-is_free.ensures in
     record {
       linked = (
         index_of c.args.list.now.items,
@@ -22,9 +24,12 @@ pub returns : goal.returns
 returns g c =
     let kept = ap (λ (regions : Vec Grant Global). regions.items) c.store.ensures.regions in
     let place : HasPlace c.args.size c.args.at = c.if-not-has_place.ensures (search rules) in
-    let free : list_all (λ entry. is_apart c.args.size c.args.at entry) c.args.list.now.items ≡ true = ap (λ (es : List (ℕ × ℕ)). list_all (λ entry. is_apart c.args.size c.args.at entry) es) (sym c.deref.ensures.value) ∙ sym c.if-not-is_free.ensures in
+    let free : list_all (λ entry. is_apart c.args.size c.args.at entry) c.args.list.now.items ≡ true =
+    ap (λ (es : List (ℕ × ℕ)). list_all (λ entry. is_apart c.args.size c.args.at entry) es) (sym c.deref.ensures.value)
+    ∙ sym c.if-not-is_free.ensures in
     let same = c.insert.ensures.regions ∙ kept in
     let done = c.insert.ensures.linked (index_of c.args.list.now.items)
     (linked_at _ _ _ _ _ kept (still_linked _ _ _ _ _ _ _ c.requires place free c.store.ensures.stored))
     (fresh_at _ _ _ _ _ _ kept (is_fresh _ _ _ _ _ _ _ c.requires place free c.store.ensures.stored)) in
-    beside_at _ _ _ _ _ _ same c.in_ok-push.ensures.items (beside_more _ _ _ _ _ _ _ c.requires place free c.store.ensures.stored _ _ (linked_at _ _ _ _ _ (sym same) done))
+    beside_at _ _ _ _ _ _ same c.in_ok-push.ensures.items (beside_more _ _ _ _ _ _ _ c.requires place free
+    c.store.ensures.stored _ _ (linked_at _ _ _ _ _ (sym same) done))

@@ -10,14 +10,17 @@ unlink_fit-requires g c =
     let entry = c.remove-entry.result in
     let place = c.in-Some-place_of.place in
     let within : place < length items = search rules in
-    let at : (get_or items place entry).1 ≡ c.in-Some.chunk = ap (λ (es : List (ℕ × ℕ)). (get_or es place entry).1) (sym c.deref.ensures.value) ∙ c.in-Some-place_of.ensures.is entry in
+    let at : (get_or items place entry).1 ≡ c.in-Some.chunk = ap (λ (es : List (ℕ × ℕ)). (get_or es place entry).1)
+    (sym c.deref.ensures.value) ∙ c.in-Some-place_of.ensures.is entry in
     let fit = c.in-Some.ensures.fit (index_of items) c.requires.linked in
     record {
       linked = (
         index_of items,
         c.requires.linked,
         entry_in items place entry entry within c.remove-entry.ensures.value,
-        fit_oldest (regions_of c.args.memory.now) (word_of c.args.memory.now) c.args.bins.now items place entry c.requires within c.remove-entry.ensures.value c.args.size c.in-Some.chunk (ap (λ (e : ℕ × ℕ). e.1) c.remove-entry.ensures.value ∙ at) fit,
+        fit_oldest (regions_of c.args.memory.now) (word_of c.args.memory.now) c.args.bins.now items place entry c.requires
+            within c.remove-entry.ensures.value c.args.size c.in-Some.chunk
+            (ap (λ (e : ℕ × ℕ). e.1) c.remove-entry.ensures.value ∙ at) fit,
       );
     }
 

@@ -8,4 +8,7 @@ returns-then-is_power_of_two c =
     (λ least. (power, grind (arith, nat_tests)), λ good. grind (arith, nat_tests, good.1))
 
 pub returns-else-is_power_of_two : goal.returns-else-is_power_of_two
-returns-else-is_power_of_two c = (λ power. absurd (let not = c.if-is_power_of_two.false in cc), λ good. subst IsTrue (sym c.is_power_of_two.ensures) (test_of_power c.args.granularity good.0))
+returns-else-is_power_of_two c = (
+  λ power. absurd (let not = c.if-is_power_of_two.false in cc),
+  λ good. subst IsTrue (sym c.is_power_of_two.ensures) (test_of_power c.args.granularity good.0),
+)

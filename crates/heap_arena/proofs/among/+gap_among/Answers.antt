@@ -10,7 +10,9 @@ pub returns-in_ok-gap_among-in-len1-up-clause-order : goal.returns-in_ok-gap_amo
 returns-in_ok-gap_among-in-len1-up-clause-order t c =
     let first = c.first-item.result in
     let past : end_of first ≤ c.args.arena.now.base = grind (arith, nat_tests) in
-    order_insert c.args.arena.now first c.in_ok-gap_among-in-len1-up.field-0 c.args.arenas.now (search rules) c.requires (subst (λ (a : Arena). end_of a ≤ c.args.arena.now.base) c.first-item.is past) c.in_ok-gap_among-in-len1-up.ensures.order
+    order_insert c.args.arena.now first c.in_ok-gap_among-in-len1-up.field-0 c.args.arenas.now (search rules) c.requires
+    (subst (λ (a : Arena). end_of a ≤ c.args.arena.now.base) c.first-item.is past)
+    c.in_ok-gap_among-in-len1-up.ensures.order
 
 pub returns-else-base-end-clause-order : goal.returns-else-base-end-clause-order
 returns-else-base-end-clause-order t c =

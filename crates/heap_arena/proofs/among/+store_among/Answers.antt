@@ -23,7 +23,8 @@ store_among-requires t c =
     let arenas = c.args.arenas.now in
     let some : 0 < length arenas = search rules in
     let past : end_of (slice_index_or arenas 0 c.index-arenas-0.result) ≤ c.args.at = rw (sym c.index-arenas-0.is) (grind (arith, nat_tests)) in
-    let word : IsWordOf (regions_of_all (rest_of arenas)) c.args.at = rest_word c.index-arenas-0.result c.args.at arenas some c.requires.order c.requires.word past in
+    let word : IsWordOf (regions_of_all (rest_of arenas)) c.args.at = rest_word c.index-arenas-0.result c.args.at arenas
+    some c.requires.order c.requires.word past in
     let order : IsTrue (are_in_order (rest_of arenas)) = rest_order arenas c.requires.order in
     let less : length (rest_of arenas) < length arenas = rest_less arenas some in
     search rules
@@ -35,12 +36,14 @@ returns-then-at-end-clause-stored t c =
     let first = c.index-arenas-0-then-at-end.result in
     let before : c.args.at < end_of c.index-arenas-0.result = grind (arith, nat_tests) in
     let is : slice_index_or arenas 0 first ≡ c.index-arenas-0.result = index_any arenas first c.index-arenas-0.result some ∙ sym c.index-arenas-0.is in
-    stored_first arenas first c.store.new.self c.args.at c.args.value some c.requires.order (subst (λ (a : Arena). c.args.at < end_of a) (sym is) before) c.store.ensures.follows.same c.store.ensures.stored
+    stored_first arenas first c.store.new.self c.args.at c.args.value some c.requires.order
+    (subst (λ (a : Arena). c.args.at < end_of a) (sym is) before) c.store.ensures.follows.same c.store.ensures.stored
 
 pub returns-then-at-end-clause-only : goal.returns-then-at-end-clause-only
 returns-then-at-end-clause-only t c =
     let arenas = c.args.arenas.now in
-    zip_first (λ x y. KeepsOthers c.args.at 1 x y × (y.top ≡ x.top) × (y.peak ≡ x.peak)) (λ x. (λ i beside. refl, refl, refl)) arenas c.index-arenas-0-then-at-end.result c.store.new.self (search rules)
+    zip_first (λ x y. KeepsOthers c.args.at 1 x y × (y.top ≡ x.top) × (y.peak ≡ x.peak))
+    (λ x. (λ i beside. refl, refl, refl)) arenas c.index-arenas-0-then-at-end.result c.store.new.self (search rules)
     (c.store.ensures.others, c.store.ensures.top, c.store.ensures.peak)
 
 pub returns-then-at-end-clause-after : goal.returns-then-at-end-clause-after

@@ -80,14 +80,16 @@ module _ {M : Type 1} {𝓤 : Ura M} (𝓛 : Logic 𝓤) (at_mem : Memory → SP
     place_here whole8 = place_is 8 o (k / 8) ∙ omega arith
 
     -- the cell of the word is taken out of the row, and put back with x in it
-    cell_out : k % 8 ≡ 0 → k / 8 < length xs → ent 𝓤 (⋆ 𝓛 (‵ (row u64 full_share xs b o) ∷ [])) (⋆ 𝓛 (‵ (fat full_share (ty_int w64) b (k + o) (vint w64 old)) ∷ ‵ rest ∷ []))
+    cell_out : k % 8 ≡ 0 → k / 8 < length xs → ent 𝓤 (⋆ 𝓛 (‵ (row u64 full_share xs b o) ∷ []))
+        (⋆ 𝓛 (‵ (fat full_share (ty_int w64) b (k + o) (vint w64 old)) ∷ ‵ rest ∷ []))
     cell_out whole8 inside =
         qed 𝓛 (‵ (row u64 full_share xs b o) ∷ []) ∵
         use1 𝓛 (‵ (part_at u64 full_share old b (nth 8 o (k / 8))) ⊛ ‵ rest) (takes (shares u64) full_share 𝓛 xs (k / 8) 0 b o inside) $ split ! $
         rewrite ! 0 (λ (n : ℕ). ‵ (part_at u64 full_share old b n)) (place_here whole8) refl $
         use1 𝓛 (‵ (fat full_share (ty_int w64) b (k + o) (vint w64 old))) (uint_out 𝓛 full_share w64 old b (k + o)) $ done !
 
-    cell_in : k % 8 ≡ 0 → k / 8 < length xs → ent 𝓤 (⋆ 𝓛 (‵ (fat full_share (ty_int w64) b (k + o) (vint w64 x)) ∷ ‵ rest ∷ [])) (⋆ 𝓛 (‵ (row u64 full_share ys b o) ∷ []))
+    cell_in : k % 8 ≡ 0 → k / 8 < length xs → ent 𝓤 (⋆ 𝓛 (‵ (fat full_share (ty_int w64) b (k + o) (vint w64 x)) ∷ ‵
+        rest ∷ [])) (⋆ 𝓛 (‵ (row u64 full_share ys b o) ∷ []))
     cell_in whole8 inside =
         qed 𝓛 (‵ (fat full_share (ty_int w64) b (k + o) (vint w64 x)) ∷ ‵ rest ∷ []) ∵
         use1 𝓛 (‵ (part_at u64 full_share x b (k + o))) (uint_in 𝓛 full_share w64 x b (k + o)) $
@@ -102,13 +104,15 @@ module _ {M : Type 1} {𝓤 : Ura M} (𝓛 : Logic 𝓤) (at_mem : Memory → SP
         qed 𝓛 (‵ (fobs γ ((coded_holeys u64).code (heres u64 ys))) ∷ ‵ (fbor κ (Held u64 (length ys) b o γ)) ∷ ‵ (flft κ q) ∷ []) ∵
         suffices ! _ (ends_at 𝓛 put_word.ended stayed clauses bound vunit tt (ys, (tt, (tt, tt))) (same, (tt, (tt, tt)))) $ says ! refl $
         nothing ! $ move ! (3 ∷ 0 ∷ []) $ join ! $ frame ! $ fjoin ! $
-        pure_i ! (mut_slice_at u64 (buf ys) (mut_slice_vals (buf xs))) (tt, (tt, tt)) (ap (λ (n : ℕ). slice_val (b, o) n ∷ []) (sym same), subst (Room u64) (sym same) room) $ fjoin ! $
+        pure_i ! (mut_slice_at u64 (buf ys) (mut_slice_vals (buf xs))) (tt, (tt, tt))
+        (ap (λ (n : ℕ). slice_val (b, o) n ∷ []) (sym same), subst (Room u64) (sym same) room) $ fjoin ! $
         nothing ! $ nothing ! $ fjoin ! $ nothing ! $ fjoin ! $ move ! (1 ∷ 0 ∷ []) $ fjoin ! $
         feq_i ! (List Val) (vunit ∷ []) (vunit ∷ []) refl $ move ! (1 ∷ 0 ∷ []) $ done !
 
     module _ (C : Calls 𝓤 H) (Λ : Loops 𝓤 H) where
       walk : Room u64 (length xs) → k < 2 ^ 64 → x < 2 ^ 64 → (k % 8 ≡ 0) × (k / 8 < length xs)
-          → ent 𝓤 (on_entry 𝓛 put_word.signature (κ, tt) (q, tt) (buf xs, (k, (x, tt))) words) (WpFn 𝓤 H C Λ code.function (slice_val (b, o) (length xs) ∷ vint w64 k ∷ vint w64 x ∷ []) Post)
+          → ent 𝓤 (on_entry 𝓛 put_word.signature (κ, tt) (q, tt) (buf xs, (k, (x, tt))) words)
+          (WpFn 𝓤 H C Λ code.function (slice_val (b, o) (length xs) ∷ vint w64 k ∷ vint w64 x ∷ []) Post)
       walk room fk fx asked =
           let count : length xs < 2 ^ 64 = room.0 in
           qed 𝓛 ((‵ (flft κ q) ⊛ ‵ ftrue) ∷ ‵ (owns (MutSlice (named 0) κ u64 ∷ usize ∷ u64 ∷ []) (buf xs, (k, (x, tt))) words) ∷ []) ∵
@@ -134,8 +138,13 @@ module _ {M : Type 1} {𝓤 : Ura M} (𝓛 : Logic 𝓤) (at_mem : Memory → SP
 
   meets : (𝓣 : Tables 𝓤 H) → Meets 𝓛 put_word.signature (WpFn 𝓤 H 𝓣.C 𝓣.Λ code.function) (put_word.spec 𝓛 at_mem run)
   meets 𝓣 =
-      walk_Meets 𝓛 put_word.ended stayed
-      (Goes-slice 𝓛 1 0 tt (plain (λ _. u64)), (Goes-dropped 𝓛 1 (plain (λ _. usize)) yes (λ κs x f. refl), (Goes-dropped 𝓛 1 (plain (λ _. u64)) yes (λ κs x f. refl), tt)))
+      walk_Meets 𝓛 put_word.ended stayed (
+        Goes-slice 𝓛 1 0 tt (plain (λ _. u64)),
+        (
+          Goes-dropped 𝓛 1 (plain (λ _. usize)) yes (λ κs x f. refl),
+          (Goes-dropped 𝓛 1 (plain (λ _. u64)) yes (λ κs x f. refl), tt),
+        ),
+      )
       clauses (WpFn 𝓤 H 𝓣.C 𝓣.Λ code.function) (WpFn-mono 𝓤 H 𝓛.laws 𝓣 code.function)
       (walked 𝓛 put_word.ended stayed clauses (WpFn 𝓤 H 𝓣.C 𝓣.Λ code.function)
       (λ κs. (mut_slice_vals, (uint_vals w64, (uint_vals w64, tt)))) (λ κs. (mut_slice_Tells (named 0) κs.0 u64, (uint_Tells w64, (uint_Tells w64, tt))))

@@ -84,7 +84,8 @@ module _ {M : Type 1} {𝓤 : Ura M} (𝓛 : Logic 𝓤) (at_mem : Memory → SP
 
     module _ (C : Calls 𝓤 H) (Λ : Loops 𝓤 H) where
       walk : Room u64 (length xs) → k < 2 ^ 64 → (k % 8 ≡ 0) × (k / 8 < length xs)
-          → ent 𝓤 (on_entry 𝓛 word_at.signature (κ, tt) (q, tt) (buf, (k, tt)) words) (WpFn 𝓤 H C Λ code.function (slice_val (b, o) (length xs) ∷ vint w64 k ∷ []) Post)
+          → ent 𝓤 (on_entry 𝓛 word_at.signature (κ, tt) (q, tt) (buf, (k, tt)) words)
+          (WpFn 𝓤 H C Λ code.function (slice_val (b, o) (length xs) ∷ vint w64 k ∷ []) Post)
       walk room fk asked =
           qed 𝓛 ((‵ (flft κ q) ⊛ ‵ ftrue) ∷ ‵ (owns (ShrSlice (named 0) κ u64 ∷ usize ∷ []) (buf, (k, tt)) words) ∷ []) ∵
           enter ! C Λ code.function (slice_val (b, o) (length xs) ∷ vint w64 k ∷ []) _ $
@@ -92,7 +93,8 @@ module _ {M : Type 1} {𝓤 : Ura M} (𝓛 : Logic 𝓤) (at_mem : Memory → SP
           let En : Env 𝓤 H = env (code.function).locals l in
           move ! (1 ∷ []) $ fsplit ! $ fsplit ! $ move ! (1 ∷ []) $ move ! (3 ∷ []) $ split ! $ move ! (2 ∷ 0 ∷ []) $
           -- [the shared elements; the token of κ; ..]
-          looks_slice ! tt u64 (uint_Copied 𝓛 w64) xs b o (λ q'. elem_out ! u64 (Is u64) (shows 𝓛 u64) (uint_vals w64) (uint_Tells w64) q' xs (k / 8) 0 b o asked.1 (λ good.
+          looks_slice ! tt u64 (uint_Copied 𝓛 w64) xs b o (λ q'. elem_out ! u64 (Is u64) (shows 𝓛 u64) (uint_vals w64)
+          (uint_Tells w64) q' xs (k / 8) 0 b o asked.1 (λ good.
           rewrite ! 0 (λ (n : ℕ). ‵ (cell_at q' u64.mir (vint w64 elem ∷ []) b n)) (place_here asked.0) refl $
           -- [the cell; what it owns; the other elements; what shuts; ..]. From here, one step for each statement of the MIR.
           first ! $ blocks ! $
@@ -111,8 +113,10 @@ module _ {M : Type 1} {𝓤 : Ura M} (𝓛 : Logic 𝓤) (at_mem : Memory → SP
 
   meets : (𝓣 : Tables 𝓤 H) → Meets 𝓛 word_at.signature (WpFn 𝓤 H 𝓣.C 𝓣.Λ code.function) (word_at.spec 𝓛 at_mem run)
   meets 𝓣 =
-      walk_Meets 𝓛 word_at.ended stayed
-      (Goes-dropped 𝓛 1 (SliceRefOf (0 ∷ []) tt (plain (λ _. u64)) (λ _. tt)) yes (λ κs x f. refl), (Goes-dropped 𝓛 1 (plain (λ _. usize)) yes (λ κs x f. refl), tt))
+      walk_Meets 𝓛 word_at.ended stayed (
+        Goes-dropped 𝓛 1 (SliceRefOf (0 ∷ []) tt (plain (λ _. u64)) (λ _. tt)) yes (λ κs x f. refl),
+        (Goes-dropped 𝓛 1 (plain (λ _. usize)) yes (λ κs x f. refl), tt),
+      )
       clauses (WpFn 𝓤 H 𝓣.C 𝓣.Λ code.function) (WpFn-mono 𝓤 H 𝓛.laws 𝓣 code.function)
       (walked 𝓛 word_at.ended stayed clauses (WpFn 𝓤 H 𝓣.C 𝓣.Λ code.function)
       (λ κs. (shr_slice_vals, (uint_vals w64, tt))) (λ κs. (shr_slice_Tells (named 0) κs.0 u64, (uint_Tells w64, tt)))

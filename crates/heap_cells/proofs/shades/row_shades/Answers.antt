@@ -17,7 +17,8 @@ overflow_add-since c =
     let column = c.loop-column.column in
     let inside : column < columns_of c.args.scale = omega (arith, c.loop-column-test.true, c.columns_of-column-end.ensures.value) in
     let within : column < length c.in_ok-came.came.items = omega (arith, inside, c.in_ok-came.ensures.length) in
-    let more = next_before c.args.scale Comes c.args.row c.args.spans.now c.in_ok-came.came.items column c.loop-column.since c.index.result.now c.loop-column.invariant.since within c.index.ensures (c.in_ok-came.ensures.each column inside) in
+    let more = next_before c.args.scale Comes c.args.row c.args.spans.now c.in_ok-came.came.items column c.loop-column.since
+    c.index.result.now c.loop-column.invariant.since within c.index.ensures (c.in_ok-came.ensures.each column inside) in
     let few = before_few c.args.scale Comes c.args.row c.args.spans.now (column + 1) in
     omega (arith, more, few, c.in_ok-came.ensures.few)
 
@@ -26,7 +27,9 @@ overflow_add-until c =
     let column = c.loop-column.column in
     let inside : column < columns_of c.args.scale = omega (arith, c.loop-column-test.true, c.columns_of-column-end.ensures.value) in
     let within : column < length c.in_ok-went.went.items = omega (arith, inside, c.in_ok-went.ensures.length) in
-    let more = next_before c.args.scale Goes c.args.row c.args.spans.now c.in_ok-went.went.items column c.loop-column.until c.index-in-loop-column.result.now c.loop-column.invariant.until within c.index-in-loop-column.ensures (c.in_ok-went.ensures.each column inside) in
+    let more = next_before c.args.scale Goes c.args.row c.args.spans.now c.in_ok-went.went.items column c.loop-column.until
+    c.index-in-loop-column.result.now c.loop-column.invariant.until within c.index-in-loop-column.ensures
+    (c.in_ok-went.ensures.each column inside) in
     let few = before_few c.args.scale Goes c.args.row c.args.spans.now (column + 1) in
     omega (arith, more, few, c.in_ok-went.ensures.few)
 
@@ -37,8 +40,11 @@ overflow_sub-since c =
     let wide : 1 ≤ columns_of c.args.scale = omega (arith, inside) in
     let within : column < length c.in_ok-came.came.items = omega (arith, inside, c.in_ok-came.ensures.length) in
     let within' : column < length c.in_ok-went.went.items = omega (arith, inside, c.in_ok-went.ensures.length) in
-    let came = next_before c.args.scale Comes c.args.row c.args.spans.now c.in_ok-came.came.items column c.loop-column.since c.index.result.now c.loop-column.invariant.since within c.index.ensures (c.in_ok-came.ensures.each column inside) in
-    let went = next_before c.args.scale Goes c.args.row c.args.spans.now c.in_ok-went.went.items column c.loop-column.until c.index-in-loop-column.result.now c.loop-column.invariant.until within' c.index-in-loop-column.ensures (c.in_ok-went.ensures.each column inside) in
+    let came = next_before c.args.scale Comes c.args.row c.args.spans.now c.in_ok-came.came.items column c.loop-column.since
+    c.index.result.now c.loop-column.invariant.since within c.index.ensures (c.in_ok-came.ensures.each column inside) in
+    let went = next_before c.args.scale Goes c.args.row c.args.spans.now c.in_ok-went.went.items column c.loop-column.until
+    c.index-in-loop-column.result.now c.loop-column.invariant.until within' c.index-in-loop-column.ensures
+    (c.in_ok-went.ensures.each column inside) in
     let all = shown_in c.args.scale c.args.row c.args.spans.now column c.requires.calls wide in
     omega (arith, came, went, all)
 
@@ -52,8 +58,11 @@ loop-column-preserved c =
     let wide : 1 ≤ columns_of c.args.scale = omega (arith, inside) in
     let within : column < length c.in_ok-came.came.items = omega (arith, inside, c.in_ok-came.ensures.length) in
     let within' : column < length c.in_ok-went.went.items = omega (arith, inside, c.in_ok-went.ensures.length) in
-    let came = next_before scale Comes row spans c.in_ok-came.came.items column c.loop-column.since c.index.result.now c.loop-column.invariant.since within c.index.ensures (c.in_ok-came.ensures.each column inside) in
-    let went = next_before scale Goes row spans c.in_ok-went.went.items column c.loop-column.until c.index-in-loop-column.result.now c.loop-column.invariant.until within' c.index-in-loop-column.ensures (c.in_ok-went.ensures.each column inside) in
+    let came = next_before scale Comes row spans c.in_ok-came.came.items column c.loop-column.since c.index.result.now
+    c.loop-column.invariant.since within c.index.ensures (c.in_ok-came.ensures.each column inside) in
+    let went = next_before scale Goes row spans c.in_ok-went.went.items column c.loop-column.until
+    c.index-in-loop-column.result.now c.loop-column.invariant.until within' c.index-in-loop-column.ensures
+    (c.in_ok-went.ensures.each column inside) in
     let one = shade_is scale c.args.shades row spans column _ _ c.requires.calls wide came went in
     record {
       all = c.in_ok-push.ensures.items
@@ -67,5 +76,10 @@ loop-column-preserved c =
 pub returns : goal.returns
 unfolding row_shades
 returns c =
-    let all : c.loop-column.column ≡ columns_of c.args.scale = omega (arith, c.loop-column-test.false, c.loop-column.auto.column-end, c.columns_of-column-end.ensures.value) in
+    let all : c.loop-column.column ≡ columns_of c.args.scale = omega (
+      arith,
+      c.loop-column-test.false,
+      c.loop-column.auto.column-end,
+      c.columns_of-column-end.ensures.value,
+    ) in
     c.loop-column.invariant.all ∙ ap (first_shades c.args.scale c.args.shades c.args.row c.args.spans.now) all

@@ -4,6 +4,7 @@ use Rattle.heap_curves.proofs.upright.push_uprights.Given as goal
 
 abbrev pub invariant-loop-line : goal.invariant-loop-line
 invariant-loop-line l = record {
-  rest : string_bytes l.out ++ uprights_text l.top l.y l.calls l.call (drop l.line-index l.lines) ≡ string_bytes l.fn.out ++ uprights_text l.top l.y l.calls 0 l.lines;
+  rest : string_bytes l.out ++ uprights_text l.top l.y l.calls l.call (drop l.line-index l.lines) ≡ string_bytes
+      l.fn.out ++ uprights_text l.top l.y l.calls 0 l.lines;
   place : l.call ≡ l.line-index;
 }

@@ -17,7 +17,8 @@ returns-then-is_none c =
 pub loop-k-preserved : goal.loop-k-preserved
 loop-k-preserved c =
     let k = c.loop-k.k in
-    digits_step c.args.digits.now k c.pair.result (omega (arith, c.requires)) (c.pair.ensures (2 * k)) (c.is_none.ensures ∙ ap not c.if-is_none.false) c.loop-k.invariant
+    digits_step c.args.digits.now k c.pair.result (omega (arith, c.requires)) (c.pair.ensures (2 * k))
+    (c.is_none.ensures ∙ ap not c.if-is_none.false) c.loop-k.invariant
 
 pub returns : goal.returns
 returns c =

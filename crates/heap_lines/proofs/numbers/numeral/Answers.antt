@@ -20,4 +20,7 @@ pub returns : goal.returns
 returns c =
     let digits = c.args.digits.now in
     let i = c.loop-byte.byte-index in
-    sym (left_done c.args.base c.args.most digits c.loop-byte.value (subst (IsLeft c.args.base digits c.loop-byte.value) (drop_all i digits c.loop-byte-test.false) c.loop-byte.invariant.left) (omega (arith, false-eqb (length digits) 0 (sym (sym c.is_empty.ensures ∙ c.if-is_empty.false)))) c.if-digits-most.false c.loop-byte.invariant.fits)
+    sym (left_done c.args.base c.args.most digits c.loop-byte.value (subst (IsLeft c.args.base digits c.loop-byte.value)
+    (drop_all i digits c.loop-byte-test.false) c.loop-byte.invariant.left)
+    (omega (arith, false-eqb (length digits) 0 (sym (sym c.is_empty.ensures ∙ c.if-is_empty.false))))
+    c.if-digits-most.false c.loop-byte.invariant.fits)

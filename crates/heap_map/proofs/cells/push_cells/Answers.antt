@@ -8,7 +8,8 @@ use Rattle.heap_map.proofs.cells.push_cells.Goals.{then-not-look_same+in_ok-push
 pub loop-next-init : goal.loop-next-init
 loop-next-init c = record {
   place = omega arith;
-  rest = ap (λ (t : List ℕ). string_bytes c.args.out.now ++ t) (runs_begin c.args.cell c.args.base c.args.y c.args.line.now c.cell_at-same.result c.cell_at-same.ensures.value);
+  rest = ap (λ (t : List ℕ). string_bytes c.args.out.now ++ t) (runs_begin c.args.cell c.args.base c.args.y c.args.line.now
+      c.cell_at-same.result c.cell_at-same.ensures.value);
   used = c.cell_at-same.ensures.few.0;
   held = c.cell_at-same.ensures.few.1;
 }
@@ -26,8 +27,11 @@ loop-next-preserved c =
           let held : c.if-not-look_same.same.held ≡ c.cell_at-one.result.held = ap (λ (s : Cell). s.held) w.same-is in
           record {
             place = omega (arith, w.start-is);
-            rest = runs_other c.args.cell c.args.base c.args.y line c.loop-next.start n c.if-not-look_same.start c.loop-next.same c.cell_at-one.result c.if-not-look_same.same (string_bytes c.loop-next.out) (string_bytes w.push_run.new.out)
-                (string_bytes c.if-not-look_same.out) text c.loop-next-test.true is (sym c.look_same.ensures ∙ differs) w.in_ok-push_run.ensures (ap string_bytes w.out-is) w.start-is w.same-is h.rest;
+            rest = runs_other c.args.cell c.args.base c.args.y line c.loop-next.start n c.if-not-look_same.start
+                c.loop-next.same c.cell_at-one.result c.if-not-look_same.same (string_bytes c.loop-next.out)
+                (string_bytes w.push_run.new.out)
+                (string_bytes c.if-not-look_same.out) text c.loop-next-test.true is (sym c.look_same.ensures ∙ differs)
+                w.in_ok-push_run.ensures (ap string_bytes w.out-is) w.start-is w.same-is h.rest;
             used = omega (arith, used, c.cell_at-one.ensures.few.0);
             held = omega (arith, held, c.cell_at-one.ensures.few.1);
           })
@@ -36,7 +40,9 @@ loop-next-preserved c =
           let held : c.if-not-look_same.same.held ≡ c.loop-next.same.held = ap (λ (s : Cell). s.held) w.same-is in
           record {
             place = omega (arith, w.start-is, h.place);
-            rest = runs_same c.args.cell c.args.base c.args.y line c.loop-next.start n c.if-not-look_same.start c.loop-next.same c.cell_at-one.result c.if-not-look_same.same (string_bytes c.loop-next.out) (string_bytes c.if-not-look_same.out) text
+            rest = runs_same c.args.cell c.args.base c.args.y line c.loop-next.start n c.if-not-look_same.start
+                c.loop-next.same c.cell_at-one.result c.if-not-look_same.same (string_bytes c.loop-next.out)
+                (string_bytes c.if-not-look_same.out) text
                 c.loop-next-test.true is (sym c.look_same.ensures ∙ agrees) (ap string_bytes w.out-is) w.start-is w.same-is h.rest;
             used = omega (arith, used, h.used);
             held = omega (arith, held, h.held);

@@ -7,6 +7,8 @@ use Rattle.heap_map.proofs.rows.push_lines.Given as goal
 abbrev pub invariant-loop-next : goal.invariant-loop-next
 invariant-loop-next l = record {
   place : l.from < l.next;
-  rest : string_bytes l.out ++ lines_text (named_at l.blocks) l.row l.above (lines_from l.row (take (l.next - l.from) (drop l.from l.pieces)) (drop l.next l.pieces)) ≡ string_bytes l.fn.out ++ lines_text (named_at l.blocks) l.row 0 (lines_of l.row l.pieces);
+  rest : string_bytes l.out ++ lines_text (named_at l.blocks) l.row l.above
+      (lines_from l.row (take (l.next - l.from) (drop l.from l.pieces)) (drop l.next l.pieces)) ≡ string_bytes
+      l.fn.out ++ lines_text (named_at l.blocks) l.row 0 (lines_of l.row l.pieces);
   few : l.above < l.next;
 }

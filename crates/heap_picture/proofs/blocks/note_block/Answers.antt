@@ -11,4 +11,5 @@ returns-then-not-remains c =
 pub returns : goal.returns
 returns c =
     let there : remains c.args.calls c.args.stay ≡ true = search rules in
-    block_put c.args.calls c.args.stay c.args.blocks.now c.insert.new.self c.from.result c.name_of.result there c.from.ensures c.name_of.ensures c.in_ok-insert.ensures.updates.0
+    block_put c.args.calls c.args.stay c.args.blocks.now c.insert.new.self c.from.result c.name_of.result there
+    c.from.ensures c.name_of.ensures c.in_ok-insert.ensures.updates.0

@@ -16,4 +16,5 @@ returns c =
     ∙ ap (λ (n : ℕ). block_at_end n c.as_slice.result.now address) c.len.ensures
     ∙ ap (λ (stays : List Stay). block_at_end (length history.moments) stays address) c.as_slice.ensures in
     on_ok_weaker c.push_map.result (λ put.
-    put ∙ ap (λ (blocks : ℕ → Option NamedBlock). string_bytes c.args.out.now ++ map_text blocks c.args.live c.args.peak c.args.extents.now) (λ i address. left address i)) c.push_map.ensures
+    put ∙ ap (λ (blocks : ℕ → Option NamedBlock). string_bytes c.args.out.now ++ map_text blocks c.args.live c.args.peak
+    c.args.extents.now) (λ i address. left address i)) c.push_map.ensures

@@ -13,8 +13,10 @@ loop-place-preserved c = record {
       let n = c.loop-place.place in
       let front = c.loop-place.invariant.count s at in
       elim c.if-is_large.branch [
-        | then-is_large w ↦ larges_more s.large c.args.start n c.loop-place.number c.if-is_large.number true (sym w.if-is_large.true ∙ c.is_large.ensures s at) front (w.number-is ∙ omega arith)
-        | else-is_large w ↦ larges_more s.large c.args.start n c.loop-place.number c.if-is_large.number false (sym w.if-is_large.false ∙ c.is_large.ensures s at) front (w.number-is ∙ omega arith)
+        | then-is_large w ↦ larges_more s.large c.args.start n c.loop-place.number c.if-is_large.number true
+            (sym w.if-is_large.true ∙ c.is_large.ensures s at) front (w.number-is ∙ omega arith)
+        | else-is_large w ↦ larges_more s.large c.args.start n c.loop-place.number c.if-is_large.number false
+            (sym w.if-is_large.false ∙ c.is_large.ensures s at) front (w.number-is ∙ omega arith)
       ];
   few = let few = c.loop-place.invariant.few in
       elim c.if-is_large.branch [

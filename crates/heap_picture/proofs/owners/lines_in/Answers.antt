@@ -10,7 +10,9 @@ use Rattle.heap_picture.proofs.owners.lines_in.Goals as goal
 pub table_lines-requires-clause-ascending : goal.table_lines-requires-clause-ascending
 table_lines-requires-clause-ascending c =
     let p = paged c.args.system.now in
-    subst AreAscending (sym (c.deref.ensures.value ∙ c.in_ok-owned.ensures ∙ ap owned_regions (c.as_slice.ensures ∙ c.in_ok-list.ensures))) (laid_ascends 0 (2 ^ 64) p.regions c.args.system.now.kept.laid)
+    subst AreAscending (sym (c.deref.ensures.value ∙ c.in_ok-owned.ensures
+    ∙ ap owned_regions (c.as_slice.ensures ∙ c.in_ok-list.ensures)))
+    (laid_ascends 0 (2 ^ 64) p.regions c.args.system.now.kept.laid)
 
 pub returns : goal.returns
 returns c =

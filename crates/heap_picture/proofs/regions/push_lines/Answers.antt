@@ -10,12 +10,15 @@ loop-line-init c = record { rest = λ s at. refl; place = omega arith }
 pub loop-line-preserved : goal.loop-line-preserved
 loop-line-preserved c = record {
   rest = λ s at.
-      lines_put s.large c.args.most c.loop-line.below (c.loop-line.below + 25) c.args.lines.now c.loop-line.line-index none (string_bytes c.loop-line.out) (string_bytes c.push_line.new.out) (string_bytes c.args.out.now ++ lines_text s.large c.args.most c.args.y c.args.lines.now)
+      lines_put s.large c.args.most c.loop-line.below (c.loop-line.below + 25) c.args.lines.now c.loop-line.line-index none
+      (string_bytes c.loop-line.out) (string_bytes c.push_line.new.out)
+      (string_bytes c.args.out.now ++ lines_text s.large c.args.most c.args.y c.args.lines.now)
       c.loop-line-test.true refl (c.in_ok-push_line.ensures s at) (c.loop-line.invariant.rest s at);
   place = omega (arith, c.loop-line.invariant.place);
 }
 
 pub returns : goal.returns
 returns c = λ s at.
-    lines_end s.large c.args.most c.loop-line.below c.args.lines.now c.loop-line.line-index (string_bytes c.loop-line.out) (string_bytes c.args.out.now ++ lines_text s.large c.args.most c.args.y c.args.lines.now)
+    lines_end s.large c.args.most c.loop-line.below c.args.lines.now c.loop-line.line-index (string_bytes c.loop-line.out)
+    (string_bytes c.args.out.now ++ lines_text s.large c.args.most c.args.y c.args.lines.now)
     (omega (arith, c.loop-line-test.false)) (c.loop-line.invariant.rest s at)

@@ -6,6 +6,7 @@ use Rattle.heap_picture.proofs.regions.push_lines.Given as goal
 
 abbrev pub invariant-loop-line : goal.invariant-loop-line
 invariant-loop-line l = record {
-  rest : (s : State) → IsAt l.machine s → string_bytes l.out ++ lines_text s.large l.most l.below (drop l.line-index l.lines) ≡ string_bytes l.fn.out ++ lines_text s.large l.most l.y l.lines;
+  rest : (s : State) → IsAt l.machine s → string_bytes l.out ++ lines_text s.large l.most l.below
+      (drop l.line-index l.lines) ≡ string_bytes l.fn.out ++ lines_text s.large l.most l.y l.lines;
   place : l.below ≡ l.y + 25 * l.line-index;
 }

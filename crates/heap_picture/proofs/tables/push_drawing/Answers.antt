@@ -14,5 +14,8 @@ returns c =
     on_ok_weaker c.push_str.result (λ last.
     drawing_whole style (paged c.args.system.now) c.frames-frames.result.now c.tables_height.result c.count.result c.in_ok-lines.lines.items
     (string_bytes c.args.out.now) (string_bytes c.push_head.new.out) (string_bytes c.push_tables.new.out) (string_bytes c.push_str.new.self)
-    c.frames-frames.ensures c.in_ok-lines.ensures c.count.ensures.count (c.tables_height.ensures.value ∙ ap tables_height n) c.in_ok-push_head.ensures (c.in_ok-push_tables.ensures ∙ ap (λ (ls : List Line). string_bytes c.push_head.new.out ++ tables_text ls c.count.result) c.deref.ensures.value) last)
-    (pushed c.push_str.result (string_bytes c.push_str.new.self) (string_bytes c.push_tables.new.out ++ codes "</svg>\n") (string_bytes c.push_tables.new.out) c.push_str.ensures.bytes)
+    c.frames-frames.ensures c.in_ok-lines.ensures c.count.ensures.count (c.tables_height.ensures.value ∙ ap tables_height n)
+    c.in_ok-push_head.ensures (c.in_ok-push_tables.ensures ∙ ap (λ (ls : List Line).
+    string_bytes c.push_head.new.out ++ tables_text ls c.count.result) c.deref.ensures.value) last)
+    (pushed c.push_str.result (string_bytes c.push_str.new.self) (string_bytes c.push_tables.new.out ++ codes "</svg>\n")
+    (string_bytes c.push_tables.new.out) c.push_str.ensures.bytes)

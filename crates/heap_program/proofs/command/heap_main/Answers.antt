@@ -15,11 +15,14 @@ returns-in-Some-Run-clause-steps g c =
     let left = g.S.Source.left in
     let taken = g.K.Sink.taken in
     let words = command_of c.args.words.now in
-    let known : words ≡ Some (Run c.in-Some-Run.config) = (let value = c.command_of.ensures.value in let some = c.in-Some-Run.is in let what = c.in-Some-Run.field-0-is in cc) in
+    let known : words ≡ Some (Run c.in-Some-Run.config) = (let value = c.command_of.ensures.value in let some =
+    c.in-Some-Run.is in let what = c.in-Some-Run.field-0-is in cc) in
     record {
       run = λ config is.
           same_run words c.in-Some-Run.config config known is
-          (λ (k : Config). IfSome c.run_new.result.machine (IsAnsweredByNew k (left c.args.source.now) (left c.run_new.new.source) (taken c.args.sink.now) (taken c.run_new.new.sink) (g.K.Sink.flushed c.run_new.new.sink)))
+          (λ (k : Config). IfSome c.run_new.result.machine (IsAnsweredByNew k (left c.args.source.now)
+          (left c.run_new.new.source) (taken c.args.sink.now) (taken c.run_new.new.sink)
+          (g.K.Sink.flushed c.run_new.new.sink)))
           c.run_new.ensures.steps;
       generated = λ seed count config is. absurd (one_kind words c.in-Some-Run.config seed count config known is);
     }
@@ -29,12 +32,15 @@ returns-in-Some-Generate-clause-steps g c =
     let taken = g.K.Sink.taken in
     let words = command_of c.args.words.now in
     let it = c.in-Some-Generate in
-    let known : words ≡ Some (Generate it.seed it.count it.config) = (let value = c.command_of.ensures.value in let some = c.in-Some-Generate.is in let what = c.in-Some-Generate.field-0-is in cc) in
+    let known : words ≡ Some (Generate it.seed it.count it.config) = (let value = c.command_of.ensures.value in let some =
+    c.in-Some-Generate.is in let what = c.in-Some-Generate.field-0-is in cc) in
     record {
       run = λ config is. absurd (one_kind words config it.seed it.count it.config is known);
       generated = λ seed count config is.
           same_generate words it.seed it.count it.config seed count config known is
-          (λ (i n : ℕ) (k : Config). IfSome c.generate_new.result.machine (IsGeneratedByNew k i n (taken c.args.sink.now) (taken c.generate_new.new.sink) (g.K.Sink.flushed c.generate_new.new.sink)))
+          (λ (i n : ℕ) (k : Config). IfSome c.generate_new.result.machine
+          (IsGeneratedByNew k i n (taken c.args.sink.now) (taken c.generate_new.new.sink)
+          (g.K.Sink.flushed c.generate_new.new.sink)))
           c.generate_new.ensures.generated;
     }
 
@@ -46,10 +52,12 @@ returns-in-Some-Generate-clause-generated g c = λ seed count config is.
     let statuses = c.generate_new.ensures.statuses in
     let words = command_of c.args.words.now in
     let it = c.in-Some-Generate in
-    let known : words ≡ Some (Generate it.seed it.count it.config) = (let value = c.command_of.ensures.value in let some = c.in-Some-Generate.is in let what = c.in-Some-Generate.field-0-is in cc) in
+    let known : words ≡ Some (Generate it.seed it.count it.config) = (let value = c.command_of.ensures.value in let some =
+    c.in-Some-Generate.is in let what = c.in-Some-Generate.field-0-is in cc) in
     let done : IfSome c.generate_new.result.machine (IsGeneratedByNew config seed count (taken c.args.sink.now) (taken c.generate_new.new.sink) flushed) =
     same_generate words it.seed it.count it.config seed count config known is
-    (λ (i n : ℕ) (k : Config). IfSome c.generate_new.result.machine (IsGeneratedByNew k i n (taken c.args.sink.now) (taken c.generate_new.new.sink) flushed)) c.generate_new.ensures.generated in
+    (λ (i n : ℕ) (k : Config). IfSome c.generate_new.result.machine (IsGeneratedByNew k i n (taken c.args.sink.now)
+    (taken c.generate_new.new.sink) flushed)) c.generate_new.ensures.generated in
     record {
       generated = generated_live c.generate_new.result.machine config seed count (taken c.args.sink.now) (taken c.generate_new.new.sink) flushed done;
       stopped = search rules;
@@ -62,8 +70,10 @@ returns-in-Some-Generate-clause-status g c =
     let made = c.generate_new.ensures in
     let command = Generate c.in-Some-Generate.seed c.in-Some-Generate.count c.in-Some-Generate.config in
     let told = streams g.S.Source.left g.S.Source.faults g.K.Sink.taken g.K.Sink.flushed g.K.Sink.faults in
-    let is : command_of c.args.words.now ≡ Some command = (let value = c.command_of.ensures.value in let some = c.in-Some-Generate.is in let known = c.in-Some-Generate.field-0-is in cc) in
-    let done : IsStatusOf {S = g.row.S.Denot} {K = g.row.K.Denot} told (Some command) c.args.source.now c.args.source.now c.args.sink.now c.generate_new.new.sink c.generate_new.result.status = record {
+    let is : command_of c.args.words.now ≡ Some command = (let value = c.command_of.ensures.value in let some =
+    c.in-Some-Generate.is in let known = c.in-Some-Generate.field-0-is in cc) in
+    let done : IsStatusOf {S = g.row.S.Denot} {K = g.row.K.Denot} told (Some command) c.args.source.now c.args.source.now
+    c.args.sink.now c.generate_new.new.sink c.generate_new.result.status = record {
       few = omega (arith, made.statuses.2);
       usage = (λ one. absurd (made.statuses.0 one), λ none. absurd (cc));
       refused = made.refused;
@@ -72,6 +82,9 @@ returns-in-Some-Generate-clause-status g c =
       write_fault = made.write_fault;
       too_long = unread_long (g.S.Source.left c.args.source.now) c.generate_new.result.status made.statuses.2;
       flushed = λ which. absurd (elim which [ inl six ↦ made.statuses.1 six | inr eight ↦ omega (arith, eight, made.statuses.2) ]);
-      complete = λ good unread unwritten. complete_status c.in-Some-Generate.config c.generate_new.result.status (omega (arith, made.statuses.2)) made.statuses.0 made.refused good made.statuses.1 (λ seven. unwritten (made.write_fault seven));
+      complete = λ good unread unwritten. complete_status c.in-Some-Generate.config c.generate_new.result.status
+          (omega (arith, made.statuses.2)) made.statuses.0 made.refused good made.statuses.1
+          (λ seven. unwritten (made.write_fault seven));
     } in
-    subst (λ other. IsStatusOf {S = g.row.S.Denot} {K = g.row.K.Denot} told other c.args.source.now c.args.source.now c.args.sink.now c.generate_new.new.sink c.generate_new.result.status) (sym is) done
+    subst (λ other. IsStatusOf {S = g.row.S.Denot} {K = g.row.K.Denot} told other c.args.source.now c.args.source.now
+    c.args.sink.now c.generate_new.new.sink c.generate_new.result.status) (sym is) done

@@ -25,7 +25,8 @@ returns-in-Err-clause-status g c = record {
   write_fault = search rules;
   too_long = search rules;
   flushed = search rules;
-  complete = λ good unread unwritten. complete_status c.args.config.now c.ended_early.result.status (search rules) (search rules) (search rules) good (search rules) (search rules);
+  complete = λ good unread unwritten. complete_status c.args.config.now c.ended_early.result.status (search rules)
+      (search rules) (search rules) good (search rules) (search rules);
 }
 
 -- the run ended well
@@ -55,7 +56,9 @@ returns-in-Ok-run-clause-status g c =
       untouched = search rules;
       read_fault = search rules;
       write_fault = search rules;
-      too_long = ok_status (left c.args.source.now) c.in-Ok-run.machine (λ (input : List ℕ). 2 ^ 30 + length (unwrap_or (left c.run.new.source) []) < length input) c.in-Ok-run.ensures.too_long;
+      too_long = ok_status (left c.args.source.now) c.in-Ok-run.machine
+          (λ (input : List ℕ). 2 ^ 30 + length (unwrap_or (left c.run.new.source) []) < length input)
+          c.in-Ok-run.ensures.too_long;
       flushed = λ which. absurd (elim which [ inl six ↦ omega (arith, six) | inr eight ↦ omega (arith, eight) ]);
       complete = search rules;
     }
@@ -68,7 +71,8 @@ returns-in-Err-run-clause-run g c =
       answered = search rules;
       stopped = λ late. c.in-Err-run.ensures.stopped (start c.args.config.now) (record { good = fresh.new.good; stands = fresh.new.stands });
       caught_up = λ six. c.in-Err-run.ensures.at_fault (search rules) (start c.args.config.now) (record { good = fresh.new.good; stands = fresh.new.stands });
-      caught_up_long = λ eight. c.in-Err-run.ensures.at_length (search rules) (start c.args.config.now) (record { good = fresh.new.good; stands = fresh.new.stands });
+      caught_up_long = λ eight. c.in-Err-run.ensures.at_length (search rules) (start c.args.config.now)
+          (record { good = fresh.new.good; stands = fresh.new.stands });
     }
 
 pub returns-in-Err-run-clause-status : goal.returns-in-Err-run-clause-status
@@ -81,7 +85,9 @@ returns-in-Err-run-clause-status g c =
       untouched = search rules;
       read_fault = search rules;
       write_fault = search rules;
-      too_long = stop_status (left c.args.source.now) c.in-Err-run.stop c.ended_early-in-Err-run.result.status (λ (input : List ℕ). 2 ^ 30 + length (unwrap_or (left c.run.new.source) []) < length input) (c.ended_early-in-Err-run.ensures.status ∙ c.status_of.ensures)
+      too_long = stop_status (left c.args.source.now) c.in-Err-run.stop c.ended_early-in-Err-run.result.status
+          (λ (input : List ℕ). 2 ^ 30 + length (unwrap_or (left c.run.new.source) []) < length input)
+          (c.ended_early-in-Err-run.ensures.status ∙ c.status_of.ensures)
           c.in-Err-run.ensures.too_long;
       flushed = search rules;
       complete = search rules;

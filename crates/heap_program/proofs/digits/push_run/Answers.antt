@@ -7,7 +7,8 @@ use Rattle.heap_program.proofs.digits.push_run.Goals as goal
 pub push_text-requires : goal.push_text-requires
 push_text-requires c =
     let bytes = c.args.bytes.now in
-    subst IsUtf8 (sym (ap (take (2 * length bytes)) c.digits_of-digits.ensures ∙ run_front bytes c.padded-run.result c.padded-run.ensures)) (hexes_are_text bytes)
+    subst IsUtf8 (sym (ap (take (2 * length bytes)) c.digits_of-digits.ensures
+    ∙ run_front bytes c.padded-run.result c.padded-run.ensures)) (hexes_are_text bytes)
 
 pub returns : goal.returns
 returns c =

@@ -9,13 +9,16 @@ use Rattle.kernel_heap.specs.declared.machine.Machine.{Machine}
 use Rattle.heap_program.proofs.generate.generate.Goals as goal
 
 pub returns-in_err-draw_calls-clause-stopped : goal.returns-in_err-draw_calls-clause-stopped
-returns-in_err-draw_calls-clause-stopped g c = on_err c.from_residual.result (λ s at. none_generated s c.args.seed c.args.count (g.K.Sink.taken c.args.sink.now))
+returns-in_err-draw_calls-clause-stopped g c = on_err c.from_residual.result
+    (λ s at. none_generated s c.args.seed c.args.count (g.K.Sink.taken c.args.sink.now))
 
 pub returns-in_err-push_tally-clause-stopped : goal.returns-in_err-push_tally-clause-stopped
-returns-in_err-push_tally-clause-stopped g c = on_err c.from_residual-in_err-push_tally.result (λ s at. none_generated s c.args.seed c.args.count (g.K.Sink.taken c.args.sink.now))
+returns-in_err-push_tally-clause-stopped g c = on_err c.from_residual-in_err-push_tally.result
+    (λ s at. none_generated s c.args.seed c.args.count (g.K.Sink.taken c.args.sink.now))
 
 pub returns-in_err-push_end-clause-stopped : goal.returns-in_err-push_end-clause-stopped
-returns-in_err-push_end-clause-stopped g c = on_err c.from_residual-in_err-push_end.result (λ s at. none_generated s c.args.seed c.args.count (g.K.Sink.taken c.args.sink.now))
+returns-in_err-push_end-clause-stopped g c = on_err c.from_residual-in_err-push_end.result
+    (λ s at. none_generated s c.args.seed c.args.count (g.K.Sink.taken c.args.sink.now))
 
 pub returns-in_err-write_out-clause-stopped : goal.returns-in_err-write_out-clause-stopped
 returns-in_err-write_out-clause-stopped g c = on_err c.from_residual-in_err-write_out.result (λ s at.
@@ -25,8 +28,11 @@ returns-in_err-write_out-clause-stopped g c = on_err c.from_residual-in_err-writ
     (c.in_ok-draw_calls.ensures s (subst (λ (m : Machine). IsAt m s) (sym first.machine) at)) in
     let out = string_bytes c.push_end.new.out in
     let part = c.in_err-write_out.ensures.err in
-    part_generated s c.new-drawing.result.machine c.args.seed c.args.count drawing w out (g.K.Sink.taken c.args.sink.now) (g.K.Sink.taken c.write_out.new.sink) part.0
-    (whole_text s c.new-drawing.result.machine c.args.seed c.args.count drawing w (string_bytes c.new-output.result) (string_bytes c.push_tally.new.out) out c.new-output.ensures.bytes c.in_ok-push_tally.ensures (c.in_ok-push_end.ensures w.state w.at.stands)) part.1)
+    part_generated s c.new-drawing.result.machine c.args.seed c.args.count drawing w out (g.K.Sink.taken c.args.sink.now)
+    (g.K.Sink.taken c.write_out.new.sink) part.0
+    (whole_text s c.new-drawing.result.machine c.args.seed c.args.count drawing w (string_bytes c.new-output.result)
+    (string_bytes c.push_tally.new.out) out c.new-output.ensures.bytes c.in_ok-push_tally.ensures
+    (c.in_ok-push_end.ensures w.state w.at.stands)) part.1)
 
 pub returns-in_err-write_out-clause-which : goal.returns-in_err-write_out-clause-which
 returns-in_err-write_out-clause-which g c =
@@ -41,7 +47,11 @@ returns-clause-generated g c s at =
     let w = all_drawn s c.args.seed c.args.count c.new-drawing.result drawing first.state first.given first.refused
     (c.in_ok-draw_calls.ensures s (subst (λ (m : Machine). IsAt m s) (sym first.machine) at)) in
     let out = string_bytes c.push_end.new.out in
-    subst (λ (m : Machine). IsGeneratedBy m s c.args.seed c.args.count (g.K.Sink.taken c.args.sink.now) (g.K.Sink.taken c.write_out.new.sink) (g.K.Sink.flushed c.write_out.new.sink) drawing.machine) first.machine
-    (all_generated s c.new-drawing.result.machine c.args.seed c.args.count drawing w out (g.K.Sink.taken c.args.sink.now) (g.K.Sink.taken c.write_out.new.sink) (g.K.Sink.flushed c.write_out.new.sink)
-    (whole_text s c.new-drawing.result.machine c.args.seed c.args.count drawing w (string_bytes c.new-output.result) (string_bytes c.push_tally.new.out) out c.new-output.ensures.bytes c.in_ok-push_tally.ensures (c.in_ok-push_end.ensures w.state w.at.stands))
+    subst (λ (m : Machine). IsGeneratedBy m s c.args.seed c.args.count (g.K.Sink.taken c.args.sink.now)
+    (g.K.Sink.taken c.write_out.new.sink) (g.K.Sink.flushed c.write_out.new.sink) drawing.machine) first.machine
+    (all_generated s c.new-drawing.result.machine c.args.seed c.args.count drawing w out (g.K.Sink.taken c.args.sink.now)
+    (g.K.Sink.taken c.write_out.new.sink) (g.K.Sink.flushed c.write_out.new.sink)
+    (whole_text s c.new-drawing.result.machine c.args.seed c.args.count drawing w (string_bytes c.new-output.result)
+    (string_bytes c.push_tally.new.out) out c.new-output.ensures.bytes c.in_ok-push_tally.ensures
+    (c.in_ok-push_end.ensures w.state w.at.stands))
     c.in_ok-write_out.ensures.ok c.in_ok-write_out.ensures.flushed)

@@ -9,7 +9,8 @@ invariant-pieces g l =
     let left = g.S.Source.left in
     let taken = g.K.Sink.taken in
     record {
-      read : HasRead g.R.Respond.responds l.fn.session.responder l.session.responder l.session.line (left l.fn.source) (left l.source) (taken l.fn.sink) (taken l.sink) l.count;
+      read : HasRead g.R.Respond.responds l.fn.session.responder l.session.responder l.session.line (left l.fn.source)
+          (left l.source) (taken l.fn.sink) (taken l.sink) l.count;
       short : l.count ≤ 2 ^ 30;
       empty : string_bytes l.session.output ≡ [];
       one_line : IsOneLine l.session.line;

@@ -14,7 +14,8 @@ pub returns-in_err-read_all-clause-stopped : goal.returns-in_err-read_all-clause
 returns-in_err-read_all-clause-stopped g c = on_err c.from_residual.result (λ s at.
     let left = g.S.Source.left in
     let taken = g.K.Sink.taken in
-    seen_stopped s c.new-session.result.responder c.in_err-read_all.field-0.0 (left c.args.source.now) (left c.read_all.new.source) (taken c.args.sink.now) (taken c.read_all.new.sink)
+    seen_stopped s c.new-session.result.responder c.in_err-read_all.field-0.0 (left c.args.source.now)
+    (left c.read_all.new.source) (taken c.args.sink.now) (taken c.read_all.new.sink)
     (begun s c.new-session.result c.args.machine c.new-session.ensures.responder at) c.in_err-read_all.ensures.err)
 
 pub returns-in_err-read_all-clause-too_long : goal.returns-in_err-read_all-clause-too_long
@@ -30,14 +31,18 @@ returns-in_err-read_all-clause-at_fault g c is s at =
     let left = g.S.Source.left in
     let taken = g.K.Sink.taken in
     interrupted s c.new-session.result.responder 0 (left c.args.source.now) (left c.read_all.new.source) (taken c.args.sink.now) (taken c.read_all.new.sink)
-    (begun s c.new-session.result c.args.machine c.new-session.ensures.responder at) (c.in_err-read_all.ensures.err.at_fault (stop_is c.from_residual.result c.in_err-read_all.field-0.0 ReadFault c.from_residual.ensures.1 is))
+    (begun s c.new-session.result c.args.machine c.new-session.ensures.responder at)
+    (c.in_err-read_all.ensures.err.at_fault (stop_is c.from_residual.result c.in_err-read_all.field-0.0 ReadFault
+    c.from_residual.ensures.1 is))
 
 pub returns-in_err-read_all-clause-at_length : goal.returns-in_err-read_all-clause-at_length
 returns-in_err-read_all-clause-at_length g c is s at =
     let left = g.S.Source.left in
     let taken = g.K.Sink.taken in
     interrupted s c.new-session.result.responder 4096 (left c.args.source.now) (left c.read_all.new.source) (taken c.args.sink.now) (taken c.read_all.new.sink)
-    (begun s c.new-session.result c.args.machine c.new-session.ensures.responder at) (c.in_err-read_all.ensures.err.at_length (stop_is c.from_residual.result c.in_err-read_all.field-0.0 TooLong c.from_residual.ensures.1 is))
+    (begun s c.new-session.result c.args.machine c.new-session.ensures.responder at)
+    (c.in_err-read_all.ensures.err.at_length (stop_is c.from_residual.result c.in_err-read_all.field-0.0 TooLong
+    c.from_residual.ensures.1 is))
 
 pub returns-in_err-close-clause-stopped : goal.returns-in_err-close-clause-stopped
 returns-in_err-close-clause-stopped g c = on_err c.from_residual-in_err-close.result (λ s at.
@@ -46,7 +51,9 @@ returns-in_err-close-clause-stopped g c = on_err c.from_residual-in_err-close.re
     let h = c.in_ok-read_all.ensures.ok in
     let first = begun s c.new-session.result c.args.machine c.new-session.ensures.responder at in
     let b = h.responded.responses s first in
-    seen_last s c.new-session.result.responder c.read_all.new.session.responder c.read_all.new.session.line (left c.args.source.now) (left c.read_all.new.source) (taken c.args.sink.now) (taken c.read_all.new.sink) (taken c.close.new.sink) c.in_ok-read_all.field-0
+    seen_last s c.new-session.result.responder c.read_all.new.session.responder c.read_all.new.session.line
+    (left c.args.source.now) (left c.read_all.new.source) (taken c.args.sink.now) (taken c.read_all.new.sink)
+    (taken c.close.new.sink) c.in_ok-read_all.field-0
     first h c.in_ok-read_all.ensures.short (c.in_err-close.ensures.err b.state b.at))
 
 pub returns-in_err-close-clause-too_long : goal.returns-in_err-close-clause-too_long
@@ -55,7 +62,8 @@ returns-in_err-close-clause-too_long g c =
     let stop = c.in_err-close.field-0.0 in
     let h = c.in_ok-read_all.ensures.ok in
     stop_long (left c.args.source.now) (left c.read_all.new.source) c.from_residual-in_err-close.result stop c.from_residual-in_err-close.ensures.1
-    (late_long (left c.args.source.now) (left c.read_all.new.source) h.bytes c.in_ok-read_all.field-0 h.consumed h.counted c.in_ok-read_all.ensures.short stop c.in_err-close.ensures.which)
+    (late_long (left c.args.source.now) (left c.read_all.new.source) h.bytes c.in_ok-read_all.field-0 h.consumed h.counted
+    c.in_ok-read_all.ensures.short stop c.in_err-close.ensures.which)
 
 pub returns-clause-answered : goal.returns-clause-answered
 returns-clause-answered g c s at none =
@@ -64,42 +72,60 @@ returns-clause-answered g c s at none =
     let h = c.in_ok-read_all.ensures.ok in
     let first = begun s c.new-session.result c.args.machine c.new-session.ensures.responder at in
     let b = h.responded.responses s first in
-    subst (λ (m : Machine). IsAnsweredBy m s (left c.args.source.now) (left c.read_all.new.source) (taken c.args.sink.now) (taken c.close.new.sink) (g.K.Sink.flushed c.close.new.sink) c.close.new.session.responder) c.new-session.ensures.responder
-    (answered s c.new-session.result.responder c.read_all.new.session.responder c.close.new.session.responder c.read_all.new.session.line (left c.args.source.now) (left c.read_all.new.source) (taken c.args.sink.now) (taken c.read_all.new.sink) (taken c.close.new.sink) (g.K.Sink.flushed c.close.new.sink) c.in_ok-read_all.field-0
-    first h (ap (λ (blocks : List (Option Block)). length blocks) none) c.in_ok-read_all.ensures.short c.in_ok-read_all.ensures.end (c.in_ok-close.ensures.ok b.state b.at) c.in_ok-close.ensures.flushed)
+    subst (λ (m : Machine). IsAnsweredBy m s (left c.args.source.now) (left c.read_all.new.source) (taken c.args.sink.now)
+    (taken c.close.new.sink) (g.K.Sink.flushed c.close.new.sink) c.close.new.session.responder)
+    c.new-session.ensures.responder
+    (answered s c.new-session.result.responder c.read_all.new.session.responder c.close.new.session.responder
+    c.read_all.new.session.line (left c.args.source.now) (left c.read_all.new.source) (taken c.args.sink.now)
+    (taken c.read_all.new.sink) (taken c.close.new.sink) (g.K.Sink.flushed c.close.new.sink) c.in_ok-read_all.field-0
+    first h (ap (λ (blocks : List (Option Block)). length blocks) none) c.in_ok-read_all.ensures.short
+    c.in_ok-read_all.ensures.end (c.in_ok-close.ensures.ok b.state b.at) c.in_ok-close.ensures.flushed)
 
 pub returns-clause-too_long : goal.returns-clause-too_long
 returns-clause-too_long g c =
     let left = g.S.Source.left in
     let h = c.in_ok-read_all.ensures.ok in
-    ok_long c.close.new.session.responder (left c.args.source.now) (left c.read_all.new.source) h.bytes c.in_ok-read_all.field-0 h.consumed h.counted c.in_ok-read_all.ensures.short
+    ok_long c.close.new.session.responder (left c.args.source.now) (left c.read_all.new.source) h.bytes
+    c.in_ok-read_all.field-0 h.consumed h.counted c.in_ok-read_all.ensures.short
 
 pub returns-in_err-read_all-clause-flushed_fault :
     goal.returns-in_err-read_all-clause-flushed_fault
 returns-in_err-read_all-clause-flushed_fault g c is =
-    c.in_err-read_all.ensures.flushed_fault (ap (λ (e : Stop). Err e) (stop_is c.from_residual.result c.in_err-read_all.field-0.0 ReadFault c.from_residual.ensures.1 is))
+    c.in_err-read_all.ensures.flushed_fault (ap (λ (e : Stop). Err e) (stop_is c.from_residual.result
+    c.in_err-read_all.field-0.0 ReadFault c.from_residual.ensures.1 is))
 
 pub returns-in_err-read_all-clause-flushed_long : goal.returns-in_err-read_all-clause-flushed_long
 returns-in_err-read_all-clause-flushed_long g c is =
-    c.in_err-read_all.ensures.flushed_long (ap (λ (e : Stop). Err e) (stop_is c.from_residual.result c.in_err-read_all.field-0.0 TooLong c.from_residual.ensures.1 is))
+    c.in_err-read_all.ensures.flushed_long (ap (λ (e : Stop). Err e) (stop_is c.from_residual.result
+    c.in_err-read_all.field-0.0 TooLong c.from_residual.ensures.1 is))
 
 -- the sink is all that stops the end of a run
 pub returns-in_err-close-clause-read_cause : goal.returns-in_err-close-clause-read_cause
 returns-in_err-close-clause-read_cause g c is less =
-    absurd (sink_isnt c.in_err-close.field-0.0 c.in_err-close.ensures.which (stop_is c.from_residual-in_err-close.result c.in_err-close.field-0.0 ReadFault c.from_residual-in_err-close.ensures.1 is))
+    absurd (sink_isnt c.in_err-close.field-0.0 c.in_err-close.ensures.which
+    (stop_is c.from_residual-in_err-close.result c.in_err-close.field-0.0 ReadFault
+    c.from_residual-in_err-close.ensures.1 is))
 
 pub returns-in_err-close-clause-flushed_fault : goal.returns-in_err-close-clause-flushed_fault
 returns-in_err-close-clause-flushed_fault g c is =
-    absurd (sink_isnt c.in_err-close.field-0.0 c.in_err-close.ensures.which (stop_is c.from_residual-in_err-close.result c.in_err-close.field-0.0 ReadFault c.from_residual-in_err-close.ensures.1 is))
+    absurd (sink_isnt c.in_err-close.field-0.0 c.in_err-close.ensures.which
+    (stop_is c.from_residual-in_err-close.result c.in_err-close.field-0.0 ReadFault
+    c.from_residual-in_err-close.ensures.1 is))
 
 pub returns-in_err-close-clause-flushed_long : goal.returns-in_err-close-clause-flushed_long
 returns-in_err-close-clause-flushed_long g c is =
-    absurd (of_sink c.in_err-close.field-0.0 c.in_err-close.ensures.which (stop_is c.from_residual-in_err-close.result c.in_err-close.field-0.0 TooLong c.from_residual-in_err-close.ensures.1 is))
+    absurd (of_sink c.in_err-close.field-0.0 c.in_err-close.ensures.which
+    (stop_is c.from_residual-in_err-close.result c.in_err-close.field-0.0 TooLong c.from_residual-in_err-close.ensures.1
+    is))
 
 pub returns-in_err-close-clause-at_fault : goal.returns-in_err-close-clause-at_fault
 returns-in_err-close-clause-at_fault g c is s at =
-    absurd (sink_isnt c.in_err-close.field-0.0 c.in_err-close.ensures.which (stop_is c.from_residual-in_err-close.result c.in_err-close.field-0.0 ReadFault c.from_residual-in_err-close.ensures.1 is))
+    absurd (sink_isnt c.in_err-close.field-0.0 c.in_err-close.ensures.which
+    (stop_is c.from_residual-in_err-close.result c.in_err-close.field-0.0 ReadFault
+    c.from_residual-in_err-close.ensures.1 is))
 
 pub returns-in_err-close-clause-at_length : goal.returns-in_err-close-clause-at_length
 returns-in_err-close-clause-at_length g c is s at =
-    absurd (of_sink c.in_err-close.field-0.0 c.in_err-close.ensures.which (stop_is c.from_residual-in_err-close.result c.in_err-close.field-0.0 TooLong c.from_residual-in_err-close.ensures.1 is))
+    absurd (of_sink c.in_err-close.field-0.0 c.in_err-close.ensures.which
+    (stop_is c.from_residual-in_err-close.result c.in_err-close.field-0.0 TooLong c.from_residual-in_err-close.ensures.1
+    is))

@@ -14,6 +14,9 @@ loop-written-preserved g c =
     record {
       within = omega (arith, c.in_ok-written.ensures.within);
       told = subst (Appends (taken c.args.sink.now) (taken c.write.new.self)) (sym (take-add w n bytes))
-          (appends_more (taken c.args.sink.now) (taken c.loop-written.sink) (taken c.write.new.self) (take w bytes) (take n (drop w bytes)) c.loop-written.invariant.told (subst (λ (l : List ℕ). Appends (taken c.loop-written.sink) (taken c.write.new.self) (take n l)) (take_rest bytes w) c.in_ok-written.ensures.told));
+          (appends_more (taken c.args.sink.now) (taken c.loop-written.sink) (taken c.write.new.self) (take w bytes)
+          (take n (drop w bytes)) c.loop-written.invariant.told (subst (λ (l : List ℕ).
+          Appends (taken c.loop-written.sink) (taken c.write.new.self) (take n l)) (take_rest bytes w)
+          c.in_ok-written.ensures.told));
       later = omega arith;
     }

@@ -8,7 +8,11 @@ pub returns-in-Some : goal.returns-in-Some
 returns-in-Some c =
     let bytes = c.args.bytes.now in
     let near = some_near (λ (b : ℕ). b == 10) bytes c.in-Some.feed (sym c.first_of.ensures ∙ c.in-Some.is) in
-    record { few = omega (arith, near.0, near.1); line = one_line_before bytes c.in-Some.feed (omega (arith, near.1)); feed = λ less. found_at bytes c.in-Some.feed near.1 less }
+    record {
+      few = omega (arith, near.0, near.1);
+      line = one_line_before bytes c.in-Some.feed (omega (arith, near.1));
+      feed = λ less. found_at bytes c.in-Some.feed near.1 less;
+    }
 
 pub returns-in-None : goal.returns-in-None
 returns-in-None c =

@@ -18,7 +18,8 @@ returns-in-Err-clause-tells g c = record {
   read_fault = search rules;
   write_fault = search rules;
   too_long = search rules;
-  complete = λ good unread unwritten. complete_status c.args.config.now c.ended_early.result.status (search rules) (search rules) (search rules) good (search rules) (search rules);
+  complete = λ good unread unwritten. complete_status c.args.config.now c.ended_early.result.status (search rules)
+      (search rules) (search rules) good (search rules) (search rules);
 }
 
 pub tell_run-requires : goal.tell_run-requires
@@ -31,13 +32,20 @@ returns-in-Ok-tell_run-clause-tells g c =
     record {
       machine = search rules;
       extents = search rules;
-      told = (c.in-Ok.machine, c.in-Ok.ensures.new, c.in-Ok-tell_run.ensures.told (start c.args.config.now) (record { good = c.in-Ok.ensures.new.good; stands = c.in-Ok.ensures.new.stands }) refl);
+      told = (
+        c.in-Ok.machine,
+        c.in-Ok.ensures.new,
+        c.in-Ok-tell_run.ensures.told (start c.args.config.now)
+            (record { good = c.in-Ok.ensures.new.good; stands = c.in-Ok.ensures.new.stands }) refl,
+      );
       refused = made_status c.args.config.now c.in-Ok.ensures.accepted;
       part = λ late. absurd (omega (arith, late));
       silent = λ which. absurd (elim which [ inl six ↦ omega (arith, six) | inr eight ↦ omega (arith, eight) ]);
       read_fault = λ six. absurd (omega (arith, six));
       write_fault = λ seven. absurd (omega (arith, seven));
-      too_long = ok_status (left c.args.source.now) c.in-Ok-tell_run.listed (λ (input : List ℕ). 2 ^ 30 + length (unwrap_or (left c.tell_run.new.source) []) < length input) c.in-Ok-tell_run.ensures.too_long;
+      too_long = ok_status (left c.args.source.now) c.in-Ok-tell_run.listed
+          (λ (input : List ℕ). 2 ^ 30 + length (unwrap_or (left c.tell_run.new.source) []) < length input)
+          c.in-Ok-tell_run.ensures.too_long;
       complete = λ good unread unwritten. inl refl;
     }
 
@@ -50,11 +58,13 @@ returns-in-Err-tell_run-clause-tells g c =
       extents = search rules;
       told = search rules;
       refused = search rules;
-      part = λ late. c.in-Err-tell_run.ensures.part (start c.args.config.now) (record { good = c.in-Ok.ensures.new.good; stands = c.in-Ok.ensures.new.stands }) refl;
+      part = λ late. c.in-Err-tell_run.ensures.part (start c.args.config.now)
+          (record { good = c.in-Ok.ensures.new.good; stands = c.in-Ok.ensures.new.stands }) refl;
       silent = search rules;
       read_fault = search rules;
       write_fault = search rules;
-      too_long = stop_status (left c.args.source.now) c.in-Err-tell_run.stop c.ended_early-in-Err-tell_run.result.status (λ (input : List ℕ). 2 ^ 30 + length (unwrap_or (left c.tell_run.new.source) []) < length input)
+      too_long = stop_status (left c.args.source.now) c.in-Err-tell_run.stop c.ended_early-in-Err-tell_run.result.status
+          (λ (input : List ℕ). 2 ^ 30 + length (unwrap_or (left c.tell_run.new.source) []) < length input)
           (c.ended_early-in-Err-tell_run.ensures.status ∙ c.status_of.ensures) c.in-Err-tell_run.ensures.too_long;
       complete = λ good unread unwritten. search rules;
     }

@@ -17,5 +17,6 @@ push_under-returns t c =
     let all : c.loop-index.index ≡ 512 = omega (arith, c.loop-index-test.false, c.loop-index.auto.index-end) in
     let some : 1 ≤ left = omega (arith, c.if-left-eq0.false) in
     c.loop-index.invariant
-    ∙ ap (λ (n : ℕ). old ++ (line_of regions (4 - left) (number % 512) (first_page left number) (first_page left number) place ∷ entries_lines frames regions (lines_under frames regions (left - 1)) (4 - left) number place n)) all
+    ∙ ap (λ (n : ℕ). old ++ (line_of regions (4 - left) (number % 512) (first_page left number) (first_page left number)
+    place ∷ entries_lines frames regions (lines_under frames regions (left - 1)) (4 - left) number place n)) all
     ∙ ap (λ (ls : List Line). old ++ ls) (sym (under_table frames regions left number place some))

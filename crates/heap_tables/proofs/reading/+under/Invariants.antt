@@ -10,4 +10,6 @@ abbrev pub decreases-push_under : goal.decreases-push_under
 decreases-push_under l = 2 * l.left + 1
 
 abbrev pub invariant-push_under-loop-index : goal.invariant-push_under-loop-index
-invariant-push_under-loop-index l = l.lines.items ≡ l.fn.lines.items ++ (line_of l.regions (4 - l.left) (l.number % 512) (first_page l.left l.number) (first_page l.left l.number) (place_of l.place) ∷ [] ++ entries_lines l.frames l.regions (lines_under l.frames l.regions (l.left - 1)) (4 - l.left) l.number (place_of l.place) l.index)
+invariant-push_under-loop-index l = l.lines.items ≡ l.fn.lines.items ++ (line_of l.regions (4 - l.left) (l.number % 512)
+    (first_page l.left l.number) (first_page l.left l.number) (place_of l.place) ∷ [] ++ entries_lines l.frames l.regions
+    (lines_under l.frames l.regions (l.left - 1)) (4 - l.left) l.number (place_of l.place) l.index)

@@ -12,7 +12,9 @@ use Rattle.kernel_heap.proofs.beside.map.Goals as goal
 
 pub invariant_of-heap : goal.invariant_of-heap
 invariant_of-heap c =
-    intact_beside c.heap.inside.heap c.heap.invariant c.map.new.self (subst (λ (s : PagedSystem). IsBeside (paged s) (paged c.map.new.self)) c.allocator_mut.ensures.value c.map.ensures.beside) c.rests_outside.ensures
+    intact_beside c.heap.inside.heap c.heap.invariant c.map.new.self (subst
+    (λ (s : PagedSystem). IsBeside (paged s) (paged c.map.new.self)) c.allocator_mut.ensures.value c.map.ensures.beside)
+    c.rests_outside.ensures
 
 pub returns-clause-ok : goal.returns-clause-ok
 returns-clause-ok c =
@@ -37,4 +39,6 @@ returns-clause-refused c =
 pub returns-clause-kept : goal.returns-clause-kept
 returns-clause-kept c =
     subst (λ (h : Dlmalloc PagedSystem). IsKeptBeside h (record c.heap.inside.heap { system = c.map.new.self })) c.heap.view_is
-    (kept_beside c.heap.inside.heap c.heap.invariant c.map.new.self (subst (λ (s : PagedSystem). IsBeside (paged s) (paged c.map.new.self)) c.allocator_mut.ensures.value c.map.ensures.beside) c.rests_outside.ensures c.order_rests_outside.ensures)
+    (kept_beside c.heap.inside.heap c.heap.invariant c.map.new.self (subst
+    (λ (s : PagedSystem). IsBeside (paged s) (paged c.map.new.self)) c.allocator_mut.ensures.value c.map.ensures.beside)
+    c.rests_outside.ensures c.order_rests_outside.ensures)

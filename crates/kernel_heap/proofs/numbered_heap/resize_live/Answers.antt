@@ -29,7 +29,9 @@ returns-else-keeps_alignment-clause-ok c =
     let heap = c.args.heap.now in
     let live = c.args.live in
     rw c.if-keeps_alignment.false
-    (IfOk-weaker c.realloc.result _ _ (λ address out. given_fewer heap c.realloc.new.self live.address (usable (heap_state heap) live.address) c.args.size 16 address live.size (enough (heap_state heap) live.address live.size c.requires.block.block) out)
+    (IfOk-weaker c.realloc.result _ _ (λ address out. given_fewer heap c.realloc.new.self live.address
+    (usable (heap_state heap) live.address) c.args.size 16 address live.size
+    (enough (heap_state heap) live.address live.size c.requires.block.block) out)
     c.realloc.ensures.ok)
 
 pub returns-else-keeps_alignment-clause-resized : goal.returns-else-keeps_alignment-clause-resized
@@ -42,4 +44,5 @@ pub returns-else-keeps_alignment-clause-err : goal.returns-else-keeps_alignment-
 returns-else-keeps_alignment-clause-err c = rw c.if-keeps_alignment.false c.realloc.ensures.err
 
 pub returns-else-keeps_alignment-clause-tried : goal.returns-else-keeps_alignment-clause-tried
-returns-else-keeps_alignment-clause-tried c = rw c.if-keeps_alignment.false (IfErr-weaker c.realloc.result _ _ (λ error tried large few. tried large) c.realloc.ensures.tried)
+returns-else-keeps_alignment-clause-tried c = rw c.if-keeps_alignment.false
+    (IfErr-weaker c.realloc.result _ _ (λ error tried large few. tried large) c.realloc.ensures.tried)

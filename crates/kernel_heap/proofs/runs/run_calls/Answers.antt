@@ -12,7 +12,8 @@ use Rattle.kernel_heap.proofs.Calls.{served_none, served_more}
 use Rattle.kernel_heap.proofs.runs.run_calls.Goals as goal
 
 pub loop-call-init : goal.loop-call-init
-loop-call-init c = subst (λ (answers : List Answer). AreServed c.args.config.now [] answers c.in_ok-machine.machine) (sym c.new-answers.ensures) (served_none c.args.config.now c.in_ok-machine.machine c.in_ok-machine.ensures.new)
+loop-call-init c = subst (λ (answers : List Answer). AreServed c.args.config.now [] answers c.in_ok-machine.machine)
+    (sym c.new-answers.ensures) (served_none c.args.config.now c.in_ok-machine.machine c.in_ok-machine.ensures.new)
 
 pub loop-call-preserved : goal.loop-call-preserved
 loop-call-preserved c =
@@ -22,7 +23,9 @@ loop-call-preserved c =
     let call = get_or items i c.call-item.result in
     let answer = c.in_ok-step.field-0 in
     let more : AreServed config (take i items ++ call ∷ []) (c.loop-call.answers ++ answer ∷ []) c.step.new.self =
-    served_more config (take i items) c.loop-call.answers c.loop-call.machine c.step.new.self call answer c.loop-call.invariant (subst (λ (asked : Call). HasStepped c.loop-call.machine asked answer c.step.new.self) c.call-item.is c.in_ok-step.ensures.ok) in
+    served_more config (take i items) c.loop-call.answers c.loop-call.machine c.step.new.self call answer
+    c.loop-call.invariant (subst (λ (asked : Call). HasStepped c.loop-call.machine asked answer c.step.new.self)
+    c.call-item.is c.in_ok-step.ensures.ok) in
     subst (λ (calls : List Call). AreServed config calls c.push.new.self c.step.new.self) (sym (take_more items i c.call-item.result c.loop-call-test.true))
     (subst (λ (answers : List Answer). AreServed config (take i items ++ call ∷ []) answers c.step.new.self) (sym c.in_ok-push.ensures.ok) more)
 

@@ -6,13 +6,22 @@ use Rattle.heap_library.specs.Room.{IsRefusedResize}
 use Rattle.limzhur_c.proofs.exports.limzhur_realloc.Goals as goal
 
 pub returns-in-Ok-clause-ok : goal.returns-in-Ok-clause-ok
-returns-in-Ok-clause-ok c = λ _. subst (λ (h : Dlmalloc Arena). IsBlockResized h c.args.address c.args.size c.in-Ok.to c.realloc.new.self) c.open.ensures.heap c.in-Ok.ensures.ok
+returns-in-Ok-clause-ok c = λ _. subst (λ (h : Dlmalloc Arena). IsBlockResized h c.args.address c.args.size c.in-Ok.to
+    c.realloc.new.self) c.open.ensures.heap c.in-Ok.ensures.ok
 
 pub returns-in-Ok-clause-refused : goal.returns-in-Ok-clause-refused
 returns-in-Ok-clause-refused c =
     let low = c.in-Ok.ensures.ok.given.low in
-    let served = c.in-Ok.ensures.refused.1 in
-    (λ none. absurd (omega (arith, low, none)), λ refused. absurd (let no = served (subst (λ (h : Dlmalloc Arena). IsRefusedResize h c.args.address c.args.size) (sym c.open.ensures.heap) refused) in cc))
+    let served = c.in-Ok.ensures.refused.1 in (
+      λ none. absurd (omega (arith, low, none)),
+      λ refused. absurd (let no =
+          served (subst (λ (h : Dlmalloc Arena). IsRefusedResize h c.args.address c.args.size) (sym c.open.ensures.heap)
+          refused) in cc),
+    )
 
 pub returns-in-Err-clause-refused : goal.returns-in-Err-clause-refused
-returns-in-Err-clause-refused c = (λ _. subst (λ (h : Dlmalloc Arena). IsRefusedResize h c.args.address c.args.size) c.open.ensures.heap (c.in-Err.ensures.refused.0 refl), λ _. refl)
+returns-in-Err-clause-refused c = (
+  λ _. subst (λ (h : Dlmalloc Arena). IsRefusedResize h c.args.address c.args.size)
+      c.open.ensures.heap (c.in-Err.ensures.refused.0 refl),
+  λ _. refl,
+)

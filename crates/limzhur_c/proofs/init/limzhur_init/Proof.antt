@@ -53,32 +53,72 @@ pub limzhur_init_spec : {M : Type 1} → statement M
 limzhur_init_spec 𝓤 𝓛 𝓜 𝓡 wired =
     let c = f.clauses 𝓛 𝓜.mem 𝓡.returns in let W = walk_of 𝓛 f.ended stayed c in let 𝓣 = tables 𝓤 𝓛.H 𝓜 𝓡 𝓡.env in
     let goes = Goes-dropped 𝓛 0 (plain (λ _. RawPtr)) yes (λ κs x w. refl) in
-    proved 𝓛 f.ended stayed c 𝓜 𝓡 (goes, (goes, (Goes-dropped 𝓛 0 (plain (λ _. usize)) yes (λ κs x w. refl), (Goes-dropped 𝓛 0 (plain (λ _. u64)) yes (λ κs x w. refl), tt))))
+    proved 𝓛 f.ended stayed c 𝓜 𝓡 (
+      goes,
+      (
+        goes,
+        (
+          Goes-dropped 𝓛 0 (plain (λ _. usize)) yes (λ κs x w. refl),
+          (Goes-dropped 𝓛 0 (plain (λ _. u64)) yes (λ κs x w. refl), tt),
+        ),
+      ),
+    )
     f.Key.name code.function (code.unfolded 𝓤 𝓛.H 𝓜 𝓡 wired)
-    (λ κs. (rawptr_vals, (rawptr_vals, (uint_vals w64, (uint_vals w64, tt))))) (λ κs. (rawptr_Tells, (rawptr_Tells, (uint_Tells w64, (uint_Tells w64, tt))))) (λ κs qs bounds a ws are.
+    (λ κs. (rawptr_vals, (rawptr_vals, (uint_vals w64, (uint_vals w64, tt)))))
+    (λ κs. (rawptr_Tells, (rawptr_Tells, (uint_Tells w64, (uint_Tells w64, tt))))) (λ κs qs bounds a ws are.
     let p : Ptr = a.0 in let w : Ptr = a.1.0 in let n : ℕ = a.1.1.0 in let address : ℕ = a.1.1.1.0 in
     let y : W.Ghost = ((κs, qs, bounds, (p, (w, (n, (address, tt)))), (rawptr_vals p, (rawptr_vals w, (uint_vals w64 n, (uint_vals w64 address, tt))))), ws) in
-    let Few : Type 0 = n < 2 ^ 60 in let Clear : Type 0 = IsCleared ws in let Whole : Type 0 = address % 16 ≡ 0 in let Low : Type 0 = 4096 ≤ address in let High : Type 0 = address + 8 * n < 2 ^ 64 in let Grown : Type 0 = IsGranularity 65536 in
+    let Few : Type 0 = n < 2 ^ 60 in let Clear : Type 0 = IsCleared ws in let Whole : Type 0 = address % 16 ≡ 0 in
+    let Low : Type 0 = 4096 ≤ address in let High : Type 0 = address + 8 * n < 2 ^ 64 in let Grown : Type 0 =
+    IsGranularity 65536 in
     let Lies : Fml = lies_at (Array u64 n) full_share w ws in
-    qed 𝓛 ((‵ ftrue ⊛ ‵ (owns (RawPtr ∷ RawPtr ∷ usize ∷ u64 ∷ []) a y.0.4)) ∷ (‵ (room_at R p) ⊛ ‵ Lies ⊛ raw (fact 𝓤 Few) ⊛ raw (fact 𝓤 Clear) ⊛ raw (fact 𝓤 Whole) ⊛ raw (fact 𝓤 Low) ⊛ raw (fact 𝓤 High)) ∷ []) ∵
-    move ! (1 ∷ []) $ split ! $ move ! (1 ∷ []) $ split ! $ move ! (1 ∷ []) $ split ! $ heard ! Few (λ few. split ! $ heard ! Clear (λ clear. split ! $ heard ! Whole (λ whole. split ! $ heard ! Low (λ low. heard ! High (λ high. move ! (1 ∷ 0 ∷ []) $ keep ! (0 ∷ 1 ∷ []) $
+    qed 𝓛 ((‵ ftrue ⊛ ‵ (owns (RawPtr ∷ RawPtr ∷ usize ∷ u64 ∷ []) a y.0.4)) ∷ (‵ (room_at R p) ⊛ ‵ Lies ⊛ raw (fact 𝓤 Few)
+    ⊛ raw (fact 𝓤 Clear) ⊛ raw (fact 𝓤 Whole) ⊛ raw (fact 𝓤 Low) ⊛ raw (fact 𝓤 High)) ∷ []) ∵
+    move ! (1 ∷ []) $ split ! $ move ! (1 ∷ []) $ split ! $ move ! (1 ∷ []) $ split ! $ heard ! Few
+    (λ few. split ! $ heard ! Clear (λ clear. split ! $ heard ! Whole
+    (λ whole. split ! $ heard ! Low (λ low. heard ! High (λ high. move ! (1 ∷ 0 ∷ []) $ keep ! (0 ∷ 1 ∷ []) $
     -- [the room; the words]
-    enter ! _ _ _ _ _ $ alloc_all ! (λ l. pass_all ! refl (((rawptr_Lawful 𝓛).typed p _ refl).0, (((rawptr_Lawful 𝓛).typed w _ refl).0, ((tt, record { fits = are.1.1.0.1 }), ((tt, record { fits = are.1.1.1.0.1 }), tt)))) $
+    enter ! _ _ _ _ _ $ alloc_all ! (λ l. pass_all ! refl (
+      ((rawptr_Lawful 𝓛).typed p _ refl).0,
+      (
+        ((rawptr_Lawful 𝓛).typed w _ refl).0,
+        (
+          (tt, record { fits = are.1.1.0.1 }),
+          ((tt, record { fits = are.1.1.1.0.1 }), tt),
+        ),
+      ),
+    ) $
     -- limzhur_init_with(.., 65536)
     let G = triple_of 𝓛 g.signature (g.spec 𝓛 𝓜.mem 𝓡.returns) in
-    let z : G.Ghost = ((tt, tt, tt, (p, (w, (n, (address, (65536, tt))))), (rawptr_vals p, (rawptr_vals w, (uint_vals w64 n, (uint_vals w64 address, (uint_vals w64 65536, tt)))))), ws) in
+    let z : G.Ghost = (
+      (
+        tt,
+        tt,
+        tt,
+        (p, (w, (n, (address, (65536, tt))))),
+        (rawptr_vals p, (rawptr_vals w, (uint_vals w64 n, (uint_vals w64 address, (uint_vals w64 65536, tt))))),
+      ),
+      ws,
+    ) in
     let Made : CheckedHeap → SProp 𝓤 = λ k. sep 𝓤 (sem 𝓛 (lies_at R full_share p k)) (fact 𝓤 (IsBegun ws address 65536 k)) in
-    use0 𝓛 (raw (fact 𝓤 Grown)) (fact_i 𝓤 Grown (emp 𝓤) ((16, refl), omega arith)) $ use0 𝓛 (raw (fact 𝓤 High)) (fact_i 𝓤 High (emp 𝓤) high) $ join ! $ use0 𝓛 (raw (fact 𝓤 Low)) (fact_i 𝓤 Low (emp 𝓤) low) $ join ! $
-    use0 𝓛 (raw (fact 𝓤 Whole)) (fact_i 𝓤 Whole (emp 𝓤) whole) $ join ! $ use0 𝓛 (raw (fact 𝓤 Clear)) (fact_i 𝓤 Clear (emp 𝓤) clear) $ join ! $ use0 𝓛 (raw (fact 𝓤 Few)) (fact_i 𝓤 Few (emp 𝓤) few) $ join ! $
+    use0 𝓛 (raw (fact 𝓤 Grown)) (fact_i 𝓤 Grown (emp 𝓤) ((16, refl), omega arith)) $ use0 𝓛 (raw (fact 𝓤 High))
+    (fact_i 𝓤 High (emp 𝓤) high) $ join ! $ use0 𝓛 (raw (fact 𝓤 Low)) (fact_i 𝓤 Low (emp 𝓤) low) $ join ! $
+    use0 𝓛 (raw (fact 𝓤 Whole)) (fact_i 𝓤 Whole (emp 𝓤) whole) $ join ! $ use0 𝓛 (raw (fact 𝓤 Clear))
+    (fact_i 𝓤 Clear (emp 𝓤) clear) $ join ! $ use0 𝓛 (raw (fact 𝓤 Few)) (fact_i 𝓤 Few (emp 𝓤) few) $ join ! $
     move ! (2 ∷ 0 ∷ []) $ join ! $ move ! (1 ∷ 0 ∷ []) $ join ! $
-    nothing ! $ owned ! u64 _ (uint_Makes 𝓛 w64) 65536 _ (refl, lit< tt) $ fjoin ! $ owned ! u64 _ (uint_Makes 𝓛 w64) address _ (refl, are.1.1.1.0.1) $ fjoin ! $
-    owned ! usize _ (uint_Makes 𝓛 w64) n _ (refl, are.1.1.0.1) $ fjoin ! $ feq_i ! (List Val) (rawptr_vals w) (rawptr_vals w) refl $ fjoin ! $ feq_i ! (List Val) (rawptr_vals p) (rawptr_vals p) refl $ fjoin ! $
+    nothing ! $ owned ! u64 _ (uint_Makes 𝓛 w64) 65536 _ (refl, lit< tt) $ fjoin ! $ owned ! u64 _ (uint_Makes 𝓛 w64)
+    address _ (refl, are.1.1.1.0.1) $ fjoin ! $
+    owned ! usize _ (uint_Makes 𝓛 w64) n _ (refl, are.1.1.0.1) $ fjoin ! $ feq_i ! (List Val) (rawptr_vals w)
+    (rawptr_vals w) refl $ fjoin ! $ feq_i ! (List Val) (rawptr_vals p) (rawptr_vals p) refl $ fjoin ! $
     nothing ! $ join ! $ join ! $ use1 𝓛 (raw (G.pre z)) (id⊢ 𝓤 _) $
     calls_at ! (framed 𝓤 𝓛.H 𝓜 𝓣) G (with_met 𝓤 𝓛 𝓜 𝓡 (code.calls-limzhur_c::init::limzhur_init_with 𝓡.env wired)) z
-    (and_then ! (get ! refl) (and_then ! (get ! refl) (and_then ! (get ! refl) (and_then ! (get ! refl) (and_then ! (big_lit ! (record { fits = lit< tt })) (no_more !)))))) (λ v.
-    use1 𝓛 (later (some (λ (r : Unit {0}). (‵ ftrue ⊛ ‵ (unit.own_val r (v ∷ []))) ⊛ some (λ (ls : Lasts g.ended z.0.0 z.0.3). ‵ (lasts g.ended z.0.0 z.0.3 ls) ⊛ raw (ex 𝓤 Made))))) (id⊢ 𝓤 _) $
+    (and_then ! (get ! refl) (and_then ! (get ! refl) (and_then ! (get ! refl)
+    (and_then ! (get ! refl) (and_then ! (big_lit ! (record { fits = lit< tt })) (no_more !)))))) (λ v.
+    use1 𝓛 (later (some (λ (r : Unit {0}). (‵ ftrue ⊛ ‵ (unit.own_val r (v ∷ []))) ⊛ some
+    (λ (ls : Lasts g.ended z.0.0 z.0.3). ‵ (lasts g.ended z.0.0 z.0.3 ls) ⊛ raw (ex 𝓤 Made))))) (id⊢ 𝓤 _) $
     await ! tt $ pick ! (λ r. split ! $ split ! $ drop ! $ feq_l ! (λ is. pick ! (λ ls. split ! $ drop ! $ lands_as ! (ap only is) refl (tt, tt) $
     -- [the heap]
     sets ! (of_opd ! (unit_lit !)) refl (tt, tt) $ returns ! (look_at ! 0 refl) $ free_all ! refl $ keep ! (0 ∷ []) $
     suffices ! _ (ends_at 𝓛 f.ended stayed c y vunit tt (tt, (tt, (tt, (tt, tt)))) (tt, (tt, (tt, (tt, tt))))) $
-    feq_i ! _ (vunit ∷ []) _ refl $ nothing ! $ nothing ! $ fjoin ! $ nothing ! $ fjoin ! $ nothing ! $ fjoin ! $ nothing ! $ fjoin ! $ join ! $ nothing ! $ join ! $ join ! $ done !)))))))))))
+    feq_i ! _ (vunit ∷ []) _ refl $ nothing ! $ nothing ! $ fjoin ! $ nothing ! $ fjoin ! $ nothing ! $ fjoin ! $ nothing !
+    $ fjoin ! $ join ! $ nothing ! $ join ! $ join ! $ done !)))))))))))

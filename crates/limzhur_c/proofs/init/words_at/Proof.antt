@@ -40,12 +40,16 @@ stayed = (stay_dropped _ yes, (stay_dropped _ yes, tt))
 pub words_at_spec : {M : Type 1} → statement M
 words_at_spec 𝓤 𝓛 𝓜 𝓡 wired =
     let c = f.clauses 𝓛 𝓜.mem 𝓡.returns in let W = walk_of 𝓛 f.ended stayed c in let 𝓣 = tables 𝓤 𝓛.H 𝓜 𝓡 𝓡.env in
-    proved 𝓛 f.ended stayed c 𝓜 𝓡 (Goes-dropped 𝓛 0 (plain (λ _. RawPtr)) yes (λ κs x w. refl), (Goes-dropped 𝓛 0 (plain (λ _. usize)) yes (λ κs x w. refl), tt))
+    proved 𝓛 f.ended stayed c 𝓜 𝓡 (
+      Goes-dropped 𝓛 0 (plain (λ _. RawPtr)) yes (λ κs x w. refl),
+      (Goes-dropped 𝓛 0 (plain (λ _. usize)) yes (λ κs x w. refl), tt),
+    )
     f.Key.name code.function (code.unfolded 𝓤 𝓛.H 𝓜 𝓡 wired)
     (λ κs. (rawptr_vals, (uint_vals w64, tt))) (λ κs. (rawptr_Tells, (uint_Tells w64, tt))) (λ κs qs bounds a g are.
     let κ : Lft = [] in let n : ℕ = a.1.0 in
     let y : Ptr → W.Ghost = λ p. ((κs, qs, bounds, (p, (n, tt)), (rawptr_vals p, (uint_vals w64 n, tt))), g) in
-    qed 𝓛 ((‵ ftrue ⊛ ‵ (owns (RawPtr ∷ usize ∷ []) (a.0, (n, tt)) (rawptr_vals a.0, (uint_vals w64 n, tt)))) ∷ (‵ (lies_at (Array u64 n) full_share a.0 g) ⊛ raw (fact 𝓤 (n < 2 ^ 60))) ∷ []) ∵
+    qed 𝓛 ((‵ ftrue ⊛ ‵ (owns (RawPtr ∷ usize ∷ []) (a.0, (n, tt)) (rawptr_vals a.0, (uint_vals w64 n, tt)))) ∷ (‵
+    (lies_at (Array u64 n) full_share a.0 g) ⊛ raw (fact 𝓤 (n < 2 ^ 60))) ∷ []) ∵
     move ! (1 ∷ []) $ split ! $ move ! (1 ∷ []) $ heard ! (n < 2 ^ 60) (λ low. keep ! (0 ∷ []) $
     in_a_block ! a.0 (λ p. lies_at (Array u64 n) full_share p g) (id⊢ 𝓤 _) (λ b o e.
     regoal ! (λ p. prop (WpFn 𝓤 𝓛.H 𝓣.C 𝓣.Λ code.function (rawptr_vals p ++ (uint_vals w64 n ++ [])) (W.post (y p)))) e refl $

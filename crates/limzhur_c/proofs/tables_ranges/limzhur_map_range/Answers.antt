@@ -27,14 +27,17 @@ cause_is : (c : goal.After-map_range) →
     map_range_fault c.open.result.now c.containing_address.result c.args.pages c.containing_address-frame.result
     ≡ map_range_cause c.args.handle.now.tables c.args.address c.args.pages c.args.frame
 cause_is c =
-    sym (map_asked c.args.handle.now.tables c.open.result.now c.args.address c.args.pages c.args.frame c.containing_address.result c.containing_address-frame.result
+    sym (map_asked c.args.handle.now.tables c.open.result.now c.args.address c.args.pages c.args.frame
+    c.containing_address.result c.containing_address-frame.result
     (c.in-Ok.ensures.canonical.0 refl) (omega (arith, c.if-frame.false)) c.open.ensures.tables (page_is c) (frame_is c))
 
 pub returns-in-Ok-map_range-clause-answer : goal.returns-in-Ok-map_range-clause-answer
-returns-in-Ok-map_range-clause-answer c = ap range_code (c.in-Ok-map_range.ensures.fault ∙ cause_is (goal.at.returns-in-Ok-map_range-clause-answer c).After-map_range)
+returns-in-Ok-map_range-clause-answer c = ap range_code (c.in-Ok-map_range.ensures.fault
+    ∙ cause_is (goal.at.returns-in-Ok-map_range-clause-answer c).After-map_range)
 
 pub returns-in-Err-clause-answer : goal.returns-in-Err-clause-answer
-returns-in-Err-clause-answer c = c.refuse.ensures.code ∙ ap range_code (c.in-Err.ensures.fault ∙ cause_is (goal.at.returns-in-Err-clause-answer c).After-map_range)
+returns-in-Err-clause-answer c = c.refuse.ensures.code ∙ ap range_code
+    (c.in-Err.ensures.fault ∙ cause_is (goal.at.returns-in-Err-clause-answer c).After-map_range)
 
 pub returns-in-Ok-map_range-clause-told : goal.returns-in-Ok-map_range-clause-told
 returns-in-Ok-map_range-clause-told c =
@@ -42,7 +45,8 @@ returns-in-Ok-map_range-clause-told c =
 
 pub returns-in-Err-clause-told : goal.returns-in-Err-clause-told
 returns-in-Err-clause-told c =
-    c.refuse.ensures.told ∙ ap (λ cause. told_of cause c.args.told.now) (c.in-Err.ensures.fault ∙ cause_is (goal.at.returns-in-Err-clause-told c).After-map_range)
+    c.refuse.ensures.told ∙ ap (λ cause. told_of cause c.args.told.now)
+    (c.in-Err.ensures.fault ∙ cause_is (goal.at.returns-in-Err-clause-told c).After-map_range)
 
 pub returns-in-Ok-map_range-clause-mapped : goal.returns-in-Ok-map_range-clause-mapped
 returns-in-Ok-map_range-clause-mapped c =
@@ -50,4 +54,8 @@ returns-in-Ok-map_range-clause-mapped c =
     λ _. rw (c.open.ensures.tables, page_is at, frame_is at) at c.in-Ok-map_range.ensures.mapped
 
 pub returns-in-Ok-map_range-clause-only : goal.returns-in-Ok-map_range-clause-only
-returns-in-Ok-map_range-clause-only c = rw (c.open.ensures.tables, page_is (goal.at.returns-in-Ok-map_range-clause-only c).After-map_range) at c.in-Ok-map_range.ensures.only
+returns-in-Ok-map_range-clause-only c = rw (
+  c.open.ensures.tables,
+  page_is
+      (goal.at.returns-in-Ok-map_range-clause-only c).After-map_range,
+) at c.in-Ok-map_range.ensures.only

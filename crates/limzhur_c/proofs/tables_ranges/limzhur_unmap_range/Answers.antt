@@ -18,19 +18,26 @@ page_is c = c.containing_address.ensures ∙ ap (λ a. a / 4096) c.in-Ok.ensures
 cause_is : (c : goal.After-unmap_range) →
     change_range_fault c.open.result.now c.containing_address.result c.args.pages ≡ change_range_cause c.args.handle.now.tables c.args.address c.args.pages
 cause_is c =
-    sym (change_asked c.args.handle.now.tables c.open.result.now c.args.address c.args.pages c.containing_address.result (c.in-Ok.ensures.canonical.0 refl) c.open.ensures.tables (page_is c))
+    sym (change_asked c.args.handle.now.tables c.open.result.now c.args.address c.args.pages c.containing_address.result
+    (c.in-Ok.ensures.canonical.0 refl) c.open.ensures.tables (page_is c))
 
 pub returns-in-Ok-unmap_range-clause-told : goal.returns-in-Ok-unmap_range-clause-told
 returns-in-Ok-unmap_range-clause-told c =
-    ap (λ cause. told_of cause c.args.told.now) (c.in-Ok-unmap_range.ensures.fault ∙ cause_is (goal.at.returns-in-Ok-unmap_range-clause-told c).After-unmap_range)
+    ap (λ cause. told_of cause c.args.told.now) (c.in-Ok-unmap_range.ensures.fault
+    ∙ cause_is (goal.at.returns-in-Ok-unmap_range-clause-told c).After-unmap_range)
 
 pub returns-in-Err-clause-told : goal.returns-in-Err-clause-told
 returns-in-Err-clause-told c =
-    c.refuse.ensures.told ∙ ap (λ cause. told_of cause c.args.told.now) (c.in-Err.ensures.fault ∙ cause_is (goal.at.returns-in-Err-clause-told c).After-unmap_range)
+    c.refuse.ensures.told ∙ ap (λ cause. told_of cause c.args.told.now)
+    (c.in-Err.ensures.fault ∙ cause_is (goal.at.returns-in-Err-clause-told c).After-unmap_range)
 
 pub returns-in-Ok-unmap_range-clause-unmapped : goal.returns-in-Ok-unmap_range-clause-unmapped
 returns-in-Ok-unmap_range-clause-unmapped c =
     λ _. rw (c.open.ensures.tables, page_is (goal.at.returns-in-Ok-unmap_range-clause-unmapped c).After-unmap_range) at c.in-Ok-unmap_range.ensures.unmapped
 
 pub returns-in-Ok-unmap_range-clause-only : goal.returns-in-Ok-unmap_range-clause-only
-returns-in-Ok-unmap_range-clause-only c = rw (c.open.ensures.tables, page_is (goal.at.returns-in-Ok-unmap_range-clause-only c).After-unmap_range) at c.in-Ok-unmap_range.ensures.only
+returns-in-Ok-unmap_range-clause-only c = rw (
+  c.open.ensures.tables,
+  page_is
+      (goal.at.returns-in-Ok-unmap_range-clause-only c).After-unmap_range,
+) at c.in-Ok-unmap_range.ensures.only

@@ -9,11 +9,15 @@ use Rattle.machine_rows.proofs.beside.unmap_beside.Goals as goal
 
 pub invariant_of-heap : goal.invariant_of-heap
 invariant_of-heap c =
-    intact_beside c.heap.inside.heap c.heap.invariant c.unmap.new.self (subst (λ (s : PagedSystem). IsBeside (paged s) (paged c.unmap.new.self)) c.allocator_mut.ensures.value c.unmap.ensures.beside) c.rests_outside.ensures
+    intact_beside c.heap.inside.heap c.heap.invariant c.unmap.new.self
+    (subst (λ (s : PagedSystem). IsBeside (paged s) (paged c.unmap.new.self)) c.allocator_mut.ensures.value
+    c.unmap.ensures.beside) c.rests_outside.ensures
 
 pub returns : goal.returns
 returns c = record {
   kept =
       subst (λ (h : Dlmalloc PagedSystem). IsKeptBeside h (record c.heap.inside.heap { system = c.unmap.new.self })) c.heap.view_is
-      (kept_beside c.heap.inside.heap c.heap.invariant c.unmap.new.self (subst (λ (s : PagedSystem). IsBeside (paged s) (paged c.unmap.new.self)) c.allocator_mut.ensures.value c.unmap.ensures.beside) c.rests_outside.ensures c.order_rests_outside.ensures);
+      (kept_beside c.heap.inside.heap c.heap.invariant c.unmap.new.self
+      (subst (λ (s : PagedSystem). IsBeside (paged s) (paged c.unmap.new.self)) c.allocator_mut.ensures.value
+      c.unmap.ensures.beside) c.rests_outside.ensures c.order_rests_outside.ensures);
 }

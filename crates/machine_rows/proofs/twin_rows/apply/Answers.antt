@@ -6,13 +6,20 @@ use Rattle.machine_rows.proofs.TwinHeaps.{word, block_of, has_block}
 use Rattle.machine_rows.proofs.twin_rows.apply.Goals as goal
 
 pub realloc-requires : goal.realloc-requires
-realloc-requires g c = record { block = has_block (state_of word c.args.heap.now) c.in-CRealloc.address c.in_ok-chunk_of-in-CRealloc.field-0 c.in_ok-chunk_of-in-CRealloc.ensures }
+realloc-requires g c = record {
+  block = has_block (state_of word c.args.heap.now) c.in-CRealloc.address
+      c.in_ok-chunk_of-in-CRealloc.field-0 c.in_ok-chunk_of-in-CRealloc.ensures;
+}
 
 pub free-requires : goal.free-requires
-free-requires g c = record { block = has_block (state_of word c.args.heap.now) c.in-Free.address c.in_ok-chunk_of-in-Free.field-0 c.in_ok-chunk_of-in-Free.ensures }
+free-requires g c = record {
+  block = has_block (state_of word c.args.heap.now) c.in-Free.address
+      c.in_ok-chunk_of-in-Free.field-0 c.in_ok-chunk_of-in-Free.ensures;
+}
 
 pub store-requires-clause-block : goal.store-requires-clause-block
-store-requires-clause-block g c = has_block (state_of word c.args.heap.now) c.in-Store.address c.in_ok-chunk_of-in-Store.field-0 c.in_ok-chunk_of-in-Store.ensures
+store-requires-clause-block g c = has_block (state_of word c.args.heap.now) c.in-Store.address
+    c.in_ok-chunk_of-in-Store.field-0 c.in_ok-chunk_of-in-Store.ensures
 
 pub store-requires-clause-within : goal.store-requires-clause-within
 store-requires-clause-within g c =

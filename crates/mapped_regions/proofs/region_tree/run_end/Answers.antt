@@ -30,7 +30,8 @@ loop-entry-preserved c =
     let here = held_pair at 0 es (2 ^ 52) next c.requires (sym c.in-Some.ensures) in
     record {
       above = omega (arith, above, i.starts, i.some);
-      held = held_join (4096 * c.args.from) (4096 * at) (4096 * next.0.end) (regions_of es) c.loop-entry.invariant.held (λ address a b. here address (omega (arith, a, c.if-entry-at.false)) b);
+      held = held_join (4096 * c.args.from) (4096 * at) (4096 * next.0.end) (regions_of es) c.loop-entry.invariant.held
+          (λ address a b. here address (omega (arith, a, c.if-entry-at.false)) b);
     }
 
 pub returns-clause-above : goal.returns-clause-above

@@ -8,6 +8,9 @@ returns-in-Ok-clause-pairs g c = rw (c.in-Ok.ensures.items, to_visit-push, c.der
 
 pub returns-in-Ok-clause-walk : goal.returns-in-Ok-clause-walk
 returns-in-Ok-clause-walk g c =
-    let sound : IsSoundNode g.T.Ord.cmp c.deref.result.now = rw c.deref.ensures (rw c.in-Fork.is at c.requires.recorded, rw c.in-Fork.is at c.requires.ordered) in
+    let sound : IsSoundNode g.T.Ord.cmp c.deref.result.now = rw c.deref.ensures
+    (rw c.in-Fork.is at c.requires.recorded, rw c.in-Fork.is at c.requires.ordered) in
     let room = rw c.in-Fork.is at c.requires.room in
-    rw c.in-Ok.ensures.items (walk-push g.T.Ord.cmp _ 0 _ c.deref.result (walk-more g.T.Ord.cmp _ _ 0 _ c.in-Ok.ensures.capacity c.requires.walk) sound (let n = c.args.nodes.now.ok.0 in rw c.deref.ensures (omega (arith, room, n, c.in-Ok.ensures.capacity))))
+    rw c.in-Ok.ensures.items (walk-push g.T.Ord.cmp _ 0 _ c.deref.result
+    (walk-more g.T.Ord.cmp _ _ 0 _ c.in-Ok.ensures.capacity c.requires.walk) sound
+    (let n = c.args.nodes.now.ok.0 in rw c.deref.ensures (omega (arith, room, n, c.in-Ok.ensures.capacity))))

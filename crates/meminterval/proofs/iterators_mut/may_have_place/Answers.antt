@@ -17,5 +17,7 @@ returns-then-node-passed g c = λ _. place_past (λ e. overlaps g.T.Ord.cmp e.0 
     (let size = c.requires.0.4 in omega (arith, size, c.if-node-passed.true, length_visited (tree_of_node c.args.node.now)))
 
 pub returns : goal.returns
-returns g c = λ h. no_place g.T.Ord.cmp g.met.T.Ord.total c.args.interval.now (tree_of c.args.node.now.left) (c.args.node.now.interval, c.args.node.now.value) (tree_of c.args.node.now.right) c.args.node.now.greatest c.requires.0.2
+returns g c = λ h. no_place g.T.Ord.cmp g.met.T.Ord.total c.args.interval.now (tree_of c.args.node.now.left)
+    (c.args.node.now.interval, c.args.node.now.value) (tree_of c.args.node.now.right) c.args.node.now.greatest
+    c.requires.0.2
     (sym c.ends_up_to.ensures ∙ not_false c.ends_up_to.result h) c.args.passed

@@ -13,7 +13,8 @@ shorten_below-requires g t c =
     let s = rw c.in-Fork.is at c.requires.ordered in
     let few = rw (c.in-Fork.is, length_fork) at c.requires.room in
     let higher = rw c.in-Fork.is at c.decreases in
-    let ordered : IsOrdered (by_ends g.T.Ord.cmp) (entries (tree_of c.split-left.result.0)) = rw c.split-left.ensures.left (ordered_front (by_ends g.T.Ord.cmp) _ _ s) in
+    let ordered : IsOrdered (by_ends g.T.Ord.cmp) (entries (tree_of c.split-left.result.0)) =
+    rw c.split-left.ensures.left (ordered_front (by_ends g.T.Ord.cmp) _ _ s) in
     let room : length (entries (tree_of c.split-left.result.0)) ≤ 2 ^ 63 = rw c.split-left.ensures.left (omega (arith, few)) in
     λ κs h. (rw c.split-left.ensures.left (omega (arith, higher)), (search rules, (search rules, (c.requires.clones, (search rules, (ordered, room))))))
 
@@ -22,7 +23,8 @@ shorten_below-requires-in-Greater g t c =
     let s = rw c.in-Fork.is at c.requires.ordered in
     let few = rw (c.in-Fork.is, length_fork) at c.requires.room in
     let higher = rw c.in-Fork.is at c.decreases in
-    let ordered : IsOrdered (by_ends g.T.Ord.cmp) (entries (tree_of c.split-left.result.2)) = rw c.split-left.ensures.right (ordered_after (by_ends g.T.Ord.cmp) _ _ _ s) in
+    let ordered : IsOrdered (by_ends g.T.Ord.cmp) (entries (tree_of c.split-left.result.2)) =
+    rw c.split-left.ensures.right (ordered_after (by_ends g.T.Ord.cmp) _ _ _ s) in
     let room : length (entries (tree_of c.split-left.result.2)) ≤ 2 ^ 63 = rw c.split-left.ensures.right (omega (arith, few)) in
     λ κs h. (rw c.split-left.ensures.right (omega (arith, higher)), (search rules, (search rules, (c.requires.clones, (search rules, (ordered, room))))))
 
@@ -40,19 +42,43 @@ pub returns-in-Less-clause-tree : goal.returns-in-Less-clause-tree
 returns-in-Less-clause-tree g t c =
     let s = rw c.in-Fork.is at c.requires.ordered in
     let h = rw c.deref.ensures at (sym c.cmp-order.ensures ∙ c.in-Less.is) in
-    rw (c.fork.ensures.tree, c.shorten_below.ensures.tree, c.split-left.ensures.left, c.split-left.ensures.interval, c.split-left.ensures.value, c.split-left.ensures.right, c.in-Fork.is)
+    rw (
+      c.fork.ensures.tree,
+      c.shorten_below.ensures.tree,
+      c.split-left.ensures.left,
+      c.split-left.ensures.interval,
+      c.split-left.ensures.value,
+      c.split-left.ensures.right,
+      c.in-Fork.is,
+    )
     (sym (ends_left g.T.Ord.cmp g.met.T.Ord.total c.args.interval.now c.args.end _ _ _ s h))
 
 pub returns-in-Equal-clause-tree : goal.returns-in-Equal-clause-tree
 returns-in-Equal-clause-tree g t c =
     let s = rw c.in-Fork.is at c.requires.ordered in
     let h = rw c.deref.ensures at (sym c.cmp-order.ensures ∙ c.in-Equal.is) in
-    rw (c.fork-in-Equal.ensures.tree, c.deref_mut.ensures.value, c.split-left.ensures.left, c.split-left.ensures.interval, c.split-left.ensures.value, c.split-left.ensures.right, c.in-Fork.is)
+    rw (
+      c.fork-in-Equal.ensures.tree,
+      c.deref_mut.ensures.value,
+      c.split-left.ensures.left,
+      c.split-left.ensures.interval,
+      c.split-left.ensures.value,
+      c.split-left.ensures.right,
+      c.in-Fork.is,
+    )
     (sym (ends_middle g.T.Ord.cmp g.met.T.Ord.total c.args.interval.now c.args.end _ _ _ s h))
 
 pub returns-in-Greater-clause-tree : goal.returns-in-Greater-clause-tree
 returns-in-Greater-clause-tree g t c =
     let s = rw c.in-Fork.is at c.requires.ordered in
     let h = rw c.deref.ensures at (sym c.cmp-order.ensures ∙ c.in-Greater.is) in
-    rw (c.fork-in-Greater.ensures.tree, c.shorten_below-in-Greater.ensures.tree, c.split-left.ensures.left, c.split-left.ensures.interval, c.split-left.ensures.value, c.split-left.ensures.right, c.in-Fork.is)
+    rw (
+      c.fork-in-Greater.ensures.tree,
+      c.shorten_below-in-Greater.ensures.tree,
+      c.split-left.ensures.left,
+      c.split-left.ensures.interval,
+      c.split-left.ensures.value,
+      c.split-left.ensures.right,
+      c.in-Fork.is,
+    )
     (sym (ends_right g.T.Ord.cmp g.met.T.Ord.total c.args.interval.now c.args.end _ _ _ s h))

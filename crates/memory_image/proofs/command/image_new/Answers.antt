@@ -12,7 +12,8 @@ returns-in-Err-clause-images g c = record {
   read_fault = search rules;
   write_fault = search rules;
   too_long = search rules;
-  complete = λ good unread unwritten. complete_status c.args.config.now c.ended_early.result.status (search rules) (search rules) (search rules) good (search rules) (search rules);
+  complete = λ good unread unwritten. complete_status c.args.config.now c.ended_early.result.status (search rules)
+      (search rules) (search rules) good (search rules) (search rules);
 }
 
 -- the image was written
@@ -25,7 +26,9 @@ returns-in-Ok-image_run-clause-images g c =
       refused = made_status c.args.config.now c.in-Ok.ensures.accepted;
       read_fault = λ six. absurd (omega (arith, six));
       write_fault = λ seven. absurd (omega (arith, seven));
-      too_long = ok_status (left c.args.source.now) c.in-Ok-image_run.machine (λ (input : List ℕ). 2 ^ 30 + length (unwrap_or (left c.image_run.new.source) []) < length input) c.in-Ok-image_run.ensures.too_long;
+      too_long = ok_status (left c.args.source.now) c.in-Ok-image_run.machine
+          (λ (input : List ℕ). 2 ^ 30 + length (unwrap_or (left c.image_run.new.source) []) < length input)
+          c.in-Ok-image_run.ensures.too_long;
       complete = λ good unread unwritten. inl refl;
     }
 
@@ -39,7 +42,8 @@ returns-in-Err-image_run-clause-images g c =
       refused = search rules;
       read_fault = search rules;
       write_fault = search rules;
-      too_long = stop_status (left c.args.source.now) c.in-Err-image_run.stop c.ended_early-in-Err-image_run.result.status (λ (input : List ℕ). 2 ^ 30 + length (unwrap_or (left c.image_run.new.source) []) < length input)
+      too_long = stop_status (left c.args.source.now) c.in-Err-image_run.stop c.ended_early-in-Err-image_run.result.status
+          (λ (input : List ℕ). 2 ^ 30 + length (unwrap_or (left c.image_run.new.source) []) < length input)
           (c.ended_early-in-Err-image_run.ensures.status ∙ c.status_of.ensures) c.in-Err-image_run.ensures.too_long;
       complete = λ good unread unwritten. search rules;
     }

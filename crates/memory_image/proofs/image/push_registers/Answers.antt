@@ -27,4 +27,6 @@ returns c =
     (behind one two all (number_text cpu.cr2) cr3
     (behind two three all (number_text cpu.cr3) cr4
     (behind three four all (number_text cpu.cr4) efer
-    (behind four five all (number_text cpu.efer) (codes "\n") written c.in_ok-push_number-5.ensures) c.in_ok-push_number-4.ensures) c.in_ok-push_number-3.ensures) c.in_ok-push_number-2.ensures) c.in_ok-push_number.ensures) begun) (search rules)
+    (behind four five all (number_text cpu.efer) (codes "\n") written c.in_ok-push_number-5.ensures)
+    c.in_ok-push_number-4.ensures) c.in_ok-push_number-3.ensures) c.in_ok-push_number-2.ensures)
+    c.in_ok-push_number.ensures) begun) (search rules)

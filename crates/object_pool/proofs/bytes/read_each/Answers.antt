@@ -6,12 +6,15 @@ use Rattle.object_pool.proofs.bytes.read_each.Goals as goal
 
 pub overflow_add-address : goal.overflow_add-address
 overflow_add-address g c =
-    let small = below (g.M.Links.regions c.args.memory.now) (c.args.address + c.loop-k.k) (g.M.Links.whole c.args.memory.now) (c.requires.inside (c.args.address + c.loop-k.k) (omega arith) (omega (arith, c.loop-k-test.true))) in
+    let small = below (g.M.Links.regions c.args.memory.now) (c.args.address + c.loop-k.k)
+    (g.M.Links.whole c.args.memory.now) (c.requires.inside (c.args.address + c.loop-k.k) (omega arith)
+    (omega (arith, c.loop-k-test.true))) in
     omega (arith, small)
 
 pub load_byte-requires : goal.load_byte-requires
 load_byte-requires g c =
-    word_of (g.M.Links.regions c.args.memory.now) (c.args.address + c.loop-k.k) (g.M.Links.whole c.args.memory.now) (c.requires.inside (c.args.address + c.loop-k.k) (omega arith) (omega (arith, c.loop-k-test.true)))
+    word_of (g.M.Links.regions c.args.memory.now) (c.args.address + c.loop-k.k) (g.M.Links.whole c.args.memory.now)
+    (c.requires.inside (c.args.address + c.loop-k.k) (omega arith) (omega (arith, c.loop-k-test.true)))
 
 pub loop-k-preserved : goal.loop-k-preserved
 loop-k-preserved g c =

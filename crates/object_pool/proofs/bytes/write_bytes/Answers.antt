@@ -8,7 +8,8 @@ use Rattle.object_pool.proofs.bytes.write_bytes.Goals as goal
 pub overflow_add-address : goal.overflow_add-address
 overflow_add-address g c =
     let small = below (g.M.Links.regions c.args.memory.now) (c.args.address + length c.split_at.result.0.now) (g.M.Links.whole c.args.memory.now)
-    (c.requires (c.args.address + length c.split_at.result.0.now) (omega arith) (omega (arith, c.split_at.ensures.front_len, c.split_at.ensures.back_len, c.if-rest-gt0.true))) in
+    (c.requires (c.args.address + length c.split_at.result.0.now) (omega arith)
+    (omega (arith, c.split_at.ensures.front_len, c.split_at.ensures.back_len, c.if-rest-gt0.true))) in
     omega (arith, small)
 
 pub returns-then-rest-gt0-clause-written : goal.returns-then-rest-gt0-clause-written
@@ -16,6 +17,9 @@ returns-then-rest-gt0-clause-written g c =
     let old = c.args.memory.now in
     let mid = c.write_each.new.memory in
     let new = c.write_from_word.new.memory in
-    written_parts (g.M.Links.regions old) (g.M.Links.word old) (g.M.Links.word mid) (g.M.Links.word new) c.args.address _ c.args.bytes.now c.split_at.result.0.now c.split_at.result.1.now c.requires
+    written_parts (g.M.Links.regions old) (g.M.Links.word old) (g.M.Links.word mid) (g.M.Links.word new) c.args.address _
+    c.args.bytes.now c.split_at.result.0.now c.split_at.result.1.now c.requires
     c.split_at.ensures.front c.split_at.ensures.back c.split_at.ensures.front_len c.split_at.ensures.back_len c.write_each.ensures.written
-    (subst (λ (regions : List Grant). IsWritten regions (g.M.Links.word mid) (c.args.address + length c.split_at.result.0.now) c.split_at.result.1.now (length c.split_at.result.1.now) (g.M.Links.word new)) c.write_each.ensures.regions c.write_from_word.ensures.written)
+    (subst (λ (regions : List Grant). IsWritten regions (g.M.Links.word mid)
+    (c.args.address + length c.split_at.result.0.now) c.split_at.result.1.now (length c.split_at.result.1.now)
+    (g.M.Links.word new)) c.write_each.ensures.regions c.write_from_word.ensures.written)

@@ -7,7 +7,8 @@ use Rattle.page_ranges.proofs.mapping.map_pages.Goals as goal
 use Rattle.page_ranges.proofs.mapping.map_pages.Goals.{then-is_none, else-is_none}
 
 pub loop-done-init : goal.loop-done-init
-loop-done-init c = gaps_start c.map_slots-stop.new.frames c.map_slots-stop.new.pool c.args.root c.args.first c.args.pages c.args.rights c.map_slots-stop.ensures.added.pages_added.tree
+loop-done-init c = gaps_start c.map_slots-stop.new.frames c.map_slots-stop.new.pool c.args.root c.args.first c.args.pages
+    c.args.rights c.map_slots-stop.ensures.added.pages_added.tree
 
 pub map_range-requires-clause-unmapped : goal.map_range-requires-clause-unmapped
 map_range-requires-clause-unmapped c =
@@ -18,12 +19,16 @@ map_range-requires-clause-unmapped c =
     let some : 0 < c.min-count.result = omega arith in
     let inside : c.loop-done.done + c.min-count.result ≤ c.args.pages = omega arith in
     let one_slot : (c.args.first + c.loop-done.done) % 512 + c.min-count.result ≤ 512 = omega arith in
-    let here : large_of c.loop-done.frames c.args.root (slot_of c.slot_at.result) ≡ large_of c.loop-done.frames c.args.root (slot_of ((c.args.first + c.loop-done.done) / 512)) =
+    let here : large_of c.loop-done.frames c.args.root (slot_of c.slot_at.result) ≡ large_of c.loop-done.frames c.args.root
+    (slot_of ((c.args.first + c.loop-done.done) / 512)) =
     ap (λ s. large_of c.loop-done.frames c.args.root (slot_of s)) (c.slot_at.ensures ∙ ap (λ q. q / 512) p) in
-    let small = sym here ∙ none_of c.large_page.result (large_of c.loop-done.frames c.args.root (slot_of c.slot_at.result)) c.large_page.ensures (c.is_none.ensures ∙ ap not c.if-is_none.true) in
+    let small = sym here ∙ none_of c.large_page.result (large_of c.loop-done.frames c.args.root (slot_of c.slot_at.result))
+    c.large_page.ensures (c.is_none.ensures ∙ ap not c.if-is_none.true) in
     rw p
-    (gap_unmapped c.args.frames.now c.map_slots-stop.new.frames c.loop-done.frames c.args.pool.now c.map_slots-stop.new.pool c.loop-done.pool c.args.root c.args.first c.args.pages
-    c.map_slots-stop.result c.loop-done.done c.min-count.result c.args.rights c.requires.range c.requires.known c.requires.unmapped c.requires.room c.map_slots-stop.ensures.added c.loop-done.invariant
+    (gap_unmapped c.args.frames.now c.map_slots-stop.new.frames c.loop-done.frames c.args.pool.now c.map_slots-stop.new.pool
+    c.loop-done.pool c.args.root c.args.first c.args.pages
+    c.map_slots-stop.result c.loop-done.done c.min-count.result c.args.rights c.requires.range c.requires.known
+    c.requires.unmapped c.requires.room c.map_slots-stop.ensures.added c.loop-done.invariant
     some inside one_slot small)
 
 pub map_range-requires-clause-room : goal.map_range-requires-clause-room
@@ -35,12 +40,16 @@ map_range-requires-clause-room c =
     let some : 0 < c.min-count.result = omega arith in
     let inside : c.loop-done.done + c.min-count.result ≤ c.args.pages = omega arith in
     let one_slot : (c.args.first + c.loop-done.done) % 512 + c.min-count.result ≤ 512 = omega arith in
-    let here : large_of c.loop-done.frames c.args.root (slot_of c.slot_at.result) ≡ large_of c.loop-done.frames c.args.root (slot_of ((c.args.first + c.loop-done.done) / 512)) =
+    let here : large_of c.loop-done.frames c.args.root (slot_of c.slot_at.result) ≡ large_of c.loop-done.frames c.args.root
+    (slot_of ((c.args.first + c.loop-done.done) / 512)) =
     ap (λ s. large_of c.loop-done.frames c.args.root (slot_of s)) (c.slot_at.ensures ∙ ap (λ q. q / 512) p) in
-    let small = sym here ∙ none_of c.large_page.result (large_of c.loop-done.frames c.args.root (slot_of c.slot_at.result)) c.large_page.ensures (c.is_none.ensures ∙ ap not c.if-is_none.true) in
+    let small = sym here ∙ none_of c.large_page.result (large_of c.loop-done.frames c.args.root (slot_of c.slot_at.result))
+    c.large_page.ensures (c.is_none.ensures ∙ ap not c.if-is_none.true) in
     rw p
-    (gap_room c.args.frames.now c.map_slots-stop.new.frames c.loop-done.frames c.args.pool.now c.map_slots-stop.new.pool c.loop-done.pool c.args.root c.args.first c.args.pages
-    c.map_slots-stop.result c.loop-done.done c.min-count.result c.args.rights c.requires.range c.requires.known c.requires.unmapped c.requires.room c.map_slots-stop.ensures.added c.loop-done.invariant
+    (gap_room c.args.frames.now c.map_slots-stop.new.frames c.loop-done.frames c.args.pool.now c.map_slots-stop.new.pool
+    c.loop-done.pool c.args.root c.args.first c.args.pages
+    c.map_slots-stop.result c.loop-done.done c.min-count.result c.args.rights c.requires.range c.requires.known
+    c.requires.unmapped c.requires.room c.map_slots-stop.ensures.added c.loop-done.invariant
     some inside one_slot small)
 
 pub loop-done-preserved : goal.loop-done-preserved
@@ -52,40 +61,55 @@ loop-done-preserved c =
     let some : 0 < c.min-count.result = omega arith in
     let inside : c.loop-done.done + c.min-count.result ≤ c.args.pages = omega arith in
     let one_slot : (c.args.first + c.loop-done.done) % 512 + c.min-count.result ≤ 512 = omega arith in
-    let here : large_of c.loop-done.frames c.args.root (slot_of c.slot_at.result) ≡ large_of c.loop-done.frames c.args.root (slot_of ((c.args.first + c.loop-done.done) / 512)) =
+    let here : large_of c.loop-done.frames c.args.root (slot_of c.slot_at.result) ≡ large_of c.loop-done.frames c.args.root
+    (slot_of ((c.args.first + c.loop-done.done) / 512)) =
     ap (λ s. large_of c.loop-done.frames c.args.root (slot_of s)) (c.slot_at.ensures ∙ ap (λ q. q / 512) p) in
     elim c.if-is_none.branch [
       | then-is_none w ↦
-          let small = sym here ∙ none_of c.large_page.result (large_of c.loop-done.frames c.args.root (slot_of c.slot_at.result)) c.large_page.ensures (c.is_none.ensures ∙ ap not w.if-is_none.true) in
+          let small = sym here ∙ none_of c.large_page.result (large_of c.loop-done.frames c.args.root
+          (slot_of c.slot_at.result)) c.large_page.ensures (c.is_none.ensures ∙ ap not w.if-is_none.true) in
           rw (w.frames-is, w.pool-is)
-          (gap_next c.args.frames.now c.map_slots-stop.new.frames c.loop-done.frames c.args.pool.now c.map_slots-stop.new.pool c.loop-done.pool c.args.root c.args.first c.args.pages
-          c.map_slots-stop.result c.loop-done.done c.min-count.result c.args.rights c.requires.range c.requires.known c.requires.unmapped c.requires.room c.map_slots-stop.ensures.added c.loop-done.invariant
+          (gap_next c.args.frames.now c.map_slots-stop.new.frames c.loop-done.frames c.args.pool.now
+          c.map_slots-stop.new.pool c.loop-done.pool c.args.root c.args.first c.args.pages
+          c.map_slots-stop.result c.loop-done.done c.min-count.result c.args.rights c.requires.range c.requires.known
+          c.requires.unmapped c.requires.room c.map_slots-stop.ensures.added c.loop-done.invariant
           some inside one_slot small
           w.map_range.new.frames w.map_range.new.pool (rw p at w.map_range.ensures.added))
       | else-is_none w ↦
-          let large = rw here at (some_of c.large_page.result (large_of c.loop-done.frames c.args.root (slot_of c.slot_at.result)) c.large_page.ensures (c.is_none.ensures ∙ ap not w.if-is_none.false)) in
+          let large = rw here at (some_of c.large_page.result (large_of c.loop-done.frames c.args.root
+          (slot_of c.slot_at.result)) c.large_page.ensures (c.is_none.ensures ∙ ap not w.if-is_none.false)) in
           rw (w.frames-is, w.pool-is)
-          (gap_skip c.args.frames.now c.map_slots-stop.new.frames c.loop-done.frames c.args.pool.now c.map_slots-stop.new.pool c.loop-done.pool c.args.root c.args.first c.args.pages
-          c.map_slots-stop.result c.loop-done.done c.min-count.result c.args.rights c.requires.range c.requires.known c.requires.unmapped c.requires.room c.map_slots-stop.ensures.added c.loop-done.invariant
+          (gap_skip c.args.frames.now c.map_slots-stop.new.frames c.loop-done.frames c.args.pool.now
+          c.map_slots-stop.new.pool c.loop-done.pool c.args.root c.args.first c.args.pages
+          c.map_slots-stop.result c.loop-done.done c.min-count.result c.args.rights c.requires.range c.requires.known
+          c.requires.unmapped c.requires.room c.map_slots-stop.ensures.added c.loop-done.invariant
           some inside one_slot large)
     ]
 
 pub returns-clause-mapped : goal.returns-clause-mapped
 returns-clause-mapped c =
-    range_mapped c.args.frames.now c.map_slots-stop.new.frames c.loop-done.frames c.args.pool.now c.map_slots-stop.new.pool c.loop-done.pool c.args.root c.args.first c.args.pages
-    c.map_slots-stop.result c.loop-done.done c.args.rights c.requires.range c.requires.unmapped c.map_slots-stop.ensures.added c.map_slots-stop.ensures.full c.loop-done.invariant (omega arith)
+    range_mapped c.args.frames.now c.map_slots-stop.new.frames c.loop-done.frames c.args.pool.now c.map_slots-stop.new.pool
+    c.loop-done.pool c.args.root c.args.first c.args.pages
+    c.map_slots-stop.result c.loop-done.done c.args.rights c.requires.range c.requires.unmapped
+    c.map_slots-stop.ensures.added c.map_slots-stop.ensures.full c.loop-done.invariant (omega arith)
 
 pub returns-clause-elsewhere : goal.returns-clause-elsewhere
 returns-clause-elsewhere c =
-    mapped_elsewhere c.args.frames.now c.map_slots-stop.new.frames c.loop-done.frames c.args.pool.now c.map_slots-stop.new.pool c.loop-done.pool c.args.root c.args.first c.args.pages
-    c.map_slots-stop.result c.loop-done.done c.args.rights c.requires.range c.requires.unmapped c.map_slots-stop.ensures.added c.map_slots-stop.ensures.full c.loop-done.invariant (omega arith)
+    mapped_elsewhere c.args.frames.now c.map_slots-stop.new.frames c.loop-done.frames c.args.pool.now
+    c.map_slots-stop.new.pool c.loop-done.pool c.args.root c.args.first c.args.pages
+    c.map_slots-stop.result c.loop-done.done c.args.rights c.requires.range c.requires.unmapped
+    c.map_slots-stop.ensures.added c.map_slots-stop.ensures.full c.loop-done.invariant (omega arith)
 
 pub returns-clause-zeros : goal.returns-clause-zeros
 returns-clause-zeros c =
-    mapped_zeros c.args.frames.now c.map_slots-stop.new.frames c.loop-done.frames c.args.pool.now c.map_slots-stop.new.pool c.loop-done.pool c.args.root c.args.first c.args.pages
-    c.map_slots-stop.result c.loop-done.done c.args.rights c.requires.range c.requires.unmapped c.map_slots-stop.ensures.added c.map_slots-stop.ensures.full c.loop-done.invariant (omega arith)
+    mapped_zeros c.args.frames.now c.map_slots-stop.new.frames c.loop-done.frames c.args.pool.now c.map_slots-stop.new.pool
+    c.loop-done.pool c.args.root c.args.first c.args.pages
+    c.map_slots-stop.result c.loop-done.done c.args.rights c.requires.range c.requires.unmapped
+    c.map_slots-stop.ensures.added c.map_slots-stop.ensures.full c.loop-done.invariant (omega arith)
 
 pub returns-clause-bytes : goal.returns-clause-bytes
 returns-clause-bytes c =
-    mapped_bytes c.args.frames.now c.map_slots-stop.new.frames c.loop-done.frames c.args.pool.now c.map_slots-stop.new.pool c.loop-done.pool c.args.root c.args.first c.args.pages
-    c.map_slots-stop.result c.loop-done.done c.args.rights c.requires.range c.requires.unmapped c.map_slots-stop.ensures.added c.map_slots-stop.ensures.full c.loop-done.invariant (omega arith)
+    mapped_bytes c.args.frames.now c.map_slots-stop.new.frames c.loop-done.frames c.args.pool.now c.map_slots-stop.new.pool
+    c.loop-done.pool c.args.root c.args.first c.args.pages
+    c.map_slots-stop.result c.loop-done.done c.args.rights c.requires.range c.requires.unmapped
+    c.map_slots-stop.ensures.added c.map_slots-stop.ensures.full c.loop-done.invariant (omega arith)

@@ -7,7 +7,8 @@ use Rattle.page_ranges.proofs.mapping.map_slots.Goals.{else-not-has_table-via-th
 
 pub loop-slot-init : goal.loop-slot-init
 loop-slot-init c = let e = c.div_ceil-start.ensures in let n = c.number-2.ensures.value in record {
-  added = slots_start c.args.frames.now c.args.pool.now c.args.root c.args.first c.args.pages c.div_ceil-start.result c.args.rights c.requires.tree (omega arith);
+  added = slots_start c.args.frames.now c.args.pool.now c.args.root c.args.first c.args.pages c.div_ceil-start.result
+      c.args.rights c.requires.tree (omega arith);
   from = omega arith;
 }
 
@@ -16,7 +17,8 @@ map_slot-requires-clause-empty c =
     let n = c.number-in-loop-slot.ensures.value in
     let a = c.after.ensures in
     let e : c.slot_at-page.result ≡ c.loop-slot.slot = let b = c.slot_at-page.ensures in let f = c.loop-slot.invariant.from in omega arith in
-    let t = no_table (reach c.loop-slot.frames c.args.root 3 (slot_of c.slot_at-page.result)) c.has_table.result c.has_table.ensures.1 c.if-not-has_table.true in
+    let t = no_table (reach c.loop-slot.frames c.args.root 3 (slot_of c.slot_at-page.result)) c.has_table.result
+    c.has_table.ensures.1 c.if-not-has_table.true in
     rw e
     (slot_empty c.args.frames.now c.loop-slot.frames c.args.pool.now c.loop-slot.pool c.args.root c.args.first c.args.pages c.loop-slot.slot c.args.rights
     c.requires.range c.requires.known c.requires.unmapped c.requires.room c.loop-slot.invariant.added c.loop-slot.invariant.from
@@ -47,17 +49,21 @@ loop-slot-preserved c =
       from = let f = c.loop-slot.invariant.from in omega arith;
       added = elim c.else-not-has_table.branch [
         | else-not-has_table-via-then-not-has_table+else-not-map_slot w ↦
-            let t = no_table (reach c.loop-slot.frames c.args.root 3 (slot_of c.slot_at-page.result)) c.has_table.result c.has_table.ensures.1 w.if-not-has_table.true in
+            let t = no_table (reach c.loop-slot.frames c.args.root 3 (slot_of c.slot_at-page.result)) c.has_table.result
+            c.has_table.ensures.1 w.if-not-has_table.true in
             rw (w.frames-is, w.pool-is)
-            (slots_next c.args.frames.now c.loop-slot.frames c.args.pool.now c.loop-slot.pool c.args.root c.args.first c.args.pages c.loop-slot.slot c.args.rights
+            (slots_next c.args.frames.now c.loop-slot.frames c.args.pool.now c.loop-slot.pool c.args.root c.args.first
+            c.args.pages c.loop-slot.slot c.args.rights
             c.requires.range c.requires.known c.requires.unmapped c.requires.room c.loop-slot.invariant.added c.loop-slot.invariant.from to
             w.map_slot.new.frames w.map_slot.new.pool (ap (λ s. reach c.loop-slot.frames c.args.root 3 (slot_of s)) (sym e) ∙ t)
             (rw e at (w.map_slot.ensures.added w.if-not-map_slot.false)) w.map_slot.ensures.tree
-            (rw e at (w.map_slot.ensures.missing w.if-not-map_slot.false c.args.first c.args.pages c.requires.range (rw e c.loop-slot.invariant.from) (rw e to)))
+            (rw e at (w.map_slot.ensures.missing w.if-not-map_slot.false c.args.first c.args.pages c.requires.range
+            (rw e c.loop-slot.invariant.from) (rw e to)))
             (rw e at (w.map_slot.ensures.count w.if-not-map_slot.false)))
         | else-not-has_table-via-else-not-has_table w ↦
             rw (w.frames-is, w.pool-is)
-            (slots_skip c.args.frames.now c.loop-slot.frames c.args.pool.now c.loop-slot.pool c.args.root c.args.first c.args.pages c.loop-slot.slot c.args.rights
+            (slots_skip c.args.frames.now c.loop-slot.frames c.args.pool.now c.loop-slot.pool c.args.root c.args.first
+            c.args.pages c.loop-slot.slot c.args.rights
             c.requires.range c.requires.known c.requires.unmapped c.requires.room c.loop-slot.invariant.added c.loop-slot.invariant.from to
             (rw e at (c.has_table.ensures.0 w.if-not-has_table.false)))
       ];
@@ -67,7 +73,8 @@ pub returns-clause-added : goal.returns-clause-added
 returns-clause-added c =
     let n : c.number.result ≡ c.args.first = c.number.ensures.value in
     let at_end : (c.number.result + c.args.pages) / 512 ≤ c.loop-slot.slot = let x = c.loop-slot-test.false in omega arith in
-    slots_to c.args.frames.now c.loop-slot.frames c.args.pool.now c.loop-slot.pool c.args.root c.args.first c.args.pages c.loop-slot.slot ((c.number.result + c.args.pages) / 512) c.args.rights
+    slots_to c.args.frames.now c.loop-slot.frames c.args.pool.now c.loop-slot.pool c.args.root c.args.first c.args.pages
+    c.loop-slot.slot ((c.number.result + c.args.pages) / 512) c.args.rights
     c.loop-slot.invariant.added
     (λ s whole lt. let to : 512 * s + 512 ≤ c.args.first + c.args.pages = whole.to in omega (arith, to, n))
     (λ s whole lt. omega (arith, lt, at_end))

@@ -14,7 +14,8 @@ unmap_piece-requires-clause-tree c =
     let m = c.min-count.ensures in
     let t = c.loop-done-test.true in
     step_tree c.args.frames.now c.loop-done.frames c.args.pool.now c.loop-done.pool c.args.root c.args.first c.args.pages c.loop-done.done c.min-count.result
-    c.requires.root c.requires.flags c.requires.range c.requires.tree c.requires.mapped c.requires.ends c.loop-done.invariant (omega arith) (omega arith) (λ lt. omega arith)
+    c.requires.root c.requires.flags c.requires.range c.requires.tree c.requires.mapped c.requires.ends
+    c.loop-done.invariant (omega arith) (omega arith) (λ lt. omega arith)
 
 pub unmap_piece-requires-clause-mapped : goal.unmap_piece-requires-clause-mapped
 unmap_piece-requires-clause-mapped c =
@@ -24,7 +25,8 @@ unmap_piece-requires-clause-mapped c =
     let t = c.loop-done-test.true in
     rw p
     (step_mapped c.args.frames.now c.loop-done.frames c.args.pool.now c.loop-done.pool c.args.root c.args.first c.args.pages c.loop-done.done c.min-count.result
-    c.requires.root c.requires.flags c.requires.range c.requires.tree c.requires.mapped c.requires.ends c.loop-done.invariant (omega arith) (omega arith) (λ lt. omega arith))
+    c.requires.root c.requires.flags c.requires.range c.requires.tree c.requires.mapped c.requires.ends
+    c.loop-done.invariant (omega arith) (omega arith) (λ lt. omega arith))
 
 pub unmap_piece-requires-clause-ends : goal.unmap_piece-requires-clause-ends
 unmap_piece-requires-clause-ends c =
@@ -34,7 +36,8 @@ unmap_piece-requires-clause-ends c =
     let t = c.loop-done-test.true in
     rw p
     (step_ends c.args.frames.now c.loop-done.frames c.args.pool.now c.loop-done.pool c.args.root c.args.first c.args.pages c.loop-done.done c.min-count.result
-    c.requires.root c.requires.flags c.requires.range c.requires.tree c.requires.mapped c.requires.ends c.loop-done.invariant (omega arith) (omega arith) (λ lt. omega arith))
+    c.requires.root c.requires.flags c.requires.range c.requires.tree c.requires.mapped c.requires.ends
+    c.loop-done.invariant (omega arith) (omega arith) (λ lt. omega arith))
 
 pub loop-done-preserved : goal.loop-done-preserved
 loop-done-preserved c =
@@ -43,7 +46,8 @@ loop-done-preserved c =
     let m = c.min-count.ensures in
     let t = c.loop-done-test.true in
     step_next c.args.frames.now c.loop-done.frames c.args.pool.now c.loop-done.pool c.args.root c.args.first c.args.pages c.loop-done.done c.min-count.result
-    c.requires.root c.requires.flags c.requires.range c.requires.tree c.requires.mapped c.requires.ends c.loop-done.invariant (omega arith) (omega arith) (λ lt. omega arith)
+    c.requires.root c.requires.flags c.requires.range c.requires.tree c.requires.mapped c.requires.ends
+    c.loop-done.invariant (omega arith) (omega arith) (λ lt. omega arith)
     c.unmap_piece.new.frames c.unmap_piece.new.pool (rw p at c.unmap_piece.ensures)
 
 -- all of the range is unmapped

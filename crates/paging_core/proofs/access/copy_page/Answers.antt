@@ -38,10 +38,12 @@ returns-clause-tree c = λ free tree.
 
 pub returns-clause-bytes : goal.returns-clause-bytes
 returns-clause-bytes c = λ free tree.
-    copy_bytes c.args.frames.now c.copy_frame.new.self c.args.root c.args.from c.args.to c.frame_of_page-source.ensures.place.place c.frame_of_page-target.ensures.place.place free
+    copy_bytes c.args.frames.now c.copy_frame.new.self c.args.root c.args.from c.args.to
+    c.frame_of_page-source.ensures.place.place c.frame_of_page-target.ensures.place.place free
     c.frame_of_page-source.ensures.place.found c.frame_of_page-target.ensures.place.found (copied c) tree
 
 pub returns-clause-others : goal.returns-clause-others
 returns-clause-others c = λ free tree.
-    copy_others c.args.frames.now c.copy_frame.new.self c.args.root c.args.from c.args.to c.frame_of_page-source.ensures.place.place c.frame_of_page-target.ensures.place.place free
+    copy_others c.args.frames.now c.copy_frame.new.self c.args.root c.args.from c.args.to
+    c.frame_of_page-source.ensures.place.place c.frame_of_page-target.ensures.place.place free
     c.frame_of_page-source.ensures.place.found c.frame_of_page-target.ensures.place.found (copied c) tree c.frame_of_page-target.ensures.canonical

@@ -3,7 +3,8 @@ use Rattle.paging_core.specs.Memory.{AreWordsWritten}
 use Rattle.paging_core.proofs.PageWritten.{written_walks, written_larges, written_tree, run_elsewhere, run_bytes, run_others}
 use Rattle.paging_core.proofs.access.store_words.Goals as goal
 
-put : (c : goal.After-write_words) → AreWordsWritten c.args.frames.now c.write_words.new.self c.frame_of_page-frame.ensures.place.place.frame c.args.index c.args.words.now
+put : (c : goal.After-write_words) → AreWordsWritten c.args.frames.now c.write_words.new.self
+    c.frame_of_page-frame.ensures.place.place.frame c.args.index c.args.words.now
 put c =
     let P : ℕ → Type 0 = λ f. AreWordsWritten c.args.frames.now c.write_words.new.self f c.args.index c.args.words.now in
     subst P (sym c.frame_of_page-frame.ensures.place.to_frame) c.write_words.ensures
@@ -18,19 +19,22 @@ pub returns-clause-walks : goal.returns-clause-walks
 returns-clause-walks c = λ free tree.
     let e = c.frame_of_page-frame.ensures.place in
     written_walks c.args.frames.now c.write_words.new.self c.args.root c.args.page e.place free e.found c.write_words.ensures.size
-    (run_elsewhere c.args.frames.now c.write_words.new.self c.args.root c.args.page c.args.index c.args.words.now e.place free e.found c.requires.fits (put c) tree) tree
+    (run_elsewhere c.args.frames.now c.write_words.new.self c.args.root c.args.page c.args.index c.args.words.now e.place
+    free e.found c.requires.fits (put c) tree) tree
 
 pub returns-clause-larges : goal.returns-clause-larges
 returns-clause-larges c = λ free tree.
     let e = c.frame_of_page-frame.ensures.place in
     written_larges c.args.frames.now c.write_words.new.self c.args.root c.args.page e.place free e.found c.write_words.ensures.size
-    (run_elsewhere c.args.frames.now c.write_words.new.self c.args.root c.args.page c.args.index c.args.words.now e.place free e.found c.requires.fits (put c) tree) tree
+    (run_elsewhere c.args.frames.now c.write_words.new.self c.args.root c.args.page c.args.index c.args.words.now e.place
+    free e.found c.requires.fits (put c) tree) tree
 
 pub returns-clause-tree : goal.returns-clause-tree
 returns-clause-tree c = λ free tree.
     let e = c.frame_of_page-frame.ensures.place in
     written_tree c.args.frames.now c.write_words.new.self c.args.root c.args.page e.place free e.found c.write_words.ensures.size
-    (run_elsewhere c.args.frames.now c.write_words.new.self c.args.root c.args.page c.args.index c.args.words.now e.place free e.found c.requires.fits (put c) tree) tree
+    (run_elsewhere c.args.frames.now c.write_words.new.self c.args.root c.args.page c.args.index c.args.words.now e.place
+    free e.found c.requires.fits (put c) tree) tree
 
 pub returns-clause-bytes : goal.returns-clause-bytes
 returns-clause-bytes c = λ free tree.

@@ -17,7 +17,8 @@ pub loop-step-preserved : goal.loop-step-preserved
 loop-step-preserved c =
     let now : c.clear_frame.new.self ≡ cleared c.loop-step.frames (c.args.first + c.loop-step.step) =
     c.clear_frame.ensures ∙ ap (cleared c.loop-step.frames) c.after.ensures in
-    let inside : c.args.first + c.loop-step.step < frame_count c.loop-step.frames = let s = c.loop-step.invariant.size in omega (arith, c.requires.inside, c.loop-step-test.true) in
+    let inside : c.args.first + c.loop-step.step < frame_count c.loop-step.frames = let s = c.loop-step.invariant.size in
+    omega (arith, c.requires.inside, c.loop-step-test.true) in
     let other : (f i : ℕ) → i < 512 → (f ≡ c.args.first + c.loop-step.step → ⊥) → word_at c.clear_frame.new.self f i ≡ word_at c.loop-step.frames f i =
     λ f i li ne. ap (λ w. word_at w f i) now ∙ word_at_cleared_other c.loop-step.frames (c.args.first + c.loop-step.step) f i inside li ne in
     record {

@@ -19,24 +19,31 @@ set_word-requires-clause-frame g c = let s = c.loop-index.invariant.size in omeg
 
 pub loop-index-preserved : goal.loop-index-preserved
 loop-index-preserved g c =
-    let inside : c.args.table < frame_count (g.M.PhysicalMemory.words c.loop-index.frames) = let s = c.loop-index.invariant.size in omega (arith, c.requires.table) in
-    let now : g.M.PhysicalMemory.words c.set_word.new.self ≡ set (g.M.PhysicalMemory.words c.loop-index.frames) (512 * c.args.table + c.loop-index.index) (page_entry (c.args.first + c.loop-index.index) c.args.rights) =
+    let inside : c.args.table < frame_count (g.M.PhysicalMemory.words c.loop-index.frames) = let s =
+    c.loop-index.invariant.size in omega (arith, c.requires.table) in
+    let now : g.M.PhysicalMemory.words c.set_word.new.self ≡ set (g.M.PhysicalMemory.words c.loop-index.frames)
+    (512 * c.args.table + c.loop-index.index) (page_entry (c.args.first + c.loop-index.index) c.args.rights) =
     c.set_word.ensures.words
     ∙ ap (set (g.M.PhysicalMemory.words c.loop-index.frames) (512 * c.args.table + c.loop-index.index))
     (c.bits.ensures ∙ (c.to_page-entry.ensures.value ∙ ap (λ f. page_entry f c.args.rights) (c.after.ensures ∙ ap (λ i. c.args.first + i) c.from.ensures))) in
-    let other : (f i : ℕ) → i < 512 → (f ≡ c.args.table → i ≡ c.loop-index.index → ⊥) → word_at (g.M.PhysicalMemory.words c.set_word.new.self) f i ≡ word_at (g.M.PhysicalMemory.words c.loop-index.frames) f i =
+    let other : (f i : ℕ) → i < 512 → (f ≡ c.args.table → i ≡ c.loop-index.index → ⊥) →
+    word_at (g.M.PhysicalMemory.words c.set_word.new.self) f i ≡ word_at (g.M.PhysicalMemory.words c.loop-index.frames)
+    f i =
     λ f i li ne.
     ap (λ w. word_at w f i) now
-    ∙ word_at_set_other (g.M.PhysicalMemory.words c.loop-index.frames) c.args.table c.loop-index.index (page_entry (c.args.first + c.loop-index.index) c.args.rights) f i (omega arith) li ne in
+    ∙ word_at_set_other (g.M.PhysicalMemory.words c.loop-index.frames) c.args.table c.loop-index.index
+    (page_entry (c.args.first + c.loop-index.index) c.args.rights) f i (omega arith) li ne in
     record {
       area = c.set_word.ensures.area ∙ c.loop-index.invariant.area;
       size = ap length now
-          ∙ (length-set (g.M.PhysicalMemory.words c.loop-index.frames) (512 * c.args.table + c.loop-index.index) (page_entry (c.args.first + c.loop-index.index) c.args.rights)
+          ∙ (length-set (g.M.PhysicalMemory.words c.loop-index.frames) (512 * c.args.table + c.loop-index.index)
+          (page_entry (c.args.first + c.loop-index.index) c.args.rights)
           ∙ c.loop-index.invariant.size);
       filled = λ k lt.
           elim (cases_eq k c.loop-index.index) [
             | inl e ↦ rw e (ap (λ w. word_at w c.args.table c.loop-index.index) now
-                ∙ word_at_set_same (g.M.PhysicalMemory.words c.loop-index.frames) c.args.table c.loop-index.index (page_entry (c.args.first + c.loop-index.index) c.args.rights) inside (omega arith))
+                ∙ word_at_set_same (g.M.PhysicalMemory.words c.loop-index.frames) c.args.table c.loop-index.index
+                (page_entry (c.args.first + c.loop-index.index) c.args.rights) inside (omega arith))
             | inr ne ↦ other c.args.table k (omega arith) (λ _ e. ne e) ∙ c.loop-index.invariant.filled k (omega arith)
           ];
       others = λ f i li ne.

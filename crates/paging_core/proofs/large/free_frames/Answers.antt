@@ -36,7 +36,8 @@ loop-step-preserved c =
           other f (λ e. ne c.loop-step.step (omega arith) e)
           ∙ c.loop-step.invariant.kept f (λ k lt e. ne k (omega arith) e);
       out = λ k lo hi.
-          rw now (out_other c.loop-step.pool (c.args.first + c.loop-step.step) (c.args.first + k) (λ e. absurd (omega arith)) (c.loop-step.invariant.out k (omega arith) hi));
+          rw now (out_other c.loop-step.pool (c.args.first + c.loop-step.step) (c.args.first + k)
+          (λ e. absurd (omega arith)) (c.loop-step.invariant.out k (omega arith) hi));
       count =
           let a = ap free_count now ∙ given_count c.loop-step.pool (c.args.first + c.loop-step.step) at in
           let b = c.loop-step.invariant.count in

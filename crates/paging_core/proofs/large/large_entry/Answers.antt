@@ -10,7 +10,8 @@ pub unreachable-requires : goal.unreachable-requires
 unreachable-requires g c =
     let none : reach (g.M.PhysicalMemory.words c.args.frames.now) c.args.root 2 (above c.args.page 2) ≡ None =
     rw c.first_page-first.ensures at (sym c.descend.ensures.reach ∙ ap (option_map place_of) c.in_default.is) in
-    some_not_none (large_of (g.M.PhysicalMemory.words c.args.frames.now) c.args.root (slot_of c.args.page)) c.requires.large (large_stops (g.M.PhysicalMemory.words c.args.frames.now) c.args.root c.args.page none)
+    some_not_none (large_of (g.M.PhysicalMemory.words c.args.frames.now) c.args.root (slot_of c.args.page)) c.requires.large
+    (large_stops (g.M.PhysicalMemory.words c.args.frames.now) c.args.root c.args.page none)
 
 pub unreachable-requires-in_default-large_at : goal.unreachable-requires-in_default-large_at
 unreachable-requires-in_default-large_at g c =

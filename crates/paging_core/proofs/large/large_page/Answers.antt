@@ -11,9 +11,11 @@ returns g c =
     rw c.first_page-first.ensures at (sym c.in_ok-at.ensures.reach) in
     let ix : c.index_after.result ≡ slot_of c.args.page % 512 = (rw c.first_page-first.ensures at c.index_after.ensures.value) ∙ slot_index c.args.page in
     c.large_at.ensures.step
-    ∙ (ap (large_step (g.M.PhysicalMemory.words c.args.frames.now) (place_of c.in_ok-at.at)) ix ∙ sym (large_at (g.M.PhysicalMemory.words c.args.frames.now) c.args.root c.args.page (place_of c.in_ok-at.at) met))
+    ∙ (ap (large_step (g.M.PhysicalMemory.words c.args.frames.now) (place_of c.in_ok-at.at)) ix
+    ∙ sym (large_at (g.M.PhysicalMemory.words c.args.frames.now) c.args.root c.args.page (place_of c.in_ok-at.at) met))
 
 pub returns-in_err-at : goal.returns-in_err-at
 returns-in_err-at g c =
-    let none : reach (g.M.PhysicalMemory.words c.args.frames.now) c.args.root 2 (above c.args.page 2) ≡ None = rw c.first_page-first.ensures at (sym c.in_err-at.ensures.reach) in
+    let none : reach (g.M.PhysicalMemory.words c.args.frames.now) c.args.root 2 (above c.args.page 2) ≡ None =
+    rw c.first_page-first.ensures at (sym c.in_err-at.ensures.reach) in
     ap (option_map place_of) c.from_residual.ensures ∙ sym (large_stops (g.M.PhysicalMemory.words c.args.frames.now) c.args.root c.args.page none)

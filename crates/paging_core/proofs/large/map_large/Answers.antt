@@ -15,14 +15,18 @@ use Rattle.paging_core.proofs.large.map_large.Goals as goal
 pub set_word-requires-clause-frame : goal.set_word-requires-clause-frame
 set_word-requires-clause-frame g c =
     let s = c.ensure_tables-table.ensures.prepared.size in
-    reach_below (g.M.PhysicalMemory.words c.ensure_tables-table.new.frames) c.args.root 2 (prefix_of c.first_page-first.result 2) (top c.ensure_tables-table.result)
+    reach_below (g.M.PhysicalMemory.words c.ensure_tables-table.new.frames) c.args.root 2
+    (prefix_of c.first_page-first.result 2) (top c.ensure_tables-table.result)
     (omega arith) (omega (arith, c.requires.root)) c.ensure_tables-table.ensures.met
 
-met : (g : Over) (c : goal.After-set_word g) → reach (g.M.PhysicalMemory.words c.ensure_tables-table.new.frames) c.args.root 2 (above c.args.page 2) ≡ Some (top c.ensure_tables-table.result)
+met : (g : Over) (c : goal.After-set_word g) → reach (g.M.PhysicalMemory.words c.ensure_tables-table.new.frames) c.args.root
+    2 (above c.args.page 2) ≡ Some (top c.ensure_tables-table.result)
 met g c = rw c.first_page-first.ensures at c.ensure_tables-table.ensures.met
 
 prepared : (g : Over) (c : goal.After-set_word g) →
-    IsPrepared (g.M.PhysicalMemory.words c.args.frames.now) (g.M.PhysicalMemory.words c.ensure_tables-table.new.frames) (g.P.TableFrames.free c.args.pool.now) (g.P.TableFrames.free c.ensure_tables-table.new.pool) c.args.root (512 * c.args.page) 2
+    IsPrepared (g.M.PhysicalMemory.words c.args.frames.now) (g.M.PhysicalMemory.words c.ensure_tables-table.new.frames)
+    (g.P.TableFrames.free c.args.pool.now) (g.P.TableFrames.free c.ensure_tables-table.new.pool) c.args.root
+    (512 * c.args.page) 2
 prepared g c = rw c.first_page-first.ensures at c.ensure_tables-table.ensures.prepared
 
 index : (g : Over) (c : goal.After-set_word g) → c.index_after.result ≡ prefix_of (512 * c.args.page) 3 % 512
@@ -32,7 +36,8 @@ small : (g : Over) (c : goal.After-set_word g) → 512 * c.args.frame < 2 ^ 40
 small g c = rw c.first_frame.ensures.first at c.to_large-entry.ensures.fits
 
 written : (g : Over) (c : goal.After-set_word g) → (g.M.PhysicalMemory.words c.set_word.new.self)
-    ≡ set (g.M.PhysicalMemory.words c.ensure_tables-table.new.frames) (512 * c.ensure_tables-table.result + c.index_after.result) (large_entry (512 * c.args.frame) c.args.rights)
+    ≡ set (g.M.PhysicalMemory.words c.ensure_tables-table.new.frames)
+    (512 * c.ensure_tables-table.result + c.index_after.result) (large_entry (512 * c.args.frame) c.args.rights)
 written g c =
     c.set_word.ensures.words
     ∙ ap (set (g.M.PhysicalMemory.words c.ensure_tables-table.new.frames) (512 * c.ensure_tables-table.result + c.index_after.result))
@@ -40,18 +45,34 @@ written g c =
 
 pub returns-clause-tree : goal.returns-clause-tree
 returns-clause-tree g c =
-    tree_moved (g.M.PhysicalMemory.area c.args.frames.now) (g.M.PhysicalMemory.area c.set_word.new.self) (g.M.PhysicalMemory.words c.set_word.new.self) c.args.root (g.P.TableFrames.free c.ensure_tables-table.new.pool) (c.set_word.ensures.area ∙ c.ensure_tables-table.ensures.area)
-    (large_tree (g.M.PhysicalMemory.words c.args.frames.now) (g.M.PhysicalMemory.words c.ensure_tables-table.new.frames) (g.M.PhysicalMemory.words c.set_word.new.self) (g.P.TableFrames.free c.args.pool.now) (g.P.TableFrames.free c.ensure_tables-table.new.pool) c.args.root c.args.page
+    tree_moved (g.M.PhysicalMemory.area c.args.frames.now) (g.M.PhysicalMemory.area c.set_word.new.self)
+    (g.M.PhysicalMemory.words c.set_word.new.self) c.args.root (g.P.TableFrames.free c.ensure_tables-table.new.pool)
+    (c.set_word.ensures.area ∙ c.ensure_tables-table.ensures.area)
+    (large_tree (g.M.PhysicalMemory.words c.args.frames.now) (g.M.PhysicalMemory.words c.ensure_tables-table.new.frames)
+    (g.M.PhysicalMemory.words c.set_word.new.self) (g.P.TableFrames.free c.args.pool.now)
+    (g.P.TableFrames.free c.ensure_tables-table.new.pool) c.args.root c.args.page
     c.ensure_tables-table.result c.index_after.result c.args.frame c.args.rights
-    c.requires.root c.requires.empty (small g c) c.requires.frame c.requires.used (run_unmet_at (g.M.PhysicalMemory.area c.args.frames.now) (g.M.PhysicalMemory.words c.args.frames.now) c.args.root (512 * c.args.frame) c.requires.unmet) (index g c)
-    (tree_moved (g.M.PhysicalMemory.area c.ensure_tables-table.new.frames) (g.M.PhysicalMemory.area c.args.frames.now) (g.M.PhysicalMemory.words c.ensure_tables-table.new.frames) c.args.root (g.P.TableFrames.free c.ensure_tables-table.new.pool) (sym c.ensure_tables-table.ensures.area) c.ensure_tables-table.ensures.tree) (met g c) (prepared g c) (written g c))
+    c.requires.root c.requires.empty (small g c) c.requires.frame c.requires.used
+    (run_unmet_at (g.M.PhysicalMemory.area c.args.frames.now) (g.M.PhysicalMemory.words c.args.frames.now) c.args.root
+    (512 * c.args.frame) c.requires.unmet) (index g c)
+    (tree_moved (g.M.PhysicalMemory.area c.ensure_tables-table.new.frames) (g.M.PhysicalMemory.area c.args.frames.now)
+    (g.M.PhysicalMemory.words c.ensure_tables-table.new.frames) c.args.root
+    (g.P.TableFrames.free c.ensure_tables-table.new.pool) (sym c.ensure_tables-table.ensures.area)
+    c.ensure_tables-table.ensures.tree) (met g c) (prepared g c) (written g c))
 
 pub returns-clause-added : goal.returns-clause-added
 returns-clause-added g c =
-    large_added (g.M.PhysicalMemory.words c.args.frames.now) (g.M.PhysicalMemory.words c.ensure_tables-table.new.frames) (g.M.PhysicalMemory.words c.set_word.new.self) (g.P.TableFrames.free c.args.pool.now) (g.P.TableFrames.free c.ensure_tables-table.new.pool) c.args.root c.args.page
+    large_added (g.M.PhysicalMemory.words c.args.frames.now) (g.M.PhysicalMemory.words c.ensure_tables-table.new.frames)
+    (g.M.PhysicalMemory.words c.set_word.new.self) (g.P.TableFrames.free c.args.pool.now)
+    (g.P.TableFrames.free c.ensure_tables-table.new.pool) c.args.root c.args.page
     c.ensure_tables-table.result c.index_after.result c.args.frame c.args.rights
-    c.requires.root c.requires.empty (small g c) c.requires.frame c.requires.used (run_unmet_at (g.M.PhysicalMemory.area c.args.frames.now) (g.M.PhysicalMemory.words c.args.frames.now) c.args.root (512 * c.args.frame) c.requires.unmet) (index g c)
-    (tree_moved (g.M.PhysicalMemory.area c.ensure_tables-table.new.frames) (g.M.PhysicalMemory.area c.args.frames.now) (g.M.PhysicalMemory.words c.ensure_tables-table.new.frames) c.args.root (g.P.TableFrames.free c.ensure_tables-table.new.pool) (sym c.ensure_tables-table.ensures.area) c.ensure_tables-table.ensures.tree) (met g c) (prepared g c) (written g c)
+    c.requires.root c.requires.empty (small g c) c.requires.frame c.requires.used
+    (run_unmet_at (g.M.PhysicalMemory.area c.args.frames.now) (g.M.PhysicalMemory.words c.args.frames.now) c.args.root
+    (512 * c.args.frame) c.requires.unmet) (index g c)
+    (tree_moved (g.M.PhysicalMemory.area c.ensure_tables-table.new.frames) (g.M.PhysicalMemory.area c.args.frames.now)
+    (g.M.PhysicalMemory.words c.ensure_tables-table.new.frames) c.args.root
+    (g.P.TableFrames.free c.ensure_tables-table.new.pool) (sym c.ensure_tables-table.ensures.area)
+    c.ensure_tables-table.ensures.tree) (met g c) (prepared g c) (written g c)
 
 pub returns-clause-elsewhere : goal.returns-clause-elsewhere
 returns-clause-elsewhere g c = λ other canonical ne.
@@ -60,14 +81,23 @@ returns-clause-elsewhere g c = λ other canonical ne.
 
 pub returns-clause-bytes : goal.returns-clause-bytes
 returns-clause-bytes g c =
-    large_bytes (g.M.PhysicalMemory.words c.args.frames.now) (g.M.PhysicalMemory.words c.ensure_tables-table.new.frames) (g.M.PhysicalMemory.words c.set_word.new.self) (g.P.TableFrames.free c.args.pool.now) (g.P.TableFrames.free c.ensure_tables-table.new.pool) c.args.root c.args.page
+    large_bytes (g.M.PhysicalMemory.words c.args.frames.now) (g.M.PhysicalMemory.words c.ensure_tables-table.new.frames)
+    (g.M.PhysicalMemory.words c.set_word.new.self) (g.P.TableFrames.free c.args.pool.now)
+    (g.P.TableFrames.free c.ensure_tables-table.new.pool) c.args.root c.args.page
     c.ensure_tables-table.result c.index_after.result c.args.frame c.args.rights
-    c.requires.root c.requires.empty (small g c) c.requires.frame c.requires.used (run_unmet_at (g.M.PhysicalMemory.area c.args.frames.now) (g.M.PhysicalMemory.words c.args.frames.now) c.args.root (512 * c.args.frame) c.requires.unmet) (index g c)
-    (tree_moved (g.M.PhysicalMemory.area c.ensure_tables-table.new.frames) (g.M.PhysicalMemory.area c.args.frames.now) (g.M.PhysicalMemory.words c.ensure_tables-table.new.frames) c.args.root (g.P.TableFrames.free c.ensure_tables-table.new.pool) (sym c.ensure_tables-table.ensures.area) c.ensure_tables-table.ensures.tree) (met g c) (prepared g c) (written g c)
+    c.requires.root c.requires.empty (small g c) c.requires.frame c.requires.used
+    (run_unmet_at (g.M.PhysicalMemory.area c.args.frames.now) (g.M.PhysicalMemory.words c.args.frames.now) c.args.root
+    (512 * c.args.frame) c.requires.unmet) (index g c)
+    (tree_moved (g.M.PhysicalMemory.area c.ensure_tables-table.new.frames) (g.M.PhysicalMemory.area c.args.frames.now)
+    (g.M.PhysicalMemory.words c.ensure_tables-table.new.frames) c.args.root
+    (g.P.TableFrames.free c.ensure_tables-table.new.pool) (sym c.ensure_tables-table.ensures.area)
+    c.ensure_tables-table.ensures.tree) (met g c) (prepared g c) (written g c)
 
 pub returns-clause-missing : goal.returns-clause-missing
 returns-clause-missing g c =
-    large_missing (g.M.PhysicalMemory.words c.args.frames.now) (g.M.PhysicalMemory.words c.set_word.new.self) (g.P.TableFrames.free c.args.pool.now) (g.P.TableFrames.free c.ensure_tables-table.new.pool) c.args.root c.args.page c.args.frame c.args.rights
+    large_missing (g.M.PhysicalMemory.words c.args.frames.now) (g.M.PhysicalMemory.words c.set_word.new.self)
+    (g.P.TableFrames.free c.args.pool.now) (g.P.TableFrames.free c.ensure_tables-table.new.pool) c.args.root c.args.page
+    c.args.frame c.args.rights
     (returns-clause-added g c)
 
 pub returns-clause-area : goal.returns-clause-area
@@ -77,21 +107,35 @@ pub returns-clause-known : goal.returns-clause-known
 returns-clause-known g c =
     let added = returns-clause-added g c in
     let s = added.size in
-    known_moved (g.M.PhysicalMemory.area c.args.frames.now) (g.M.PhysicalMemory.area c.set_word.new.self) (g.P.TableFrames.free c.ensure_tables-table.new.pool) (frame_count (g.M.PhysicalMemory.words c.set_word.new.self)) (c.set_word.ensures.area ∙ c.ensure_tables-table.ensures.area)
-    (free_stays (g.M.PhysicalMemory.area c.args.frames.now) (g.P.TableFrames.free c.args.pool.now) (g.P.TableFrames.free c.ensure_tables-table.new.pool) (frame_count (g.M.PhysicalMemory.words c.args.frames.now)) (frame_count (g.M.PhysicalMemory.words c.set_word.new.self)) c.requires.known (omega arith) added.fewer)
+    known_moved (g.M.PhysicalMemory.area c.args.frames.now) (g.M.PhysicalMemory.area c.set_word.new.self)
+    (g.P.TableFrames.free c.ensure_tables-table.new.pool) (frame_count (g.M.PhysicalMemory.words c.set_word.new.self))
+    (c.set_word.ensures.area ∙ c.ensure_tables-table.ensures.area)
+    (free_stays (g.M.PhysicalMemory.area c.args.frames.now) (g.P.TableFrames.free c.args.pool.now)
+    (g.P.TableFrames.free c.ensure_tables-table.new.pool) (frame_count (g.M.PhysicalMemory.words c.args.frames.now))
+    (frame_count (g.M.PhysicalMemory.words c.set_word.new.self)) c.requires.known (omega arith) added.fewer)
 
 pub set_word-requires-clause-inside : goal.set_word-requires-clause-inside
 set_word-requires-clause-inside g c =
-    c.ensure_tables-table.ensures.tree.inside 2 (prefix_of c.first_page-first.result 2) (top c.ensure_tables-table.result) (omega arith) c.ensure_tables-table.ensures.met
+    c.ensure_tables-table.ensures.tree.inside 2 (prefix_of c.first_page-first.result 2) (top c.ensure_tables-table.result)
+    (omega arith) c.ensure_tables-table.ensures.met
 
 pub set_word-requires-clause-seen : goal.set_word-requires-clause-seen
 set_word-requires-clause-seen g c =
-    c.requires.seen (set (g.M.PhysicalMemory.words c.ensure_tables-table.new.frames) (512 * c.ensure_tables-table.result + c.index_after.result) c.bits.result) (g.P.TableFrames.free c.ensure_tables-table.new.pool)
-    (large_added (g.M.PhysicalMemory.words c.args.frames.now) (g.M.PhysicalMemory.words c.ensure_tables-table.new.frames) (set (g.M.PhysicalMemory.words c.ensure_tables-table.new.frames) (512 * c.ensure_tables-table.result + c.index_after.result) c.bits.result) (g.P.TableFrames.free c.args.pool.now) (g.P.TableFrames.free c.ensure_tables-table.new.pool) c.args.root c.args.page
+    c.requires.seen (set (g.M.PhysicalMemory.words c.ensure_tables-table.new.frames)
+    (512 * c.ensure_tables-table.result + c.index_after.result) c.bits.result)
+    (g.P.TableFrames.free c.ensure_tables-table.new.pool)
+    (large_added (g.M.PhysicalMemory.words c.args.frames.now) (g.M.PhysicalMemory.words c.ensure_tables-table.new.frames)
+    (set (g.M.PhysicalMemory.words c.ensure_tables-table.new.frames)
+    (512 * c.ensure_tables-table.result + c.index_after.result) c.bits.result) (g.P.TableFrames.free c.args.pool.now)
+    (g.P.TableFrames.free c.ensure_tables-table.new.pool) c.args.root c.args.page
     c.ensure_tables-table.result c.index_after.result c.args.frame c.args.rights
     c.requires.root c.requires.empty (rw c.first_frame.ensures.first at c.to_large-entry.ensures.fits) c.requires.frame c.requires.used
-    (run_unmet_at (g.M.PhysicalMemory.area c.args.frames.now) (g.M.PhysicalMemory.words c.args.frames.now) c.args.root (512 * c.args.frame) c.requires.unmet) (rw c.first_page-first.ensures at c.index_after.ensures.value)
-    (tree_moved (g.M.PhysicalMemory.area c.ensure_tables-table.new.frames) (g.M.PhysicalMemory.area c.args.frames.now) (g.M.PhysicalMemory.words c.ensure_tables-table.new.frames) c.args.root (g.P.TableFrames.free c.ensure_tables-table.new.pool) (sym c.ensure_tables-table.ensures.area) c.ensure_tables-table.ensures.tree)
+    (run_unmet_at (g.M.PhysicalMemory.area c.args.frames.now) (g.M.PhysicalMemory.words c.args.frames.now) c.args.root
+    (512 * c.args.frame) c.requires.unmet) (rw c.first_page-first.ensures at c.index_after.ensures.value)
+    (tree_moved (g.M.PhysicalMemory.area c.ensure_tables-table.new.frames) (g.M.PhysicalMemory.area c.args.frames.now)
+    (g.M.PhysicalMemory.words c.ensure_tables-table.new.frames) c.args.root
+    (g.P.TableFrames.free c.ensure_tables-table.new.pool) (sym c.ensure_tables-table.ensures.area)
+    c.ensure_tables-table.ensures.tree)
     (rw c.first_page-first.ensures at c.ensure_tables-table.ensures.met) (rw c.first_page-first.ensures at c.ensure_tables-table.ensures.prepared)
     (ap (set (g.M.PhysicalMemory.words c.ensure_tables-table.new.frames) (512 * c.ensure_tables-table.result + c.index_after.result))
     (c.bits.ensures ∙ (c.to_large-entry.ensures.value ∙ ap (λ f. large_entry f c.args.rights) c.first_frame.ensures.first))))

@@ -13,52 +13,94 @@ pub clear_frames-requires-clause-bounded : goal.clear_frames-requires-clause-bou
 clear_frames-requires-clause-bounded c = let e = c.first_frame.ensures.fits in omega arith
 
 pub map_large-requires-clause-known : goal.map_large-requires-clause-known
-map_large-requires-clause-known c = run_known c.args.frames.now c.clear_frames.new.frames c.args.pool.now c.allocate_frame-run.new.self c.args.root c.in-Some.run' c.requires.known c.requires.tree c.in-Some.ensures.run.0 c.in-Some.ensures.run.1 (let P : ℕ → Type 0 = λ f. AreFramesCleared c.args.frames.now c.clear_frames.new.frames f 512 in subst P c.first_frame.ensures.first c.clear_frames.ensures)
+map_large-requires-clause-known c = run_known c.args.frames.now c.clear_frames.new.frames c.args.pool.now
+    c.allocate_frame-run.new.self c.args.root c.in-Some.run' c.requires.known c.requires.tree c.in-Some.ensures.run.0
+    c.in-Some.ensures.run.1 (let P : ℕ → Type 0 = λ f. AreFramesCleared c.args.frames.now c.clear_frames.new.frames f 512 in
+    subst P c.first_frame.ensures.first c.clear_frames.ensures)
 
 pub map_large-requires-clause-tree : goal.map_large-requires-clause-tree
-map_large-requires-clause-tree c = run_tree c.args.frames.now c.clear_frames.new.frames c.args.pool.now c.allocate_frame-run.new.self c.args.root c.in-Some.run' c.requires.known c.requires.tree c.in-Some.ensures.run.0 c.in-Some.ensures.run.1 (let P : ℕ → Type 0 = λ f. AreFramesCleared c.args.frames.now c.clear_frames.new.frames f 512 in subst P c.first_frame.ensures.first c.clear_frames.ensures)
+map_large-requires-clause-tree c = run_tree c.args.frames.now c.clear_frames.new.frames c.args.pool.now
+    c.allocate_frame-run.new.self c.args.root c.in-Some.run' c.requires.known c.requires.tree c.in-Some.ensures.run.0
+    c.in-Some.ensures.run.1 (let P : ℕ → Type 0 = λ f. AreFramesCleared c.args.frames.now c.clear_frames.new.frames f 512 in
+    subst P c.first_frame.ensures.first c.clear_frames.ensures)
 
 pub map_large-requires-clause-empty : goal.map_large-requires-clause-empty
-map_large-requires-clause-empty c = run_empty c.args.frames.now c.clear_frames.new.frames c.args.pool.now c.allocate_frame-run.new.self c.args.root c.in-Some.run' c.requires.known c.requires.tree c.in-Some.ensures.run.0 c.in-Some.ensures.run.1 (let P : ℕ → Type 0 = λ f. AreFramesCleared c.args.frames.now c.clear_frames.new.frames f 512 in subst P c.first_frame.ensures.first c.clear_frames.ensures) c.args.page c.requires.empty
+map_large-requires-clause-empty c = run_empty c.args.frames.now c.clear_frames.new.frames c.args.pool.now
+    c.allocate_frame-run.new.self c.args.root c.in-Some.run' c.requires.known c.requires.tree c.in-Some.ensures.run.0
+    c.in-Some.ensures.run.1 (let P : ℕ → Type 0 = λ f. AreFramesCleared c.args.frames.now c.clear_frames.new.frames f 512 in
+    subst P c.first_frame.ensures.first c.clear_frames.ensures) c.args.page c.requires.empty
 
 pub map_large-requires-clause-frame : goal.map_large-requires-clause-frame
 map_large-requires-clause-frame c =
-    let b = run_in c.args.frames.now c.clear_frames.new.frames c.args.pool.now c.allocate_frame-run.new.self c.args.root c.in-Some.run' c.requires.known c.requires.tree c.in-Some.ensures.run.0 c.in-Some.ensures.run.1 (let P : ℕ → Type 0 = λ f. AreFramesCleared c.args.frames.now c.clear_frames.new.frames f 512 in subst P c.first_frame.ensures.first c.clear_frames.ensures) in
+    let b = run_in c.args.frames.now c.clear_frames.new.frames c.args.pool.now c.allocate_frame-run.new.self c.args.root
+    c.in-Some.run' c.requires.known c.requires.tree c.in-Some.ensures.run.0 c.in-Some.ensures.run.1
+    (let P : ℕ → Type 0 = λ f. AreFramesCleared c.args.frames.now c.clear_frames.new.frames f 512 in
+    subst P c.first_frame.ensures.first c.clear_frames.ensures) in
     let s = c.clear_frames.ensures.size in
     omega arith
 
 pub map_large-requires-clause-used : goal.map_large-requires-clause-used
-map_large-requires-clause-used c = run_used c.args.frames.now c.clear_frames.new.frames c.args.pool.now c.allocate_frame-run.new.self c.args.root c.in-Some.run' c.requires.known c.requires.tree c.in-Some.ensures.run.0 c.in-Some.ensures.run.1 (let P : ℕ → Type 0 = λ f. AreFramesCleared c.args.frames.now c.clear_frames.new.frames f 512 in subst P c.first_frame.ensures.first c.clear_frames.ensures)
+map_large-requires-clause-used c = run_used c.args.frames.now c.clear_frames.new.frames c.args.pool.now
+    c.allocate_frame-run.new.self c.args.root c.in-Some.run' c.requires.known c.requires.tree c.in-Some.ensures.run.0
+    c.in-Some.ensures.run.1 (let P : ℕ → Type 0 = λ f. AreFramesCleared c.args.frames.now c.clear_frames.new.frames f 512 in
+    subst P c.first_frame.ensures.first c.clear_frames.ensures)
 
 pub map_large-requires-clause-unmet : goal.map_large-requires-clause-unmet
-map_large-requires-clause-unmet c = run_unmet c.args.frames.now c.clear_frames.new.frames c.args.pool.now c.allocate_frame-run.new.self c.args.root c.in-Some.run' c.requires.known c.requires.tree c.in-Some.ensures.run.0 c.in-Some.ensures.run.1 (let P : ℕ → Type 0 = λ f. AreFramesCleared c.args.frames.now c.clear_frames.new.frames f 512 in subst P c.first_frame.ensures.first c.clear_frames.ensures)
+map_large-requires-clause-unmet c = run_unmet c.args.frames.now c.clear_frames.new.frames c.args.pool.now
+    c.allocate_frame-run.new.self c.args.root c.in-Some.run' c.requires.known c.requires.tree c.in-Some.ensures.run.0
+    c.in-Some.ensures.run.1 (let P : ℕ → Type 0 = λ f. AreFramesCleared c.args.frames.now c.clear_frames.new.frames f 512 in
+    subst P c.first_frame.ensures.first c.clear_frames.ensures)
 
 pub map_large-requires-clause-room : goal.map_large-requires-clause-room
 map_large-requires-clause-room c =
-    let m = run_missing c.args.frames.now c.clear_frames.new.frames c.args.pool.now c.allocate_frame-run.new.self c.args.root c.in-Some.run' c.requires.known c.requires.tree c.in-Some.ensures.run.0 c.in-Some.ensures.run.1 (let P : ℕ → Type 0 = λ f. AreFramesCleared c.args.frames.now c.clear_frames.new.frames f 512 in subst P c.first_frame.ensures.first c.clear_frames.ensures) c.args.page in
+    let m = run_missing c.args.frames.now c.clear_frames.new.frames c.args.pool.now c.allocate_frame-run.new.self
+    c.args.root c.in-Some.run' c.requires.known c.requires.tree c.in-Some.ensures.run.0 c.in-Some.ensures.run.1
+    (let P : ℕ → Type 0 = λ f. AreFramesCleared c.args.frames.now c.clear_frames.new.frames f 512 in
+    subst P c.first_frame.ensures.first c.clear_frames.ensures) c.args.page in
     let n = c.in-Some.ensures.count in
     omega (arith, c.requires.room)
 
 pub returns-clause-elsewhere : goal.returns-clause-elsewhere
-returns-clause-elsewhere c = λ other canonical ne. c.map_large.ensures.elsewhere other canonical ne ∙ run_walk c.args.frames.now c.clear_frames.new.frames c.args.pool.now c.allocate_frame-run.new.self c.args.root c.in-Some.run' c.requires.known c.requires.tree c.in-Some.ensures.run.0 c.in-Some.ensures.run.1 (let P : ℕ → Type 0 = λ f. AreFramesCleared c.args.frames.now c.clear_frames.new.frames f 512 in subst P c.first_frame.ensures.first c.clear_frames.ensures) other
+returns-clause-elsewhere c = λ other canonical ne. c.map_large.ensures.elsewhere other canonical ne
+    ∙ run_walk c.args.frames.now c.clear_frames.new.frames c.args.pool.now c.allocate_frame-run.new.self c.args.root
+    c.in-Some.run' c.requires.known c.requires.tree c.in-Some.ensures.run.0 c.in-Some.ensures.run.1
+    (let P : ℕ → Type 0 = λ f. AreFramesCleared c.args.frames.now c.clear_frames.new.frames f 512 in
+    subst P c.first_frame.ensures.first c.clear_frames.ensures) other
 
 pub returns-clause-zeros : goal.returns-clause-zeros
-returns-clause-zeros c = λ _. slot_zeros c.args.frames.now c.clear_frames.new.frames c.args.pool.now c.allocate_frame-run.new.self c.args.root c.in-Some.run' c.requires.known c.requires.tree c.in-Some.ensures.run.0 c.in-Some.ensures.run.1 (let P : ℕ → Type 0 = λ f. AreFramesCleared c.args.frames.now c.clear_frames.new.frames f 512 in subst P c.first_frame.ensures.first c.clear_frames.ensures) c.map_large.new.frames c.map_large.new.pool c.args.page c.args.rights c.map_large.ensures.added c.map_large.ensures.tree
+returns-clause-zeros c = λ _. slot_zeros c.args.frames.now c.clear_frames.new.frames c.args.pool.now
+    c.allocate_frame-run.new.self c.args.root c.in-Some.run' c.requires.known c.requires.tree c.in-Some.ensures.run.0
+    c.in-Some.ensures.run.1 (let P : ℕ → Type 0 = λ f. AreFramesCleared c.args.frames.now c.clear_frames.new.frames f 512 in
+    subst P c.first_frame.ensures.first c.clear_frames.ensures) c.map_large.new.frames c.map_large.new.pool c.args.page
+    c.args.rights c.map_large.ensures.added c.map_large.ensures.tree
 
 pub returns-clause-bytes : goal.returns-clause-bytes
 returns-clause-bytes c =
-    slot_bytes c.args.frames.now c.clear_frames.new.frames c.args.pool.now c.allocate_frame-run.new.self c.args.root c.in-Some.run' c.requires.known c.requires.tree c.in-Some.ensures.run.0 c.in-Some.ensures.run.1 (let P : ℕ → Type 0 = λ f. AreFramesCleared c.args.frames.now c.clear_frames.new.frames f 512 in subst P c.first_frame.ensures.first c.clear_frames.ensures) c.map_large.new.frames c.map_large.new.pool c.args.page c.args.rights c.map_large.ensures.added c.map_large.ensures.tree c.map_large.ensures.bytes
+    slot_bytes c.args.frames.now c.clear_frames.new.frames c.args.pool.now c.allocate_frame-run.new.self c.args.root
+    c.in-Some.run' c.requires.known c.requires.tree c.in-Some.ensures.run.0 c.in-Some.ensures.run.1
+    (let P : ℕ → Type 0 = λ f. AreFramesCleared c.args.frames.now c.clear_frames.new.frames f 512 in
+    subst P c.first_frame.ensures.first c.clear_frames.ensures) c.map_large.new.frames c.map_large.new.pool c.args.page
+    c.args.rights c.map_large.ensures.added c.map_large.ensures.tree c.map_large.ensures.bytes
 
 pub returns-clause-missing : goal.returns-clause-missing
 returns-clause-missing c = λ _ first pages range lo hi.
     let a = c.map_large.ensures.missing first pages range lo hi in
-    let b = run_missing_of c.args.frames.now c.clear_frames.new.frames c.args.pool.now c.allocate_frame-run.new.self c.args.root c.in-Some.run' c.requires.known c.requires.tree c.in-Some.ensures.run.0 c.in-Some.ensures.run.1 (let P : ℕ → Type 0 = λ f. AreFramesCleared c.args.frames.now c.clear_frames.new.frames f 512 in subst P c.first_frame.ensures.first c.clear_frames.ensures) first pages in
-    let m = run_missing c.args.frames.now c.clear_frames.new.frames c.args.pool.now c.allocate_frame-run.new.self c.args.root c.in-Some.run' c.requires.known c.requires.tree c.in-Some.ensures.run.0 c.in-Some.ensures.run.1 (let P : ℕ → Type 0 = λ f. AreFramesCleared c.args.frames.now c.clear_frames.new.frames f 512 in subst P c.first_frame.ensures.first c.clear_frames.ensures) c.args.page in
+    let b = run_missing_of c.args.frames.now c.clear_frames.new.frames c.args.pool.now c.allocate_frame-run.new.self
+    c.args.root c.in-Some.run' c.requires.known c.requires.tree c.in-Some.ensures.run.0 c.in-Some.ensures.run.1
+    (let P : ℕ → Type 0 = λ f. AreFramesCleared c.args.frames.now c.clear_frames.new.frames f 512 in
+    subst P c.first_frame.ensures.first c.clear_frames.ensures) first pages in
+    let m = run_missing c.args.frames.now c.clear_frames.new.frames c.args.pool.now c.allocate_frame-run.new.self
+    c.args.root c.in-Some.run' c.requires.known c.requires.tree c.in-Some.ensures.run.0 c.in-Some.ensures.run.1
+    (let P : ℕ → Type 0 = λ f. AreFramesCleared c.args.frames.now c.clear_frames.new.frames f 512 in
+    subst P c.first_frame.ensures.first c.clear_frames.ensures) c.args.page in
     omega arith
 
 pub returns-clause-count : goal.returns-clause-count
 returns-clause-count c = λ _.
-    let m = run_missing c.args.frames.now c.clear_frames.new.frames c.args.pool.now c.allocate_frame-run.new.self c.args.root c.in-Some.run' c.requires.known c.requires.tree c.in-Some.ensures.run.0 c.in-Some.ensures.run.1 (let P : ℕ → Type 0 = λ f. AreFramesCleared c.args.frames.now c.clear_frames.new.frames f 512 in subst P c.first_frame.ensures.first c.clear_frames.ensures) c.args.page in
+    let m = run_missing c.args.frames.now c.clear_frames.new.frames c.args.pool.now c.allocate_frame-run.new.self
+    c.args.root c.in-Some.run' c.requires.known c.requires.tree c.in-Some.ensures.run.0 c.in-Some.ensures.run.1
+    (let P : ℕ → Type 0 = λ f. AreFramesCleared c.args.frames.now c.clear_frames.new.frames f 512 in
+    subst P c.first_frame.ensures.first c.clear_frames.ensures) c.args.page in
     let n = c.in-Some.ensures.count in
     let k = c.map_large.ensures.added.count in
     omega arith

@@ -12,22 +12,27 @@ use Rattle.paging_core.proofs.large.unmap_large.Goals as goal
 run_number : (f a r : ℕ) → f % 512 ≡ 0 → a ≡ f * 4096 → r ≡ a / 2 ^ 21 → 512 * r ≡ f
 run_number f a r aligned e is = omega arith
 
-cleared : (g : Over) (c : goal.After-containing_address g) → IsLargeCleared (g.M.PhysicalMemory.words c.args.frames.now) (g.M.PhysicalMemory.words c.set_word.new.self) c.args.root c.args.page
+cleared : (g : Over) (c : goal.After-containing_address g) → IsLargeCleared (g.M.PhysicalMemory.words c.args.frames.now)
+    (g.M.PhysicalMemory.words c.set_word.new.self) c.args.root c.args.page
 cleared g c =
-    large_cleared (g.M.PhysicalMemory.words c.args.frames.now) (g.M.PhysicalMemory.words c.set_word.new.self) c.args.root c.args.page c.large_entry-table.result.table c.large_entry-table.result.index
+    large_cleared (g.M.PhysicalMemory.words c.args.frames.now) (g.M.PhysicalMemory.words c.set_word.new.self) c.args.root
+    c.args.page c.large_entry-table.result.table c.large_entry-table.result.index
     (place_of c.large_entry-table.result.large) c.large_entry-table.ensures.entry c.set_word.ensures.words
 
 run : (g : Over) (c : goal.After-containing_address g) → 512 * c.containing_address.result ≡ c.large_entry-table.result.large.frame
 run g c =
-    let b = large_below (g.M.PhysicalMemory.words c.args.frames.now) c.args.root (slot_of c.args.page) (place_of c.large_entry-table.result.large) c.large_entry-table.ensures.entry.found in
-    run_number c.large_entry-table.result.large.frame c.start_address.result c.containing_address.result b.0 c.start_address.ensures c.containing_address.ensures
+    let b = large_below (g.M.PhysicalMemory.words c.args.frames.now) c.args.root (slot_of c.args.page)
+    (place_of c.large_entry-table.result.large) c.large_entry-table.ensures.entry.found in
+    run_number c.large_entry-table.result.large.frame c.start_address.result c.containing_address.result b.0
+    c.start_address.ensures c.containing_address.ensures
 
 pub returns-clause-frame : goal.returns-clause-frame
 returns-clause-frame g c = rw c.large_entry-table.ensures.entry.found (run g c)
 
 pub returns-clause-below : goal.returns-clause-below
 returns-clause-below g c =
-    let b = large_below (g.M.PhysicalMemory.words c.args.frames.now) c.args.root (slot_of c.args.page) (place_of c.large_entry-table.result.large) c.large_entry-table.ensures.entry.found in
+    let b = large_below (g.M.PhysicalMemory.words c.args.frames.now) c.args.root (slot_of c.args.page)
+    (place_of c.large_entry-table.result.large) c.large_entry-table.ensures.entry.found in
     let r = run g c in
     let s : length (g.M.PhysicalMemory.words c.set_word.new.self) ≡ length (g.M.PhysicalMemory.words c.args.frames.now) =
     ap length c.set_word.ensures.words
@@ -35,22 +40,29 @@ returns-clause-below g c =
     omega (arith, b.1)
 
 pub returns-clause-tree : goal.returns-clause-tree
-returns-clause-tree g c = λ free tree. tree_moved (g.M.PhysicalMemory.area c.args.frames.now) (g.M.PhysicalMemory.area c.set_word.new.self) (g.M.PhysicalMemory.words c.set_word.new.self) c.args.root free c.set_word.ensures.area
-    (gone_tree (g.M.PhysicalMemory.words c.args.frames.now) (g.M.PhysicalMemory.words c.set_word.new.self) c.args.root c.args.page c.requires.root (cleared g c) free tree)
+returns-clause-tree g c = λ free tree. tree_moved (g.M.PhysicalMemory.area c.args.frames.now)
+    (g.M.PhysicalMemory.area c.set_word.new.self) (g.M.PhysicalMemory.words c.set_word.new.self) c.args.root free
+    c.set_word.ensures.area
+    (gone_tree (g.M.PhysicalMemory.words c.args.frames.now) (g.M.PhysicalMemory.words c.set_word.new.self) c.args.root
+    c.args.page c.requires.root (cleared g c) free tree)
 
 pub returns-clause-removed : goal.returns-clause-removed
-returns-clause-removed g c = λ free tree. large_removed (g.M.PhysicalMemory.words c.args.frames.now) (g.M.PhysicalMemory.words c.set_word.new.self) c.args.root c.args.page c.requires.root (cleared g c) free tree
+returns-clause-removed g c = λ free tree. large_removed (g.M.PhysicalMemory.words c.args.frames.now)
+    (g.M.PhysicalMemory.words c.set_word.new.self) c.args.root c.args.page c.requires.root (cleared g c) free tree
 
 pub returns-clause-elsewhere : goal.returns-clause-elsewhere
 returns-clause-elsewhere g c = λ free tree other canonical ne.
-    gone_elsewhere (g.M.PhysicalMemory.words c.args.frames.now) (g.M.PhysicalMemory.words c.set_word.new.self) c.args.root c.args.page c.requires.root (cleared g c) free tree other
+    gone_elsewhere (g.M.PhysicalMemory.words c.args.frames.now) (g.M.PhysicalMemory.words c.set_word.new.self) c.args.root
+    c.args.page c.requires.root (cleared g c) free tree other
     (λ e. ne (same_slot other c.args.page canonical c.large_entry-table.ensures.canonical e))
 
 pub returns-clause-bytes : goal.returns-clause-bytes
-returns-clause-bytes g c = λ free tree. gone_bytes (g.M.PhysicalMemory.words c.args.frames.now) (g.M.PhysicalMemory.words c.set_word.new.self) c.args.root c.args.page c.requires.root (cleared g c) free tree
+returns-clause-bytes g c = λ free tree. gone_bytes (g.M.PhysicalMemory.words c.args.frames.now)
+    (g.M.PhysicalMemory.words c.set_word.new.self) c.args.root c.args.page c.requires.root (cleared g c) free tree
 
 pub set_word-requires-clause-seen : goal.set_word-requires-clause-seen
 set_word-requires-clause-seen g c =
     c.requires.seen (set (g.M.PhysicalMemory.words c.args.frames.now) (512 * c.large_entry-table.result.table + c.large_entry-table.result.index) 0)
-    (large_cleared (g.M.PhysicalMemory.words c.args.frames.now) (set (g.M.PhysicalMemory.words c.args.frames.now) (512 * c.large_entry-table.result.table + c.large_entry-table.result.index) 0) c.args.root c.args.page
+    (large_cleared (g.M.PhysicalMemory.words c.args.frames.now) (set (g.M.PhysicalMemory.words c.args.frames.now)
+    (512 * c.large_entry-table.result.table + c.large_entry-table.result.index) 0) c.args.root c.args.page
     c.large_entry-table.result.table c.large_entry-table.result.index (place_of c.large_entry-table.result.large) c.large_entry-table.ensures.entry refl)

@@ -22,11 +22,15 @@ returns-clause-known g c = λ free known.
     let s = length-set (g.M.PhysicalMemory.words c.args.frames.now) (512 * c.args.table + c.args.index) (page_entry c.args.frame c.args.rights) in
     let e : frame_count (g.M.PhysicalMemory.words c.set_word.new.self) ≡ frame_count (g.M.PhysicalMemory.words c.args.frames.now) =
     ap frame_count (returns-clause-words g c) ∙ (let n = s in omega arith) in
-    known_moved (g.M.PhysicalMemory.area c.args.frames.now) (g.M.PhysicalMemory.area c.set_word.new.self) free (frame_count (g.M.PhysicalMemory.words c.set_word.new.self)) c.set_word.ensures.area
-    (free_stays (g.M.PhysicalMemory.area c.args.frames.now) free free (frame_count (g.M.PhysicalMemory.words c.args.frames.now)) (frame_count (g.M.PhysicalMemory.words c.set_word.new.self)) known e (λ f x. x))
+    known_moved (g.M.PhysicalMemory.area c.args.frames.now) (g.M.PhysicalMemory.area c.set_word.new.self) free
+    (frame_count (g.M.PhysicalMemory.words c.set_word.new.self)) c.set_word.ensures.area
+    (free_stays (g.M.PhysicalMemory.area c.args.frames.now) free free (frame_count
+    (g.M.PhysicalMemory.words c.args.frames.now)) (frame_count (g.M.PhysicalMemory.words c.set_word.new.self)) known e
+    (λ f x. x))
 
 -- the table, as a tree meets it
-met : (g : Over) (c : goal.After-set_word g) (free : List Bool) → IsTreeIn (g.M.PhysicalMemory.area c.args.frames.now) (g.M.PhysicalMemory.words c.args.frames.now) c.args.root free →
+met : (g : Over) (c : goal.After-set_word g) (free : List Bool) → IsTreeIn (g.M.PhysicalMemory.area c.args.frames.now)
+    (g.M.PhysicalMemory.words c.args.frames.now) c.args.root free →
     reach (g.M.PhysicalMemory.words c.args.frames.now) c.args.root 3 (prefix_of c.args.page 3) ≡ Some (top c.args.table)
 met g c free tree =
     let e = c.requires.entry in
@@ -35,20 +39,27 @@ met g c free tree =
 
 pub returns-clause-tree : goal.returns-clause-tree
 returns-clause-tree g c = λ free tree used.
-    tree_moved (g.M.PhysicalMemory.area c.args.frames.now) (g.M.PhysicalMemory.area c.set_word.new.self) (g.M.PhysicalMemory.words c.set_word.new.self) c.args.root free c.set_word.ensures.area
-    (mapped_tree (g.M.PhysicalMemory.words c.args.frames.now) (g.M.PhysicalMemory.words c.args.frames.now) (g.M.PhysicalMemory.words c.set_word.new.self) free free c.args.root c.args.page
+    tree_moved (g.M.PhysicalMemory.area c.args.frames.now) (g.M.PhysicalMemory.area c.set_word.new.self)
+    (g.M.PhysicalMemory.words c.set_word.new.self) c.args.root free c.set_word.ensures.area
+    (mapped_tree (g.M.PhysicalMemory.words c.args.frames.now) (g.M.PhysicalMemory.words c.args.frames.now)
+    (g.M.PhysicalMemory.words c.set_word.new.self) free free c.args.root c.args.page
     c.args.table c.args.index c.args.frame c.args.rights
     c.requires.root c.requires.unmapped c.to_page-entry.ensures.fits c.requires.frame used
-    (unmet_at (g.M.PhysicalMemory.area c.args.frames.now) (g.M.PhysicalMemory.words c.args.frames.now) c.args.root c.args.frame c.requires.unmet) c.requires.entry.at_index
-    tree (met g c free tree) (prepared_all (g.M.PhysicalMemory.words c.args.frames.now) free c.args.root c.args.page (top c.args.table) (met g c free tree)) (returns-clause-words g c))
+    (unmet_at (g.M.PhysicalMemory.area c.args.frames.now) (g.M.PhysicalMemory.words c.args.frames.now) c.args.root
+    c.args.frame c.requires.unmet) c.requires.entry.at_index
+    tree (met g c free tree) (prepared_all (g.M.PhysicalMemory.words c.args.frames.now) free c.args.root c.args.page
+    (top c.args.table) (met g c free tree)) (returns-clause-words g c))
 
 pub returns-clause-added : goal.returns-clause-added
 returns-clause-added g c = λ free tree used.
-    mapped_page (g.M.PhysicalMemory.words c.args.frames.now) (g.M.PhysicalMemory.words c.args.frames.now) (g.M.PhysicalMemory.words c.set_word.new.self) free free c.args.root c.args.page
+    mapped_page (g.M.PhysicalMemory.words c.args.frames.now) (g.M.PhysicalMemory.words c.args.frames.now)
+    (g.M.PhysicalMemory.words c.set_word.new.self) free free c.args.root c.args.page
     c.args.table c.args.index c.args.frame c.args.rights
     c.requires.root c.requires.unmapped c.to_page-entry.ensures.fits c.requires.frame used
-    (unmet_at (g.M.PhysicalMemory.area c.args.frames.now) (g.M.PhysicalMemory.words c.args.frames.now) c.args.root c.args.frame c.requires.unmet) c.requires.entry.at_index
-    tree (met g c free tree) (prepared_all (g.M.PhysicalMemory.words c.args.frames.now) free c.args.root c.args.page (top c.args.table) (met g c free tree)) (returns-clause-words g c)
+    (unmet_at (g.M.PhysicalMemory.area c.args.frames.now) (g.M.PhysicalMemory.words c.args.frames.now) c.args.root
+    c.args.frame c.requires.unmet) c.requires.entry.at_index
+    tree (met g c free tree) (prepared_all (g.M.PhysicalMemory.words c.args.frames.now) free c.args.root c.args.page
+    (top c.args.table) (met g c free tree)) (returns-clause-words g c)
 
 pub returns-clause-elsewhere : goal.returns-clause-elsewhere
 returns-clause-elsewhere g c = λ free tree used other canonical ne.
@@ -57,12 +68,14 @@ returns-clause-elsewhere g c = λ free tree used other canonical ne.
 
 pub returns-clause-missing : goal.returns-clause-missing
 returns-clause-missing g c = λ free tree used first pages range lo hi.
-    let m = page_missing (g.M.PhysicalMemory.words c.args.frames.now) (g.M.PhysicalMemory.words c.set_word.new.self) free free c.args.root c.args.page c.args.frame c.args.rights
+    let m = page_missing (g.M.PhysicalMemory.words c.args.frames.now) (g.M.PhysicalMemory.words c.set_word.new.self) free
+    free c.args.root c.args.page c.args.frame c.args.rights
     (returns-clause-added g c free tree used) first pages range lo hi in
     let z = none_missing (g.M.PhysicalMemory.words c.args.frames.now) c.args.root c.args.page (top c.args.table) (met g c free tree) in
     omega arith
 
 pub set_word-requires-clause-seen : goal.set_word-requires-clause-seen
 set_word-requires-clause-seen g c =
-    subst (λ entry. g.M.PhysicalMemory.allows (set (g.M.PhysicalMemory.words c.args.frames.now) (512 * c.args.table + c.args.index) entry)) (sym (c.bits.ensures ∙ c.to_page-entry.ensures.value))
+    subst (λ entry. g.M.PhysicalMemory.allows (set (g.M.PhysicalMemory.words c.args.frames.now)
+    (512 * c.args.table + c.args.index) entry)) (sym (c.bits.ensures ∙ c.to_page-entry.ensures.value))
     (c.requires.seen c.to_page-entry.ensures.fits)

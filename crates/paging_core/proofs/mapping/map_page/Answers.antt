@@ -15,7 +15,8 @@ use Rattle.paging_core.proofs.mapping.map_page.Goals as goal
 
 pub ensure_tables-table-requires-clause-small : goal.ensure_tables-table-requires-clause-small
 ensure_tables-table-requires-clause-small g c = λ _.
-    small_page (g.M.PhysicalMemory.words c.args.frames.now) c.args.root c.args.page (sym (walk_reach (g.M.PhysicalMemory.words c.args.frames.now) c.args.root c.args.page) ∙ c.requires.unmapped)
+    small_page (g.M.PhysicalMemory.words c.args.frames.now) c.args.root c.args.page
+    (sym (walk_reach (g.M.PhysicalMemory.words c.args.frames.now) c.args.root c.args.page) ∙ c.requires.unmapped)
 
 pub ensure_tables-table-requires-clause-room : goal.ensure_tables-table-requires-clause-room
 ensure_tables-table-requires-clause-room g c =
@@ -39,7 +40,8 @@ map_at-requires-clause-inside g c =
 pub map_at-requires-clause-table : goal.map_at-requires-clause-table
 map_at-requires-clause-table g c =
     let s = c.ensure_tables-table.ensures.prepared.size in
-    reach_below (g.M.PhysicalMemory.words c.ensure_tables-table.new.frames) c.args.root 3 (prefix_of c.args.page 3) (top c.ensure_tables-table.result) (omega arith) (omega arith) c.ensure_tables-table.ensures.met
+    reach_below (g.M.PhysicalMemory.words c.ensure_tables-table.new.frames) c.args.root 3 (prefix_of c.args.page 3)
+    (top c.ensure_tables-table.result) (omega arith) (omega arith) c.ensure_tables-table.ensures.met
 
 pub map_at-requires-clause-unmapped : goal.map_at-requires-clause-unmapped
 map_at-requires-clause-unmapped g c =
@@ -52,32 +54,54 @@ map_at-requires-clause-frame g c = let s = c.ensure_tables-table.ensures.prepare
 
 pub map_at-requires-clause-unmet : goal.map_at-requires-clause-unmet
 map_at-requires-clause-unmet g c =
-    unmet_moved (g.M.PhysicalMemory.area c.args.frames.now) (g.M.PhysicalMemory.area c.ensure_tables-table.new.frames) (g.M.PhysicalMemory.words c.ensure_tables-table.new.frames) c.args.root c.args.frame c.ensure_tables-table.ensures.area
+    unmet_moved (g.M.PhysicalMemory.area c.args.frames.now) (g.M.PhysicalMemory.area c.ensure_tables-table.new.frames)
+    (g.M.PhysicalMemory.words c.ensure_tables-table.new.frames) c.args.root c.args.frame
+    c.ensure_tables-table.ensures.area
     (unmet_in (g.M.PhysicalMemory.area c.args.frames.now) (g.M.PhysicalMemory.words c.ensure_tables-table.new.frames) c.args.root c.args.frame
-    (kept_unmet (g.M.PhysicalMemory.area c.args.frames.now) (g.M.PhysicalMemory.words c.args.frames.now) (g.M.PhysicalMemory.words c.ensure_tables-table.new.frames) (g.P.TableFrames.free c.args.pool.now) (g.P.TableFrames.free c.ensure_tables-table.new.pool) c.args.root c.args.page c.args.frame
+    (kept_unmet (g.M.PhysicalMemory.area c.args.frames.now) (g.M.PhysicalMemory.words c.args.frames.now)
+    (g.M.PhysicalMemory.words c.ensure_tables-table.new.frames) (g.P.TableFrames.free c.args.pool.now)
+    (g.P.TableFrames.free c.ensure_tables-table.new.pool) c.args.root c.args.page c.args.frame
     c.requires.used c.ensure_tables-table.ensures.prepared
     (unmet_at (g.M.PhysicalMemory.area c.args.frames.now) (g.M.PhysicalMemory.words c.args.frames.now) c.args.root c.args.frame c.requires.unmet)))
 
 pub returns-clause-tree : goal.returns-clause-tree
 returns-clause-tree g c =
-    tree_moved (g.M.PhysicalMemory.area c.args.frames.now) (g.M.PhysicalMemory.area c.map_at.new.frames) (g.M.PhysicalMemory.words c.map_at.new.frames) c.args.root (g.P.TableFrames.free c.ensure_tables-table.new.pool) (c.map_at.ensures.area ∙ c.ensure_tables-table.ensures.area)
-    (mapped_tree (g.M.PhysicalMemory.words c.args.frames.now) (g.M.PhysicalMemory.words c.ensure_tables-table.new.frames) (g.M.PhysicalMemory.words c.map_at.new.frames) (g.P.TableFrames.free c.args.pool.now) (g.P.TableFrames.free c.ensure_tables-table.new.pool) c.args.root c.args.page
+    tree_moved (g.M.PhysicalMemory.area c.args.frames.now) (g.M.PhysicalMemory.area c.map_at.new.frames)
+    (g.M.PhysicalMemory.words c.map_at.new.frames) c.args.root (g.P.TableFrames.free c.ensure_tables-table.new.pool)
+    (c.map_at.ensures.area ∙ c.ensure_tables-table.ensures.area)
+    (mapped_tree (g.M.PhysicalMemory.words c.args.frames.now) (g.M.PhysicalMemory.words c.ensure_tables-table.new.frames)
+    (g.M.PhysicalMemory.words c.map_at.new.frames) (g.P.TableFrames.free c.args.pool.now)
+    (g.P.TableFrames.free c.ensure_tables-table.new.pool) c.args.root c.args.page
     c.ensure_tables-table.result c.index_after-index.result c.args.frame c.args.rights
-    c.requires.root c.requires.unmapped c.map_at.ensures.fits c.requires.frame c.requires.used (unmet_at (g.M.PhysicalMemory.area c.args.frames.now) (g.M.PhysicalMemory.words c.args.frames.now) c.args.root c.args.frame c.requires.unmet) c.index_after-index.ensures.value
-    (tree_moved (g.M.PhysicalMemory.area c.ensure_tables-table.new.frames) (g.M.PhysicalMemory.area c.args.frames.now) (g.M.PhysicalMemory.words c.ensure_tables-table.new.frames) c.args.root (g.P.TableFrames.free c.ensure_tables-table.new.pool) (sym c.ensure_tables-table.ensures.area) c.ensure_tables-table.ensures.tree) c.ensure_tables-table.ensures.met c.ensure_tables-table.ensures.prepared
+    c.requires.root c.requires.unmapped c.map_at.ensures.fits c.requires.frame c.requires.used
+    (unmet_at (g.M.PhysicalMemory.area c.args.frames.now) (g.M.PhysicalMemory.words c.args.frames.now) c.args.root
+    c.args.frame c.requires.unmet) c.index_after-index.ensures.value
+    (tree_moved (g.M.PhysicalMemory.area c.ensure_tables-table.new.frames) (g.M.PhysicalMemory.area c.args.frames.now)
+    (g.M.PhysicalMemory.words c.ensure_tables-table.new.frames) c.args.root
+    (g.P.TableFrames.free c.ensure_tables-table.new.pool) (sym c.ensure_tables-table.ensures.area)
+    c.ensure_tables-table.ensures.tree) c.ensure_tables-table.ensures.met c.ensure_tables-table.ensures.prepared
     c.map_at.ensures.words)
 
 pub returns-clause-added : goal.returns-clause-added
 returns-clause-added g c =
-    mapped_page (g.M.PhysicalMemory.words c.args.frames.now) (g.M.PhysicalMemory.words c.ensure_tables-table.new.frames) (g.M.PhysicalMemory.words c.map_at.new.frames) (g.P.TableFrames.free c.args.pool.now) (g.P.TableFrames.free c.ensure_tables-table.new.pool) c.args.root c.args.page
+    mapped_page (g.M.PhysicalMemory.words c.args.frames.now) (g.M.PhysicalMemory.words c.ensure_tables-table.new.frames)
+    (g.M.PhysicalMemory.words c.map_at.new.frames) (g.P.TableFrames.free c.args.pool.now)
+    (g.P.TableFrames.free c.ensure_tables-table.new.pool) c.args.root c.args.page
     c.ensure_tables-table.result c.index_after-index.result c.args.frame c.args.rights
-    c.requires.root c.requires.unmapped c.map_at.ensures.fits c.requires.frame c.requires.used (unmet_at (g.M.PhysicalMemory.area c.args.frames.now) (g.M.PhysicalMemory.words c.args.frames.now) c.args.root c.args.frame c.requires.unmet) c.index_after-index.ensures.value
-    (tree_moved (g.M.PhysicalMemory.area c.ensure_tables-table.new.frames) (g.M.PhysicalMemory.area c.args.frames.now) (g.M.PhysicalMemory.words c.ensure_tables-table.new.frames) c.args.root (g.P.TableFrames.free c.ensure_tables-table.new.pool) (sym c.ensure_tables-table.ensures.area) c.ensure_tables-table.ensures.tree) c.ensure_tables-table.ensures.met c.ensure_tables-table.ensures.prepared
+    c.requires.root c.requires.unmapped c.map_at.ensures.fits c.requires.frame c.requires.used
+    (unmet_at (g.M.PhysicalMemory.area c.args.frames.now) (g.M.PhysicalMemory.words c.args.frames.now) c.args.root
+    c.args.frame c.requires.unmet) c.index_after-index.ensures.value
+    (tree_moved (g.M.PhysicalMemory.area c.ensure_tables-table.new.frames) (g.M.PhysicalMemory.area c.args.frames.now)
+    (g.M.PhysicalMemory.words c.ensure_tables-table.new.frames) c.args.root
+    (g.P.TableFrames.free c.ensure_tables-table.new.pool) (sym c.ensure_tables-table.ensures.area)
+    c.ensure_tables-table.ensures.tree) c.ensure_tables-table.ensures.met c.ensure_tables-table.ensures.prepared
     c.map_at.ensures.words
 
 pub returns-clause-missing : goal.returns-clause-missing
 returns-clause-missing g c =
-    page_missing (g.M.PhysicalMemory.words c.args.frames.now) (g.M.PhysicalMemory.words c.map_at.new.frames) (g.P.TableFrames.free c.args.pool.now) (g.P.TableFrames.free c.ensure_tables-table.new.pool) c.args.root c.args.page c.args.frame c.args.rights
+    page_missing (g.M.PhysicalMemory.words c.args.frames.now) (g.M.PhysicalMemory.words c.map_at.new.frames)
+    (g.P.TableFrames.free c.args.pool.now) (g.P.TableFrames.free c.ensure_tables-table.new.pool) c.args.root c.args.page
+    c.args.frame c.args.rights
     (returns-clause-added g c)
 
 pub returns-clause-elsewhere : goal.returns-clause-elsewhere
@@ -92,16 +116,28 @@ pub returns-clause-known : goal.returns-clause-known
 returns-clause-known g c =
     let added = returns-clause-added g c in
     let s = added.size in
-    known_moved (g.M.PhysicalMemory.area c.args.frames.now) (g.M.PhysicalMemory.area c.map_at.new.frames) (g.P.TableFrames.free c.ensure_tables-table.new.pool) (frame_count (g.M.PhysicalMemory.words c.map_at.new.frames)) (c.map_at.ensures.area ∙ c.ensure_tables-table.ensures.area)
-    (free_stays (g.M.PhysicalMemory.area c.args.frames.now) (g.P.TableFrames.free c.args.pool.now) (g.P.TableFrames.free c.ensure_tables-table.new.pool) (frame_count (g.M.PhysicalMemory.words c.args.frames.now)) (frame_count (g.M.PhysicalMemory.words c.map_at.new.frames)) c.requires.known (omega arith) added.fewer)
+    known_moved (g.M.PhysicalMemory.area c.args.frames.now) (g.M.PhysicalMemory.area c.map_at.new.frames)
+    (g.P.TableFrames.free c.ensure_tables-table.new.pool) (frame_count (g.M.PhysicalMemory.words c.map_at.new.frames))
+    (c.map_at.ensures.area ∙ c.ensure_tables-table.ensures.area)
+    (free_stays (g.M.PhysicalMemory.area c.args.frames.now) (g.P.TableFrames.free c.args.pool.now)
+    (g.P.TableFrames.free c.ensure_tables-table.new.pool) (frame_count (g.M.PhysicalMemory.words c.args.frames.now))
+    (frame_count (g.M.PhysicalMemory.words c.map_at.new.frames)) c.requires.known (omega arith) added.fewer)
 
 pub map_at-requires-clause-seen : goal.map_at-requires-clause-seen
 map_at-requires-clause-seen g c = λ fits.
-    c.requires.seen (set (g.M.PhysicalMemory.words c.ensure_tables-table.new.frames) (512 * c.ensure_tables-table.result + c.index_after-index.result) (page_entry c.args.frame c.args.rights)) (g.P.TableFrames.free c.ensure_tables-table.new.pool)
+    c.requires.seen (set (g.M.PhysicalMemory.words c.ensure_tables-table.new.frames)
+    (512 * c.ensure_tables-table.result + c.index_after-index.result) (page_entry c.args.frame c.args.rights))
+    (g.P.TableFrames.free c.ensure_tables-table.new.pool)
     (mapped_page (g.M.PhysicalMemory.words c.args.frames.now) (g.M.PhysicalMemory.words c.ensure_tables-table.new.frames)
-    (set (g.M.PhysicalMemory.words c.ensure_tables-table.new.frames) (512 * c.ensure_tables-table.result + c.index_after-index.result) (page_entry c.args.frame c.args.rights))
+    (set (g.M.PhysicalMemory.words c.ensure_tables-table.new.frames)
+    (512 * c.ensure_tables-table.result + c.index_after-index.result) (page_entry c.args.frame c.args.rights))
     (g.P.TableFrames.free c.args.pool.now) (g.P.TableFrames.free c.ensure_tables-table.new.pool) c.args.root c.args.page
     c.ensure_tables-table.result c.index_after-index.result c.args.frame c.args.rights
-    c.requires.root c.requires.unmapped fits c.requires.frame c.requires.used (unmet_at (g.M.PhysicalMemory.area c.args.frames.now) (g.M.PhysicalMemory.words c.args.frames.now) c.args.root c.args.frame c.requires.unmet) c.index_after-index.ensures.value
-    (tree_moved (g.M.PhysicalMemory.area c.ensure_tables-table.new.frames) (g.M.PhysicalMemory.area c.args.frames.now) (g.M.PhysicalMemory.words c.ensure_tables-table.new.frames) c.args.root (g.P.TableFrames.free c.ensure_tables-table.new.pool) (sym c.ensure_tables-table.ensures.area) c.ensure_tables-table.ensures.tree)
+    c.requires.root c.requires.unmapped fits c.requires.frame c.requires.used
+    (unmet_at (g.M.PhysicalMemory.area c.args.frames.now) (g.M.PhysicalMemory.words c.args.frames.now) c.args.root
+    c.args.frame c.requires.unmet) c.index_after-index.ensures.value
+    (tree_moved (g.M.PhysicalMemory.area c.ensure_tables-table.new.frames) (g.M.PhysicalMemory.area c.args.frames.now)
+    (g.M.PhysicalMemory.words c.ensure_tables-table.new.frames) c.args.root
+    (g.P.TableFrames.free c.ensure_tables-table.new.pool) (sym c.ensure_tables-table.ensures.area)
+    c.ensure_tables-table.ensures.tree)
     c.ensure_tables-table.ensures.met c.ensure_tables-table.ensures.prepared refl)

@@ -14,14 +14,17 @@ loop-from-init g c =
 
 pub loop-from-preserved-then-run : goal.loop-from-preserved-then-run
 loop-from-preserved-then-run g c =
-    let on = absent_on (g.M.PhysicalMemory.words c.args.frames.now) c.args.root c.args.level c.args.first c.loop-from.from c.run_from-run.result.end c.loop-from.invariant.low (omega arith) in
-    let n : absent (g.M.PhysicalMemory.words c.args.frames.now) c.args.root c.args.level c.loop-from.from (c.run_from-run.result.end - c.loop-from.from) ≡ c.run_from-run.result.end - c.loop-from.from =
+    let on = absent_on (g.M.PhysicalMemory.words c.args.frames.now) c.args.root c.args.level c.args.first c.loop-from.from
+    c.run_from-run.result.end c.loop-from.invariant.low (omega arith) in
+    let n : absent (g.M.PhysicalMemory.words c.args.frames.now) c.args.root c.args.level c.loop-from.from
+    (c.run_from-run.result.end - c.loop-from.from) ≡ c.run_from-run.result.end - c.loop-from.from =
     c.run_from-run.ensures.count ∙ ap (λ b. cond b (c.run_from-run.result.end - c.loop-from.from) 0) c.if-run.true in
     record { low = omega arith; high = c.run_from-run.ensures.within; count = omega (arith, on, n, c.loop-from.invariant.count); bounded = omega arith }
 
 pub loop-from-preserved : goal.loop-from-preserved
 loop-from-preserved g c =
-    let on = absent_on (g.M.PhysicalMemory.words c.args.frames.now) c.args.root c.args.level c.args.first c.loop-from.from c.run_from-run.result.end c.loop-from.invariant.low (omega arith) in
+    let on = absent_on (g.M.PhysicalMemory.words c.args.frames.now) c.args.root c.args.level c.args.first c.loop-from.from
+    c.run_from-run.result.end c.loop-from.invariant.low (omega arith) in
     let n : absent (g.M.PhysicalMemory.words c.args.frames.now) c.args.root c.args.level c.loop-from.from (c.run_from-run.result.end - c.loop-from.from) ≡ 0 =
     c.run_from-run.ensures.count ∙ ap (λ b. cond b (c.run_from-run.result.end - c.loop-from.from) 0) c.if-run.false in
     record { low = omega arith; high = c.run_from-run.ensures.within; count = omega (arith, on, n, c.loop-from.invariant.count); bounded = omega arith }

@@ -12,6 +12,8 @@ pub returns-clause-count : goal.returns-clause-count
 returns-clause-count g c =
     let lt : c.depth-met.result < c.args.level = omega arith in
     let b = one_shl (9 * (c.args.level - (c.depth-met.result + 1))) 64 (omega arith) in
-    let r = run_end c.args.from c.args.last (2 ^ (9 * (c.args.level - (c.depth-met.result + 1)))) (1 * 2 ^ (9 * (c.args.level - (c.depth-met.result + 1))) % 2 ^ 64) c.min.result
+    let r = run_end c.args.from c.args.last (2 ^ (9 * (c.args.level - (c.depth-met.result + 1))))
+    (1 * 2 ^ (9 * (c.args.level - (c.depth-met.result + 1))) % 2 ^ 64) c.min.result
     b (pow_pos (9 * (c.args.level - (c.depth-met.result + 1)))) c.requires.from c.min.ensures in
-    absent_block (g.M.PhysicalMemory.words c.args.frames.now) c.args.root c.args.level c.depth-met.result c.args.from c.min.result (omega arith) lt (c.depth-met.ensures.absent lt) r.0 r.1
+    absent_block (g.M.PhysicalMemory.words c.args.frames.now) c.args.root c.args.level c.depth-met.result c.args.from
+    c.min.result (omega arith) lt (c.depth-met.ensures.absent lt) r.0 r.1

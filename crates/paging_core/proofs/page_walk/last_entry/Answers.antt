@@ -8,7 +8,8 @@ use Rattle.paging_core.proofs.page_walk.last_entry.Goals as goal
 
 pub unreachable-requires : goal.unreachable-requires
 unreachable-requires g c =
-    let none : reach (g.M.PhysicalMemory.words c.args.frames.now) c.args.root 3 (prefix_of c.args.page 3) ≡ None = sym c.descend.ensures.reach ∙ ap (option_map place_of) c.in_default.is in
+    let none : reach (g.M.PhysicalMemory.words c.args.frames.now) c.args.root 3 (prefix_of c.args.page 3) ≡ None =
+    sym c.descend.ensures.reach ∙ ap (option_map place_of) c.in_default.is in
     some_not_none (reach (g.M.PhysicalMemory.words c.args.frames.now) c.args.root 3 (prefix_of c.args.page 3)) c.requires.small none
 
 -- the walk is one step from the last table
@@ -19,7 +20,8 @@ last_step words root page index at met ix = walk_reach words root page ∙ (reac
 pub unreachable-requires-in_default-next : goal.unreachable-requires-in_default-next
 unreachable-requires-in_default-next g c =
     not_mapped (g.M.PhysicalMemory.words c.args.frames.now) c.args.root c.args.page c.requires.mapped
-    (last_step (g.M.PhysicalMemory.words c.args.frames.now) c.args.root c.args.page c.index_after-index.result (place_of c.in-Some.at) (sym c.in-Some.ensures.reach) c.index_after-index.ensures.value
+    (last_step (g.M.PhysicalMemory.words c.args.frames.now) c.args.root c.args.page c.index_after-index.result
+    (place_of c.in-Some.at) (sym c.in-Some.ensures.reach) c.index_after-index.ensures.value
     ∙ (sym c.next.ensures.step ∙ ap (option_map place_of) c.in_default-next.is))
 
 pub returns-clause-entry : goal.returns-clause-entry
@@ -27,7 +29,8 @@ returns-clause-entry g c = record {
   met = place_of c.in-Some.at;
   place = place_of c.in-Some-next.met;
   reached = sym c.in-Some.ensures.reach;
-  found = last_step (g.M.PhysicalMemory.words c.args.frames.now) c.args.root c.args.page c.index_after-index.result (place_of c.in-Some.at) (sym c.in-Some.ensures.reach) c.index_after-index.ensures.value
+  found = last_step (g.M.PhysicalMemory.words c.args.frames.now) c.args.root c.args.page c.index_after-index.result
+      (place_of c.in-Some.at) (sym c.in-Some.ensures.reach) c.index_after-index.ensures.value
       ∙ sym c.in-Some-next.ensures.step;
   in_table = refl;
   at_index = c.index_after-index.ensures.value;

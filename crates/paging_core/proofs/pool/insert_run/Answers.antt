@@ -13,12 +13,14 @@ loop-number-init c = inserting_none c.args.free.now (c.args.run * 512)
 
 pub insert-requires : goal.insert-requires
 insert-requires c =
-    (inserting_more c.args.free.now c.loop-number.free c.args.run (c.args.run * 512) c.loop-number.number refl c.loop-number-test.true c.requires.out c.loop-number.invariant).0
+    (inserting_more c.args.free.now c.loop-number.free c.args.run (c.args.run * 512) c.loop-number.number refl
+    c.loop-number-test.true c.requires.out c.loop-number.invariant).0
 
 pub loop-number-preserved : goal.loop-number-preserved
 loop-number-preserved c =
     rw c.insert.ensures
-    (inserting_more c.args.free.now c.loop-number.free c.args.run (c.args.run * 512) c.loop-number.number refl c.loop-number-test.true c.requires.out c.loop-number.invariant).1
+    (inserting_more c.args.free.now c.loop-number.free c.args.run (c.args.run * 512) c.loop-number.number refl
+    c.loop-number-test.true c.requires.out c.loop-number.invariant).1
 
 pub returns-clause-set : goal.returns-clause-set
 returns-clause-set c =

@@ -13,12 +13,14 @@ loop-number-init c = removing_none c.args.free.now (c.args.run * 512)
 
 pub remove-requires : goal.remove-requires
 remove-requires c =
-    (removing_more c.args.free.now c.loop-number.free c.args.run (c.args.run * 512) c.loop-number.number refl c.loop-number-test.true c.requires.free c.loop-number.invariant).0
+    (removing_more c.args.free.now c.loop-number.free c.args.run (c.args.run * 512) c.loop-number.number refl
+    c.loop-number-test.true c.requires.free c.loop-number.invariant).0
 
 pub loop-number-preserved : goal.loop-number-preserved
 loop-number-preserved c =
     rw c.remove.ensures
-    (removing_more c.args.free.now c.loop-number.free c.args.run (c.args.run * 512) c.loop-number.number refl c.loop-number-test.true c.requires.free c.loop-number.invariant).1
+    (removing_more c.args.free.now c.loop-number.free c.args.run (c.args.run * 512) c.loop-number.number refl
+    c.loop-number-test.true c.requires.free c.loop-number.invariant).1
 
 pub returns-clause-set : goal.returns-clause-set
 returns-clause-set c =

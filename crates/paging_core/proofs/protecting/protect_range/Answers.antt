@@ -21,7 +21,8 @@ pub protect_page-requires-clause-mapped : goal.protect_page-requires-clause-mapp
 protect_page-requires-clause-mapped g c =
     rw (
       c.after.ensures,
-      next_mapped (g.M.PhysicalMemory.words c.args.frames.now) (g.M.PhysicalMemory.words c.loop-step.frames) c.args.root c.args.first c.args.pages c.loop-step.step (regrant c.args.rights)
+      next_mapped (g.M.PhysicalMemory.words c.args.frames.now) (g.M.PhysicalMemory.words c.loop-step.frames) c.args.root
+          c.args.first c.args.pages c.loop-step.step (regrant c.args.rights)
           c.requires.range c.loop-step.invariant.changed c.loop-step-test.true,
     )
     (c.requires.mapped c.loop-step.step c.loop-step-test.true)
@@ -36,38 +37,49 @@ protect_page-requires-clause-small g c =
 
 pub loop-step-preserved : goal.loop-step-preserved
 loop-step-preserved g c =
-    let t = changed_tree (g.M.PhysicalMemory.words c.args.frames.now) (g.M.PhysicalMemory.words c.loop-step.frames) c.args.root (regrant c.args.rights) (among c.args.first c.loop-step.step) c.loop-step.invariant.changed
+    let t = changed_tree (g.M.PhysicalMemory.words c.args.frames.now) (g.M.PhysicalMemory.words c.loop-step.frames)
+    c.args.root (regrant c.args.rights) (among c.args.first c.loop-step.step) c.loop-step.invariant.changed
     (regrant_keeps c.args.rights) c.requires.tree.0 c.requires.tree.1 in
     record {
       area = c.protect_page.ensures.area ∙ c.loop-step.invariant.area;
-      changed = next_changed (g.M.PhysicalMemory.words c.args.frames.now) (g.M.PhysicalMemory.words c.loop-step.frames) c.args.root c.args.first c.args.pages c.loop-step.step (regrant c.args.rights)
-          c.requires.range c.loop-step.invariant.changed c.loop-step-test.true (g.M.PhysicalMemory.words c.protect_page.new.frames) c.requires.tree.0 c.requires.tree.1
-          (rw c.after.ensures at (c.protect_page.ensures.pages c.requires.tree.0 (tree_moved (g.M.PhysicalMemory.area c.args.frames.now) (g.M.PhysicalMemory.area c.loop-step.frames) (g.M.PhysicalMemory.words c.loop-step.frames) c.args.root c.requires.tree.0 c.loop-step.invariant.area t)));
+      changed = next_changed (g.M.PhysicalMemory.words c.args.frames.now) (g.M.PhysicalMemory.words c.loop-step.frames)
+          c.args.root c.args.first c.args.pages c.loop-step.step (regrant c.args.rights)
+          c.requires.range c.loop-step.invariant.changed c.loop-step-test.true
+          (g.M.PhysicalMemory.words c.protect_page.new.frames) c.requires.tree.0 c.requires.tree.1
+          (rw c.after.ensures at (c.protect_page.ensures.pages c.requires.tree.0
+          (tree_moved (g.M.PhysicalMemory.area c.args.frames.now) (g.M.PhysicalMemory.area c.loop-step.frames)
+          (g.M.PhysicalMemory.words c.loop-step.frames) c.args.root c.requires.tree.0 c.loop-step.invariant.area t)));
     }
 
 pub returns-clause-tree : goal.returns-clause-tree
 returns-clause-tree g c = λ free tree.
-    tree_moved (g.M.PhysicalMemory.area c.args.frames.now) (g.M.PhysicalMemory.area c.loop-step.frames) (g.M.PhysicalMemory.words c.loop-step.frames) c.args.root free c.loop-step.invariant.area
-    (changed_tree (g.M.PhysicalMemory.words c.args.frames.now) (g.M.PhysicalMemory.words c.loop-step.frames) c.args.root (regrant c.args.rights) (among c.args.first c.loop-step.step) c.loop-step.invariant.changed
+    tree_moved (g.M.PhysicalMemory.area c.args.frames.now) (g.M.PhysicalMemory.area c.loop-step.frames)
+    (g.M.PhysicalMemory.words c.loop-step.frames) c.args.root free c.loop-step.invariant.area
+    (changed_tree (g.M.PhysicalMemory.words c.args.frames.now) (g.M.PhysicalMemory.words c.loop-step.frames) c.args.root
+    (regrant c.args.rights) (among c.args.first c.loop-step.step) c.loop-step.invariant.changed
     (regrant_keeps c.args.rights) free tree)
 
 pub returns-clause-granted : goal.returns-clause-granted
 returns-clause-granted g c = λ k lt.
     let p = some_place (walk_of (g.M.PhysicalMemory.words c.args.frames.now) c.args.root (c.args.first + k)) (c.requires.mapped k lt) in
     rw p.1
-    (range_leads (g.M.PhysicalMemory.words c.args.frames.now) (g.M.PhysicalMemory.words c.loop-step.frames) c.args.root c.args.first c.args.pages c.loop-step.step (regrant c.args.rights)
+    (range_leads (g.M.PhysicalMemory.words c.args.frames.now) (g.M.PhysicalMemory.words c.loop-step.frames) c.args.root
+    c.args.first c.args.pages c.loop-step.step (regrant c.args.rights)
     c.requires.range c.loop-step.invariant.changed (omega arith) k (omega arith) p.0 p.1)
 
 pub returns-clause-elsewhere : goal.returns-clause-elsewhere
 returns-clause-elsewhere g c =
-    range_rest (g.M.PhysicalMemory.words c.args.frames.now) (g.M.PhysicalMemory.words c.loop-step.frames) c.args.root c.args.first c.args.pages c.loop-step.step (regrant c.args.rights)
+    range_rest (g.M.PhysicalMemory.words c.args.frames.now) (g.M.PhysicalMemory.words c.loop-step.frames) c.args.root
+    c.args.first c.args.pages c.loop-step.step (regrant c.args.rights)
     c.requires.range c.loop-step.invariant.changed (omega arith)
 
 pub returns-clause-bytes : goal.returns-clause-bytes
 returns-clause-bytes g c =
-    regranted_bytes (g.M.PhysicalMemory.words c.args.frames.now) (g.M.PhysicalMemory.words c.loop-step.frames) c.args.root c.args.rights (among c.args.first c.loop-step.step) c.requires.tree.0
+    regranted_bytes (g.M.PhysicalMemory.words c.args.frames.now) (g.M.PhysicalMemory.words c.loop-step.frames) c.args.root
+    c.args.rights (among c.args.first c.loop-step.step) c.requires.tree.0
     c.loop-step.invariant.changed c.requires.tree.1
 
 pub protect_page-requires-clause-seen : goal.protect_page-requires-clause-seen
 protect_page-requires-clause-seen g c = λ now changed.
-    c.requires.seen (g.M.PhysicalMemory.words c.loop-step.frames) now c.loop-step.step c.loop-step-test.true c.loop-step.invariant.changed (rw c.after.ensures at changed)
+    c.requires.seen (g.M.PhysicalMemory.words c.loop-step.frames) now c.loop-step.step c.loop-step-test.true
+    c.loop-step.invariant.changed (rw c.after.ensures at changed)

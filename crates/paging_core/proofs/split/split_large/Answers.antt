@@ -31,80 +31,110 @@ pub set_word-requires-clause-frame : goal.set_word-requires-clause-frame
 set_word-requires-clause-frame g c = let s = c.fill_table.ensures.size in omega (arith, c.large_entry-index.ensures.table)
 
 written : (g : Over) (c : goal.After-set_word g) → (g.M.PhysicalMemory.words c.set_word.new.self)
-    ≡ set (g.M.PhysicalMemory.words c.fill_table.new.frames) (512 * c.large_entry-index.result.table + c.large_entry-index.result.index) (table_entry c.in-Some.made)
+    ≡ set (g.M.PhysicalMemory.words c.fill_table.new.frames)
+    (512 * c.large_entry-index.result.table + c.large_entry-index.result.index) (table_entry c.in-Some.made)
 written g c =
     c.set_word.ensures.words
-    ∙ ap (set (g.M.PhysicalMemory.words c.fill_table.new.frames) (512 * c.large_entry-index.result.table + c.large_entry-index.result.index)) (c.bits.ensures ∙ c.to_table.ensures)
+    ∙ ap (set (g.M.PhysicalMemory.words c.fill_table.new.frames)
+    (512 * c.large_entry-index.result.table + c.large_entry-index.result.index)) (c.bits.ensures ∙ c.to_table.ensures)
 
 pub returns-clause-area : goal.returns-clause-area
 returns-clause-area g c = c.set_word.ensures.area ∙ c.fill_table.ensures.area
 
 pub returns-clause-split : goal.returns-clause-split
 returns-clause-split g c =
-    large_split (g.M.PhysicalMemory.area c.args.frames.now) (g.M.PhysicalMemory.words c.args.frames.now) (g.M.PhysicalMemory.words c.fill_table.new.frames) (g.M.PhysicalMemory.words c.set_word.new.self)
-    (g.P.TableFrames.free c.args.pool.now) (g.P.TableFrames.free c.take_frame.new.self) c.args.root c.args.page c.large_entry-index.result.table c.large_entry-index.result.index c.in-Some.made
-    (place_of c.large_entry-index.result.large) c.large_entry-index.ensures.bounded (omega arith) c.requires.known c.requires.tree c.large_entry-index.ensures.entry c.large_entry-index.ensures.table
+    large_split (g.M.PhysicalMemory.area c.args.frames.now) (g.M.PhysicalMemory.words c.args.frames.now)
+    (g.M.PhysicalMemory.words c.fill_table.new.frames) (g.M.PhysicalMemory.words c.set_word.new.self)
+    (g.P.TableFrames.free c.args.pool.now) (g.P.TableFrames.free c.take_frame.new.self) c.args.root c.args.page
+    c.large_entry-index.result.table c.large_entry-index.result.index c.in-Some.made
+    (place_of c.large_entry-index.result.large) c.large_entry-index.ensures.bounded (omega arith) c.requires.known
+    c.requires.tree c.large_entry-index.ensures.entry c.large_entry-index.ensures.table
     c.in-Some.ensures.taken.0 c.in-Some.ensures.taken.1 c.in-Some.ensures.lowest c.fill_table.ensures.size
     (rw c.rights.ensures at c.fill_table.ensures.filled) c.fill_table.ensures.others (written g c)
 
 pub returns-clause-walks : goal.returns-clause-walks
 returns-clause-walks g c =
-    split_walk (g.M.PhysicalMemory.area c.args.frames.now) (g.M.PhysicalMemory.words c.args.frames.now) (g.M.PhysicalMemory.words c.fill_table.new.frames) (g.M.PhysicalMemory.words c.set_word.new.self)
-    (g.P.TableFrames.free c.args.pool.now) (g.P.TableFrames.free c.take_frame.new.self) c.args.root c.args.page c.large_entry-index.result.table c.large_entry-index.result.index c.in-Some.made
-    (place_of c.large_entry-index.result.large) c.large_entry-index.ensures.bounded (omega arith) c.requires.known c.requires.tree c.large_entry-index.ensures.entry c.large_entry-index.ensures.table
+    split_walk (g.M.PhysicalMemory.area c.args.frames.now) (g.M.PhysicalMemory.words c.args.frames.now)
+    (g.M.PhysicalMemory.words c.fill_table.new.frames) (g.M.PhysicalMemory.words c.set_word.new.self)
+    (g.P.TableFrames.free c.args.pool.now) (g.P.TableFrames.free c.take_frame.new.self) c.args.root c.args.page
+    c.large_entry-index.result.table c.large_entry-index.result.index c.in-Some.made
+    (place_of c.large_entry-index.result.large) c.large_entry-index.ensures.bounded (omega arith) c.requires.known
+    c.requires.tree c.large_entry-index.ensures.entry c.large_entry-index.ensures.table
     c.in-Some.ensures.taken.0 c.in-Some.ensures.taken.1 c.in-Some.ensures.lowest c.fill_table.ensures.size
     (rw c.rights.ensures at c.fill_table.ensures.filled) c.fill_table.ensures.others (written g c)
 
 pub returns-clause-bytes : goal.returns-clause-bytes
 returns-clause-bytes g c =
-    split_bytes (g.M.PhysicalMemory.area c.args.frames.now) (g.M.PhysicalMemory.words c.args.frames.now) (g.M.PhysicalMemory.words c.fill_table.new.frames) (g.M.PhysicalMemory.words c.set_word.new.self)
-    (g.P.TableFrames.free c.args.pool.now) (g.P.TableFrames.free c.take_frame.new.self) c.args.root c.args.page c.large_entry-index.result.table c.large_entry-index.result.index c.in-Some.made
-    (place_of c.large_entry-index.result.large) c.large_entry-index.ensures.bounded (omega arith) c.requires.known c.requires.tree c.large_entry-index.ensures.entry c.large_entry-index.ensures.table
+    split_bytes (g.M.PhysicalMemory.area c.args.frames.now) (g.M.PhysicalMemory.words c.args.frames.now)
+    (g.M.PhysicalMemory.words c.fill_table.new.frames) (g.M.PhysicalMemory.words c.set_word.new.self)
+    (g.P.TableFrames.free c.args.pool.now) (g.P.TableFrames.free c.take_frame.new.self) c.args.root c.args.page
+    c.large_entry-index.result.table c.large_entry-index.result.index c.in-Some.made
+    (place_of c.large_entry-index.result.large) c.large_entry-index.ensures.bounded (omega arith) c.requires.known
+    c.requires.tree c.large_entry-index.ensures.entry c.large_entry-index.ensures.table
     c.in-Some.ensures.taken.0 c.in-Some.ensures.taken.1 c.in-Some.ensures.lowest c.fill_table.ensures.size
     (rw c.rights.ensures at c.fill_table.ensures.filled) c.fill_table.ensures.others (written g c)
 
 pub returns-clause-tree : goal.returns-clause-tree
 returns-clause-tree g c =
-    tree_moved (g.M.PhysicalMemory.area c.args.frames.now) (g.M.PhysicalMemory.area c.set_word.new.self) (g.M.PhysicalMemory.words c.set_word.new.self) c.args.root (g.P.TableFrames.free c.take_frame.new.self)
+    tree_moved (g.M.PhysicalMemory.area c.args.frames.now) (g.M.PhysicalMemory.area c.set_word.new.self)
+    (g.M.PhysicalMemory.words c.set_word.new.self) c.args.root (g.P.TableFrames.free c.take_frame.new.self)
     (c.set_word.ensures.area ∙ c.fill_table.ensures.area)
-    (split_tree (g.M.PhysicalMemory.area c.args.frames.now) (g.M.PhysicalMemory.words c.args.frames.now) (g.M.PhysicalMemory.words c.fill_table.new.frames) (g.M.PhysicalMemory.words c.set_word.new.self)
-    (g.P.TableFrames.free c.args.pool.now) (g.P.TableFrames.free c.take_frame.new.self) c.args.root c.args.page c.large_entry-index.result.table c.large_entry-index.result.index c.in-Some.made
-    (place_of c.large_entry-index.result.large) c.large_entry-index.ensures.bounded (omega arith) c.requires.known c.requires.tree c.large_entry-index.ensures.entry c.large_entry-index.ensures.table
+    (split_tree (g.M.PhysicalMemory.area c.args.frames.now) (g.M.PhysicalMemory.words c.args.frames.now)
+    (g.M.PhysicalMemory.words c.fill_table.new.frames) (g.M.PhysicalMemory.words c.set_word.new.self)
+    (g.P.TableFrames.free c.args.pool.now) (g.P.TableFrames.free c.take_frame.new.self) c.args.root c.args.page
+    c.large_entry-index.result.table c.large_entry-index.result.index c.in-Some.made
+    (place_of c.large_entry-index.result.large) c.large_entry-index.ensures.bounded (omega arith) c.requires.known
+    c.requires.tree c.large_entry-index.ensures.entry c.large_entry-index.ensures.table
     c.in-Some.ensures.taken.0 c.in-Some.ensures.taken.1 c.in-Some.ensures.lowest c.fill_table.ensures.size
     (rw c.rights.ensures at c.fill_table.ensures.filled) c.fill_table.ensures.others (written g c))
 
 pub returns-clause-known : goal.returns-clause-known
 returns-clause-known g c =
-    known_moved (g.M.PhysicalMemory.area c.args.frames.now) (g.M.PhysicalMemory.area c.set_word.new.self) (g.P.TableFrames.free c.take_frame.new.self) (frame_count (g.M.PhysicalMemory.words c.set_word.new.self))
+    known_moved (g.M.PhysicalMemory.area c.args.frames.now) (g.M.PhysicalMemory.area c.set_word.new.self)
+    (g.P.TableFrames.free c.take_frame.new.self) (frame_count (g.M.PhysicalMemory.words c.set_word.new.self))
     (c.set_word.ensures.area ∙ c.fill_table.ensures.area)
-    (split_known (g.M.PhysicalMemory.area c.args.frames.now) (g.M.PhysicalMemory.words c.args.frames.now) (g.M.PhysicalMemory.words c.fill_table.new.frames) (g.M.PhysicalMemory.words c.set_word.new.self)
-    (g.P.TableFrames.free c.args.pool.now) (g.P.TableFrames.free c.take_frame.new.self) c.args.root c.args.page c.large_entry-index.result.table c.large_entry-index.result.index c.in-Some.made
-    (place_of c.large_entry-index.result.large) c.large_entry-index.ensures.bounded (omega arith) c.requires.known c.requires.tree c.large_entry-index.ensures.entry c.large_entry-index.ensures.table
+    (split_known (g.M.PhysicalMemory.area c.args.frames.now) (g.M.PhysicalMemory.words c.args.frames.now)
+    (g.M.PhysicalMemory.words c.fill_table.new.frames) (g.M.PhysicalMemory.words c.set_word.new.self)
+    (g.P.TableFrames.free c.args.pool.now) (g.P.TableFrames.free c.take_frame.new.self) c.args.root c.args.page
+    c.large_entry-index.result.table c.large_entry-index.result.index c.in-Some.made
+    (place_of c.large_entry-index.result.large) c.large_entry-index.ensures.bounded (omega arith) c.requires.known
+    c.requires.tree c.large_entry-index.ensures.entry c.large_entry-index.ensures.table
     c.in-Some.ensures.taken.0 c.in-Some.ensures.taken.1 c.in-Some.ensures.lowest c.fill_table.ensures.size
     (rw c.rights.ensures at c.fill_table.ensures.filled) c.fill_table.ensures.others (written g c))
 
 pub fill_table-requires-clause-seen : goal.fill_table-requires-clause-seen
 fill_table-requires-clause-seen g c = λ now only.
-    c.requires.seen now (still_free (g.M.PhysicalMemory.words c.args.frames.now) now c.args.root (g.P.TableFrames.free c.args.pool.now) c.in-Some.made c.requires.tree c.in-Some.ensures.taken.0 only)
+    c.requires.seen now (still_free (g.M.PhysicalMemory.words c.args.frames.now) now c.args.root
+    (g.P.TableFrames.free c.args.pool.now) c.in-Some.made c.requires.tree c.in-Some.ensures.taken.0 only)
 
 pub set_word-requires-clause-seen : goal.set_word-requires-clause-seen
 set_word-requires-clause-seen g c =
-    let now = set (g.M.PhysicalMemory.words c.fill_table.new.frames) (512 * c.large_entry-index.result.table + c.large_entry-index.result.index) c.bits.result in
-    let written : now ≡ set (g.M.PhysicalMemory.words c.fill_table.new.frames) (512 * c.large_entry-index.result.table + c.large_entry-index.result.index) (table_entry c.in-Some.made) =
-    ap (set (g.M.PhysicalMemory.words c.fill_table.new.frames) (512 * c.large_entry-index.result.table + c.large_entry-index.result.index)) (c.bits.ensures ∙ c.to_table.ensures) in
+    let now = set (g.M.PhysicalMemory.words c.fill_table.new.frames)
+    (512 * c.large_entry-index.result.table + c.large_entry-index.result.index) c.bits.result in
+    let written : now ≡ set (g.M.PhysicalMemory.words c.fill_table.new.frames)
+    (512 * c.large_entry-index.result.table + c.large_entry-index.result.index) (table_entry c.in-Some.made) =
+    ap (set (g.M.PhysicalMemory.words c.fill_table.new.frames)
+    (512 * c.large_entry-index.result.table + c.large_entry-index.result.index)) (c.bits.ensures ∙ c.to_table.ensures)
+    in
     c.requires.seen now (record {
       tree = (
         g.P.TableFrames.free c.take_frame.new.self,
-        split_tree (g.M.PhysicalMemory.area c.args.frames.now) (g.M.PhysicalMemory.words c.args.frames.now) (g.M.PhysicalMemory.words c.fill_table.new.frames) now
-            (g.P.TableFrames.free c.args.pool.now) (g.P.TableFrames.free c.take_frame.new.self) c.args.root c.args.page c.large_entry-index.result.table c.large_entry-index.result.index c.in-Some.made
-            (place_of c.large_entry-index.result.large) c.large_entry-index.ensures.bounded (omega arith) c.requires.known c.requires.tree c.large_entry-index.ensures.entry c.large_entry-index.ensures.table
+        split_tree (g.M.PhysicalMemory.area c.args.frames.now) (g.M.PhysicalMemory.words c.args.frames.now)
+            (g.M.PhysicalMemory.words c.fill_table.new.frames) now
+            (g.P.TableFrames.free c.args.pool.now) (g.P.TableFrames.free c.take_frame.new.self) c.args.root c.args.page
+            c.large_entry-index.result.table c.large_entry-index.result.index c.in-Some.made
+            (place_of c.large_entry-index.result.large) c.large_entry-index.ensures.bounded (omega arith) c.requires.known
+            c.requires.tree c.large_entry-index.ensures.entry c.large_entry-index.ensures.table
             c.in-Some.ensures.taken.0 c.in-Some.ensures.taken.1 c.in-Some.ensures.lowest c.fill_table.ensures.size
             (rw c.rights.ensures at c.fill_table.ensures.filled) c.fill_table.ensures.others written,
       );
       leads =
-          split_walk (g.M.PhysicalMemory.area c.args.frames.now) (g.M.PhysicalMemory.words c.args.frames.now) (g.M.PhysicalMemory.words c.fill_table.new.frames) now
-          (g.P.TableFrames.free c.args.pool.now) (g.P.TableFrames.free c.take_frame.new.self) c.args.root c.args.page c.large_entry-index.result.table c.large_entry-index.result.index c.in-Some.made
-          (place_of c.large_entry-index.result.large) c.large_entry-index.ensures.bounded (omega arith) c.requires.known c.requires.tree c.large_entry-index.ensures.entry c.large_entry-index.ensures.table
+          split_walk (g.M.PhysicalMemory.area c.args.frames.now) (g.M.PhysicalMemory.words c.args.frames.now)
+          (g.M.PhysicalMemory.words c.fill_table.new.frames) now
+          (g.P.TableFrames.free c.args.pool.now) (g.P.TableFrames.free c.take_frame.new.self) c.args.root c.args.page
+          c.large_entry-index.result.table c.large_entry-index.result.index c.in-Some.made
+          (place_of c.large_entry-index.result.large) c.large_entry-index.ensures.bounded (omega arith) c.requires.known
+          c.requires.tree c.large_entry-index.ensures.entry c.large_entry-index.ensures.table
           c.in-Some.ensures.taken.0 c.in-Some.ensures.taken.1 c.in-Some.ensures.lowest c.fill_table.ensures.size
           (rw c.rights.ensures at c.fill_table.ensures.filled) c.fill_table.ensures.others written;
     })

@@ -3,7 +3,8 @@ use Rattle.paging_core.specs.Walk.{step, top, place_of}
 use Rattle.paging_core.proofs.tables.ensure_table.Goals as goal
 
 pub make_table-requires-clause-room : goal.make_table-requires-clause-room
-make_table-requires-clause-room g c = c.requires.room (ap (λ m. step (g.M.PhysicalMemory.words c.args.frames.now) c.args.level (place_of m) c.args.index) (sym c.full.ensures) ∙ sym c.in-None.ensures.step)
+make_table-requires-clause-room g c = c.requires.room (ap (λ m. step (g.M.PhysicalMemory.words c.args.frames.now)
+    c.args.level (place_of m) c.args.index) (sym c.full.ensures) ∙ sym c.in-None.ensures.step)
 
 pub returns-in-Some-clause-ensured : goal.returns-in-Some-clause-ensured
 returns-in-Some-clause-ensured g c =

@@ -10,5 +10,6 @@ invariant-loop-level g l = record {
   area : g.M.PhysicalMemory.area l.frames ≡ g.M.PhysicalMemory.area l.fn.frames;
   tree : IsTreeIn (g.M.PhysicalMemory.area l.fn.frames) (g.M.PhysicalMemory.words l.frames) l.fn.root (g.P.TableFrames.free l.pool);
   met : reach (g.M.PhysicalMemory.words l.frames) l.fn.root l.level (prefix_of l.page l.level) ≡ Some (top l.table);
-  prepared : IsPrepared (g.M.PhysicalMemory.words l.fn.frames) (g.M.PhysicalMemory.words l.frames) (g.P.TableFrames.free l.fn.pool) (g.P.TableFrames.free l.pool) l.fn.root l.page l.level;
+  prepared : IsPrepared (g.M.PhysicalMemory.words l.fn.frames) (g.M.PhysicalMemory.words l.frames)
+      (g.P.TableFrames.free l.fn.pool) (g.P.TableFrames.free l.pool) l.fn.root l.page l.level;
 }

@@ -10,7 +10,11 @@ use Rattle.paging_core.proofs.Freed.{freed_tree, freed_one, freed_more, none_fre
 use Rattle.paging_core.proofs.unmapping.unmap_range.Goals as goal
 
 pub loop-step-init : goal.loop-step-init
-loop-step-init c = record { freed = none_freed c.args.frames.now c.args.pool.now c.args.root (among c.args.first 0) (among_none c.args.first); count = omega arith }
+loop-step-init c = record {
+  freed = none_freed c.args.frames.now c.args.pool.now c.args.root (among c.args.first 0)
+      (among_none c.args.first);
+  count = omega arith;
+}
 
 pub unmap_page-frame-requires-clause-mapped : goal.unmap_page-frame-requires-clause-mapped
 unmap_page-frame-requires-clause-mapped c =
@@ -32,7 +36,8 @@ unmap_page-frame-requires-clause-small c =
 pub deallocate_frame-requires : goal.deallocate_frame-requires
 deallocate_frame-requires c =
     let r = c.unmap_page-frame.ensures.removed in
-    next_out c.args.frames.now c.loop-step.frames c.args.pool.now c.loop-step.pool c.args.root c.after.result c.unmap_page-frame.result (among c.args.first c.loop-step.step) r.place
+    next_out c.args.frames.now c.loop-step.frames c.args.pool.now c.loop-step.pool c.args.root c.after.result
+    c.unmap_page-frame.result (among c.args.first c.loop-step.step) r.place
     c.requires.root c.requires.flags c.requires.tree c.loop-step.invariant.freed r.was (rw r.was at c.unmap_page-frame.ensures.frame)
 
 pub loop-step-preserved : goal.loop-step-preserved
@@ -40,20 +45,26 @@ loop-step-preserved c =
     let r = c.unmap_page-frame.ensures.removed in
     let is : c.unmap_page-frame.result ≡ r.place.frame = rw r.was at c.unmap_page-frame.ensures.frame in
     let out =
-    next_out c.args.frames.now c.loop-step.frames c.args.pool.now c.loop-step.pool c.args.root c.after.result c.unmap_page-frame.result (among c.args.first c.loop-step.step) r.place
+    next_out c.args.frames.now c.loop-step.frames c.args.pool.now c.loop-step.pool c.args.root c.after.result
+    c.unmap_page-frame.result (among c.args.first c.loop-step.step) r.place
     c.requires.root c.requires.flags c.requires.tree c.loop-step.invariant.freed r.was is in
-    let one = freed_one c.loop-step.frames c.unmap_page-frame.new.frames c.loop-step.pool c.deallocate_frame.new.self c.args.root c.after.result c.unmap_page-frame.result
-    (next_root c.args.frames.now c.loop-step.frames c.args.pool.now c.loop-step.pool c.args.root c.after.result c.unmap_page-frame.result (among c.args.first c.loop-step.step) r.place
+    let one = freed_one c.loop-step.frames c.unmap_page-frame.new.frames c.loop-step.pool c.deallocate_frame.new.self
+    c.args.root c.after.result c.unmap_page-frame.result
+    (next_root c.args.frames.now c.loop-step.frames c.args.pool.now c.loop-step.pool c.args.root c.after.result
+    c.unmap_page-frame.result (among c.args.first c.loop-step.step) r.place
     c.requires.root c.requires.flags c.requires.tree c.loop-step.invariant.freed r.was is)
-    (freed_tree c.args.frames.now c.loop-step.frames c.args.pool.now c.loop-step.pool c.args.root (among c.args.first c.loop-step.step) c.loop-step.invariant.freed c.requires.tree)
+    (freed_tree c.args.frames.now c.loop-step.frames c.args.pool.now c.loop-step.pool c.args.root
+    (among c.args.first c.loop-step.step) c.loop-step.invariant.freed c.requires.tree)
     r (sym is) out c.deallocate_frame.ensures in
     record {
       freed =
           freed_more c.args.frames.now c.loop-step.frames c.unmap_page-frame.new.frames c.args.pool.now c.loop-step.pool c.deallocate_frame.new.self c.args.root
           (among c.args.first c.loop-step.step) (only (c.args.first + c.loop-step.step)) (among c.args.first (c.loop-step.step + 1))
           c.requires.tree c.loop-step.invariant.freed (rw c.after.ensures at one)
-          (next_both c.args.frames.now c.loop-step.frames c.args.root c.args.first c.args.pages c.loop-step.step removal c.requires.range c.loop-step.invariant.freed.removed c.loop-step-test.true)
-          (next_apart c.args.frames.now c.loop-step.frames c.args.root c.args.first c.args.pages c.loop-step.step removal c.requires.range c.loop-step.invariant.freed.removed c.loop-step-test.true);
+          (next_both c.args.frames.now c.loop-step.frames c.args.root c.args.first c.args.pages c.loop-step.step removal
+          c.requires.range c.loop-step.invariant.freed.removed c.loop-step-test.true)
+          (next_apart c.args.frames.now c.loop-step.frames c.args.root c.args.first c.args.pages c.loop-step.step removal
+          c.requires.range c.loop-step.invariant.freed.removed c.loop-step-test.true);
       count =
           let a = c.loop-step.invariant.count in
           let b = ap free_count c.deallocate_frame.ensures ∙ given_count c.loop-step.pool c.unmap_page-frame.result out in
@@ -62,11 +73,13 @@ loop-step-preserved c =
 
 pub returns-clause-tree : goal.returns-clause-tree
 returns-clause-tree c =
-    freed_tree c.args.frames.now c.loop-step.frames c.args.pool.now c.loop-step.pool c.args.root (among c.args.first c.loop-step.step) c.loop-step.invariant.freed c.requires.tree
+    freed_tree c.args.frames.now c.loop-step.frames c.args.pool.now c.loop-step.pool c.args.root
+    (among c.args.first c.loop-step.step) c.loop-step.invariant.freed c.requires.tree
 
 pub returns-clause-known : goal.returns-clause-known
 returns-clause-known c =
-    freed_known c.args.frames.now c.loop-step.frames c.args.pool.now c.loop-step.pool c.args.root (among c.args.first c.loop-step.step) c.requires.root c.loop-step.invariant.freed
+    freed_known c.args.frames.now c.loop-step.frames c.args.pool.now c.loop-step.pool c.args.root
+    (among c.args.first c.loop-step.step) c.requires.root c.loop-step.invariant.freed
 
 pub returns-clause-unmapped : goal.returns-clause-unmapped
 returns-clause-unmapped c = λ k lt.

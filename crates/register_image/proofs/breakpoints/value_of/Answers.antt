@@ -15,7 +15,8 @@ use Rattle.register_image.proofs.breakpoints.value_of.Goals as goal
 
 -- the bits of a register, of a condition and of a size lie apart
 bits_are : (number : DebugAddressRegisterNumber) (condition : BreakpointCondition) (size : BreakpointSize) →
-    with_field (with_field (bit_and (2 ^ (2 * register_number number)) dr7_valid) (16 + 4 * register_number number) (condition_bits condition)) (18 + 4 * register_number number) (size_bits size)
+    with_field (with_field (bit_and (2 ^ (2 * register_number number)) dr7_valid) (16 + 4 * register_number number)
+    (condition_bits condition)) (18 + 4 * register_number number) (size_bits size)
     ≡ breakpoint_bits (register_number number) (condition_bits condition) (size_bits size)
 unfolding known_from
 bits_are Dr0 InstructionExecution Length1B = refl

@@ -17,7 +17,8 @@ overflow_sub-result g c =
     let block = c.requires.block in
     let heap = c.args.heap.now in
     let at = c.args.address - 16 in
-    let value : c.size.result ≡ size_of (g.A.Links.word heap.system (at + 8)) = c.size.ensures.value ∙ ap (λ system. size_of (g.A.Links.word system (at + 8))) c.allocator.ensures in
+    let value : c.size.result ≡ size_of (g.A.Links.word heap.system (at + 8)) = c.size.ensures.value
+    ∙ ap (λ system. size_of (g.A.Links.word system (at + 8))) c.allocator.ensures in
     let told = block_chunk g.A.Links.regions g.A.Links.word heap c.requires.sound c.args.address block.0 block.1 c.size.result value in
     let sizes = size_at (state_of g.A.Links.word heap) at (extent at c.size.result Used) told in
     let least = size_at (state_of g.A.Links.word heap) at block.1.extent block.1.there in
@@ -29,6 +30,7 @@ returns g c =
     let block = c.requires.block in
     let heap = c.args.heap.now in
     let at = c.args.address - 16 in
-    let value : c.size.result ≡ size_of (g.A.Links.word heap.system (at + 8)) = c.size.ensures.value ∙ ap (λ system. size_of (g.A.Links.word system (at + 8))) c.allocator.ensures in
+    let value : c.size.result ≡ size_of (g.A.Links.word heap.system (at + 8)) = c.size.ensures.value
+    ∙ ap (λ system. size_of (g.A.Links.word system (at + 8))) c.allocator.ensures in
     let told = block_chunk g.A.Links.regions g.A.Links.word heap c.requires.sound c.args.address block.0 block.1 c.size.result value in
     ap (λ (size : ℕ). size - 8) (sym (size_at (state_of g.A.Links.word heap) at (extent at c.size.result Used) told))

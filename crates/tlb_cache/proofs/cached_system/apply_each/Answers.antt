@@ -17,7 +17,8 @@ loop-command-preserved c =
     let i = c.loop-command.command-index in
     let command = c.command-item.result in
     let is : command ≡ get_or items i (Invlpg 0) = get_or_read items i command c.loop-command-test.true c.command-item.is (Invlpg 0) in
-    let more : take (i + 1) items ≡ take i items ++ command ∷ [] = take_more items i (Invlpg 0) c.loop-command-test.true ∙ ap (λ (command : FlushCommand). take i items ++ command ∷ []) (sym is) in
+    let more : take (i + 1) items ≡ take i items ++ command ∷ [] = take_more items i (Invlpg 0) c.loop-command-test.true
+    ∙ ap (λ (command : FlushCommand). take i items ++ command ∷ []) (sym is) in
     c.apply.ensures
     ∙ (ap (λ (cache : Cache). record cache { entries = left_by command cache.entries }) c.loop-command.invariant
     ∙ ap (λ (entries : List TlbEntry). record s { entries = entries })
@@ -28,4 +29,5 @@ returns c =
     let s = c.args.tlb.now in
     let items = c.as_slice-command-items.result.now in
     c.loop-command.invariant
-    ∙ ap (λ (list : List FlushCommand). record s { entries = left_by_all list s.entries }) (take_all c.loop-command.command-index items c.loop-command-test.false ∙ c.as_slice-command-items.ensures)
+    ∙ ap (λ (list : List FlushCommand). record s { entries = left_by_all list s.entries })
+    (take_all c.loop-command.command-index items c.loop-command-test.false ∙ c.as_slice-command-items.ensures)

@@ -45,4 +45,5 @@ pub returns-clause-some : goal.returns-clause-some
 returns-clause-some c =
     let items = c.args.ring.now.items in
     sym (none_at items c.args.page
-    (λ age below is. let before = c.loop-count.invariant.past age (omega (arith, below, length_pages items)) is in omega (arith, before, c.loop-count-test.false)))
+    (λ age below is. let before = c.loop-count.invariant.past age (omega (arith, below, length_pages items)) is in
+    omega (arith, before, c.loop-count-test.false)))

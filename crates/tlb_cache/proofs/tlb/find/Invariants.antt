@@ -8,7 +8,9 @@ abbrev pub invariant-loop-count : goal.invariant-loop-count
 invariant-loop-count l = record {
   within : l.count ≤ length (pages_of l.ring.items);
   past : (age : ℕ) → age < length (pages_of l.ring.items) → slice_index (pages_of l.ring.items) age ≡ l.page → age < l.count;
-  own : (last age : ℕ) → l.count ≡ last + 1 → age < length (pages_of l.ring.items) → slice_index (pages_of l.ring.items) age ≡ l.page → hash_at l.index (pages_of l.ring.items) last ≡ hash_of (length l.index.newest.items) l.page;
+  own : (last age : ℕ) → l.count ≡ last + 1 → age < length (pages_of l.ring.items) →
+      slice_index (pages_of l.ring.items) age ≡ l.page → hash_at l.index (pages_of l.ring.items) last ≡ hash_of
+      (length l.index.newest.items) l.page;
 }
 
 abbrev pub decreases-loop-count : goal.decreases-loop-count

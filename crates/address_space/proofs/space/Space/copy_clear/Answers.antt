@@ -19,7 +19,8 @@ pub copy_pages-requires-clause-read : goal.copy_pages-requires-clause-read
 copy_pages-requires-clause-read c = λ k less.
     let t = tables_of c.args.self.now in
     subst (λ (n : ℕ). IsSome (walk_of c.map_range.new.frames t.root (n + k))) (sym c.number-from.ensures.value)
-    (source_mapped t c.map_range.new.frames c.args.source c.args.pages c.args.target k c.args.self.now.kept c.requires.source c.requires.full c.requires.clear c.map_range.ensures.elsewhere less)
+    (source_mapped t c.map_range.new.frames c.args.source c.args.pages c.args.target k c.args.self.now.kept
+    c.requires.source c.requires.full c.requires.clear c.map_range.ensures.elsewhere less)
 
 pub copy_pages-requires-clause-written : goal.copy_pages-requires-clause-written
 copy_pages-requires-clause-written c = λ k less.
@@ -31,7 +32,8 @@ pub copy_pages-requires-clause-apart : goal.copy_pages-requires-clause-apart
 copy_pages-requires-clause-apart c = λ j k few less is.
     let from_is = c.number-from.ensures.value in
     let to_is = c.number-to.ensures.value in
-    ranges_apart (entries c.args.self.now.runs) c.args.source c.args.pages c.args.target j k c.requires.full c.requires.clear few less (omega (arith, from_is, to_is, is))
+    ranges_apart (entries c.args.self.now.runs) c.args.source c.args.pages c.args.target j k c.requires.full
+    c.requires.clear few less (omega (arith, from_is, to_is, is))
 
 pub invariant_of-self-2 : goal.invariant_of-self-2
 invariant_of-self-2 c =
@@ -39,7 +41,8 @@ invariant_of-self-2 c =
     let one = c.map_range.new.frames in
     let words = c.copy_pages.new.frames in
     let runs = entries c.copy.new.runs in
-    let m : AreDuplicated t one words c.map_range.new.pool runs c.args.source c.args.pages c.args.target (record { write = false; user = false; fetch = false }) = record {
+    let m : AreDuplicated t one words c.map_range.new.pool runs c.args.source c.args.pages c.args.target
+    (record { write = false; user = false; fetch = false }) = record {
       kept = c.args.self.now.kept;
       source = c.requires.source;
       target = c.requires.target;
@@ -54,7 +57,10 @@ invariant_of-self-2 c =
       runs_copied = subst (λ (n : ℕ). AreCopied t.runs runs n c.args.pages c.args.target) c.number-from.ensures.value
           (subst (λ (n : ℕ). AreCopied t.runs runs c.number-from.result c.args.pages n) c.number-to.ensures.value c.in_ok-copy.ensures.ok);
     } in
-    record { kept = duplicated_kept t one words c.map_range.new.pool runs c.args.source c.args.pages c.args.target (record { write = false; user = false; fetch = false }) m }
+    record {
+      kept = duplicated_kept t one words c.map_range.new.pool runs c.args.source c.args.pages c.args.target
+          (record { write = false; user = false; fetch = false }) m;
+    }
 
 pub returns-clause-ok : goal.returns-clause-ok
 returns-clause-ok c =
@@ -62,7 +68,8 @@ returns-clause-ok c =
     let one = c.map_range.new.frames in
     let words = c.copy_pages.new.frames in
     let runs = entries c.copy.new.runs in
-    let m : AreDuplicated t one words c.map_range.new.pool runs c.args.source c.args.pages c.args.target (record { write = false; user = false; fetch = false }) = record {
+    let m : AreDuplicated t one words c.map_range.new.pool runs c.args.source c.args.pages c.args.target
+    (record { write = false; user = false; fetch = false }) = record {
       kept = c.args.self.now.kept;
       source = c.requires.source;
       target = c.requires.target;
@@ -77,6 +84,8 @@ returns-clause-ok c =
       runs_copied = subst (λ (n : ℕ). AreCopied t.runs runs n c.args.pages c.args.target) c.number-from.ensures.value
           (subst (λ (n : ℕ). AreCopied t.runs runs c.number-from.result c.args.pages n) c.number-to.ensures.value c.in_ok-copy.ensures.ok);
     } in
-    duplicated_is t (record { words = words; root = t.root; free = c.map_range.new.pool; runs = runs }) one c.args.source c.args.pages c.args.target (record { write = false; user = false; fetch = false }) m refl
+    duplicated_is t (record { words = words; root = t.root; free = c.map_range.new.pool; runs = runs }) one c.args.source
+    c.args.pages c.args.target (record { write = false; user = false; fetch = false }) m refl
     (duplicated_map t one words c.map_range.new.pool runs c.args.source c.args.pages c.args.target (record { write = false; user = false; fetch = false }) m)
-    (duplicated_words t (record { words = words; root = t.root; free = c.map_range.new.pool; runs = runs }) one c.args.source c.args.pages c.args.target (record { write = false; user = false; fetch = false }) m)
+    (duplicated_words t (record { words = words; root = t.root; free = c.map_range.new.pool; runs = runs }) one
+    c.args.source c.args.pages c.args.target (record { write = false; user = false; fetch = false }) m)

@@ -14,6 +14,7 @@ whole n = omega arith
 pub returns-clause-place : goal.returns-clause-place
 returns-clause-place c =
     let rights = rights_in (entries c.args.self.now.runs) in
-    let at : c.containing_address.result ≡ c.in-Some.number = c.containing_address.ensures ∙ (ap (λ (a : ℕ). a / 4096) c.new.ensures ∙ whole c.in-Some.number) in
+    let at : c.containing_address.result ≡ c.in-Some.number = c.containing_address.ensures
+    ∙ (ap (λ (a : ℕ). a / 4096) c.new.ensures ∙ whole c.in-Some.number) in
     subst (λ (n : ℕ). IsPagePlace rights c.args.base c.args.end c.args.pages n) (sym at)
     (subst (λ (n : ℕ). IsPagePlace rights n c.args.end c.args.pages c.in-Some.number) c.number.ensures.value c.in-Some.ensures.place)

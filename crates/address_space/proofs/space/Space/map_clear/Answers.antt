@@ -16,7 +16,8 @@ invariant_of-self-2 c = record {
         elsewhere = c.map_range.ensures.elsewhere;
         zeros = c.map_range.ensures.zeros;
         bytes = c.map_range.ensures.bytes;
-        runs_added = subst (λ (n : ℕ). IsAdded (entries c.args.self.now.runs) (entries c.add.new.runs) n (n + c.args.pages) c.args.rights) c.number-number.ensures.value c.in_ok-add.ensures.ok;
+        runs_added = subst (λ (n : ℕ). IsAdded (entries c.args.self.now.runs) (entries c.add.new.runs) n (n + c.args.pages)
+            c.args.rights) c.number-number.ensures.value c.in_ok-add.ensures.ok;
       });
 }
 
@@ -31,7 +32,8 @@ returns-clause-ok c = record {
         elsewhere = c.map_range.ensures.elsewhere;
         zeros = c.map_range.ensures.zeros;
         bytes = c.map_range.ensures.bytes;
-        runs_added = subst (λ (n : ℕ). IsAdded (entries c.args.self.now.runs) (entries c.add.new.runs) n (n + c.args.pages) c.args.rights) c.number-number.ensures.value c.in_ok-add.ensures.ok;
+        runs_added = subst (λ (n : ℕ). IsAdded (entries c.args.self.now.runs) (entries c.add.new.runs) n (n + c.args.pages)
+            c.args.rights) c.number-number.ensures.value c.in_ok-add.ensures.ok;
       });
   root = refl;
   added = c.map_range.ensures.added;

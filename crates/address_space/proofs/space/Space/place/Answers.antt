@@ -11,7 +11,8 @@ returns-in_default-lowest_place-clause-causes c =
     let some : 0 < c.args.pages = omega (arith, zero) in (
       c.in-Some.ensures.good,
       some,
-      subst (λ (n : ℕ). HasNoPagePlace (map_of (tables_of c.args.self.now)).rights n (c.args.high / 4096) c.args.pages) c.in-Some.ensures.first c.in_default-lowest_place.ensures.none,
+      subst (λ (n : ℕ). HasNoPagePlace (map_of (tables_of c.args.self.now)).rights n (c.args.high / 4096) c.args.pages)
+          c.in-Some.ensures.first c.in_default-lowest_place.ensures.none,
     )
 
 whole : (n : ℕ) → n * 4096 / 4096 ≡ n
@@ -19,5 +20,6 @@ whole n = omega arith
 
 pub returns-in-Ok-clause-ok : goal.returns-in-Ok-clause-ok
 returns-in-Ok-clause-ok c =
-    let at : c.as_u64.result / 4096 ≡ c.in-Some-lowest_place.first = ap (λ (a : ℕ). a / 4096) (c.as_u64.ensures.value ∙ c.start_address.ensures) ∙ whole c.in-Some-lowest_place.first in
+    let at : c.as_u64.result / 4096 ≡ c.in-Some-lowest_place.first = ap (λ (a : ℕ). a / 4096)
+    (c.as_u64.ensures.value ∙ c.start_address.ensures) ∙ whole c.in-Some-lowest_place.first in
     subst (λ (n : ℕ). IsMapped (tables_of c.args.self.now) (tables_of c.map_clear.new.self) n c.args.pages c.args.rights) (sym at) c.in-Ok.ensures.ok

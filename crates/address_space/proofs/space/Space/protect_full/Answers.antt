@@ -23,7 +23,8 @@ invariant_of-self-2 c =
       there = c.protect_range.ensures.granted;
       elsewhere = c.protect_range.ensures.elsewhere;
       bytes = c.protect_range.ensures.bytes;
-      added = subst (λ (n : ℕ). IsAdded (entries c.args.self.now.runs) (entries c.set_rights.new.runs) n (n + c.args.pages) c.args.rights) c.number-number.ensures.value c.in_ok-set_rights.ensures.ok;
+      added = subst (λ (n : ℕ). IsAdded (entries c.args.self.now.runs) (entries c.set_rights.new.runs) n (n + c.args.pages)
+          c.args.rights) c.number-number.ensures.value c.in_ok-set_rights.ensures.ok;
     } in
     record { kept = protected_kept t c.protect_range.new.frames (entries c.set_rights.new.runs) c.args.first c.args.pages c.args.rights m }
 
@@ -39,7 +40,8 @@ returns-clause-ok c =
       there = c.protect_range.ensures.granted;
       elsewhere = c.protect_range.ensures.elsewhere;
       bytes = c.protect_range.ensures.bytes;
-      added = subst (λ (n : ℕ). IsAdded (entries c.args.self.now.runs) (entries c.set_rights.new.runs) n (n + c.args.pages) c.args.rights) c.number-number.ensures.value c.in_ok-set_rights.ensures.ok;
+      added = subst (λ (n : ℕ). IsAdded (entries c.args.self.now.runs) (entries c.set_rights.new.runs) n (n + c.args.pages)
+          c.args.rights) c.number-number.ensures.value c.in_ok-set_rights.ensures.ok;
     } in
     record {
       map = protected_map t c.protect_range.new.frames (entries c.set_rights.new.runs) c.args.first c.args.pages c.args.rights m;

@@ -13,21 +13,28 @@ unmap_last-requires-clause-range c =
     let page = c.in-Some.ensures.first in
     let to = c.loop-end.invariant.to in
     let less = c.loop-end-test.true in
-    part_of_range (c.args.start / 4096) c.args.pages c.number-first.result (c.loop-end.end - c.number-first.result) c.in-Some.ensures.good.canonical (omega (arith, first, page)) (omega (arith, first, page, to, less)) (omega (arith, less))
+    part_of_range (c.args.start / 4096) c.args.pages c.number-first.result (c.loop-end.end - c.number-first.result)
+    c.in-Some.ensures.good.canonical (omega (arith, first, page)) (omega (arith, first, page, to, less))
+    (omega (arith, less))
 
 pub loop-end-preserved : goal.loop-end-preserved
 loop-end-preserved c =
     let first = c.number-first.ensures.value in
     let page = c.in-Some.ensures.first in
     let some = c.in-Some.ensures.good.canonical.some in
-    let range = part_of_range (c.args.start / 4096) c.args.pages c.number-first.result (c.number-first.result + c.args.pages - c.number-first.result) c.in-Some.ensures.good.canonical (omega (arith, first, page)) (omega (arith, first, page)) (omega (arith, some)) in
-    unmapped_step (tables_of c.args.self.now) (tables_of c.loop-end.self) (tables_of c.unmap_last.new.self) c.number-first.result (c.number-first.result + c.args.pages) c.loop-end.end c.loop-end.count c.in-Ok.part.first c.in-Ok.part.count
+    let range = part_of_range (c.args.start / 4096) c.args.pages c.number-first.result
+    (c.number-first.result + c.args.pages - c.number-first.result) c.in-Some.ensures.good.canonical
+    (omega (arith, first, page)) (omega (arith, first, page)) (omega (arith, some)) in
+    unmapped_step (tables_of c.args.self.now) (tables_of c.loop-end.self) (tables_of c.unmap_last.new.self)
+    c.number-first.result (c.number-first.result + c.args.pages) c.loop-end.end c.loop-end.count c.in-Ok.part.first
+    c.in-Ok.part.count
     c.args.self.now.kept.tree range c.loop-end.invariant c.in-Ok.ensures.ok c.in-Ok.ensures.from c.in-Ok.ensures.less c.in-Ok.ensures.to
 
 pub returns-in-Err-clause-err : goal.returns-in-Err-clause-err
 returns-in-Err-clause-err c =
     c.in-Err.ensures.err
-    ∙ untouched (tables_of c.args.self.now) (tables_of c.loop-end.self) c.number-first.result (c.number-first.result + c.args.pages) c.loop-end.end c.loop-end.count c.loop-end.invariant c.in-Err.ensures.over
+    ∙ untouched (tables_of c.args.self.now) (tables_of c.loop-end.self) c.number-first.result
+    (c.number-first.result + c.args.pages) c.loop-end.end c.loop-end.count c.loop-end.invariant c.in-Err.ensures.over
 
 pub returns-clause-ok : goal.returns-clause-ok
 returns-clause-ok c =

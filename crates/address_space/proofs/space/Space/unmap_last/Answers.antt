@@ -17,7 +17,8 @@ pub returns-in_default-clause-ok : goal.returns-in_default-clause-ok
 returns-in_default-clause-ok c =
     let some = c.requires.some in
     unmapped_none (tables_of c.args.self.now) c.args.first (c.args.end - c.args.first)
-    (λ n. none_mapped (tables_of c.args.self.now) c.args.first (c.args.end - c.args.first) n c.args.self.now.kept c.requires.range (λ any h k. c.in_default.ensures.none any (omega arith) (omega (arith, k, some))))
+    (λ n. none_mapped (tables_of c.args.self.now) c.args.first (c.args.end - c.args.first) n c.args.self.now.kept
+    c.requires.range (λ any h k. c.in_default.ensures.none any (omega arith) (omega (arith, k, some))))
     (λ any h k. c.in_default.ensures.none any (omega arith) (omega (arith, k, some)))
 
 pub returns-then-run-first-clause-ok : goal.returns-then-run-first-clause-ok
@@ -47,7 +48,9 @@ returns-in_err-take-clause-over c =
     let to = c.max-from.result + (c.min.result - c.max-from.result) in
     let there : IsSome (rights_in es to) = c.in_err-take.ensures.over in
     let by_end : (run.end < end) ⊎ (end ≤ run.end) → IsSome (rights_in es end) = (λ h. elim h [
-      | inl k ↦ absurd (not_there (rights_in es to) (c.in-Some.ensures.last to (omega (arith, k, from_is, to_is, starts, some, over, least)) (omega (arith, k, from_is, to_is, starts, some, over, least))) there)
+      | inl k ↦ absurd (not_there (rights_in es to) (c.in-Some.ensures.last to
+          (omega (arith, k, from_is, to_is, starts, some, over, least)) (omega
+          (arith, k, from_is, to_is, starts, some, over, least))) there)
       | inr k ↦ (let same : to ≡ end = omega (arith, k, from_is, to_is, starts, some, over, least) in subst (λ (n : ℕ). IsSome (rights_in es n)) same there)
     ]) in
     always_err c.from_residual.result (IsSome (rights_in es end)) (by_end (cases_lt run.end end))
@@ -68,7 +71,8 @@ unmap_range-requires-clause-mapped c = λ k less.
     let at = c.page_at.ensures in
     let page = c.page_at.result + k in
     mapped_walks (tables_of c.args.self.now) page c.args.self.now.kept
-    (is_some_of (rights_in es page) run.rights (run_rights es run.start run.end run.rights page c.in-Some.ensures.run (omega (arith, from_is, at)) (omega (arith, from_is, to_is, at, less))))
+    (is_some_of (rights_in es page) run.rights (run_rights es run.start run.end run.rights page c.in-Some.ensures.run
+    (omega (arith, from_is, at)) (omega (arith, from_is, to_is, at, less))))
 
 pub unmap_range-requires-clause-small : goal.unmap_range-requires-clause-small
 unmap_range-requires-clause-small c = λ k less.
@@ -80,7 +84,8 @@ unmap_range-requires-clause-small c = λ k less.
     let page = c.page_at.result + k in
     by_table c.args.self.now.frames c.args.self.now.root page c.args.self.now.kept.no_large
     (mapped_walks (tables_of c.args.self.now) page c.args.self.now.kept
-    (is_some_of (rights_in es page) run.rights (run_rights es run.start run.end run.rights page c.in-Some.ensures.run (omega (arith, from_is, at)) (omega (arith, from_is, to_is, at, less)))))
+    (is_some_of (rights_in es page) run.rights (run_rights es run.start run.end run.rights page c.in-Some.ensures.run
+    (omega (arith, from_is, at)) (omega (arith, from_is, to_is, at, less)))))
 
 pub invariant_of-self-2 : goal.invariant_of-self-2
 invariant_of-self-2 c =
@@ -95,7 +100,9 @@ invariant_of-self-2 c =
     let count = c.min.result - c.max-from.result in
     let m : AreUnmapped t c.unmap_range.new.frames c.unmap_range.new.pool (entries c.take.new.runs) c.page_at.result count = record {
       kept = c.args.self.now.kept;
-      range = part_of_range c.args.first (c.args.end - c.args.first) c.page_at.result count c.requires.range (omega (arith, at, from_is)) (omega (arith, at, from_is, to_is, starts, over, least)) (omega (arith, from_is, to_is, starts, some, over, least));
+      range = part_of_range c.args.first (c.args.end - c.args.first) c.page_at.result count c.requires.range
+          (omega (arith, at, from_is)) (omega (arith, at, from_is, to_is, starts, over, least))
+          (omega (arith, from_is, to_is, starts, some, over, least));
       freed = c.unmap_range.ensures.freed;
       tree = c.unmap_range.ensures.tree;
       count = c.unmap_range.ensures.count;
@@ -121,10 +128,18 @@ returns-clause-ok c =
     let least = c.requires.some in
     let count = c.min.result - c.max-from.result in
     let more = c.args.end - c.max-from.result in
-    let new : Tables = record { words = c.unmap_range.new.frames; root = c.args.self.now.root; free = c.unmap_range.new.pool; runs = entries c.take.new.runs } in
+    let new : Tables = record {
+      words = c.unmap_range.new.frames;
+      root = c.args.self.now.root;
+      free =
+          c.unmap_range.new.pool;
+      runs = entries c.take.new.runs;
+    } in
     let m : AreUnmapped t c.unmap_range.new.frames c.unmap_range.new.pool (entries c.take.new.runs) c.page_at.result count = record {
       kept = c.args.self.now.kept;
-      range = part_of_range c.args.first (c.args.end - c.args.first) c.page_at.result count c.requires.range (omega (arith, at, from_is)) (omega (arith, at, from_is, to_is, starts, over, least)) (omega (arith, from_is, to_is, starts, some, over, least));
+      range = part_of_range c.args.first (c.args.end - c.args.first) c.page_at.result count c.requires.range
+          (omega (arith, at, from_is)) (omega (arith, at, from_is, to_is, starts, over, least))
+          (omega (arith, from_is, to_is, starts, some, over, least));
       freed = c.unmap_range.ensures.freed;
       tree = c.unmap_range.ensures.tree;
       count = c.unmap_range.ensures.count;
@@ -136,7 +151,19 @@ returns-clause-ok c =
     } in
     subst (λ (n : ℕ). IsUnmapped t new n more count) at
     (unmapped_part t new c.page_at.result count more m refl
-    (part_of_range c.args.first (c.args.end - c.args.first) c.page_at.result more c.requires.range (omega (arith, at, from_is)) (omega (arith, at, from_is, starts, least)) (omega (arith, from_is, starts, least)))
+    (part_of_range c.args.first (c.args.end - c.args.first) c.page_at.result more c.requires.range
+    (omega (arith, at, from_is)) (omega (arith, at, from_is, starts, least)) (omega (arith, from_is, starts, least)))
     (omega (arith, from_is, to_is))
     (λ any h k. c.in-Some.ensures.last any (omega (arith, h, k, at, from_is, to_is, starts)) (omega (arith, k, at, from_is, starts, least)))
-    (λ page h k. is_some_of (rights_in es page) run.rights (run_rights es run.start run.end run.rights page c.in-Some.ensures.run (omega (arith, h, at, from_is)) (omega (arith, k, at, from_is, to_is, starts, some, over, least)))))
+    (λ page h k. is_some_of (rights_in es page) run.rights (run_rights es run.start run.end run.rights page
+    c.in-Some.ensures.run (omega (arith, h, at, from_is)) (omega (
+      arith,
+      k,
+      at,
+      from_is,
+      to_is,
+      starts,
+      some,
+      over,
+      least,
+    )))))

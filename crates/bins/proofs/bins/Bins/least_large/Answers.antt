@@ -80,7 +80,8 @@ returns-then-bin-eq31-clause-fit g c = λ index linked.
     let end = end_last c.if-bin-eq31.true in
     let low = c.bin_low-low.ensures in
     let levels = c.bin_levels-levels.ensures in
-    none_from linked (least_size bin) c.args.size (2 ^ 64) c.compute_tree_index-bin.ensures.reached (λ n a b. none n a (rw (low, levels) (omega (arith, end, b))))
+    none_from linked (least_size bin) c.args.size (2 ^ 64) c.compute_tree_index-bin.ensures.reached
+    (λ n a b. none n a (rw (low, levels) (omega (arith, end, b))))
 
 pub returns-clause-fit : goal.returns-clause-fit
 returns-clause-fit g c = λ index linked.

@@ -5,4 +5,5 @@ use Rattle.bins.proofs.bins.Bins.new.Goals as goal
 
 pub returns : goal.returns
 returns c =
-    λ regions words. empty_linked regions words _ (λ i h. c.loop-i.invariant.1 i (omega arith)) (λ i h. c.loop-i.invariant.1 i (omega arith)) refl (λ i h. get_or-replicate 32 i 0 0 h) refl
+    λ regions words. empty_linked regions words _ (λ i h. c.loop-i.invariant.1 i (omega arith))
+    (λ i h. c.loop-i.invariant.1 i (omega arith)) refl (λ i h. get_or-replicate 32 i 0 0 h) refl

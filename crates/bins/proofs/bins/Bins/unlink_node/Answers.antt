@@ -62,7 +62,8 @@ swap_child-requires-clause-places g c =
     let bin = c.load_counted-bin in
     let left = c.replace_node-left in
     let replaced = replaced g (goal.at.swap_child-requires-clause-places g c).After-replace_node-left in
-    rw left.ensures.regions (n_places r.1.0 r.1.1.0 r.1.1.1.0 r.1.1.1.1.0 r.1.1.1.1.1 parent.ensures.value bin.ensures.value replaced c.if-parent-lt-LEAST_ADDRESS.false)
+    rw left.ensures.regions (n_places r.1.0 r.1.1.0 r.1.1.1.0 r.1.1.1.1.0 r.1.1.1.1.1 parent.ensures.value bin.ensures.value
+    replaced c.if-parent-lt-LEAST_ADDRESS.false)
 
 pub swap_child-requires-clause-was : goal.swap_child-requires-clause-was
 swap_child-requires-clause-was g c =
@@ -78,7 +79,8 @@ returns-then-parent-lt-LEAST_ADDRESS-clause-linked g c = λ index size large lin
     let bin = c.load_counted-bin in
     let left = c.replace_node-left in
     let replaced = replaced g (goal.at.returns-then-parent-lt-LEAST_ADDRESS-clause-linked g c).After-replace_node-left in
-    rw left.ensures.regions (n_root size large linked is_in oldest parent.ensures.value bin.ensures.value replaced c.if-parent-lt-LEAST_ADDRESS.true c.swap_root.ensures)
+    rw left.ensures.regions (n_root size large linked is_in oldest parent.ensures.value bin.ensures.value replaced
+    c.if-parent-lt-LEAST_ADDRESS.true c.swap_root.ensures)
 
 pub returns-then-parent-lt-LEAST_ADDRESS-clause-words : goal.returns-then-parent-lt-LEAST_ADDRESS-clause-words
 returns-then-parent-lt-LEAST_ADDRESS-clause-words g c = λ index size large linked is_in oldest.
@@ -94,7 +96,8 @@ returns-else-parent-lt-LEAST_ADDRESS-clause-linked g c = λ index size large lin
     let left = c.replace_node-left in
     let replaced = replaced g (goal.at.returns-else-parent-lt-LEAST_ADDRESS-clause-linked g c).After-replace_node-left in
     let stored = rw left.ensures.regions at c.swap_child.ensures.stored in
-    rw (c.swap_child.ensures.regions, left.ensures.regions) (n_below size large linked is_in oldest parent.ensures.value bin.ensures.value replaced c.if-parent-lt-LEAST_ADDRESS.false (g.M.Links.word c.swap_child.new.memory) stored)
+    rw (c.swap_child.ensures.regions, left.ensures.regions) (n_below size large linked is_in oldest parent.ensures.value
+    bin.ensures.value replaced c.if-parent-lt-LEAST_ADDRESS.false (g.M.Links.word c.swap_child.new.memory) stored)
 
 pub returns-else-parent-lt-LEAST_ADDRESS-clause-words : goal.returns-else-parent-lt-LEAST_ADDRESS-clause-words
 returns-else-parent-lt-LEAST_ADDRESS-clause-words g c = λ index size large linked is_in oldest.
@@ -103,4 +106,5 @@ returns-else-parent-lt-LEAST_ADDRESS-clause-words g c = λ index size large link
     let left = c.replace_node-left in
     let replaced = replaced g (goal.at.returns-else-parent-lt-LEAST_ADDRESS-clause-words g c).After-replace_node-left in
     let stored = rw left.ensures.regions at c.swap_child.ensures.stored in
-    n_below_words size large linked is_in oldest parent.ensures.value bin.ensures.value replaced c.if-parent-lt-LEAST_ADDRESS.false (g.M.Links.word c.swap_child.new.memory) stored
+    n_below_words size large linked is_in oldest parent.ensures.value bin.ensures.value replaced
+    c.if-parent-lt-LEAST_ADDRESS.false (g.M.Links.word c.swap_child.new.memory) stored

@@ -9,7 +9,11 @@ returns-then-top_size-lt-LEAST_CHUNK g c =
     record {
       joined = as_joined g.A.Links.regions g.A.Links.word g.A.Links.follows c.args.self.now c.args.grant.now e.joined;
       linked = little_left c.index_stays.ensures c.requires.sound c.requires.there e.joined e.free e.same c.requires.linked c.if-top_size-lt-LEAST_CHUNK.true;
-      order = λ b. (little_left c.index_stays.ensures c.requires.sound c.requires.there e.joined e.free e.same b c.if-top_size-lt-LEAST_CHUNK.true, order_same b.index);
+      order = λ b. (
+        little_left c.index_stays.ensures c.requires.sound c.requires.there e.joined e.free e.same b
+            c.if-top_size-lt-LEAST_CHUNK.true,
+        order_same b.index,
+      );
     }
 
 pub bin-requires-clause-other : goal.bin-requires-clause-other
@@ -27,8 +31,12 @@ returns g c =
     let e = c.change_head.ensures in let many = c.if-top_size-lt-LEAST_CHUNK.false in let last = c.bin.ensures in
     let middle = c.change_head.new.self in let top = c.args.self.now.top in let size = c.args.self.now.top_size in
     let order : KeepsOrder g.A.Links.regions g.A.Links.word c.args.self.now c.bin.new.self = λ b.
-    let after = last.binned [] (top_left c.index_stays.ensures c.requires.sound c.requires.there e.joined e.free e.same b many) (λ none. none) in
-    (after.0, in_order size top b.index b.index after.0.index (lessened_same b.index) (added_as size top b.index after.0.index after.1) (λ is. top_not_free c.requires.sound c.requires.there (b.holds.free top size is))) in
+    let after = last.binned [] (top_left c.index_stays.ensures c.requires.sound c.requires.there e.joined e.free e.same b many) (λ none. none) in (
+      after.0,
+      in_order size top b.index b.index after.0.index (lessened_same b.index)
+          (added_as size top b.index after.0.index after.1) (λ is. top_not_free c.requires.sound c.requires.there
+          (b.holds.free top size is)),
+    ) in
     record {
       joined = joined_binned c.index_stays.ensures c.requires.sound c.requires.there e.joined e.free e.same c.requires.linked last.same last.same.fields
           g.A.Links.follows_on (none_in_grant middle c.requires.sound c.requires.there c.requires.fresh e.free many (e.rest many));

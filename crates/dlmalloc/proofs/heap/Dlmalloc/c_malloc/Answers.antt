@@ -18,7 +18,8 @@ returns-in-Ok-clause-served g c =
     served c.args.size e.is (omega arith) (omega arith) less c.in-Ok.ensures.cut c.cut.ensures.order
 
 pub returns-in-Ok-clause-member : goal.returns-in-Ok-clause-member
-returns-in-Ok-clause-member g c = member_behind g.A.Links.regions g.A.Links.word c.args.self.now c.args.size c.in-Ok.chunk c.request2size.ensures.is c.in-Ok.ensures.member
+returns-in-Ok-clause-member g c = member_behind g.A.Links.regions g.A.Links.word c.args.self.now c.args.size c.in-Ok.chunk
+    c.request2size.ensures.is c.in-Ok.ensures.member
 
 pub returns-then-size-max_request-clause-order : goal.returns-then-size-max_request-clause-order
 returns-then-size-max_request-clause-order g c = λ b. (b, order_same b.index)
@@ -26,6 +27,14 @@ returns-then-size-max_request-clause-order g c = λ b. (b, order_same b.index)
 pub returns-then-size-max_request-clause-refused : goal.returns-then-size-max_request-clause-refused
 returns-then-size-max_request-clause-refused g c = record {
   refused = (let is = c.max_request.ensures.is in let more = c.if-size-max_request.true in omega arith);
-  same = record { followed = search rules; refused = search rules; state = refl; sound = c.requires.intact.sound; regions_same = refl; words = λ k is. refl; index = λ b. (b, λ n. refl) };
+  same = record {
+    followed = search rules;
+    refused = search rules;
+    state = refl;
+    sound = c.requires.intact.sound;
+    regions_same = refl;
+    words = λ k is. refl;
+    index = λ b. (b, λ n. refl);
+  };
   untouched = λ large. refl;
 }

@@ -72,8 +72,10 @@ returns g c =
     let apart = beside_head c.requires.sound there grant fresh in
     let told : IsRecordAt (word system) at (record_of_head heap) (heap.base + heap.size) (at == heap.top) =
     told_same at heap left.fields put.told in
-    let into : (k : ℕ) → IsWordOf (regions heap.system) k → IsWordOf (regions middle.system) k = λ k inside. subst (λ rs. IsWordOf rs k) (sym left.regions) inside in
-    let onto : (k : ℕ) → IsWordOf (regions heap.system) k → IsWordOf (regions system) k = λ k inside. subst (λ rs. IsWordOf rs k) (sym (put.regions ∙ left.regions)) inside in
+    let into : (k : ℕ) → IsWordOf (regions heap.system) k → IsWordOf (regions middle.system) k =
+    λ k inside. subst (λ rs. IsWordOf rs k) (sym left.regions) inside in
+    let onto : (k : ℕ) → IsWordOf (regions heap.system) k → IsWordOf (regions system) k =
+    λ k inside. subst (λ rs. IsWordOf rs k) (sym (put.regions ∙ left.regions)) inside in
     let of_head : (k : ℕ) → heap.base ≤ k → k < heap.base + heap.size → k % 8 ≡ 0 → word new.system k ≡ word system k = λ k from to m.
     made.elsewhere k (onto k (head_word c.requires.sound there k from to m)) (λ is. elim apart [ inl before ↦ omega arith | inr behind ↦ omega arith ])
     (λ is. elim apart [ inl before ↦ omega arith | inr behind ↦ omega arith ]) in
@@ -88,7 +90,8 @@ returns g c =
       foot = made.foot_head;
       recorded = record_kept (word new.system) (omega arith) b.1 (λ k from to m. of_head k (omega arith) to m) told;
       left_foot = λ large. of_head (heap.top + heap.top_size) (omega arith) (omega arith) (omega (arith, top_whole c.requires.sound there))
-          ∙ (put.elsewhere (heap.top + heap.top_size) (into (heap.top + heap.top_size) (head_word c.requires.sound there (heap.top + heap.top_size) (omega arith)
+          ∙ (put.elsewhere (heap.top + heap.top_size) (into (heap.top + heap.top_size)
+          (head_word c.requires.sound there (heap.top + heap.top_size) (omega arith)
           (omega arith) (omega (arith, top_whole c.requires.sound there)))) (inl (large_at heap.top heap.top_size left.place large)) ∙ left.foot large);
       kept = λ k inside out free not_top not_foot. made.elsewhere k (onto k inside) not_top not_foot ∙ (put.elsewhere k (into k inside)
           (elim out [ inl before ↦ inl before | inr behind ↦ inr (omega arith) ]) ∙ left.elsewhere k inside free);

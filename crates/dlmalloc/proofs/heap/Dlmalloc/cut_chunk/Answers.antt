@@ -47,13 +47,33 @@ pub returns-then-at-self : goal.returns-then-at-self
 returns-then-at-self g c =
     let less = c.if-rest-lt-LEAST_CHUNK.true in let e = c.set_inuse_and_pinuse.ensures in
     let t = whole_victim c.requires.sound c.args.n c.requires.chunk c.set_inuse_and_pinuse.new.memory e.regions (omega arith) e.stored c.if-at-self.true in
-    record { state = t.take.state; more = t.take.more; free = t.free; rest = t.rest; bins = refl; moved = record { sound = t.take.sound; words = t.take.words; regions_same = e.regions; followed = e.follows }; counted = omega arith }
+    record {
+      state = t.take.state;
+      more = t.take.more;
+      free = t.free;
+      rest = t.rest;
+      bins = refl;
+      moved =
+          record { sound = t.take.sound; words = t.take.words; regions_same = e.regions; followed = e.follows };
+      counted =
+          omega arith;
+    }
 
 pub returns-else-at-self : goal.returns-else-at-self
 returns-else-at-self g c =
     let less = c.if-rest-lt-LEAST_CHUNK.true in let e = c.set_inuse_and_pinuse.ensures in
     let t = whole_other c.requires.sound c.args.n c.requires.chunk c.set_inuse_and_pinuse.new.memory e.regions (omega arith) e.stored c.if-at-self.false in
-    record { state = t.take.state; more = t.take.more; free = t.free; rest = t.rest; bins = refl; moved = record { sound = t.take.sound; words = t.take.words; regions_same = e.regions; followed = e.follows }; counted = omega arith }
+    record {
+      state = t.take.state;
+      more = t.take.more;
+      free = t.free;
+      rest = t.rest;
+      bins = refl;
+      moved =
+          record { sound = t.take.sound; words = t.take.words; regions_same = e.regions; followed = e.follows };
+      counted =
+          omega arith;
+    }
 
 pub returns-then-at-self-2 : goal.returns-then-at-self-2
 returns-then-at-self-2 g c =
@@ -64,8 +84,21 @@ returns-then-at-self-2 g c =
     let fits = c.requires.fits in let same = second.regions ∙ first.regions in
     let stored = stores c.requires.sound c.args.n c.requires.chunk middle system first.regions fits first.stored second.stored in
     let t = split_victim c.requires.sound c.args.n c.requires.chunk system same c.requires.whole c.requires.least (omega arith) stored
-    (elim c.then-at-self-2.branch [ then-at-self-2-via-then-at-self-2 w ↦ inl w.if-at-self-2.true | then-at-self-2-via-else-at-self-2+then-n-lt-LEAST_LARGE w ↦ inr w.if-n-lt-LEAST_LARGE.true ]) in
-    record { state = t.take.state; more = t.take.more; free = t.free; rest = t.rest; bins = refl; moved = record { sound = t.take.sound; words = t.take.words; regions_same = same; followed = search rules }; counted = omega arith }
+    (elim c.then-at-self-2.branch [
+      | then-at-self-2-via-then-at-self-2 w ↦ inl w.if-at-self-2.true
+      | then-at-self-2-via-else-at-self-2+then-n-lt-LEAST_LARGE w ↦ inr w.if-n-lt-LEAST_LARGE.true
+    ]) in
+    record {
+      state = t.take.state;
+      more = t.take.more;
+      free = t.free;
+      rest = t.rest;
+      bins = refl;
+      moved =
+          record { sound = t.take.sound; words = t.take.words; regions_same = same; followed = search rules };
+      counted =
+          omega arith;
+    }
 
 pub returns-else-n-lt-LEAST_LARGE : goal.returns-else-n-lt-LEAST_LARGE
 returns-else-n-lt-LEAST_LARGE g c =
@@ -77,4 +110,14 @@ returns-else-n-lt-LEAST_LARGE g c =
     let stored = stores c.requires.sound c.args.n c.requires.chunk middle system first.regions fits first.stored second.stored in
     let t = split_other c.requires.sound c.args.n c.requires.chunk system same c.requires.whole c.requires.least (omega arith) stored
     c.if-at-self-2.false c.if-n-lt-LEAST_LARGE.false in
-    record { state = t.take.state; more = t.take.more; free = t.free; rest = t.rest; bins = refl; moved = record { sound = t.take.sound; words = t.take.words; regions_same = same; followed = search rules }; counted = omega arith }
+    record {
+      state = t.take.state;
+      more = t.take.more;
+      free = t.free;
+      rest = t.rest;
+      bins = refl;
+      moved =
+          record { sound = t.take.sound; words = t.take.words; regions_same = same; followed = search rules };
+      counted =
+          omega arith;
+    }

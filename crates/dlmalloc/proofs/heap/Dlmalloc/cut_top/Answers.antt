@@ -35,7 +35,13 @@ returns-clause-cut g c = λ is.
     let closed = c.close_top.ensures in let new = c.close_top.new.self in
     let whole = whole_each (regions heap.system) (g.A.Links.whole heap.system) in
     let taken = c.if-not-free_part.false in
-    let after : Dlmalloc _ = record heap { system = new.system; size = heap.size - less; top_size = heap.base + (heap.size - less) - 80 - heap.top; trim_check = trim_threshold } in
+    let after : Dlmalloc _ = record heap {
+      system = new.system;
+      size = heap.size - less;
+      top_size =
+          heap.base + (heap.size - less) - 80 - heap.top;
+      trim_check = trim_threshold;
+    } in
     let is : new ≡ after = closed.fields in
     subst (λ h. IsShortened regions word g.A.Links.follows heap less h) (sym is) (is_shortened c.requires.sound c.requires.there less c.requires.whole
     c.requires.room whole new.system (closed.regions ∙ freed.regions taken) closed.head closed.foot_head

@@ -28,20 +28,29 @@ give_back-released-requires-in-loop-payload g c =
 pub overflow_add-released : goal.overflow_add-released
 overflow_add-released g c =
     let frees = (g.met.A.Allocator.fixed c.args.self.system c.loop-payload.system _ c.loop-payload.invariant.given.followed).frees_same in
-    let given = subst (λ f. AreGivenBack g.A.Links.regions g.A.Links.word g.A.Links.follows (taken_back f (filter is_own (told_of c.record_at-told.result ∷ []))) c.loop-payload.system c.give_back-released-in-loop-payload.result c.give_back-released-in-loop-payload.new.system) frees c.give_back-released-in-loop-payload.ensures in
+    let given = subst (λ f. AreGivenBack g.A.Links.regions g.A.Links.word g.A.Links.follows
+    (taken_back f (filter is_own (told_of c.record_at-told.result ∷ []))) c.loop-payload.system
+    c.give_back-released-in-loop-payload.result c.give_back-released-in-loop-payload.new.system) frees
+    c.give_back-released-in-loop-payload.ensures in
     let fits = sum_fits g.A.Links.follows_on c.requires.sound c.loop-payload.invariant c.loop-payload-test.true c.record_at-told.ensures.told given in
     grind arith
 
 pub loop-payload-smaller : goal.loop-payload-smaller
 loop-payload-smaller g c =
     let frees = (g.met.A.Allocator.fixed c.args.self.system c.loop-payload.system _ c.loop-payload.invariant.given.followed).frees_same in
-    let given = subst (λ f. AreGivenBack g.A.Links.regions g.A.Links.word g.A.Links.follows (taken_back f (filter is_own (told_of c.record_at-told.result ∷ []))) c.loop-payload.system c.give_back-released-in-loop-payload.result c.give_back-released-in-loop-payload.new.system) frees c.give_back-released-in-loop-payload.ensures in
+    let given = subst (λ f. AreGivenBack g.A.Links.regions g.A.Links.word g.A.Links.follows
+    (taken_back f (filter is_own (told_of c.record_at-told.result ∷ []))) c.loop-payload.system
+    c.give_back-released-in-loop-payload.result c.give_back-released-in-loop-payload.new.system) frees
+    c.give_back-released-in-loop-payload.ensures in
     fewer_given g.A.Links.follows_on c.requires.sound c.loop-payload.invariant c.loop-payload-test.true c.record_at-told.ensures.told given
 
 pub loop-payload-preserved : goal.loop-payload-preserved
 loop-payload-preserved g c =
     let frees = (g.met.A.Allocator.fixed c.args.self.system c.loop-payload.system _ c.loop-payload.invariant.given.followed).frees_same in
-    let given = subst (λ f. AreGivenBack g.A.Links.regions g.A.Links.word g.A.Links.follows (taken_back f (filter is_own (told_of c.record_at-told.result ∷ []))) c.loop-payload.system c.give_back-released-in-loop-payload.result c.give_back-released-in-loop-payload.new.system) frees c.give_back-released-in-loop-payload.ensures in
+    let given = subst (λ f. AreGivenBack g.A.Links.regions g.A.Links.word g.A.Links.follows
+    (taken_back f (filter is_own (told_of c.record_at-told.result ∷ []))) c.loop-payload.system
+    c.give_back-released-in-loop-payload.result c.give_back-released-in-loop-payload.new.system) frees
+    c.give_back-released-in-loop-payload.ensures in
     on_given g.A.Links.follows_on c.requires.sound c.loop-payload.invariant c.loop-payload-test.true c.record_at-told.ensures.told given
 
 pub returns : goal.returns

@@ -88,8 +88,10 @@ returns g c =
     ) in
     record {
       state = last.state ∙ (e.state ∙ ap (λ s. freed s c.args.at) left.state);
-      less = subst (λ s. HasOneMore s (state_of word old) c.args.at) (sym last.state) (subst (λ s. HasOneMore (state_of word c.join_free.new.self) s c.args.at) left.state e.less);
-      records = λ one is there. ap (λ s. extent_at one.at (extents_in s)) last.state ∙ e.records one is (ap (λ s. extent_at one.at (extents_in s)) left.state ∙ there);
+      less = subst (λ s. HasOneMore s (state_of word old) c.args.at) (sym last.state)
+          (subst (λ s. HasOneMore (state_of word c.join_free.new.self) s c.args.at) left.state e.less);
+      records = λ one is there. ap (λ s. extent_at one.at (extents_in s)) last.state
+          ∙ e.records one is (ap (λ s. extent_at one.at (extents_in s)) left.state ∙ there);
       around = subst (λ s. IsFreeAround s c.args.at c.free_begin-from.result) (sym last.state) e.around;
       moved = turned g.A.Links.regions word g.A.Links.follows g.A.Links.follows_on left e.moved last;
       linked = (order c.requires.linked).0;

@@ -21,7 +21,8 @@ load_counted-payload-requires g c = told_word c.requires.sound c.requires.there 
     (c.loop-payload.payload + 16) (omega arith) (omega arith) (omega arith)
 
 pub overflow_add-payload : goal.overflow_add-payload
-overflow_add-payload g c = let high = told_high c.requires.sound c.requires.there c.args.grant.now c.loop-payload.invariant c.loop-payload-test.true in grind arith
+overflow_add-payload g c = let high = told_high c.requires.sound c.requires.there c.args.grant.now c.loop-payload.invariant
+    c.loop-payload-test.true in grind arith
 
 pub loop-payload-smaller : goal.loop-payload-smaller
 loop-payload-smaller g c =

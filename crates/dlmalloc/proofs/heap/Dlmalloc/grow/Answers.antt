@@ -14,7 +14,8 @@ pub returns-in_err-grant-clause-err : goal.returns-in_err-grant-clause-err
 returns-in_err-grant-clause-err g c =
     let heap = c.args.self.now in let denied = c.in_err-grant.ensures in
     let events : ℕ → GrantFault → List Event = λ bytes fault. Refused bytes fault ∷ [] in
-    let followed = subst (λ bytes. g.A.Links.follows heap.system (events bytes c.in_err-grant.field-0.0) c.alloc.new.self) c.asked-asked.ensures.asked denied.err_follows in
+    let followed = subst (λ bytes. g.A.Links.follows heap.system (events bytes c.in_err-grant.field-0.0) c.alloc.new.self)
+    c.asked-asked.ensures.asked denied.err_follows in
     if_err c.from_residual.result _ c.from_residual.ensures.1
     (as_it_was g.A.Links.regions g.A.Links.word heap c.requires.sound c.index_stays.ensures denied.err denied.words followed denied.err_refuses)
 
@@ -72,7 +73,8 @@ returns-in-Some-clause-cut g c = λ at is.
     let regions = g.A.Links.regions in let word = g.A.Links.word in let heap = c.args.self.now in
     let grant = c.in_ok-grant.grant in let given = c.in_ok-grant.ensures in let asked = c.asked-asked.result in
     let middle = c.alloc.new.self in let new = c.put_before.new.self in let put = c.put_before.ensures.put in
-    let followed = g.A.Links.follows_on heap.system middle new.system (Granted asked grant ∷ []) [] (Granted asked grant ∷ []) given.follows put.followed refl in
+    let followed = g.A.Links.follows_on heap.system middle new.system (Granted asked grant ∷ []) []
+    (Granted asked grant ∷ []) given.follows put.followed refl in
     let at_is : grant.base ≡ at = ap (λ o. unwrap_or o grant.base) is in
     subst (λ a. IsCutOut regions word g.A.Allocator.zeros g.A.Links.follows heap c.args.n a new) at_is
     (cut_before c.requires.sound c.requires.least c.asked-asked.ensures.enough c.requires.none given.good given.apart given.regions given.words given.zeros
@@ -86,7 +88,8 @@ returns-in-None-clause-top g c = λ is.
     let least = c.requires.least in let middle = c.alloc.new.self in let new = c.join.new.self in
     let joined = c.join.ensures.joined in let long = given.good.long in let room = joined.room in
     let same = same g (goal.at.returns-in-None-clause-top g c).In_ok-grant in
-    let followed = g.A.Links.follows_on heap.system middle new.system (Granted asked grant ∷ []) [] (Granted asked grant ∷ []) given.follows joined.followed refl in
+    let followed = g.A.Links.follows_on heap.system middle new.system (Granted asked grant ∷ []) []
+    (Granted asked grant ∷ []) given.follows joined.followed refl in
     record {
       grant = grant;
       followed = subst (λ bytes. g.A.Links.follows heap.system (Granted bytes grant ∷ []) new.system) c.asked-asked.ensures.asked followed;
@@ -100,7 +103,8 @@ returns-in-None-clause-top g c = λ is.
       with_it = joined.regions_same ∙ given.regions;
       fresh = given.apart;
       used = subst (λ s. HasSameUsed s (state_of word new)) same joined.used;
-      words = λ k inside was own recorded. joined.words k (word_kept grant given.regions inside) (λ f. was (subst (λ s. IsInFree s k) same f)) own recorded ∙ given.words k inside;
+      words = λ k inside was own recorded. joined.words k (word_kept grant given.regions inside)
+          (λ f. was (subst (λ s. IsInFree s k) same f)) own recorded ∙ given.words k inside;
       new_words = λ zeros k low high multiple a b. joined.new_words k (word_new grant (regions heap.system) given.regions k low high multiple) low high a b
           ∙ given.zeros zeros k low high multiple;
     }
@@ -112,8 +116,11 @@ returns-in_err-grant-clause-linked g c =
 
 pub returns-in_err-grant-clause-order : goal.returns-in_err-grant-clause-order
 returns-in_err-grant-clause-order g c = λ b.
-    let denied = c.in_err-grant.ensures in
-    (as_binned g.A.Links.regions g.A.Links.word c.args.self.now c.requires.sound c.index_stays.ensures c.alloc.new.self denied.err denied.words b, order_same b.index)
+    let denied = c.in_err-grant.ensures in (
+      as_binned g.A.Links.regions g.A.Links.word c.args.self.now c.requires.sound c.index_stays.ensures c.alloc.new.self
+          denied.err denied.words b,
+      order_same b.index,
+    )
 
 pub returns-in-Some-clause-order : goal.returns-in-Some-clause-order
 returns-in-Some-clause-order g c = λ b. c.put_before.ensures.order (binned g (goal.at.returns-in-Some-clause-order g c).In_ok-grant b)

@@ -58,7 +58,11 @@ returns-clause-visited g c = λ chained.
     let unused = last_test (is_own chained.segment) (g.A.Allocator.parts heap.system) (is_unused chained.segment) (sym (c.requires.may chained)) in
     let visited = leaves c.requires.sound chained system (gone g c) (kept g c) c.set_next.ensures.here unused g.A.Links.follows followed in
     let same : c.set_next.new.self ≡ left_heap c.requires.sound chained system (gone g c) (kept g c) c.set_next.ensures.here unused =
-    c.set_next.ensures.fields ∙ ap (λ (now : Dlmalloc g.row.A.Denot). record now { system = system; next = if c.args.before == 0 then told.next else now.next }) c.forget.ensures in
+    c.set_next.ensures.fields ∙ ap (λ (now : Dlmalloc g.row.A.Denot). record now {
+      system = system;
+      next =
+          if c.args.before == 0 then told.next else now.next;
+    }) c.forget.ensures in
     subst (λ (now : Dlmalloc g.row.A.Denot). IsVisited g.A.Links.regions g.A.Links.word g.A.Links.follows true true heap c.args.before told chained now)
     (sym same) visited
 
@@ -68,7 +72,11 @@ returns-clause-free g c =
     let system = c.set_next.new.self.system in
     let unused = last_test (is_own chained.segment) (g.A.Allocator.parts heap.system) (is_unused chained.segment) (sym (c.requires.may chained)) in
     let same : c.set_next.new.self ≡ left_heap c.requires.sound chained system (gone g c) (kept g c) c.set_next.ensures.here unused =
-    c.set_next.ensures.fields ∙ ap (λ (now : Dlmalloc g.row.A.Denot). record now { system = system; next = if c.args.before == 0 then told.next else now.next }) c.forget.ensures in
+    c.set_next.ensures.fields ∙ ap (λ (now : Dlmalloc g.row.A.Denot). record now {
+      system = system;
+      next =
+          if c.args.before == 0 then told.next else now.next;
+    }) c.forget.ensures in
     subst (λ (now : Dlmalloc g.row.A.Denot). FreeMoves (state_of g.A.Links.word heap) (state_of g.A.Links.word now) (told.base ∷ []) []) (sym same)
     (left_free c.requires.sound chained system (gone g c) (kept g c) c.set_next.ensures.here unused)
 

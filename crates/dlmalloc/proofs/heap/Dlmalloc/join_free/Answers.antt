@@ -51,7 +51,10 @@ returns-then-self-to g c =
 pub returns-else-from-self : goal.returns-else-from-self
 returns-else-from-self g c =
     let out : (c.args.self.now.victim < c.args.from) ⊎ (c.args.to ≤ c.args.self.now.victim) =
-    elim c.else-from-self.branch [ else-from-self-via-then-from-self+else-self-to w ↦ inr w.if-self-to.false | else-from-self-via-else-from-self w ↦ inl w.if-from-self.false ] in
+    elim c.else-from-self.branch [
+      | else-from-self-via-then-from-self+else-self-to w ↦ inr w.if-self-to.false
+      | else-from-self-via-else-from-self w ↦ inl w.if-from-self.false
+    ] in
     let o = top_other c.requires.sound c.requires.chunk c.requires.from c.requires.to c.if-to-self.true c.store_counted.new.self c.store_counted.ensures.regions
     c.store_counted.ensures.stored out in
     record {
@@ -90,7 +93,10 @@ pub returns-else-from-self-2 : goal.returns-else-from-self-2
 returns-else-from-self-2 g c =
     let on = goes_on c.requires.sound c.requires.chunk c.requires.from c.requires.to c.if-to-self.false in
     let out : (c.args.self.now.victim < c.args.from) ⊎ (c.args.to ≤ c.args.self.now.victim) =
-    elim c.else-from-self-2.branch [ else-from-self-2-via-then-from-self-2+else-self-to-2 w ↦ inr w.if-self-to-2.false | else-from-self-2-via-else-from-self-2 w ↦ inl w.if-from-self-2.false ] in
+    elim c.else-from-self-2.branch [
+      | else-from-self-2-via-then-from-self-2+else-self-to-2 w ↦ inr w.if-self-to-2.false
+      | else-from-self-2-via-else-from-self-2 w ↦ inl w.if-from-self-2.false
+    ] in
     let o = as_other c.requires.sound c.requires.chunk c.requires.from c.requires.to on c.make_free.new.memory c.make_free.ensures.regions
     c.make_free.ensures.stored out in
     record {

@@ -19,7 +19,8 @@ returns-else-align-le-LEAST_ALIGN-clause-allocated g c =
 
 pub returns-then-align-le-LEAST_ALIGN-clause-counted : goal.returns-then-align-le-LEAST_ALIGN-clause-counted
 returns-then-align-le-LEAST_ALIGN-clause-counted g c = λ some.
-    let few = c.c_malloc.ensures.counted (λ none. some (chosen_low g.A.Links.regions g.A.Links.word c.args.self.now c.args.size c.args.align c.if-align-le-LEAST_ALIGN.true none)) in
+    let few = c.c_malloc.ensures.counted (λ none. some (chosen_low g.A.Links.regions g.A.Links.word c.args.self.now
+    c.args.size c.args.align c.if-align-le-LEAST_ALIGN.true none)) in
     omega arith
 
 pub returns-else-align-le-LEAST_ALIGN-clause-counted : goal.returns-else-align-le-LEAST_ALIGN-clause-counted

@@ -12,8 +12,17 @@ returns-then-size-limit-clause-refused g c =
       | then-size-limit-via-else-size-limit+then-align-limit w ↦ (let t = w.if-align-limit.true in omega arith)
     ] in
     record {
-      refused = too_large (limit c.args.self.now.granularity) c.args.size c.args.align (subst (λ bound. bound ≤ c.args.size + c.args.align) c.max_request-limit.ensures.is more);
-      same = record { followed = search rules; refused = search rules; state = refl; sound = c.requires.intact.sound; regions_same = refl; words = λ k is. refl; index = λ b. (b, λ n. refl) };
+      refused = too_large (limit c.args.self.now.granularity) c.args.size c.args.align
+          (subst (λ bound. bound ≤ c.args.size + c.args.align) c.max_request-limit.ensures.is more);
+      same = record {
+        followed = search rules;
+        refused = search rules;
+        state = refl;
+        sound = c.requires.intact.sound;
+        regions_same = refl;
+        words = λ k is. refl;
+        index = λ b. (b, λ n. refl);
+      };
       untouched = λ large. refl;
     }
 
@@ -28,7 +37,19 @@ returns-in-Ok-clause-served g c =
     let e = c.align_block.ensures in let n = c.request2size-n.ensures in
     let left : IsAligned g.A.Links.regions g.A.Links.word g.A.Links.follows c.c_malloc.new.self c.in-Ok.block c.args.align c.request2size-n.result
     c.align_block.result c.align_block.new.self =
-    record { place = e.place; multiple = e.multiple; state = e.state; held = e.held; others = e.others; kept = e.kept; words = e.words; sound = e.sound; regions_same = e.regions; followed = e.follows; order = e.order } in
+    record {
+      place = e.place;
+      multiple = e.multiple;
+      state = e.state;
+      held = e.held;
+      others = e.others;
+      kept = e.kept;
+      words = e.words;
+      sound = e.sound;
+      regions_same = e.regions;
+      followed = e.follows;
+      order = e.order;
+    } in
     served_aligned c.args.size n.is n.holds n.near c.in-Ok.ensures.served left
 
 pub returns-in-Err-clause-refused : goal.returns-in-Err-clause-refused

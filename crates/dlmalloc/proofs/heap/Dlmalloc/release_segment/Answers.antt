@@ -68,12 +68,14 @@ returns-then-hand_out g c =
     c.args.before told chained new = λ chained. visited_then g.A.Links.follows g.A.Links.follows_on c.requires.sound chained c.unbin.ensures.same
     (subst (λ leaves. IsVisited g.A.Links.regions g.A.Links.word g.A.Links.follows true leaves middle c.args.before told (chain chained) new)
     c.if-hand_out.true (e.visited (chain chained))) in
-    let moves = subst (λ left. FreeMoves (state_of g.A.Links.word middle) (state_of g.A.Links.word new) (if left then told.base ∷ [] else []) []) c.if-hand_out.true e.free in
+    let moves = subst (λ left. FreeMoves (state_of g.A.Links.word middle) (state_of g.A.Links.word new)
+    (if left then told.base ∷ [] else []) []) c.if-hand_out.true e.free in
     let after : (loose : IsBinnedBut (told.base ∷ []) g.A.Links.regions g.A.Links.word middle) → IsBinned g.A.Links.regions g.A.Links.word new = λ loose.
     binned_without c.index_stays.ensures c.unbin.ensures.same.sound (e.visited (chain c.requires.chained)) e.words e.bins moves loose in
     record {
       answer = λ chained. (λ i. takes i && may chained i);
-      visited = λ chained. subst (λ handed. IsVisited g.A.Links.regions g.A.Links.word g.A.Links.follows handed true heap c.args.before told chained new) (may chained) (visited chained);
+      visited = λ chained. subst (λ handed. IsVisited g.A.Links.regions g.A.Links.word g.A.Links.follows handed true heap
+          c.args.before told chained new) (may chained) (visited chained);
       linked = after (c.unbin.ensures.loose [] c.requires.linked (λ none. none)).0;
       index = λ chained b.
           let left = c.unbin.ensures.loose [] b (λ none. none) in let base = base_is c.requires.sound chained in
@@ -119,18 +121,26 @@ returns g c =
     c.args.before told chained new = λ chained. visited_then g.A.Links.follows g.A.Links.follows_on c.requires.sound chained c.unbin.ensures.same
     (subst (λ leaves. IsVisited g.A.Links.regions g.A.Links.word g.A.Links.follows true leaves middle c.args.before told (chain chained) new)
     c.if-hand_out.false (e.visited (chain chained))) in
-    let moves = subst (λ left. FreeMoves (state_of g.A.Links.word middle) (state_of g.A.Links.word new) (if left then told.base ∷ [] else []) []) c.if-hand_out.false e.free in
-    let after : (loose : IsBinnedBut (told.base ∷ []) g.A.Links.regions g.A.Links.word middle) → IsBinnedBut (told.base ∷ []) g.A.Links.regions g.A.Links.word new = λ loose.
+    let moves = subst (λ left. FreeMoves (state_of g.A.Links.word middle) (state_of g.A.Links.word new)
+    (if left then told.base ∷ [] else []) []) c.if-hand_out.false e.free in
+    let after : (loose : IsBinnedBut (told.base ∷ []) g.A.Links.regions g.A.Links.word middle) →
+    IsBinnedBut (told.base ∷ []) g.A.Links.regions g.A.Links.word new = λ loose.
     loose_still c.index_stays.ensures c.unbin.ensures.same.sound (e.visited (chain c.requires.chained)) e.words e.bins moves loose in
     record {
       answer = λ chained. (λ i. takes i && may chained i);
-      visited = λ chained. subst (λ handed. IsVisited g.A.Links.regions g.A.Links.word g.A.Links.follows handed false heap c.args.before told chained c.bin.new.self) (may chained)
+      visited = λ chained. subst (λ handed. IsVisited g.A.Links.regions g.A.Links.word g.A.Links.follows handed false heap
+          c.args.before told chained c.bin.new.self) (may chained)
           (visited_binned g.A.Links.follows g.A.Links.follows_on c.requires.sound chained new (visited chained) c.bin.ensures.same);
       linked = (c.bin.ensures.binned [] (after (c.unbin.ensures.loose [] c.requires.linked (λ none. none)).0) (λ none. none)).0;
       index = λ chained b.
           let left = c.unbin.ensures.loose [] b (λ none. none) in let base = base_is c.requires.sound chained in
           let size = ap (λ n. n - 80) (size_is c.requires.sound chained) in
-          let last = c.bin.ensures.binned [] (after left.0) (λ none. none) in
-          (last.0, λ n. last.1 n ∙ (with_same (told.size - 80) told.base left.0.index (without_chunk (told.size - 80) told.base b.index) n (left.1 n) ∙ visit_kept frees parts chained.segment b.index n base size (may chained) takes));
-      counted = (let tested = c.may_leave.ensures.counted in let left = c.unbin.ensures.counted in let handed = e.counted in let put = c.bin.ensures.counted in omega arith);
+          let last = c.bin.ensures.binned [] (after left.0) (λ none. none) in (
+            last.0,
+            λ n. last.1 n ∙ (with_same (told.size - 80) told.base left.0.index
+                (without_chunk (told.size - 80) told.base b.index) n (left.1 n)
+                ∙ visit_kept frees parts chained.segment b.index n base size (may chained) takes),
+          );
+      counted = (let tested = c.may_leave.ensures.counted in let left = c.unbin.ensures.counted in let handed = e.counted in
+          let put = c.bin.ensures.counted in omega arith);
     }

@@ -44,7 +44,8 @@ loop-payload-preserved g c =
     let chain = chained c.requires.sound c.loop-payload.invariant.0 c.loop-payload-test.true c.record_at-told.ensures.told in
     let answer : c.release_segment.result ≡ (g.A.Allocator.frees old.system && may_leave (g.A.Allocator.parts old.system) one.segment) =
     c.release_segment.ensures.answer chain ∙ (λ i. fixed.frees_same i && may_leave (fixed.parts_same i) one.segment) in
-    let index : IsReindexed g.A.Links.regions g.A.Links.word (after_visit (g.A.Allocator.frees old.system) (g.A.Allocator.parts old.system) one.segment) now c.release_segment.new.self =
+    let index : IsReindexed g.A.Links.regions g.A.Links.word (after_visit (g.A.Allocator.frees old.system)
+    (g.A.Allocator.parts old.system) one.segment) now c.release_segment.new.self =
     subst (λ frees. IsReindexed g.A.Links.regions g.A.Links.word (after_visit frees (g.A.Allocator.parts old.system) one.segment) now
     c.release_segment.new.self) fixed.frees_same (subst (λ parts. IsReindexed g.A.Links.regions g.A.Links.word (after_visit
     (g.A.Allocator.frees now.system) parts one.segment) now c.release_segment.new.self) fixed.parts_same (c.release_segment.ensures.index chain)) in

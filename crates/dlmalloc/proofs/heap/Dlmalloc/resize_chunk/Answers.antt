@@ -53,7 +53,8 @@ returns-then-next-self-clause-resized g c =
     let there = chunk_told c.requires.sound c.requires.chunk.1 c.size-size.ensures.value in
     let more = c.if-n-size.false in let much = c.if-more-self.false in
     let room : nat_lt c.args.n (c.size-size.result + c.args.self.now.top_size) ≡ true = grind (arith, nat_tests) in
-    λ yes. grows (state_of g.A.Links.word c.args.self.now) c.args.n there more (top_behind c.requires.sound there c.if-next-self.true) room ∙ ap Some (sym c.grow_into_top.ensures.state)
+    λ yes. grows (state_of g.A.Links.word c.args.self.now) c.args.n there more
+    (top_behind c.requires.sound there c.if-next-self.true) room ∙ ap Some (sym c.grow_into_top.ensures.state)
 
 pub inuse-requires : goal.inuse-requires
 inuse-requires g c =
@@ -99,7 +100,13 @@ returns-clause-resized g c =
     λ yes. grows (state_of g.A.Links.word c.args.self.now) c.args.n there more free room ∙ ap Some (sym c.grow_into_free.ensures.state)
 
 pub returns-then-inuse-clause-moved : goal.returns-then-inuse-clause-moved
-returns-then-inuse-clause-moved g c = record { sound = c.requires.sound; words = λ k inside was own. refl; regions_same = refl; followed = g.A.Links.follows_none c.args.self.now.system }
+returns-then-inuse-clause-moved g c = record {
+  sound = c.requires.sound;
+  words = λ k inside was own. refl;
+  regions_same =
+      refl;
+  followed = g.A.Links.follows_none c.args.self.now.system;
+}
 
 pub returns-then-free-more-clause-moved : goal.returns-then-free-more-clause-moved
 returns-then-free-more-clause-moved g c =

@@ -25,7 +25,15 @@ returns-then-size-max_request-clause-refused g c =
     let test : nat_le c.args.align 16 ≡ true = grind (arith, nat_tests) in
     record {
       refused = rw test (let is = c.max_request.ensures.is in let more = c.if-size-max_request.true in omega arith);
-      same = record { followed = search rules; refused = search rules; state = refl; sound = c.requires.intact.sound; regions_same = refl; words = λ k is. refl; index = λ b. (b, λ n. refl) };
+      same = record {
+        followed = search rules;
+        refused = search rules;
+        state = refl;
+        sound = c.requires.intact.sound;
+        regions_same = refl;
+        words = λ k is. refl;
+        index = λ b. (b, λ n. refl);
+      };
       untouched = λ large. refl;
     }
 
@@ -41,5 +49,6 @@ returns-clause-counted g c = λ some.
     let same : c.resize_chunk.new.self ≡ old = c.resize_chunk.ensures.same c.if-resize_chunk.false in
     let few = c.resize_chunk.ensures.none_counted c.if-resize_chunk.false in
     let segments = ap (λ heap. pass_steps (state_of g.A.Links.word heap)) same in
-    let moved = c.move_block.ensures.counted (subst (λ heap. chosen (state_of g.A.Links.word heap) (padded (asked c.args.size c.args.align)) ≢ None) (sym same) some) in
+    let moved = c.move_block.ensures.counted (subst (λ heap. chosen (state_of g.A.Links.word heap)
+    (padded (asked c.args.size c.args.align)) ≢ None) (sym same) some) in
     omega arith

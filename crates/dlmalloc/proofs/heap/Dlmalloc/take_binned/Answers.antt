@@ -35,7 +35,8 @@ returns-then-rest-lt-LEAST_CHUNK g c =
     record {
       state = e.state ∙ ap (λ s. taken s (extent c.args.at c.args.size Free) c.args.n) one.same.state;
       more = subst (λ s. HasOneMore s (state_of word new) c.args.at) one.same.state e.more;
-      moved = turned regions word g.A.Links.follows g.A.Links.follows_on one.same e.moved (not_rebinned g.A.Links.follows e.moved.sound (g.A.Links.follows_none new.system));
+      moved = turned regions word g.A.Links.follows g.A.Links.follows_on one.same e.moved
+          (not_rebinned g.A.Links.follows e.moved.sound (g.A.Links.follows_none new.system));
       linked = (order c.requires.linked).0;
       order = order;
       counted = omega arith;

@@ -3,7 +3,8 @@ use Rattle.dlmalloc.proofs.Cuts.Top.{top_head, rest_head, top_taken, top_free, o
 use Rattle.dlmalloc.proofs.heap.Dlmalloc.take_top.Goals as goal
 
 pub set_size_and_pinuse_of_inuse_chunk-requires-clause-head : goal.set_size_and_pinuse_of_inuse_chunk-requires-clause-head
-set_size_and_pinuse_of_inuse_chunk-requires-clause-head g c = top_head c.requires.sound c.requires.there c.args.n c.requires.whole c.requires.least c.requires.fits
+set_size_and_pinuse_of_inuse_chunk-requires-clause-head g c = top_head c.requires.sound c.requires.there c.args.n
+    c.requires.whole c.requires.least c.requires.fits
 
 pub store_counted-requires : goal.store_counted-requires
 store_counted-requires g c = subst (λ rs. IsWordOf rs (c.args.self.now.top + c.args.n + 8)) (sym c.set_size_and_pinuse_of_inuse_chunk.ensures.regions)

@@ -58,12 +58,14 @@ pub returns-then-is_cut-clause-counted : goal.returns-then-is_cut-clause-counted
 returns-then-is_cut-clause-counted g c =
     let start = c.args.self.now.system in let first = c.trim_top-is_cut.ensures.counted in
     let pass = c.release_unused_segments-released.ensures.counted in
-    let same = after_cut_pass (g.A.Allocator.parts start) (g.A.Allocator.unit start) c.args.pad (state_of g.A.Links.word c.args.self.now) c.trim_top-is_cut.ensures.cut.state in
+    let same = after_cut_pass (g.A.Allocator.parts start) (g.A.Allocator.unit start) c.args.pad
+    (state_of g.A.Links.word c.args.self.now) c.trim_top-is_cut.ensures.cut.state in
     omega arith
 
 pub returns-clause-counted : goal.returns-clause-counted
 returns-clause-counted g c =
     let start = c.args.self.now.system in let first = c.trim_top-is_cut.ensures.counted in
     let pass = c.release_unused_segments-released.ensures.counted in
-    let same = after_cut_pass (g.A.Allocator.parts start) (g.A.Allocator.unit start) c.args.pad (state_of g.A.Links.word c.args.self.now) c.trim_top-is_cut.ensures.cut.state in
+    let same = after_cut_pass (g.A.Allocator.parts start) (g.A.Allocator.unit start) c.args.pad
+    (state_of g.A.Links.word c.args.self.now) c.trim_top-is_cut.ensures.cut.state in
     omega arith

@@ -4,7 +4,10 @@ use Rattle.dlmalloc.proofs.Names.{refl}
 use Rattle.dlmalloc.proofs.heap.Dlmalloc.unbin.Goals as goal
 
 pub returns-then-at-self-clause-loose : goal.returns-then-at-self-clause-loose
-returns-then-at-self-clause-loose g c = λ loose b apart. (victim_loose c.requires.sound c.requires.free b c.if-at-self.true, λ n. none_left c.args.size c.args.at b.index n (λ is. b.holds.no_victim c.args.at n is c.if-at-self.true))
+returns-then-at-self-clause-loose g c = λ loose b apart. (
+  victim_loose c.requires.sound c.requires.free b c.if-at-self.true,
+  λ n. none_left c.args.size c.args.at b.index n (λ is. b.holds.no_victim c.args.at n is c.if-at-self.true),
+)
 
 pub returns-then-at-self-clause-same : goal.returns-then-at-self-clause-same
 returns-then-at-self-clause-same g c = not_rebinned g.A.Links.follows c.requires.sound (g.A.Links.follows_none c.args.self.now.system)

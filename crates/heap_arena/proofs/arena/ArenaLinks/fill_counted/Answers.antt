@@ -32,7 +32,8 @@ returns-clause-filled g c =
     let within : place + n ≤ length words = omega (arith, fits) in
     record {
       here = λ k above below k_whole.
-          inside words part place n ((k - base) / 8) within many (omega (arith, above, low, whole, begin, k_whole)) (omega (arith, above, below, low, whole, begin, k_whole))
+          inside words part place n ((k - base) / 8) within many (omega (arith, above, low, whole, begin, k_whole))
+          (omega (arith, above, below, low, whole, begin, k_whole))
           ∙ (ap (λ (ws : List ℕ). get_or ws ((k - base) / 8 - place) 0) filled
           ∙ get_or-replicate n ((k - base) / 8 - place) c.args.value 0 (omega (arith, above, below, low, whole, begin, k_whole)));
       elsewhere = λ other is beside.

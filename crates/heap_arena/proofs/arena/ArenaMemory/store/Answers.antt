@@ -20,7 +20,8 @@ returns-clause-stored c =
       elsewhere = λ other is differ.
           let other_within = granted_between base arena.top (regions_of arena) other arena.between is.granted in
           let other_whole = is.aligned in
-          word_put other ∙ get_or-set_other words ((at - base) / 8) ((other - base) / 8) c.args.value 0 (λ same. differ (omega (arith, same, within.0, other_within.0, begin, whole, other_whole)));
+          word_put other ∙ get_or-set_other words ((at - base) / 8) ((other - base) / 8) c.args.value 0
+          (λ same. differ (omega (arith, same, within.0, other_within.0, begin, whole, other_whole)));
     }
 
 pub returns-clause-others : goal.returns-clause-others
@@ -29,7 +30,8 @@ returns-clause-others c = λ i beside.
     let within = granted_between arena.base arena.top (regions_of arena) c.args.at arena.between c.requires.granted in
     let begin = arena.aligned in
     let whole = c.requires.aligned in
-    ap (λ (ws : List ℕ). get_or ws i 0) c.put_word.ensures ∙ get_or-set_other arena.words.now ((c.args.at - arena.base) / 8) i c.args.value 0 (λ same. elim beside [
+    ap (λ (ws : List ℕ). get_or ws i 0) c.put_word.ensures ∙ get_or-set_other arena.words.now ((c.args.at - arena.base) / 8)
+    i c.args.value 0 (λ same. elim beside [
       | inl before ↦ omega (arith, same, before, within.0, begin, whole)
       | inr behind ↦ omega (arith, same, behind, within.0, begin, whole)
     ])
@@ -40,4 +42,5 @@ returns-clause-follows c =
     let within = granted_between arena.base arena.top (regions_of arena) c.args.at arena.between c.requires.granted in
     let top = arena.top_aligned in
     let whole = c.requires.aligned in
-    kept_after arena _ c.args.at 1 (record { base = refl; len = search rules; table = refl }) refl refl (omega (arith, within.1, top, whole)) (returns-clause-others c)
+    kept_after arena _ c.args.at 1 (record { base = refl; len = search rules; table = refl }) refl refl
+    (omega (arith, within.1, top, whole)) (returns-clause-others c)

@@ -11,7 +11,9 @@ pub invariant_of-self-clause-whole : goal.invariant_of-self-clause-whole
 invariant_of-self-clause-whole c =
     let arena = c.args.self.now in
     let grant : Grant = record { base = arena.top; size = c.args.size; flags = 0 } in
-    rw c.push.ensures.grants (whole_more arena.base arena.top grant (regions_of arena) (omega arith) arena.between (let top = arena.top_aligned in let begins = arena.begins in let low = arena.low in let high = arena.high in let size = c.requires.whole in let some = c.requires.some in grind (arith, nat_tests)) arena.whole)
+    rw c.push.ensures.grants (whole_more arena.base arena.top grant (regions_of arena) (omega arith) arena.between
+    (let top = arena.top_aligned in let begins = arena.begins in let low = arena.low in let high = arena.high in
+    let size = c.requires.whole in let some = c.requires.some in grind (arith, nat_tests)) arena.whole)
 
 pub invariant_of-self-clause-ordered : goal.invariant_of-self-clause-ordered
 invariant_of-self-clause-ordered c =
@@ -23,7 +25,8 @@ pub invariant_of-self-clause-between : goal.invariant_of-self-clause-between
 invariant_of-self-clause-between c =
     let arena = c.args.self.now in
     let grant : Grant = record { base = arena.top; size = c.args.size; flags = 0 } in
-    rw c.push.ensures.grants (between_more arena.base arena.top (arena.top + c.args.size) (regions_of arena) grant arena.between arena.begins (omega arith) (omega arith))
+    rw c.push.ensures.grants (between_more arena.base arena.top (arena.top + c.args.size) (regions_of arena) grant
+    arena.between arena.begins (omega arith) (omega arith))
 
 pub returns-clause-follows : goal.returns-clause-follows
 returns-clause-follows c =

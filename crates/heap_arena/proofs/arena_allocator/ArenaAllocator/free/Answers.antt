@@ -7,7 +7,8 @@ use Rattle.heap_arena.proofs.arena_allocator.ArenaAllocator.free.Goals as goal
 
 pub overflow_add-at : goal.overflow_add-at
 overflow_add-at c =
-    let bounded : c.args.at + c.args.size < 2 ^ 64 = run_bounded c.args.at (c.args.at + c.args.size) (regions_of c.args.self.now) c.requires c.args.self.now.whole in
+    let bounded : c.args.at + c.args.size < 2 ^ 64 = run_bounded c.args.at (c.args.at + c.args.size)
+    (regions_of c.args.self.now) c.requires c.args.self.now.whole in
     omega arith
 
 pub take_back-requires : goal.take_back-requires

@@ -28,4 +28,5 @@ returns-clause-err_follows g c =
     let olds = c.args.self.now.arenas.items in
     let news = c.alloc_among.new.arenas in
     let same = subst (λ (xs : List Arena). OnErr c.alloc_among.result (news ≡ xs)) c.as_mut_slice.ensures.value c.alloc_among.ensures.same in
-    subst (λ (xs : List Arena). IfErr c.alloc_among.result (λ fault. AreAfter olds (Refused c.args.size fault ∷ []) xs)) (sym (refilled olds news (search rules))) (refused_all c.alloc_among.result c.args.size olds news same)
+    subst (λ (xs : List Arena). IfErr c.alloc_among.result (λ fault. AreAfter olds (Refused c.args.size fault ∷ []) xs))
+    (sym (refilled olds news (search rules))) (refused_all c.alloc_among.result c.args.size olds news same)

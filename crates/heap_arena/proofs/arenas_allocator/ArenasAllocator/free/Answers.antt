@@ -12,34 +12,45 @@ use Rattle.heap_arena.proofs.arenas_allocator.ArenasAllocator.free.Goals as goal
 
 pub overflow_add-at : goal.overflow_add-at
 overflow_add-at g c =
-    let bounded : c.args.at + c.args.size < 2 ^ 64 = run_bounded c.args.at (c.args.at + c.args.size) (regions_of_all c.args.self.now.arenas.items) c.requires (all_whole c.args.self.now.arenas.items) in
+    let bounded : c.args.at + c.args.size < 2 ^ 64 = run_bounded c.args.at (c.args.at + c.args.size)
+    (regions_of_all c.args.self.now.arenas.items) c.requires (all_whole c.args.self.now.arenas.items) in
     omega arith
 
 pub take_back_among-requires : goal.take_back_among-requires
 take_back_among-requires g c =
-    let aligned : c.args.at % 16 ≡ 0 = run_aligned c.args.at (c.args.at + c.args.size) (regions_of_all c.args.self.now.arenas.items) c.requires (all_whole c.args.self.now.arenas.items) in
+    let aligned : c.args.at % 16 ≡ 0 = run_aligned c.args.at (c.args.at + c.args.size)
+    (regions_of_all c.args.self.now.arenas.items) c.requires (all_whole c.args.self.now.arenas.items) in
     omega arith
 
 pub invariant_of-self : goal.invariant_of-self
 invariant_of-self g c =
     let olds = c.args.self.now.arenas.items in
     let news = c.take_back_among.new.arenas in
-    let taken = subst (λ (xs : List Arena). AllZip (λ x y. IsTakenBack c.args.at (c.args.at + c.args.size) x y) xs news) c.as_mut_slice.ensures.value c.take_back_among.ensures.taken in
-    let same = zip_map (λ x y. IsTakenBack c.args.at (c.args.at + c.args.size) x y) (λ x y. IsSameArena x y) (λ x y back. taken_same c.args.at (c.args.at + c.args.size) x y back) olds news taken in
+    let taken = subst (λ (xs : List Arena). AllZip (λ x y. IsTakenBack c.args.at (c.args.at + c.args.size) x y) xs news)
+    c.as_mut_slice.ensures.value c.take_back_among.ensures.taken in
+    let same = zip_map (λ x y. IsTakenBack c.args.at (c.args.at + c.args.size) x y) (λ x y. IsSameArena x y)
+    (λ x y back. taken_same c.args.at (c.args.at + c.args.size) x y back) olds news taken in
     record { in_order = rw (refilled olds news (search rules)) (order_same olds news same c.args.self.now.in_order) }
 
 pub returns-clause-words : goal.returns-clause-words
 returns-clause-words g c = λ k is.
     let olds = c.args.self.now.arenas.items in
     let news = c.take_back_among.new.arenas in
-    let taken = subst (λ (xs : List Arena). AllZip (λ x y. IsTakenBack c.args.at (c.args.at + c.args.size) x y) xs news) c.as_mut_slice.ensures.value c.take_back_among.ensures.taken in
-    let same = zip_map (λ x y. IsTakenBack c.args.at (c.args.at + c.args.size) x y) (λ x y. IsSameArena x y) (λ x y back. taken_same c.args.at (c.args.at + c.args.size) x y back) olds news taken in
-    let words = zip_map (λ x y. IsTakenBack c.args.at (c.args.at + c.args.size) x y) (λ x y. y.words.now ≡ x.words.now) (λ x y back. back.words) olds news taken in
+    let taken = subst (λ (xs : List Arena). AllZip (λ x y. IsTakenBack c.args.at (c.args.at + c.args.size) x y) xs news)
+    c.as_mut_slice.ensures.value c.take_back_among.ensures.taken in
+    let same = zip_map (λ x y. IsTakenBack c.args.at (c.args.at + c.args.size) x y) (λ x y. IsSameArena x y)
+    (λ x y back. taken_same c.args.at (c.args.at + c.args.size) x y back) olds news taken in
+    let words = zip_map (λ x y. IsTakenBack c.args.at (c.args.at + c.args.size) x y) (λ x y. y.words.now ≡ x.words.now)
+    (λ x y back. back.words) olds news taken in
     ap (λ (xs : List Arena). word_among xs k) (refilled olds news (search rules)) ∙ words_same olds news same words k
 
 pub returns-clause-follows : goal.returns-clause-follows
 returns-clause-follows g c =
     let olds = c.args.self.now.arenas.items in
     let news = c.take_back_among.new.arenas in
-    let taken = subst (λ (xs : List Arena). AllZip (λ x y. IsTakenBack c.args.at (c.args.at + c.args.size) x y) xs news) c.as_mut_slice.ensures.value c.take_back_among.ensures.taken in
-    rw (refilled olds news (search rules)) (zip_map (λ x y. IsTakenBack c.args.at (c.args.at + c.args.size) x y) (λ x y. IsArenaAfter x (Released c.args.at c.args.size 0 ∷ []) y) (λ x y back. taken_after c.args.at (c.args.at + c.args.size) x y back c.args.at c.args.size 0 (omega arith) refl) olds news taken)
+    let taken = subst (λ (xs : List Arena). AllZip (λ x y. IsTakenBack c.args.at (c.args.at + c.args.size) x y) xs news)
+    c.as_mut_slice.ensures.value c.take_back_among.ensures.taken in
+    rw (refilled olds news (search rules)) (zip_map (λ x y. IsTakenBack c.args.at (c.args.at + c.args.size) x y)
+    (λ x y. IsArenaAfter x (Released c.args.at c.args.size 0 ∷ []) y)
+    (λ x y back. taken_after c.args.at (c.args.at + c.args.size) x y back c.args.at c.args.size 0 (omega arith) refl)
+    olds news taken)

@@ -26,7 +26,8 @@ loop-i-preserved g c =
     let olds : List Arena = c.args.self.now.arenas.items in
     let mids : List Arena = c.loop-i.self.arenas.items in
     let news : List Arena = c.store_counted.new.self.arenas.items in
-    let stored = subst (λ (regions : List Grant). IsStored regions (word_among mids) (c.args.at + 8 * c.loop-i.i) c.args.value (word_among news)) kept.regions c.store_counted.ensures.stored in
+    let stored = subst (λ (regions : List Grant). IsStored regions (word_among mids) (c.args.at + 8 * c.loop-i.i)
+    c.args.value (word_among news)) kept.regions c.store_counted.ensures.stored in
     record {
       filled = filled_more (regions_of_all olds) (word_among olds) (word_among mids) (word_among news) c.args.at c.args.count c.loop-i.i c.args.value
           c.requires c.loop-i-test.true kept.filled stored;

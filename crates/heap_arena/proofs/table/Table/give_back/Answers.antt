@@ -26,18 +26,23 @@ loop-i-preserved c =
     let kept = c.loop-i.invariant.kept in
     elim c.if-not-begins_in.branch [
       | then-not-begins_in w ↦
-          (let stays : begins_in low high (grant_at initial i) ≡ false = ap (λ (g : Grant). begins_in low high g) (sym here) ∙ (sym c.begins_in.ensures ∙ w.if-not-begins_in.true) in
-          let next : grant_at w.set.new.self.words.now c.loop-i.kept ≡ up_to low (grant_at initial i) = w.set.ensures.here ∙ (w.up_to.ensures ∙ ap (λ (g : Grant). up_to low g) here) in
+          (let stays : begins_in low high (grant_at initial i) ≡ false = ap (λ (g : Grant). begins_in low high g) (sym here)
+          ∙ (sym c.begins_in.ensures ∙ w.if-not-begins_in.true) in
+          let next : grant_at w.set.new.self.words.now c.loop-i.kept ≡ up_to low (grant_at initial i) = w.set.ensures.here
+          ∙ (w.up_to.ensures ∙ ap (λ (g : Grant). up_to low g) here) in
           let told = w.kept-is in
           record {
             kept = omega (arith, told, kept);
             count = search rules;
             len = search rules;
-            looked = rw (w.self-is, w.kept-is) (kept_more low high initial old w.set.new.self.words.now i c.loop-i.kept c.loop-i.invariant.looked w.set.ensures.others next stays);
-            ahead = λ k less. rw w.self-is (w.set.ensures.others k (λ same. omega (arith, same, less, kept)) ∙ c.loop-i.invariant.ahead k (omega (arith, less)));
+            looked = rw (w.self-is, w.kept-is) (kept_more low high initial old w.set.new.self.words.now i c.loop-i.kept
+                c.loop-i.invariant.looked w.set.ensures.others next stays);
+            ahead = λ k less. rw w.self-is (w.set.ensures.others k (λ same. omega (arith, same, less, kept))
+                ∙ c.loop-i.invariant.ahead k (omega (arith, less)));
           })
       | else-not-begins_in w ↦
-          (let leaves : begins_in low high (grant_at initial i) ≡ true = ap (λ (g : Grant). begins_in low high g) (sym here) ∙ (sym c.begins_in.ensures ∙ w.if-not-begins_in.false) in
+          (let leaves : begins_in low high (grant_at initial i) ≡ true = ap (λ (g : Grant). begins_in low high g) (sym here)
+          ∙ (sym c.begins_in.ensures ∙ w.if-not-begins_in.false) in
           let told = w.kept-is in
           record {
             kept = omega (arith, told, kept);

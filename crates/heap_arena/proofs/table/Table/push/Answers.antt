@@ -10,5 +10,6 @@ returns-clause-grants c =
     let words = c.set.new.self.words.now in
     ap (λ (n : ℕ). grants words (n + 1)) c.set.ensures.count
     ∙ (grants_more words old.count
-    ∙ (ap (λ (rs : List Grant). rs ++ grant_at words old.count ∷ []) (grants_same old.words.now words old.count (λ k less. c.set.ensures.others k (λ same. omega (arith, less, same))))
+    ∙ (ap (λ (rs : List Grant). rs ++ grant_at words old.count ∷ []) (grants_same old.words.now words old.count
+    (λ k less. c.set.ensures.others k (λ same. omega (arith, less, same))))
     ∙ ap (λ (g : Grant). grants old.words.now old.count ++ g ∷ []) c.set.ensures.here))

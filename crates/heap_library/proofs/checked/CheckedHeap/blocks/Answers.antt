@@ -9,4 +9,5 @@ pub returns : goal.returns
 returns c =
     let marks = c.self.inside.marks in
     subst (λ heap. HasBlocks (heap_state heap) c.count.result) c.self.view_is
-    (has_blocks (heap_state c.self.inside.heap) (is_marked marks.base marks.words.now) c.count.result c.self.invariant.blocks c.self.invariant.marked (c.count.ensures ∙ c.self.invariant.count_is))
+    (has_blocks (heap_state c.self.inside.heap) (is_marked marks.base marks.words.now) c.count.result
+    c.self.invariant.blocks c.self.invariant.marked (c.count.ensures ∙ c.self.invariant.count_is))

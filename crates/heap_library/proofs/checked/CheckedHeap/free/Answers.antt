@@ -20,8 +20,10 @@ clear-requires-clause-marked c =
 pub invariant_of-self : goal.invariant_of-self
 invariant_of-self c =
     let block = subst (λ heap. HasBlock (heap_state heap) c.args.address) (sym c.self.view_is) (c.has_block.ensures.0 c.if-not-has_block.false) in
-    freed_marked c.free.new.self c.self.invariant c.clear.new.self.base c.clear.new.self.words.now c.clear.new.self.count c.clear.ensures.base c.clear.ensures.len c.clear.ensures.counted
+    freed_marked c.free.new.self c.self.invariant c.clear.new.self.base c.clear.new.self.words.now c.clear.new.self.count
+    c.clear.ensures.base c.clear.ensures.len c.clear.ensures.counted
     c.args.address block c.free.ensures.freed c.clear.ensures.here c.clear.ensures.others
 
 pub returns-clause-freed : goal.returns-clause-freed
-returns-clause-freed c = λ is. subst (λ heap. IsFreed regions_of word_of follows true true 1 heap c.args.address c.free.new.self) c.self.view_is c.free.ensures.freed
+returns-clause-freed c = λ is. subst (λ heap. IsFreed regions_of word_of follows true true 1 heap c.args.address
+    c.free.new.self) c.self.view_is c.free.ensures.freed

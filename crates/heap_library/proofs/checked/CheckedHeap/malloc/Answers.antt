@@ -18,17 +18,20 @@ mark-requires-clause-granted c = let out = c.in-Ok.ensures.ok in out.granted c.i
 
 pub invariant_of-self : goal.invariant_of-self
 invariant_of-self c =
-    made_marked c.malloc.new.self c.self.invariant c.mark.new.marks.base c.mark.new.marks.words.now c.mark.new.marks.count c.mark.ensures.base c.mark.ensures.len c.mark.ensures.counted
+    made_marked c.malloc.new.self c.self.invariant c.mark.new.marks.base c.mark.new.marks.words.now c.mark.new.marks.count
+    c.mark.ensures.base c.mark.ensures.len c.mark.ensures.counted
     c.args.size c.args.align c.in-Ok.address c.in-Ok.ensures.ok c.mark.ensures.here c.mark.ensures.others
 
 pub invariant_of-self-in-Err : goal.invariant_of-self-in-Err
 invariant_of-self-in-Err c = unserved_marked c.malloc.new.self c.self.invariant c.args.size c.args.align c.in-Err.error c.in-Err.ensures.err
 
 pub returns-in-Ok-clause-served : goal.returns-in-Ok-clause-served
-returns-in-Ok-clause-served c = subst (λ heap. IsServedAt regions_of word_of zeros follows heap c.args.size c.args.align c.in-Ok.address c.malloc.new.self) c.self.view_is c.in-Ok.ensures.served
+returns-in-Ok-clause-served c = subst (λ heap. IsServedAt regions_of word_of zeros follows heap c.args.size c.args.align
+    c.in-Ok.address c.malloc.new.self) c.self.view_is c.in-Ok.ensures.served
 
 pub returns-in-Err-clause-err : goal.returns-in-Err-clause-err
-returns-in-Err-clause-err c = subst (λ heap. IsRequestRefused regions_of word_of follows refuses denies heap c.args.size c.args.align c.in-Err.error c.malloc.new.self) c.self.view_is c.in-Err.ensures.err
+returns-in-Err-clause-err c = subst (λ heap. IsRequestRefused regions_of word_of follows refuses denies heap c.args.size
+    c.args.align c.in-Err.error c.malloc.new.self) c.self.view_is c.in-Err.ensures.err
 
 pub returns-in-Ok-clause-ok : goal.returns-in-Ok-clause-ok
 returns-in-Ok-clause-ok c =
@@ -37,9 +40,13 @@ returns-in-Ok-clause-ok c =
 
 pub returns-in-Ok-clause-refused : goal.returns-in-Ok-clause-refused
 returns-in-Ok-clause-refused c =
-    let served = not_refused c.self.inside.heap c.malloc.new.self c.args.size c.args.align c.in-Ok.address c.in-Ok.ensures.power c.in-Ok.ensures.ok.small c.in-Ok.ensures.served in
+    let served = not_refused c.self.inside.heap c.malloc.new.self c.args.size c.args.align c.in-Ok.address
+    c.in-Ok.ensures.power c.in-Ok.ensures.ok.small c.in-Ok.ensures.served in
     (λ none. absurd (cc), λ refused. absurd (served (subst (λ heap. IsRefused heap c.args.size c.args.align) (sym c.self.view_is) refused)))
 
 pub returns-in-Err-clause-refused : goal.returns-in-Err-clause-refused
-returns-in-Err-clause-refused c =
-    (λ _. subst (λ heap. IsRefused heap c.args.size c.args.align) c.self.view_is (refused_for c.self.inside.heap c.malloc.new.self c.args.size c.args.align c.in-Err.error c.in-Err.ensures.err), λ _. refl)
+returns-in-Err-clause-refused c = (
+  λ _. subst (λ heap. IsRefused heap c.args.size c.args.align) c.self.view_is
+      (refused_for c.self.inside.heap c.malloc.new.self c.args.size c.args.align c.in-Err.error c.in-Err.ensures.err),
+  λ _. refl,
+)

@@ -32,13 +32,15 @@ pub mark-requires-clause-unmarked : goal.mark-requires-clause-unmarked
 mark-requires-clause-unmarked c =
     let heap = c.self.inside.heap in
     let block = subst (λ heap. HasBlock (heap_state heap) c.args.from) (sym c.self.view_is) (c.has_block.ensures.0 c.if-not-has_block.false) in
-    moved_unmarked c.realloc.new.self c.self.invariant c.args.from (usable (heap_state heap) c.args.from) c.args.size c.in-Ok.to c.clear.new.self.base c.clear.new.self.words.now
+    moved_unmarked c.realloc.new.self c.self.invariant c.args.from (usable (heap_state heap) c.args.from) c.args.size
+    c.in-Ok.to c.clear.new.self.base c.clear.new.self.words.now
     block c.in-Ok.ensures.ok c.clear.ensures.here c.clear.ensures.others
 
 pub mark-requires-clause-base : goal.mark-requires-clause-base
 mark-requires-clause-base c =
     let heap = c.self.inside.heap in
-    (resized_same heap c.realloc.new.self c.args.from (usable (heap_state heap) c.args.from) c.args.size c.in-Ok.to c.in-Ok.ensures.ok).base ∙ (c.self.invariant.base_is ∙ sym c.clear.ensures.base)
+    (resized_same heap c.realloc.new.self c.args.from (usable (heap_state heap) c.args.from) c.args.size c.in-Ok.to
+    c.in-Ok.ensures.ok).base ∙ (c.self.invariant.base_is ∙ sym c.clear.ensures.base)
 
 pub mark-requires-clause-room : goal.mark-requires-clause-room
 mark-requires-clause-room c =
@@ -65,7 +67,8 @@ invariant_of-self-in-Err c =
 pub returns-in-Err-clause-err : goal.returns-in-Err-clause-err
 returns-in-Err-clause-err c =
     let block = subst (λ heap. HasBlock (heap_state heap) c.args.from) (sym c.self.view_is) (c.has_block.ensures.0 c.if-not-has_block.false) in
-    subst (λ heap. IsResizeRefused regions_of word_of follows refuses denies heap c.args.from c.args.size (Refused c.in-Err.error) c.realloc.new.self) c.self.view_is
+    subst (λ heap. IsResizeRefused regions_of word_of follows refuses denies heap c.args.from c.args.size
+    (Refused c.in-Err.error) c.realloc.new.self) c.self.view_is
     (block, c.in-Err.ensures.err, c.in-Err.ensures.tried)
 
 pub returns-in-Ok-clause-ok : goal.returns-in-Ok-clause-ok
@@ -89,7 +92,8 @@ pub returns-in-Ok-clause-refused : goal.returns-in-Ok-clause-refused
 returns-in-Ok-clause-refused c =
     let heap = c.self.inside.heap in
     let block = subst (λ heap. HasBlock (heap_state heap) c.args.from) (sym c.self.view_is) (c.has_block.ensures.0 c.if-not-has_block.false) in
-    let served = resize_not_refused heap c.realloc.new.self c.args.from (usable (heap_state heap) c.args.from) c.args.size c.in-Ok.to block c.in-Ok.ensures.ok.small c.in-Ok.ensures.resized in
+    let served = resize_not_refused heap c.realloc.new.self c.args.from (usable (heap_state heap) c.args.from) c.args.size
+    c.in-Ok.to block c.in-Ok.ensures.ok.small c.in-Ok.ensures.resized in
     (λ none. absurd (cc), λ refused. absurd (served (subst (λ heap. IsRefusedResize heap c.args.from c.args.size) (sym c.self.view_is) refused)))
 
 pub returns-in-Err-clause-refused : goal.returns-in-Err-clause-refused
@@ -97,6 +101,7 @@ returns-in-Err-clause-refused c = (
   λ _.
       let block = subst (λ heap. HasBlock (heap_state heap) c.args.from) (sym c.self.view_is) (c.has_block.ensures.0 c.if-not-has_block.false) in
       subst (λ heap. IsRefusedResize heap c.args.from c.args.size) c.self.view_is
-      (resize_refused_for c.self.inside.heap c.realloc.new.self c.args.from c.args.size (Refused c.in-Err.error) (block, c.in-Err.ensures.err, c.in-Err.ensures.tried)),
+      (resize_refused_for c.self.inside.heap c.realloc.new.self c.args.from c.args.size (Refused c.in-Err.error)
+      (block, c.in-Err.ensures.err, c.in-Err.ensures.tried)),
   λ _. refl,
 )

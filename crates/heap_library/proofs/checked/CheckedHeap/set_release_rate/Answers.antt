@@ -12,8 +12,14 @@ invariant_of-self c =
     let system = c.set_release_rate.ensures.system in
     let state = c.set_release_rate.ensures.state in
     kept_marked c.set_release_rate.new.self c.self.invariant
-    (record { base = ap (λ (a : Arena). a.base) system; len = ap (λ (a : Arena). length a.words.now) system; table = ap (λ (a : Arena). length a.table.words.now) system })
-    (same_blocks (heap_state c.self.inside.heap) (heap_state c.set_release_rate.new.self) (ap extents_in state)) (same_blocks (heap_state c.set_release_rate.new.self) (heap_state c.self.inside.heap) (sym (ap extents_in state)))
+    (record {
+      base = ap (λ (a : Arena). a.base) system;
+      len = ap (λ (a : Arena). length a.words.now) system;
+      table =
+          ap (λ (a : Arena). length a.table.words.now) system;
+    })
+    (same_blocks (heap_state c.self.inside.heap) (heap_state c.set_release_rate.new.self) (ap extents_in state))
+    (same_blocks (heap_state c.set_release_rate.new.self) (heap_state c.self.inside.heap) (sym (ap extents_in state)))
 
 pub returns-clause-index : goal.returns-clause-index
 returns-clause-index c = subst (λ heap. KeepsIndex regions_of word_of heap c.set_release_rate.new.self) c.self.view_is c.set_release_rate.ensures.index

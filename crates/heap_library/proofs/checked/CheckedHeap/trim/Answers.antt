@@ -9,4 +9,7 @@ pub invariant_of-self : goal.invariant_of-self
 invariant_of-self c = trimmed_marked c.trim.new.self c.self.invariant c.args.pad c.trim.result c.trim.ensures.trimmed
 
 pub returns : goal.returns
-returns c = record { trimmed = subst (λ heap. IsTrimmed regions_of word_of follows true true 1 heap c.args.pad c.trim.result c.trim.new.self) c.self.view_is c.trim.ensures.trimmed }
+returns c = record {
+  trimmed = subst (λ heap. IsTrimmed regions_of word_of follows true true 1 heap c.args.pad c.trim.result
+      c.trim.new.self) c.self.view_is c.trim.ensures.trimmed;
+}

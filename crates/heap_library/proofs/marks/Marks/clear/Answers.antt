@@ -19,7 +19,8 @@ overflow_sub-self c =
     let marks = c.args.self.now in
     let n = (c.args.address - marks.base) / 16 in
     let small = c.ranges.address.fits in
-    let less = clear_counted marks.base marks.words.now c.args.address _ (omega (arith, small)) c.requires.place c.requires.marked (bit_cleared (get_or marks.words.now (n / 64) 0) (n % 64) (omega arith)) in
+    let less = clear_counted marks.base marks.words.now c.args.address _ (omega (arith, small)) c.requires.place
+    c.requires.marked (bit_cleared (get_or marks.words.now (n / 64) 0) (n % 64) (omega arith)) in
     let is = c.requires.counted in
     omega (arith, is, less)
 
@@ -28,6 +29,7 @@ returns-clause-counted c =
     let marks = c.args.self.now in
     let n = (c.args.address - marks.base) / 16 in
     let small = c.ranges.address.fits in
-    let less = clear_counted marks.base marks.words.now c.args.address _ (omega (arith, small)) c.requires.place c.requires.marked (bit_cleared (get_or marks.words.now (n / 64) 0) (n % 64) (omega arith)) in
+    let less = clear_counted marks.base marks.words.now c.args.address _ (omega (arith, small)) c.requires.place
+    c.requires.marked (bit_cleared (get_or marks.words.now (n / 64) 0) (n % 64) (omega arith)) in
     let is = c.requires.counted in
     omega (arith, is, less)

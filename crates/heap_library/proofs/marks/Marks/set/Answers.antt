@@ -19,7 +19,8 @@ overflow_add-self c =
     let marks = c.args.self.now in
     let n = (c.args.address - marks.base) / 16 in
     let small = c.ranges.address.fits in
-    let told = set_counted marks.base marks.words.now c.args.address _ (omega (arith, small)) c.requires.some c.requires.place c.requires.unmarked (bit_set (get_or marks.words.now (n / 64) 0) (n % 64) (omega arith)) in
+    let told = set_counted marks.base marks.words.now c.args.address _ (omega (arith, small)) c.requires.some
+    c.requires.place c.requires.unmarked (bit_set (get_or marks.words.now (n / 64) 0) (n % 64) (omega arith)) in
     let is = c.requires.counted in
     let more = told.0 in
     let below = told.1 in
@@ -30,7 +31,8 @@ returns-clause-counted c =
     let marks = c.args.self.now in
     let n = (c.args.address - marks.base) / 16 in
     let small = c.ranges.address.fits in
-    let told = set_counted marks.base marks.words.now c.args.address _ (omega (arith, small)) c.requires.some c.requires.place c.requires.unmarked (bit_set (get_or marks.words.now (n / 64) 0) (n % 64) (omega arith)) in
+    let told = set_counted marks.base marks.words.now c.args.address _ (omega (arith, small)) c.requires.some
+    c.requires.place c.requires.unmarked (bit_set (get_or marks.words.now (n / 64) 0) (n % 64) (omega arith)) in
     let is = c.requires.counted in
     let more = told.0 in
     omega (arith, is, more)

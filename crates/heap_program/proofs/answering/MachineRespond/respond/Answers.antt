@@ -22,8 +22,10 @@ returns-in_ok-answer-in-Some c =
           record {
             answers = Some answer ∷ [];
             state = after s call answer;
-            run = subst (λ (item : Option Call). RunsTo s (item ∷ []) (Some answer ∷ []) (after s call answer)) (sym c.in-Some.is) (record { run = ((st.allowed, st.good), tt); last = refl });
-            steps = subst (λ (item : Option Call). StepsTo c.args.self.now (item ∷ []) (Some answer ∷ []) c.step.new.self) (sym c.in-Some.is) (step_one c.args.self.now c.step.new.self call answer c.in_ok-answer-in-Some.ensures.ok);
+            run = subst (λ (item : Option Call). RunsTo s (item ∷ []) (Some answer ∷ []) (after s call answer))
+                (sym c.in-Some.is) (record { run = ((st.allowed, st.good), tt); last = refl });
+            steps = subst (λ (item : Option Call). StepsTo c.args.self.now (item ∷ []) (Some answer ∷ []) c.step.new.self)
+                (sym c.in-Some.is) (step_one c.args.self.now c.step.new.self call answer c.in_ok-answer-in-Some.ensures.ok);
             at = record { good = st.good; stands = st.stands };
             text = sym (append-nil (line_text (Some answer)));
           };
@@ -39,7 +41,8 @@ returns-in-None c =
         answers = None ∷ [];
         state = s;
         run = subst (λ (item : Option Call). RunsTo s (item ∷ []) (None ∷ []) s) (sym c.in-None.is) (record { run = (tt, tt); last = refl });
-        steps = subst (λ (item : Option Call). StepsTo c.args.self.now (item ∷ []) (None ∷ []) c.args.self.now) (sym c.in-None.is) (c.args.self.now, refl, refl);
+        steps = subst (λ (item : Option Call). StepsTo c.args.self.now (item ∷ []) (None ∷ []) c.args.self.now)
+            (sym c.in-None.is) (c.args.self.now, refl, refl);
         at = at;
         text = refl;
       };

@@ -20,7 +20,9 @@ returns-clause-drawn c =
       given = ap (λ (n : ℕ). c.args.self.now.given + n) (c.numbers_given.ensures ∙ ap (λ (k : Call). numbers_given k answer.reply) same);
       refused = ap (λ (n : ℕ). c.args.self.now.refused + n) c.refusals.ensures;
       state = after s call answer;
-      run = subst (λ (k : Call). RunsTo s (Some k ∷ []) (Some answer ∷ []) (after s call answer)) same (record { run = ((st.allowed, st.good), tt); last = refl });
-      steps = subst (λ (k : Call). StepsTo c.args.self.now.machine (Some k ∷ []) (Some answer ∷ []) c.step.new.self) same (step_one c.args.self.now.machine c.step.new.self call answer c.in_ok-answer.ensures.ok);
+      run = subst (λ (k : Call). RunsTo s (Some k ∷ []) (Some answer ∷ []) (after s call answer)) same
+          (record { run = ((st.allowed, st.good), tt); last = refl });
+      steps = subst (λ (k : Call). StepsTo c.args.self.now.machine (Some k ∷ []) (Some answer ∷ []) c.step.new.self) same
+          (step_one c.args.self.now.machine c.step.new.self call answer c.in_ok-answer.ensures.ok);
       at = record { good = st.good; stands = st.stands };
     }

@@ -19,4 +19,5 @@ returns c =
       | no all ↦ inl (omega (arith, all))
     ] in
     let P : List ℕ → Type 0 = λ l. (rest : List ℕ) → items_of (l ++ (bytes ++ rest)) ≡ items_of (c.extend_from_slice.new.self.items ++ rest) in
-    subst P c.self.view_is (λ rest. items-cut line bytes n rest c.self.invariant c.requires enough ∙ ap (λ (l : List ℕ). items_of (l ++ rest)) (sym c.in_ok-extend_from_slice.ensures.items))
+    subst P c.self.view_is (λ rest. items-cut line bytes n rest c.self.invariant c.requires enough
+    ∙ ap (λ (l : List ℕ). items_of (l ++ rest)) (sym c.in_ok-extend_from_slice.ensures.items))

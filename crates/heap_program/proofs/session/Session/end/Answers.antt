@@ -9,7 +9,8 @@ returns-then-is_empty g c =
     let line = c.args.self.now.line in
     let same : c.bytes.result.now ≡ line = c.bytes.ensures.value in
     let none : length c.bytes.result.now ≡ 0 = true-eqb (length c.bytes.result.now) 0 (sym (sym c.is_empty.ensures ∙ c.if-is_empty.true)) in
-    no_line g.R.Respond.responds c.args.self.now.responder line (string_bytes c.args.self.now.output) (sym (ap length same) ∙ none) (g.met.R.Respond.responds_none c.args.self.now.responder)
+    no_line g.R.Respond.responds c.args.self.now.responder line (string_bytes c.args.self.now.output)
+    (sym (ap length same) ∙ none) (g.met.R.Respond.responds_none c.args.self.now.responder)
 
 pub returns : goal.returns
 returns g c =
@@ -17,5 +18,7 @@ returns g c =
     let same : c.bytes.result.now ≡ line = c.bytes.ensures.value in
     let one : IsOneLine line = c.bytes.ensures.one_line in
     let some : 0 < length line = omega (arith, ap length same, false-eqb (length c.bytes.result.now) 0 (sym (sym c.is_empty.ensures ∙ c.if-is_empty.false))) in
-    on_ok_weaker c.respond_to_line.result (last_line g.R.Respond.responds c.args.self.now.responder c.respond_to_line.new.self.responder line (string_bytes c.args.self.now.output) (string_bytes c.respond_to_line.new.self.output) one some)
+    on_ok_weaker c.respond_to_line.result (last_line g.R.Respond.responds c.args.self.now.responder
+    c.respond_to_line.new.self.responder line (string_bytes c.args.self.now.output)
+    (string_bytes c.respond_to_line.new.self.output) one some)
     c.respond_to_line.ensures.responded

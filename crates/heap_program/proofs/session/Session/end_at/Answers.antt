@@ -14,5 +14,6 @@ whole_line-requires-clause-none_begun g c =
 
 pub returns : goal.returns
 returns g c =
-    on_ok_weaker c.end_line.result (advanced_more g.R.Respond.responds g.met.R.Respond.responds_on c.args.self.now c.go_on.new.self c.end_line.new.self c.args.bytes.now (10 ∷ []) c.in_ok-go_on.ensures)
+    on_ok_weaker c.end_line.result (advanced_more g.R.Respond.responds g.met.R.Respond.responds_on c.args.self.now
+    c.go_on.new.self c.end_line.new.self c.args.bytes.now (10 ∷ []) c.in_ok-go_on.ensures)
     c.end_line.ensures

@@ -7,5 +7,6 @@ returns g c =
     record {
       told = h.told;
       output = h.output;
-      responded = responded_line g.R.Respond.responds c.args.self.now.responder c.respond_to_line.new.self.responder c.args.self.now.line h.told c.clear.new.self c.respond_to_line.ensures.one_line c.clear.ensures h.responses;
+      responded = responded_line g.R.Respond.responds c.args.self.now.responder c.respond_to_line.new.self.responder
+          c.args.self.now.line h.told c.clear.new.self c.respond_to_line.ensures.one_line c.clear.ensures h.responses;
     }

@@ -19,7 +19,8 @@ loop-done-preserved g c =
     let within = c.loop-done.invariant.1 in
     let b = subst (λ (l : List ℕ). Advanced g.R.Respond.responds c.loop-done.self c.feed_line.new.self (take n l)) rest c.in_ok-done.ensures.fed in (
       subst (Advanced g.R.Respond.responds c.args.self.now c.feed_line.new.self) (sym (take-add done n piece))
-          (advanced_more g.R.Respond.responds g.met.R.Respond.responds_on c.args.self.now c.loop-done.self c.feed_line.new.self (take done piece) (take n (drop done piece)) c.loop-done.invariant.0 b),
+          (advanced_more g.R.Respond.responds g.met.R.Respond.responds_on c.args.self.now c.loop-done.self
+          c.feed_line.new.self (take done piece) (take n (drop done piece)) c.loop-done.invariant.0 b),
       omega (arith, few, within, length-drop done piece),
     )
 

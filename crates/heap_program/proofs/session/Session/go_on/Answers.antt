@@ -8,5 +8,6 @@ pub returns : goal.returns
 returns g c = on_ok_weaker c.extend.result (λ same. record {
   told = [];
   output = sym (append-nil (string_bytes c.args.self.now.output));
-  responded = responded_part g.R.Respond.responds c.args.self.now.responder c.args.self.now.line c.extend.new.self c.args.bytes.now same (g.met.R.Respond.responds_none c.args.self.now.responder);
+  responded = responded_part g.R.Respond.responds c.args.self.now.responder c.args.self.now.line c.extend.new.self
+      c.args.bytes.now same (g.met.R.Respond.responds_none c.args.self.now.responder);
 }) c.extend.ensures

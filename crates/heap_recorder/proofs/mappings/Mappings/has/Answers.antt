@@ -18,11 +18,13 @@ returns-in_default-mapping_at c =
     let place : get nat_cmp c.self.inside.places c.args.start ≡ Some c.in-Some.place = search rules in
     let none : slice_get c.self.inside.mappings.items c.in-Some.place ≡ None = search rules in
     subst (λ (all : List Mapping). false ≡ is_some (find (begins_at c.args.start) all)) c.self.view_is
-    (has_none c.args.start c.self.inside.mappings.items (missed_past_end c.self.inside.mappings.items c.self.inside.places c.args.start c.in-Some.place c.self.invariant place none))
+    (has_none c.args.start c.self.inside.mappings.items (missed_past_end c.self.inside.mappings.items c.self.inside.places
+    c.args.start c.in-Some.place c.self.invariant place none))
 
 pub returns : goal.returns
 returns c =
     let place : get nat_cmp c.self.inside.places c.args.start ≡ Some c.in-Some.place = search rules in
     let mapping : slice_get c.self.inside.mappings.items c.in-Some.place ≡ Some c.in-Some-mapping_at.mapping = search rules in
     subst (λ (all : List Mapping). c.begins_at.result ≡ is_some (find (begins_at c.args.start) all)) c.self.view_is
-    (has_at c.self.inside.mappings.items c.self.inside.places c.args.start c.in-Some.place c.in-Some-mapping_at.mapping c.begins_at.result c.self.invariant place mapping c.begins_at.ensures)
+    (has_at c.self.inside.mappings.items c.self.inside.places c.args.start c.in-Some.place c.in-Some-mapping_at.mapping
+    c.begins_at.result c.self.invariant place mapping c.begins_at.ensures)

@@ -10,7 +10,8 @@ invariant_of-self-in_err-push c =
     let none : false ≡ is_some (find (begins_at c.args.region.start) c.self.inside.mappings.items) = search rules in
     let same : c.self.inside.mappings.items ≡ c.push.new.self.items = search rules in
     subst (λ (all : List Mapping). ArePlacesByStart all c.insert.new.self) same
-    (others_found c.self.inside.mappings.items c.self.inside.places c.insert.new.self c.args.region.start c.len-place.result c.self.invariant (missed_is c.args.region.start c.self.inside.mappings.items none) c.in_ok-insert.ensures.updates.2)
+    (others_found c.self.inside.mappings.items c.self.inside.places c.insert.new.self c.args.region.start c.len-place.result
+    c.self.invariant (missed_is c.args.region.start c.self.inside.mappings.items none) c.in_ok-insert.ensures.updates.2)
 
 pub invariant_of-self-2 : goal.invariant_of-self-2
 invariant_of-self-2 c =
@@ -20,5 +21,6 @@ invariant_of-self-2 c =
     let place : c.len-place.result ≡ length c.self.inside.mappings.items = search rules in
     subst (λ (all : List Mapping). ArePlacesByStart all c.insert.new.self) more
     (places_mapped c.self.inside.mappings.items c.insert.new.self c.len-place.result put
-    (others_found c.self.inside.mappings.items c.self.inside.places c.insert.new.self c.args.region.start c.len-place.result c.self.invariant (missed_is c.args.region.start c.self.inside.mappings.items none) c.in_ok-insert.ensures.updates.2)
+    (others_found c.self.inside.mappings.items c.self.inside.places c.insert.new.self c.args.region.start c.len-place.result
+    c.self.invariant (missed_is c.args.region.start c.self.inside.mappings.items none) c.in_ok-insert.ensures.updates.2)
     place c.in_ok-insert.ensures.updates.1)

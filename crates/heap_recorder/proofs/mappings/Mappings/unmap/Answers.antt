@@ -12,14 +12,17 @@ pub returns-in_default : goal.returns-in_default
 returns-in_default c =
     let none : get nat_cmp c.self.inside.places c.args.start ≡ None = search rules in
     subst (λ (all : List Mapping). all ≡ unmapped c.args.call c.args.start c.args.pages all) c.self.view_is
-    (unmapped_none c.args.call c.args.start c.args.pages c.self.inside.mappings.items (missed_start c.self.inside.mappings.items c.self.inside.places c.args.start c.self.invariant none))
+    (unmapped_none c.args.call c.args.start c.args.pages c.self.inside.mappings.items
+    (missed_start c.self.inside.mappings.items c.self.inside.places c.args.start c.self.invariant none))
 
 pub returns-in_default-mapping_at : goal.returns-in_default-mapping_at
 returns-in_default-mapping_at c =
     let place : get nat_cmp c.self.inside.places c.args.start ≡ Some c.in-Some.place = search rules in
     let none : slice_get c.self.inside.mappings.items c.in-Some.place ≡ None = search rules in
     subst (λ (all : List Mapping). all ≡ unmapped c.args.call c.args.start c.args.pages all) c.self.view_is
-    (unmapped_none c.args.call c.args.start c.args.pages c.self.inside.mappings.items (missed_past_end c.self.inside.mappings.items c.self.inside.places c.args.start c.in-Some.place c.self.invariant place none))
+    (unmapped_none c.args.call c.args.start c.args.pages c.self.inside.mappings.items
+    (missed_past_end c.self.inside.mappings.items c.self.inside.places c.args.start c.in-Some.place c.self.invariant
+    place none))
 
 pub index_mut-requires : goal.index_mut-requires
 index_mut-requires c =
@@ -30,11 +33,14 @@ index_mut-requires c =
 pub invariant_of-self : goal.invariant_of-self
 invariant_of-self c =
     let mapping : slice_get c.self.inside.mappings.items c.in-Some.place ≡ Some c.in-Some-mapping_at.mapping = search rules in
-    places_unmapped c.self.inside.mappings.items c.self.inside.places c.args.call c.args.start c.args.pages c.in-Some.place c.in-Some-mapping_at.mapping c.unmapped_if.result c.self.invariant mapping c.unmapped_if.ensures
+    places_unmapped c.self.inside.mappings.items c.self.inside.places c.args.call c.args.start c.args.pages c.in-Some.place
+    c.in-Some-mapping_at.mapping c.unmapped_if.result c.self.invariant mapping c.unmapped_if.ensures
 
 pub returns : goal.returns
 returns c =
     let place : get nat_cmp c.self.inside.places c.args.start ≡ Some c.in-Some.place = search rules in
     let mapping : slice_get c.self.inside.mappings.items c.in-Some.place ≡ Some c.in-Some-mapping_at.mapping = search rules in
-    subst (λ (all : List Mapping). slice_set c.self.inside.mappings.items c.in-Some.place c.unmapped_if.result ≡ unmapped c.args.call c.args.start c.args.pages all) c.self.view_is
-    (unmapped_at c.self.inside.mappings.items c.self.inside.places c.args.call c.args.start c.args.pages c.in-Some.place c.in-Some-mapping_at.mapping c.unmapped_if.result c.self.invariant place mapping c.unmapped_if.ensures)
+    subst (λ (all : List Mapping). slice_set c.self.inside.mappings.items c.in-Some.place c.unmapped_if.result ≡ unmapped
+    c.args.call c.args.start c.args.pages all) c.self.view_is
+    (unmapped_at c.self.inside.mappings.items c.self.inside.places c.args.call c.args.start c.args.pages c.in-Some.place
+    c.in-Some-mapping_at.mapping c.unmapped_if.result c.self.invariant place mapping c.unmapped_if.ensures)

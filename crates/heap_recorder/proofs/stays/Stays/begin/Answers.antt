@@ -14,4 +14,5 @@ invariant_of-self-2 c =
     let stays : c.push-2.new.self.items ≡ c.self.inside.stays.items ++ c.new_stay.result ∷ [] = search rules in
     let place : c.len-place.result ≡ length c.self.inside.stays.items = search rules in
     let number : c.new_stay.result.block ≡ length c.self.inside.places.items = search rules in
-    rw (places, stays) (places_begun c.self.inside.stays.items c.self.inside.places.items c.self.inside.first c.len-place.result c.new_stay.result c.self.invariant place number)
+    rw (places, stays) (places_begun c.self.inside.stays.items c.self.inside.places.items c.self.inside.first
+    c.len-place.result c.new_stay.result c.self.invariant place number)

@@ -11,7 +11,11 @@ pub returns-in-Some : goal.returns-in-Some
 returns-in-Some g c = on_ok_weaker c.serve.result (λ served. record {
   told = [];
   output = sym (append-nil (string_bytes c.args._output.now));
-  responses = record { silent = refl; replayed = subst (λ (item : Option Call). IsNoted g.T.Tell.keeps c.args.self.now (calls_in (item ∷ [])) c.serve.new.self) (sym c.in-Some.is) served };
+  responses = record {
+    silent = refl;
+    replayed = subst (λ (item : Option Call).
+        IsNoted g.T.Tell.keeps c.args.self.now (calls_in (item ∷ [])) c.serve.new.self) (sym c.in-Some.is) served;
+  };
 }) c.serve.ensures
 
 -- a bad line changes nothing
@@ -19,5 +23,10 @@ pub returns-in-None : goal.returns-in-None
 returns-in-None g c = record {
   told = [];
   output = sym (append-nil (string_bytes c.args._output.now));
-  responses = record { silent = refl; replayed = subst (λ (item : Option Call). IsNoted g.T.Tell.keeps c.args.self.now (calls_in (item ∷ [])) c.args.self.now) (sym c.in-None.is) (noted_none g.T.Tell.keeps c.args.self.now) };
+  responses = record {
+    silent = refl;
+    replayed = subst (λ (item : Option Call).
+        IsNoted g.T.Tell.keeps c.args.self.now (calls_in (item ∷ [])) c.args.self.now) (sym c.in-None.is)
+        (noted_none g.T.Tell.keeps c.args.self.now);
+  };
 }

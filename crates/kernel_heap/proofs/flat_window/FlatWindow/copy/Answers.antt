@@ -18,9 +18,12 @@ set_word-requires-clause-covered c =
 
 pub loop-i-preserved : goal.loop-i-preserved
 loop-i-preserved c =
-    put_more c.args.self.now c.loop-i.self c.set_word.new.self c.args.to c.loop-i.i (λ k. flat_word c.args.self.now (c.args.from + (k - c.args.to))) c.requires.to_aligned c.loop-i.invariant
+    put_more c.args.self.now c.loop-i.self c.set_word.new.self c.args.to c.loop-i.i
+    (λ k. flat_word c.args.self.now (c.args.from + (k - c.args.to))) c.requires.to_aligned c.loop-i.invariant
     c.set_word.ensures.longer
     (c.set_word.ensures.here ∙ (c.word-word.ensures
-    ∙ next_word c.args.self.now c.loop-i.self c.args.from c.args.to c.args.count c.loop-i.i c.requires.from_aligned c.loop-i.invariant c.requires.apart c.loop-i-test.true
-    (c.requires.from (c.args.from + 8 * c.loop-i.i) (let a = c.requires.from_aligned in omega arith) (omega arith) (let t = c.loop-i-test.true in omega arith))))
+    ∙ next_word c.args.self.now c.loop-i.self c.args.from c.args.to c.args.count c.loop-i.i c.requires.from_aligned
+    c.loop-i.invariant c.requires.apart c.loop-i-test.true
+    (c.requires.from (c.args.from + 8 * c.loop-i.i) (let a = c.requires.from_aligned in omega arith) (omega arith)
+    (let t = c.loop-i-test.true in omega arith))))
     c.set_word.ensures.elsewhere (λ k m low high. c.requires.to k m low (let t = c.loop-i-test.true in omega arith))

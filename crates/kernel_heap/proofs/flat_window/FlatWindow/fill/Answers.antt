@@ -13,4 +13,5 @@ set_word-requires-clause-covered c =
 pub loop-i-preserved : goal.loop-i-preserved
 loop-i-preserved c =
     put_more c.args.self.now c.loop-i.self c.set_word.new.self c.args.at c.loop-i.i (λ k. c.args.value) c.requires.aligned c.loop-i.invariant
-    c.set_word.ensures.longer c.set_word.ensures.here c.set_word.ensures.elsewhere (λ k m low high. c.requires.covered k m low (let t = c.loop-i-test.true in omega arith))
+    c.set_word.ensures.longer c.set_word.ensures.here c.set_word.ensures.elsewhere
+    (λ k m low high. c.requires.covered k m low (let t = c.loop-i-test.true in omega arith))

@@ -20,7 +20,8 @@ pub changed_regions-requires-clause-places : goal.changed_regions-requires-claus
 changed_regions-requires-clause-places c =
     let short = free_shortened c.args.self.now.heap c.free.new.self c.in-Some.live.address c.free.ensures.freed in
     let few = length_cut (paged c.args.self.now.heap.system).regions (paged c.free.new.self.system).regions short.short.cut in
-    let count : c.region_count-count.result ≡ length (paged c.args.self.now.heap.system).regions = c.region_count-count.ensures.count ∙ ap (λ system. length (paged system).regions) c.system.ensures in
+    let count : c.region_count-count.result ≡ length (paged c.args.self.now.heap.system).regions =
+    c.region_count-count.ensures.count ∙ ap (λ system. length (paged system).regions) c.system.ensures in
     let places : c.region_count-count.result ≤ vec_capacity c.reserve.new.self = search rules in
     omega arith
 
@@ -34,7 +35,9 @@ pub returns-clause-ok : goal.returns-clause-ok
 returns-clause-ok c = λ top s good stands.
     let is = sym c.live.ensures ∙ c.in-Some.is in
     rw (c.changed_regions.ensures.heap, c.changed_regions.ensures.blocks, c.end.ensures)
-    (step_ended c.args.self.now.heap c.free.new.self c.args.self.now.blocks.items c.args.number c.in-Some.live c.requires.sound is c.free.ensures.freed c.blocks_are_placed.ensures c.blocks_are_placed-2.ensures s good stands c.changed_regions.result
+    (step_ended c.args.self.now.heap c.free.new.self c.args.self.now.blocks.items c.args.number c.in-Some.live
+    c.requires.sound is c.free.ensures.freed c.blocks_are_placed.ensures c.blocks_are_placed-2.ensures s good stands
+    c.changed_regions.result
     (λ joins few. c.changed_regions.ensures.same (joins ∙ sym c.marks-before.ensures.joins) (few ∙ sym c.marks-before.ensures.pageless))
     (λ other. c.changed_regions.ensures.other (λ joins few. other (joins ∙ c.marks-before.ensures.joins) (few ∙ c.marks-before.ensures.pageless))))
 
@@ -46,7 +49,8 @@ returns-clause-heap c =
 pub returns-in_default-clause-ok : goal.returns-in_default-clause-ok
 returns-in_default-clause-ok c = λ top s good stands.
     let none : live_at c.args.self.now.blocks.items c.args.number ≡ None = search rules in
-    rw c.refused.ensures (step_refused (seen_with top c.args.self.now) s (Free c.args.number) UnknownBlock (ap refuse_block (unknown_same (seen_with top c.args.self.now) s c.args.number stands none)) good stands)
+    rw c.refused.ensures (step_refused (seen_with top c.args.self.now) s (Free c.args.number) UnknownBlock
+    (ap refuse_block (unknown_same (seen_with top c.args.self.now) s c.args.number stands none)) good stands)
 
 pub returns-in_err-reserve-clause-heap_err : goal.returns-in_err-reserve-clause-heap_err
 returns-in_err-reserve-clause-heap_err c = still_err c.from_residual.result c.args.self.now.heap

@@ -37,14 +37,17 @@ hand_out-requires c = let power : is_power_of_two c.args.align ≡ true = search
 
 -- the block is cleared if that is asked for
 served_for : (cleared : Bool) (old : Dlmalloc PagedSystem) (size align address : ℕ) (new : Dlmalloc PagedSystem) →
-    (cleared ≡ false → IsServedAt regions word zeros follows old size align address new) → (cleared ≡ true → IsServedCleared regions word zeros follows old size align address new) →
+    (cleared ≡ false → IsServedAt regions word zeros follows old size align address new) →
+    (cleared ≡ true → IsServedCleared regions word zeros follows old size align address new) →
     IsServedFor cleared old size align address new
 served_for false old size align address new plain all = plain refl
 served_for true old size align address new plain all = all refl
 
 -- how the heap moves is told by the request
-moves_request : (cleared : Bool) (old : NumberedHeap) (size align number address : ℕ) (large : Option (List ℕ)) (new : NumberedHeap) (heap : Dlmalloc PagedSystem) → IsServedFor cleared old.heap size align address heap →
-    IsToldFrom heap new.heap → AreSlotsTold old.heap heap large → IsMemberServed regions word old.heap size align address → HeapMoves old (request cleared size align) (Placed number address) large new
+moves_request : (cleared : Bool) (old : NumberedHeap) (size align number address : ℕ) (large : Option (List ℕ))
+    (new : NumberedHeap) (heap : Dlmalloc PagedSystem) → IsServedFor cleared old.heap size align address heap →
+    IsToldFrom heap new.heap → AreSlotsTold old.heap heap large → IsMemberServed regions word old.heap size align address →
+    HeapMoves old (request cleared size align) (Placed number address) large new
 moves_request false old size align number address large new heap served told slots member = (heap, served, told, slots, member)
 moves_request true old size align number address large new heap served told slots member = (heap, served, told, slots, member)
 
@@ -53,7 +56,8 @@ pub changed_regions-requires-clause-places : goal.changed_regions-requires-claus
 changed_regions-requires-clause-places c =
     let few = few_regions c.args.self.now.heap c.hand_out.new.self (padded (asked c.args.size c.args.align)) c.in-Ok.ensures.ok.found in
     let same = ap (λ heap. length (paged heap.system).regions) c.add_block.ensures.heap in
-    let count : c.region_count-count.result ≡ length (paged c.args.self.now.heap.system).regions = c.region_count-count.ensures.count ∙ ap (λ system. length (paged system).regions) c.system.ensures in
+    let count : c.region_count-count.result ≡ length (paged c.args.self.now.heap.system).regions =
+    c.region_count-count.ensures.count ∙ ap (λ system. length (paged system).regions) c.system.ensures in
     let places : c.region_count-count.result + 1 ≤ vec_capacity c.add_block.new.self.list = search rules in
     omega arith
 
@@ -62,8 +66,15 @@ pub new_slots-requires : goal.new_slots-requires
 new_slots-requires c =
     let power : is_power_of_two c.args.align ≡ true = search rules in
     record {
-      sound = rw (c.changed_regions.ensures.heap, c.changed_regions.ensures.blocks, c.add_block.ensures.heap, c.add_block.ensures.blocks, c.in_ok-reserve.ensures.items)
-          (laid_handed c.args.self.now.heap c.hand_out.new.self c.args.self.now.blocks.items c.args.size c.args.align c.in-Ok.address c.requires.sound c.in-Ok.ensures.ok (power_from_test c.args.align power));
+      sound = rw (
+        c.changed_regions.ensures.heap,
+        c.changed_regions.ensures.blocks,
+        c.add_block.ensures.heap,
+        c.add_block.ensures.blocks,
+        c.in_ok-reserve.ensures.items,
+      )
+          (laid_handed c.args.self.now.heap c.hand_out.new.self c.args.self.now.blocks.items c.args.size c.args.align
+          c.in-Ok.address c.requires.sound c.in-Ok.ensures.ok (power_from_test c.args.align power));
     }
 
 pub returns-in-Ok-clause-sound : goal.returns-in-Ok-clause-sound
@@ -75,10 +86,13 @@ returns-in-Ok-clause-ok c = λ top s good stands.
     let joins = ap (λ heap. (paged heap.system).joins) c.add_block.ensures.heap in
     let free = ap (λ heap. pageless_frames (paged heap.system)) c.add_block.ensures.heap in
     let joins_now = ap (λ heap. (paged heap.system).joins) c.changed_regions.ensures.heap ∙ joins in
-    let step = step_request c.args.self.now.heap c.hand_out.new.self c.args.self.now.blocks.items c.args.size c.args.align c.in-Ok.address c.requires.sound c.in-Ok.ensures.ok c.blocks_are_placed.ensures c.blocks_are_placed-in-Ok.ensures c.hand_out.ensures.apart s good stands
+    let step = step_request c.args.self.now.heap c.hand_out.new.self c.args.self.now.blocks.items c.args.size c.args.align
+    c.in-Ok.address c.requires.sound c.in-Ok.ensures.ok c.blocks_are_placed.ensures c.blocks_are_placed-in-Ok.ensures
+    c.hand_out.ensures.apart s good stands
     power c.changed_regions.result c.new_slots.result
     (λ same few. c.changed_regions.ensures.same (joins ∙ (same ∙ sym c.marks-before.ensures.joins)) (free ∙ (few ∙ sym c.marks-before.ensures.pageless)))
-    (λ other. c.changed_regions.ensures.other (λ same few. other (sym joins ∙ (same ∙ c.marks-before.ensures.joins)) (sym free ∙ (few ∙ c.marks-before.ensures.pageless)))
+    (λ other. c.changed_regions.ensures.other (λ same few. other (sym joins ∙ (same ∙ c.marks-before.ensures.joins))
+    (sym free ∙ (few ∙ c.marks-before.ensures.pageless)))
     ∙ ap (λ heap. Some (heap_regions (paged heap.system).regions)) c.add_block.ensures.heap)
     (λ same. (c.new_slots.ensures.none (joins_now ∙ (same ∙ sym c.marks-before.ensures.joins))).0)
     (λ other. c.new_slots.ensures.slots (λ same. other (sym joins_now ∙ (same ∙ c.marks-before.ensures.joins)))
@@ -90,8 +104,17 @@ returns-in-Ok-clause-ok c = λ top s good stands.
       rest = c.new_slots.ensures.rest;
       blocks = c.new_slots.ensures.blocks;
     } in
-    let before : IsStep s (request c.args.cleared c.args.size c.args.align) (record { reply = c.add_block.result; regions = c.changed_regions.result; large = c.new_slots.result }) (seen_with top c.changed_regions.new.self) =
-    rw (c.changed_regions.ensures.heap, c.changed_regions.ensures.blocks, c.add_block.ensures.heap, c.add_block.ensures.blocks, c.add_block.ensures.reply, c.in_ok-reserve.ensures.items) step.0 in
+    let before : IsStep s (request c.args.cleared c.args.size c.args.align)
+    (record { reply = c.add_block.result; regions = c.changed_regions.result; large = c.new_slots.result })
+    (seen_with top c.changed_regions.new.self) =
+    rw (
+      c.changed_regions.ensures.heap,
+      c.changed_regions.ensures.blocks,
+      c.add_block.ensures.heap,
+      c.add_block.ensures.blocks,
+      c.add_block.ensures.reply,
+      c.in_ok-reserve.ensures.items,
+    ) step.0 in
     step_told c.changed_regions.new.self c.new_slots.new.self c.marks-before.result.joins told top s (request c.args.cleared c.args.size c.args.align) _ before
 
 pub returns-in-Ok-clause-runs : goal.returns-in-Ok-clause-runs
@@ -100,10 +123,13 @@ returns-in-Ok-clause-runs c = λ top s good stands.
     let joins = ap (λ heap. (paged heap.system).joins) c.add_block.ensures.heap in
     let free = ap (λ heap. pageless_frames (paged heap.system)) c.add_block.ensures.heap in
     let joins_now = ap (λ heap. (paged heap.system).joins) c.changed_regions.ensures.heap ∙ joins in
-    let step = step_request c.args.self.now.heap c.hand_out.new.self c.args.self.now.blocks.items c.args.size c.args.align c.in-Ok.address c.requires.sound c.in-Ok.ensures.ok c.blocks_are_placed.ensures c.blocks_are_placed-in-Ok.ensures c.hand_out.ensures.apart s good stands
+    let step = step_request c.args.self.now.heap c.hand_out.new.self c.args.self.now.blocks.items c.args.size c.args.align
+    c.in-Ok.address c.requires.sound c.in-Ok.ensures.ok c.blocks_are_placed.ensures c.blocks_are_placed-in-Ok.ensures
+    c.hand_out.ensures.apart s good stands
     power c.changed_regions.result c.new_slots.result
     (λ same few. c.changed_regions.ensures.same (joins ∙ (same ∙ sym c.marks-before.ensures.joins)) (free ∙ (few ∙ sym c.marks-before.ensures.pageless)))
-    (λ other. c.changed_regions.ensures.other (λ same few. other (sym joins ∙ (same ∙ c.marks-before.ensures.joins)) (sym free ∙ (few ∙ c.marks-before.ensures.pageless)))
+    (λ other. c.changed_regions.ensures.other (λ same few. other (sym joins ∙ (same ∙ c.marks-before.ensures.joins))
+    (sym free ∙ (few ∙ c.marks-before.ensures.pageless)))
     ∙ ap (λ heap. Some (heap_regions (paged heap.system).regions)) c.add_block.ensures.heap)
     (λ same. (c.new_slots.ensures.none (joins_now ∙ (same ∙ sym c.marks-before.ensures.joins))).0)
     (λ other. c.new_slots.ensures.slots (λ same. other (sym joins_now ∙ (same ∙ c.marks-before.ensures.joins)))
@@ -116,7 +142,8 @@ returns-in-Ok-clause-runs c = λ top s good stands.
       blocks = c.new_slots.ensures.blocks;
     } in
     let before : AreRunsUsedFor (paged (system_of c.args.self.now)) (paged (system_of c.changed_regions.new.self))
-    (lasting_pages s (request c.args.cleared c.args.size c.args.align) (record { reply = c.add_block.result; regions = c.changed_regions.result; large = c.new_slots.result })) =
+    (lasting_pages s (request c.args.cleared c.args.size c.args.align)
+    (record { reply = c.add_block.result; regions = c.changed_regions.result; large = c.new_slots.result })) =
     rw (c.changed_regions.ensures.heap, c.add_block.ensures.heap, c.add_block.ensures.reply, c.in_ok-reserve.ensures.items) step.1 in
     runs_told c.changed_regions.new.self c.new_slots.new.self c.marks-before.result.joins told (paged (system_of c.args.self.now)) _ before
 
@@ -132,24 +159,29 @@ returns-in-Ok-clause-heap c =
     let joins_now = ap (λ h. (paged h.system).joins) heap in
     let slots : AreSlotsTold c.args.self.now.heap c.hand_out.new.self c.new_slots.result = record {
       none = λ same. (c.new_slots.ensures.none (joins_now ∙ (same ∙ sym c.marks-before.ensures.joins))).0;
-      joined = λ other. c.new_slots.ensures.slots (λ same. other (sym joins_now ∙ (same ∙ c.marks-before.ensures.joins))) ∙ ap (λ h. listed_slots (paged h.system).slots) heap;
+      joined = λ other. c.new_slots.ensures.slots (λ same. other (sym joins_now ∙ (same ∙ c.marks-before.ensures.joins)))
+          ∙ ap (λ h. listed_slots (paged h.system).slots) heap;
     } in
     rw c.add_block.ensures.reply
     (moves_request c.args.cleared c.args.self.now c.args.size c.args.align _ c.in-Ok.address c.new_slots.result c.new_slots.new.self c.hand_out.new.self
-    (served_for c.args.cleared c.args.self.now.heap c.args.size c.args.align c.in-Ok.address c.hand_out.new.self c.in-Ok.ensures.served c.in-Ok.ensures.served_cleared)
+    (served_for c.args.cleared c.args.self.now.heap c.args.size c.args.align c.in-Ok.address c.hand_out.new.self
+    c.in-Ok.ensures.served c.in-Ok.ensures.served_cleared)
     (subst (λ h. IsToldFrom h c.new_slots.new.self.heap) heap (told_from c.changed_regions.new.self c.new_slots.new.self c.marks-before.result.joins told))
     slots c.in-Ok.ensures.member)
 
 pub returns-in-Err-clause-sound : goal.returns-in-Err-clause-sound
 returns-in-Err-clause-sound c =
-    rw c.in_ok-reserve.ensures.items (laid_denied c.args.self.now.heap c.hand_out.new.self c.args.self.now.blocks.items (asked c.args.size c.args.align) c.in-Err.error c.in-Err.ensures.err c.requires.sound)
+    rw c.in_ok-reserve.ensures.items (laid_denied c.args.self.now.heap c.hand_out.new.self c.args.self.now.blocks.items
+    (asked c.args.size c.args.align) c.in-Err.error c.in-Err.ensures.err c.requires.sound)
 
 pub returns-in-Err-clause-ok : goal.returns-in-Err-clause-ok
 returns-in-Err-clause-ok c = λ top s good stands.
     let power : is_power_of_two c.args.align ≡ true = search rules in
     IfOk-weaker c.refused_by.result _ _ (λ answer given.
     rw c.in_ok-reserve.ensures.items
-    (step_denied c.args.self.now.heap c.hand_out.new.self c.is_intact.ensures.sound.granularity c.args.self.now.blocks.items c.requires.sound s good stands (request c.args.cleared c.args.size c.args.align) (asked c.args.size c.args.align) (wanted c.args.size c.args.align)
+    (step_denied c.args.self.now.heap c.hand_out.new.self c.is_intact.ensures.sound.granularity c.args.self.now.blocks.items
+    c.requires.sound s good stands (request c.args.cleared c.args.size c.args.align) (asked c.args.size c.args.align)
+    (wanted c.args.size c.args.align)
     (wanted_asked c.args.size c.args.align power)
     (λ most. request_refused c.args.cleared s c.args.size c.args.align ∙ refused_large s.granularity c.args.size c.args.align power most)
     (λ less. request_refused c.args.cleared s c.args.size c.args.align ∙ not_refused s.granularity c.args.size c.args.align power less)
@@ -158,11 +190,15 @@ returns-in-Err-clause-ok c = λ top s good stands.
 
 pub returns-in-Err-clause-runs : goal.returns-in-Err-clause-runs
 returns-in-Err-clause-runs c = λ top s good stands.
-    IfOk-weaker c.refused_by.result _ _ (λ answer given. runs_refused (paged (system_of c.args.self.now)) (paged c.hand_out.new.self.system) s (request c.args.cleared c.args.size c.args.align) _ answer given) c.refused_by.ensures.ok
+    IfOk-weaker c.refused_by.result _ _ (λ answer given. runs_refused (paged (system_of c.args.self.now))
+    (paged c.hand_out.new.self.system) s (request c.args.cleared c.args.size c.args.align) _ answer given)
+    c.refused_by.ensures.ok
 
 pub returns-then-not-is_power_of_two-clause-runs : goal.returns-then-not-is_power_of_two-clause-runs
 returns-then-not-is_power_of_two-clause-runs c = λ top s good stands.
-    runs_refused (paged (system_of c.args.self.now)) (paged (system_of c.args.self.now)) s (request c.args.cleared c.args.size c.args.align) (Some BadAlign) c.refused.result (BadAlign, refl, c.refused.ensures)
+    runs_refused (paged (system_of c.args.self.now)) (paged (system_of c.args.self.now)) s
+    (request c.args.cleared c.args.size c.args.align) (Some BadAlign) c.refused.result
+    (BadAlign, refl, c.refused.ensures)
 
 -- no other power of two is told
 bad_align : (granularity size align : ℕ) → is_power_of_two align ≡ false → refuse_request granularity size align ≡ Some BadAlign
@@ -176,7 +212,8 @@ returns-then-not-is_power_of_two-clause-ok c = λ top s good stands.
 
 pub returns-in-Err-clause-err : goal.returns-in-Err-clause-err
 returns-in-Err-clause-err c = λ top. on_err_weaker c.refused_by.result
-    (λ none. rw c.in_ok-reserve.ensures.items (seen_denied c.args.self.now.heap c.hand_out.new.self c.args.self.now.blocks.items (asked c.args.size c.args.align) c.in-Err.error c.in-Err.ensures.err top))
+    (λ none. rw c.in_ok-reserve.ensures.items (seen_denied c.args.self.now.heap c.hand_out.new.self
+    c.args.self.now.blocks.items (asked c.args.size c.args.align) c.in-Err.error c.in-Err.ensures.err top))
     c.refused_by.ensures.err
 
 pub returns-in-Err-clause-heap : goal.returns-in-Err-clause-heap
@@ -184,16 +221,20 @@ returns-in-Err-clause-heap c =
     let new : NumberedHeap = record { alloc = c.args.self.now.alloc; heap = c.hand_out.new.self; blocks = c.reserve.new.self; list = c.reserve-2.new.self } in
     IfOk-weaker c.refused_by.result _ _
     (λ answer given. subst (λ (a : Answer). HeapMoves c.args.self.now (request c.args.cleared c.args.size c.args.align) a.reply a.large new) (sym given.2)
-    (request_refused_moves c.args.cleared c.args.self.now c.args.size c.args.align given.0 None new (left_refused c.args.self.now.heap c.hand_out.new.self (asked c.args.size c.args.align) c.in-Err.error given.0 given.1 c.in-Err.ensures.err)
+    (request_refused_moves c.args.cleared c.args.self.now c.args.size c.args.align given.0 None new
+    (left_refused c.args.self.now.heap c.hand_out.new.self (asked c.args.size c.args.align) c.in-Err.error given.0
+    given.1 c.in-Err.ensures.err)
     (none_for c.args.self.now.heap c.args.size c.args.align c.in-Err.error given.0 given.1 c.in-Err.ensures.err.refused)))
     c.refused_by.ensures.ok
 
 pub returns-in-Err-clause-heap_err : goal.returns-in-Err-clause-heap_err
-returns-in-Err-clause-heap_err c = on_err_weaker c.refused_by.result (λ none. (c.in-Err.ensures.err.same.state, c.in-Err.ensures.err.same.index)) c.refused_by.ensures.err
+returns-in-Err-clause-heap_err c = on_err_weaker c.refused_by.result (λ none.
+    (c.in-Err.ensures.err.same.state, c.in-Err.ensures.err.same.index)) c.refused_by.ensures.err
 
 pub returns-then-not-is_power_of_two-clause-heap : goal.returns-then-not-is_power_of_two-clause-heap
 returns-then-not-is_power_of_two-clause-heap c =
-    rw c.refused.ensures (request_refused_moves c.args.cleared c.args.self.now c.args.size c.args.align BadAlign None c.args.self.now refl (λ room. absurd (cc)))
+    rw c.refused.ensures (request_refused_moves c.args.cleared c.args.self.now c.args.size c.args.align BadAlign None
+    c.args.self.now refl (λ room. absurd (cc)))
 
 pub returns-in-Ok-clause-kept : goal.returns-in-Ok-clause-kept
 returns-in-Ok-clause-kept c = other_reply c.add_block.result c.args.self.now c.new_slots.new.self (ap leaves_all c.add_block.ensures.reply)
@@ -201,7 +242,8 @@ returns-in-Ok-clause-kept c = other_reply c.add_block.result c.args.self.now c.n
 pub returns-in-Err-clause-kept : goal.returns-in-Err-clause-kept
 returns-in-Err-clause-kept c =
     IfOk-weaker c.refused_by.result _ _ (λ answer given told top.
-    rw c.in_ok-reserve.ensures.items (seen_denied c.args.self.now.heap c.hand_out.new.self c.args.self.now.blocks.items (asked c.args.size c.args.align) c.in-Err.error c.in-Err.ensures.err top))
+    rw c.in_ok-reserve.ensures.items (seen_denied c.args.self.now.heap c.hand_out.new.self c.args.self.now.blocks.items
+    (asked c.args.size c.args.align) c.in-Err.error c.in-Err.ensures.err top))
     c.refused_by.ensures.ok
 
 pub returns-in_err-reserve-clause-heap_err : goal.returns-in_err-reserve-clause-heap_err

@@ -46,11 +46,16 @@ returns-in-Ok-clause-ok c = λ top s good stands.
       blocks = c.new_slots.ensures.blocks;
     } in
     let region = user_region c.args.start c.args.pages c.args.rights in
-    let slots = c.new_slots.ensures.slots (joined_since (paged (system_of c.args.self.now)) (paged c.map.new.heap.system) region c.marks-before.result.joins joined c.marks-before.ensures.joins) in
-    let step = step_map (seen_with top c.args.self.now) s c.args.start c.args.pages good stands c.args.rights (paged c.map.new.heap.system) c.in-Ok.ensures.can joined in
-    let before : IsStep s (Map c.args.start c.args.pages c.args.rights) (record { reply = Done; regions = None; large = c.new_slots.result }) (seen_with top now) =
-    subst (λ (large : Option (List ℕ)). IsStep s (Map c.args.start c.args.pages c.args.rights) (record { reply = Done; regions = None; large = large }) (seen_with top now)) (sym slots)
-    (subst (IsStep s (Map c.args.start c.args.pages c.args.rights) _) (sym (seen_beside top c.args.self.now.heap c.map.new.heap c.args.self.now.blocks.items c.map.ensures.kept)) step) in
+    let slots = c.new_slots.ensures.slots (joined_since (paged (system_of c.args.self.now)) (paged c.map.new.heap.system)
+    region c.marks-before.result.joins joined c.marks-before.ensures.joins) in
+    let step = step_map (seen_with top c.args.self.now) s c.args.start c.args.pages good stands c.args.rights
+    (paged c.map.new.heap.system) c.in-Ok.ensures.can joined in
+    let before : IsStep s (Map c.args.start c.args.pages c.args.rights)
+    (record { reply = Done; regions = None; large = c.new_slots.result }) (seen_with top now) =
+    subst (λ (large : Option (List ℕ)). IsStep s (Map c.args.start c.args.pages c.args.rights)
+    (record { reply = Done; regions = None; large = large }) (seen_with top now)) (sym slots)
+    (subst (IsStep s (Map c.args.start c.args.pages c.args.rights) _) (sym
+    (seen_beside top c.args.self.now.heap c.map.new.heap c.args.self.now.blocks.items c.map.ensures.kept)) step) in
     step_told now c.new_slots.new.self c.marks-before.result.joins told top s (Map c.args.start c.args.pages c.args.rights) _ before
 
 pub returns-in-Ok-clause-runs : goal.returns-in-Ok-clause-runs
@@ -62,13 +67,15 @@ returns-in-Ok-clause-runs c = λ top s good stands.
       rest = c.new_slots.ensures.rest;
       blocks = c.new_slots.ensures.blocks;
     } in
-    runs_told now c.new_slots.new.self c.marks-before.result.joins told (paged (system_of c.args.self.now)) (Some (record { start = c.args.start; pages = c.args.pages })) c.in-Ok.ensures.ok.runs
+    runs_told now c.new_slots.new.self c.marks-before.result.joins told (paged (system_of c.args.self.now))
+    (Some (record { start = c.args.start; pages = c.args.pages })) c.in-Ok.ensures.ok.runs
 
 pub returns-in-Ok-clause-heap : goal.returns-in-Ok-clause-heap
 returns-in-Ok-clause-heap c =
     let joined = c.in-Ok.ensures.ok in
     let now = paged c.map.new.heap.system in
-    let since = joined_since (paged (system_of c.args.self.now)) now (user_region c.args.start c.args.pages c.args.rights) c.marks-before.result.joins joined c.marks-before.ensures.joins in
+    let since = joined_since (paged (system_of c.args.self.now)) now (user_region c.args.start c.args.pages c.args.rights)
+    c.marks-before.result.joins joined c.marks-before.ensures.joins in
     let large = subst (λ root. AreLargeSlots now.words root c.args.start c.args.pages now.slots) (sym joined.added.root) joined.added.slots in (
       still_on c.args.self.now.heap c.map.new.heap c.new_slots.new.self.heap c.map.ensures.kept.still c.new_slots.ensures.heap,
       record {
@@ -86,18 +93,22 @@ returns-in-Err-clause-sound c =
 pub returns-in-Err-clause-ok : goal.returns-in-Err-clause-ok
 returns-in-Err-clause-ok c = λ top s good stands.
     IfOk-weaker c.refused_map.result _ _ (λ answer given.
-    subst (IsStep s (Map c.args.start c.args.pages c.args.rights) answer) (sym (seen_refused top c.args.self.now.heap c.map.new.heap c.args.self.now.blocks.items c.map.ensures.kept c.in-Err.ensures.err))
+    subst (IsStep s (Map c.args.start c.args.pages c.args.rights) answer)
+    (sym (seen_refused top c.args.self.now.heap c.map.new.heap c.args.self.now.blocks.items c.map.ensures.kept
+    c.in-Err.ensures.err))
     (map_denied (seen_with top c.args.self.now) s c.args.start c.args.pages good stands c.args.rights c.in-Err.fault c.in-Err.ensures.refused answer given))
     c.refused_map.ensures.ok
 
 pub returns-in-Err-clause-err : goal.returns-in-Err-clause-err
 returns-in-Err-clause-err c = λ top.
-    on_err_weaker c.refused_map.result (λ none. seen_refused top c.args.self.now.heap c.map.new.heap c.args.self.now.blocks.items c.map.ensures.kept c.in-Err.ensures.err) c.refused_map.ensures.err
+    on_err_weaker c.refused_map.result (λ none. seen_refused top c.args.self.now.heap c.map.new.heap
+    c.args.self.now.blocks.items c.map.ensures.kept c.in-Err.ensures.err) c.refused_map.ensures.err
 
 pub returns-in-Err-clause-heap : goal.returns-in-Err-clause-heap
 returns-in-Err-clause-heap c =
     IfOk-weaker c.refused_map.result _ _ (λ answer given.
-    subst (λ (a : Answer). HeapMoves c.args.self.now (Map c.args.start c.args.pages c.args.rights) a.reply a.large (with_heap c.args.self.now c.map.new.heap)) (sym given.2) c.map.ensures.kept.still)
+    subst (λ (a : Answer). HeapMoves c.args.self.now (Map c.args.start c.args.pages c.args.rights) a.reply a.large
+    (with_heap c.args.self.now c.map.new.heap)) (sym given.2) c.map.ensures.kept.still)
     c.refused_map.ensures.ok
 
 pub returns-in-Err-clause-heap_err : goal.returns-in-Err-clause-heap_err
@@ -105,8 +116,11 @@ returns-in-Err-clause-heap_err c = on_err_weaker c.refused_map.result (λ none. 
 
 pub returns-in-Err-clause-runs : goal.returns-in-Err-clause-runs
 returns-in-Err-clause-runs c = λ top s good stands.
-    IfOk-weaker c.refused_map.result _ _ (λ answer given. runs_refused (paged (system_of c.args.self.now)) (paged c.map.new.heap.system) s (Map c.args.start c.args.pages c.args.rights) _ answer given) c.refused_map.ensures.ok
+    IfOk-weaker c.refused_map.result _ _ (λ answer given. runs_refused (paged (system_of c.args.self.now))
+    (paged c.map.new.heap.system) s (Map c.args.start c.args.pages c.args.rights) _ answer given)
+    c.refused_map.ensures.ok
 
 pub returns-in-Err-clause-kept : goal.returns-in-Err-clause-kept
 returns-in-Err-clause-kept c =
-    IfOk-weaker c.refused_map.result _ _ (λ answer given told top. seen_refused top c.args.self.now.heap c.map.new.heap c.args.self.now.blocks.items c.map.ensures.kept c.in-Err.ensures.err) c.refused_map.ensures.ok
+    IfOk-weaker c.refused_map.result _ _ (λ answer given told top. seen_refused top c.args.self.now.heap c.map.new.heap
+    c.args.self.now.blocks.items c.map.ensures.kept c.in-Err.ensures.err) c.refused_map.ensures.ok

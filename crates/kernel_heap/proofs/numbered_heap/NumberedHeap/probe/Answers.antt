@@ -13,7 +13,8 @@ pub returns-clause-ok : goal.returns-clause-ok
 returns-clause-ok c = λ top s good stands.
     let at = c.args.at in
     let canonical : is_canonical at ≡ true = search rules in
-    let walk = c.rights_at-rights.ensures.walk ∙ ap (λ system. option_map rights_of (walk_of (paged system).words (paged system).root (at / 4096))) c.system-system.ensures in
+    let walk = c.rights_at-rights.ensures.walk ∙ ap (λ system. option_map rights_of
+    (walk_of (paged system).words (paged system).root (at / 4096))) c.system-system.ensures in
     let granted = ap (λ rights. is_granted rights c.args.access c.args.user) (sym walk) ∙ (sym c.is_granted.ensures ∙ c.if-not-is_granted.false) in
     let here = ap (λ system. reached (paged system).words (paged system).root at) (sym c.system-system.ensures) ∙ c.byte.ensures in
     step_byte (seen_with top c.args.self.now) s at c.args.access c.args.user c.byte.result good stands canonical granted here c.byte.type_inv
@@ -22,8 +23,10 @@ pub returns-then-not-is_granted-clause-ok : goal.returns-then-not-is_granted-cla
 returns-then-not-is_granted-clause-ok c = λ top s good stands.
     let at = c.args.at in
     let canonical : is_canonical at ≡ true = search rules in
-    let walk = c.rights_at-rights.ensures.walk ∙ ap (λ system. option_map rights_of (walk_of (paged system).words (paged system).root (at / 4096))) c.system-system.ensures in
+    let walk = c.rights_at-rights.ensures.walk ∙ ap (λ system. option_map rights_of
+    (walk_of (paged system).words (paged system).root (at / 4096))) c.system-system.ensures in
     let granted : is_granted c.rights_at-rights.result c.args.access c.args.user ≡ false = search rules in
     let code : page_fault_bits c.fault_code.result ≡ fault_code (is_some c.rights_at-rights.result) c.args.access c.args.user = search rules in
     step_fault (seen_with top c.args.self.now) s at c.args.access c.args.user c.fault_code.result good stands canonical
-    (ap (λ rights. is_granted rights c.args.access c.args.user) (sym walk) ∙ granted) (code ∙ ap (λ rights. fault_code (is_some rights) c.args.access c.args.user) walk)
+    (ap (λ rights. is_granted rights c.args.access c.args.user) (sym walk) ∙ granted)
+    (code ∙ ap (λ rights. fault_code (is_some rights) c.args.access c.args.user) walk)

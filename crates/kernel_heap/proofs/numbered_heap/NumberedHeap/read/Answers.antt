@@ -15,8 +15,10 @@ read_bytes-requires c = subst (λ system. AreInside (paged system) c.in-Ok.addre
 pub returns-in_ok-read_bytes-in-Ok : goal.returns-in_ok-read_bytes-in-Ok
 returns-in_ok-read_bytes-in-Ok c = record {
   ok = λ top s good stands.
-      step_read c.args.self.now.heap c.args.self.now.blocks.items c.args.number c.args.offset c.args.count c.in-Ok.address c.requires.sound c.in-Ok.ensures.ok s good stands
-      c.in_ok-read_bytes-in-Ok.field-0 (subst (λ system. AreRead (paged system) c.in-Ok.address c.args.count c.in_ok-read_bytes-in-Ok.field-0) c.system.ensures c.in_ok-read_bytes-in-Ok.ensures);
+      step_read c.args.self.now.heap c.args.self.now.blocks.items c.args.number c.args.offset c.args.count c.in-Ok.address
+      c.requires.sound c.in-Ok.ensures.ok s good stands
+      c.in_ok-read_bytes-in-Ok.field-0 (subst (λ system. AreRead (paged system) c.in-Ok.address c.args.count
+      c.in_ok-read_bytes-in-Ok.field-0) c.system.ensures c.in_ok-read_bytes-in-Ok.ensures);
 }
 
 pub returns-in-Err : goal.returns-in-Err

@@ -12,7 +12,8 @@ new-requires-clause-window c = spare_window
 pub returns-clause-sound : goal.returns-clause-sound
 returns-clause-sound c =
     rw c.end_all.ensures
-    (laid_reset c.args.self.now.heap c.reset.new.self c.is_intact.ensures.sound c.args.self.now.blocks.items c.reset.result c.requires.sound c.reset.ensures.ended c.reset.ensures.state)
+    (laid_reset c.args.self.now.heap c.reset.new.self c.is_intact.ensures.sound c.args.self.now.blocks.items c.reset.result
+    c.requires.sound c.reset.ensures.ended c.reset.ensures.state)
 
 pub returns-clause-heap : goal.returns-clause-heap
 returns-clause-heap c = c.reset.ensures.state
@@ -20,17 +21,23 @@ returns-clause-heap c = c.reset.ensures.state
 -- frames are given back, and none is taken
 pub overflow_sub-frames : goal.overflow_sub-frames
 overflow_sub-frames c =
-    let more = more_free c.args.self.now.heap c.reset.new.self c.is_intact.ensures.sound c.args.self.now.blocks.items c.reset.result c.requires.sound c.reset.ensures.ended c.reset.ensures.state in
-    let before : c.free_frames-free.result ≡ free_count (paged c.args.self.now.heap.system).free = c.free_frames-free.ensures ∙ ap (λ system. free_count (paged system).free) c.system.ensures in
-    let now : c.free_frames.result ≡ free_count (paged c.reset.new.self.system).free = c.free_frames.ensures ∙ ap (λ system. free_count (paged system).free) c.system-2.ensures in
+    let more = more_free c.args.self.now.heap c.reset.new.self c.is_intact.ensures.sound c.args.self.now.blocks.items
+    c.reset.result c.requires.sound c.reset.ensures.ended c.reset.ensures.state in
+    let before : c.free_frames-free.result ≡ free_count (paged c.args.self.now.heap.system).free =
+    c.free_frames-free.ensures ∙ ap (λ system. free_count (paged system).free) c.system.ensures in
+    let now : c.free_frames.result ≡ free_count (paged c.reset.new.self.system).free = c.free_frames.ensures
+    ∙ ap (λ system. free_count (paged system).free) c.system-2.ensures in
     omega (arith, more, before, now)
 
 pub returns-clause-ok : goal.returns-clause-ok
 returns-clause-ok c = λ top s good stands.
-    let before : c.free_frames-free.result ≡ free_count (paged c.args.self.now.heap.system).free = c.free_frames-free.ensures ∙ ap (λ system. free_count (paged system).free) c.system.ensures in
-    let now : c.free_frames.result ≡ free_count (paged c.reset.new.self.system).free = c.free_frames.ensures ∙ ap (λ system. free_count (paged system).free) c.system-2.ensures in
+    let before : c.free_frames-free.result ≡ free_count (paged c.args.self.now.heap.system).free =
+    c.free_frames-free.ensures ∙ ap (λ system. free_count (paged system).free) c.system.ensures in
+    let now : c.free_frames.result ≡ free_count (paged c.reset.new.self.system).free = c.free_frames.ensures
+    ∙ ap (λ system. free_count (paged system).free) c.system-2.ensures in
     rw c.end_all.ensures
-    (step_reset c.args.self.now.heap c.reset.new.self c.is_intact.ensures.sound c.args.self.now.blocks.items c.reset.result c.requires.sound c.reset.ensures.ended c.reset.ensures.state
+    (step_reset c.args.self.now.heap c.reset.new.self c.is_intact.ensures.sound c.args.self.now.blocks.items c.reset.result
+    c.requires.sound c.reset.ensures.ended c.reset.ensures.state
     s good stands (c.free_frames.result - c.free_frames-free.result) c.if-frames-eq0.result (λ i. now i - before i)
     (λ zero. elim c.if-frames-eq0.branch [
       | then-frames-eq0 w ↦ w.result-is

@@ -42,38 +42,56 @@ returns-in-Map-clause-runs c = λ top s good stands. rw c.in-Map.is (c.map.ensur
 
 pub returns-in-Realloc-clause-runs : goal.returns-in-Realloc-clause-runs
 returns-in-Realloc-clause-runs c = λ top s good stands. rw c.in-Realloc.is
-    (IfOk-weaker c.resize.result _ _ (λ answer step. runs_none (paged (system_of c.args.self.now)) (paged (system_of c.resize.new.self)) s (Called.Realloc c.in-Realloc.block c.in-Realloc.size) answer tt) (c.resize.ensures.ok top s good stands))
+    (IfOk-weaker c.resize.result _ _ (λ answer step. runs_none (paged (system_of c.args.self.now))
+    (paged (system_of c.resize.new.self)) s (Called.Realloc c.in-Realloc.block c.in-Realloc.size) answer tt)
+    (c.resize.ensures.ok top s good stands))
 
 pub returns-in-CRealloc-clause-runs : goal.returns-in-CRealloc-clause-runs
 returns-in-CRealloc-clause-runs c = λ top s good stands. rw c.in-CRealloc.is
-    (IfOk-weaker c.resize-in-CRealloc.result _ _ (λ answer step. runs_none (paged (system_of c.args.self.now)) (paged (system_of c.resize-in-CRealloc.new.self)) s (Called.CRealloc c.in-CRealloc.block c.in-CRealloc.size) answer tt) (c.resize-in-CRealloc.ensures.ok top s good stands))
+    (IfOk-weaker c.resize-in-CRealloc.result _ _ (λ answer step. runs_none (paged (system_of c.args.self.now))
+    (paged (system_of c.resize-in-CRealloc.new.self)) s (Called.CRealloc c.in-CRealloc.block c.in-CRealloc.size) answer
+    tt) (c.resize-in-CRealloc.ensures.ok top s good stands))
 
 pub returns-in-Free-clause-runs : goal.returns-in-Free-clause-runs
 returns-in-Free-clause-runs c = λ top s good stands. rw c.in-Free.is
-    (IfOk-weaker c.free.result _ _ (λ answer step. runs_none (paged (system_of c.args.self.now)) (paged (system_of c.free.new.self)) s (Called.Free c.in-Free.block) answer tt) (c.free.ensures.ok top s good stands))
+    (IfOk-weaker c.free.result _ _ (λ answer step. runs_none (paged (system_of c.args.self.now))
+    (paged (system_of c.free.new.self)) s (Called.Free c.in-Free.block) answer tt)
+    (c.free.ensures.ok top s good stands))
 
 pub returns-in-Write-clause-runs : goal.returns-in-Write-clause-runs
-returns-in-Write-clause-runs c = λ top s good stands. rw c.in-Write.is (runs_none (paged (system_of c.args.self.now)) (paged (system_of c.write.new.self)) s (Called.Write c.in-Write.block c.in-Write.offset c.in-Write.bytes) c.write.result tt)
+returns-in-Write-clause-runs c = λ top s good stands. rw c.in-Write.is
+    (runs_none (paged (system_of c.args.self.now)) (paged (system_of c.write.new.self)) s
+    (Called.Write c.in-Write.block c.in-Write.offset c.in-Write.bytes) c.write.result tt)
 
 pub returns-in-Unmap-clause-runs : goal.returns-in-Unmap-clause-runs
-returns-in-Unmap-clause-runs c = λ top s good stands. rw c.in-Unmap.is (runs_none (paged (system_of c.args.self.now)) (paged (system_of c.unmap.new.self)) s (Called.Unmap c.in-Unmap.start c.in-Unmap.pages) c.unmap.result tt)
+returns-in-Unmap-clause-runs c = λ top s good stands. rw c.in-Unmap.is
+    (runs_none (paged (system_of c.args.self.now)) (paged (system_of c.unmap.new.self)) s
+    (Called.Unmap c.in-Unmap.start c.in-Unmap.pages) c.unmap.result tt)
 
 pub returns-in-Probe-clause-runs : goal.returns-in-Probe-clause-runs
-returns-in-Probe-clause-runs c = λ top s good stands. rw c.in-Probe.is (runs_none (paged (system_of c.args.self.now)) (paged (system_of c.args.self.now)) s (Called.Probe c.in-Probe.at c.in-Probe.access c.in-Probe.user) c.probe.result tt)
+returns-in-Probe-clause-runs c = λ top s good stands. rw c.in-Probe.is
+    (runs_none (paged (system_of c.args.self.now)) (paged (system_of c.args.self.now)) s
+    (Called.Probe c.in-Probe.at c.in-Probe.access c.in-Probe.user) c.probe.result tt)
 
 pub returns-in-Trim-clause-runs : goal.returns-in-Trim-clause-runs
 returns-in-Trim-clause-runs c = λ top s good stands. rw c.in-Trim.is
-    (IfOk-weaker c.trim.result _ _ (λ answer step. runs_none (paged (system_of c.args.self.now)) (paged (system_of c.trim.new.self)) s (Called.Trim c.in-Trim.pad) answer tt) (c.trim.ensures.ok top s good stands))
+    (IfOk-weaker c.trim.result _ _ (λ answer step. runs_none (paged (system_of c.args.self.now))
+    (paged (system_of c.trim.new.self)) s (Called.Trim c.in-Trim.pad) answer tt) (c.trim.ensures.ok top s good stands))
 
 pub returns-in-SetRate-clause-runs : goal.returns-in-SetRate-clause-runs
-returns-in-SetRate-clause-runs c = λ top s good stands. rw c.in-SetRate.is (runs_none (paged (system_of c.args.self.now)) (paged (system_of c.set_rate.new.self)) s (Called.SetRate c.in-SetRate.rate) c.set_rate.result tt)
+returns-in-SetRate-clause-runs c = λ top s good stands. rw c.in-SetRate.is
+    (runs_none (paged (system_of c.args.self.now)) (paged (system_of c.set_rate.new.self)) s
+    (Called.SetRate c.in-SetRate.rate) c.set_rate.result tt)
 
 pub returns-in-SetGranularity-clause-runs : goal.returns-in-SetGranularity-clause-runs
-returns-in-SetGranularity-clause-runs c = λ top s good stands. rw c.in-SetGranularity.is (runs_none (paged (system_of c.args.self.now)) (paged (system_of c.set_granularity.new.self)) s (Called.SetGranularity c.in-SetGranularity.granularity) c.set_granularity.result tt)
+returns-in-SetGranularity-clause-runs c = λ top s good stands. rw c.in-SetGranularity.is
+    (runs_none (paged (system_of c.args.self.now)) (paged (system_of c.set_granularity.new.self)) s
+    (Called.SetGranularity c.in-SetGranularity.granularity) c.set_granularity.result tt)
 
 pub returns-in-Reset-clause-runs : goal.returns-in-Reset-clause-runs
 returns-in-Reset-clause-runs c = λ top s good stands. rw c.in-Reset.is
-    (IfOk-weaker c.reset.result _ _ (λ answer step. runs_none (paged (system_of c.args.self.now)) (paged (system_of c.reset.new.self)) s Called.Reset answer tt) (c.reset.ensures.ok top s good stands))
+    (IfOk-weaker c.reset.result _ _ (λ answer step. runs_none (paged (system_of c.args.self.now))
+    (paged (system_of c.reset.new.self)) s Called.Reset answer tt) (c.reset.ensures.ok top s good stands))
 
 pub returns-in-Malloc-clause-ok : goal.returns-in-Malloc-clause-ok
 returns-in-Malloc-clause-ok c = λ top s good stands. rw c.in-Malloc.is (c.hand_out.ensures.ok top s good stands)

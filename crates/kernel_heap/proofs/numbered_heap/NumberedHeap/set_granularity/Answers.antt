@@ -12,14 +12,17 @@ use Rattle.kernel_heap.proofs.numbered_heap.NumberedHeap.set_granularity.Goals a
 pub returns-clause-sound : goal.returns-clause-sound
 returns-clause-sound c =
     let is = c.set_granularity.ensures in
-    laid_set c.args.self.now.heap c.set_granularity.new.self c.args.self.now.blocks.items is.system c.requires.sound (ap (λ (h : HeapState). h.segments) is.state)
+    laid_set c.args.self.now.heap c.set_granularity.new.self c.args.self.now.blocks.items is.system c.requires.sound
+    (ap (λ (h : HeapState). h.segments) is.state)
 
 pub returns-clause-ok : goal.returns-clause-ok
 returns-clause-ok c = λ top s good stands.
     let is = c.set_granularity.ensures in
     let accepted = c.set_granularity.result in
     subst (λ (m : Seen). IsStep s (SetGranularity c.args.granularity) (record { reply = Accepted accepted; regions = None; large = None }) m)
-    (sym (seen_set c.args.self.now.heap c.set_granularity.new.self c.args.self.now.blocks.items is.system top (if accepted then c.args.granularity else c.args.self.now.heap.granularity) (ap (λ (h : HeapState). h.granularity) is.state)))
+    (sym (seen_set c.args.self.now.heap c.set_granularity.new.self c.args.self.now.blocks.items is.system top
+    (if accepted then c.args.granularity else c.args.self.now.heap.granularity)
+    (ap (λ (h : HeapState). h.granularity) is.state)))
     (step_granularity (seen_with top c.args.self.now) s c.args.granularity accepted good stands is.answer)
 
 -- a setting that is not accepted

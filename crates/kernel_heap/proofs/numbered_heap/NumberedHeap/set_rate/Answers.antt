@@ -11,11 +11,13 @@ use Rattle.kernel_heap.proofs.numbered_heap.NumberedHeap.set_rate.Goals as goal
 pub returns-clause-sound : goal.returns-clause-sound
 returns-clause-sound c =
     let is = c.set_release_rate.ensures in
-    laid_set c.args.self.now.heap c.set_release_rate.new.self c.args.self.now.blocks.items is.system c.requires.sound (ap (λ (h : HeapState). h.segments) is.state)
+    laid_set c.args.self.now.heap c.set_release_rate.new.self c.args.self.now.blocks.items is.system c.requires.sound
+    (ap (λ (h : HeapState). h.segments) is.state)
 
 pub returns-clause-ok : goal.returns-clause-ok
 returns-clause-ok c = λ top s good stands.
     let is = c.set_release_rate.ensures in
     subst (λ (m : Seen). IsStep s (SetRate c.args.rate) (record { reply = Done; regions = None; large = None }) m)
-    (sym (seen_set c.args.self.now.heap c.set_release_rate.new.self c.args.self.now.blocks.items is.system top c.args.self.now.heap.granularity (ap (λ (h : HeapState). h.granularity) is.state)))
+    (sym (seen_set c.args.self.now.heap c.set_release_rate.new.self c.args.self.now.blocks.items is.system top
+    c.args.self.now.heap.granularity (ap (λ (h : HeapState). h.granularity) is.state)))
     (step_rate (seen_with top c.args.self.now) s c.args.rate good stands)

@@ -17,7 +17,8 @@ returns-in-Ok-clause-sound c =
 
 pub returns-in-Ok-clause-ok : goal.returns-in-Ok-clause-ok
 returns-in-Ok-clause-ok c = λ top s good stands.
-    subst (IsStep s (Unmap c.args.start c.args.pages) (record { reply = Done; regions = None; large = None })) (sym (seen_beside top c.args.self.now.heap c.unmap.new.heap c.args.self.now.blocks.items c.unmap.ensures.kept))
+    subst (IsStep s (Unmap c.args.start c.args.pages) (record { reply = Done; regions = None; large = None }))
+    (sym (seen_beside top c.args.self.now.heap c.unmap.new.heap c.args.self.now.blocks.items c.unmap.ensures.kept))
     (step_unmap (seen_with top c.args.self.now) s c.args.start c.args.pages good stands (paged c.unmap.new.heap.system) c.in-Ok.ensures.can c.in-Ok.ensures.ok)
 
 pub returns-in-Ok-clause-heap : goal.returns-in-Ok-clause-heap
@@ -31,11 +32,14 @@ returns-in-Err-clause-sound c =
 pub returns-in-Err-clause-ok : goal.returns-in-Err-clause-ok
 returns-in-Err-clause-ok c = λ top s good stands.
     rw (c.refused.ensures, c.unmap_refusal.ensures)
-    (subst (IsStep s (Unmap c.args.start c.args.pages) (refused_with (unmap_refusal c.in-Err.fault))) (sym (seen_refused top c.args.self.now.heap c.unmap.new.heap c.args.self.now.blocks.items c.unmap.ensures.kept c.in-Err.ensures.err))
+    (subst (IsStep s (Unmap c.args.start c.args.pages) (refused_with (unmap_refusal c.in-Err.fault)))
+    (sym (seen_refused top c.args.self.now.heap c.unmap.new.heap c.args.self.now.blocks.items c.unmap.ensures.kept
+    c.in-Err.ensures.err))
     (unmap_denied (seen_with top c.args.self.now) s c.args.start c.args.pages good stands c.in-Err.fault c.in-Err.ensures.refused))
 
 pub returns-in-Err-clause-heap : goal.returns-in-Err-clause-heap
 returns-in-Err-clause-heap c = c.unmap.ensures.kept.still
 
 pub returns-in-Err-clause-kept : goal.returns-in-Err-clause-kept
-returns-in-Err-clause-kept c = λ told top. seen_refused top c.args.self.now.heap c.unmap.new.heap c.args.self.now.blocks.items c.unmap.ensures.kept c.in-Err.ensures.err
+returns-in-Err-clause-kept c = λ told top. seen_refused top c.args.self.now.heap c.unmap.new.heap
+    c.args.self.now.blocks.items c.unmap.ensures.kept c.in-Err.ensures.err

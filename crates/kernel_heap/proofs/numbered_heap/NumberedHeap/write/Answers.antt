@@ -11,7 +11,8 @@ use Rattle.kernel_heap.proofs.numbered_heap.NumberedHeap.write.Goals as goal
 
 pub write_bytes-requires : goal.write_bytes-requires
 write_bytes-requires c = record {
-  inside = in_block c.args.self.now.heap c.args.self.now.blocks.items c.args.number c.args.offset (length c.args.bytes.now) c.in-Ok.address c.requires.sound c.in-Ok.ensures.ok;
+  inside = in_block c.args.self.now.heap c.args.self.now.blocks.items c.args.number c.args.offset (length c.args.bytes.now)
+      c.in-Ok.address c.requires.sound c.in-Ok.ensures.ok;
 }
 
 pub returns-in-Ok-clause-sound : goal.returns-in-Ok-clause-sound
@@ -21,8 +22,11 @@ returns-in-Ok-clause-sound c =
 
 pub returns-in-Ok-clause-ok : goal.returns-in-Ok-clause-ok
 returns-in-Ok-clause-ok c = λ top s good stands.
-    subst (IsStep s (Write c.args.number c.args.offset c.args.bytes.now) (record { reply = Done; regions = None; large = None })) (sym (seen_beside top c.args.self.now.heap c.write_bytes.new.heap c.args.self.now.blocks.items c.write_bytes.ensures.kept))
-    (step_written c.args.self.now.heap c.args.self.now.blocks.items c.args.number c.args.offset (length c.args.bytes.now) c.in-Ok.address c.requires.sound c.in-Ok.ensures.ok s good stands
+    subst (IsStep s (Write c.args.number c.args.offset c.args.bytes.now)
+    (record { reply = Done; regions = None; large = None })) (sym (seen_beside top c.args.self.now.heap
+    c.write_bytes.new.heap c.args.self.now.blocks.items c.write_bytes.ensures.kept))
+    (step_written c.args.self.now.heap c.args.self.now.blocks.items c.args.number c.args.offset (length c.args.bytes.now)
+    c.in-Ok.address c.requires.sound c.in-Ok.ensures.ok s good stands
     (paged c.write_bytes.new.heap.system) c.args.bytes.now refl c.write_bytes.ensures.written)
 
 pub returns-in-Ok-clause-heap : goal.returns-in-Ok-clause-heap

@@ -9,4 +9,5 @@ start_is at = omega arith
 
 pub returns-clause-regions : goal.returns-clause-regions
 returns-clause-regions c = λ taken.
-    subst (λ (from : ℕ). grants_of (paged c.release.new.self) ≡ without_run from (c.args.at + c.args.size) (grants_of (paged c.args.self.now))) (start_is c.args.at) c.release.ensures.regions
+    subst (λ (from : ℕ). grants_of (paged c.release.new.self) ≡ without_run from (c.args.at + c.args.size)
+    (grants_of (paged c.args.self.now))) (start_is c.args.at) c.release.ensures.regions

@@ -23,10 +23,12 @@ loop-done-preserved c =
     let less = c.loop-done-test.true in
     let run = c.words.new.words in
     let len : length run ≡ n = c.words.ensures.length ∙ length-take-le n c.loop-done.words (omega (arith, short, c.run_of-run.array_long)) in
-    let same : take n (run ++ drop n c.loop-done.words) ≡ run = subst (λ (j : ℕ). take j (run ++ drop n c.loop-done.words) ≡ run) len (take-append_seam run (drop n c.loop-done.words)) in (
+    let same : take n (run ++ drop n c.loop-done.words) ≡ run = subst (λ (j : ℕ).
+    take j (run ++ drop n c.loop-done.words) ≡ run) len (take-append_seam run (drop n c.loop-done.words)) in (
       still_on old mid new c.loop-done.invariant.0 c.set_words.ensures.still,
       subst (λ m. AreCopied (grants_of old) (word_reached old) c.args.from c.args.to (c.loop-done.done + m) (word_reached new)) len
-          (copied_on (grants_of old) (word_reached old) (word_reached mid) (word_reached new) c.args.from c.args.to c.args.count c.loop-done.done run c.requires.from c.requires.to c.requires.apart
+          (copied_on (grants_of old) (word_reached old) (word_reached mid) (word_reached new) c.args.from c.args.to
+          c.args.count c.loop-done.done run c.requires.from c.requires.to c.requires.apart
           (omega (arith, inner, few, less, len)) c.words.ensures.loaded
           (put_since old mid (word_reached mid) (c.args.to + 8 * c.loop-done.done) run (word_reached new) c.loop-done.invariant.0
           (subst (λ r. ArePut (grants_of mid) (word_reached mid) (c.args.to + 8 * c.loop-done.done) r (word_reached new)) same c.set_words.ensures.put))
@@ -42,8 +44,10 @@ words-requires c =
     let short = c.run_of-run.ensures.short in
     let less = c.loop-done-test.true in
     let page = c.run_of.ensures.page in
-    subst (AreInPage (paged c.loop-done.self) (c.args.from + 8 * c.loop-done.done)) (sym (length-take-le n c.loop-done.words (omega (arith, short, c.run_of-run.array_long))))
-    (in_page (paged c.args.self.now) (paged c.loop-done.self) c.args.from c.args.count c.loop-done.done n c.loop-done.invariant.0 c.requires.from (omega (arith, inner, few, less))
+    subst (AreInPage (paged c.loop-done.self) (c.args.from + 8 * c.loop-done.done))
+    (sym (length-take-le n c.loop-done.words (omega (arith, short, c.run_of-run.array_long))))
+    (in_page (paged c.args.self.now) (paged c.loop-done.self) c.args.from c.args.count c.loop-done.done n
+    c.loop-done.invariant.0 c.requires.from (omega (arith, inner, few, less))
     (c.run_of-run.ensures.some (c.run_of.ensures.some (omega (arith, less)))) (omega (arith, page, few)))
 
 pub set_words-requires : goal.set_words-requires
@@ -55,7 +59,9 @@ set_words-requires c =
     let less = c.loop-done-test.true in
     let run = c.words.new.words in
     let len : length run ≡ n = c.words.ensures.length ∙ length-take-le n c.loop-done.words (omega (arith, short, c.run_of-run.array_long)) in
-    let same : take n (run ++ drop n c.loop-done.words) ≡ run = subst (λ (j : ℕ). take j (run ++ drop n c.loop-done.words) ≡ run) len (take-append_seam run (drop n c.loop-done.words)) in
+    let same : take n (run ++ drop n c.loop-done.words) ≡ run = subst (λ (j : ℕ).
+    take j (run ++ drop n c.loop-done.words) ≡ run) len (take-append_seam run (drop n c.loop-done.words)) in
     subst (AreInPage (paged c.loop-done.self) (c.args.to + 8 * c.loop-done.done)) (sym (ap length same ∙ len))
-    (in_page (paged c.args.self.now) (paged c.loop-done.self) c.args.to c.args.count c.loop-done.done n c.loop-done.invariant.0 c.requires.to (omega (arith, inner, few, less))
+    (in_page (paged c.args.self.now) (paged c.loop-done.self) c.args.to c.args.count c.loop-done.done n
+    c.loop-done.invariant.0 c.requires.to (omega (arith, inner, few, less))
     (c.run_of-run.ensures.some (c.run_of.ensures.some (omega (arith, less)))) c.run_of-run.ensures.page)

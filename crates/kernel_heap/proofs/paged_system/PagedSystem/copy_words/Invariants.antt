@@ -8,7 +8,8 @@ use Rattle.kernel_heap.proofs.paged_system.PagedSystem.copy_words.Given as goal
 
 abbrev pub invariant-loop-done : goal.invariant-loop-done
 invariant-loop-done l =
-    OnlyHeapBytesChange (paged l.fn.self) (paged l.self) × AreCopied (grants_of (paged l.fn.self)) (word_reached (paged l.fn.self)) l.from l.to l.done (word_reached (paged l.self)) × (l.done ≤ l.count)
+    OnlyHeapBytesChange (paged l.fn.self) (paged l.self) × AreCopied (grants_of (paged l.fn.self))
+    (word_reached (paged l.fn.self)) l.from l.to l.done (word_reached (paged l.self)) × (l.done ≤ l.count)
 
 abbrev pub decreases-loop-done : goal.decreases-loop-done
 decreases-loop-done l = l.count - l.done

@@ -23,9 +23,11 @@ loop-done-preserved c =
     let len : length run ≡ n = length-take-le n (replicate 64 c.args.value) (omega (arith, short, length-replicate 64 c.args.value)) in (
       still_on old mid new c.loop-done.invariant.0 c.set_words.ensures.still,
       subst (λ m. AreFilled (grants_of old) (word_reached old) c.args.at (c.loop-done.done + m) c.args.value (word_reached new)) len
-          (filled_on (grants_of old) (word_reached old) (word_reached mid) (word_reached new) c.args.at c.args.count c.loop-done.done c.args.value run c.requires (omega (arith, few, less, len))
+          (filled_on (grants_of old) (word_reached old) (word_reached mid) (word_reached new) c.args.at c.args.count
+          c.loop-done.done c.args.value run c.requires (omega (arith, few, less, len))
           (put_since old mid (word_reached mid) (c.args.at + 8 * c.loop-done.done) run (word_reached new) c.loop-done.invariant.0 c.set_words.ensures.put)
-          (λ k k_less. get_or-take n (replicate 64 c.args.value) k 0 (omega (arith, k_less, len)) ∙ get_or-replicate 64 k c.args.value 0 (omega (arith, k_less, len, short)))
+          (λ k k_less. get_or-take n (replicate 64 c.args.value) k 0 (omega (arith, k_less, len))
+          ∙ get_or-replicate 64 k c.args.value 0 (omega (arith, k_less, len, short)))
           c.loop-done.invariant.1),
       omega (arith, few, less),
     )
@@ -36,5 +38,8 @@ set_words-requires c =
     let few = c.run_of-run.ensures.few in
     let short = c.run_of-run.ensures.short in
     let less = c.loop-done-test.true in
-    subst (AreInPage (paged c.loop-done.self) (c.args.at + 8 * c.loop-done.done)) (sym (length-take-le n (replicate 64 c.args.value) (omega (arith, short, length-replicate 64 c.args.value))))
-    (in_page (paged c.args.self.now) (paged c.loop-done.self) c.args.at c.args.count c.loop-done.done n c.loop-done.invariant.0 c.requires (omega (arith, few, less)) (c.run_of-run.ensures.some (omega (arith, less))) c.run_of-run.ensures.page)
+    subst (AreInPage (paged c.loop-done.self) (c.args.at + 8 * c.loop-done.done))
+    (sym (length-take-le n (replicate 64 c.args.value) (omega (arith, short, length-replicate 64 c.args.value))))
+    (in_page (paged c.args.self.now) (paged c.loop-done.self) c.args.at c.args.count c.loop-done.done n
+    c.loop-done.invariant.0 c.requires (omega (arith, few, less)) (c.run_of-run.ensures.some (omega (arith, less)))
+    c.run_of-run.ensures.page)

@@ -17,17 +17,20 @@ on_ok (Err e) P p = tt
 pub join-requires-clause-region : goal.join-requires-clause-region
 join-requires-clause-region c =
     let p = paged c.args.self.now in
-    subst (IsRegion p.base p.pages) (sym c.heap_region.ensures) (granted_region (paged c.args.self.now) c.args.pages c.args.place c.args.self.now.kept c.requires.can)
+    subst (IsRegion p.base p.pages) (sym c.heap_region.ensures) (granted_region (paged c.args.self.now) c.args.pages
+    c.args.place c.args.self.now.kept c.requires.can)
 
 pub join-requires-clause-can : goal.join-requires-clause-can
 join-requires-clause-can c =
-    subst (λ (r : Region). CanMap (paged c.args.self.now) r.start r.pages) (sym c.heap_region.ensures) (can_map (paged c.args.self.now) c.args.pages c.args.place c.args.self.now.kept c.requires.can)
+    subst (λ (r : Region). CanMap (paged c.args.self.now) r.start r.pages) (sym c.heap_region.ensures)
+    (can_map (paged c.args.self.now) c.args.pages c.args.place c.args.self.now.kept c.requires.can)
 
 pub invariant_of-self : goal.invariant_of-self
 invariant_of-self c = record {
   kept = kept_joined c.join.result (paged c.args.self.now) (shown c.join.new.self) c.heap_region.result c.join.ensures.ok
       (on_ok c.join.result (CanMap (paged c.args.self.now) c.heap_region.result.start c.heap_region.result.pages)
-      (subst (λ (r : Region). CanMap (paged c.args.self.now) r.start r.pages) (sym c.heap_region.ensures) (can_map (paged c.args.self.now) c.args.pages c.args.place c.args.self.now.kept c.requires.can)))
+      (subst (λ (r : Region). CanMap (paged c.args.self.now) r.start r.pages) (sym c.heap_region.ensures)
+      (can_map (paged c.args.self.now) c.args.pages c.args.place c.args.self.now.kept c.requires.can)))
       c.join.ensures.err c.args.self.now.kept c.join.new.self.mapped;
 }
 

@@ -7,8 +7,11 @@ use Rattle.kernel_heap.proofs.paged_system.PagedSystem.map.Goals as goal
 
 pub invariant_of-self : goal.invariant_of-self
 invariant_of-self c = record {
-  kept = kept_joined c.map.result (paged c.args.self.now) (shown c.map.new.self) (user_region c.args.start c.args.pages c.args.rights) c.map.ensures.ok c.map.ensures.can c.map.ensures.err c.args.self.now.kept c.map.new.self.mapped;
+  kept = kept_joined c.map.result (paged c.args.self.now) (shown c.map.new.self)
+      (user_region c.args.start c.args.pages c.args.rights) c.map.ensures.ok c.map.ensures.can c.map.ensures.err
+      c.args.self.now.kept c.map.new.self.mapped;
 }
 
 pub returns-clause-beside : goal.returns-clause-beside
-returns-clause-beside c = beside_joined c.map.result (paged c.args.self.now) (shown c.map.new.self) c.args.start c.args.pages c.args.rights c.map.ensures.ok c.map.ensures.err c.args.self.now.kept
+returns-clause-beside c = beside_joined c.map.result (paged c.args.self.now) (shown c.map.new.self) c.args.start
+    c.args.pages c.args.rights c.map.ensures.ok c.map.ensures.err c.args.self.now.kept

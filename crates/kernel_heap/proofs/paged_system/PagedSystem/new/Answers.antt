@@ -6,4 +6,5 @@ pub new-requires-clause-window : goal.new-requires-clause-window
 new-requires-clause-window c = (c.requires.window.whole, c.requires.window.canonical)
 
 pub returns : goal.returns
-returns c = new_is (shown c.in_ok-regions.regions) c.args.base c.args.pages c.args.frames c.requires.window c.in_ok-regions.regions.mapped c.in_ok-regions.ensures
+returns c = new_is (shown c.in_ok-regions.regions) c.args.base c.args.pages c.args.frames c.requires.window
+    c.in_ok-regions.regions.mapped c.in_ok-regions.ensures

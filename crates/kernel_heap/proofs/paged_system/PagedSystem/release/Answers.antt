@@ -14,12 +14,14 @@ below left size within other = elim (cases_lt left size) [ inl less ↦ less | i
 
 pub returns-then-left-size-clause-regions : goal.returns-then-left-size-clause-regions
 returns-then-left-size-clause-regions c =
-    subst (λ (left : ℕ). grants_of (paged c.args.self.now) ≡ without_run (c.args.at + left) (c.args.at + c.args.size) (grants_of (paged c.args.self.now))) (sym c.if-left-size.true)
+    subst (λ (left : ℕ). grants_of (paged c.args.self.now) ≡ without_run (c.args.at + left) (c.args.at + c.args.size)
+    (grants_of (paged c.args.self.now))) (sym c.if-left-size.true)
     (sym (none_behind c.args.at (c.args.at + c.args.size) (grants_of (paged c.args.self.now)) (omega arith) c.requires.run.whole))
 
 pub overflow_add-at : goal.overflow_add-at
 overflow_add-at c =
-    let end = run_bounded c.args.at (c.args.at + c.args.size) (grants_of (paged c.args.self.now)) c.requires.run (regions_whole (paged c.args.self.now) c.args.self.now.kept) in
+    let end = run_bounded c.args.at (c.args.at + c.args.size) (grants_of (paged c.args.self.now)) c.requires.run
+    (regions_whole (paged c.args.self.now) c.args.self.now.kept) in
     omega (arith, end, c.requires.within)
 
 pub cut-requires-clause-range : goal.cut-requires-clause-range
@@ -39,7 +41,8 @@ invariant_of-self c =
     let range = cut_range (paged c.args.self.now) c.args.at c.args.size c.args.left c.args.self.now.kept c.requires.run
     (below c.args.left c.args.size c.requires.within c.if-left-size.false) c.requires.in_pages in
     record {
-      kept = kept_cut (paged c.args.self.now) (shown c.cut.new.self) (c.args.at + c.args.left) ((c.args.size - c.args.left) / 4096) range.0 c.cut.ensures c.args.self.now.kept c.cut.new.self.mapped;
+      kept = kept_cut (paged c.args.self.now) (shown c.cut.new.self) (c.args.at + c.args.left)
+          ((c.args.size - c.args.left) / 4096) range.0 c.cut.ensures c.args.self.now.kept c.cut.new.self.mapped;
     }
 
 pub returns-clause-regions : goal.returns-clause-regions

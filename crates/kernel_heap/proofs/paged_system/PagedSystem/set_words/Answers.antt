@@ -10,19 +10,30 @@ use Rattle.kernel_heap.proofs.StillRuns.{first_mapped, still_put, kept_put, run_
 use Rattle.kernel_heap.proofs.paged_system.PagedSystem.set_words.Goals as goal
 
 pub set_words-requires : goal.set_words-requires
-set_words-requires c = record { word = first_mapped (paged c.args.self.now) c.args.at (length c.args.words.now) c.args.self.now.kept c.requires; fits = c.requires.page }
+set_words-requires c = record {
+  word = first_mapped (paged c.args.self.now) c.args.at (length c.args.words.now)
+      c.args.self.now.kept c.requires;
+  fits = c.requires.page;
+}
 
 pub invariant_of-self : goal.invariant_of-self
 invariant_of-self c = record {
-  kept = subst IsPagedKept (sym c.set_words.ensures.others) (kept_put (paged c.args.self.now) (shown c.set_words.new.self).words c.args.words.now c.args.at c.args.self.now.kept c.requires
-      c.set_words.ensures.size c.set_words.ensures.set c.set_words.ensures.walks c.set_words.ensures.larges c.set_words.ensures.tree c.set_words.ensures.other_bytes);
+  kept = subst IsPagedKept (sym c.set_words.ensures.others) (kept_put (paged c.args.self.now)
+      (shown c.set_words.new.self).words c.args.words.now c.args.at c.args.self.now.kept c.requires
+      c.set_words.ensures.size c.set_words.ensures.set c.set_words.ensures.walks c.set_words.ensures.larges
+      c.set_words.ensures.tree c.set_words.ensures.other_bytes);
 }
 
 pub returns-clause-still : goal.returns-clause-still
-returns-clause-still c = subst (OnlyHeapBytesChange (paged c.args.self.now)) (sym c.set_words.ensures.others) (still_put (paged c.args.self.now) (shown c.set_words.new.self).words c.args.words.now c.args.at c.args.self.now.kept c.requires
-    c.set_words.ensures.size c.set_words.ensures.set c.set_words.ensures.walks c.set_words.ensures.larges c.set_words.ensures.tree c.set_words.ensures.other_bytes)
+returns-clause-still c = subst (OnlyHeapBytesChange (paged c.args.self.now)) (sym c.set_words.ensures.others)
+    (still_put (paged c.args.self.now) (shown c.set_words.new.self).words c.args.words.now c.args.at c.args.self.now.kept
+    c.requires
+    c.set_words.ensures.size c.set_words.ensures.set c.set_words.ensures.walks c.set_words.ensures.larges
+    c.set_words.ensures.tree c.set_words.ensures.other_bytes)
 
 pub returns-clause-put : goal.returns-clause-put
-returns-clause-put c = subst (λ (p : Paged). ArePut (grants_of (paged c.args.self.now)) (word_reached (paged c.args.self.now)) c.args.at c.args.words.now (word_reached p)) (sym c.set_words.ensures.others)
+returns-clause-put c = subst (λ (p : Paged). ArePut (grants_of (paged c.args.self.now))
+    (word_reached (paged c.args.self.now)) c.args.at c.args.words.now (word_reached p)) (sym c.set_words.ensures.others)
     (run_put (paged c.args.self.now) (shown c.set_words.new.self).words c.args.words.now c.args.at c.args.self.now.kept c.requires
-    c.set_words.ensures.size c.set_words.ensures.set c.set_words.ensures.walks c.set_words.ensures.larges c.set_words.ensures.tree c.set_words.ensures.other_bytes)
+    c.set_words.ensures.size c.set_words.ensures.set c.set_words.ensures.walks c.set_words.ensures.larges
+    c.set_words.ensures.tree c.set_words.ensures.other_bytes)

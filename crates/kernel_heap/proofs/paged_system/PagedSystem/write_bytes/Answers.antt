@@ -13,5 +13,6 @@ overflow_add-address c =
 
 pub returns-then-rest-gt0 : goal.returns-then-rest-gt0
 returns-then-rest-gt0 c =
-    written_parts (paged c.args.self.now) (paged c.write_each.new.self) (paged c.write_from_word.new.self) c.args.address _ c.args.bytes.now c.split_at.result.0.now c.split_at.result.1.now c.requires
+    written_parts (paged c.args.self.now) (paged c.write_each.new.self) (paged c.write_from_word.new.self) c.args.address _
+    c.args.bytes.now c.split_at.result.0.now c.split_at.result.1.now c.requires
     c.split_at.ensures.front c.split_at.ensures.back c.split_at.ensures.front_len c.split_at.ensures.back_len c.write_each.ensures c.write_from_word.ensures

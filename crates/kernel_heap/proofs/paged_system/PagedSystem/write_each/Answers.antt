@@ -19,4 +19,6 @@ store_byte-requires c =
 pub loop-k-preserved : goal.loop-k-preserved
 loop-k-preserved c =
     written_more (paged c.args.self.now) (paged c.loop-k.self) (paged c.store_byte.new.self) c.args.address c.args.bytes.now c.loop-k.k c.args.self.now.kept
-    (inside_part (paged c.args.self.now) c.args.address _ c.args.address (c.loop-k.k + 1) c.requires (omega arith) (omega (arith, c.loop-k-test.true))) c.loop-k.invariant (grind (arith, c.type_inv.bytes c.loop-k.k)) c.store_byte.ensures.follows c.store_byte.ensures.stored
+    (inside_part (paged c.args.self.now) c.args.address _ c.args.address (c.loop-k.k + 1) c.requires (omega arith)
+    (omega (arith, c.loop-k-test.true))) c.loop-k.invariant (grind (arith, c.type_inv.bytes c.loop-k.k))
+    c.store_byte.ensures.follows c.store_byte.ensures.stored

@@ -9,14 +9,17 @@ use Rattle.kernel_heap.proofs.paged_system.PagedSystem.write_words.Goals as goal
 pub overflow_add-address : goal.overflow_add-address
 overflow_add-address c =
     let below = inside_below (paged c.args.self.now) (c.args.address + 8 * c.loop-k.k) c.args.self.now.kept
-    (inside_part (paged c.args.self.now) c.args.address _ (c.args.address + 8 * c.loop-k.k) 1 c.requires.inside (omega arith) (omega (arith, c.loop-k-test.true))) in
+    (inside_part (paged c.args.self.now) c.args.address _ (c.args.address + 8 * c.loop-k.k) 1 c.requires.inside
+    (omega arith) (omega (arith, c.loop-k-test.true))) in
     omega (arith, below)
 
 pub set_word-requires : goal.set_word-requires
 set_word-requires c =
     let aligned = c.requires.aligned (omega (arith, c.loop-k-test.true)) in
     word_there (paged c.loop-k.self) (c.args.address + 8 * c.loop-k.k) c.loop-k.self.kept
-    (still_inside (paged c.args.self.now) (paged c.loop-k.self) (c.args.address + 8 * c.loop-k.k) 1 c.loop-k.invariant.still (inside_part (paged c.args.self.now) c.args.address _ (c.args.address + 8 * c.loop-k.k) 1 c.requires.inside (omega arith) (omega (arith, c.loop-k-test.true)))) (omega arith)
+    (still_inside (paged c.args.self.now) (paged c.loop-k.self) (c.args.address + 8 * c.loop-k.k) 1 c.loop-k.invariant.still
+    (inside_part (paged c.args.self.now) c.args.address _ (c.args.address + 8 * c.loop-k.k) 1 c.requires.inside
+    (omega arith) (omega (arith, c.loop-k-test.true)))) (omega arith)
 
 pub loop-k-preserved : goal.loop-k-preserved
 loop-k-preserved c =
@@ -28,8 +31,10 @@ loop-k-preserved c =
     let next : 8 * c.loop-k.k + 8 ≡ 8 * (c.loop-k.k + 1) = omega arith in
     subst (IsWritten old new c.args.address c.args.bytes.now) next
     (written_on old mid new c.args.address (8 * c.loop-k.k) 8 c.args.bytes.now (to_le_bytes w64 c.word_of_bytes.result)
-    (inside_part old c.args.address _ c.args.address (8 * c.loop-k.k + 8) c.requires.inside (omega arith) (omega (arith, c.loop-k-test.true))) c.loop-k.invariant
+    (inside_part old c.args.address _ c.args.address (8 * c.loop-k.k + 8) c.requires.inside (omega arith)
+    (omega (arith, c.loop-k-test.true))) c.loop-k.invariant
     (word_written mid new at c.word_of_bytes.result c.loop-k.self.kept
-    (still_inside old mid at 8 c.loop-k.invariant.still (inside_part old c.args.address _ at 8 c.requires.inside (omega arith) (omega (arith, c.loop-k-test.true)))) (omega arith)
+    (still_inside old mid at 8 c.loop-k.invariant.still (inside_part old c.args.address _ at 8 c.requires.inside
+    (omega arith) (omega (arith, c.loop-k-test.true)))) (omega arith)
     c.set_word.ensures.still c.set_word.ensures.stored)
     c.word_of_bytes.ensures)

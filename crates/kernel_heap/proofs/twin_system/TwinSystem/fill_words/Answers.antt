@@ -7,9 +7,11 @@ fill-requires-clause-covered c = covered_run (paged c.args.self.now.mapped) c.ar
 
 pub invariant_of-self : goal.invariant_of-self
 invariant_of-self c = record {
-  twin = twin_filled (paged c.args.self.now.mapped) (paged c.fill_words.new.self) c.args.self.now.flat c.fill.new.self c.args.at c.args.count c.args.value c.args.self.now.twin
+  twin = twin_filled (paged c.args.self.now.mapped) (paged c.fill_words.new.self) c.args.self.now.flat c.fill.new.self
+      c.args.at c.args.count c.args.value c.args.self.now.twin
       c.fill_words.ensures.still c.fill_words.ensures.filled c.fill.ensures;
 }
 
 pub returns-clause-flat : goal.returns-clause-flat
-returns-clause-flat c = flat_filled (paged c.args.self.now.mapped) c.args.self.now.flat c.fill.new.self c.args.at c.args.count c.args.value c.args.self.now.twin c.fill.ensures
+returns-clause-flat c = flat_filled (paged c.args.self.now.mapped) c.args.self.now.flat c.fill.new.self c.args.at
+    c.args.count c.args.value c.args.self.now.twin c.fill.ensures

@@ -38,7 +38,8 @@ returns-in_err-place-clause-lacks c =
 
 pub fill-requires-clause-covered : goal.fill-requires-clause-covered
 fill-requires-clause-covered c = λ k m low high.
-    covered_grant (paged c.args.self.now.mapped) (paged c.grant_bytes.new.self) c.args.self.now.flat c.cover.new.self c.pages_in-pages.result c.args.size c.in_ok-place.place c.in_ok-grant.grant
+    covered_grant (paged c.args.self.now.mapped) (paged c.grant_bytes.new.self) c.args.self.now.flat c.cover.new.self
+    c.pages_in-pages.result c.args.size c.in_ok-place.place c.in_ok-grant.grant
     c.args.self.now.twin c.pages_in-pages.ensures c.in_ok-place.ensures.ok c.in_ok-grant.ensures.ok c.in-Ok.ensures.reached k low
     (let s = c.in_ok-grant.ensures.ok.size in omega arith)
 
@@ -47,7 +48,8 @@ invariant_of-self-2 c = record {
   twin = twin_grown (paged c.args.self.now.mapped) (paged c.grant_bytes.new.self) c.args.size c.in_ok-grant.grant c.cover.new.self c.fill.new.self
       (twin_longer (paged c.args.self.now.mapped) c.args.self.now.flat c.cover.new.self c.args.self.now.twin c.cover.ensures.longer c.cover.ensures.words)
       c.args.self.now.mapped.kept c.in_ok-grant.ensures.ok
-      (covered_grant (paged c.args.self.now.mapped) (paged c.grant_bytes.new.self) c.args.self.now.flat c.cover.new.self c.pages_in-pages.result c.args.size c.in_ok-place.place c.in_ok-grant.grant
+      (covered_grant (paged c.args.self.now.mapped) (paged c.grant_bytes.new.self) c.args.self.now.flat c.cover.new.self
+      c.pages_in-pages.result c.args.size c.in_ok-place.place c.in_ok-grant.grant
       c.args.self.now.twin c.pages_in-pages.ensures c.in_ok-place.ensures.ok c.in_ok-grant.ensures.ok c.in-Ok.ensures.reached)
       c.fill.ensures;
 }

@@ -7,10 +7,12 @@ set_word-requires-2-clause-covered c = c.args.self.now.twin.covered c.args.at c.
 
 pub invariant_of-self : goal.invariant_of-self
 invariant_of-self c = record {
-  twin = twin_stored (paged c.args.self.now.mapped) (paged c.set_word.new.self) c.args.self.now.flat c.set_word-2.new.self c.args.at c.args.value c.args.self.now.twin
+  twin = twin_stored (paged c.args.self.now.mapped) (paged c.set_word.new.self) c.args.self.now.flat c.set_word-2.new.self
+      c.args.at c.args.value c.args.self.now.twin
       c.set_word.ensures.still c.set_word.ensures.stored c.set_word-2.ensures.longer c.set_word-2.ensures.here c.set_word-2.ensures.elsewhere;
 }
 
 pub returns-clause-flat : goal.returns-clause-flat
 returns-clause-flat c =
-    flat_stored (paged c.args.self.now.mapped) c.args.self.now.flat c.set_word-2.new.self c.args.at c.args.value c.args.self.now.twin c.set_word-2.ensures.here c.set_word-2.ensures.elsewhere
+    flat_stored (paged c.args.self.now.mapped) c.args.self.now.flat c.set_word-2.new.self c.args.at c.args.value
+    c.args.self.now.twin c.set_word-2.ensures.here c.set_word-2.ensures.elsewhere

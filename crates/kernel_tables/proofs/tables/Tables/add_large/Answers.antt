@@ -7,12 +7,14 @@ use Rattle.kernel_tables.proofs.tables.Tables.add_large.Goals as goal
 
 pub map_large-requires-clause-unmet : goal.map_large-requires-clause-unmet
 map_large-requires-clause-unmet c =
-    let out : area_meets c.self.inside.memory.area (512 * c.args.frame) 512 ≡ false = ap (λ (s : TableState). area_meets s.area (512 * c.args.frame) 512) c.self.view_is ∙ c.requires.outside in
+    let out : area_meets c.self.inside.memory.area (512 * c.args.frame) 512 ≡ false =
+    ap (λ (s : TableState). area_meets s.area (512 * c.args.frame) 512) c.self.view_is ∙ c.requires.outside in
     row_unmet c.self.inside.memory.area c.self.inside.memory.words c.self.inside.root (512 * c.args.frame) c.self.inside.free c.self.invariant.tree out
 
 pub invariant_of-self : goal.invariant_of-self
 invariant_of-self c =
-    let out : area_meets c.self.inside.memory.area (512 * c.args.frame) 512 ≡ false = ap (λ (s : TableState). area_meets s.area (512 * c.args.frame) 512) c.self.view_is ∙ c.requires.outside in
+    let out : area_meets c.self.inside.memory.area (512 * c.args.frame) 512 ≡ false =
+    ap (λ (s : TableState). area_meets s.area (512 * c.args.frame) 512) c.self.view_is ∙ c.requires.outside in
     let added = c.map_large.ensures.added in
     let size = added.size in
     record {
@@ -21,7 +23,8 @@ invariant_of-self c =
       known = c.map_large.ensures.known;
       apart = λ page place is.
           ap (λ a. in_area a place.frame) c.map_large.ensures.area
-          ∙ large_outside c.self.inside.memory.area c.self.inside.memory.words c.map_large.new.frames.words c.self.inside.free c.map_large.new.pool c.self.inside.root c.args.page c.args.frame c.args.rights
+          ∙ large_outside c.self.inside.memory.area c.self.inside.memory.words c.map_large.new.frames.words
+          c.self.inside.free c.map_large.new.pool c.self.inside.root c.args.page c.args.frame c.args.rights
           added out c.self.invariant.apart page place is;
     }
 

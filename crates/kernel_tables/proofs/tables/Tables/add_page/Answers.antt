@@ -9,7 +9,8 @@ use Rattle.kernel_tables.proofs.tables.Tables.add_page.Goals as goal
 
 pub invariant_of-self : goal.invariant_of-self
 invariant_of-self c =
-    let out : in_area c.self.inside.memory.area c.args.frame ≡ false = ap (λ (s : TableState). in_area s.area c.args.frame) c.self.view_is ∙ c.requires.outside in
+    let out : in_area c.self.inside.memory.area c.args.frame ≡ false =
+    ap (λ (s : TableState). in_area s.area c.args.frame) c.self.view_is ∙ c.requires.outside in
     let used = outside_used c.self.inside.memory.area c.self.inside.free (frame_count c.self.inside.memory.words) c.args.frame c.self.invariant.known out in
     let added = c.map_at.ensures.added c.self.inside.free c.self.invariant.tree used in
     let size = added.size in
@@ -19,14 +20,17 @@ invariant_of-self c =
       known = c.map_at.ensures.known c.self.inside.free c.self.invariant.known;
       apart = λ page place is.
           ap (λ a. in_area a place.frame) c.map_at.ensures.area
-          ∙ added_outside c.self.inside.memory.area c.self.inside.memory.words c.map_at.new.frames.words c.self.inside.free c.self.inside.free c.self.inside.root c.args.page c.args.frame c.args.rights
+          ∙ added_outside c.self.inside.memory.area c.self.inside.memory.words c.map_at.new.frames.words c.self.inside.free
+          c.self.inside.free c.self.inside.root c.args.page c.args.frame c.args.rights
           added out c.self.invariant.apart page place is;
     }
 
 pub returns-in-Entry-clause-added : goal.returns-in-Entry-clause-added
 returns-in-Entry-clause-added c =
-    let out : in_area c.self.inside.memory.area c.args.frame ≡ false = ap (λ (s : TableState). in_area s.area c.args.frame) c.self.view_is ∙ c.requires.outside in
-    subst (λ (s : TableState). IsPageAdded s.words c.map_at.new.frames.words s.free c.self.inside.free s.root c.args.page c.args.frame c.args.rights) c.self.view_is
+    let out : in_area c.self.inside.memory.area c.args.frame ≡ false =
+    ap (λ (s : TableState). in_area s.area c.args.frame) c.self.view_is ∙ c.requires.outside in
+    subst (λ (s : TableState). IsPageAdded s.words c.map_at.new.frames.words s.free c.self.inside.free s.root c.args.page
+    c.args.frame c.args.rights) c.self.view_is
     (c.map_at.ensures.added c.self.inside.free c.self.invariant.tree
     (outside_used c.self.inside.memory.area c.self.inside.free (frame_count c.self.inside.memory.words) c.args.frame c.self.invariant.known out))
 
@@ -34,20 +38,23 @@ pub invariant_of-self-in_default : goal.invariant_of-self-in_default
 invariant_of-self-in_default c =
     let added = c.map_page.ensures.added in
     let size = added.size in
-    let out : in_area c.self.inside.memory.area c.args.frame ≡ false = ap (λ (s : TableState). in_area s.area c.args.frame) c.self.view_is ∙ c.requires.outside in
+    let out : in_area c.self.inside.memory.area c.args.frame ≡ false =
+    ap (λ (s : TableState). in_area s.area c.args.frame) c.self.view_is ∙ c.requires.outside in
     record {
       root_in = omega (arith, c.self.invariant.root_in, size);
       tree = c.map_page.ensures.tree;
       known = c.map_page.ensures.known;
       apart = λ page place is.
           ap (λ a. in_area a place.frame) c.map_page.ensures.area
-          ∙ added_outside c.self.inside.memory.area c.self.inside.memory.words c.map_page.new.frames.words c.self.inside.free c.map_page.new.pool c.self.inside.root c.args.page c.args.frame c.args.rights
+          ∙ added_outside c.self.inside.memory.area c.self.inside.memory.words c.map_page.new.frames.words
+          c.self.inside.free c.map_page.new.pool c.self.inside.root c.args.page c.args.frame c.args.rights
           added out c.self.invariant.apart page place is;
     }
 
 pub returns-in-Entry-clause-only : goal.returns-in-Entry-clause-only
 returns-in-Entry-clause-only c =
-    let out : in_area c.self.inside.memory.area c.args.frame ≡ false = ap (λ (s : TableState). in_area s.area c.args.frame) c.self.view_is ∙ c.requires.outside in
+    let out : in_area c.self.inside.memory.area c.args.frame ≡ false =
+    ap (λ (s : TableState). in_area s.area c.args.frame) c.self.view_is ∙ c.requires.outside in
     let used = outside_used c.self.inside.memory.area c.self.inside.free (frame_count c.self.inside.memory.words) c.args.frame c.self.invariant.known out in
     let added = c.map_at.ensures.added c.self.inside.free c.self.invariant.tree used in
     only_seen c.self.view_is c.map_at.ensures.area added.size added.stayed

@@ -28,7 +28,8 @@ overflow_shl-block c = let f = few_missing c.args.self.now.words c.args.self.now
 
 pub nonzero_rem-result : goal.nonzero_rem-result
 nonzero_rem-result c =
-    let b = (block_end c.args.page c.args.missing (few_missing c.args.self.now.words c.args.self.now.root c.args.page c.args.missing c.requires.missing)).0 in omega (arith, b)
+    let b = (block_end c.args.page c.args.missing (few_missing c.args.self.now.words c.args.self.now.root c.args.page
+    c.args.missing c.requires.missing)).0 in omega (arith, b)
 
 pub returns-clause-more : goal.returns-clause-more
 returns-clause-more c =
@@ -43,14 +44,17 @@ returns-clause-bounded c =
 pub returns-clause-unmapped : goal.returns-clause-unmapped
 returns-clause-unmapped c = λ none other lo hi.
     (alike c.args.self.now.words c.args.self.now.root c.args.page other c.args.missing (1 * 2 ^ (9 * c.args.missing) % 18446744073709551616)
-    (sym c.requires.missing) (block c.args.missing (few_missing c.args.self.now.words c.args.self.now.root c.args.page c.args.missing c.requires.missing)) lo (rw c.number-number.ensures.value at hi)).0 none
+    (sym c.requires.missing) (block c.args.missing (few_missing c.args.self.now.words c.args.self.now.root c.args.page
+    c.args.missing c.requires.missing)) lo (rw c.number-number.ensures.value at hi)).0 none
 
 pub returns-clause-no_table : goal.returns-clause-no_table
 returns-clause-no_table c = λ none. (
   rw c.number-number.ensures.value
       (alike_end c.args.self.now.words c.args.self.now.root c.args.page c.args.missing (1 * 2 ^ (9 * c.args.missing) % 18446744073709551616)
-      (sym c.requires.missing) (block c.args.missing (few_missing c.args.self.now.words c.args.self.now.root c.args.page c.args.missing c.requires.missing)) none),
+      (sym c.requires.missing) (block c.args.missing (few_missing c.args.self.now.words c.args.self.now.root c.args.page
+      c.args.missing c.requires.missing)) none),
   λ other lo hi.
       (alike c.args.self.now.words c.args.self.now.root c.args.page other c.args.missing (1 * 2 ^ (9 * c.args.missing) % 18446744073709551616)
-      (sym c.requires.missing) (block c.args.missing (few_missing c.args.self.now.words c.args.self.now.root c.args.page c.args.missing c.requires.missing)) lo (rw c.number-number.ensures.value at hi)).1 none,
+      (sym c.requires.missing) (block c.args.missing (few_missing c.args.self.now.words c.args.self.now.root c.args.page
+      c.args.missing c.requires.missing)) lo (rw c.number-number.ensures.value at hi)).1 none,
 )

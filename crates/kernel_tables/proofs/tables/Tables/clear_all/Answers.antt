@@ -20,22 +20,30 @@ large c =
     ) (c.requires.mapped c.loop-done.done c.loop-done-test.true)))
 
 pub clear_slot-requires : goal.clear_slot-requires
-clear_slot-requires c = rw (c.clear_entry.ensures.same (is_nothing c.clear_entry.result (sym c.is_some.ensures ∙ c.if-is_some.false)), c.slot_at.ensures, c.after-at.ensures) (large c)
+clear_slot-requires c = rw (
+  c.clear_entry.ensures.same (is_nothing c.clear_entry.result
+      (sym c.is_some.ensures ∙ c.if-is_some.false)),
+  c.slot_at.ensures,
+  c.after-at.ensures,
+) (large c)
 
 pub loop-done-preserved-then-is_some : goal.loop-done-preserved-then-is_some
 loop-done-preserved-then-is_some c =
     let a = c.after-at.ensures in
     let alone = (c.clear_entry.ensures.some (is_there c.clear_entry.result (sym c.is_some.ensures ∙ c.if-is_some.true))).1 in
-    page_changed c.args.self.now c.loop-done.self c.args.page c.args.pages c.loop-done.done (λ was. None) c.requires.range c.loop-done.invariant c.loop-done-test.true
+    page_changed c.args.self.now c.loop-done.self c.args.page c.args.pages c.loop-done.done (λ was. None) c.requires.range
+    c.loop-done.invariant c.loop-done-test.true
     c.clear_entry.new.self c.clear_entry.ensures.free
     (λ some. is_hole (large_of c.loop-done.self.words c.loop-done.self.root (slot_of ((c.args.page + c.loop-done.done) / 512))) (rw a at alone) some)
-    (rw a at c.clear_entry.ensures.only) (λ was is. rw a at (c.clear_entry.ensures.unmapped (is_there c.clear_entry.result (sym c.is_some.ensures ∙ c.if-is_some.true)))) c.clear_entry.ensures.larges
+    (rw a at c.clear_entry.ensures.only) (λ was is. rw a at (c.clear_entry.ensures.unmapped
+    (is_there c.clear_entry.result (sym c.is_some.ensures ∙ c.if-is_some.true)))) c.clear_entry.ensures.larges
 
 pub loop-done-preserved : goal.loop-done-preserved
 loop-done-preserved c =
     let e : c.slot_at.result ≡ (c.args.page + c.loop-done.done) / 512 = c.slot_at.ensures ∙ ap (λ n. n / 512) c.after-at.ensures in
     let s = c.clear_entry.ensures.same (is_nothing c.clear_entry.result (sym c.is_some.ensures ∙ c.if-is_some.false)) in
-    slot_changed c.args.self.now c.loop-done.self c.args.page c.args.pages c.loop-done.done (λ was. None) c.requires.range c.loop-done.invariant c.loop-done-test.true
+    slot_changed c.args.self.now c.loop-done.self c.args.page c.args.pages c.loop-done.done (λ was. None) c.requires.range
+    c.loop-done.invariant c.loop-done-test.true
     c.clear_slot.new.self (rw s at c.clear_slot.ensures.free) (large (goal.at.loop-done-preserved c).After-slot_at) (rw (s, e) at c.clear_slot.ensures.only)
     (λ k was lt is. rw e at (c.clear_slot.ensures.unmapped k lt)) (rw (s, e) at c.clear_slot.ensures.larges)
 
@@ -49,4 +57,5 @@ pub returns-clause-only : goal.returns-clause-only
 returns-clause-only c = only_range c.args.self.now c.loop-done.self c.args.page c.args.pages (λ was. None) (all (goal.at.returns-clause-only c).After-loop-done)
 
 pub returns-clause-unmapped : goal.returns-clause-unmapped
-returns-clause-unmapped c = gone_all c.args.self.now c.loop-done.self c.args.page c.args.pages c.requires.mapped (all (goal.at.returns-clause-unmapped c).After-loop-done)
+returns-clause-unmapped c = gone_all c.args.self.now c.loop-done.self c.args.page c.args.pages c.requires.mapped
+    (all (goal.at.returns-clause-unmapped c).After-loop-done)

@@ -15,11 +15,15 @@ invariant_of-self c =
     record {
       root_in = omega (arith, c.self.invariant.root_in, size);
       tree = c.unmap_page.ensures.tree c.self.inside.free c.self.invariant.tree;
-      known = known_moved c.self.inside.memory.area c.unmap_page.new.frames.area c.self.inside.free (frame_count c.unmap_page.new.frames.words) c.unmap_page.ensures.area
-          (free_stays c.self.inside.memory.area c.self.inside.free c.self.inside.free (frame_count c.self.inside.memory.words) (frame_count c.unmap_page.new.frames.words) c.self.invariant.known (omega arith) (λ f e. e));
+      known = known_moved c.self.inside.memory.area c.unmap_page.new.frames.area c.self.inside.free
+          (frame_count c.unmap_page.new.frames.words) c.unmap_page.ensures.area
+          (free_stays c.self.inside.memory.area c.self.inside.free c.self.inside.free
+          (frame_count c.self.inside.memory.words) (frame_count c.unmap_page.new.frames.words) c.self.invariant.known
+          (omega arith) (λ f e. e));
       apart = λ page place is.
           ap (λ a. in_area a place.frame) c.unmap_page.ensures.area
-          ∙ removed_outside c.self.inside.memory.area c.self.inside.memory.words c.unmap_page.new.frames.words c.self.inside.root c.args.page all c.self.invariant.apart page place is;
+          ∙ removed_outside c.self.inside.memory.area c.self.inside.memory.words c.unmap_page.new.frames.words
+          c.self.inside.root c.args.page all c.self.invariant.apart page place is;
     }
 
 pub returns-clause-larges : goal.returns-clause-larges

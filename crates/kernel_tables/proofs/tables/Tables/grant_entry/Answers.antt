@@ -20,11 +20,15 @@ invariant_of-self c =
     record {
       root_in = omega (arith, c.self.invariant.root_in, size);
       tree = c.protect_at.ensures.tree c.self.inside.free c.self.invariant.tree;
-      known = known_moved c.self.inside.memory.area c.protect_at.new.frames.area c.self.inside.free (frame_count c.protect_at.new.frames.words) c.protect_at.ensures.area
-          (free_stays c.self.inside.memory.area c.self.inside.free c.self.inside.free (frame_count c.self.inside.memory.words) (frame_count c.protect_at.new.frames.words) c.self.invariant.known (omega arith) (λ f e. e));
+      known = known_moved c.self.inside.memory.area c.protect_at.new.frames.area c.self.inside.free
+          (frame_count c.protect_at.new.frames.words) c.protect_at.ensures.area
+          (free_stays c.self.inside.memory.area c.self.inside.free c.self.inside.free
+          (frame_count c.self.inside.memory.words) (frame_count c.protect_at.new.frames.words) c.self.invariant.known
+          (omega arith) (λ f e. e));
       apart = λ page place is.
           ap (λ a. in_area a place.frame) c.protect_at.ensures.area
-          ∙ regranted_outside c.self.inside.memory.area c.self.inside.memory.words c.protect_at.new.frames.words c.self.inside.root c.args.page c.args.rights all c.self.invariant.apart page place is;
+          ∙ regranted_outside c.self.inside.memory.area c.self.inside.memory.words c.protect_at.new.frames.words
+          c.self.inside.root c.args.page c.args.rights all c.self.invariant.apart page place is;
     }
 
 pub returns-in-Entry-default-Some-clause-some : goal.returns-in-Entry-default-Some-clause-some
@@ -42,7 +46,8 @@ returns-in-Entry-default-Some-clause-larges c = λ n.
 
 pub returns-in-Entry-default-Some-clause-granted : goal.returns-in-Entry-default-Some-clause-granted
 returns-in-Entry-default-Some-clause-granted c = λ _.
-    subst (λ (s : TableState). IfSome (leads s c.args.page) (λ place. walk_of c.protect_at.new.frames.words c.self.inside.root c.args.page ≡ Some (granted place.frame c.args.rights)))
+    subst (λ (s : TableState). IfSome (leads s c.args.page) (λ place. walk_of c.protect_at.new.frames.words
+    c.self.inside.root c.args.page ≡ Some (granted place.frame c.args.rights)))
     c.self.view_is (c.protect_at.ensures.granted c.self.inside.free c.self.invariant.tree)
 
 pub returns-in-Large-clause-none : goal.returns-in-Large-clause-none

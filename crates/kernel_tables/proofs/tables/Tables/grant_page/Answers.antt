@@ -16,11 +16,15 @@ invariant_of-self c =
     record {
       root_in = omega (arith, c.self.invariant.root_in, size);
       tree = c.protect_page.ensures.tree c.self.inside.free c.self.invariant.tree;
-      known = known_moved c.self.inside.memory.area c.protect_page.new.frames.area c.self.inside.free (frame_count c.protect_page.new.frames.words) c.protect_page.ensures.area
-          (free_stays c.self.inside.memory.area c.self.inside.free c.self.inside.free (frame_count c.self.inside.memory.words) (frame_count c.protect_page.new.frames.words) c.self.invariant.known (omega arith) (λ f e. e));
+      known = known_moved c.self.inside.memory.area c.protect_page.new.frames.area c.self.inside.free
+          (frame_count c.protect_page.new.frames.words) c.protect_page.ensures.area
+          (free_stays c.self.inside.memory.area c.self.inside.free c.self.inside.free
+          (frame_count c.self.inside.memory.words) (frame_count c.protect_page.new.frames.words) c.self.invariant.known
+          (omega arith) (λ f e. e));
       apart = λ page place is.
           ap (λ a. in_area a place.frame) c.protect_page.ensures.area
-          ∙ regranted_outside c.self.inside.memory.area c.self.inside.memory.words c.protect_page.new.frames.words c.self.inside.root c.args.page c.args.rights all c.self.invariant.apart page place is;
+          ∙ regranted_outside c.self.inside.memory.area c.self.inside.memory.words c.protect_page.new.frames.words
+          c.self.inside.root c.args.page c.args.rights all c.self.invariant.apart page place is;
     }
 
 pub returns-clause-larges : goal.returns-clause-larges
@@ -30,11 +34,13 @@ returns-clause-larges c = λ n.
 
 pub returns-clause-granted : goal.returns-clause-granted
 returns-clause-granted c =
-    subst (λ (s : TableState). IfSome (leads s c.args.page) (λ place. walk_of c.protect_page.new.frames.words c.self.inside.root c.args.page ≡ Some (granted place.frame c.args.rights)))
+    subst (λ (s : TableState). IfSome (leads s c.args.page) (λ place. walk_of c.protect_page.new.frames.words
+    c.self.inside.root c.args.page ≡ Some (granted place.frame c.args.rights)))
     c.self.view_is (c.protect_page.ensures.granted c.self.inside.free c.self.invariant.tree)
 
 pub returns-clause-only : goal.returns-clause-only
 returns-clause-only c =
     let all = c.protect_page.ensures.pages c.self.inside.free c.self.invariant.tree in
-    only_seen c.self.view_is c.protect_page.ensures.area all.size (λ l n met lt is. all.stayed l n (omega (arith, lt)) (λ e. absurd (omega (arith, lt, e))) ∙ is)
+    only_seen c.self.view_is c.protect_page.ensures.area all.size (λ l n met lt is.
+    all.stayed l n (omega (arith, lt)) (λ e. absurd (omega (arith, lt, e))) ∙ is)
     (λ other canonical not. c.protect_page.ensures.elsewhere c.self.inside.free c.self.invariant.tree other canonical (other_page c.args.page other not))

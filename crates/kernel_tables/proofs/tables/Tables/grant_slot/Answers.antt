@@ -16,11 +16,15 @@ invariant_of-self c =
     record {
       root_in = omega (arith, c.self.invariant.root_in, size);
       tree = c.protect_large.ensures.tree c.self.inside.free c.self.invariant.tree;
-      known = known_moved c.self.inside.memory.area c.protect_large.new.frames.area c.self.inside.free (frame_count c.protect_large.new.frames.words) c.protect_large.ensures.area
-          (free_stays c.self.inside.memory.area c.self.inside.free c.self.inside.free (frame_count c.self.inside.memory.words) (frame_count c.protect_large.new.frames.words) c.self.invariant.known (omega arith) (λ f e. e));
+      known = known_moved c.self.inside.memory.area c.protect_large.new.frames.area c.self.inside.free
+          (frame_count c.protect_large.new.frames.words) c.protect_large.ensures.area
+          (free_stays c.self.inside.memory.area c.self.inside.free c.self.inside.free
+          (frame_count c.self.inside.memory.words) (frame_count c.protect_large.new.frames.words) c.self.invariant.known
+          (omega arith) (λ f e. e));
       apart = λ page place is.
           ap (λ a. in_area a place.frame) c.protect_large.ensures.area
-          ∙ slot_outside c.self.inside.memory.area c.self.inside.memory.words c.protect_large.new.frames.words c.self.inside.root c.args.slot c.args.rights all c.self.invariant.apart page place is;
+          ∙ slot_outside c.self.inside.memory.area c.self.inside.memory.words c.protect_large.new.frames.words
+          c.self.inside.root c.args.slot c.args.rights all c.self.invariant.apart page place is;
     }
 
 pub returns-clause-larges : goal.returns-clause-larges
@@ -30,12 +34,16 @@ returns-clause-larges c = λ n ne.
 
 pub returns-clause-granted : goal.returns-clause-granted
 returns-clause-granted c = λ k lt.
-    subst (λ (s : TableState). IfSome (leads s (512 * c.args.slot + k)) (λ place. walk_of c.protect_large.new.frames.words c.self.inside.root (512 * c.args.slot + k) ≡ Some (granted place.frame c.args.rights)))
+    subst (λ (s : TableState). IfSome (leads s (512 * c.args.slot + k))
+    (λ place. walk_of c.protect_large.new.frames.words c.self.inside.root (512 * c.args.slot + k) ≡ Some
+    (granted place.frame c.args.rights)))
     c.self.view_is
-    (slot_granted c.self.inside.memory.words c.protect_large.new.frames.words c.self.inside.root c.args.slot c.args.rights (c.protect_large.ensures.granted c.self.inside.free c.self.invariant.tree) k lt)
+    (slot_granted c.self.inside.memory.words c.protect_large.new.frames.words c.self.inside.root c.args.slot c.args.rights
+    (c.protect_large.ensures.granted c.self.inside.free c.self.invariant.tree) k lt)
 
 pub returns-clause-only : goal.returns-clause-only
 returns-clause-only c =
     let all = c.protect_large.ensures.granted c.self.inside.free c.self.invariant.tree in
-    only_seen c.self.view_is c.protect_large.ensures.area all.size (λ l n met lt is. all.others l n (omega (arith, lt)) (λ e _. absurd (omega (arith, lt, e))) ∙ is)
+    only_seen c.self.view_is c.protect_large.ensures.area all.size (λ l n met lt is.
+    all.others l n (omega (arith, lt)) (λ e _. absurd (omega (arith, lt, e))) ∙ is)
     (λ other canonical not. c.protect_large.ensures.elsewhere c.self.inside.free c.self.invariant.tree other canonical (other_slot c.args.slot other not))

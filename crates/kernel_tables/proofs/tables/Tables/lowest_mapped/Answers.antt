@@ -9,7 +9,8 @@ returns-then-unmapped-eq0 c =
     let a = c.after-at.ensures in
     let here = rw a at (c.pages_unmapped-unmapped.ensures.none c.if-unmapped-eq0.true) in
     ap (λ n. Some n) a
-    ∙ sym (lowest_at (λ at. is_some (leads c.args.self.now at)) c.args.page c.args.pages c.loop-done.done c.loop-done-test.true (λ j lj. rw (c.loop-done.invariant j lj) refl)
+    ∙ sym (lowest_at (λ at. is_some (leads c.args.self.now at)) c.args.page c.args.pages c.loop-done.done
+    c.loop-done-test.true (λ j lj. rw (c.loop-done.invariant j lj) refl)
     (there_is (leads c.args.self.now (c.args.page + c.loop-done.done)) here))
 
 pub loop-done-preserved : goal.loop-done-preserved

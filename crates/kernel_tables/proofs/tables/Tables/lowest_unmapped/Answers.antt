@@ -10,7 +10,8 @@ returns-then-mapped-eq0 c =
     let here = rw a at (c.pages_of_entry-mapped.ensures.none c.if-mapped-eq0.true) in
     ap (λ n. Some n) a
     ∙ sym (lowest_at (λ at. is_none (leads c.args.self.now at)) c.args.page c.args.pages c.loop-done.done c.loop-done-test.true
-    (λ j lj. some_is (leads c.args.self.now (c.args.page + j)) (c.loop-done.invariant j lj)) (none_is (leads c.args.self.now (c.args.page + c.loop-done.done)) here))
+    (λ j lj. some_is (leads c.args.self.now (c.args.page + j)) (c.loop-done.invariant j lj))
+    (none_is (leads c.args.self.now (c.args.page + c.loop-done.done)) here))
 
 pub loop-done-preserved : goal.loop-done-preserved
 loop-done-preserved c = λ k lt.

@@ -24,18 +24,21 @@ invariant_of-self c =
       known = c.map_at.ensures.known c.self.inside.free c.self.invariant.known;
       apart = λ page place is.
           ap (λ a. in_area a place.frame) c.map_at.ensures.area
-          ∙ added_outside c.self.inside.memory.area c.self.inside.memory.words c.map_at.new.frames.words c.self.inside.free c.self.inside.free c.self.inside.root c.args.page c.args.frame c.args.rights
+          ∙ added_outside c.self.inside.memory.area c.self.inside.memory.words c.map_at.new.frames.words c.self.inside.free
+          c.self.inside.free c.self.inside.root c.args.page c.args.frame c.args.rights
           added out c.self.invariant.apart page place is;
     }
 
 pub map_fault-requires-clause-missing : goal.map_fault-requires-clause-missing
 map_fault-requires-clause-missing c =
     nothing_missing c.args.self.now c.args.page c.in-Entry-default-None.entry.table c.in-Entry-default-None.entry.index
-    (subst (λ (s : TableState). IsEntryOf s.words s.root c.args.page c.in-Entry-default-None.entry.table c.in-Entry-default-None.entry.index) c.self.view_is c.in-Entry-default-None.ensures.end.0)
+    (subst (λ (s : TableState). IsEntryOf s.words s.root c.args.page c.in-Entry-default-None.entry.table
+    c.in-Entry-default-None.entry.index) c.self.view_is c.in-Entry-default-None.ensures.end.0)
 
 -- the frame is none of the tables
 outside : (c : goal.In-None) → in_area c.self.inside.memory.area c.args.frame ≡ false
-outside c = ap (λ (s : TableState). in_area s.area c.args.frame) c.self.view_is ∙ no_fault c.args.self.now c.args.page c.args.frame (sym c.in-None.ensures.fault)
+outside c = ap (λ (s : TableState). in_area s.area c.args.frame) c.self.view_is
+    ∙ no_fault c.args.self.now c.args.page c.args.frame (sym c.in-None.ensures.fault)
 
 used : (c : goal.In-None) → is_free c.self.inside.free c.args.frame ≡ false
 used c = outside_used c.self.inside.memory.area c.self.inside.free (frame_count c.self.inside.memory.words) c.args.frame c.self.invariant.known (outside c)
@@ -50,7 +53,12 @@ returns-in-None-clause-only c =
 pub returns-in-None-clause-mapped : goal.returns-in-None-clause-mapped
 returns-in-None-clause-mapped c =
     let added = c.map_at.ensures.added c.self.inside.free c.self.invariant.tree (used (goal.at.returns-in-None-clause-mapped c).In-None) in
-    subst (λ (s : TableState). IsPageMapped s (record { words = c.map_at.new.frames.words; area = c.map_at.new.frames.area; root = c.self.inside.root; free = c.self.inside.free }) c.args.page c.args.frame c.args.rights)
+    subst (λ (s : TableState). IsPageMapped s (record {
+      words = c.map_at.new.frames.words;
+      area = c.map_at.new.frames.area;
+      root = c.self.inside.root;
+      free = c.self.inside.free;
+    }) c.args.page c.args.frame c.args.rights)
     c.self.view_is (record { mapped = added.there; added = added })
 
 pub returns-in-None-map_fault-clause-only : goal.returns-in-None-map_fault-clause-only
@@ -62,13 +70,21 @@ returns-in-None-map_fault-clause-only c =
 pub returns-in-None-map_fault-clause-mapped : goal.returns-in-None-map_fault-clause-mapped
 returns-in-None-map_fault-clause-mapped c =
     let added = c.map_page.ensures.added in
-    subst (λ (s : TableState). IsPageMapped s (record { words = c.map_page.new.frames.words; area = c.map_page.new.frames.area; root = c.self.inside.root; free = c.map_page.new.pool }) c.args.page c.args.frame c.args.rights)
+    subst (λ (s : TableState). IsPageMapped s (record {
+      words = c.map_page.new.frames.words;
+      area =
+          c.map_page.new.frames.area;
+      root = c.self.inside.root;
+      free = c.map_page.new.pool;
+    }) c.args.page c.args.frame
+    c.args.rights)
     c.self.view_is (record { mapped = added.there; added = added })
 
 pub invariant_of-self-in-None-map_fault : goal.invariant_of-self-in-None-map_fault
 invariant_of-self-in-None-map_fault c =
     let out : in_area c.self.inside.memory.area c.args.frame ≡ false =
-    ap (λ (s : TableState). in_area s.area c.args.frame) c.self.view_is ∙ no_fault c.args.self.now c.args.page c.args.frame (sym c.in-None-map_fault.ensures.fault) in
+    ap (λ (s : TableState). in_area s.area c.args.frame) c.self.view_is
+    ∙ no_fault c.args.self.now c.args.page c.args.frame (sym c.in-None-map_fault.ensures.fault) in
     let added = c.map_page.ensures.added in
     let size = added.size in
     record {
@@ -77,6 +93,7 @@ invariant_of-self-in-None-map_fault c =
       known = c.map_page.ensures.known;
       apart = λ page place is.
           ap (λ a. in_area a place.frame) c.map_page.ensures.area
-          ∙ added_outside c.self.inside.memory.area c.self.inside.memory.words c.map_page.new.frames.words c.self.inside.free c.map_page.new.pool c.self.inside.root c.args.page c.args.frame c.args.rights
+          ∙ added_outside c.self.inside.memory.area c.self.inside.memory.words c.map_page.new.frames.words
+          c.self.inside.free c.map_page.new.pool c.self.inside.root c.args.page c.args.frame c.args.rights
           added out c.self.invariant.apart page place is;
     }

@@ -11,15 +11,19 @@ loop-done-init c = mapped_start c.args.self.now c.args.page c.args.pages c.args.
 pub add_large-requires-clause-empty : goal.add_large-requires-clause-empty
 add_large-requires-clause-empty c =
     let yes' = sym (rw (c.after-at.ensures, c.after-to.ensures) at c.begins_large.ensures) ∙ c.if-begins_large.true in
-    let b = begins c.args.self.now c.loop-done.self c.args.page c.args.pages c.args.frame c.loop-done.done c.args.rights c.requires.range c.loop-done.invariant c.loop-done-test.true yes' in
-    let f = begins_at c.args.self.now c.loop-done.self c.args.page c.args.pages c.args.frame c.loop-done.done c.args.rights c.requires.range c.loop-done.invariant c.loop-done-test.true yes' in
+    let b = begins c.args.self.now c.loop-done.self c.args.page c.args.pages c.args.frame c.loop-done.done c.args.rights
+    c.requires.range c.loop-done.invariant c.loop-done-test.true yes' in
+    let f = begins_at c.args.self.now c.loop-done.self c.args.page c.args.pages c.args.frame c.loop-done.done c.args.rights
+    c.requires.range c.loop-done.invariant c.loop-done-test.true yes' in
     rw (c.slot_at.ensures, c.after-at.ensures)
-    (slot_empty c.args.self.now c.loop-done.self c.args.page c.args.pages c.args.frame c.loop-done.done c.args.rights c.requires.range c.loop-done.invariant c.loop-done-test.true b f.0 c.requires.unmapped)
+    (slot_empty c.args.self.now c.loop-done.self c.args.page c.args.pages c.args.frame c.loop-done.done c.args.rights
+    c.requires.range c.loop-done.invariant c.loop-done-test.true b f.0 c.requires.unmapped)
 
 pub add_large-requires-clause-below : goal.add_large-requires-clause-below
 add_large-requires-clause-below c =
     let yes' = sym (rw (c.after-at.ensures, c.after-to.ensures) at c.begins_large.ensures) ∙ c.if-begins_large.true in
-    let f = begins_at c.args.self.now c.loop-done.self c.args.page c.args.pages c.args.frame c.loop-done.done c.args.rights c.requires.range c.loop-done.invariant c.loop-done-test.true yes' in
+    let f = begins_at c.args.self.now c.loop-done.self c.args.page c.args.pages c.args.frame c.loop-done.done c.args.rights
+    c.requires.range c.loop-done.invariant c.loop-done-test.true yes' in
     let l : limit_of c.loop-done.self ≡ limit_of c.args.self.now = ap (λ n. n / 512) c.loop-done.invariant.place.size in
     let below = c.requires.below in
     let fits = f.2 in
@@ -32,7 +36,8 @@ add_large-requires-clause-below c =
 pub add_large-requires-clause-outside : goal.add_large-requires-clause-outside
 add_large-requires-clause-outside c =
     let yes' = sym (rw (c.after-at.ensures, c.after-to.ensures) at c.begins_large.ensures) ∙ c.if-begins_large.true in
-    let f = begins_at c.args.self.now c.loop-done.self c.args.page c.args.pages c.args.frame c.loop-done.done c.args.rights c.requires.range c.loop-done.invariant c.loop-done-test.true yes' in
+    let f = begins_at c.args.self.now c.loop-done.self c.args.page c.args.pages c.args.frame c.loop-done.done c.args.rights
+    c.requires.range c.loop-done.invariant c.loop-done-test.true yes' in
     let fits = f.2 in
     let at = f.1 in
     let to = c.after-to.ensures in
@@ -44,14 +49,17 @@ add_large-requires-clause-outside c =
 pub add_large-requires-clause-room : goal.add_large-requires-clause-room
 add_large-requires-clause-room c =
     let yes' = sym (rw (c.after-at.ensures, c.after-to.ensures) at c.begins_large.ensures) ∙ c.if-begins_large.true in
-    let f = begins_at c.args.self.now c.loop-done.self c.args.page c.args.pages c.args.frame c.loop-done.done c.args.rights c.requires.range c.loop-done.invariant c.loop-done-test.true yes' in
+    let f = begins_at c.args.self.now c.loop-done.self c.args.page c.args.pages c.args.frame c.loop-done.done c.args.rights
+    c.requires.range c.loop-done.invariant c.loop-done-test.true yes' in
     rw (c.slot_at.ensures, c.after-at.ensures)
-    (slot_room c.args.self.now c.loop-done.self c.args.page c.args.pages c.args.frame c.loop-done.done c.args.rights c.requires.range c.loop-done.invariant c.loop-done-test.true c.requires.room f.0)
+    (slot_room c.args.self.now c.loop-done.self c.args.page c.args.pages c.args.frame c.loop-done.done c.args.rights
+    c.requires.range c.loop-done.invariant c.loop-done-test.true c.requires.room f.0)
 
 pub add_page-requires-clause-unmapped : goal.add_page-requires-clause-unmapped
 add_page-requires-clause-unmapped c =
     rw c.after-at.ensures
-    (page_unmapped c.args.self.now c.loop-done.self c.args.page c.args.pages c.args.frame c.loop-done.done c.args.rights c.requires.range c.loop-done.invariant c.loop-done-test.true
+    (page_unmapped c.args.self.now c.loop-done.self c.args.page c.args.pages c.args.frame c.loop-done.done c.args.rights
+    c.requires.range c.loop-done.invariant c.loop-done-test.true
     (c.requires.unmapped c.loop-done.done c.loop-done-test.true))
 
 pub add_page-requires-clause-below : goal.add_page-requires-clause-below
@@ -68,15 +76,19 @@ pub add_page-requires-clause-room : goal.add_page-requires-clause-room
 add_page-requires-clause-room c =
     let no' = sym (rw (c.after-at.ensures, c.after-to.ensures) at c.begins_large.ensures) ∙ c.if-begins_large.false in
     rw c.after-at.ensures
-    (page_room c.args.self.now c.loop-done.self c.args.page c.args.pages c.args.frame c.loop-done.done c.args.rights c.requires.range c.loop-done.invariant c.loop-done-test.true c.requires.room
-    (single c.args.self.now c.loop-done.self c.args.page c.args.pages c.args.frame c.loop-done.done c.args.rights c.requires.range c.loop-done.invariant c.loop-done-test.true no'))
+    (page_room c.args.self.now c.loop-done.self c.args.page c.args.pages c.args.frame c.loop-done.done c.args.rights
+    c.requires.range c.loop-done.invariant c.loop-done-test.true c.requires.room
+    (single c.args.self.now c.loop-done.self c.args.page c.args.pages c.args.frame c.loop-done.done c.args.rights
+    c.requires.range c.loop-done.invariant c.loop-done-test.true no'))
 
 pub loop-done-preserved-then-begins_large : goal.loop-done-preserved-then-begins_large
 loop-done-preserved-then-begins_large c =
     let a = c.after-at.ensures in
     let yes' = sym (rw (c.after-at.ensures, c.after-to.ensures) at c.begins_large.ensures) ∙ c.if-begins_large.true in
-    let b = begins c.args.self.now c.loop-done.self c.args.page c.args.pages c.args.frame c.loop-done.done c.args.rights c.requires.range c.loop-done.invariant c.loop-done-test.true yes' in
-    let f = begins_at c.args.self.now c.loop-done.self c.args.page c.args.pages c.args.frame c.loop-done.done c.args.rights c.requires.range c.loop-done.invariant c.loop-done-test.true yes' in
+    let b = begins c.args.self.now c.loop-done.self c.args.page c.args.pages c.args.frame c.loop-done.done c.args.rights
+    c.requires.range c.loop-done.invariant c.loop-done-test.true yes' in
+    let f = begins_at c.args.self.now c.loop-done.self c.args.page c.args.pages c.args.frame c.loop-done.done c.args.rights
+    c.requires.range c.loop-done.invariant c.loop-done-test.true yes' in
     let at = f.1 in
     let to = c.after-to.ensures in
     let s = c.start_address.ensures in
@@ -84,7 +96,8 @@ loop-done-preserved-then-begins_large c =
     let e : c.slot_at.result ≡ (c.args.page + c.loop-done.done) / 512 = c.slot_at.ensures ∙ ap (λ n. n / 512) a in
     let from = b.from in
     let ends = b.to in
-    slot_next c.args.self.now c.loop-done.self c.args.page c.args.pages c.args.frame c.loop-done.done c.args.rights c.requires.range c.loop-done.invariant c.loop-done-test.true
+    slot_next c.args.self.now c.loop-done.self c.args.page c.args.pages c.args.frame c.loop-done.done c.args.rights
+    c.requires.range c.loop-done.invariant c.loop-done-test.true
     c.add_large.new.self c.containing_address-run.result (omega (arith, at, to, s, r)) b f.0
     (rw e at c.add_large.ensures.only) (rw e at c.add_large.ensures.added)
     (rw e at (c.add_large.ensures.missing c.args.page c.args.pages c.requires.range (rw e from) (rw e ends)))
@@ -93,9 +106,11 @@ pub loop-done-preserved : goal.loop-done-preserved
 loop-done-preserved c =
     let a = c.after-at.ensures in
     let no' = sym (rw (c.after-at.ensures, c.after-to.ensures) at c.begins_large.ensures) ∙ c.if-begins_large.false in
-    page_next c.args.self.now c.loop-done.self c.args.page c.args.pages c.args.frame c.loop-done.done c.args.rights c.requires.range c.loop-done.invariant c.loop-done-test.true
+    page_next c.args.self.now c.loop-done.self c.args.page c.args.pages c.args.frame c.loop-done.done c.args.rights
+    c.requires.range c.loop-done.invariant c.loop-done-test.true
     c.add_page.new.self
-    (single c.args.self.now c.loop-done.self c.args.page c.args.pages c.args.frame c.loop-done.done c.args.rights c.requires.range c.loop-done.invariant c.loop-done-test.true no')
+    (single c.args.self.now c.loop-done.self c.args.page c.args.pages c.args.frame c.loop-done.done c.args.rights
+    c.requires.range c.loop-done.invariant c.loop-done-test.true no')
     (rw a at c.add_page.ensures.only) (rw (a, c.after-to.ensures) at c.add_page.ensures.added)
     (rw a at (c.add_page.ensures.missing c.args.page c.args.pages c.requires.range (omega (arith, a)) (omega (arith, a, c.loop-done-test.true))))
 
@@ -106,8 +121,10 @@ all c =
     rw d at c.loop-done.invariant
 
 pub returns-clause-only : goal.returns-clause-only
-returns-clause-only c = mapped_only c.args.self.now c.loop-done.self c.args.page c.args.pages c.args.frame c.args.rights (all (goal.at.returns-clause-only c).After-loop-done)
+returns-clause-only c = mapped_only c.args.self.now c.loop-done.self c.args.page c.args.pages c.args.frame c.args.rights
+    (all (goal.at.returns-clause-only c).After-loop-done)
 
 pub returns-clause-mapped : goal.returns-clause-mapped
 returns-clause-mapped c =
-    mapped_range c.args.self.now c.loop-done.self c.args.page c.args.pages c.args.frame c.args.rights c.requires.range c.requires.unmapped (all (goal.at.returns-clause-mapped c).After-loop-done)
+    mapped_range c.args.self.now c.loop-done.self c.args.page c.args.pages c.args.frame c.args.rights c.requires.range
+    c.requires.unmapped (all (goal.at.returns-clause-mapped c).After-loop-done)

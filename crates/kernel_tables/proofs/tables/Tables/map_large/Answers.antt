@@ -9,17 +9,20 @@ use Rattle.kernel_tables.proofs.tables.Tables.map_large.Goals as goal
 
 pub map_large-requires-clause-empty : goal.map_large-requires-clause-empty
 map_large-requires-clause-empty c =
-    let f = subst (λ (s : TableState). HasNoFault s c.args.page c.args.frame) (sym c.self.view_is) (no_large_fault c.args.self.now c.args.page c.args.frame (sym c.in-None.ensures)) in
+    let f = subst (λ (s : TableState). HasNoFault s c.args.page c.args.frame) (sym c.self.view_is)
+    (no_large_fault c.args.self.now c.args.page c.args.frame (sym c.in-None.ensures)) in
     slot_empty c.self.inside.memory.words c.self.inside.root c.args.page f.small f.no_table
 
 pub map_large-requires-clause-unmet : goal.map_large-requires-clause-unmet
 map_large-requires-clause-unmet c =
-    let f = subst (λ (s : TableState). HasNoFault s c.args.page c.args.frame) (sym c.self.view_is) (no_large_fault c.args.self.now c.args.page c.args.frame (sym c.in-None.ensures)) in
+    let f = subst (λ (s : TableState). HasNoFault s c.args.page c.args.frame) (sym c.self.view_is)
+    (no_large_fault c.args.self.now c.args.page c.args.frame (sym c.in-None.ensures)) in
     row_unmet c.self.inside.memory.area c.self.inside.memory.words c.self.inside.root (512 * c.args.frame) c.self.inside.free c.self.invariant.tree f.outside
 
 pub invariant_of-self : goal.invariant_of-self
 invariant_of-self c =
-    let f = subst (λ (s : TableState). HasNoFault s c.args.page c.args.frame) (sym c.self.view_is) (no_large_fault c.args.self.now c.args.page c.args.frame (sym c.in-None.ensures)) in
+    let f = subst (λ (s : TableState). HasNoFault s c.args.page c.args.frame) (sym c.self.view_is)
+    (no_large_fault c.args.self.now c.args.page c.args.frame (sym c.in-None.ensures)) in
     let added = c.map_large.ensures.added in
     let size = added.size in
     record {
@@ -28,13 +31,15 @@ invariant_of-self c =
       known = c.map_large.ensures.known;
       apart = λ page place is.
           ap (λ a. in_area a place.frame) c.map_large.ensures.area
-          ∙ large_outside c.self.inside.memory.area c.self.inside.memory.words c.map_large.new.frames.words c.self.inside.free c.map_large.new.pool c.self.inside.root c.args.page c.args.frame c.args.rights
+          ∙ large_outside c.self.inside.memory.area c.self.inside.memory.words c.map_large.new.frames.words
+          c.self.inside.free c.map_large.new.pool c.self.inside.root c.args.page c.args.frame c.args.rights
           added f.outside c.self.invariant.apart page place is;
     }
 
 pub returns-in-None-clause-flush : goal.returns-in-None-clause-flush
 returns-in-None-clause-flush c = λ other place canonical not is.
-    stays_mapped c.self.inside.memory.words c.map_large.new.frames.words c.self.inside.free c.map_large.new.pool c.self.inside.root c.args.page c.args.frame c.args.rights
+    stays_mapped c.self.inside.memory.words c.map_large.new.frames.words c.self.inside.free c.map_large.new.pool
+    c.self.inside.root c.args.page c.args.frame c.args.rights
     c.map_large.ensures.added other place (ap (λ (s : TableState). leads s other) c.self.view_is ∙ is)
 
 pub returns-in-None-clause-only : goal.returns-in-None-clause-only
@@ -46,5 +51,12 @@ returns-in-None-clause-only c =
 pub returns-in-None-clause-mapped : goal.returns-in-None-clause-mapped
 returns-in-None-clause-mapped c =
     let added = c.map_large.ensures.added in
-    subst (λ (s : TableState). IsLargeMapped s (record { words = c.map_large.new.frames.words; area = c.map_large.new.frames.area; root = c.self.inside.root; free = c.map_large.new.pool }) c.args.page c.args.frame c.args.rights)
+    subst (λ (s : TableState). IsLargeMapped s (record {
+      words = c.map_large.new.frames.words;
+      area =
+          c.map_large.new.frames.area;
+      root = c.self.inside.root;
+      free = c.map_large.new.pool;
+    }) c.args.page c.args.frame
+    c.args.rights)
     c.self.view_is (record { mapped = added.there; added = added })

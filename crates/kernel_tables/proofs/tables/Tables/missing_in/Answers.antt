@@ -21,8 +21,10 @@ loop-done-preserved c =
     let m = c.min-count.ensures in
     let t = c.loop-done-test.true in
     let some : 0 < c.min-count.result = omega arith in
-    let front = piece_range c.args.page c.args.pages c.args.page (c.loop-done.done + c.min-count.result) c.requires.range (omega arith) (omega arith) (omega arith) in
-    let p = missing_parts c.args.self.now.words c.args.self.now.root c.args.page c.loop-done.done c.min-count.result front some (λ pos. c.loop-done.invariant.edge pos t) in
+    let front = piece_range c.args.page c.args.pages c.args.page (c.loop-done.done + c.min-count.result) c.requires.range
+    (omega arith) (omega arith) (omega arith) in
+    let p = missing_parts c.args.self.now.words c.args.self.now.root c.args.page c.loop-done.done c.min-count.result front
+    some (λ pos. c.loop-done.invariant.edge pos t) in
     let r : c.missing_tables-missing.result ≡ missing_of c.args.self.now.words c.args.self.now.root (c.args.page + c.loop-done.done) c.min-count.result =
     c.missing_tables-missing.ensures.count
     ∙ (ap (λ q. missing_of c.self.inside.memory.words c.self.inside.root q c.min-count.result) (o ∙ a)

@@ -9,14 +9,16 @@ use Rattle.kernel_tables.proofs.tables.Tables.new.Goals as goal
 pub make_root-requires-clause-known : goal.make_root-requires-clause-known
 make_root-requires-clause-known c =
     let k = c.in_ok-memory.ensures.some.0 refl in
-    start_known c.in_ok-memory.memory.area c.in_ok-memory.memory.words c.args.words.now c.new-free.result c.args.first c.args.limit (c.args.first + length c.args.words.now / 512)
+    start_known c.in_ok-memory.memory.area c.in_ok-memory.memory.words c.args.words.now c.new-free.result c.args.first
+    c.args.limit (c.args.first + length c.args.words.now / 512)
     (ap (λ (m : AreaWords). m.area) c.in_ok-memory.ensures.value) (ap (λ (m : AreaWords). m.words) c.in_ok-memory.ensures.value) c.new-free.ensures
     (omega (arith, k.0)) (omega (arith, k.2))
 
 pub unreachable-requires : goal.unreachable-requires
 unreachable-requires c =
     let k = c.in_ok-memory.ensures.some.0 refl in
-    start_some c.new-free.result c.args.first (c.args.first + length c.args.words.now / 512) c.new-free.ensures (omega (arith, k.0, k.1)) c.in_default.ensures.taken.1
+    start_some c.new-free.result c.args.first (c.args.first + length c.args.words.now / 512) c.new-free.ensures
+    (omega (arith, k.0, k.1)) c.in_default.ensures.taken.1
 
 pub returns-clause-limit : goal.returns-clause-limit
 returns-clause-limit c =
@@ -32,4 +34,5 @@ returns-clause-root c =
 
 pub returns-clause-free : goal.returns-clause-free
 returns-clause-free c =
-    c.in-Some.ensures.count ∙ (ap free_count c.new-free.ensures ∙ ahead_left (length c.args.words.now / 512) c.args.first (c.args.first + length c.args.words.now / 512) refl)
+    c.in-Some.ensures.count ∙ (ap free_count c.new-free.ensures ∙ ahead_left (length c.args.words.now / 512) c.args.first
+    (c.args.first + length c.args.words.now / 512) refl)

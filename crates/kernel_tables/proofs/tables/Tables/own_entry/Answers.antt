@@ -8,30 +8,39 @@ use Rattle.kernel_tables.proofs.tables.Tables.own_entry.Goals as goal
 
 pub returns-then-is_none-clause-free : goal.returns-then-is_none-clause-free
 returns-then-is_none-clause-free c =
-    let none = rw c.slot_at-slot.ensures at (found_none c.large_page.result (large_of c.args.self.now.words c.args.self.now.root (slot_of c.slot_at-slot.result)) c.large_page.ensures (c.is_none.ensures ∙ ap not c.if-is_none.true)) in
+    let none = rw c.slot_at-slot.ensures at (found_none c.large_page.result
+    (large_of c.args.self.now.words c.args.self.now.root (slot_of c.slot_at-slot.result)) c.large_page.ensures
+    (c.is_none.ensures ∙ ap not c.if-is_none.true)) in
     let z = not_split c.args.self.now c.args.page none in
     omega (arith, z)
 
 pub returns-then-is_none-clause-small : goal.returns-then-is_none-clause-small
 returns-then-is_none-clause-small c =
-    let none = rw c.slot_at-slot.ensures at (found_none c.large_page.result (large_of c.args.self.now.words c.args.self.now.root (slot_of c.slot_at-slot.result)) c.large_page.ensures (c.is_none.ensures ∙ ap not c.if-is_none.true)) in
+    let none = rw c.slot_at-slot.ensures at (found_none c.large_page.result
+    (large_of c.args.self.now.words c.args.self.now.root (slot_of c.slot_at-slot.result)) c.large_page.ensures
+    (c.is_none.ensures ∙ ap not c.if-is_none.true)) in
     table_there c.args.self.now.words c.args.self.now.root c.args.page (entry_ok c.args.self.now c.args.page c.requires).mapped
     (λ some. is_hole (large_of c.args.self.now.words c.args.self.now.root (slot_of (c.args.page / 512))) none some)
 
 pub split_slot-requires-clause-large : goal.split_slot-requires-clause-large
 split_slot-requires-clause-large c =
-    found_there c.large_page.result (large_of c.args.self.now.words c.args.self.now.root (slot_of c.slot_at-slot.result)) c.large_page.ensures (c.is_none.ensures ∙ ap not c.if-is_none.false)
+    found_there c.large_page.result (large_of c.args.self.now.words c.args.self.now.root (slot_of c.slot_at-slot.result))
+    c.large_page.ensures (c.is_none.ensures ∙ ap not c.if-is_none.false)
 
 pub split_slot-requires-clause-room : goal.split_slot-requires-clause-room
 split_slot-requires-clause-room c =
-    let some = rw c.slot_at-slot.ensures at (found_there c.large_page.result (large_of c.args.self.now.words c.args.self.now.root (slot_of c.slot_at-slot.result)) c.large_page.ensures (c.is_none.ensures ∙ ap not c.if-is_none.false)) in
+    let some = rw c.slot_at-slot.ensures at (found_there c.large_page.result
+    (large_of c.args.self.now.words c.args.self.now.root (slot_of c.slot_at-slot.result)) c.large_page.ensures
+    (c.is_none.ensures ∙ ap not c.if-is_none.false)) in
     let o = is_one c.args.self.now c.args.page some in
     let r = (entry_ok c.args.self.now c.args.page c.requires).room in
     omega (arith, o, r)
 
 pub returns-clause-free : goal.returns-clause-free
 returns-clause-free c =
-    let some = rw c.slot_at-slot.ensures at (found_there c.large_page.result (large_of c.args.self.now.words c.args.self.now.root (slot_of c.slot_at-slot.result)) c.large_page.ensures (c.is_none.ensures ∙ ap not c.if-is_none.false)) in
+    let some = rw c.slot_at-slot.ensures at (found_there c.large_page.result
+    (large_of c.args.self.now.words c.args.self.now.root (slot_of c.slot_at-slot.result)) c.large_page.ensures
+    (c.is_none.ensures ∙ ap not c.if-is_none.false)) in
     let o = is_one c.args.self.now c.args.page some in
     let split = c.split_slot.ensures.split in
     let n = split.count in
@@ -46,6 +55,8 @@ returns-clause-small c =
 
 pub returns-clause-same : goal.returns-clause-same
 returns-clause-same c = λ zero.
-    let some = rw c.slot_at-slot.ensures at (found_there c.large_page.result (large_of c.args.self.now.words c.args.self.now.root (slot_of c.slot_at-slot.result)) c.large_page.ensures (c.is_none.ensures ∙ ap not c.if-is_none.false)) in
+    let some = rw c.slot_at-slot.ensures at (found_there c.large_page.result
+    (large_of c.args.self.now.words c.args.self.now.root (slot_of c.slot_at-slot.result)) c.large_page.ensures
+    (c.is_none.ensures ∙ ap not c.if-is_none.false)) in
     let o = is_one c.args.self.now c.args.page some in
     absurd (omega (arith, o, zero))

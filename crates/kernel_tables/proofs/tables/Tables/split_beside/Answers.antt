@@ -11,7 +11,8 @@ pub returns-then-not-is_split-clause-whole : goal.returns-then-not-is_split-clau
 returns-then-not-is_split-clause-whole c = sym c.is_split.ensures ∙ c.if-not-is_split.true
 
 pub split_slot-requires-clause-large : goal.split_slot-requires-clause-large
-split_slot-requires-clause-large c = rw c.slot_at.ensures (split_some c.args.self.now c.args.page c.args.pages (c.args.at / 512) (sym c.is_split.ensures ∙ c.if-not-is_split.false))
+split_slot-requires-clause-large c = rw c.slot_at.ensures (split_some c.args.self.now c.args.page c.args.pages
+    (c.args.at / 512) (sym c.is_split.ensures ∙ c.if-not-is_split.false))
 
 pub split_slot-requires-clause-room : goal.split_slot-requires-clause-room
 split_slot-requires-clause-room c = c.requires.room (sym c.is_split.ensures ∙ c.if-not-is_split.false)

@@ -16,7 +16,8 @@ split_beside-requires-clause-room c = λ e.
 pub split_beside-requires-2-clause-room : goal.split_beside-requires-2-clause-room
 split_beside-requires-2-clause-room c = λ e.
     let s = split_parts c.args.self.now c.args.page c.args.pages c.requires.range in
-    let l = last_split c.args.self.now c.split_beside.new.self c.args.page c.args.pages c.requires.range c.split_beside.ensures.whole c.split_beside.ensures.larges in
+    let l = last_split c.args.self.now c.split_beside.new.self c.args.page c.args.pages c.requires.range
+    c.split_beside.ensures.whole c.split_beside.ensures.larges in
     let e' = rw c.after-last.ensures at e in
     let o : cond {A = ℕ} (is_split c.split_beside.new.self c.args.page c.args.pages ((c.args.page + (c.args.pages - 1)) / 512)) 1 0 ≡ 1 = rw e' refl in
     let f = c.split_beside.ensures.free in
@@ -25,7 +26,8 @@ split_beside-requires-2-clause-room c = λ e.
 pub returns-clause-free : goal.returns-clause-free
 returns-clause-free c =
     let s = split_parts c.args.self.now c.args.page c.args.pages c.requires.range in
-    let l = last_split c.args.self.now c.split_beside.new.self c.args.page c.args.pages c.requires.range c.split_beside.ensures.whole c.split_beside.ensures.larges in
+    let l = last_split c.args.self.now c.split_beside.new.self c.args.page c.args.pages c.requires.range
+    c.split_beside.ensures.whole c.split_beside.ensures.larges in
     let f = c.split_beside.ensures.free in
     let g = rw c.after-last.ensures at c.split_beside-2.ensures.free in
     omega (arith, s, l, f, g)
@@ -34,11 +36,13 @@ pub returns-clause-within : goal.returns-clause-within
 returns-clause-within c =
     let some : 0 < c.args.pages = c.requires.range.some in
     let a = c.after-last.ensures in
-    let w : is_split c.split_beside-2.new.self c.args.page c.args.pages ((c.args.page + (c.args.pages - 1)) / 512) ≡ false = rw a at c.split_beside-2.ensures.whole in
+    let w : is_split c.split_beside-2.new.self c.args.page c.args.pages ((c.args.page + (c.args.pages - 1)) / 512) ≡ false =
+    rw a at c.split_beside-2.ensures.whole in
     all_within c.split_beside-2.new.self c.args.page c.args.pages some
     (first_still c.split_beside.new.self c.split_beside-2.new.self c.args.page c.args.pages (c.args.page + (c.args.pages - 1)) c.split_beside.ensures.whole w
     (rw a at c.split_beside-2.ensures.larges) (cases_eq (slot_of (c.args.page / 512)) (slot_of ((c.args.page + (c.args.pages - 1)) / 512)))
-    (λ e. slots_apart c.args.page c.args.pages (c.args.page / 512) ((c.args.page + (c.args.pages - 1)) / 512) c.requires.range (omega arith) (omega arith) (omega arith) (omega arith) e))
+    (λ e. slots_apart c.args.page c.args.pages (c.args.page / 512) ((c.args.page + (c.args.pages - 1)) / 512)
+    c.requires.range (omega arith) (omega arith) (omega arith) (omega arith) e))
     w
 
 pub returns-clause-none : goal.returns-clause-none

@@ -12,11 +12,13 @@ invariant_of-self c =
       root_in = omega (arith, c.self.invariant.root_in, size);
       tree = c.split_large.ensures.tree;
       known = c.split_large.ensures.known;
-      apart = λ page place is. ap (λ a. in_area a place.frame) c.split_large.ensures.area ∙ c.self.invariant.apart page place (sym (c.split_large.ensures.walks page) ∙ is);
+      apart = λ page place is. ap (λ a. in_area a place.frame) c.split_large.ensures.area
+          ∙ c.self.invariant.apart page place (sym (c.split_large.ensures.walks page) ∙ is);
     }
 
 pub returns-clause-none : goal.returns-clause-none
 returns-clause-none c =
     let split = c.split_large.ensures.split in
     none_seen c.self.view_is c.split_large.ensures.area split.size
-    (split_stay c.self.inside.memory.words c.split_large.new.frames.words c.self.inside.free c.split_large.new.pool c.self.inside.root c.args.slot split) c.split_large.ensures.walks
+    (split_stay c.self.inside.memory.words c.split_large.new.frames.words c.self.inside.free c.split_large.new.pool
+    c.self.inside.root c.args.slot split) c.split_large.ensures.walks

@@ -6,7 +6,8 @@ use Rattle.kernel_tables.proofs.tables.Tables.unmap_range.Goals as goal
 use Rattle.kernel_tables.proofs.tables.Tables.unmap_range.Goals.{In-None}
 
 open_range : (c : goal.In-None) → HasNoChangeFault c.args.self.now c.args.page c.args.pages
-open_range c = no_change_fault c.args.self.now c.args.page c.args.pages (omega (arith, c.if-pages-eq0.false)) c.in-None.ensures.canonical (sym c.in-None.ensures.fault)
+open_range c = no_change_fault c.args.self.now c.args.page c.args.pages (omega (arith, c.if-pages-eq0.false))
+    c.in-None.ensures.canonical (sym c.in-None.ensures.fault)
 
 pub split_ends-requires-clause-range : goal.split_ends-requires-clause-range
 split_ends-requires-clause-range c = (open_range (goal.at.split_ends-requires-clause-range c).In-None).range
@@ -18,7 +19,8 @@ pub clear_all-requires-clause-range : goal.clear_all-requires-clause-range
 clear_all-requires-clause-range c = (open_range (goal.at.clear_all-requires-clause-range c).In-None).range
 
 pub clear_all-requires-clause-mapped : goal.clear_all-requires-clause-mapped
-clear_all-requires-clause-mapped c = λ k lk. rw (c.split_ends.ensures.none.walks (c.args.page + k)) ((open_range (goal.at.clear_all-requires-clause-mapped c).In-None).mapped k lk)
+clear_all-requires-clause-mapped c = λ k lk. rw (c.split_ends.ensures.none.walks (c.args.page + k))
+    ((open_range (goal.at.clear_all-requires-clause-mapped c).In-None).mapped k lk)
 
 pub returns-in-None-clause-only : goal.returns-in-None-clause-only
 returns-in-None-clause-only c = none_only c.split_ends.ensures.none c.clear_all.ensures.only

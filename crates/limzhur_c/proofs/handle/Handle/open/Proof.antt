@@ -84,7 +84,8 @@ module _ {M : Type 1} {𝓤 : Ura M} (𝓛 : Logic 𝓤) (at_mem : Memory → SP
       abbrev Rest : Fml
       Rest = cell_at full_share B.mir (word b o ∷ []) rb ro
 
-      back : h.room ≡ block_ptr b o → (w : CheckedHeap) → ent 𝓤 (sep 𝓤 (sem 𝓛 ((mem R).own_at w b o)) (sem 𝓛 Rest)) (sem 𝓛 ((mem B).own_at (with_heap h w) rb ro))
+      back : h.room ≡ block_ptr b o → (w : CheckedHeap) → ent 𝓤 (sep 𝓤 (sem 𝓛 ((mem R).own_at w b o)) (sem 𝓛 Rest))
+          (sem 𝓛 ((mem B).own_at (with_heap h w) rb ro))
       unfolding part_of
       back at_b w =
           qed 𝓛 (‵ (part_at R full_share w b o) ∷ ‵ Rest ∷ []) ∵
@@ -96,16 +97,22 @@ module _ {M : Type 1} {𝓤 : Ura M} (𝓛 : Logic 𝓤) (at_mem : Memory → SP
           fpack ! (List Val) (λ us. fsep (cell_at full_share B.mir us rb ro) (B.own_val (with_heap h w) us)) (word b o ∷ []) $ done !
 
       exits : (γ' : GName)
-          → ent 𝓤 (sep 𝓤 (sem 𝓛 ((MutRef (named 0) κ R).own_val (record { ref_ptr = (b, o); ghost_name = γ'; now = h.heap }) (vptr b o ∷ []))) (sep 𝓤 (A.lft κ q) (sem 𝓛 (follows B R γ γ' (with_heap h))))) (Post (vptr b o))
+          → ent 𝓤 (sep 𝓤 (sem 𝓛 ((MutRef (named 0) κ R).own_val (record { ref_ptr = (b, o); ghost_name = γ'; now = h.heap })
+          (vptr b o ∷ []))) (sep 𝓤 (A.lft κ q) (sem 𝓛 (follows B R γ γ' (with_heap h))))) (Post (vptr b o))
       exits γ' =
-          qed 𝓛 (‵ ((MutRef (named 0) κ R).own_val (record { ref_ptr = (b, o); ghost_name = γ'; now = h.heap }) (vptr b o ∷ [])) ∷ ‵ (flft κ q) ∷ ‵ (follows B R γ γ' (with_heap h)) ∷ []) ∵
+          qed 𝓛 (‵ ((MutRef (named 0) κ R).own_val (record { ref_ptr = (b, o); ghost_name = γ'; now = h.heap })
+          (vptr b o ∷ [])) ∷ ‵ (flft κ q) ∷ ‵ (follows B R γ γ' (with_heap h)) ∷ []) ∵
           suffices ! _ (ends_at 𝓛 f.ended stayed clauses bound (vptr b o) (record { ref_ptr = (b, o); ghost_name = γ'; now = h.heap }) (tt, tt) (tt, tt)) $
           nothing ! $ nothing ! $ fjoin ! $ join ! $ nothing ! $ move ! (2 ∷ 0 ∷ []) $ join ! $ join ! $ frame ! $ says ! refl $ done !
 
     module _ (C : Calls 𝓤 H) (Λ : Loops 𝓤 H) where
-      walk : ent 𝓤 (on_entry 𝓛 (f.ended).signature (κ, tt) (q, tt) (record { ref_ptr = (rb, ro); ghost_name = γ; now = h }, tt) (vptr rb ro ∷ [], tt)) (WpFn 𝓤 H C Λ code.function (vptr rb ro ∷ []) Post)
+      walk : ent 𝓤 (on_entry 𝓛 (f.ended).signature (κ, tt) (q, tt) (
+        record { ref_ptr = (rb, ro); ghost_name = γ; now = h },
+        tt,
+      ) (vptr rb ro ∷ [], tt)) (WpFn 𝓤 H C Λ code.function (vptr rb ro ∷ []) Post)
       walk =
-          qed 𝓛 ((‵ (flft κ q) ⊛ ‵ ftrue) ∷ ‵ (owns (MutRef (named 0) κ B ∷ []) (record { ref_ptr = (rb, ro); ghost_name = γ; now = h }, tt) (vptr rb ro ∷ [], tt)) ∷ []) ∵
+          qed 𝓛 ((‵ (flft κ q) ⊛ ‵ ftrue) ∷ ‵ (owns (MutRef (named 0) κ B ∷ [])
+          (record { ref_ptr = (rb, ro); ghost_name = γ; now = h }, tt) (vptr rb ro ∷ [], tt)) ∷ []) ∵
           enter ! C Λ code.function (vptr rb ro ∷ []) _ $
           alloc_all ! (λ l. pass_all ! refl ((tt, tt), tt) $
           let En : Env 𝓤 H = env (code.function).locals l in
@@ -114,22 +121,26 @@ module _ {M : Type 1} {𝓤 : Ura M} (𝓛 : Logic 𝓤) (at_mem : Memory → SP
           fsplit ! $ fpick ! (λ vss. fsplit ! $ feq_l ! (λ ev. fsplit ! $ feq_l ! (λ ep. drop ! $
           in_a_block ! h.room (λ p. lies_at R full_share p h.heap) (id⊢ 𝓤 (never 𝓤)) (λ b o at_b.
           rewrite ! 1 (λ (us : List Val). ‵ (cell_at full_share B.mir us rb ro))
-          (subst (λ (p : Ptr). vs ≡ vstruct (of_list (ptr_val p ∷ [])) ∷ []) at_b (subst (λ (ps : List Val). vs ≡ vstruct (of_list (ps ++ [])) ∷ []) ep ev)) refl $
+          (subst (λ (p : Ptr). vs ≡ vstruct (of_list (ptr_val p ∷ [])) ∷ []) at_b
+          (subst (λ (ps : List Val). vs ≡ vstruct (of_list (ps ++ [])) ∷ []) ep ev)) refl $
           -- [the heap; the word; the open borrow; obs; auth]
           first ! $ blocks ! $
-          sets ! (of_opd ! (load ! (through ! refl (fld ! refl (stop !))) (look_in ! 1 (sub ! 0 refl (whole !))))) refl (tt, tt) $ sets ! (of_opd ! (get ! refl)) refl (tt, tt) $
+          sets ! (of_opd ! (load ! (through ! refl (fld ! refl (stop !))) (look_in ! 1 (sub ! 0 refl (whole !))))) refl
+          (tt, tt) $ sets ! (of_opd ! (get ! refl)) refl (tt, tt) $
           sets_last ! (addr ! (through ! refl (stop !))) refl (tt, tt) $
           exec ! C Λ En (after 1 (code.function).body) (at_ret En Post) $
           sets ! (of_opd ! (get ! refl)) refl (tt, tt) $
           move ! (2 ∷ 3 ∷ 4 ∷ 0 ∷ 1 ∷ []) $ group ! 5 $
           use1 𝓛 (later (some (λ (γ' : GName). raw (Part 𝓛 B R (with_heap h) (named 0) κ q rb ro b o γ (sem 𝓛 (Rest b o)) (back b o at_b) h.heap γ'))))
-          (lends_Part 𝓛 B R (with_heap h) (named 0) κ q rb ro b o γ (sem 𝓛 (Rest b o)) (back b o at_b) (B.coded.code h) (B.coded.code h) h.heap) $ await ! tt $ pick ! (λ γ'.
+          (lends_Part 𝓛 B R (with_heap h) (named 0) κ q rb ro b o γ (sem 𝓛 (Rest b o)) (back b o at_b) (B.coded.code h)
+          (B.coded.code h) h.heap) $ await ! tt $ pick ! (λ γ'.
           returns ! (look_at ! 0 refl) $ free_all ! refl $
           keep ! (0 ∷ []) $ by ! (exits b o γ'))))))))
 
   meets : (𝓣 : Tables 𝓤 H) → Meets 𝓛 (f.ended).signature (WpFn 𝓤 H 𝓣.C 𝓣.Λ code.function) (f.spec 𝓛 at_mem run)
   meets 𝓣 =
-      walk_Meets 𝓛 f.ended stayed (Goes-spent_ref 𝓛 1 (0 ∷ []) tt (plain (λ _. B)), tt) clauses (WpFn 𝓤 H 𝓣.C 𝓣.Λ code.function) (WpFn-mono 𝓤 H 𝓛.laws 𝓣 code.function)
+      walk_Meets 𝓛 f.ended stayed (Goes-spent_ref 𝓛 1 (0 ∷ []) tt (plain (λ _. B)), tt) clauses
+      (WpFn 𝓤 H 𝓣.C 𝓣.Λ code.function) (WpFn-mono 𝓤 H 𝓛.laws 𝓣 code.function)
       (walked 𝓛 f.ended stayed clauses (WpFn 𝓤 H 𝓣.C 𝓣.Λ code.function) (λ κs. (mut_vals, tt)) (λ κs. (mut_Tells (named 0) κs.0 B, tt))
       (λ κs qs bounds a g are. via 𝓤 _ (fst∗ 𝓤 _ (emp 𝓤)) (walk κs.0 qs.0 a.0.ref_ptr.0 a.0.ref_ptr.1 a.0.ghost_name a.0.now 𝓣.C 𝓣.Λ)))
 

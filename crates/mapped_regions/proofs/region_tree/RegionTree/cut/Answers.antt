@@ -8,10 +8,12 @@ use Rattle.mapped_regions.proofs.Taken.{taken_out}
 use Rattle.mapped_regions.proofs.region_tree.RegionTree.cut.Goals as goal
 
 pub shorten-requires-clause-at_page : goal.shorten-requires-clause-at_page
-shorten-requires-clause-at_page c = let f = found (4096 * c.args.first) c.args.pages 0 c.loop-region.self (2 ^ 64) c.in-Some.region c.in-Some.ensures.laid (sym c.in-Some.ensures.value) in f.at_page
+shorten-requires-clause-at_page c = let f = found (4096 * c.args.first) c.args.pages 0 c.loop-region.self (2 ^ 64)
+    c.in-Some.region c.in-Some.ensures.laid (sym c.in-Some.ensures.value) in f.at_page
 
 pub shorten-requires-clause-there : goal.shorten-requires-clause-there
-shorten-requires-clause-there c = let f = found (4096 * c.args.first) c.args.pages 0 c.loop-region.self (2 ^ 64) c.in-Some.region c.in-Some.ensures.laid (sym c.in-Some.ensures.value) in f.listed
+shorten-requires-clause-there c = let f = found (4096 * c.args.first) c.args.pages 0 c.loop-region.self (2 ^ 64)
+    c.in-Some.region c.in-Some.ensures.laid (sym c.in-Some.ensures.value) in f.listed
 
 pub shorten-requires-clause-less : goal.shorten-requires-clause-less
 shorten-requires-clause-less c =
@@ -20,11 +22,15 @@ shorten-requires-clause-less c =
     omega (arith, b, f.at_page)
 
 pub shorten-requires-clause-within : goal.shorten-requires-clause-within
-shorten-requires-clause-within c = let f = found (4096 * c.args.first) c.args.pages 0 c.loop-region.self (2 ^ 64) c.in-Some.region c.in-Some.ensures.laid (sym c.in-Some.ensures.value) in f.within
+shorten-requires-clause-within c = let f = found (4096 * c.args.first) c.args.pages 0 c.loop-region.self (2 ^ 64)
+    c.in-Some.region c.in-Some.ensures.laid (sym c.in-Some.ensures.value) in f.within
 
 -- the pages that are left, in the words of addresses
-pages_left : (first : ℕ) (r : Region) (rs : List Region) → r.start % 4096 ≡ 0 → map (with_pages r.start r.pages (first - r.start / 4096)) rs ≡ map (with_pages r.start r.pages ((4096 * first - r.start) / 4096)) rs
-pages_left first r rs h = let e : first - r.start / 4096 ≡ (4096 * first - r.start) / 4096 = omega (arith, h) in ap (λ (k : ℕ). map (with_pages r.start r.pages k) rs) e
+pages_left : (first : ℕ) (r : Region) (rs : List Region) → r.start % 4096 ≡ 0 →
+    map (with_pages r.start r.pages (first - r.start / 4096)) rs ≡ map
+    (with_pages r.start r.pages ((4096 * first - r.start) / 4096)) rs
+pages_left first r rs h = let e : first - r.start / 4096 ≡ (4096 * first - r.start) / 4096 = omega (arith, h) in
+    ap (λ (k : ℕ). map (with_pages r.start r.pages k) rs) e
 
 pub loop-region-smaller-then-start-first : goal.loop-region-smaller-then-start-first
 loop-region-smaller-then-start-first c =
@@ -32,7 +38,8 @@ loop-region-smaller-then-start-first c =
     let n = c.args.pages in
     let r = c.in-Some.region in
     let f = found at n 0 c.loop-region.self (2 ^ 64) r c.in-Some.ensures.laid (sym c.in-Some.ensures.value) in
-    let s = cuts at n 0 c.loop-region.self (2 ^ 64) r c.in-Some.ensures.laid f.met (sym c.in-Some.ensures.value) (omega (arith, f.at_page, c.if-start-first.true)) in
+    let s = cuts at n 0 c.loop-region.self (2 ^ 64) r c.in-Some.ensures.laid f.met (sym c.in-Some.ensures.value)
+    (omega (arith, f.at_page, c.if-start-first.true)) in
     let is = c.shorten.ensures ∙ pages_left c.args.first r c.loop-region.self f.at_page in
     subst (λ (rs : List Region). count_met at n rs < count_met at n c.loop-region.self) (sym is) s.fewer
 
@@ -42,15 +49,18 @@ loop-region-preserved-then-start-first c =
     let n = c.args.pages in
     let r = c.in-Some.region in
     let f = found at n 0 c.loop-region.self (2 ^ 64) r c.in-Some.ensures.laid (sym c.in-Some.ensures.value) in
-    let s = cuts at n 0 c.loop-region.self (2 ^ 64) r c.in-Some.ensures.laid f.met (sym c.in-Some.ensures.value) (omega (arith, f.at_page, c.if-start-first.true)) in
+    let s = cuts at n 0 c.loop-region.self (2 ^ 64) r c.in-Some.ensures.laid f.met (sym c.in-Some.ensures.value)
+    (omega (arith, f.at_page, c.if-start-first.true)) in
     let is = c.shorten.ensures ∙ pages_left c.args.first r c.loop-region.self f.at_page in
     ap (cut_of at n) is ∙ (s.same ∙ c.loop-region.invariant)
 
 pub remove-requires-clause-at_page : goal.remove-requires-clause-at_page
-remove-requires-clause-at_page c = let f = found (4096 * c.args.first) c.args.pages 0 c.loop-region.self (2 ^ 64) c.in-Some.region c.in-Some.ensures.laid (sym c.in-Some.ensures.value) in f.at_page
+remove-requires-clause-at_page c = let f = found (4096 * c.args.first) c.args.pages 0 c.loop-region.self (2 ^ 64)
+    c.in-Some.region c.in-Some.ensures.laid (sym c.in-Some.ensures.value) in f.at_page
 
 pub remove-requires-clause-within : goal.remove-requires-clause-within
-remove-requires-clause-within c = let f = found (4096 * c.args.first) c.args.pages 0 c.loop-region.self (2 ^ 64) c.in-Some.region c.in-Some.ensures.laid (sym c.in-Some.ensures.value) in f.within
+remove-requires-clause-within c = let f = found (4096 * c.args.first) c.args.pages 0 c.loop-region.self (2 ^ 64)
+    c.in-Some.region c.in-Some.ensures.laid (sym c.in-Some.ensures.value) in f.within
 
 pub loop-region-smaller : goal.loop-region-smaller
 loop-region-smaller c =
@@ -78,11 +88,13 @@ returns-clause-taken c = λ boundary.
     let low = 4096 * c.args.first in
     let n = c.args.pages in
     let old = c.args.self.now in
-    let lie : AreLaid 0 old (2 ^ 64) = subst (λ (rs : List Region). AreLaid 0 rs (2 ^ 64)) c.self.view_is (laid 0 (entries c.self.inside.tree) (2 ^ 52) c.self.invariant.follow) in
+    let lie : AreLaid 0 old (2 ^ 64) = subst (λ (rs : List Region). AreLaid 0 rs (2 ^ 64)) c.self.view_is
+    (laid 0 (entries c.self.inside.tree) (2 ^ 52) c.self.invariant.follow) in
     let end : 4096 * (c.args.first + n) ≡ low + 4096 * n = omega arith in
     let taken = taken_out low n 0 old (2 ^ 64) (omega arith) lie (subst (λ (a : ℕ). IsBoundary a old) end boundary) in
     subst (λ (rs : List Region). AreTakenOut low (4096 * (c.args.first + n)) old rs) (sym (returns-clause-regions c))
     (subst (λ (a : ℕ). AreTakenOut low a old (cut_of low n old)) (sym end) taken)
 
 pub returns-clause-laid : goal.returns-clause-laid
-returns-clause-laid c = subst (λ (rs : List Region). AreLaid 0 rs (2 ^ 64)) c.self.view_is (laid 0 (entries c.self.inside.tree) (2 ^ 52) c.self.invariant.follow)
+returns-clause-laid c = subst (λ (rs : List Region). AreLaid 0 rs (2 ^ 64)) c.self.view_is
+    (laid 0 (entries c.self.inside.tree) (2 ^ 52) c.self.invariant.follow)

@@ -12,4 +12,5 @@ returns-then-self-end-clause-held c = λ address a b. absurd (omega (arith, a, b
 
 pub returns-clause-held : goal.returns-clause-held
 returns-clause-held c = λ address a b.
-    subst (λ (rs : List Region). list_any (is_within address) rs ≡ true) c.self.view_is (c.self.invariant.held address (omega (arith, a, c.if-base-self.false)) b)
+    subst (λ (rs : List Region). list_any (is_within address) rs ≡ true) c.self.view_is
+    (c.self.invariant.held address (omega (arith, a, c.if-base-self.false)) b)

@@ -8,13 +8,16 @@ use Rattle.mapped_regions.proofs.Listing.{Listed, listed_none, listed_all, liste
 use Rattle.mapped_regions.proofs.region_tree.RegionTree.list.Goals as goal
 
 pub region-requires-clause-some : goal.region-requires-clause-some
-region-requires-clause-some c = let i = behind_first c.loop-entry.at 0 (entries c.self.inside.tree) (2 ^ 52) (pair_of c.in-Some.entry) c.self.invariant.follow (sym c.in-Some.ensures) in omega (arith, i.some)
+region-requires-clause-some c = let i = behind_first c.loop-entry.at 0 (entries c.self.inside.tree) (2 ^ 52)
+    (pair_of c.in-Some.entry) c.self.invariant.follow (sym c.in-Some.ensures) in omega (arith, i.some)
 
 pub region-requires-clause-within : goal.region-requires-clause-within
-region-requires-clause-within c = let i = behind_first c.loop-entry.at 0 (entries c.self.inside.tree) (2 ^ 52) (pair_of c.in-Some.entry) c.self.invariant.follow (sym c.in-Some.ensures) in i.within
+region-requires-clause-within c = let i = behind_first c.loop-entry.at 0 (entries c.self.inside.tree) (2 ^ 52)
+    (pair_of c.in-Some.entry) c.self.invariant.follow (sym c.in-Some.ensures) in i.within
 
 pub region-requires-clause-below : goal.region-requires-clause-below
-region-requires-clause-below c = let i = behind_first c.loop-entry.at 0 (entries c.self.inside.tree) (2 ^ 52) (pair_of c.in-Some.entry) c.self.invariant.follow (sym c.in-Some.ensures) in omega (arith, i.some, i.within)
+region-requires-clause-below c = let i = behind_first c.loop-entry.at 0 (entries c.self.inside.tree) (2 ^ 52)
+    (pair_of c.in-Some.entry) c.self.invariant.follow (sym c.in-Some.ensures) in omega (arith, i.some, i.within)
 
 pub loop-entry-init : goal.loop-entry-init
 loop-entry-init c = record {
@@ -41,9 +44,11 @@ loop-entry-preserved c =
     let next = pair_of c.in-Some.entry in
     let on = listed_on c.loop-entry.at es c.loop-entry.list.items (2 ^ 52) next c.loop-entry.invariant.listed (sym c.in-Some.ensures) in
     record {
-      listed = subst (λ (rs : List Region). Listed next.0.end es rs (2 ^ 52)) (ap (λ r. c.loop-entry.list.items ++ r ∷ []) (sym c.region.ensures) ∙ sym c.push_reserved.ensures.items) on.more;
+      listed = subst (λ (rs : List Region). Listed next.0.end es rs (2 ^ 52))
+          (ap (λ r. c.loop-entry.list.items ++ r ∷ []) (sym c.region.ensures) ∙ sym c.push_reserved.ensures.items) on.more;
       places = let e = c.push_reserved.ensures.capacity in let p = c.loop-entry.invariant.places in rw e p;
     }
 
 pub returns : goal.returns
-returns c = c.from_vec.ensures ∙ (listed_all c.loop-entry.at (entries c.self.inside.tree) c.loop-entry.list.items (2 ^ 52) c.loop-entry.invariant.listed (sym c.in_default.ensures) ∙ c.self.view_is)
+returns c = c.from_vec.ensures ∙ (listed_all c.loop-entry.at (entries c.self.inside.tree) c.loop-entry.list.items (2 ^ 52)
+    c.loop-entry.invariant.listed (sym c.in_default.ensures) ∙ c.self.view_is)

@@ -9,13 +9,16 @@ use Rattle.mapped_regions.proofs.Listing.{listed_none, listed_all, listed_on, he
 use Rattle.mapped_regions.proofs.region_tree.RegionTree.list_of_heap.Goals as goal
 
 pub region-requires-clause-some : goal.region-requires-clause-some
-region-requires-clause-some c = let i = behind_first c.loop-entry.page 0 (entries c.self.inside.tree) (2 ^ 52) (pair_of c.in-Some.entry) c.self.invariant.follow (sym c.in-Some.ensures) in omega (arith, i.some)
+region-requires-clause-some c = let i = behind_first c.loop-entry.page 0 (entries c.self.inside.tree) (2 ^ 52)
+    (pair_of c.in-Some.entry) c.self.invariant.follow (sym c.in-Some.ensures) in omega (arith, i.some)
 
 pub region-requires-clause-within : goal.region-requires-clause-within
-region-requires-clause-within c = let i = behind_first c.loop-entry.page 0 (entries c.self.inside.tree) (2 ^ 52) (pair_of c.in-Some.entry) c.self.invariant.follow (sym c.in-Some.ensures) in i.within
+region-requires-clause-within c = let i = behind_first c.loop-entry.page 0 (entries c.self.inside.tree) (2 ^ 52)
+    (pair_of c.in-Some.entry) c.self.invariant.follow (sym c.in-Some.ensures) in i.within
 
 pub region-requires-clause-below : goal.region-requires-clause-below
-region-requires-clause-below c = let i = behind_first c.loop-entry.page 0 (entries c.self.inside.tree) (2 ^ 52) (pair_of c.in-Some.entry) c.self.invariant.follow (sym c.in-Some.ensures) in omega (arith, i.some, i.within)
+region-requires-clause-below c = let i = behind_first c.loop-entry.page 0 (entries c.self.inside.tree) (2 ^ 52)
+    (pair_of c.in-Some.entry) c.self.invariant.follow (sym c.in-Some.ensures) in omega (arith, i.some, i.within)
 
 pub loop-entry-init : goal.loop-entry-init
 loop-entry-init c = (
@@ -53,4 +56,5 @@ loop-entry-preserved c =
 pub returns : goal.returns
 returns c =
     let i = c.loop-entry.invariant in
-    c.from_vec.ensures ∙ (i.2 ∙ ap (filter (λ r. r.heap)) (listed_all c.loop-entry.page (entries c.self.inside.tree) i.0 (2 ^ 52) i.1 (sym c.in_default.ensures) ∙ c.self.view_is))
+    c.from_vec.ensures ∙ (i.2 ∙ ap (filter (λ r. r.heap)) (listed_all c.loop-entry.page (entries c.self.inside.tree) i.0
+    (2 ^ 52) i.1 (sym c.in_default.ensures) ∙ c.self.view_is))

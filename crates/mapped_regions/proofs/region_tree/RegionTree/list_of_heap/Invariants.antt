@@ -8,7 +8,9 @@ use Rattle.mapped_regions.proofs.region_tree.RegionTree.list_of_heap.Given as go
 
 abbrev pub invariant-loop-entry : goal.invariant-loop-entry
 invariant-loop-entry l =
-    (all : List Region) × Listed l.page (entries l.self-inside.tree) all (2 ^ 52) × (l.list.items ≡ filter (λ r. r.heap) all) × (length (regions_of (entries l.self-inside.tree)) ≤ vec_capacity l.list)
+    (all : List Region) × Listed l.page (entries l.self-inside.tree) all
+    (2 ^ 52) × (l.list.items ≡ filter (λ r. r.heap) all) × (length (regions_of
+    (entries l.self-inside.tree)) ≤ vec_capacity l.list)
 
 abbrev pub decreases-loop-entry : goal.decreases-loop-entry
 decreases-loop-entry l = 2 ^ 52 - l.page

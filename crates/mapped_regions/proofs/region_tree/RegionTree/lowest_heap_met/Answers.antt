@@ -6,12 +6,14 @@ use Rattle.mapped_regions.proofs.region_tree.RegionTree.lowest_heap_met.Goals as
 pub returns-then-region : goal.returns-then-region
 returns-then-region c =
     let end = c.args.first + c.args.pages in
-    sym (c.loop-region.invariant.same ∙ one_of_heap (4096 * c.loop-region.at) (end - c.loop-region.at) c.args.self.now c.in-Some.region (sym c.in-Some.ensures.value) c.if-region.true)
+    sym (c.loop-region.invariant.same ∙ one_of_heap (4096 * c.loop-region.at) (end - c.loop-region.at) c.args.self.now
+    c.in-Some.region (sym c.in-Some.ensures.value) c.if-region.true)
 
 pub overflow_add-next : goal.overflow_add-next
 overflow_add-next c =
     let end = c.args.first + c.args.pages in
-    let f = found (4096 * c.loop-region.at) (end - c.loop-region.at) 0 c.args.self.now (2 ^ 64) c.in-Some.region c.in-Some.ensures.laid (sym c.in-Some.ensures.value) in
+    let f = found (4096 * c.loop-region.at) (end - c.loop-region.at) 0 c.args.self.now (2 ^ 64) c.in-Some.region
+    c.in-Some.ensures.laid (sym c.in-Some.ensures.value) in
     let w = f.within in
     omega (arith, w)
 
@@ -20,7 +22,9 @@ returns-then-next-end c =
     let end = c.args.first + c.args.pages in
     let at = c.loop-region.at in
     let f = found (4096 * at) (end - at) 0 c.args.self.now (2 ^ 64) c.in-Some.region c.in-Some.ensures.laid (sym c.in-Some.ensures.value) in
-    sym (c.loop-region.invariant.same ∙ last_of_user at end 0 c.args.self.now (2 ^ 64) c.in-Some.region c.in-Some.ensures.laid c.loop-region.invariant.before (sym c.in-Some.ensures.value) c.if-region.false (omega (arith, f.at_page, c.if-next-end.true)))
+    sym (c.loop-region.invariant.same ∙ last_of_user at end 0 c.args.self.now (2 ^ 64) c.in-Some.region
+    c.in-Some.ensures.laid c.loop-region.invariant.before (sym c.in-Some.ensures.value) c.if-region.false
+    (omega (arith, f.at_page, c.if-next-end.true)))
 
 pub loop-region-smaller : goal.loop-region-smaller
 loop-region-smaller c =
@@ -38,7 +42,9 @@ loop-region-preserved c =
     let next = r.start / 4096 + r.pages in
     let f = found (4096 * at) (end - at) 0 c.args.self.now (2 ^ 64) r c.in-Some.ensures.laid (sym c.in-Some.ensures.value) in
     record {
-      same = c.loop-region.invariant.same ∙ goes_past at next end 0 c.args.self.now (2 ^ 64) r c.in-Some.ensures.laid c.loop-region.invariant.before (sym c.in-Some.ensures.value) c.if-region.false (omega (arith, f.at_page)) c.if-next-end.false;
+      same = c.loop-region.invariant.same ∙ goes_past at next end 0 c.args.self.now (2 ^ 64) r c.in-Some.ensures.laid
+          c.loop-region.invariant.before (sym c.in-Some.ensures.value) c.if-region.false (omega (arith, f.at_page))
+          c.if-next-end.false;
       before = omega (arith, c.if-next-end.false);
     }
 

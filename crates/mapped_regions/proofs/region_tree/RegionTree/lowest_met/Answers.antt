@@ -13,13 +13,16 @@ use Rattle.mapped_regions.proofs.region_tree.RegionTree.lowest_met.Goals as goal
 use Rattle.mapped_regions.proofs.region_tree.RegionTree.lowest_met.Goals.{in-Some+else-entry-first, in_default}
 
 pub region-requires-clause-some : goal.region-requires-clause-some
-region-requires-clause-some c = let i = last_is c.args.first 0 (entries c.self.inside.tree) (2 ^ 52) (pair_of c.in-Some.entry) c.self.invariant.follow (sym c.in-Some.ensures) in omega (arith, i.some)
+region-requires-clause-some c = let i = last_is c.args.first 0 (entries c.self.inside.tree) (2 ^ 52)
+    (pair_of c.in-Some.entry) c.self.invariant.follow (sym c.in-Some.ensures) in omega (arith, i.some)
 
 pub region-requires-clause-within : goal.region-requires-clause-within
-region-requires-clause-within c = let i = last_is c.args.first 0 (entries c.self.inside.tree) (2 ^ 52) (pair_of c.in-Some.entry) c.self.invariant.follow (sym c.in-Some.ensures) in i.within
+region-requires-clause-within c = let i = last_is c.args.first 0 (entries c.self.inside.tree) (2 ^ 52)
+    (pair_of c.in-Some.entry) c.self.invariant.follow (sym c.in-Some.ensures) in i.within
 
 pub region-requires-clause-below : goal.region-requires-clause-below
-region-requires-clause-below c = let i = last_is c.args.first 0 (entries c.self.inside.tree) (2 ^ 52) (pair_of c.in-Some.entry) c.self.invariant.follow (sym c.in-Some.ensures) in omega (arith, i.some, i.within)
+region-requires-clause-below c = let i = last_is c.args.first 0 (entries c.self.inside.tree) (2 ^ 52)
+    (pair_of c.in-Some.entry) c.self.invariant.follow (sym c.in-Some.ensures) in omega (arith, i.some, i.within)
 
 pub returns-then-entry-first-clause-value : goal.returns-then-entry-first-clause-value
 returns-then-entry-first-clause-value c =
@@ -30,10 +33,12 @@ returns-then-entry-first-clause-value c =
     ∙ ap (find (meets (4096 * c.args.first) c.args.pages)) c.self.view_is
 
 pub region-requires-then-entry-first-2-clause-some : goal.region-requires-then-entry-first-2-clause-some
-region-requires-then-entry-first-2-clause-some c = let i = behind_first c.args.first 0 (entries c.self.inside.tree) (2 ^ 52) (pair_of c.in-Some-first_from.entry) c.self.invariant.follow (sym c.in-Some-first_from.ensures) in omega (arith, i.some)
+region-requires-then-entry-first-2-clause-some c = let i = behind_first c.args.first 0 (entries c.self.inside.tree) (2 ^ 52)
+    (pair_of c.in-Some-first_from.entry) c.self.invariant.follow (sym c.in-Some-first_from.ensures) in omega (arith, i.some)
 
 pub region-requires-then-entry-first-2-clause-within : goal.region-requires-then-entry-first-2-clause-within
-region-requires-then-entry-first-2-clause-within c = let i = behind_first c.args.first 0 (entries c.self.inside.tree) (2 ^ 52) (pair_of c.in-Some-first_from.entry) c.self.invariant.follow (sym c.in-Some-first_from.ensures) in i.within
+region-requires-then-entry-first-2-clause-within c = let i = behind_first c.args.first 0 (entries c.self.inside.tree)
+    (2 ^ 52) (pair_of c.in-Some-first_from.entry) c.self.invariant.follow (sym c.in-Some-first_from.ensures) in i.within
 
 pub returns-then-entry-first-2-clause-value : goal.returns-then-entry-first-2-clause-value
 returns-then-entry-first-2-clause-value c =
@@ -41,7 +46,8 @@ returns-then-entry-first-2-clause-value c =
     let es = entries c.self.inside.tree in
     let next = pair_of c.in-Some-first_from.entry in
     let before : EndBefore first es = elim c.match-last_before.branch [
-      | in-Some+else-entry-first w ↦ let i = last_is first 0 es (2 ^ 52) (pair_of w.in-Some.entry) c.self.invariant.follow (sym w.in-Some.ensures) in i.before_base first w.if-entry-first.false (omega arith)
+      | in-Some+else-entry-first w ↦ let i = last_is first 0 es (2 ^ 52) (pair_of w.in-Some.entry) c.self.invariant.follow
+          (sym w.in-Some.ensures) in i.before_base first w.if-entry-first.false (omega arith)
       | in_default w ↦ ends_none first first es (omega arith) (sym w.in_default.ensures)
     ] in
     ap (λ r. Some r) c.region-then-entry-first-2.ensures
@@ -54,19 +60,22 @@ returns-else-entry-first-2-clause-value c =
     let es = entries c.self.inside.tree in
     let next = pair_of c.in-Some-first_from.entry in
     let before : EndBefore first es = elim c.match-last_before.branch [
-      | in-Some+else-entry-first w ↦ let i = last_is first 0 es (2 ^ 52) (pair_of w.in-Some.entry) c.self.invariant.follow (sym w.in-Some.ensures) in i.before_base first w.if-entry-first.false (omega arith)
+      | in-Some+else-entry-first w ↦ let i = last_is first 0 es (2 ^ 52) (pair_of w.in-Some.entry) c.self.invariant.follow
+          (sym w.in-Some.ensures) in i.before_base first w.if-entry-first.false (omega arith)
       | in_default w ↦ ends_none first first es (omega arith) (sym w.in_default.ensures)
     ] in
     let test = meets (4096 * first) c.args.pages in
     subst (λ (rs : List Region). None ≡ find test rs) c.self.view_is
-    (sym (find_none test _ (clear_gap first c.args.pages 0 es (2 ^ 52) next c.self.invariant.follow before (sym c.in-Some-first_from.ensures) c.if-entry-first-2.false)))
+    (sym (find_none test _ (clear_gap first c.args.pages 0 es (2 ^ 52) next c.self.invariant.follow before
+    (sym c.in-Some-first_from.ensures) c.if-entry-first-2.false)))
 
 pub returns-in-None-clause-value : goal.returns-in-None-clause-value
 returns-in-None-clause-value c =
     let first = c.args.first in
     let es = entries c.self.inside.tree in
     let before : EndBefore first es = elim c.match-last_before.branch [
-      | in-Some+else-entry-first w ↦ let i = last_is first 0 es (2 ^ 52) (pair_of w.in-Some.entry) c.self.invariant.follow (sym w.in-Some.ensures) in i.before_base first w.if-entry-first.false (omega arith)
+      | in-Some+else-entry-first w ↦ let i = last_is first 0 es (2 ^ 52) (pair_of w.in-Some.entry) c.self.invariant.follow
+          (sym w.in-Some.ensures) in i.before_base first w.if-entry-first.false (omega arith)
       | in_default w ↦ ends_none first first es (omega arith) (sym w.in_default.ensures)
     ] in
     let test = meets (4096 * first) c.args.pages in
@@ -74,19 +83,24 @@ returns-in-None-clause-value c =
     (sym (find_none test _ (clear_end first c.args.pages 0 es (2 ^ 52) c.self.invariant.follow before (sym c.in-None.ensures))))
 
 pub returns-then-entry-first-clause-laid : goal.returns-then-entry-first-clause-laid
-returns-then-entry-first-clause-laid c = subst (λ (rs : List Region). AreLaid 0 rs (2 ^ 64)) c.self.view_is (laid 0 (entries c.self.inside.tree) (2 ^ 52) c.self.invariant.follow)
+returns-then-entry-first-clause-laid c = subst (λ (rs : List Region). AreLaid 0 rs (2 ^ 64)) c.self.view_is
+    (laid 0 (entries c.self.inside.tree) (2 ^ 52) c.self.invariant.follow)
 
 pub returns-then-entry-first-2-clause-laid : goal.returns-then-entry-first-2-clause-laid
-returns-then-entry-first-2-clause-laid c = subst (λ (rs : List Region). AreLaid 0 rs (2 ^ 64)) c.self.view_is (laid 0 (entries c.self.inside.tree) (2 ^ 52) c.self.invariant.follow)
+returns-then-entry-first-2-clause-laid c = subst (λ (rs : List Region). AreLaid 0 rs (2 ^ 64)) c.self.view_is
+    (laid 0 (entries c.self.inside.tree) (2 ^ 52) c.self.invariant.follow)
 
 pub returns-else-entry-first-2-clause-laid : goal.returns-else-entry-first-2-clause-laid
-returns-else-entry-first-2-clause-laid c = subst (λ (rs : List Region). AreLaid 0 rs (2 ^ 64)) c.self.view_is (laid 0 (entries c.self.inside.tree) (2 ^ 52) c.self.invariant.follow)
+returns-else-entry-first-2-clause-laid c = subst (λ (rs : List Region). AreLaid 0 rs (2 ^ 64)) c.self.view_is
+    (laid 0 (entries c.self.inside.tree) (2 ^ 52) c.self.invariant.follow)
 
 pub returns-in-None-clause-laid : goal.returns-in-None-clause-laid
-returns-in-None-clause-laid c = subst (λ (rs : List Region). AreLaid 0 rs (2 ^ 64)) c.self.view_is (laid 0 (entries c.self.inside.tree) (2 ^ 52) c.self.invariant.follow)
+returns-in-None-clause-laid c = subst (λ (rs : List Region). AreLaid 0 rs (2 ^ 64)) c.self.view_is
+    (laid 0 (entries c.self.inside.tree) (2 ^ 52) c.self.invariant.follow)
 
 pub returns-else-entry-first-2-clause-clear : goal.returns-else-entry-first-2-clause-clear
-returns-else-entry-first-2-clause-clear c = none_found (meets (4096 * c.args.first) c.args.pages) c.args.self.now (sym (returns-else-entry-first-2-clause-value c))
+returns-else-entry-first-2-clause-clear c = none_found (meets (4096 * c.args.first) c.args.pages) c.args.self.now
+    (sym (returns-else-entry-first-2-clause-value c))
 
 pub returns-in-None-clause-clear : goal.returns-in-None-clause-clear
 returns-in-None-clause-clear c = none_found (meets (4096 * c.args.first) c.args.pages) c.args.self.now (sym (returns-in-None-clause-value c))

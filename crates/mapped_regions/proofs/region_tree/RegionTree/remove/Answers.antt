@@ -23,7 +23,8 @@ invariant_of-self c =
       follow = subst (λ (es : List (Interval ℕ × Kind)). Follow 0 es (2 ^ 52)) (sym c.delete.ensures) r.follow;
       above = c.lowered-self-inside.ensures.above;
       held = subst (λ (rs : List Region). AreHeld (4096 * base) (4096 * lower) rs) (sym (ap regions_of c.delete.ensures ∙ r.regions))
-          (held_without base c.self.inside.hint lower (4096 * i.start) (i.end - i.start) (regions_of es) c.self.invariant.held c.lowered-self-inside.ensures.below
+          (held_without base c.self.inside.hint lower (4096 * i.start) (i.end - i.start) (regions_of es)
+          c.self.invariant.held c.lowered-self-inside.ensures.below
           (λ h. let b = c.lowered-self-inside.ensures.before h in omega (arith, b)));
     }
 
@@ -44,5 +45,7 @@ returns-clause-taken c = λ there.
     let old = c.args.self.now in
     let start = c.args.region.now.start in
     let pages = c.args.region.now.pages in
-    let lie : AreLaid 0 old (2 ^ 64) = subst (λ (rs : List Region). AreLaid 0 rs (2 ^ 64)) c.self.view_is (laid 0 (entries c.self.inside.tree) (2 ^ 52) c.self.invariant.follow) in
-    subst (λ (rs : List Region). AreTakenOut start (start + 4096 * pages) old rs) (sym (returns-clause-regions c)) (taken_without start pages 0 old (2 ^ 64) lie there)
+    let lie : AreLaid 0 old (2 ^ 64) = subst (λ (rs : List Region). AreLaid 0 rs (2 ^ 64)) c.self.view_is
+    (laid 0 (entries c.self.inside.tree) (2 ^ 52) c.self.invariant.follow) in
+    subst (λ (rs : List Region). AreTakenOut start (start + 4096 * pages) old rs) (sym (returns-clause-regions c))
+    (taken_without start pages 0 old (2 ^ 64) lie there)

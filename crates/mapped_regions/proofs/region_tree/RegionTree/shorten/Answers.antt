@@ -11,7 +11,9 @@ use Rattle.mapped_regions.proofs.Changes.{cut, own_start}
 use Rattle.mapped_regions.proofs.region_tree.RegionTree.shorten.Goals as goal
 
 -- the region is listed in the words of its interval
-listed : (i : Interval ℕ) (start pages : ℕ) (rs ss : List Region) → rs ≡ ss → 4096 * i.start ≡ start → i.end ≡ i.start + pages → list_any (is_at start pages) ss ≡ true → list_any (is_at (4096 * i.start) (i.end - i.start)) rs ≡ true
+listed : (i : Interval ℕ) (start pages : ℕ) (rs ss : List Region) → rs ≡ ss → 4096 * i.start ≡ start →
+    i.end ≡ i.start + pages → list_any (is_at start pages) ss ≡ true →
+    list_any (is_at (4096 * i.start) (i.end - i.start)) rs ≡ true
 listed i start pages rs ss same s p h =
     let n : i.end - i.start ≡ pages = omega (arith, p) in
     ap (λ (a : ℕ). list_any (is_at a (i.end - i.start)) rs) s ∙ (ap (λ (m : ℕ). list_any (is_at start m) rs) n ∙ (ap (list_any (is_at start pages)) same ∙ h))
@@ -21,7 +23,9 @@ shorten-requires-clause-alone c =
     let es = entries c.self.inside.tree in
     let i = c.pages_of-pages.result in
     let p = c.pages_of-pages.ensures in
-    own_start i 0 es (2 ^ 52) c.self.invariant.follow (omega (arith, p.pages)) (listed i c.args.region.now.start c.args.region.now.pages (regions_of es) c.args.self.now c.self.view_is p.start p.pages c.requires.there)
+    own_start i 0 es (2 ^ 52) c.self.invariant.follow (omega (arith, p.pages))
+    (listed i c.args.region.now.start c.args.region.now.pages (regions_of es) c.args.self.now c.self.view_is p.start
+    p.pages c.requires.there)
 
 pub invariant_of-self : goal.invariant_of-self
 invariant_of-self c =
@@ -36,7 +40,8 @@ invariant_of-self c =
       follow = subst (λ (es : List (Interval ℕ × Kind)). Follow 0 es (2 ^ 52)) (sym c.shorten.ensures.pairs) r.follow;
       above = c.lowered-self-inside.ensures.above;
       held = subst (λ (rs : List Region). AreHeld (4096 * base) (4096 * lower) rs) (sym (ap regions_of c.shorten.ensures.pairs ∙ r.regions))
-          (held_shorter base c.self.inside.hint lower (4096 * i.start) (i.end - i.start) (end - i.start) (regions_of es) c.self.invariant.held c.lowered-self-inside.ensures.below
+          (held_shorter base c.self.inside.hint lower (4096 * i.start) (i.end - i.start) (end - i.start) (regions_of es)
+          c.self.invariant.held c.lowered-self-inside.ensures.below
           (λ h. let b = c.lowered-self-inside.ensures.before h in omega (arith, b)));
     }
 

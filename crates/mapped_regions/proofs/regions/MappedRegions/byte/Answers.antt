@@ -12,12 +12,16 @@ pub load_word-word-requires-clause-mapped : goal.load_word-word-requires-clause-
 load_word-word-requires-clause-mapped c =
     let at = c.new-place.ensures in
     let same : c.new-place.result / 4096 ≡ c.args.address / 4096 = omega arith in
-    subst (λ page. IsSome (walk_of c.args.self.now.frames c.args.self.now.root page)) (sym same) (mapped_at (shown c.args.self.now) c.args.address c.args.self.now.mapped c.requires.canonical c.requires.there)
+    subst (λ page. IsSome (walk_of c.args.self.now.frames c.args.self.now.root page)) (sym same)
+    (mapped_at (shown c.args.self.now) c.args.address c.args.self.now.mapped c.requires.canonical c.requires.there)
 
 pub returns : goal.returns
 returns c =
     let at = c.new-place.ensures in
     let less : c.args.address % 8 < 8 = omega arith in
     let same : c.new-place.result + c.args.address % 8 ≡ c.args.address = omega arith in
-    let reach = subst (λ a. reached c.args.self.now.frames c.args.self.now.root a ≡ Some (byte_of c.load_word-word.result (c.args.address % 8))) same (c.load_word-word.ensures.bytes (c.args.address % 8) less) in
-    reach ∙ ap (λ b. Some b) (sym (le_byte c.load_word-word.result (c.args.address % 8) less) ∙ ap (λ bytes. slice_index bytes (c.args.address % 8)) (sym c.to_le_bytes.ensures))
+    let reach = subst (λ a. reached c.args.self.now.frames c.args.self.now.root a ≡ Some
+    (byte_of c.load_word-word.result (c.args.address % 8))) same (c.load_word-word.ensures.bytes (c.args.address % 8)
+    less) in
+    reach ∙ ap (λ b. Some b) (sym (le_byte c.load_word-word.result (c.args.address % 8) less)
+    ∙ ap (λ bytes. slice_index bytes (c.args.address % 8)) (sym c.to_le_bytes.ensures))

@@ -59,14 +59,17 @@ gone : (c : After-forget_pages) → AreGone (shown c.args.self.now) (after c) c.
 gone c =
     let first : c.containing_address.result ≡ c.args.start / 4096 = c.containing_address.ensures ∙ ap (λ a. a / 4096) c.new.ensures in
     let count = c.unmap_pages.ensures.unmapped.count in
-    let same : cut_tables c.args.self.now.frames c.args.self.now.root c.containing_address.result ≡ cut_tables c.args.self.now.frames c.args.self.now.root (c.args.start / 4096) =
+    let same : cut_tables c.args.self.now.frames c.args.self.now.root c.containing_address.result ≡ cut_tables
+    c.args.self.now.frames c.args.self.now.root (c.args.start / 4096) =
     ap (cut_tables c.args.self.now.frames c.args.self.now.root) first in
     let before = c.free_count-free.ensures in
     let now = c.free_count.ensures in
     record {
       regions = c.cut.ensures.regions ∙ ap (λ a. cut_of a c.args.pages (shown c.args.self.now).regions) (page_is c.args.start c.requires.range.0);
-      gone = pages_gone (shown c.args.self.now) c.unmap_pages.new.frames c.unmap_pages.new.pool c.cut.new.self (after c).tables c.containing_address.result c.args.start c.args.pages first
-          c.unmap_pages.ensures.unmapped c.unmap_pages.ensures.tree c.unmap_pages.ensures.gone c.unmap_pages.ensures.elsewhere c.unmap_pages.ensures.bytes (omega arith);
+      gone = pages_gone (shown c.args.self.now) c.unmap_pages.new.frames c.unmap_pages.new.pool c.cut.new.self
+          (after c).tables c.containing_address.result c.args.start c.args.pages first
+          c.unmap_pages.ensures.unmapped c.unmap_pages.ensures.tree c.unmap_pages.ensures.gone
+          c.unmap_pages.ensures.elsewhere c.unmap_pages.ensures.bytes (omega arith);
     }
 
 taken : (c : After-forget_pages) → AreTakenOut c.args.start (c.args.start + 4096 * c.args.pages) (shown c.args.self.now).regions c.cut.new.self
@@ -87,12 +90,14 @@ invariant_of-self c =
           (λ l number is apart. g.gone.gone.tables_stay l number (omega (arith, is)) apart) c.args.self.now.met.0);
       mapped = fewer_mapped (shown c.args.self.now) (after c) c.args.start c.args.pages m range
           (ap (λ rs. total_pages rs + c.args.pages) g.regions
-          ∙ cut_count c.args.start c.args.pages range.0 range.1.some (2 ^ 64) (shown c.args.self.now).regions c.count.ensures.laid c.requires.ends c.requires.held)
+          ∙ cut_count c.args.start c.args.pages range.0 range.1.some (2 ^ 64) (shown c.args.self.now).regions
+          c.count.ensures.laid c.requires.ends c.requires.held)
           (subst (AllByRecursion (IsRegion (shown c.args.self.now).base (shown c.args.self.now).pages)) (sym g.regions)
           (regions_cut (shown c.args.self.now).base (shown c.args.self.now).pages c.args.start c.args.pages (shown c.args.self.now).regions range.0 m.regions))
           g.gone (taken c) (c.unmap_pages.ensures.known m.known)
           (λ slot is beside whole. ap (λ rs. is_whole_in rs slot) g.regions
-          ∙ whole_cut (shown c.args.self.now).base (shown c.args.self.now).pages c.args.start c.args.pages slot (shown c.args.self.now).regions m.regions range.0 is.aligned c.requires.ends beside whole);
+          ∙ whole_cut (shown c.args.self.now).base (shown c.args.self.now).pages c.args.start c.args.pages slot
+          (shown c.args.self.now).regions m.regions range.0 is.aligned c.requires.ends beside whole);
     }
 
 pub returns : goal.returns

@@ -21,15 +21,19 @@ pub overflow_sub-self-2 : goal.overflow_sub-self-2
 overflow_sub-self-2 c =
     let a = c.map_pages-stop.ensures.mapped in
     let count = a.count in
-    let fewer = missing_fewer c.args.self.now.frames c.map_pages-stop.new.frames c.args.self.now.root a.pages_added.stayed c.containing_address.result c.args.region.pages in
+    let fewer = missing_fewer c.args.self.now.frames c.map_pages-stop.new.frames c.args.self.now.root a.pages_added.stayed
+    c.containing_address.result c.args.region.pages in
     let before = c.free_count-free.ensures in
     let now = c.free_count.ensures in
     omega arith
 
 pub list_large-requires-clause-rest : goal.list_large-requires-clause-rest
 list_large-requires-clause-rest c =
-    none_behind (shown c.args.self.now) c.map_pages-stop.new.frames c.map_pages-stop.new.pool c.args.region.start c.args.region.pages c.map_pages-stop.result c.args.region.rights
-    c.args.self.now.mapped c.requires.can (by_address c.args.self.now.frames c.map_pages-stop.new.frames c.args.self.now.pool c.map_pages-stop.new.pool c.args.self.now.root c.containing_address.result c.args.region.start c.args.region.pages c.map_pages-stop.result c.args.region.rights
+    none_behind (shown c.args.self.now) c.map_pages-stop.new.frames c.map_pages-stop.new.pool c.args.region.start
+    c.args.region.pages c.map_pages-stop.result c.args.region.rights
+    c.args.self.now.mapped c.requires.can (by_address c.args.self.now.frames c.map_pages-stop.new.frames
+    c.args.self.now.pool c.map_pages-stop.new.pool c.args.self.now.root c.containing_address.result c.args.region.start
+    c.args.region.pages c.map_pages-stop.result c.args.region.rights
     (c.containing_address.ensures ∙ ap (λ a. a / 4096) c.new.ensures) c.map_pages-stop.ensures.mapped)
 
 -- what is seen after the region joined
@@ -48,10 +52,13 @@ after c = record {
 
 joined : (c : After-list_large) → IsRegionJoined (shown c.args.self.now) (after c) c.args.region
 joined c =
-    let a = by_address c.args.self.now.frames c.map_pages-stop.new.frames c.args.self.now.pool c.map_pages-stop.new.pool c.args.self.now.root c.containing_address.result c.args.region.start c.args.region.pages c.map_pages-stop.result c.args.region.rights
+    let a = by_address c.args.self.now.frames c.map_pages-stop.new.frames c.args.self.now.pool c.map_pages-stop.new.pool
+    c.args.self.now.root c.containing_address.result c.args.region.start c.args.region.pages c.map_pages-stop.result
+    c.args.region.rights
     (c.containing_address.ensures ∙ ap (λ a. a / 4096) c.new.ensures) c.map_pages-stop.ensures.mapped in
     let count = a.count in
-    let fewer = missing_fewer c.args.self.now.frames c.map_pages-stop.new.frames c.args.self.now.root a.pages_added.stayed (c.args.region.start / 4096) c.args.region.pages in
+    let fewer = missing_fewer c.args.self.now.frames c.map_pages-stop.new.frames c.args.self.now.root a.pages_added.stayed
+    (c.args.region.start / 4096) c.args.region.pages in
     let before = c.free_count-free.ensures in
     let now = c.free_count.ensures in
     let whole = c.requires.can.range.0 in
@@ -67,10 +74,12 @@ joined c =
         tables = omega arith;
         slots = c.list_large.ensures;
       };
-      runs = runs_used c.args.self.now.frames c.map_pages-stop.new.frames c.args.self.now.pool c.map_pages-stop.new.pool c.args.self.now.root c.args.region.start c.args.region.pages c.map_pages-stop.result c.args.region.rights whole a;
+      runs = runs_used c.args.self.now.frames c.map_pages-stop.new.frames c.args.self.now.pool c.map_pages-stop.new.pool
+          c.args.self.now.root c.args.region.start c.args.region.pages c.map_pages-stop.result c.args.region.rights whole a;
       zeros = λ address here. (
           let bounds = within_bounds address c.args.region here in
-          c.map_pages-stop.ensures.zeros address (address / 4096 - c.args.region.start / 4096) (omega (arith, bounds.0, bounds.1)) (omega (arith, bounds.0, bounds.1)));
+          c.map_pages-stop.ensures.zeros address (address / 4096 - c.args.region.start / 4096)
+          (omega (arith, bounds.0, bounds.1)) (omega (arith, bounds.0, bounds.1)));
       bytes = c.map_pages-stop.ensures.bytes;
     }
 
@@ -79,9 +88,11 @@ invariant_of-self-2 c =
     let first : c.containing_address.result ≡ c.args.region.start / 4096 = c.containing_address.ensures ∙ ap (λ a. a / 4096) c.new.ensures in
     let pages = c.map_pages-stop.ensures.mapped.pages_added in
     record {
-      met = met_stay c.args.self.now.frames c.map_pages-stop.new.frames c.args.self.now.root c.args.self.now.met_slots (λ l number at le is. pages.stayed l number at le is)
+      met = met_stay c.args.self.now.frames c.map_pages-stop.new.frames c.args.self.now.root c.args.self.now.met_slots
+          (λ l number at le is. pages.stayed l number at le is)
           pages.large_stayed c.args.self.now.met;
-      mapped = joined_mapped (shown c.args.self.now) (after c) c.args.region c.args.self.now.mapped c.requires.region c.requires.can (joined c) c.in_ok-add.ensures.put
+      mapped = joined_mapped (shown c.args.self.now) (after c) c.args.region c.args.self.now.mapped c.requires.region
+          c.requires.can (joined c) c.in_ok-add.ensures.put
           (λ other canonical apart. c.map_pages-stop.ensures.elsewhere other canonical (λ k less e. apart k less (e ∙ ap (λ f. f + k) first)));
     }
 

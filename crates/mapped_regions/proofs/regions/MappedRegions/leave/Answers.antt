@@ -17,20 +17,25 @@ use Rattle.mapped_regions.proofs.regions.MappedRegions.leave.Goals as goal
 use Rattle.mapped_regions.proofs.regions.MappedRegions.leave.Goals.{After-forget_pages}
 
 pub remove-requires-clause-at_page : goal.remove-requires-clause-at_page
-remove-requires-clause-at_page c = (listed_range (shown c.args.self.now) c.args.region.now.start c.args.region.now.pages c.args.self.now.mapped c.requires.there).0
+remove-requires-clause-at_page c = (listed_range (shown c.args.self.now) c.args.region.now.start c.args.region.now.pages
+    c.args.self.now.mapped c.requires.there).0
 
 pub remove-requires-clause-within : goal.remove-requires-clause-within
 remove-requires-clause-within c =
-    range_ends_at c.args.region.now.start c.args.region.now.pages (listed_range (shown c.args.self.now) c.args.region.now.start c.args.region.now.pages c.args.self.now.mapped c.requires.there)
+    range_ends_at c.args.region.now.start c.args.region.now.pages (listed_range (shown c.args.self.now)
+    c.args.region.now.start c.args.region.now.pages c.args.self.now.mapped c.requires.there)
 
 pub new-requires : goal.new-requires
 new-requires c =
-    range_canonical c.args.region.now.start c.args.region.now.pages (listed_range (shown c.args.self.now) c.args.region.now.start c.args.region.now.pages c.args.self.now.mapped c.requires.there)
+    range_canonical c.args.region.now.start c.args.region.now.pages (listed_range (shown c.args.self.now)
+    c.args.region.now.start c.args.region.now.pages c.args.self.now.mapped c.requires.there)
 
 pub unmap_pages-requires-clause-range : goal.unmap_pages-requires-clause-range
 unmap_pages-requires-clause-range c =
     let first : c.containing_address.result ≡ c.args.region.now.start / 4096 = c.containing_address.ensures ∙ ap (λ a. a / 4096) c.new.ensures in
-    subst (λ f. IsCanonicalRange f c.args.region.now.pages) (sym first) (listed_range (shown c.args.self.now) c.args.region.now.start c.args.region.now.pages c.args.self.now.mapped c.requires.there).1
+    subst (λ f. IsCanonicalRange f c.args.region.now.pages) (sym first)
+    (listed_range (shown c.args.self.now) c.args.region.now.start c.args.region.now.pages c.args.self.now.mapped
+    c.requires.there).1
 
 pub unmap_pages-requires-clause-mapped : goal.unmap_pages-requires-clause-mapped
 unmap_pages-requires-clause-mapped c = λ k less.
@@ -60,8 +65,10 @@ left c =
     let none = cut_none c.args.self.now.frames c.args.self.now.root (c.args.region.now.start / 4096) whole in
     record {
       regions = c.remove.ensures.regions;
-      gone = pages_gone (shown c.args.self.now) c.unmap_pages.new.frames c.unmap_pages.new.pool c.remove.new.self c.args.self.now.tables c.containing_address.result c.args.region.now.start c.args.region.now.pages first
-          c.unmap_pages.ensures.unmapped c.unmap_pages.ensures.tree c.unmap_pages.ensures.gone c.unmap_pages.ensures.elsewhere c.unmap_pages.ensures.bytes (omega arith);
+      gone = pages_gone (shown c.args.self.now) c.unmap_pages.new.frames c.unmap_pages.new.pool c.remove.new.self
+          c.args.self.now.tables c.containing_address.result c.args.region.now.start c.args.region.now.pages first
+          c.unmap_pages.ensures.unmapped c.unmap_pages.ensures.tree c.unmap_pages.ensures.gone
+          c.unmap_pages.ensures.elsewhere c.unmap_pages.ensures.bytes (omega arith);
       whole = whole;
     }
 
@@ -75,11 +82,15 @@ invariant_of-self c =
           (tables_stay c.args.self.now.frames c.unmap_pages.new.frames c.args.self.now.root c.args.self.now.met_slots.tables
           (λ number at is. l.gone.gone.tables_stay 3 number (omega arith) (λ e same. l.whole) ∙ is) c.args.self.now.met.0);
       mapped = fewer_mapped (shown c.args.self.now) (after c) c.args.region.now.start c.args.region.now.pages m range
-          (ap (λ rs. total_pages rs + c.args.region.now.pages) l.regions ∙ pages_without c.args.region.now.start c.args.region.now.pages (shown c.args.self.now).regions c.requires.there)
+          (ap (λ rs. total_pages rs + c.args.region.now.pages) l.regions ∙ pages_without c.args.region.now.start
+          c.args.region.now.pages (shown c.args.self.now).regions c.requires.there)
           (subst (AllByRecursion (IsRegion (shown c.args.self.now).base (shown c.args.self.now).pages)) (sym l.regions)
-          (all_without (IsRegion (shown c.args.self.now).base (shown c.args.self.now).pages) c.args.region.now.start c.args.region.now.pages (shown c.args.self.now).regions m.regions))
+          (all_without (IsRegion (shown c.args.self.now).base (shown c.args.self.now).pages) c.args.region.now.start
+          c.args.region.now.pages (shown c.args.self.now).regions m.regions))
           l.gone (c.remove.ensures.taken c.requires.there) (c.unmap_pages.ensures.known m.known)
-          (λ slot is beside whole. ap (λ rs. is_whole_in rs slot) l.regions ∙ whole_without c.args.region.now.start c.args.region.now.pages slot (shown c.args.self.now).regions beside whole);
+          (λ slot is beside whole. ap (λ rs. is_whole_in rs slot) l.regions
+          ∙ whole_without c.args.region.now.start c.args.region.now.pages slot (shown c.args.self.now).regions beside
+          whole);
     }
 
 pub returns : goal.returns

@@ -29,7 +29,9 @@ invariant_of-result c =
         few_frames = omega arith;
         count = omega arith;
         regions = subst (AllByRecursion (IsRegion c.args.base c.args.pages)) (sym c.new-5.ensures) tt;
-        found = λ page canonical. ap (option_map rights_of) (c.in-Some.ensures.unmapped page) ∙ ap (λ (rs : List Region). option_map (λ (kind : Bool × Rights). kind.1) (kind_at rs (4096 * page))) (sym c.new-5.ensures);
+        found = λ page canonical. ap (option_map rights_of) (c.in-Some.ensures.unmapped page)
+            ∙ ap (λ (rs : List Region). option_map (λ (kind : Bool × Rights). kind.1) (kind_at rs (4096 * page)))
+            (sym c.new-5.ensures);
         larges = none_large c.make_root.new.frames c.in-Some.root c.new-5.result c.in-Some.ensures.no_large;
       };
     }

@@ -15,7 +15,8 @@ returns-in_default c =
     let walked = c.walk.ensures.found ∙ ap (walk_of words root) (c.containing_address-page.ensures ∙ ap (λ a. a / 4096) c.new.ensures) in
     let region = option_map (λ (kind : Bool × Rights). kind.1) (kind_at c.args.self.now.regions c.args.address) in
     record {
-      region = walked_none c.walk.result place region walked (found_at (shown c.args.self.now) c.args.address c.args.self.now.mapped c.requires) c.in_default.is;
+      region = walked_none c.walk.result place region walked (found_at (shown c.args.self.now) c.args.address
+          c.args.self.now.mapped c.requires) c.in_default.is;
       walk = walked_none c.walk.result place (option_map rights_of place) walked refl c.in_default.is;
     }
 
@@ -27,6 +28,7 @@ returns c =
     let walked = c.walk.ensures.found ∙ ap (walk_of words root) (c.containing_address-page.ensures ∙ ap (λ a. a / 4096) c.new.ensures) in
     let region = option_map (λ (kind : Bool × Rights). kind.1) (kind_at c.args.self.now.regions c.args.address) in
     record {
-      region = walked_some c.walk.result c.in-Some.mapped place region walked (found_at (shown c.args.self.now) c.args.address c.args.self.now.mapped c.requires) c.in-Some.is;
+      region = walked_some c.walk.result c.in-Some.mapped place region walked
+          (found_at (shown c.args.self.now) c.args.address c.args.self.now.mapped c.requires) c.in-Some.is;
       walk = walked_some c.walk.result c.in-Some.mapped place (option_map rights_of place) walked refl c.in-Some.is;
     }

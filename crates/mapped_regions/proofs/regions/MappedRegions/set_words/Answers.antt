@@ -10,49 +10,79 @@ pub invariant_of-self : goal.invariant_of-self
 invariant_of-self c =
     let free = c.args.self.now.pool in
     let tree = c.args.self.now.mapped.tree in
-    let f = frame_at c.args.self.now.frames c.args.self.now.root c.args.at c.new.result c.containing_address-page.result c.meet-frame.result c.containing_address-page.ensures c.new.ensures c.meet-frame.ensures.frame in
-    let put = put_at c.args.self.now.frames c.write_words.new.self c.args.self.now.root c.args.at c.word_index.result c.meet-frame.result c.args.words.now f c.word_index.ensures.index c.write_words.ensures in
-    let walks = written_walks c.args.self.now.frames c.write_words.new.self c.args.self.now.root (c.args.at / 4096) f.place free f.found put.size (run_elsewhere c.args.self.now.frames c.write_words.new.self c.args.self.now.root (c.args.at / 4096) (c.args.at % 4096 / 8) c.args.words.now f.place free f.found c.requires.fits put tree) tree in
-    let larges = written_larges c.args.self.now.frames c.write_words.new.self c.args.self.now.root (c.args.at / 4096) f.place free f.found put.size (run_elsewhere c.args.self.now.frames c.write_words.new.self c.args.self.now.root (c.args.at / 4096) (c.args.at % 4096 / 8) c.args.words.now f.place free f.found c.requires.fits put tree) tree in
+    let f = frame_at c.args.self.now.frames c.args.self.now.root c.args.at c.new.result c.containing_address-page.result
+    c.meet-frame.result c.containing_address-page.ensures c.new.ensures c.meet-frame.ensures.frame in
+    let put = put_at c.args.self.now.frames c.write_words.new.self c.args.self.now.root c.args.at c.word_index.result
+    c.meet-frame.result c.args.words.now f c.word_index.ensures.index c.write_words.ensures in
+    let walks = written_walks c.args.self.now.frames c.write_words.new.self c.args.self.now.root (c.args.at / 4096) f.place
+    free f.found put.size (run_elsewhere c.args.self.now.frames c.write_words.new.self c.args.self.now.root
+    (c.args.at / 4096) (c.args.at % 4096 / 8) c.args.words.now f.place free f.found c.requires.fits put tree) tree in
+    let larges = written_larges c.args.self.now.frames c.write_words.new.self c.args.self.now.root (c.args.at / 4096)
+    f.place free f.found put.size (run_elsewhere c.args.self.now.frames c.write_words.new.self c.args.self.now.root
+    (c.args.at / 4096) (c.args.at % 4096 / 8) c.args.words.now f.place free f.found c.requires.fits put tree) tree in
     record {
-      met = met_stay c.args.self.now.frames c.write_words.new.self c.args.self.now.root c.meet-frame.new.self (λ l number met le is. walks l number le ∙ is) (λ number large is. larges number ∙ is) c.meet-frame.ensures.met;
-      mapped = stored_mapped (shown c.args.self.now) c.write_words.new.self c.args.self.now.mapped put.size (written_tree c.args.self.now.frames c.write_words.new.self c.args.self.now.root (c.args.at / 4096) f.place free f.found put.size (run_elsewhere c.args.self.now.frames c.write_words.new.self c.args.self.now.root (c.args.at / 4096) (c.args.at % 4096 / 8) c.args.words.now f.place free f.found c.requires.fits put tree) tree) walks larges;
+      met = met_stay c.args.self.now.frames c.write_words.new.self c.args.self.now.root c.meet-frame.new.self
+          (λ l number met le is. walks l number le ∙ is) (λ number large is. larges number ∙ is) c.meet-frame.ensures.met;
+      mapped = stored_mapped (shown c.args.self.now) c.write_words.new.self c.args.self.now.mapped put.size
+          (written_tree c.args.self.now.frames c.write_words.new.self c.args.self.now.root (c.args.at / 4096) f.place free
+          f.found put.size (run_elsewhere c.args.self.now.frames c.write_words.new.self c.args.self.now.root
+          (c.args.at / 4096) (c.args.at % 4096 / 8) c.args.words.now f.place free f.found c.requires.fits put tree) tree)
+          walks larges;
     }
 
 pub returns-clause-walks : goal.returns-clause-walks
 returns-clause-walks c = λ free tree.
-    let f = frame_at c.args.self.now.frames c.args.self.now.root c.args.at c.new.result c.containing_address-page.result c.meet-frame.result c.containing_address-page.ensures c.new.ensures c.meet-frame.ensures.frame in
-    let put = put_at c.args.self.now.frames c.write_words.new.self c.args.self.now.root c.args.at c.word_index.result c.meet-frame.result c.args.words.now f c.word_index.ensures.index c.write_words.ensures in
-    written_walks c.args.self.now.frames c.write_words.new.self c.args.self.now.root (c.args.at / 4096) f.place free f.found put.size (run_elsewhere c.args.self.now.frames c.write_words.new.self c.args.self.now.root (c.args.at / 4096) (c.args.at % 4096 / 8) c.args.words.now f.place free f.found c.requires.fits put tree) tree
+    let f = frame_at c.args.self.now.frames c.args.self.now.root c.args.at c.new.result c.containing_address-page.result
+    c.meet-frame.result c.containing_address-page.ensures c.new.ensures c.meet-frame.ensures.frame in
+    let put = put_at c.args.self.now.frames c.write_words.new.self c.args.self.now.root c.args.at c.word_index.result
+    c.meet-frame.result c.args.words.now f c.word_index.ensures.index c.write_words.ensures in
+    written_walks c.args.self.now.frames c.write_words.new.self c.args.self.now.root (c.args.at / 4096) f.place free f.found
+    put.size (run_elsewhere c.args.self.now.frames c.write_words.new.self c.args.self.now.root (c.args.at / 4096)
+    (c.args.at % 4096 / 8) c.args.words.now f.place free f.found c.requires.fits put tree) tree
 
 pub returns-clause-larges : goal.returns-clause-larges
 returns-clause-larges c = λ free tree.
-    let f = frame_at c.args.self.now.frames c.args.self.now.root c.args.at c.new.result c.containing_address-page.result c.meet-frame.result c.containing_address-page.ensures c.new.ensures c.meet-frame.ensures.frame in
-    let put = put_at c.args.self.now.frames c.write_words.new.self c.args.self.now.root c.args.at c.word_index.result c.meet-frame.result c.args.words.now f c.word_index.ensures.index c.write_words.ensures in
-    written_larges c.args.self.now.frames c.write_words.new.self c.args.self.now.root (c.args.at / 4096) f.place free f.found put.size (run_elsewhere c.args.self.now.frames c.write_words.new.self c.args.self.now.root (c.args.at / 4096) (c.args.at % 4096 / 8) c.args.words.now f.place free f.found c.requires.fits put tree) tree
+    let f = frame_at c.args.self.now.frames c.args.self.now.root c.args.at c.new.result c.containing_address-page.result
+    c.meet-frame.result c.containing_address-page.ensures c.new.ensures c.meet-frame.ensures.frame in
+    let put = put_at c.args.self.now.frames c.write_words.new.self c.args.self.now.root c.args.at c.word_index.result
+    c.meet-frame.result c.args.words.now f c.word_index.ensures.index c.write_words.ensures in
+    written_larges c.args.self.now.frames c.write_words.new.self c.args.self.now.root (c.args.at / 4096) f.place free
+    f.found put.size (run_elsewhere c.args.self.now.frames c.write_words.new.self c.args.self.now.root
+    (c.args.at / 4096) (c.args.at % 4096 / 8) c.args.words.now f.place free f.found c.requires.fits put tree) tree
 
 pub returns-clause-tree : goal.returns-clause-tree
 returns-clause-tree c = λ free tree.
-    let f = frame_at c.args.self.now.frames c.args.self.now.root c.args.at c.new.result c.containing_address-page.result c.meet-frame.result c.containing_address-page.ensures c.new.ensures c.meet-frame.ensures.frame in
-    let put = put_at c.args.self.now.frames c.write_words.new.self c.args.self.now.root c.args.at c.word_index.result c.meet-frame.result c.args.words.now f c.word_index.ensures.index c.write_words.ensures in
-    written_tree c.args.self.now.frames c.write_words.new.self c.args.self.now.root (c.args.at / 4096) f.place free f.found put.size (run_elsewhere c.args.self.now.frames c.write_words.new.self c.args.self.now.root (c.args.at / 4096) (c.args.at % 4096 / 8) c.args.words.now f.place free f.found c.requires.fits put tree) tree
+    let f = frame_at c.args.self.now.frames c.args.self.now.root c.args.at c.new.result c.containing_address-page.result
+    c.meet-frame.result c.containing_address-page.ensures c.new.ensures c.meet-frame.ensures.frame in
+    let put = put_at c.args.self.now.frames c.write_words.new.self c.args.self.now.root c.args.at c.word_index.result
+    c.meet-frame.result c.args.words.now f c.word_index.ensures.index c.write_words.ensures in
+    written_tree c.args.self.now.frames c.write_words.new.self c.args.self.now.root (c.args.at / 4096) f.place free f.found
+    put.size (run_elsewhere c.args.self.now.frames c.write_words.new.self c.args.self.now.root (c.args.at / 4096)
+    (c.args.at % 4096 / 8) c.args.words.now f.place free f.found c.requires.fits put tree) tree
 
 pub returns-clause-bytes : goal.returns-clause-bytes
 returns-clause-bytes c = λ free tree k less.
-    let f = frame_at c.args.self.now.frames c.args.self.now.root c.args.at c.new.result c.containing_address-page.result c.meet-frame.result c.containing_address-page.ensures c.new.ensures c.meet-frame.ensures.frame in
-    let put = put_at c.args.self.now.frames c.write_words.new.self c.args.self.now.root c.args.at c.word_index.result c.meet-frame.result c.args.words.now f c.word_index.ensures.index c.write_words.ensures in
+    let f = frame_at c.args.self.now.frames c.args.self.now.root c.args.at c.new.result c.containing_address-page.result
+    c.meet-frame.result c.containing_address-page.ensures c.new.ensures c.meet-frame.ensures.frame in
+    let put = put_at c.args.self.now.frames c.write_words.new.self c.args.self.now.root c.args.at c.word_index.result
+    c.meet-frame.result c.args.words.now f c.word_index.ensures.index c.write_words.ensures in
     let aligned = c.requires.word.aligned in
     let fits = c.requires.fits in
     let page : (c.args.at + k) / 4096 ≡ c.args.at / 4096 = omega arith in
     let place : (c.args.at + k) % 4096 / 8 - c.args.at % 4096 / 8 ≡ k / 8 = omega arith in
     let byte : (c.args.at + k) % 8 ≡ k % 8 = omega arith in
-    run_bytes c.args.self.now.frames c.write_words.new.self c.args.self.now.root (c.args.at / 4096) (c.args.at % 4096 / 8) c.args.words.now f.place free f.found c.requires.fits put tree (c.args.at + k) page (omega arith) (omega arith)
+    run_bytes c.args.self.now.frames c.write_words.new.self c.args.self.now.root (c.args.at / 4096) (c.args.at % 4096 / 8)
+    c.args.words.now f.place free f.found c.requires.fits put tree (c.args.at + k) page (omega arith) (omega arith)
     ∙ (ap (λ i. Some (byte_of (get_or c.args.words.now i 0) ((c.args.at + k) % 8))) place ∙ ap (λ b. Some (byte_of (get_or c.args.words.now (k / 8) 0) b)) byte)
 
 pub returns-clause-other_bytes : goal.returns-clause-other_bytes
 returns-clause-other_bytes c = λ free tree other canonical beside.
-    let f = frame_at c.args.self.now.frames c.args.self.now.root c.args.at c.new.result c.containing_address-page.result c.meet-frame.result c.containing_address-page.ensures c.new.ensures c.meet-frame.ensures.frame in
-    let put = put_at c.args.self.now.frames c.write_words.new.self c.args.self.now.root c.args.at c.word_index.result c.meet-frame.result c.args.words.now f c.word_index.ensures.index c.write_words.ensures in
+    let f = frame_at c.args.self.now.frames c.args.self.now.root c.args.at c.new.result c.containing_address-page.result
+    c.meet-frame.result c.containing_address-page.ensures c.new.ensures c.meet-frame.ensures.frame in
+    let put = put_at c.args.self.now.frames c.write_words.new.self c.args.self.now.root c.args.at c.word_index.result
+    c.meet-frame.result c.args.words.now f c.word_index.ensures.index c.write_words.ensures in
     let aligned = c.requires.word.aligned in
-    run_others c.args.self.now.frames c.write_words.new.self c.args.self.now.root (c.args.at / 4096) (c.args.at % 4096 / 8) c.args.words.now f.place free f.found c.requires.fits put tree (page_canonical c.args.at c.requires.word.canonical) other canonical
+    run_others c.args.self.now.frames c.write_words.new.self c.args.self.now.root (c.args.at / 4096) (c.args.at % 4096 / 8)
+    c.args.words.now f.place free f.found c.requires.fits put tree (page_canonical c.args.at c.requires.word.canonical)
+    other canonical
     (λ page from to. elim beside [ inl before ↦ absurd (omega arith) | inr behind ↦ absurd (omega arith) ])

@@ -11,13 +11,15 @@ pub returns-then-is_some-clause-refused : goal.returns-then-is_some-clause-refus
 returns-then-is_some-clause-refused c =
     let range : IsPageRange c.args.start c.args.pages = c.if-not-is_page_range.ensures.range.0 refl in (
       range,
-      heap_met (shown c.args.self.now) c.args.start (c.args.start / 4096) c.args.pages c.lowest_heap_met.result true range.0 refl c.lowest_heap_met.ensures (sym c.is_some.ensures ∙ c.if-is_some.true),
+      heap_met (shown c.args.self.now) c.args.start (c.args.start / 4096) c.args.pages c.lowest_heap_met.result true range.0
+          refl c.lowest_heap_met.ensures (sym c.is_some.ensures ∙ c.if-is_some.true),
     )
 
 pub leave-requires : goal.leave-requires
 leave-requires c = record {
   there = subst (λ n. list_any (is_at c.in-Some.region.start n) c.args.self.now.regions ≡ true) (sym c.if-region-pages.true)
-      (found_there (4096 * (c.args.start / 4096)) c.in-Some.region.start c.args.pages c.args.self.now.regions c.in-Some.region (sym c.lowest_met.ensures.value ∙ c.in-Some.is) refl c.if-region-pages.true);
+      (found_there (4096 * (c.args.start / 4096)) c.in-Some.region.start c.args.pages c.args.self.now.regions
+      c.in-Some.region (sym c.lowest_met.ensures.value ∙ c.in-Some.is) refl c.if-region-pages.true);
 }
 
 pub returns-in-Some-clause-can : goal.returns-in-Some-clause-can
@@ -26,16 +28,20 @@ returns-in-Some-clause-can c =
     record {
       range = range;
       there = user_there (shown c.args.self.now) c.args.start c.args.pages range.1.some
-          (found_there (4096 * (c.args.start / 4096)) c.args.start c.args.pages c.args.self.now.regions c.in-Some.region (sym c.lowest_met.ensures.value ∙ c.in-Some.is) c.if-region-start.true c.if-region-pages.true)
-          (heap_met (shown c.args.self.now) c.args.start (c.args.start / 4096) c.args.pages c.lowest_heap_met.result false range.0 refl c.lowest_heap_met.ensures (sym c.is_some.ensures ∙ c.if-is_some.false));
+          (found_there (4096 * (c.args.start / 4096)) c.args.start c.args.pages c.args.self.now.regions c.in-Some.region
+          (sym c.lowest_met.ensures.value ∙ c.in-Some.is) c.if-region-start.true c.if-region-pages.true)
+          (heap_met (shown c.args.self.now) c.args.start (c.args.start / 4096) c.args.pages c.lowest_heap_met.result false
+          range.0 refl c.lowest_heap_met.ensures (sym c.is_some.ensures ∙ c.if-is_some.false));
     }
 
 pub returns-in_default-clause-refused : goal.returns-in_default-clause-refused
 returns-in_default-clause-refused c =
     let range : IsPageRange c.args.start c.args.pages = c.if-not-is_page_range.ensures.range.0 refl in (
       range,
-      heap_met (shown c.args.self.now) c.args.start (c.args.start / 4096) c.args.pages c.lowest_heap_met.result false range.0 refl c.lowest_heap_met.ensures (sym c.is_some.ensures ∙ c.if-is_some.false),
-      none_there (shown c.args.self.now) c.args.start (c.args.start / 4096) c.args.pages c.lowest_met.result range.0 refl range.1.some c.lowest_met.ensures.laid c.lowest_met.ensures.value
+      heap_met (shown c.args.self.now) c.args.start (c.args.start / 4096) c.args.pages c.lowest_heap_met.result false
+          range.0 refl c.lowest_heap_met.ensures (sym c.is_some.ensures ∙ c.if-is_some.false),
+      none_there (shown c.args.self.now) c.args.start (c.args.start / 4096) c.args.pages c.lowest_met.result range.0 refl
+          range.1.some c.lowest_met.ensures.laid c.lowest_met.ensures.value
           (λ r is s n. (
           let both : Some r ≡ Some c.in-Some.region = sym is ∙ c.in-Some.is in
           let same : r ≡ c.in-Some.region = cc in
@@ -46,8 +52,10 @@ pub returns-in_default-2-clause-refused : goal.returns-in_default-2-clause-refus
 returns-in_default-2-clause-refused c =
     let range : IsPageRange c.args.start c.args.pages = c.if-not-is_page_range.ensures.range.0 refl in (
       range,
-      heap_met (shown c.args.self.now) c.args.start (c.args.start / 4096) c.args.pages c.lowest_heap_met.result false range.0 refl c.lowest_heap_met.ensures (sym c.is_some.ensures ∙ c.if-is_some.false),
-      none_there (shown c.args.self.now) c.args.start (c.args.start / 4096) c.args.pages c.lowest_met.result range.0 refl range.1.some c.lowest_met.ensures.laid c.lowest_met.ensures.value
+      heap_met (shown c.args.self.now) c.args.start (c.args.start / 4096) c.args.pages c.lowest_heap_met.result false
+          range.0 refl c.lowest_heap_met.ensures (sym c.is_some.ensures ∙ c.if-is_some.false),
+      none_there (shown c.args.self.now) c.args.start (c.args.start / 4096) c.args.pages c.lowest_met.result range.0 refl
+          range.1.some c.lowest_met.ensures.laid c.lowest_met.ensures.value
           (λ r is s n. (
           let both : Some r ≡ Some c.in-Some.region = sym is ∙ c.in-Some.is in
           let same : r ≡ c.in-Some.region = cc in
@@ -58,7 +66,9 @@ pub returns-in_default-3-clause-refused : goal.returns-in_default-3-clause-refus
 returns-in_default-3-clause-refused c =
     let range : IsPageRange c.args.start c.args.pages = c.if-not-is_page_range.ensures.range.0 refl in (
       range,
-      heap_met (shown c.args.self.now) c.args.start (c.args.start / 4096) c.args.pages c.lowest_heap_met.result false range.0 refl c.lowest_heap_met.ensures (sym c.is_some.ensures ∙ c.if-is_some.false),
-      none_there (shown c.args.self.now) c.args.start (c.args.start / 4096) c.args.pages c.lowest_met.result range.0 refl range.1.some c.lowest_met.ensures.laid c.lowest_met.ensures.value
+      heap_met (shown c.args.self.now) c.args.start (c.args.start / 4096) c.args.pages c.lowest_heap_met.result false
+          range.0 refl c.lowest_heap_met.ensures (sym c.is_some.ensures ∙ c.if-is_some.false),
+      none_there (shown c.args.self.now) c.args.start (c.args.start / 4096) c.args.pages c.lowest_met.result range.0 refl
+          range.1.some c.lowest_met.ensures.laid c.lowest_met.ensures.value
           (λ r is s n. (let both = sym is ∙ c.in_default.is in absurd (cc))),
     )

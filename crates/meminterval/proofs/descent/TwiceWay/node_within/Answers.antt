@@ -13,14 +13,17 @@ returns-then-left-eq0 g c =
     (λ i. inl (c.in_ok-node.node.ghost_name, λ w. sym (over.1 w) i), record { lends = tt; value = c.in_ok-node.ensures.value ∙ sym over.0 })
 
 pub rest-rest-requires : goal.rest-rest-requires
-rest-rest-requires g c = (recorded_at g.T.Ord.cmp (c.args.length / 2) c.args.tree.now c.args.place c.requires.recorded c.in_ok-node.node.now (sym c.in_ok-node.ensures.value)).1
+rest-rest-requires g c = (recorded_at g.T.Ord.cmp (c.args.length / 2) c.args.tree.now c.args.place c.requires.recorded
+    c.in_ok-node.node.now (sym c.in_ok-node.ensures.value)).1
 
 pub turn-requires : goal.turn-requires
-turn-requires g c = (recorded_at g.T.Ord.cmp (c.args.length / 2) c.args.tree.now c.args.place c.requires.recorded c.in_ok-node.node.now (sym c.in_ok-node.ensures.value)).1
+turn-requires g c = (recorded_at g.T.Ord.cmp (c.args.length / 2) c.args.tree.now c.args.place c.requires.recorded
+    c.in_ok-node.node.now (sym c.in_ok-node.ensures.value)).1
 
 pub node_within-requires-2-clause-recorded : goal.node_within-requires-2-clause-recorded
 node_within-requires-2-clause-recorded g c =
-    let parts = recorded_at g.T.Ord.cmp (c.args.length / 2) c.args.tree.now c.args.place c.requires.recorded c.in_ok-node.node.now (sym c.in_ok-node.ensures.value) in
+    let parts = recorded_at g.T.Ord.cmp (c.args.length / 2) c.args.tree.now c.args.place c.requires.recorded
+    c.in_ok-node.node.now (sym c.in_ok-node.ensures.value) in
     rw c.turn.ensures.value (recorded_turn g.T.Ord.cmp c.in_ok-node.node.now (c.left_after-left.result - 1) parts.0 parts.1)
 
 pub returns : goal.returns

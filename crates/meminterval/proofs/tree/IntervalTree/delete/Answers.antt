@@ -11,6 +11,13 @@ invariant_of-self g c =
     record {
       recorded = c.delete_below.ensures.recorded;
       balanced = c.delete_below.ensures.balanced;
-      ordered = rw (c.delete_below.ensures.pairs, c.replace-root.ensures.value) (ordered_without (by_ends g.T.Ord.cmp) c.args.interval.now _ c.self.invariant.ordered);
-      few = rw (c.delete_below.ensures.pairs, c.replace-root.ensures.value) (omega (arith, few, without_length (by_ends g.T.Ord.cmp) c.args.interval.now (entries (tree_of c.self.inside.root))));
+      ordered = rw (c.delete_below.ensures.pairs, c.replace-root.ensures.value)
+          (ordered_without (by_ends g.T.Ord.cmp) c.args.interval.now _ c.self.invariant.ordered);
+      few = rw (c.delete_below.ensures.pairs, c.replace-root.ensures.value)
+          (omega (
+            arith,
+            few,
+            without_length (by_ends g.T.Ord.cmp) c.args.interval.now
+                (entries (tree_of c.self.inside.root)),
+          ));
     }

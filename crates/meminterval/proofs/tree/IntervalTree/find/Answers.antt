@@ -7,7 +7,8 @@ pub returns-in-Equal : goal.returns-in-Equal
 returns-in-Equal g c =
     let s = rw c.in-Fork.is at c.loop-at.invariant.ordered in
     let h = rw c.deref.ensures at (sym c.cmp.ensures ∙ c.in-Equal.is) in
-    rw (c.deref-in-Equal.ensures, ← c.loop-at.invariant.same, c.in-Fork.is) (sym (value_middle (by_ends g.T.Ord.cmp) (by_ends-total g.met.T.Ord.total) _ _ _ s _ h))
+    rw (c.deref-in-Equal.ensures, ← c.loop-at.invariant.same, c.in-Fork.is)
+    (sym (value_middle (by_ends g.T.Ord.cmp) (by_ends-total g.met.T.Ord.total) _ _ _ s _ h))
 
 pub loop-at-preserved-in-Less : goal.loop-at-preserved-in-Less
 loop-at-preserved-in-Less g c =

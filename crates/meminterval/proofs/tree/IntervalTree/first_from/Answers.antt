@@ -23,5 +23,7 @@ loop-at-preserved g c =
     let t = rw c.deref.ensures at (sym c.starts_below.ensures ∙ c.if-starts_below.false) in
     rw (c.deref-else-starts_below.ensures, c.deref-else-starts_below-2.ensures, c.deref-else-starts_below-3.ensures) (record {
       ordered = ordered_front (by_ends g.T.Ord.cmp) _ _ s;
-      same = sym (or_else-assoc _ _ (option_map pair_of c.loop-at.least)) ∙ ap (λ o. or_else o (option_map pair_of c.loop-at.least)) (sym (first_above g.T.Ord.cmp g.met.T.Ord.total c.args.key.now _ _ _ s t)) ∙ e;
+      same = sym (or_else-assoc _ _ (option_map pair_of c.loop-at.least))
+          ∙ ap (λ o. or_else o (option_map pair_of c.loop-at.least)) (sym
+          (first_above g.T.Ord.cmp g.met.T.Ord.total c.args.key.now _ _ _ s t)) ∙ e;
     })

@@ -10,5 +10,6 @@ use Rattle.meminterval.proofs.tree.IntervalTree.first_from.Given as goal
 abbrev pub invariant-loop-at : goal.invariant-loop-at
 invariant-loop-at g l = record {
   ordered : IsOrdered (by_ends g.T.Ord.cmp) (entries (tree_of l.at));
-  same : or_else (first (starts_from g.T.Ord.cmp l.key) (entries (tree_of l.at))) (option_map pair_of l.least) ≡ first (starts_from g.T.Ord.cmp l.key) (entries l.self);
+  same : or_else (first (starts_from g.T.Ord.cmp l.key) (entries (tree_of l.at))) (option_map pair_of l.least) ≡ first
+      (starts_from g.T.Ord.cmp l.key) (entries l.self);
 }

@@ -13,6 +13,8 @@ loop-interval-preserved g c =
     let len = ap (λ es. length es) taken in
     let room = c.loop-interval.invariant.room in
     record {
-      pairs = ap (λ es. with_entries (by_ends g.T.Ord.cmp) c.next.new.self.rest.items es) put ∙ sym (ap (λ xs. with_entries (by_ends g.T.Ord.cmp) xs (entries c.loop-interval.tree)) taken) ∙ c.loop-interval.invariant.pairs;
+      pairs = ap (λ es. with_entries (by_ends g.T.Ord.cmp) c.next.new.self.rest.items es) put
+          ∙ sym (ap (λ xs. with_entries (by_ends g.T.Ord.cmp) xs (entries c.loop-interval.tree)) taken)
+          ∙ c.loop-interval.invariant.pairs;
       room = rw put (omega (arith, one, len, room));
     }

@@ -13,7 +13,9 @@ loop-at-preserved-then-starts_below g c =
     let t = rw c.deref.ensures at (sym c.starts_below.ensures ∙ c.if-starts_below.true) in
     rw (c.deref-then-starts_below.ensures, c.deref-then-starts_below-2.ensures, c.deref-then-starts_below-3.ensures) (record {
       ordered = ordered_after (by_ends g.T.Ord.cmp) _ _ _ s;
-      same = sym (or_else-assoc _ _ (option_map pair_of c.loop-at.greatest)) ∙ ap (λ o. or_else o (option_map pair_of c.loop-at.greatest)) (sym (last_below g.T.Ord.cmp g.met.T.Ord.total c.args.key.now _ _ _ s t)) ∙ e;
+      same = sym (or_else-assoc _ _ (option_map pair_of c.loop-at.greatest))
+          ∙ ap (λ o. or_else o (option_map pair_of c.loop-at.greatest)) (sym
+          (last_below g.T.Ord.cmp g.met.T.Ord.total c.args.key.now _ _ _ s t)) ∙ e;
     })
 
 pub loop-at-preserved : goal.loop-at-preserved

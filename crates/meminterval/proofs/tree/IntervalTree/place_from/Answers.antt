@@ -8,7 +8,8 @@ use Rattle.meminterval.proofs.tree.IntervalTree.place_from.Goals as goal
 
 pub returns-clause-within : goal.returns-clause-within
 returns-clause-within g c =
-    rw (← c.self.view_is) (places_within (λ e. overlaps g.T.Ord.cmp e.0 c.args.interval.now) (visited (tree_of c.self.inside.root)) c.args.passed c.place_below.result c.place_below.ensures)
+    rw (← c.self.view_is) (places_within (λ e. overlaps g.T.Ord.cmp e.0 c.args.interval.now)
+    (visited (tree_of c.self.inside.root)) c.args.passed c.place_below.result c.place_below.ensures)
 
 pub returns-clause-few : goal.returns-clause-few
 returns-clause-few g c =

@@ -5,7 +5,12 @@ pub invariant_of-self : goal.invariant_of-self
 invariant_of-self g c = record {
   recorded = c.shorten_below.ensures.recorded;
   balanced = rw (c.shorten_below.ensures.tree, c.replace-root.ensures.value) (balanced_map _ _ c.self.invariant.balanced);
-  ordered = let own = rw (← c.self.view_is) at c.requires.alone in rw (c.shorten_below.ensures.tree, c.replace-root.ensures.value, entries_map) (ordered_ends g.T.Ord.cmp g.met.T.Ord.total _ _ _ own c.self.invariant.ordered);
+  ordered = let own = rw (← c.self.view_is) at c.requires.alone in rw (
+    c.shorten_below.ensures.tree,
+    c.replace-root.ensures.value,
+    entries_map,
+  ) (ordered_ends g.T.Ord.cmp g.met.T.Ord.total _ _ _ own
+      c.self.invariant.ordered);
   few = rw (c.shorten_below.ensures.tree, c.replace-root.ensures.value, length_mapped) c.self.invariant.few;
 }
 

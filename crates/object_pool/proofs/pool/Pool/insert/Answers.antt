@@ -12,16 +12,20 @@ returns-in_err-make_room-clause-kept g c = record {
 pub write-requires-clause-there : goal.write-requires-clause-there
 write-requires-clause-there g c =
     let p = c.self.inside in
-    key_there g.A.Links.regions g.A.Links.word g.A.Links.follows c.args.self.now p.slabs.heap p.slabs.size p.slabs.places.items p.slots.slots.items p.slots.freed.items c.make_room.ensures.laid
-    (subst (λ mid. HasRoom g.A.Links.regions g.A.Links.word g.A.Links.follows c.args.self.now mid) (sym c.self.view_is) c.in_ok-make_room.ensures.room) c.self.invariant.within
+    key_there g.A.Links.regions g.A.Links.word g.A.Links.follows c.args.self.now p.slabs.heap p.slabs.size
+    p.slabs.places.items p.slots.slots.items p.slots.freed.items c.make_room.ensures.laid
+    (subst (λ mid. HasRoom g.A.Links.regions g.A.Links.word g.A.Links.follows c.args.self.now mid) (sym c.self.view_is)
+    c.in_ok-make_room.ensures.room) c.self.invariant.within
     c.take-key.result c.take-key.new.self.slots.items c.take-key.new.self.freed.items c.take-key.ensures.next c.take-key.ensures.taken
 
 pub invariant_of-self : goal.invariant_of-self
 invariant_of-self g c =
     let p = c.self.inside in
     let same = ap (λ places. length places.items) c.write.ensures.places in
-    let within = slots_within g.A.Links.regions g.A.Links.word g.A.Links.follows c.args.self.now p.slabs.heap p.slabs.size p.slabs.places.items p.slots.slots.items p.slots.freed.items c.make_room.ensures.laid
-    (subst (λ mid. HasRoom g.A.Links.regions g.A.Links.word g.A.Links.follows c.args.self.now mid) (sym c.self.view_is) c.in_ok-make_room.ensures.room) c.self.invariant.within
+    let within = slots_within g.A.Links.regions g.A.Links.word g.A.Links.follows c.args.self.now p.slabs.heap p.slabs.size
+    p.slabs.places.items p.slots.slots.items p.slots.freed.items c.make_room.ensures.laid
+    (subst (λ mid. HasRoom g.A.Links.regions g.A.Links.word g.A.Links.follows c.args.self.now mid) (sym c.self.view_is)
+    c.in_ok-make_room.ensures.room) c.self.invariant.within
     c.take-key.result c.take-key.new.self.slots.items c.take-key.new.self.freed.items c.take-key.ensures.next c.take-key.ensures.taken in
     record {
       laid = c.write.ensures.laid;
@@ -34,32 +38,43 @@ invariant_of-self g c =
 pub returns-clause-key : goal.returns-clause-key
 returns-clause-key g c = λ lists stands.
     let p = c.self.inside in
-    made_key g.A.Links.regions g.A.Links.word g.A.Links.follows c.args.self.now p.slabs.heap p.slabs.size p.slabs.places.items p.slots.slots.items p.slots.freed.items c.make_room.ensures.laid
-    (subst (λ mid. HasRoom g.A.Links.regions g.A.Links.word g.A.Links.follows c.args.self.now mid) (sym c.self.view_is) c.in_ok-make_room.ensures.room) c.self.invariant.within
+    made_key g.A.Links.regions g.A.Links.word g.A.Links.follows c.args.self.now p.slabs.heap p.slabs.size
+    p.slabs.places.items p.slots.slots.items p.slots.freed.items c.make_room.ensures.laid
+    (subst (λ mid. HasRoom g.A.Links.regions g.A.Links.word g.A.Links.follows c.args.self.now mid) (sym c.self.view_is)
+    c.in_ok-make_room.ensures.room) c.self.invariant.within
     c.take-key.result c.take-key.new.self.slots.items c.take-key.new.self.freed.items c.take-key.ensures.next c.take-key.ensures.taken lists stands
 
 pub returns-clause-after : goal.returns-clause-after
 returns-clause-after g c = λ lists stands.
     let p = c.self.inside in
-    made_stands g.A.Links.regions g.A.Links.word g.A.Links.follows c.args.self.now p.slabs.heap p.slabs.size p.slabs.places.items p.slots.slots.items p.slots.freed.items c.make_room.ensures.laid
-    (subst (λ mid. HasRoom g.A.Links.regions g.A.Links.word g.A.Links.follows c.args.self.now mid) (sym c.self.view_is) c.in_ok-make_room.ensures.room) c.self.invariant.within
+    made_stands g.A.Links.regions g.A.Links.word g.A.Links.follows c.args.self.now p.slabs.heap p.slabs.size
+    p.slabs.places.items p.slots.slots.items p.slots.freed.items c.make_room.ensures.laid
+    (subst (λ mid. HasRoom g.A.Links.regions g.A.Links.word g.A.Links.follows c.args.self.now mid) (sym c.self.view_is)
+    c.in_ok-make_room.ensures.room) c.self.invariant.within
     c.take-key.result c.take-key.new.self.slots.items c.take-key.new.self.freed.items c.take-key.ensures.next c.take-key.ensures.taken
-    c.write.new.self.heap c.write.new.self.size c.write.new.self.places.items c.args.bytes.now c.write.ensures.size (ap (λ places. places.items) c.write.ensures.places)
+    c.write.new.self.heap c.write.new.self.size c.write.new.self.places.items c.args.bytes.now c.write.ensures.size
+    (ap (λ places. places.items) c.write.ensures.places)
     lists stands c.make_room.ensures.within c.take-key.new.self.freed_are c.write.ensures.here c.write.ensures.others
 
 pub returns-clause-kept : goal.returns-clause-kept
 returns-clause-kept g c =
     let p = c.self.inside in
-    made_keeps g.A.Links.regions g.A.Links.word g.A.Links.follows c.args.self.now p.slabs.heap p.slabs.size p.slabs.places.items p.slots.slots.items p.slots.freed.items c.make_room.ensures.laid
-    (subst (λ mid. HasRoom g.A.Links.regions g.A.Links.word g.A.Links.follows c.args.self.now mid) (sym c.self.view_is) c.in_ok-make_room.ensures.room) c.self.invariant.within
+    made_keeps g.A.Links.regions g.A.Links.word g.A.Links.follows c.args.self.now p.slabs.heap p.slabs.size
+    p.slabs.places.items p.slots.slots.items p.slots.freed.items c.make_room.ensures.laid
+    (subst (λ mid. HasRoom g.A.Links.regions g.A.Links.word g.A.Links.follows c.args.self.now mid) (sym c.self.view_is)
+    c.in_ok-make_room.ensures.room) c.self.invariant.within
     c.take-key.result c.take-key.new.self.slots.items c.take-key.new.self.freed.items c.take-key.ensures.next c.take-key.ensures.taken
-    c.write.new.self.heap c.write.new.self.size c.write.new.self.places.items c.args.bytes.now c.write.ensures.size (ap (λ places. places.items) c.write.ensures.places) c.write.ensures.kept
+    c.write.new.self.heap c.write.new.self.size c.write.new.self.places.items c.args.bytes.now c.write.ensures.size
+    (ap (λ places. places.items) c.write.ensures.places) c.write.ensures.kept
 
 pub returns-clause-slab : goal.returns-clause-slab
 returns-clause-slab g c = λ lists stands.
     let p = c.self.inside in
-    made_slab g.A.Links.regions g.A.Links.word g.A.Links.follows c.args.self.now p.slabs.heap p.slabs.size p.slabs.places.items p.slots.slots.items p.slots.freed.items c.make_room.ensures.laid
-    (subst (λ mid. HasRoom g.A.Links.regions g.A.Links.word g.A.Links.follows c.args.self.now mid) (sym c.self.view_is) c.in_ok-make_room.ensures.room) c.self.invariant.within
+    made_slab g.A.Links.regions g.A.Links.word g.A.Links.follows c.args.self.now p.slabs.heap p.slabs.size
+    p.slabs.places.items p.slots.slots.items p.slots.freed.items c.make_room.ensures.laid
+    (subst (λ mid. HasRoom g.A.Links.regions g.A.Links.word g.A.Links.follows c.args.self.now mid) (sym c.self.view_is)
+    c.in_ok-make_room.ensures.room) c.self.invariant.within
     c.take-key.result c.take-key.new.self.slots.items c.take-key.new.self.freed.items c.take-key.ensures.next c.take-key.ensures.taken
-    c.write.new.self.heap c.write.new.self.size c.write.new.self.places.items c.args.bytes.now c.write.ensures.size (ap (λ places. places.items) c.write.ensures.places)
+    c.write.new.self.heap c.write.new.self.size c.write.new.self.places.items c.args.bytes.now c.write.ensures.size
+    (ap (λ places. places.items) c.write.ensures.places)
     g.A.Links.follows_on c.write.ensures.state lists stands

@@ -6,4 +6,6 @@ use Rattle.object_pool.proofs.pool.Pool.places_are_apart.Goals as goal
 pub returns : goal.returns
 returns g c =
     let p = c.self.inside in
-    subst (λ pool. PlacesAreApart pool.slabs pool.size) c.self.view_is (places_apart g.A.Links.regions g.A.Links.word p.slabs.heap p.slabs.size p.slabs.places.items c.self.invariant.laid c.blocks_are_apart.ensures)
+    subst (λ pool. PlacesAreApart pool.slabs pool.size) c.self.view_is
+    (places_apart g.A.Links.regions g.A.Links.word p.slabs.heap p.slabs.size p.slabs.places.items c.self.invariant.laid
+    c.blocks_are_apart.ensures)

@@ -15,7 +15,8 @@ returns-then-base-len c =
     let same : 512 * c.number.result ≡ 512 * c.args.frame = ap (λ k. 512 * k) c.number.ensures.value in
     let rest = 512 * c.self.inside.count - c.self.inside.words.len in
     rw (w, n)
-    (ap (λ xs. xs ++ replicate rest 0) (zeros_copied c.self.inside.words.items c.copy_from_slice.new.self (512 * c.number.result) 512 c.self.inside.words.len len fits z)
+    (ap (λ xs. xs ++ replicate rest 0) (zeros_copied c.self.inside.words.items c.copy_from_slice.new.self
+    (512 * c.number.result) 512 c.self.inside.words.len len fits z)
     ∙ (sym (cleared_made c.self.inside.words.items (replicate rest 0) (512 * c.number.result) 512 fits)
     ∙ (ap (λ xs. with_zeros xs (512 * c.number.result) 512) c.self.view_is ∙ ap (λ b. with_zeros c.args.self.now b 512) same)))
 
@@ -29,14 +30,16 @@ returns-else-base-len c =
     let number : c.number.result ≡ c.args.frame = c.number.ensures.value in
     let more : c.self.inside.words.len + (512 * (512 * c.number.result / 512) + 512 - c.self.inside.words.len) ≤ 512 * c.self.inside.count = omega (arith, c.requires) in
     let long : length c.make_frames.new.words.items ≡ length c.self.inside.words.items + (512 * (512 * c.number.result / 512) + 512 - c.self.inside.words.len) =
-    length_made c.self.inside.words.items c.make_frames.new.words.items (512 * (512 * c.number.result / 512) + 512 - c.self.inside.words.len) c.make_frames.ensures.words in
+    length_made c.self.inside.words.items c.make_frames.new.words.items
+    (512 * (512 * c.number.result / 512) + 512 - c.self.inside.words.len) c.make_frames.ensures.words in
     let same : filled_up c.make_frames.new.words.items c.make_frames.new.words.len (512 * c.self.inside.count) ≡ c.args.self.now =
     filled_up_made c.self.inside.words.items c.make_frames.new.words.items c.self.inside.words.len c.make_frames.new.words.len (512 * c.self.inside.count)
     (512 * (512 * c.number.result / 512) + 512 - c.self.inside.words.len) len c.make_frames.new.words.ok.0 c.make_frames.ensures.words more
     ∙ c.self.view_is in
     let rest = 512 * c.self.inside.count - c.self.inside.words.len in
     let from : length c.self.inside.words.items ≤ 512 * c.number.result = omega (arith, c.if-base-len.false, c.len.ensures) in
-    let to : 512 * c.number.result + 512 ≤ length c.self.inside.words.items + (512 * c.self.inside.count - c.self.inside.words.len) = omega (arith, c.requires) in
+    let to : 512 * c.number.result + 512 ≤ length
+    c.self.inside.words.items + (512 * c.self.inside.count - c.self.inside.words.len) = omega (arith, c.requires) in
     same
     ∙ (sym c.self.view_is
     ∙ (sym (cleared_unmade c.self.inside.words.items rest (512 * c.number.result) 512 from to)

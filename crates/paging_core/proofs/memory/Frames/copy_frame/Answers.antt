@@ -26,6 +26,7 @@ returns c =
     let zs = replicate (512 * c.self.inside.count - c.reach.new.words.len) 0 in
     let behind : zs ≡ replicate (512 * c.self.inside.count - c.copy_within.new.self.len) 0 =
     ap (λ k. replicate (512 * c.self.inside.count - k) 0) (sym c.copy_within.ensures.len) in
-    subst (λ xs. IsFrameCopied xs (c.copy_within.new.self.items ++ replicate (512 * c.self.inside.count - c.copy_within.new.self.len) 0) c.args.from c.args.to) same
+    subst (λ xs. IsFrameCopied xs (c.copy_within.new.self.items ++ replicate
+    (512 * c.self.inside.count - c.copy_within.new.self.len) 0) c.args.from c.args.to) same
     (subst (λ ys. IsFrameCopied (c.reach.new.words.items ++ zs) (c.copy_within.new.self.items ++ ys) c.args.from c.args.to) behind
     (copied_made c.reach.new.words.items c.copy_within.new.self.items zs c.args.from c.args.to from to it))

@@ -13,8 +13,10 @@ returns c =
     let number : c.number.result ≡ c.args.frame = c.number.ensures.value in
     let in_frame : (512 * c.number.result + c.args.index) / 512 ≡ c.number.result = omega (arith, c.requires.index) in
     let more : c.self.inside.words.len + (512 * ((512 * c.number.result + c.args.index) / 512) + 512 - c.self.inside.words.len) ≤ 512 * c.self.inside.count = omega (arith, c.requires.frame) in
-    let long : length c.reach.new.words.items ≡ length c.self.inside.words.items + (512 * ((512 * c.number.result + c.args.index) / 512) + 512 - c.self.inside.words.len) =
-    length_made c.self.inside.words.items c.reach.new.words.items (512 * ((512 * c.number.result + c.args.index) / 512) + 512 - c.self.inside.words.len) c.reach.ensures.words in
+    let long : length c.reach.new.words.items ≡ length
+    c.self.inside.words.items + (512 * ((512 * c.number.result + c.args.index) / 512) + 512 - c.self.inside.words.len) =
+    length_made c.self.inside.words.items c.reach.new.words.items
+    (512 * ((512 * c.number.result + c.args.index) / 512) + 512 - c.self.inside.words.len) c.reach.ensures.words in
     let same : filled_up c.reach.new.words.items c.reach.new.words.len (512 * c.self.inside.count) ≡ c.args.self.now =
     filled_up_made c.self.inside.words.items c.reach.new.words.items c.self.inside.words.len c.reach.new.words.len (512 * c.self.inside.count)
     (512 * ((512 * c.number.result + c.args.index) / 512) + 512 - c.self.inside.words.len) len c.reach.new.words.ok.0 c.reach.ensures.words more

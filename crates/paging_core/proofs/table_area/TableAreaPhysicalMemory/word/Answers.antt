@@ -10,9 +10,11 @@ returns-then-number-self-clause-word c =
     let w : padded c.self.inside.words.now c.self.inside.first c.self.inside.limit ≡ c.args.self.now.words = ap (λ (a : AreaWords). a.words) c.self.view_is in
     let z : word_at (padded c.self.inside.words.now c.self.inside.first c.self.inside.limit) c.args.frame c.args.index ≡ 0 =
     elim c.then-number-self.branch [
-      | then-number-self-via-then-number-self w ↦ padded_below c.self.inside.words.now c.self.inside.first c.self.inside.limit (512 * c.args.frame + c.args.index)
+      | then-number-self-via-then-number-self w ↦ padded_below c.self.inside.words.now c.self.inside.first
+          c.self.inside.limit (512 * c.args.frame + c.args.index)
           (omega (arith, w.if-number-self.true, c.number-number.ensures.value, c.requires.index))
-      | then-number-self-via-else-number-self+then-number-self-2 w ↦ padded_past c.self.inside.words.now c.self.inside.first c.self.inside.limit (512 * c.args.frame + c.args.index)
+      | then-number-self-via-else-number-self+then-number-self-2 w ↦ padded_past c.self.inside.words.now c.self.inside.first
+          c.self.inside.limit (512 * c.args.frame + c.args.index)
           (omega (arith, w.if-number-self-2.true, c.number-number.ensures.value, c.self.invariant.0))
     ] in
     sym z ∙ ap (λ (ws : List ℕ). word_at ws c.args.frame c.args.index) w

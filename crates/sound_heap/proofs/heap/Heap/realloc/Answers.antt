@@ -9,11 +9,15 @@ use Rattle.sound_heap.proofs.heap.Heap.realloc.Goals as goal
 
 pub returns-clause-resized : goal.returns-clause-resized
 returns-clause-resized g c =
-    subst (λ heap. IfOk c.resize.result (λ to. IsResized g.A.Links.regions g.A.Links.word g.A.Allocator.zeros g.A.Links.follows (g.A.Allocator.frees heap.system) (g.A.Allocator.parts heap.system) (g.A.Allocator.unit heap.system)
+    subst (λ heap. IfOk c.resize.result (λ to. IsResized g.A.Links.regions g.A.Links.word g.A.Allocator.zeros
+    g.A.Links.follows (g.A.Allocator.frees heap.system) (g.A.Allocator.parts heap.system)
+    (g.A.Allocator.unit heap.system)
     heap c.args.address (usable (state_of g.A.Links.word heap) c.args.address) 16 c.args.size to c.resize.new.heap)) c.self.view_is c.resize.ensures.resized
 
 pub returns-clause-enough : goal.returns-clause-enough
-returns-clause-enough g c = IfOk-weaker c.resize.result _ _ (λ to out. enough (state_of g.A.Links.word c.resize.new.heap) to c.args.size out.block) c.resize.ensures.ok
+returns-clause-enough g c = IfOk-weaker c.resize.result _ _ (λ to out.
+    enough (state_of g.A.Links.word c.resize.new.heap) to c.args.size out.block) c.resize.ensures.ok
 
 pub returns-clause-member : goal.returns-clause-member
-returns-clause-member g c = subst (λ heap. IfOk c.resize.result (λ to. to ≢ c.args.address → IsMemberServed g.A.Links.regions g.A.Links.word heap c.args.size 16 to)) c.self.view_is c.resize.ensures.member
+returns-clause-member g c = subst (λ heap. IfOk c.resize.result (λ to. to ≢ c.args.address →
+    IsMemberServed g.A.Links.regions g.A.Links.word heap c.args.size 16 to)) c.self.view_is c.resize.ensures.member

@@ -10,22 +10,26 @@ pub overflow_add-address : goal.overflow_add-address
 overflow_add-address g c =
     let block = subst (λ heap. HasBlock (state_of g.A.Links.word heap) c.args.address) (sym c.self.view_is) c.requires.block in
     let within = subst (λ heap. c.args.offset + 8 ≤ usable (state_of g.A.Links.word heap) c.args.address) (sym c.self.view_is) c.requires.within in
-    let small = (word_inside g.A.Links.regions g.A.Links.word c.self.inside.heap c.self.invariant.sound c.args.address block c.args.offset within c.requires.aligned).1 in
+    let small = (word_inside g.A.Links.regions g.A.Links.word c.self.inside.heap c.self.invariant.sound c.args.address block
+    c.args.offset within c.requires.aligned).1 in
     omega (arith, small)
 
 pub store-requires : goal.store-requires
 store-requires g c =
     let block = subst (λ heap. HasBlock (state_of g.A.Links.word heap) c.args.address) (sym c.self.view_is) c.requires.block in
     let within = subst (λ heap. c.args.offset + 8 ≤ usable (state_of g.A.Links.word heap) c.args.address) (sym c.self.view_is) c.requires.within in
-    rw c.allocator_mut.ensures.value (word_inside g.A.Links.regions g.A.Links.word c.self.inside.heap c.self.invariant.sound c.args.address block c.args.offset within c.requires.aligned).0
+    rw c.allocator_mut.ensures.value (word_inside g.A.Links.regions g.A.Links.word c.self.inside.heap c.self.invariant.sound
+    c.args.address block c.args.offset within c.requires.aligned).0
 
 pub invariant_of-self : goal.invariant_of-self
 invariant_of-self g c =
     let block = subst (λ heap. HasBlock (state_of g.A.Links.word heap) c.args.address) (sym c.self.view_is) c.requires.block in
     let within = subst (λ heap. c.args.offset + 8 ≤ usable (state_of g.A.Links.word heap) c.args.address) (sym c.self.view_is) c.requires.within in
     let value = c.allocator_mut.ensures.value in
-    let stored = subst (λ system. IsStored (g.A.Links.regions system) (g.A.Links.word system) (c.args.address + c.args.offset) c.args.value (g.A.Links.word c.store.new.self)) value c.store.ensures.stored in
-    (still_intact g.A.Links.regions g.A.Links.word c.self.inside.heap c.self.invariant.sound c.args.address block c.rests_outside.ensures c.self.invariant.linked
+    let stored = subst (λ system. IsStored (g.A.Links.regions system) (g.A.Links.word system)
+    (c.args.address + c.args.offset) c.args.value (g.A.Links.word c.store.new.self)) value c.store.ensures.stored in
+    (still_intact g.A.Links.regions g.A.Links.word c.self.inside.heap c.self.invariant.sound c.args.address block
+    c.rests_outside.ensures c.self.invariant.linked
     c.args.offset c.args.value c.store.new.self within c.requires.aligned (c.store.ensures.regions ∙ ap g.A.Links.regions value) stored).0
 
 -- the heap is in the same state
@@ -34,8 +38,10 @@ same_state g c =
     let block = subst (λ heap. HasBlock (state_of g.A.Links.word heap) c.args.address) (sym c.self.view_is) c.requires.block in
     let within = subst (λ heap. c.args.offset + 8 ≤ usable (state_of g.A.Links.word heap) c.args.address) (sym c.self.view_is) c.requires.within in
     let value = c.allocator_mut.ensures.value in
-    let stored = subst (λ system. IsStored (g.A.Links.regions system) (g.A.Links.word system) (c.args.address + c.args.offset) c.args.value (g.A.Links.word c.store.new.self)) value c.store.ensures.stored in
-    (still_intact g.A.Links.regions g.A.Links.word c.self.inside.heap c.self.invariant.sound c.args.address block c.rests_outside.ensures c.self.invariant.linked
+    let stored = subst (λ system. IsStored (g.A.Links.regions system) (g.A.Links.word system)
+    (c.args.address + c.args.offset) c.args.value (g.A.Links.word c.store.new.self)) value c.store.ensures.stored in
+    (still_intact g.A.Links.regions g.A.Links.word c.self.inside.heap c.self.invariant.sound c.args.address block
+    c.rests_outside.ensures c.self.invariant.linked
     c.args.offset c.args.value c.store.new.self within c.requires.aligned (c.store.ensures.regions ∙ ap g.A.Links.regions value) stored).1
     ∙ ap (λ heap. state_of g.A.Links.word heap) c.self.view_is
 
@@ -53,7 +59,8 @@ returns-clause-index g c =
     let block = subst (λ heap. HasBlock (state_of g.A.Links.word heap) c.args.address) (sym c.self.view_is) c.requires.block in
     let within = subst (λ heap. c.args.offset + 8 ≤ usable (state_of g.A.Links.word heap) c.args.address) (sym c.self.view_is) c.requires.within in
     let value = c.allocator_mut.ensures.value in
-    let stored = subst (λ system. IsStored (g.A.Links.regions system) (g.A.Links.word system) (c.args.address + c.args.offset) c.args.value (g.A.Links.word c.store.new.self)) value c.store.ensures.stored in
+    let stored = subst (λ system. IsStored (g.A.Links.regions system) (g.A.Links.word system)
+    (c.args.address + c.args.offset) c.args.value (g.A.Links.word c.store.new.self)) value c.store.ensures.stored in
     subst (λ heap. KeepsIndex g.A.Links.regions g.A.Links.word heap (record c.self.inside.heap { system = c.store.new.self })) c.self.view_is
     (still_ordered g.A.Links.regions g.A.Links.word c.self.inside.heap c.self.invariant.sound c.args.address block c.order_rests_outside.ensures
     c.args.offset c.args.value c.store.new.self within c.requires.aligned (c.store.ensures.regions ∙ ap g.A.Links.regions value) stored)

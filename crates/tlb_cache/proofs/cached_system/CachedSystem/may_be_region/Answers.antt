@@ -12,5 +12,6 @@ returns-then-pages-eq0-clause-there c = λ can.
     let few : c.args.pages ≤ frame_count p.words = within_frames p c.args.start c.args.pages c.args.self.now.system.kept.mapped can in
     elim c.then-pages-eq0.branch [
       | then-pages-eq0-via-then-pages-eq0 w ↦ absurd (omega (arith, some, w.if-pages-eq0.true))
-      | then-pages-eq0-via-else-pages-eq0+then-pages-from w ↦ absurd (omega (arith, few, w.if-pages-from.true, w.from.ensures, w.count.ensures.count ∙ ap frame_count w.frames.ensures))
+      | then-pages-eq0-via-else-pages-eq0+then-pages-from w ↦ absurd (omega
+          (arith, few, w.if-pages-from.true, w.from.ensures, w.count.ensures.count ∙ ap frame_count w.frames.ensures))
     ]

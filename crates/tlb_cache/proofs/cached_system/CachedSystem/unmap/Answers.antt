@@ -26,5 +26,6 @@ returns-in-Ok-unmap-clause-unmapped c =
       left = c.in-Ok-unmap.ensures.ok;
       commands = list;
       covered = subst (λ (list : List FlushCommand). Flushes list c.args.start c.args.pages) (sym list) (c.in-Ok.ensures.covered can);
-      flushed = c.apply_each.ensures ∙ ap (λ (list : List FlushCommand). record c.args.self.now.tlb { entries = left_by_all list c.args.self.now.tlb.entries }) list;
+      flushed = c.apply_each.ensures ∙ ap (λ (list : List FlushCommand).
+          record c.args.self.now.tlb { entries = left_by_all list c.args.self.now.tlb.entries }) list;
     }

@@ -12,5 +12,6 @@ invariant_of-self c =
     let items = ap (λ (b : Buffer TlbEntry). b.items) c.clear.ensures in (
       c.self.invariant.0 ∙ sym (ap (λ (b : Buffer TlbEntry). b.capacity) c.clear.ensures),
       subst AreDistinct (sym items) tt,
-      subst (λ (entries : List TlbEntry). AreChains s.index.newest.items s.index.older.items s.index.oldest (pages_of entries)) (sym items) (none_chained _ _ _),
+      subst (λ (entries : List TlbEntry). AreChains s.index.newest.items s.index.older.items s.index.oldest
+          (pages_of entries)) (sym items) (none_chained _ _ _),
     )

@@ -12,7 +12,8 @@ invariant_of-self-2 c =
     let items = ap (λ (b : Buffer TlbEntry). b.items) c.pop_front.ensures.items in
     let capacity = ap (λ (b : Buffer TlbEntry). b.capacity) c.pop_front.ensures.items in
     let first : slice_get s.ring.items 0 ≡ Some c.in_ok-entry.entry = cc (c.pop_front.ensures.value, c.in_ok-entry.was) in
-    let chains = subst (λ (pages : List ℕ). AreChains s.index.newest.items s.index.older.items s.index.oldest pages) (first_page s.ring.items c.in_ok-entry.entry first) c.self.invariant.2 in (
+    let chains = subst (λ (pages : List ℕ). AreChains s.index.newest.items s.index.older.items s.index.oldest pages)
+    (first_page s.ring.items c.in_ok-entry.entry first) c.self.invariant.2 in (
       c.pop.ensures.places ∙ (c.self.invariant.0 ∙ sym capacity),
       subst AreDistinct (sym items) (distinct_drop s.ring.items c.self.invariant.1),
       subst (λ (entries : List TlbEntry). AreChains c.pop.new.self.newest.items c.pop.new.self.older.items c.pop.new.self.oldest (pages_of entries)) (sym items)

@@ -18,7 +18,8 @@ unwrap-page-requires g c = c.backward_checked.ensures.some.1 c.loop-left.invaria
 pub unwrap-requires : goal.unwrap-requires
 unwrap-requires g c =
     let size = g.S.PageSize.SIZE in
-    let next = turn_commands-step size c.args.self.now (position size c.args.pages.now.end) c.loop-left.left c.unwrap-page.result c.count-count.result c.turn.result
+    let next = turn_commands-step size c.args.self.now (position size c.args.pages.now.end) c.loop-left.left
+    c.unwrap-page.result c.count-count.result c.turn.result
     c.loop-left-test.true c.loop-left.invariant.within (rw c.unwrap-page.ensures at c.backward_checked.ensures.page)
     (rw c.unwrap-page.ensures at c.backward_checked.ensures.place) c.count-count.ensures c.turn.ensures in
     c.push.ensures.succeeds (omega (arith, rw next at c.loop-left.invariant.room))
@@ -44,5 +45,6 @@ pub returns : goal.returns
 returns g c =
     let size = g.S.PageSize.SIZE in
     let end = position size c.args.pages.now.end in
-    let none : turn_commands size c.args.self.now (end - c.loop-left.left) end ≡ [] = turn_commands-end size c.args.self.now (end - c.loop-left.left) end (omega arith) in
+    let none : turn_commands size c.args.self.now (end - c.loop-left.left) end ≡ [] =
+    turn_commands-end size c.args.self.now (end - c.loop-left.left) end (omega arith) in
     sym (append-nil c.loop-left.commands.items) ∙ rw none at c.loop-left.invariant.made
