@@ -1,5 +1,5 @@
 // Calls of a heap, each with a counter of its own.
-ghost use Rattle.std.specs.Prelude.{◌≡◌, ◌≢◌, ◌↔◌, ◌-◌, ◌<◌, ◌≤◌, true, false, None, IfOk, IfErr, IsTrue, filter};
+ghost use Rattle.std.specs.Prelude.{◌≡◌, ◌↔◌, ◌<◌, Some, IfOk, IfErr, IsTrue, filter};
 ghost use Rattle.std.specs.Int.{IsPowerOfTwo};
 ghost use Rattle.dlmalloc.specs.Binned.{IsIntact};
 ghost use Rattle.dlmalloc.specs.Blocks.{IsBlock, HasBlock, BlocksAreApart, usable};
@@ -7,15 +7,12 @@ ghost use Rattle.dlmalloc.specs.Heap.{state_of, IsSound};
 ghost use Rattle.dlmalloc.specs.Served.{IsRefusedWith};
 ghost use Rattle.dlmalloc.specs.Listed.{IsListed};
 ghost use Rattle.dlmalloc.specs.AfterFree.{IsFreed};
-ghost use Rattle.dlmalloc.specs.Requested.{asked, IsHandedOut, IsServedAt, IsMemberServed};
-ghost use Rattle.dlmalloc.specs.Written.{IsServedCleared};
-ghost use Rattle.dlmalloc_chunks.specs.Request.{padded};
-ghost use Rattle.dlmalloc.specs.Resized.{in_place};
-ghost use Rattle.dlmalloc.specs.Moved.{IsGivenSize, IsResized};
+ghost use Rattle.dlmalloc.specs.Requested.{asked};
+ghost use Rattle.dlmalloc.specs.Outcome.{IsReallocated, IsReallocRefused};
 ghost use Rattle.dlmalloc.specs.Shortened.{IsTrimmed};
 ghost use Rattle.dlmalloc.specs.GivenBack.{AreGivenBack};
 ghost use Rattle.dlmalloc.specs.Released.{is_own, taken_back};
-ghost use Rattle.sound_heap.specs.Heap.{AreZero};
+ghost use Rattle.sound_heap.specs.Heap.{IsBlockHandedOut};
 
 use dlmalloc::{Dlmalloc, ExtentList, MallocError};
 use dlmalloc_chunks::chunk;
@@ -44,11 +41,7 @@ pub(crate) fn hand_out<A: Allocator, L: Ledger>(
     requires some { 0 < blank.parts }
     requires intact { IsIntact A.regions A.word heap.old }
     requires align { IsPowerOfTwo align }
-    ensures ok { IfOk result (λ address. IsHandedOut A.regions A.word A.follows heap.old size align address heap.new) }
-    ensures served { cleared ≡ false → IfOk result (λ address. IsServedAt A.regions A.word A.zeros A.follows heap.old size align address heap.new) }
-    ensures served_cleared { cleared ≡ true → IfOk result (λ address. IsServedCleared A.regions A.word A.zeros A.follows heap.old size align address heap.new) }
-    ensures member { IfOk result (λ address. IsMemberServed A.regions A.word heap.old size align address) }
-    ensures zeros { cleared ≡ true → IfOk result (λ address. AreZero (A.word heap.new.system) address size) }
+    ensures ok { IfOk result (λ address. IsBlockHandedOut A.regions A.word A.zeros A.follows heap.old size align cleared address heap.new) }
     ensures err { IfErr result (λ error. IsRefusedWith A.regions A.word A.follows A.refuses A.denies heap.old (asked size align) error heap.new) }
     ensures intact { IsIntact A.regions A.word heap.new }
     ensures apart { BlocksAreApart (state_of A.word heap.new) }
@@ -75,11 +68,8 @@ pub(crate) fn resize<A: Allocator, L: Ledger>(
     requires some { 0 < blank.parts }
     requires intact { IsIntact A.regions A.word heap.old }
     requires block { HasBlock (state_of A.word heap.old) address }
-    ensures resized { IfOk result (λ to. IsResized A.regions A.word A.zeros A.follows (A.frees heap.old.system) (A.parts heap.old.system) (A.unit heap.old.system) heap.old address (usable (state_of A.word heap.old) address) 16 size to heap.new) }
-    ensures ok { IfOk result (λ to. IsGivenSize A.regions A.word A.follows (A.frees heap.old.system) (A.parts heap.old.system) (A.unit heap.old.system) heap.old address (usable (state_of A.word heap.old) address) 16 size to heap.new) }
-    ensures member { IfOk result (λ to. to ≢ address → IsMemberServed A.regions A.word heap.old size 16 to) }
-    ensures err { IfErr result (λ error. IsRefusedWith A.regions A.word A.follows A.refuses A.denies heap.old size error heap.new) }
-    ensures tried { IfErr result (λ error. error ≢ MallocError.TooLarge → in_place (state_of A.word heap.old) (address - 16) (padded size) ≡ None) }
+    ensures ok { IfOk result (λ to. IsReallocated A.regions A.word A.zeros A.follows (A.frees heap.old.system) (A.parts heap.old.system) (A.unit heap.old.system) heap.old address (usable (state_of A.word heap.old) address) 16 size to heap.new) }
+    ensures err { IfErr result (λ error. IsReallocRefused A.regions A.word A.follows A.refuses A.denies heap.old (Some address) 16 size error heap.new) }
     ensures intact { IsIntact A.regions A.word heap.new }
     ensures apart { BlocksAreApart (state_of A.word heap.new) }
 {
@@ -103,11 +93,8 @@ pub(crate) fn resize_aligned<A: Allocator, L: Ledger>(
     requires intact { IsIntact A.regions A.word heap.old }
     requires align { IsPowerOfTwo align }
     requires block { IsBlock (state_of A.word heap.old) address held }
-    ensures resized { IfOk result (λ to. IsResized A.regions A.word A.zeros A.follows (A.frees heap.old.system) (A.parts heap.old.system) (A.unit heap.old.system) heap.old address held align size to heap.new) }
-    ensures ok { IfOk result (λ to. IsGivenSize A.regions A.word A.follows (A.frees heap.old.system) (A.parts heap.old.system) (A.unit heap.old.system) heap.old address held align size to heap.new) }
-    ensures member { IfOk result (λ to. to ≢ address → IsMemberServed A.regions A.word heap.old size align to) }
-    ensures err { IfErr result (λ error. IsRefusedWith A.regions A.word A.follows A.refuses A.denies heap.old (asked size align) error heap.new) }
-    ensures tried { IfErr result (λ error. error ≢ MallocError.TooLarge → align ≤ 16 → in_place (state_of A.word heap.old) (address - 16) (padded size) ≡ None) }
+    ensures ok { IfOk result (λ to. IsReallocated A.regions A.word A.zeros A.follows (A.frees heap.old.system) (A.parts heap.old.system) (A.unit heap.old.system) heap.old address held align size to heap.new) }
+    ensures err { IfErr result (λ error. IsReallocRefused A.regions A.word A.follows A.refuses A.denies heap.old (Some address) align size error heap.new) }
     ensures intact { IsIntact A.regions A.word heap.new }
     ensures apart { BlocksAreApart (state_of A.word heap.new) }
 {

@@ -8,26 +8,19 @@ use std::marker::Brand;
 use std::sync::ledger::Blank;
 
 impl<A: Allocator> Heap<A> {
-    ghost use Rattle.std.specs.Prelude.{◌≡◌, ◌≢◌, ◌-◌, ◌≤◌, true, false, None, IfOk, IfErr};
+    ghost use Rattle.std.specs.Prelude.{◌≡◌, ◌≤◌, true, false, Some, IfOk, IfErr};
     ghost use Rattle.std.specs.Int.{IsPowerOfTwo};
-    ghost use Rattle.dlmalloc_chunks.specs.Request.{padded};
     ghost use Rattle.dlmalloc.specs.Heap.{state_of};
     ghost use Rattle.dlmalloc.specs.Blocks.{IsBlock, BlocksAreApart};
-    ghost use Rattle.dlmalloc.specs.Requested.{asked, IsHandedOut, IsServedAt, IsMemberServed};
-    ghost use Rattle.dlmalloc.specs.Written.{IsServedCleared};
+    ghost use Rattle.dlmalloc.specs.Requested.{asked};
     ghost use Rattle.dlmalloc.specs.Served.{IsRefusedWith};
-    ghost use Rattle.dlmalloc.specs.Resized.{in_place};
-    ghost use Rattle.dlmalloc.specs.Moved.{IsGivenSize, IsResized};
+    ghost use Rattle.dlmalloc.specs.Outcome.{IsReallocated, IsReallocRefused};
     ghost use Rattle.dlmalloc.specs.AfterFree.{IsFreed};
-    ghost use Rattle.sound_heap.specs.Heap.{HasBlock, usable, AreZero, IsRequestRefused};
+    ghost use Rattle.sound_heap.specs.Heap.{HasBlock, usable, IsBlockHandedOut, IsRequestRefused};
 
     /// The address of a block of `size` bytes, at a multiple of `align` and of 16.
     pub fn malloc(&mut self, size: u64, align: u64) -> Result<u64, HeapError>
-        ensures ok { IfOk result (λ address. IsHandedOut A.regions A.word A.follows self.old size align address self.new) }
-        ensures served { IfOk result (λ address. IsServedAt A.regions A.word A.zeros A.follows self.old size align address self.new) }
-        ensures member { IfOk result (λ address. IsMemberServed A.regions A.word self.old size align address) }
-        ensures enough { IfOk result (λ address. size ≤ usable (state_of A.word self.new) address) }
-        ensures power { IfOk result (λ address. IsPowerOfTwo align) }
+        ensures ok { IfOk result (λ address. IsBlockHandedOut A.regions A.word A.zeros A.follows self.old size align false address self.new) }
         ensures err { IfErr result (λ error. IsRequestRefused A.regions A.word A.follows A.refuses A.denies self.old size align error self.new) }
         ensures apart { BlocksAreApart (state_of A.word self.new) }
     {
@@ -36,12 +29,7 @@ impl<A: Allocator> Heap<A> {
 
     /// As `malloc`; the bytes of the block are 0.
     pub fn calloc(&mut self, size: u64, align: u64) -> Result<u64, HeapError>
-        ensures ok { IfOk result (λ address. IsHandedOut A.regions A.word A.follows self.old size align address self.new) }
-        ensures served { IfOk result (λ address. IsServedCleared A.regions A.word A.zeros A.follows self.old size align address self.new) }
-        ensures zeros { IfOk result (λ address. AreZero (A.word self.new.system) address size) }
-        ensures member { IfOk result (λ address. IsMemberServed A.regions A.word self.old size align address) }
-        ensures enough { IfOk result (λ address. size ≤ usable (state_of A.word self.new) address) }
-        ensures power { IfOk result (λ address. IsPowerOfTwo align) }
+        ensures ok { IfOk result (λ address. IsBlockHandedOut A.regions A.word A.zeros A.follows self.old size align true address self.new) }
         ensures err { IfErr result (λ error. IsRequestRefused A.regions A.word A.follows A.refuses A.denies self.old size align error self.new) }
         ensures apart { BlocksAreApart (state_of A.word self.new) }
     {
@@ -50,13 +38,7 @@ impl<A: Allocator> Heap<A> {
 
     /// The address of a block, of value 0 if that is asked for, at any alignment.
     fn request(&mut self, size: u64, align: u64, cleared: bool) -> Result<u64, HeapError>
-        ensures ok { IfOk result (λ address. IsHandedOut A.regions A.word A.follows self.old size align address self.new) }
-        ensures served { cleared ≡ false → IfOk result (λ address. IsServedAt A.regions A.word A.zeros A.follows self.old size align address self.new) }
-        ensures served_cleared { cleared ≡ true → IfOk result (λ address. IsServedCleared A.regions A.word A.zeros A.follows self.old size align address self.new) }
-        ensures zeros { cleared ≡ true → IfOk result (λ address. AreZero (A.word self.new.system) address size) }
-        ensures member { IfOk result (λ address. IsMemberServed A.regions A.word self.old size align address) }
-        ensures enough { IfOk result (λ address. size ≤ usable (state_of A.word self.new) address) }
-        ensures power { IfOk result (λ address. IsPowerOfTwo align) }
+        ensures ok { IfOk result (λ address. IsBlockHandedOut A.regions A.word A.zeros A.follows self.old size align cleared address self.new) }
         ensures err { IfErr result (λ error. IsRequestRefused A.regions A.word A.follows A.refuses A.denies self.old size align error self.new) }
         ensures apart { BlocksAreApart (state_of A.word self.new) }
     {
@@ -74,12 +56,7 @@ impl<A: Allocator> Heap<A> {
     /// of two, and of 16.
     pub fn hand_out(&mut self, size: u64, align: u64, cleared: bool) -> Result<u64, MallocError>
         requires align { IsPowerOfTwo align }
-        ensures ok { IfOk result (λ address. IsHandedOut A.regions A.word A.follows self.old size align address self.new) }
-        ensures served { cleared ≡ false → IfOk result (λ address. IsServedAt A.regions A.word A.zeros A.follows self.old size align address self.new) }
-        ensures served_cleared { cleared ≡ true → IfOk result (λ address. IsServedCleared A.regions A.word A.zeros A.follows self.old size align address self.new) }
-        ensures zeros { cleared ≡ true → IfOk result (λ address. AreZero (A.word self.new.system) address size) }
-        ensures member { IfOk result (λ address. IsMemberServed A.regions A.word self.old size align address) }
-        ensures enough { IfOk result (λ address. size ≤ usable (state_of A.word self.new) address) }
+        ensures ok { IfOk result (λ address. IsBlockHandedOut A.regions A.word A.zeros A.follows self.old size align cleared address self.new) }
         ensures err { IfErr result (λ error. IsRefusedWith A.regions A.word A.follows A.refuses A.denies self.old (asked size align) error self.new) }
         ensures apart { BlocksAreApart (state_of A.word self.new) }
     {
@@ -90,12 +67,9 @@ impl<A: Allocator> Heap<A> {
     /// both sizes have.
     pub fn realloc(&mut self, address: u64, size: u64) -> Result<u64, MallocError>
         requires block { HasBlock (state_of A.word self.old) address }
-        ensures resized { IfOk result (λ to. IsResized A.regions A.word A.zeros A.follows (A.frees self.old.system) (A.parts self.old.system) (A.unit self.old.system) self.old address (usable (state_of A.word self.old) address) 16 size to self.new) }
-        ensures ok { IfOk result (λ to. IsGivenSize A.regions A.word A.follows (A.frees self.old.system) (A.parts self.old.system) (A.unit self.old.system) self.old address (usable (state_of A.word self.old) address) 16 size to self.new) }
-        ensures member { IfOk result (λ to. to ≢ address → IsMemberServed A.regions A.word self.old size 16 to) }
+        ensures ok { IfOk result (λ to. IsReallocated A.regions A.word A.zeros A.follows (A.frees self.old.system) (A.parts self.old.system) (A.unit self.old.system) self.old address (usable (state_of A.word self.old) address) 16 size to self.new) }
         ensures enough { IfOk result (λ to. size ≤ usable (state_of A.word self.new) to) }
-        ensures err { IfErr result (λ error. IsRefusedWith A.regions A.word A.follows A.refuses A.denies self.old size error self.new) }
-        ensures tried { IfErr result (λ error. error ≢ MallocError.TooLarge → in_place (state_of A.word self.old) (address - 16) (padded size) ≡ None) }
+        ensures err { IfErr result (λ error. IsReallocRefused A.regions A.word A.follows A.refuses A.denies self.old (Some address) 16 size error self.new) }
         ensures apart { BlocksAreApart (state_of A.word self.new) }
     {
         calls::resize::<A, Brand>(&mut self.heap, address, size, Blank::new(1))
@@ -111,12 +85,9 @@ impl<A: Allocator> Heap<A> {
     ) -> Result<u64, MallocError>
         requires align { IsPowerOfTwo align }
         requires block { IsBlock (state_of A.word self.old) address held }
-        ensures resized { IfOk result (λ to. IsResized A.regions A.word A.zeros A.follows (A.frees self.old.system) (A.parts self.old.system) (A.unit self.old.system) self.old address held align size to self.new) }
-        ensures ok { IfOk result (λ to. IsGivenSize A.regions A.word A.follows (A.frees self.old.system) (A.parts self.old.system) (A.unit self.old.system) self.old address held align size to self.new) }
-        ensures member { IfOk result (λ to. to ≢ address → IsMemberServed A.regions A.word self.old size align to) }
+        ensures ok { IfOk result (λ to. IsReallocated A.regions A.word A.zeros A.follows (A.frees self.old.system) (A.parts self.old.system) (A.unit self.old.system) self.old address held align size to self.new) }
         ensures enough { IfOk result (λ to. size ≤ usable (state_of A.word self.new) to) }
-        ensures err { IfErr result (λ error. IsRefusedWith A.regions A.word A.follows A.refuses A.denies self.old (asked size align) error self.new) }
-        ensures tried { IfErr result (λ error. error ≢ MallocError.TooLarge → align ≤ 16 → in_place (state_of A.word self.old) (address - 16) (padded size) ≡ None) }
+        ensures err { IfErr result (λ error. IsReallocRefused A.regions A.word A.follows A.refuses A.denies self.old (Some address) align size error self.new) }
         ensures apart { BlocksAreApart (state_of A.word self.new) }
     {
         calls::resize_aligned::<A, Brand>(&mut self.heap, address, held, align, size, Blank::new(1))

@@ -3,11 +3,10 @@ use crate::heap::Heap;
 use heap_memory::{Allocator, Memory};
 
 impl<A: Allocator + Memory> Heap<A> {
-    ghost use Rattle.std.specs.Prelude.{◌≡◌, ◌+◌, ◌%◌, ◌≤◌, []};
+    ghost use Rattle.std.specs.Prelude.{◌≡◌, ◌+◌, ◌%◌, ◌≤◌};
     ghost use Rattle.dlmalloc.specs.Heap.{state_of};
-    ghost use Rattle.dlmalloc.specs.Order.{KeepsIndex};
     ghost use Rattle.heap_memory.specs.Words.{IsStored};
-    ghost use Rattle.sound_heap.specs.Heap.{HasBlock, usable};
+    ghost use Rattle.sound_heap.specs.Heap.{HasBlock, usable, StaysInState};
 
     /// The word at an offset of a block.
     pub fn load(&self, address: u64, offset: u64) -> u64
@@ -25,12 +24,9 @@ impl<A: Allocator + Memory> Heap<A> {
         requires within { offset + 8 ≤ usable (state_of A.word self.old) address }
         requires aligned { offset % 8 ≡ 0 }
         ensures stored { IsStored (A.regions self.old.system) (A.word self.old.system) (address + offset) value (A.word self.new.system) }
-        ensures state { state_of A.word self.new ≡ state_of A.word self.old }
+        ensures stays { StaysInState A.regions A.word A.follows self.old self.new }
         ensures block { HasBlock (state_of A.word self.new) address }
         ensures usable { usable (state_of A.word self.new) address ≡ usable (state_of A.word self.old) address }
-        ensures regions { A.regions self.new.system ≡ A.regions self.old.system }
-        ensures follows { A.follows self.old.system [] self.new.system }
-        ensures index { KeepsIndex A.regions A.word self.old self.new }
     {
         self.heap.rests_outside();
         self.heap.order_rests_outside();
