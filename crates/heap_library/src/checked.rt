@@ -63,13 +63,11 @@ fn words_for_table(rest: usize, granularity: u64) -> usize
 }
 
 impl<'a> CheckedHeap<'a> {
-    ghost use Rattle.std.specs.Prelude.{◌≡◌, ◌≢◌, ◌↔◌, ℕ, ◌+◌, ◌-◌, ◌*◌, ◌/◌, ◌%◌, ◌^◌, ◌<◌, ◌≤◌, min, true, false, [], if◌then◌else◌, Some, None, IfOk, IfErr, IsErr, IfSome, IfNone, IsTrue, length, take, drop};
+    ghost use Rattle.std.specs.Prelude.{◌≡◌, ◌≢◌, ◌↔◌, ℕ, ◌+◌, ◌-◌, ◌*◌, ◌/◌, ◌%◌, ◌^◌, ◌<◌, ◌≤◌, min, true, false, if◌then◌else◌, Some, None, IfOk, IfErr, IsErr, IfSome, IfNone, IsTrue, length, take, drop};
     ghost use Rattle.heap_memory.specs.Words.{IsStored};
     ghost use Rattle.dlmalloc.specs.State.{countdown_from};
     ghost use Rattle.dlmalloc.specs.Heap.{IsGranularity};
     ghost use Rattle.dlmalloc.specs.Blocks.{ArePlaced, BlocksAreApart};
-    ghost use Rattle.dlmalloc.specs.Requested.{IsServedAt};
-    ghost use Rattle.dlmalloc.specs.Written.{IsServedCleared};
     ghost use Rattle.dlmalloc.specs.AfterFree.{IsFreed};
     ghost use Rattle.dlmalloc.specs.Shortened.{IsTrimmed};
     ghost use Rattle.dlmalloc.specs.Order.{KeepsIndex};
@@ -78,9 +76,9 @@ impl<'a> CheckedHeap<'a> {
     ghost use Rattle.heap_library.specs.Begun.{IsNewAt, IsBegun};
     ghost use Rattle.heap_library.specs.Calls.{IsBlockGiven, IsBlockResized};
     ghost use Rattle.heap_library.specs.Library.{HasWord, IsResizeRefused};
-    ghost use Rattle.sound_heap.specs.Heap.{HasBlock, usable, AreZero, IsIntact, IsRequestRefused};
+    ghost use Rattle.sound_heap.specs.Heap.{HasBlock, usable, IsIntact, IsRequestRefused, StaysInState};
     ghost use Rattle.heap_library.specs.Counted.{HasBlocks, counted};
-    ghost use Rattle.heap_library.specs.Checked.{zeros, follows, refuses, denies, heap_state, table_in, table_of, left_for_words, words_for_blocks, words_for_table, IsCleared};
+    ghost use Rattle.heap_library.specs.Checked.{follows, refuses, denies, heap_state, table_in, table_of, left_for_words, words_for_blocks, words_for_table, IsCleared};
     ghost use Rattle.heap_library.specs.Marks.{is_marked};
     ghost use Rattle.heap_library.specs.Room.{IsRefused, IsRefusedResize};
 
@@ -235,8 +233,7 @@ impl<'a> CheckedHeap<'a> {
 
     /// The address of a block of `size` bytes, at a multiple of `align` and of 16.
     pub fn malloc(&mut self, size: u64, align: u64) -> Result<u64, HeapError>
-        ensures ok { IfOk result (λ address. IsBlockGiven self.old size align address self.new) }
-        ensures served { IfOk result (λ address. IsServedAt regions_of word_of zeros follows self.old size align address self.new) }
+        ensures ok { IfOk result (λ address. IsBlockGiven self.old size align false address self.new) }
         ensures err { IfErr result (λ error. IsRequestRefused regions_of word_of follows refuses denies self.old size align error self.new) }
         ensures refused { IsErr result ↔ IsRefused self.old size align }
         ensures apart { BlocksAreApart (heap_state self.new) }
@@ -252,9 +249,7 @@ impl<'a> CheckedHeap<'a> {
 
     /// As `malloc`; the bytes of the block are 0.
     pub fn calloc(&mut self, size: u64, align: u64) -> Result<u64, HeapError>
-        ensures ok { IfOk result (λ address. IsBlockGiven self.old size align address self.new) }
-        ensures served { IfOk result (λ address. IsServedCleared regions_of word_of zeros follows self.old size align address self.new) }
-        ensures zeros { IfOk result (λ address. AreZero (word_of self.new.system) address size) }
+        ensures ok { IfOk result (λ address. IsBlockGiven self.old size align true address self.new) }
         ensures err { IfErr result (λ error. IsRequestRefused regions_of word_of follows refuses denies self.old size align error self.new) }
         ensures refused { IsErr result ↔ IsRefused self.old size align }
         ensures apart { BlocksAreApart (heap_state self.new) }
@@ -351,10 +346,7 @@ impl<'a> CheckedHeap<'a> {
     pub fn store(&mut self, address: u64, offset: u64, value: u64) -> bool
         ensures answer { IsTrue result ↔ HasWord (heap_state self.old) address offset }
         ensures stored { result ≡ true → IsStored (regions_of self.old.system) (word_of self.old.system) (address + offset) value (word_of self.new.system) }
-        ensures state { heap_state self.new ≡ heap_state self.old }
-        ensures regions { regions_of self.new.system ≡ regions_of self.old.system }
-        ensures follows { follows self.old.system [] self.new.system }
-        ensures index { KeepsIndex regions_of word_of self.old self.new }
+        ensures stays { StaysInState regions_of word_of follows self.old self.new }
         ensures same { result ≡ false → self.new ≡ self.old }
     {
         if !self.has_word(address, offset) {

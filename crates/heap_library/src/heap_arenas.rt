@@ -1,7 +1,8 @@
 // A heap over several arenas.
-ghost use Rattle.std.specs.Prelude.{◌≡◌, ℕ, OnOk, OnErr, IfErr};
+ghost use Rattle.std.specs.Prelude.{◌≡◌, ℕ, OnOk, IfErr};
 ghost use Rattle.dlmalloc.specs.Heap.{state_of};
-ghost use Rattle.heap_arena.specs.Arenas.{regions_of_all, word_among, IsAdded, IsNotAdded};
+ghost use Rattle.heap_arena.specs.Arenas.{regions_of_all, word_among, IsAdded};
+ghost use Rattle.heap_library.specs.Calls.{IsArenaRefused};
 ghost use Rattle.sound_heap.specs.Heap.{IsIntact};
 
 use dlmalloc::Dlmalloc;
@@ -15,9 +16,7 @@ fn add<'a, const N: usize>(
 ) -> Result<(), (AddFault, Arena<'a>)>
     requires { IsIntact (λ a. regions_of_all a.arenas.items) (λ a at. word_among a.arenas.items at) heap.old }
     ensures ok { OnOk result (IsAdded heap.old.system.arenas.items arena.entry heap.new.system.arenas.items) }
-    ensures err { IfErr result (λ refusal. IsNotAdded heap.old.system.arenas.items N arena.entry refusal.0) }
-    ensures back { IfErr result (λ refusal. refusal.1 ≡ arena.entry) }
-    ensures same { OnErr result (heap.new.system.arenas.items ≡ heap.old.system.arenas.items) }
+    ensures err { IfErr result (λ refusal. IsArenaRefused heap.old.system.arenas.items N arena.entry refusal.0 refusal.1 heap.new.system.arenas.items) }
     ensures others { heap.new ≡ record heap.old { system = heap.new.system } }
     ensures state { state_of (λ a at. word_among a.arenas.items at) heap.new ≡ state_of (λ a at. word_among a.arenas.items at) heap.old }
     ensures intact { IsIntact (λ a. regions_of_all a.arenas.items) (λ a at. word_among a.arenas.items at) heap.new }
@@ -35,9 +34,7 @@ pub fn add_arena<'a, const N: usize>(
     arena: Arena<'a>,
 ) -> Result<(), (AddFault, Arena<'a>)>
     ensures ok { OnOk result (IsAdded heap.old.system.arenas.items arena.entry heap.new.system.arenas.items) }
-    ensures err { IfErr result (λ refusal. IsNotAdded heap.old.system.arenas.items N arena.entry refusal.0) }
-    ensures back { IfErr result (λ refusal. refusal.1 ≡ arena.entry) }
-    ensures same { OnErr result (heap.new.system.arenas.items ≡ heap.old.system.arenas.items) }
+    ensures err { IfErr result (λ refusal. IsArenaRefused heap.old.system.arenas.items N arena.entry refusal.0 refusal.1 heap.new.system.arenas.items) }
     ensures others { heap.new ≡ record heap.old { system = heap.new.system } }
     ensures state { state_of (λ a at. word_among a.arenas.items at) heap.new ≡ state_of (λ a at. word_among a.arenas.items at) heap.old }
 {

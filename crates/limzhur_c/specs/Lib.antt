@@ -1,2 +1,3 @@
+pub mod HeapStats
 pub mod TablesBegun
 pub mod TablesCodes

@@ -1,29 +1,26 @@
 // What a C program calls of a heap that it began.
-ghost use Rattle.std.specs.Prelude.{◌≡◌, ◌≢◌, ◌↔◌, ◌+◌, ◌*◌, true, false, if◌then◌else◌, IsTrue};
+ghost use Rattle.std.specs.Prelude.{◌≡◌, ◌≢◌, ◌↔◌, true, false, if◌then◌else◌, IsTrue};
 ghost use Rattle.dlmalloc.specs.State.{countdown_from};
 ghost use Rattle.dlmalloc.specs.Heap.{IsGranularity};
 ghost use Rattle.dlmalloc.specs.Blocks.{ArePlaced, BlocksAreApart};
-ghost use Rattle.dlmalloc.specs.Requested.{IsServedAt};
-ghost use Rattle.dlmalloc.specs.Written.{IsServedCleared};
 ghost use Rattle.dlmalloc.specs.AfterFree.{IsFreed};
 ghost use Rattle.dlmalloc.specs.Shortened.{IsTrimmed};
 ghost use Rattle.dlmalloc.specs.Order.{KeepsIndex};
-ghost use Rattle.heap_arena.specs.Arena.{regions_of, word_of, IsAbove};
+ghost use Rattle.heap_arena.specs.Arena.{regions_of, word_of};
 ghost use Rattle.sound_heap.specs.declared.heap_error.HeapError.{HeapError};
 ghost use Rattle.heap_library.specs.Calls.{IsBlockGiven, IsBlockResized};
-ghost use Rattle.heap_library.specs.Counted.{HasBlocks};
 ghost use Rattle.heap_library.specs.Library.{IsResizeRefused};
-ghost use Rattle.sound_heap.specs.Heap.{HasBlock, AreZero, usable, IsIntact, IsRequestRefused};
-ghost use Rattle.heap_library.specs.Checked.{zeros, follows, refuses, denies, heap_state};
+ghost use Rattle.sound_heap.specs.Heap.{HasBlock, usable, IsIntact, IsRequestRefused};
+ghost use Rattle.heap_library.specs.Checked.{follows, refuses, denies, heap_state};
 ghost use Rattle.heap_library.specs.Room.{IsRefused, IsRefusedResize};
+ghost use Rattle.limzhur_c.specs.HeapStats.{HoldsStats};
 
 use crate::handle::Handle;
 
 /// The address of a block of `size` bytes at a multiple of `align`; 0 if it is refused.
 #[unsafe(no_mangle)]
 pub extern "C" fn limzhur_malloc(handle: &mut Handle, size: u64, align: u64) -> u64
-    ensures ok { result ≢ 0 → IsBlockGiven handle.old.heap size align result handle.new.heap }
-    ensures served { result ≢ 0 → IsServedAt regions_of word_of zeros follows handle.old.heap size align result handle.new.heap }
+    ensures ok { result ≢ 0 → IsBlockGiven handle.old.heap size align false result handle.new.heap }
     ensures err { result ≡ 0 → (error : HeapError) × IsRequestRefused regions_of word_of follows refuses denies handle.old.heap size align error handle.new.heap }
     ensures refused { (result ≡ 0) ↔ IsRefused handle.old.heap size align }
     ensures apart { BlocksAreApart (heap_state handle.new.heap) }
@@ -37,9 +34,7 @@ pub extern "C" fn limzhur_malloc(handle: &mut Handle, size: u64, align: u64) -> 
 /// The address of a block of `size` bytes of value 0 at a multiple of `align`; 0 if it is refused.
 #[unsafe(no_mangle)]
 pub extern "C" fn limzhur_calloc(handle: &mut Handle, size: u64, align: u64) -> u64
-    ensures ok { result ≢ 0 → IsBlockGiven handle.old.heap size align result handle.new.heap }
-    ensures served { result ≢ 0 → IsServedCleared regions_of word_of zeros follows handle.old.heap size align result handle.new.heap }
-    ensures zeros { result ≢ 0 → AreZero (word_of handle.new.heap.system) result size }
+    ensures ok { result ≢ 0 → IsBlockGiven handle.old.heap size align true result handle.new.heap }
     ensures err { result ≡ 0 → (error : HeapError) × IsRequestRefused regions_of word_of follows refuses denies handle.old.heap size align error handle.new.heap }
     ensures refused { (result ≡ 0) ↔ IsRefused handle.old.heap size align }
     ensures apart { BlocksAreApart (heap_state handle.new.heap) }
@@ -132,9 +127,7 @@ pub struct Stats {
 /// Says what a heap holds. The heap of any handle is intact, and its blocks are placed.
 #[unsafe(no_mangle)]
 pub extern "C" fn limzhur_stats(handle: &mut Handle, stats: &mut Stats)
-    ensures top { handle.old.heap.system.base + stats.new.used ≡ handle.old.heap.system.top }
-    ensures above { IsAbove handle.old.heap.system (handle.old.heap.system.base + stats.new.used) }
-    ensures blocks { HasBlocks (heap_state handle.old.heap) stats.new.blocks }
+    ensures holds { HoldsStats handle.old.heap stats.new }
     ensures intact { IsIntact regions_of word_of handle.old.heap }
     ensures placed { ArePlaced (regions_of handle.old.heap.system) (heap_state handle.old.heap) }
     ensures same { handle.new.heap ≡ handle.old.heap }

@@ -1,4 +1,4 @@
-use Rattle.std.proofs.Common.{subst, sym, refl, arith}
+use Rattle.std.proofs.Common.{true, subst, sym, refl, arith}
 use Rattle.dlmalloc.specs.declared.heap.Dlmalloc.{Dlmalloc}
 use Rattle.heap_arena.specs.declared.arena.Arena.{Arena}
 use Rattle.heap_library.specs.Calls.{IsBlockGiven}
@@ -6,12 +6,12 @@ use Rattle.heap_library.specs.Room.{IsRefused}
 use Rattle.limzhur_c.proofs.exports.limzhur_calloc.Goals as goal
 
 pub returns-in-Ok-clause-ok : goal.returns-in-Ok-clause-ok
-returns-in-Ok-clause-ok c = λ _. subst (λ (h : Dlmalloc Arena). IsBlockGiven h c.args.size c.args.align c.in-Ok.address
+returns-in-Ok-clause-ok c = λ _. subst (λ (h : Dlmalloc Arena). IsBlockGiven h c.args.size c.args.align true c.in-Ok.address
     c.calloc.new.self) c.open.ensures.heap c.in-Ok.ensures.ok
 
 pub returns-in-Ok-clause-refused : goal.returns-in-Ok-clause-refused
 returns-in-Ok-clause-refused c =
-    let low = c.in-Ok.ensures.ok.handed_out.low in
+    let low = c.in-Ok.ensures.ok.handed.low in
     let served = c.in-Ok.ensures.refused.1 in (
       λ none. absurd (omega (arith, low, none)),
       λ refused. absurd (let no =

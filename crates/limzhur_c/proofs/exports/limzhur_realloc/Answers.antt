@@ -11,7 +11,7 @@ returns-in-Ok-clause-ok c = λ _. subst (λ (h : Dlmalloc Arena). IsBlockResized
 
 pub returns-in-Ok-clause-refused : goal.returns-in-Ok-clause-refused
 returns-in-Ok-clause-refused c =
-    let low = c.in-Ok.ensures.ok.given.low in
+    let low = c.in-Ok.ensures.ok.reallocated.given.low in
     let served = c.in-Ok.ensures.refused.1 in (
       λ none. absurd (omega (arith, low, none)),
       λ refused. absurd (let no =

@@ -1,9 +1,8 @@
-use Rattle.std.proofs.Common.{refl, subst, sym, arith}
-use Rattle.dlmalloc.specs.Requested.{IsServedAt}
+use Rattle.std.proofs.Common.{false, refl, subst, sym, arith}
 use Rattle.heap_arena.specs.Arena.{regions_of, word_of}
 use Rattle.sound_heap.specs.Heap.{IsRequestRefused}
 use Rattle.heap_library.specs.Calls.{IsBlockGiven}
-use Rattle.heap_library.specs.Checked.{zeros, follows, refuses, denies}
+use Rattle.heap_library.specs.Checked.{follows, refuses, denies}
 use Rattle.heap_library.proofs.Marking.{made_unmarked, made_marked, unserved_marked}
 use Rattle.heap_library.proofs.Room.{refused_for, not_refused}
 use Rattle.heap_library.specs.Room.{IsRefused}
@@ -11,23 +10,19 @@ use Rattle.heap_library.proofs.checked.CheckedHeap.malloc.Goals as goal
 
 pub mark-requires-clause-unmarked : goal.mark-requires-clause-unmarked
 mark-requires-clause-unmarked c =
-    made_unmarked c.malloc.new.self c.self.invariant c.args.size c.args.align c.in-Ok.address c.in-Ok.ensures.ok
+    made_unmarked c.malloc.new.self c.self.invariant c.args.size c.args.align c.in-Ok.address c.in-Ok.ensures.ok.handed
 
 pub mark-requires-clause-granted : goal.mark-requires-clause-granted
-mark-requires-clause-granted c = let out = c.in-Ok.ensures.ok in out.granted c.in-Ok.address (omega arith) (omega arith)
+mark-requires-clause-granted c = let out = c.in-Ok.ensures.ok.handed in out.granted c.in-Ok.address (omega arith) (omega arith)
 
 pub invariant_of-self : goal.invariant_of-self
 invariant_of-self c =
     made_marked c.malloc.new.self c.self.invariant c.mark.new.marks.base c.mark.new.marks.words.now c.mark.new.marks.count
     c.mark.ensures.base c.mark.ensures.len c.mark.ensures.counted
-    c.args.size c.args.align c.in-Ok.address c.in-Ok.ensures.ok c.mark.ensures.here c.mark.ensures.others
+    c.args.size c.args.align c.in-Ok.address c.in-Ok.ensures.ok.handed c.mark.ensures.here c.mark.ensures.others
 
 pub invariant_of-self-in-Err : goal.invariant_of-self-in-Err
 invariant_of-self-in-Err c = unserved_marked c.malloc.new.self c.self.invariant c.args.size c.args.align c.in-Err.error c.in-Err.ensures.err
-
-pub returns-in-Ok-clause-served : goal.returns-in-Ok-clause-served
-returns-in-Ok-clause-served c = subst (λ heap. IsServedAt regions_of word_of zeros follows heap c.args.size c.args.align
-    c.in-Ok.address c.malloc.new.self) c.self.view_is c.in-Ok.ensures.served
 
 pub returns-in-Err-clause-err : goal.returns-in-Err-clause-err
 returns-in-Err-clause-err c = subst (λ heap. IsRequestRefused regions_of word_of follows refuses denies heap c.args.size
@@ -35,13 +30,12 @@ returns-in-Err-clause-err c = subst (λ heap. IsRequestRefused regions_of word_o
 
 pub returns-in-Ok-clause-ok : goal.returns-in-Ok-clause-ok
 returns-in-Ok-clause-ok c =
-    subst (λ heap. IsBlockGiven heap c.args.size c.args.align c.in-Ok.address c.malloc.new.self) c.self.view_is
-    (record { handed_out = c.in-Ok.ensures.ok; member = c.in-Ok.ensures.member; enough = c.in-Ok.ensures.enough; power = c.in-Ok.ensures.power })
+    subst (λ heap. IsBlockGiven heap c.args.size c.args.align false c.in-Ok.address c.malloc.new.self) c.self.view_is c.in-Ok.ensures.ok
 
 pub returns-in-Ok-clause-refused : goal.returns-in-Ok-clause-refused
 returns-in-Ok-clause-refused c =
     let served = not_refused c.self.inside.heap c.malloc.new.self c.args.size c.args.align c.in-Ok.address
-    c.in-Ok.ensures.power c.in-Ok.ensures.ok.small c.in-Ok.ensures.served in
+    c.in-Ok.ensures.ok.power c.in-Ok.ensures.ok.handed.small (c.in-Ok.ensures.ok.served refl) in
     (λ none. absurd (cc), λ refused. absurd (served (subst (λ heap. IsRefused heap c.args.size c.args.align) (sym c.self.view_is) refused)))
 
 pub returns-in-Err-clause-refused : goal.returns-in-Err-clause-refused

@@ -34,18 +34,18 @@ mark-requires-clause-unmarked c =
     let block = subst (λ heap. HasBlock (heap_state heap) c.args.from) (sym c.self.view_is) (c.has_block.ensures.0 c.if-not-has_block.false) in
     moved_unmarked c.realloc.new.self c.self.invariant c.args.from (usable (heap_state heap) c.args.from) c.args.size
     c.in-Ok.to c.clear.new.self.base c.clear.new.self.words.now
-    block c.in-Ok.ensures.ok c.clear.ensures.here c.clear.ensures.others
+    block c.in-Ok.ensures.ok.given c.clear.ensures.here c.clear.ensures.others
 
 pub mark-requires-clause-base : goal.mark-requires-clause-base
 mark-requires-clause-base c =
     let heap = c.self.inside.heap in
     (resized_same heap c.realloc.new.self c.args.from (usable (heap_state heap) c.args.from) c.args.size c.in-Ok.to
-    c.in-Ok.ensures.ok).base ∙ (c.self.invariant.base_is ∙ sym c.clear.ensures.base)
+    c.in-Ok.ensures.ok.given).base ∙ (c.self.invariant.base_is ∙ sym c.clear.ensures.base)
 
 pub mark-requires-clause-room : goal.mark-requires-clause-room
 mark-requires-clause-room c =
     let heap = c.self.inside.heap in
-    let same = (resized_same heap c.realloc.new.self c.args.from (usable (heap_state heap) c.args.from) c.args.size c.in-Ok.to c.in-Ok.ensures.ok).len in
+    let same = (resized_same heap c.realloc.new.self c.args.from (usable (heap_state heap) c.args.from) c.args.size c.in-Ok.to c.in-Ok.ensures.ok.given).len in
     let room = c.self.invariant.room in
     let len = c.clear.ensures.len in
     omega (arith, same, room, len)
@@ -56,20 +56,20 @@ invariant_of-self c =
     let block = subst (λ heap. HasBlock (heap_state heap) c.args.from) (sym c.self.view_is) (c.has_block.ensures.0 c.if-not-has_block.false) in
     moved_marked c.realloc.new.self c.self.invariant c.mark.new.marks.base c.mark.new.marks.words.now c.mark.new.marks.count
     (c.mark.ensures.base ∙ c.clear.ensures.base) (c.mark.ensures.len ∙ c.clear.ensures.len) c.mark.ensures.counted
-    c.args.from (usable (heap_state heap) c.args.from) c.args.size c.in-Ok.to c.clear.new.self.base c.clear.new.self.words.now block c.in-Ok.ensures.ok
+    c.args.from (usable (heap_state heap) c.args.from) c.args.size c.in-Ok.to c.clear.new.self.base c.clear.new.self.words.now block c.in-Ok.ensures.ok.given
     c.clear.ensures.here c.clear.ensures.others c.mark.ensures.here c.mark.ensures.others
 
 pub invariant_of-self-in-Err : goal.invariant_of-self-in-Err
 invariant_of-self-in-Err c =
     let block = subst (λ heap. HasBlock (heap_state heap) c.args.from) (sym c.self.view_is) (c.has_block.ensures.0 c.if-not-has_block.false) in
-    unresized_marked c.realloc.new.self c.self.invariant c.args.from c.args.size (Refused c.in-Err.error) (block, c.in-Err.ensures.err, c.in-Err.ensures.tried)
+    unresized_marked c.realloc.new.self c.self.invariant c.args.from c.args.size (Refused c.in-Err.error) (block, c.in-Err.ensures.err.refused, λ few. c.in-Err.ensures.err.tried few (omega arith))
 
 pub returns-in-Err-clause-err : goal.returns-in-Err-clause-err
 returns-in-Err-clause-err c =
     let block = subst (λ heap. HasBlock (heap_state heap) c.args.from) (sym c.self.view_is) (c.has_block.ensures.0 c.if-not-has_block.false) in
     subst (λ heap. IsResizeRefused regions_of word_of follows refuses denies heap c.args.from c.args.size
     (Refused c.in-Err.error) c.realloc.new.self) c.self.view_is
-    (block, c.in-Err.ensures.err, c.in-Err.ensures.tried)
+    (block, c.in-Err.ensures.err.refused, λ few. c.in-Err.ensures.err.tried few (omega arith))
 
 pub returns-in-Ok-clause-ok : goal.returns-in-Ok-clause-ok
 returns-in-Ok-clause-ok c =
@@ -77,9 +77,7 @@ returns-in-Ok-clause-ok c =
     subst (λ heap. IsBlockResized heap c.args.from c.args.size c.in-Ok.to c.realloc.new.self) c.self.view_is
     (record {
       block = subst (λ heap. HasBlock (heap_state heap) c.args.from) (sym c.self.view_is) block;
-      resized = c.in-Ok.ensures.resized;
-      given = c.in-Ok.ensures.ok;
-      member = c.in-Ok.ensures.member;
+      reallocated = c.in-Ok.ensures.ok;
       enough = c.in-Ok.ensures.enough;
     })
 
@@ -93,7 +91,7 @@ returns-in-Ok-clause-refused c =
     let heap = c.self.inside.heap in
     let block = subst (λ heap. HasBlock (heap_state heap) c.args.from) (sym c.self.view_is) (c.has_block.ensures.0 c.if-not-has_block.false) in
     let served = resize_not_refused heap c.realloc.new.self c.args.from (usable (heap_state heap) c.args.from) c.args.size
-    c.in-Ok.to block c.in-Ok.ensures.ok.small c.in-Ok.ensures.resized in
+    c.in-Ok.to block c.in-Ok.ensures.ok.given.small c.in-Ok.ensures.ok.resized in
     (λ none. absurd (cc), λ refused. absurd (served (subst (λ heap. IsRefusedResize heap c.args.from c.args.size) (sym c.self.view_is) refused)))
 
 pub returns-in-Err-clause-refused : goal.returns-in-Err-clause-refused
@@ -102,6 +100,6 @@ returns-in-Err-clause-refused c = (
       let block = subst (λ heap. HasBlock (heap_state heap) c.args.from) (sym c.self.view_is) (c.has_block.ensures.0 c.if-not-has_block.false) in
       subst (λ heap. IsRefusedResize heap c.args.from c.args.size) c.self.view_is
       (resize_refused_for c.self.inside.heap c.realloc.new.self c.args.from c.args.size (Refused c.in-Err.error)
-      (block, c.in-Err.ensures.err, c.in-Err.ensures.tried)),
+      (block, c.in-Err.ensures.err.refused, λ few. c.in-Err.ensures.err.tried few (omega arith))),
   λ _. refl,
 )

@@ -1,18 +1,20 @@
-use Rattle.std.proofs.Common.{◌∙◌, ap, refl, subst}
-use Rattle.dlmalloc.specs.Order.{KeepsIndex}
+use Rattle.std.proofs.Common.{rules, refl, subst}
 use Rattle.heap_arena.specs.Arena.{regions_of, word_of}
-use Rattle.heap_library.specs.Checked.{heap_state}
+use Rattle.sound_heap.specs.Heap.{StaysInState}
+use Rattle.heap_library.specs.Checked.{follows}
 use Rattle.heap_library.proofs.Marking.{same_marked}
 use Rattle.heap_library.proofs.checked.CheckedHeap.store.Goals as goal
 
 pub invariant_of-self : goal.invariant_of-self
-invariant_of-self c = same_marked c.store.new.self c.self.invariant c.store.ensures.follows.same c.store.ensures.state
+invariant_of-self c = same_marked c.store.new.self c.self.invariant c.store.ensures.stays.followed.same c.store.ensures.stays.state
 
-pub returns-clause-state : goal.returns-clause-state
-returns-clause-state c = c.store.ensures.state ∙ ap heap_state c.self.view_is
+pub returns-clause-stays : goal.returns-clause-stays
+returns-clause-stays c = subst (λ heap. StaysInState regions_of word_of follows heap c.store.new.self) c.self.view_is c.store.ensures.stays
 
-pub returns-clause-index : goal.returns-clause-index
-returns-clause-index c = subst (λ heap. KeepsIndex regions_of word_of heap c.store.new.self) c.self.view_is c.store.ensures.index
-
-pub returns-then-not-has_word-clause-index : goal.returns-then-not-has_word-clause-index
-returns-then-not-has_word-clause-index c = λ before. (before, λ n. refl)
+pub returns-then-not-has_word-clause-stays : goal.returns-then-not-has_word-clause-stays
+returns-then-not-has_word-clause-stays c = record {
+  state = refl;
+  regions_same = refl;
+  followed = search rules;
+  index = λ before. (before, λ n. refl);
+}
