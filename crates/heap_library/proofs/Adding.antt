@@ -33,8 +33,13 @@ added_intact items heap lent system answer arena rests intact is added same =
     (record { sound = still.0; linked = still.2 intact.linked }, still.1)
 
 -- an arena that comes back is refused
-pub refused_arena : {T : Type 0} (old new : List Arena) (most : ℕ) (arena : Arena) (answer : Result T (AddFault × Arena)) →
-    IfErr answer (λ refusal. IsNotAdded old most arena refusal.0) → IfErr answer (λ refusal. refusal.1 ≡ arena) → OnErr answer (new ≡ old) →
+pub refused_arena : {T : Type 0} (old new : List Arena) (most : ℕ) (arena : Arena)
+    (answer : Result T (AddFault × Arena)) → IfErr answer (λ refusal. IsNotAdded old most arena refusal.0) →
+    IfErr answer (λ refusal. refusal.1 ≡ arena) → OnErr answer (new ≡ old) →
     IfErr answer (λ refusal. IsArenaRefused old most arena refusal.0 refusal.1 new)
 refused_arena old new most arena (Ok value) not_added back same = tt
-refused_arena old new most arena (Err refusal) not_added back same = record { not_added = not_added; back_is = back; same = same }
+refused_arena old new most arena (Err refusal) not_added back same = record {
+  not_added = not_added;
+  back_is = back;
+  same = same;
+}

@@ -13,8 +13,8 @@ use Rattle.dlmalloc.specs.Heap.{state_of, IsGranularity}
 use Rattle.dlmalloc.specs.Requested.{IsHandedOut}
 use Rattle.dlmalloc.specs.declared.heap.Dlmalloc.{Dlmalloc}
 use Rattle.object_pool.specs.Bytes.{bytes_at, AreGranted, IsWritten}
-use Rattle.sound_heap.specs.Heap.{AreInBlock}
-use Rattle.object_pool.specs.Pool.{place_of, bytes_of, IsLaidOut, KeepsOthers, PlacesAreApart, StaysInState}
+use Rattle.sound_heap.specs.Heap.{AreInBlock, StaysInState}
+use Rattle.object_pool.specs.Pool.{place_of, bytes_of, IsLaidOut, KeepsOthers, PlacesAreApart}
 use Rattle.object_pool.proofs.ByteRuns.{bytes_same, bytes_are}
 use Rattle.object_pool.proofs.HeapBlocks.{handed_keeps, handed_fresh, written_keeps}
 use Rattle.object_pool.proofs.Numbers.{lt_or_le, same_or_other}

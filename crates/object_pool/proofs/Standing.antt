@@ -18,7 +18,8 @@ use Rattle.object_pool.specs.Lists.{Lists, empty, index_count, object_of, next_k
 use Rattle.object_pool.specs.Slots.{AreFreed, IsIn, IsNext, IsTaken, IsReleased}
 use Rattle.object_pool.specs.Pooled.{Pooled}
 use Rattle.object_pool.specs.Bytes.{byte_in, bytes_at}
-use Rattle.object_pool.specs.Pool.{place_of, bytes_of, Stands, IsLaidOut, IsNoSlab, KeepsOthers, Keeps, StaysInState, HasServed, IsAdded, HasRoom, IsPoolRefused, IsRefusedBy, TakesSlabIfNeeded}
+use Rattle.sound_heap.specs.Heap.{StaysInState}
+use Rattle.object_pool.specs.Pool.{place_of, bytes_of, Stands, IsLaidOut, IsNoSlab, KeepsOthers, Keeps, HasServed, IsAdded, HasRoom, IsPoolRefused, IsRefusedBy, TakesSlabIfNeeded}
 use Rattle.object_pool.specs.declared.pool_fault.PoolFault.{PoolFault}
 use Rattle.object_pool.specs.declared.pool_fault.PoolFault.TheVariants.{Full, Heap, OutOfMemory}
 use Rattle.object_pool.proofs.ByteRuns.{bytes_same}

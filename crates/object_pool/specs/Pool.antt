@@ -9,9 +9,10 @@ use Rattle.dlmalloc.specs.Heap.{state_of}
 use Rattle.dlmalloc.specs.Blocks.{IsBlock}
 use Rattle.dlmalloc.specs.Grown.{IsAsItWas}
 use Rattle.dlmalloc.specs.declared.malloc_error.MallocError.TheVariants.{System}
-use Rattle.dlmalloc.specs.Order.{KeepsOrder, KeepsIndex}
+use Rattle.dlmalloc.specs.Order.{KeepsOrder}
 use Rattle.dlmalloc.specs.Requested.{IsMemberServed}
 use Rattle.dlmalloc.specs.Served.{IsDenied, IsObtained, refused_events}
+use Rattle.sound_heap.specs.Heap.{StaysInState}
 use Rattle.object_pool.specs.declared.pool_fault.PoolFault.{PoolFault}
 use Rattle.object_pool.specs.declared.pool_fault.PoolFault.TheVariants.{Full, Heap, OutOfMemory}
 use Rattle.object_pool.specs.declared.slots.Slot.{Slot}
@@ -60,14 +61,6 @@ KeepsAll word old new = (address size : ℕ) → IsBlock (state_of word old) add
 -- so is each block that is no slab
 abbrev pub KeepsOthers : {A : Type 0} → (A → ℕ → ℕ) → List ℕ → Dlmalloc A → Dlmalloc A → Type 0
 KeepsOthers word slabs old new = (address size : ℕ) → IsBlock (state_of word old) address size → IsNoSlab slabs address → IsBlockKept word old address size new
-
--- The heap is in its state, its bins have their chunks in their order, and its system was asked for nothing: at most bytes of
--- blocks were written.
-pub record StaysInState {A : Type 0} (regions : A → List Grant) (word : A → ℕ → ℕ) (follows : A → List Event → A → Type 0) (old new : Dlmalloc A) : Type 0 where
-  pub state : state_of word new ≡ state_of word old
-  pub regions_same : regions new.system ≡ regions old.system
-  pub followed : follows old.system [] new.system
-  pub index : KeepsIndex regions word old new
 
 -- The heap served one request, for the slab at an address: it was cut from what the heap had, or from a region of its system
 -- if it had no room.

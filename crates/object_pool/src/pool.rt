@@ -55,7 +55,8 @@ impl<A: Allocator + Memory> Model for Pool<A> {
 
 impl<A: Allocator + Memory> Pool<A> {
     ghost use Rattle.object_pool.specs.Emptied.{IsEmptied};
-    ghost use Rattle.object_pool.specs.Pool.{HasRoom, IsAdded, IsLaidOut, IsPoolRefused, IsRefusedBy, IsUnchanged, Keeps, KeepsAll, PlacesAreApart, Stands, StaysInState, TakesSlabIfNeeded};
+    ghost use Rattle.sound_heap.specs.Heap.{StaysInState};
+    ghost use Rattle.object_pool.specs.Pool.{HasRoom, IsAdded, IsLaidOut, IsPoolRefused, IsRefusedBy, IsUnchanged, Keeps, KeepsAll, PlacesAreApart, Stands, TakesSlabIfNeeded};
 
     /// A pool without objects or slabs, for objects of `size` bytes, over a heap.
     pub fn new(alloc: Global, heap: Heap<A>, size: u64) -> Pool<A>

@@ -8,10 +8,10 @@ ghost use Rattle.dlmalloc.specs.Grown.{IsAsItWas};
 ghost use Rattle.dlmalloc.specs.Heap.{state_of, IsGranularity, IsSound};
 ghost use Rattle.dlmalloc.specs.Requested.{IsHandedOut, IsMemberServed, IsServedAt};
 ghost use Rattle.dlmalloc.specs.Served.{IsDenied, IsRefusedWith, refused_events};
-ghost use Rattle.sound_heap.specs.Heap.{HasBlock, AreInBlock};
+ghost use Rattle.sound_heap.specs.Heap.{HasBlock, AreInBlock, StaysInState};
 ghost use Rattle.object_pool.specs.Bytes.{AreGranted, IsWritten};
 ghost use Rattle.object_pool.specs.Emptied.{IsEmptied};
-ghost use Rattle.object_pool.specs.Pool.{bytes_of, place_of, IsAdded, IsLaidOut, KeepsAll, KeepsOthers, StaysInState};
+ghost use Rattle.object_pool.specs.Pool.{bytes_of, place_of, IsAdded, IsLaidOut, KeepsAll, KeepsOthers};
 
 use crate::Bytes;
 use crate::bytes::{read_bytes, write_bytes};

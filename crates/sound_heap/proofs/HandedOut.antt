@@ -10,8 +10,9 @@ use Rattle.dlmalloc.specs.declared.heap.Dlmalloc.{Dlmalloc}
 use Rattle.sound_heap.specs.Heap.{IsBlockHandedOut}
 use Rattle.sound_heap.proofs.BlockWords.{enough}
 
-module _ {A : Type 0} (regions : A → List Grant) (word : A → ℕ → ℕ) (zeros : A → Bool) (follows : A → List Event → A → Type 0)
-    (old new : Dlmalloc A) (size align : ℕ) (power : IsPowerOfTwo align) (cleared : Bool) (address : ℕ) where
+module _ {A : Type 0} (regions : A → List Grant) (word : A → ℕ → ℕ) (zeros : A → Bool)
+    (follows : A → List Event → A → Type 0) (old new : Dlmalloc A) (size align : ℕ)
+    (power : IsPowerOfTwo align) (cleared : Bool) (address : ℕ) where
   pub handed_plain : cleared ≡ false → IsAllocated regions word zeros follows old size align address new →
       IsBlockHandedOut regions word zeros follows old size align cleared address new
   handed_plain plain out = record {

@@ -6,8 +6,8 @@ use Rattle.heap_library.specs.Room.{IsRefused}
 use Rattle.limzhur_c.proofs.exports.limzhur_malloc.Goals as goal
 
 pub returns-in-Ok-clause-ok : goal.returns-in-Ok-clause-ok
-returns-in-Ok-clause-ok c = λ _. subst (λ (h : Dlmalloc Arena). IsBlockGiven h c.args.size c.args.align false c.in-Ok.address
-    c.malloc.new.self) c.open.ensures.heap c.in-Ok.ensures.ok
+returns-in-Ok-clause-ok c = λ _. subst (λ (h : Dlmalloc Arena). IsBlockGiven h c.args.size c.args.align false
+    c.in-Ok.address c.malloc.new.self) c.open.ensures.heap c.in-Ok.ensures.ok
 
 pub returns-in-Ok-clause-refused : goal.returns-in-Ok-clause-refused
 returns-in-Ok-clause-refused c =

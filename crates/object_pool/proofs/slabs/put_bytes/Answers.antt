@@ -1,8 +1,7 @@
 use Rattle.std.proofs.Common.{[], length, ◌∙◌, ap, sym, subst, arith}
 use Rattle.dlmalloc.specs.Heap.{state_of}
 use Rattle.object_pool.specs.Bytes.{IsWritten}
-use Rattle.sound_heap.specs.Heap.{AreInBlock}
-use Rattle.object_pool.specs.Pool.{StaysInState}
+use Rattle.sound_heap.specs.Heap.{AreInBlock, StaysInState}
 use Rattle.object_pool.proofs.HeapBlocks.{written_rests, written_index}
 use Rattle.object_pool.proofs.slabs.put_bytes.Goals as goal
 

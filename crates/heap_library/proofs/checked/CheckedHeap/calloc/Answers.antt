@@ -13,7 +13,9 @@ mark-requires-clause-unmarked c =
     made_unmarked c.calloc.new.self c.self.invariant c.args.size c.args.align c.in-Ok.address c.in-Ok.ensures.ok.handed
 
 pub mark-requires-clause-granted : goal.mark-requires-clause-granted
-mark-requires-clause-granted c = let out = c.in-Ok.ensures.ok.handed in out.granted c.in-Ok.address (omega arith) (omega arith)
+mark-requires-clause-granted c =
+    let out = c.in-Ok.ensures.ok.handed in
+    out.granted c.in-Ok.address (omega arith) (omega arith)
 
 pub invariant_of-self : goal.invariant_of-self
 invariant_of-self c =
@@ -30,12 +32,15 @@ returns-in-Err-clause-err c = subst (λ heap. IsRequestRefused regions_of word_o
 
 pub returns-in-Ok-clause-ok : goal.returns-in-Ok-clause-ok
 returns-in-Ok-clause-ok c =
-    subst (λ heap. IsBlockGiven heap c.args.size c.args.align true c.in-Ok.address c.calloc.new.self) c.self.view_is c.in-Ok.ensures.ok
+    subst (λ heap. IsBlockGiven heap c.args.size c.args.align true c.in-Ok.address c.calloc.new.self) c.self.view_is
+    c.in-Ok.ensures.ok
 
 pub returns-in-Ok-clause-refused : goal.returns-in-Ok-clause-refused
 returns-in-Ok-clause-refused c =
-    let served = not_refused c.self.inside.heap (c.in-Ok.ensures.ok.served_cleared refl).middle c.args.size c.args.align c.in-Ok.address
-    c.in-Ok.ensures.ok.power c.in-Ok.ensures.ok.handed.small (c.in-Ok.ensures.ok.served_cleared refl).served in
+    let out = c.in-Ok.ensures.ok in
+    let cleared = out.served_cleared refl in
+    let served = not_refused c.self.inside.heap cleared.middle c.args.size c.args.align c.in-Ok.address out.power
+    out.handed.small cleared.served in
     (λ none. absurd (cc), λ refused. absurd (served (subst (λ heap. IsRefused heap c.args.size c.args.align) (sym c.self.view_is) refused)))
 
 pub returns-in-Err-clause-refused : goal.returns-in-Err-clause-refused

@@ -45,7 +45,8 @@ mark-requires-clause-base c =
 pub mark-requires-clause-room : goal.mark-requires-clause-room
 mark-requires-clause-room c =
     let heap = c.self.inside.heap in
-    let same = (resized_same heap c.realloc.new.self c.args.from (usable (heap_state heap) c.args.from) c.args.size c.in-Ok.to c.in-Ok.ensures.ok.given).len in
+    let same = (resized_same heap c.realloc.new.self c.args.from (usable (heap_state heap) c.args.from) c.args.size
+    c.in-Ok.to c.in-Ok.ensures.ok.given).len in
     let room = c.self.invariant.room in
     let len = c.clear.ensures.len in
     omega (arith, same, room, len)
@@ -56,13 +57,15 @@ invariant_of-self c =
     let block = subst (λ heap. HasBlock (heap_state heap) c.args.from) (sym c.self.view_is) (c.has_block.ensures.0 c.if-not-has_block.false) in
     moved_marked c.realloc.new.self c.self.invariant c.mark.new.marks.base c.mark.new.marks.words.now c.mark.new.marks.count
     (c.mark.ensures.base ∙ c.clear.ensures.base) (c.mark.ensures.len ∙ c.clear.ensures.len) c.mark.ensures.counted
-    c.args.from (usable (heap_state heap) c.args.from) c.args.size c.in-Ok.to c.clear.new.self.base c.clear.new.self.words.now block c.in-Ok.ensures.ok.given
+    c.args.from (usable (heap_state heap) c.args.from) c.args.size c.in-Ok.to c.clear.new.self.base
+    c.clear.new.self.words.now block c.in-Ok.ensures.ok.given
     c.clear.ensures.here c.clear.ensures.others c.mark.ensures.here c.mark.ensures.others
 
 pub invariant_of-self-in-Err : goal.invariant_of-self-in-Err
 invariant_of-self-in-Err c =
     let block = subst (λ heap. HasBlock (heap_state heap) c.args.from) (sym c.self.view_is) (c.has_block.ensures.0 c.if-not-has_block.false) in
-    unresized_marked c.realloc.new.self c.self.invariant c.args.from c.args.size (Refused c.in-Err.error) (block, c.in-Err.ensures.err.refused, λ few. c.in-Err.ensures.err.tried few (omega arith))
+    unresized_marked c.realloc.new.self c.self.invariant c.args.from c.args.size (Refused c.in-Err.error)
+    (block, c.in-Err.ensures.err.refused, λ few. c.in-Err.ensures.err.tried few (omega arith))
 
 pub returns-in-Err-clause-err : goal.returns-in-Err-clause-err
 returns-in-Err-clause-err c =

@@ -6,10 +6,13 @@ use Rattle.heap_library.proofs.Marking.{same_marked}
 use Rattle.heap_library.proofs.checked.CheckedHeap.store.Goals as goal
 
 pub invariant_of-self : goal.invariant_of-self
-invariant_of-self c = same_marked c.store.new.self c.self.invariant c.store.ensures.stays.followed.same c.store.ensures.stays.state
+invariant_of-self c =
+    let stays = c.store.ensures.stays in
+    same_marked c.store.new.self c.self.invariant stays.followed.same stays.state
 
 pub returns-clause-stays : goal.returns-clause-stays
-returns-clause-stays c = subst (λ heap. StaysInState regions_of word_of follows heap c.store.new.self) c.self.view_is c.store.ensures.stays
+returns-clause-stays c =
+    subst (λ heap. StaysInState regions_of word_of follows heap c.store.new.self) c.self.view_is c.store.ensures.stays
 
 pub returns-then-not-has_word-clause-stays : goal.returns-then-not-has_word-clause-stays
 returns-then-not-has_word-clause-stays c = record {

@@ -54,7 +54,8 @@ moves_request true old size align number address large new heap served told slot
 -- the list has a place for one region more
 pub changed_regions-requires-clause-places : goal.changed_regions-requires-clause-places
 changed_regions-requires-clause-places c =
-    let few = few_regions c.args.self.now.heap c.hand_out.new.self (padded (asked c.args.size c.args.align)) c.in-Ok.ensures.ok.found in
+    let few = few_regions c.args.self.now.heap c.hand_out.new.self (padded (asked c.args.size c.args.align))
+    c.in-Ok.ensures.ok.handed.found in
     let same = ap (λ heap. length (paged heap.system).regions) c.add_block.ensures.heap in
     let count : c.region_count-count.result ≡ length (paged c.args.self.now.heap.system).regions =
     c.region_count-count.ensures.count ∙ ap (λ system. length (paged system).regions) c.system.ensures in
@@ -74,7 +75,7 @@ new_slots-requires c =
         c.in_ok-reserve.ensures.items,
       )
           (laid_handed c.args.self.now.heap c.hand_out.new.self c.args.self.now.blocks.items c.args.size c.args.align
-          c.in-Ok.address c.requires.sound c.in-Ok.ensures.ok (power_from_test c.args.align power));
+          c.in-Ok.address c.requires.sound c.in-Ok.ensures.ok.handed (power_from_test c.args.align power));
     }
 
 pub returns-in-Ok-clause-sound : goal.returns-in-Ok-clause-sound
@@ -87,9 +88,9 @@ returns-in-Ok-clause-ok c = λ top s good stands.
     let free = ap (λ heap. pageless_frames (paged heap.system)) c.add_block.ensures.heap in
     let joins_now = ap (λ heap. (paged heap.system).joins) c.changed_regions.ensures.heap ∙ joins in
     let step = step_request c.args.self.now.heap c.hand_out.new.self c.args.self.now.blocks.items c.args.size c.args.align
-    c.in-Ok.address c.requires.sound c.in-Ok.ensures.ok c.blocks_are_placed.ensures c.blocks_are_placed-in-Ok.ensures
-    c.hand_out.ensures.apart s good stands
-    power c.changed_regions.result c.new_slots.result
+    c.in-Ok.address c.requires.sound c.in-Ok.ensures.ok.handed c.blocks_are_placed.ensures
+    c.blocks_are_placed-in-Ok.ensures c.hand_out.ensures.apart s good stands power c.changed_regions.result
+    c.new_slots.result
     (λ same few. c.changed_regions.ensures.same (joins ∙ (same ∙ sym c.marks-before.ensures.joins)) (free ∙ (few ∙ sym c.marks-before.ensures.pageless)))
     (λ other. c.changed_regions.ensures.other (λ same few. other (sym joins ∙ (same ∙ c.marks-before.ensures.joins))
     (sym free ∙ (few ∙ c.marks-before.ensures.pageless)))
@@ -97,7 +98,7 @@ returns-in-Ok-clause-ok c = λ top s good stands.
     (λ same. (c.new_slots.ensures.none (joins_now ∙ (same ∙ sym c.marks-before.ensures.joins))).0)
     (λ other. c.new_slots.ensures.slots (λ same. other (sym joins_now ∙ (same ∙ c.marks-before.ensures.joins)))
     ∙ ap (λ heap. listed_slots (paged heap.system).slots) (c.changed_regions.ensures.heap ∙ c.add_block.ensures.heap))
-    c.args.cleared (λ asked. c.in-Ok.ensures.zeros asked) in
+    c.args.cleared (λ asked. c.in-Ok.ensures.ok.are_zero asked) in
     let told : AreTold c.changed_regions.new.self c.new_slots.new.self c.marks-before.result.joins = record {
       none = λ same. (c.new_slots.ensures.none same).1;
       taken = c.new_slots.ensures.paged;
@@ -124,9 +125,9 @@ returns-in-Ok-clause-runs c = λ top s good stands.
     let free = ap (λ heap. pageless_frames (paged heap.system)) c.add_block.ensures.heap in
     let joins_now = ap (λ heap. (paged heap.system).joins) c.changed_regions.ensures.heap ∙ joins in
     let step = step_request c.args.self.now.heap c.hand_out.new.self c.args.self.now.blocks.items c.args.size c.args.align
-    c.in-Ok.address c.requires.sound c.in-Ok.ensures.ok c.blocks_are_placed.ensures c.blocks_are_placed-in-Ok.ensures
-    c.hand_out.ensures.apart s good stands
-    power c.changed_regions.result c.new_slots.result
+    c.in-Ok.address c.requires.sound c.in-Ok.ensures.ok.handed c.blocks_are_placed.ensures
+    c.blocks_are_placed-in-Ok.ensures c.hand_out.ensures.apart s good stands power c.changed_regions.result
+    c.new_slots.result
     (λ same few. c.changed_regions.ensures.same (joins ∙ (same ∙ sym c.marks-before.ensures.joins)) (free ∙ (few ∙ sym c.marks-before.ensures.pageless)))
     (λ other. c.changed_regions.ensures.other (λ same few. other (sym joins ∙ (same ∙ c.marks-before.ensures.joins))
     (sym free ∙ (few ∙ c.marks-before.ensures.pageless)))
@@ -134,7 +135,7 @@ returns-in-Ok-clause-runs c = λ top s good stands.
     (λ same. (c.new_slots.ensures.none (joins_now ∙ (same ∙ sym c.marks-before.ensures.joins))).0)
     (λ other. c.new_slots.ensures.slots (λ same. other (sym joins_now ∙ (same ∙ c.marks-before.ensures.joins)))
     ∙ ap (λ heap. listed_slots (paged heap.system).slots) (c.changed_regions.ensures.heap ∙ c.add_block.ensures.heap))
-    c.args.cleared (λ asked. c.in-Ok.ensures.zeros asked) in
+    c.args.cleared (λ asked. c.in-Ok.ensures.ok.are_zero asked) in
     let told : AreTold c.changed_regions.new.self c.new_slots.new.self c.marks-before.result.joins = record {
       none = λ same. (c.new_slots.ensures.none same).1;
       taken = c.new_slots.ensures.paged;
@@ -165,9 +166,9 @@ returns-in-Ok-clause-heap c =
     rw c.add_block.ensures.reply
     (moves_request c.args.cleared c.args.self.now c.args.size c.args.align _ c.in-Ok.address c.new_slots.result c.new_slots.new.self c.hand_out.new.self
     (served_for c.args.cleared c.args.self.now.heap c.args.size c.args.align c.in-Ok.address c.hand_out.new.self
-    c.in-Ok.ensures.served c.in-Ok.ensures.served_cleared)
+    c.in-Ok.ensures.ok.served c.in-Ok.ensures.ok.served_cleared)
     (subst (λ h. IsToldFrom h c.new_slots.new.self.heap) heap (told_from c.changed_regions.new.self c.new_slots.new.self c.marks-before.result.joins told))
-    slots c.in-Ok.ensures.member)
+    slots c.in-Ok.ensures.ok.member)
 
 pub returns-in-Err-clause-sound : goal.returns-in-Err-clause-sound
 returns-in-Err-clause-sound c =

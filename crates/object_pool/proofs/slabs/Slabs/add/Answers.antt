@@ -25,13 +25,13 @@ returns-in-Ok-clause-laid g c =
     let s = c.args.self.now in
     subst (IsLaidOut g.A.Links.regions g.A.Links.word c.hand_out.new.self s.size) (sym c.push_reserved.ensures.items)
     (added_laid g.A.Links.regions g.A.Links.word s.heap s.size s.places.items c.requires.laid g.A.Links.follows
-    c.hand_out.new.self c.in-Ok.address c.blocks_are_placed.ensures c.in-Ok.ensures.ok)
+    c.hand_out.new.self c.in-Ok.address c.blocks_are_placed.ensures c.in-Ok.ensures.ok.handed)
 
 pub returns-in-Ok-clause-kept : goal.returns-in-Ok-clause-kept
 returns-in-Ok-clause-kept g c =
     let s = c.args.self.now in
     handed_keeps g.A.Links.regions g.A.Links.word g.A.Links.follows s.heap c.hand_out.new.self (64 * s.size) 16
-    c.in-Ok.address c.blocks_are_placed.ensures c.in-Ok.ensures.ok
+    c.in-Ok.address c.blocks_are_placed.ensures c.in-Ok.ensures.ok.handed
 
 pub returns-in-Ok-clause-added : goal.returns-in-Ok-clause-added
 returns-in-Ok-clause-added g c =
@@ -40,14 +40,14 @@ returns-in-Ok-clause-added g c =
       address = c.in-Ok.address;
       is = c.push_reserved.ensures.items;
       fresh = handed_fresh g.A.Links.regions g.A.Links.word g.A.Links.follows s.heap c.hand_out.new.self (64 * s.size) 16
-          c.in-Ok.address c.blocks_are_placed.ensures c.in-Ok.ensures.ok;
+          c.in-Ok.address c.blocks_are_placed.ensures c.in-Ok.ensures.ok.handed;
       only = handed_only g.A.Links.regions g.A.Links.word g.A.Links.follows s.heap c.hand_out.new.self (64 * s.size) 16
-          c.in-Ok.address c.blocks_are_placed.ensures c.in-Ok.ensures.ok;
+          c.in-Ok.address c.blocks_are_placed.ensures c.in-Ok.ensures.ok.handed;
       served = served_once g.A.Links.regions g.A.Links.word g.A.Links.follows s.heap c.hand_out.new.self g.A.Allocator.zeros
-          s.size c.in-Ok.address (c.in-Ok.ensures.served refl);
-      member = c.in-Ok.ensures.member;
+          s.size c.in-Ok.address (c.in-Ok.ensures.ok.served refl);
+      member = c.in-Ok.ensures.ok.member;
       order = order_once g.A.Links.regions g.A.Links.word g.A.Links.follows s.heap c.hand_out.new.self g.A.Allocator.zeros
-          (64 * s.size) c.in-Ok.address (c.in-Ok.ensures.served refl);
+          (64 * s.size) c.in-Ok.address (c.in-Ok.ensures.ok.served refl);
     }
 
 pub returns-in-Err-System-clause-kept : goal.returns-in-Err-System-clause-kept

@@ -9,9 +9,9 @@ use Rattle.sound_heap.proofs.heap.Heap.realloc.Goals as goal
 pub returns-clause-ok : goal.returns-clause-ok
 returns-clause-ok g c =
     subst (λ heap. IfOk c.resize.result (λ to. IsReallocated g.A.Links.regions g.A.Links.word g.A.Allocator.zeros
-    g.A.Links.follows (g.A.Allocator.frees heap.system) (g.A.Allocator.parts heap.system) (g.A.Allocator.unit heap.system)
-    heap c.args.address (usable (state_of g.A.Links.word heap) c.args.address) 16 c.args.size to c.resize.new.heap))
-    c.self.view_is c.resize.ensures.ok
+    g.A.Links.follows (g.A.Allocator.frees heap.system) (g.A.Allocator.parts heap.system)
+    (g.A.Allocator.unit heap.system) heap c.args.address (usable (state_of g.A.Links.word heap) c.args.address) 16
+    c.args.size to c.resize.new.heap)) c.self.view_is c.resize.ensures.ok
 
 pub returns-clause-enough : goal.returns-clause-enough
 returns-clause-enough g c = IfOk-weaker c.resize.result _ _ (λ to out.

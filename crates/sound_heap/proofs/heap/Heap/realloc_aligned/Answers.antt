@@ -14,7 +14,8 @@ returns-clause-ok g c =
 
 pub returns-clause-enough : goal.returns-clause-enough
 returns-clause-enough g c = IfOk-weaker c.resize_aligned.result _ _ (λ to out.
-    enough (state_of g.A.Links.word c.resize_aligned.new.heap) to c.args.size out.given.block) c.resize_aligned.ensures.ok
+    enough (state_of g.A.Links.word c.resize_aligned.new.heap) to c.args.size out.given.block)
+    c.resize_aligned.ensures.ok
 
 pub returns-clause-err : goal.returns-clause-err
 returns-clause-err g c =
