@@ -1,11 +1,10 @@
 -- A block is handed out as it is, or cleared.
-use Rattle.std.proofs.Common.{◌≡◌, ℕ, ◌+◌, ◌*◌, ◌<◌, ◌≤◌, Bool, true, false, List, arith}
+use Rattle.std.proofs.Common.{◌≡◌, ℕ, Bool, true, false, List, arith}
 use Rattle.std.specs.Int.{IsPowerOfTwo}
 use Rattle.heap_memory.specs.declared.grant.Grant.{Grant}
 use Rattle.heap_memory.specs.Events.{Event}
 use Rattle.dlmalloc.specs.Heap.{state_of}
 use Rattle.dlmalloc.specs.Outcome.{IsAllocated, IsAllocatedCleared}
-use Rattle.dlmalloc.specs.Written.{words_in}
 use Rattle.dlmalloc.specs.declared.heap.Dlmalloc.{Dlmalloc}
 use Rattle.sound_heap.specs.Heap.{IsBlockHandedOut}
 use Rattle.sound_heap.proofs.BlockWords.{enough}
