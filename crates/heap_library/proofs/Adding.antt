@@ -1,5 +1,5 @@
 -- A heap whose system got more memory: it is as it was.
-use Rattle.std.proofs.Common.{◌≡◌, ℕ, List, Result, Ok, Err, IfErr, OnOk, OnErr, ap, subst, tt}
+use Rattle.std.proofs.Common.{◌≡◌, ℕ, List, Result, Ok, Err, IfErr, OnOk, OnErr, ap, subst}
 use Rattle.heap_memory.specs.Regions.{IsWordOf}
 use Rattle.dlmalloc.specs.Heap.{state_of}
 use Rattle.dlmalloc.specs.Served.{RestsOutside}

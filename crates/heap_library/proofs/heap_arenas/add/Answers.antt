@@ -15,7 +15,7 @@ returns-clause-state g c =
 
 pub returns-clause-err : goal.returns-clause-err
 returns-clause-err g c =
-    subst (λ system. IfErr c.add.result (λ refusal. IsArenaRefused system.arenas.items g.N c.args.arena refusal.0
+    subst (λ system. IfErr c.add.result (λ refusal. IsArenaRefused system.arenas.items g.row.N c.args.arena refusal.0
     refusal.1 c.add.new.self.arenas.items)) c.allocator_mut.ensures.value
-    (refused_arena c.allocator_mut.result.now.arenas.items c.add.new.self.arenas.items g.N c.args.arena c.add.result
+    (refused_arena c.allocator_mut.result.now.arenas.items c.add.new.self.arenas.items g.row.N c.args.arena c.add.result
     c.add.ensures.err c.add.ensures.back c.add.ensures.same)
