@@ -1,4 +1,4 @@
--- What the calls of a heap over an arena have done if they succeed (own).
+-- What the calls of a heap over arenas have done (own).
 use Rattle.std.specs.Prelude.{◌≡◌, ℕ, ◌≤◌, Bool, true, List}
 use Rattle.dlmalloc.specs.Outcome.{IsReallocated}
 use Rattle.dlmalloc.specs.declared.heap.Dlmalloc.{Dlmalloc}
@@ -20,7 +20,7 @@ pub record IsBlockResized (old : Dlmalloc Arena) (from size to : ℕ) (new : Dlm
   pub reallocated : IsReallocated regions_of word_of zeros follows true true 1 old from (usable (heap_state old) from) 16 size to new
   pub enough : size ≤ usable (heap_state new) to
 
--- An arena is not taken: why, it comes back as it was, and the arenas of the system are as they were.
+-- An arena is not taken: a fault says why, the arena comes back as it was, and those of the system are as they were.
 pub record IsArenaRefused (old : List Arena) (most : ℕ) (arena : Arena) (fault : AddFault) (back : Arena) (new : List Arena) : Type 0 where
   pub not_added : IsNotAdded old most arena fault
   pub back_is : back ≡ arena
