@@ -6,10 +6,10 @@ use Rattle.heap_model.specs.declared.answer.Answer.{Answer}
 use Rattle.heap_model.specs.declared.call.Call.{Call}
 use Rattle.heap_model.specs.State.{State}
 use Rattle.heap_model.specs.Run.{RunsTo}
-use Rattle.heap_model.proofs.Runs.{runs_none, run_on}
+use Rattle.heap_model.proofs.Runs.{runs_none, calls_on}
 use Rattle.kernel_heap.specs.declared.machine.Machine.{Machine}
 use Rattle.kernel_heap.specs.Steps.{StepsTo}
-use Rattle.kernel_heap.proofs.Steps.{steps_on}
+use Rattle.kernel_heap.proofs.Steps.{calls_steps_on}
 use Rattle.heap_program.specs.declared.generate.Drawing.{Drawing}
 use Rattle.heap_program.specs.Drawing.{HasDrawnOne, HasDrawn}
 use Rattle.heap_program.specs.Flushed.{IsAllFlushed}
@@ -23,14 +23,6 @@ use Rattle.heap_program.proofs.Known.{appends_nothing}
 refused-append : (xs : List Answer) (y : Answer) → refused_count (xs ++ y ∷ []) ≡ refused_count xs + refusals y.reply
 refused-append [] y = omega arith
 refused-append (x ∷ xs) y = let more = refused-append xs y in omega (arith, more)
-
-some-append : (xs : List Call) (y : Call) → map Some (xs ++ y ∷ []) ≡ map Some xs ++ Some y ∷ []
-some-append [] y = refl
-some-append (x ∷ xs) y = ap (λ (l : List (Option Call)). Some x ∷ l) (some-append xs y)
-
-answers-append : (xs : List Answer) (y : Answer) → map Some (xs ++ y ∷ []) ≡ map Some xs ++ Some y ∷ []
-answers-append [] y = refl
-answers-append (x ∷ xs) y = ap (λ (l : List (Option Answer)). Some x ∷ l) (answers-append xs y)
 
 -- no call
 pub drawn_none : (s : State) (drawing : Drawing) → IsAt drawing.machine s → HasDrawn s drawing drawing 0
@@ -53,8 +45,6 @@ drawn_more s old mid new count h k =
     let before = drawn_calls old.state old.given h.answers in
     let last : List Answer = k.answer ∷ [] in
     let one : drawn_calls old.state old.given (h.answers ++ last) ≡ before ++ call ∷ [] = h.calls last in
-    let calls = sym (ap (map Some) one ∙ some-append before call) in
-    let answers = sym (answers-append h.answers k.answer) in
     record {
       answers = h.answers ++ last;
       counted = let len = length-append h.answers last in let counted = h.counted in omega (arith, len, counted);
@@ -70,12 +60,10 @@ drawn_more s old mid new count h k =
           ∙ (λ i. blocks_given (sym k.next i) (sym k.given i) rest);
       refused = let sum = refused-append h.answers k.answer in let first = h.refused in let then = k.refused in omega (arith, sum, first, then);
       state = k.state;
-      run = subst (λ (calls : List (Option Call)). RunsTo s calls (map Some (h.answers ++ last)) k.state) calls
-          (subst (λ (answers : List (Option Answer)). RunsTo s (map Some before ++ Some call ∷ []) answers k.state) answers
-          (run_on s h.state k.state (map Some before) (Some call ∷ []) (map Some h.answers) (Some k.answer ∷ []) h.run k.run));
-      steps = subst (λ (calls : List (Option Call)). StepsTo old.machine calls (map Some (h.answers ++ last)) new.machine) calls
-          (subst (λ (answers : List (Option Answer)). StepsTo old.machine (map Some before ++ Some call ∷ []) answers new.machine) answers
-          (steps_on old.machine mid.machine new.machine (map Some before) (Some call ∷ []) (map Some h.answers) (Some k.answer ∷ []) h.steps k.steps));
+      run = subst (λ (calls : List Call). RunsTo s (map Some calls) (map Some (h.answers ++ last)) k.state) (sym one)
+          (calls_on s h.state k.state before (call ∷ []) h.answers last h.run k.run);
+      steps = subst (λ (calls : List Call). StepsTo old.machine (map Some calls) (map Some (h.answers ++ last)) new.machine) (sym one)
+          (calls_steps_on old.machine mid.machine new.machine before (call ∷ []) h.answers last h.steps k.steps);
       at = k.at;
     }
 

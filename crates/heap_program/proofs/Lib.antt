@@ -1,5 +1,6 @@
 pub mod Blocks
 pub mod Commands
+pub mod Counts
 pub mod Draws
 pub mod Endings
 pub mod Errors

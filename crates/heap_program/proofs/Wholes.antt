@@ -325,7 +325,8 @@ sink_isnt stop (inr is) read = cc
 pub read_isnt : (stop : Stop) → stop ≡ ReadFault → stop ≡ TooLong → ⊥
 read_isnt stop is long = cc
 
-read_whole : (l l1 : Option (List ℕ)) (bytes : List ℕ) → Consumes l l1 bytes → IsAtEnd l1 → IsReadWhole l l1 bytes
+-- all that the source had came, and none of it is left
+pub read_whole : (l l1 : Option (List ℕ)) (bytes : List ℕ) → Consumes l l1 bytes → IsAtEnd l1 → IsReadWhole l l1 bytes
 read_whole None l1 bytes consumed end = tt
 read_whole (Some xs) None bytes consumed end = absurd consumed
 read_whole (Some xs) (Some ys) bytes consumed end =
@@ -428,6 +429,10 @@ ok_long last l l1 bytes n consumed counted short =
 pub stop_is : (r : Result Machine Stop) (stop other : Stop) → IsErrAnd r (λ e. e ≡ stop) → IsErrOf r other → stop ≡ other
 stop_is (Ok machine) stop other made is = absurd made
 stop_is (Err e) stop other made is = cc
+
+-- and the result that it came from is this stop too
+pub passed_on : {T : Type 0} (r : Result Machine Stop) (stop other : Stop) → IsErrAnd r (λ e. e ≡ stop) → IsErrOf r other → IsErrOf {T = T} (Err stop) other
+passed_on r stop other made is = ap (λ (e : Stop). Err e) (stop_is r stop other made is)
 
 -- of a result that is this stop
 pub stop_long : (l l1 : Option (List ℕ)) (r : Result Machine Stop) (stop : Stop) → IsErrAnd r (λ e. e ≡ stop) →

@@ -11,6 +11,7 @@ pub mod Generator
 pub mod Headline
 pub mod Lines
 pub mod LiveBlocks
+pub mod Outcomes
 pub mod ProcessorRegions
 pub mod Planned
 pub mod Progress

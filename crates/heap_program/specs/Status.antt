@@ -1,9 +1,10 @@
 -- The statuses.
-use Rattle.std.specs.Prelude.{◌≡◌, ◌≤◌, ◌⊎◌, ◌↔◌, ℕ, List, [], ◌∷◌, codes, slice_index_or}
+use Rattle.std.specs.Prelude.{◌≡◌, ◌≢◌, ◌≤◌, ◌⊎◌, ◌↔◌, ℕ, List, [], ◌∷◌, codes, slice_index_or}
 use Rattle.heap_model.specs.declared.config.Config.{Config}
 use Rattle.kernel_heap.specs.Config.{IsGoodConfig, IsConfigRefused}
 use Rattle.kernel_heap.specs.declared.run_error.RunError.{RunError}
 use Rattle.kernel_heap.specs.declared.run_error.RunError.TheVariants.{BadWindow, BadGranularity, TooFewFrames, OutOfMemory}
+use Rattle.heap_program.specs.Faults.{HasRisen}
 
 -- the status if no machine was made
 abbrev pub refusal_status : RunError → ℕ
@@ -18,6 +19,17 @@ pub record TellsRefusal (config : Config) (status : ℕ) : Type 0 where
   pub granularity : status ≡ 3 ↔ IsConfigRefused config BadGranularity
   pub frames : status ≡ 4 ↔ IsConfigRefused config TooFewFrames
   pub good : (status ≡ 0) ⊎ (5 ≤ status) → IsGoodConfig config
+
+-- Calls were drawn for a new machine of a configuration, and that ended with a status. The sink's count of faults is `writes`, and then
+-- `writes'`.
+pub record IsGenerationStatus {K : Type 0} (config : Config) (sink sink' : K) (writes writes' status : ℕ) : Type 0 where
+  -- there was a command, and no input that could fail or be too long
+  pub statuses : (status ≢ 1) × (status ≢ 6) × (status ≤ 7)
+  pub refused : TellsRefusal config status
+  -- where no machine was made, nothing is written
+  pub untouched : 1 ≤ status → status ≤ 4 → sink' ≡ sink
+  -- the sink failed only if its count rose
+  pub write_fault : status ≡ 7 → HasRisen writes writes'
 
 -- the texts of the statuses from 0 on
 abbrev pub status_texts : List (List ℕ)

@@ -1,11 +1,11 @@
 // A run over calls that are drawn.
-ghost use Rattle.std.specs.Prelude.{◌≡◌, ◌≢◌, ◌≤◌, ◌<◌, ◌+◌, ◌-◌, ◌^◌, ◌⊎◌, [], IfOk, IfErr, OnOk, OnErr, IsErrOf, ◌↔◌, IsSome, IfSome};
+ghost use Rattle.std.specs.Prelude.{◌≡◌, ◌≤◌, ◌<◌, ◌+◌, ◌^◌, ◌⊎◌, IfOk, IfErr, OnOk, OnErr, IsErrOf, ◌↔◌, IsSome, IfSome};
 ghost use Rattle.heap_model.specs.State.{State, start};
 ghost use Rattle.heap_program.specs.Drawing.{HasDrawnOne, HasDrawn};
 ghost use Rattle.heap_program.specs.Faults.{HasRisen};
 ghost use Rattle.heap_program.specs.Generated.{IsGenerationStopped};
 ghost use Rattle.heap_program.specs.Generator.{first_state, numbers_given, refusals};
-ghost use Rattle.heap_program.specs.Status.{TellsRefusal};
+ghost use Rattle.heap_program.specs.Status.{IsGenerationStatus};
 ghost use Rattle.heap_program.specs.Progress.{IsAt};
 ghost use Rattle.heap_program.specs.Stepped.{IsGeneratedBy, IsGeneratedByNew};
 ghost use Rattle.heap_program.specs.declared.run.Stop.TheVariants.{Memory, WriteFault};
@@ -135,10 +135,7 @@ pub fn generate_new<K: Sink>(
     ensures machine { IsSome result.machine ↔ (result.status ≡ 0) }
     ensures generated { IfSome result.machine (IsGeneratedByNew config.now seed count (K.taken sink.old) (K.taken sink.new) (K.flushed sink.new)) }
     ensures stopped { 5 ≤ result.status → IsGenerationStopped (start config.now) seed count (K.taken sink.old) (K.taken sink.new) }
-    ensures statuses { (result.status ≢ 1) × (result.status ≢ 6) × (result.status ≤ 7) }
-    ensures refused { TellsRefusal config.now result.status }
-    ensures untouched { 1 ≤ result.status → result.status ≤ 4 → sink.new ≡ sink.old }
-    ensures write_fault { result.status ≡ 7 → HasRisen (K.faults sink.old) (K.faults sink.new) }
+    ensures status { IsGenerationStatus config.now sink.old sink.new (K.faults sink.old) (K.faults sink.new) result.status }
 {
     let machine = match Machine::new(alloc, config) {
         Ok(machine) => machine,

@@ -1,14 +1,13 @@
 // A whole run, from the source to the sink.
-ghost use Rattle.std.specs.Prelude.{◌≡◌, ◌≤◌, ◌<◌, ◌^◌, ◌+◌, ◌⊎◌, ◌↔◌, [], ℕ, length, take, unwrap_or, string_bytes, IfSome, IfOk, IfErr, OnOk, OnErr, IsErrOf};
-ghost use Rattle.std.specs.Io.KnownBytes.{Appends, IsAtEnd};
+ghost use Rattle.std.specs.Prelude.{◌≡◌, ◌<◌, ◌^◌, ◌+◌, ◌↔◌, [], ℕ, length, take, unwrap_or, string_bytes, IfSome, IfOk, IfErr, OnOk, OnErr, IsErrOf};
+ghost use Rattle.std.specs.Io.KnownBytes.{Appends};
 ghost use Rattle.heap_model.specs.State.{State};
-ghost use Rattle.heap_program.specs.Faults.{HasRisen};
-ghost use Rattle.heap_program.specs.Flushed.{IsAllFlushed, IsUpToDate};
+ghost use Rattle.heap_program.specs.Flushed.{IsAllFlushed};
+ghost use Rattle.heap_program.specs.Outcomes.{TellsSinkFaults, TellsSinkStop, TellsRunFaults, HasFlushed, IsReadToEnd, HasRunInPart};
 ghost use Rattle.heap_program.specs.Progress.{IsAt};
 ghost use Rattle.heap_program.specs.Stop.{stop_of, IsFreshSession, HasRead, HasClosed, HasPart, HasStopped};
-ghost use Rattle.heap_program.specs.Headline.{IsInterrupted, IsStopped};
 ghost use Rattle.heap_program.specs.Stepped.{IsAnsweredBy};
-ghost use Rattle.heap_program.specs.declared.run.Stop.TheVariants.{Memory, ReadFault, WriteFault, TooLong};
+ghost use Rattle.heap_program.specs.declared.run.Stop.TheVariants.{Memory, ReadFault, TooLong};
 
 use crate::respond::Respond;
 use crate::session::Session;
@@ -67,9 +66,7 @@ impl From<AllocError> for Stop {
 fn write_all<K: Sink>(sink: &mut K, bytes: &[u8]) -> Result<(), SinkFault>
     ensures ok { OnOk result (Appends (K.taken sink.old) (K.taken sink.new) bytes.now) }
     ensures err { OnErr result ((n : ℕ) × Appends (K.taken sink.old) (K.taken sink.new) (take n bytes.now)) }
-    ensures later { K.faults sink.old ≤ K.faults sink.new }
-    ensures cause { IsErrOf result SinkFault.Failed → HasRisen (K.faults sink.old) (K.faults sink.new) }
-    ensures memory { ((k : K) → K.needs_memory k → ⊥) → IsErrOf result SinkFault.OutOfMemory → ⊥ }
+    ensures faults { TellsSinkFaults K.needs_memory result (K.faults sink.old) (K.faults sink.new) }
 {
     let mut written = 0;
     while written < bytes.len() {
@@ -83,9 +80,7 @@ pub fn write_text<K: Sink>(sink: &mut K, text: &str) -> Result<(), SinkFault>
     ensures ok { OnOk result (Appends (K.taken sink.old) (K.taken sink.new) text.now) }
     ensures flushed { OnOk result (IsAllFlushed (K.taken sink.new) (K.flushed sink.new)) }
     ensures err { OnErr result ((n : ℕ) × Appends (K.taken sink.old) (K.taken sink.new) (take n text.now)) }
-    ensures later { K.faults sink.old ≤ K.faults sink.new }
-    ensures cause { IsErrOf result SinkFault.Failed → HasRisen (K.faults sink.old) (K.faults sink.new) }
-    ensures memory { ((k : K) → K.needs_memory k → ⊥) → IsErrOf result SinkFault.OutOfMemory → ⊥ }
+    ensures faults { TellsSinkFaults K.needs_memory result (K.faults sink.old) (K.faults sink.new) }
 {
     write_all(sink, text.as_bytes())?;
     sink.flush()
@@ -97,9 +92,7 @@ pub fn write_out<K: Sink>(output: &mut String, sink: &mut K) -> Result<(), Stop>
     ensures emptied { OnOk result (string_bytes output.new ≡ []) }
     ensures flushed { OnOk result (IsAllFlushed (K.taken sink.new) (K.flushed sink.new)) }
     ensures err { OnErr result ((n : ℕ) × Appends (K.taken sink.old) (K.taken sink.new) (take n (string_bytes output.old))) }
-    ensures which { IfErr result (λ stop. (stop ≡ Memory) ⊎ (stop ≡ WriteFault)) }
-    ensures later { K.faults sink.old ≤ K.faults sink.new }
-    ensures cause { IsErrOf result WriteFault → HasRisen (K.faults sink.old) (K.faults sink.new) }
+    ensures stop { TellsSinkStop result (K.faults sink.old) (K.faults sink.new) }
 {
     write_all(sink, output.as_bytes())?;
     output.clear();
@@ -117,17 +110,11 @@ pub fn read_all<R: Respond + Drop, S: Source, K: Sink>(
     requires { IsFreshSession session.old }
     ensures ok { IfOk result (λ count.
         HasRead R.responds session.old.responder session.new.responder session.new.line (S.left source.old) (S.left source.new) (K.taken sink.old) (K.taken sink.new) count) }
-    ensures short { IfOk result (λ count. count ≤ 2 ^ 30) }
-    ensures end { OnOk result (IsAtEnd (S.left source.new)) }
-    ensures empty { OnOk result (string_bytes session.new.output ≡ []) }
+    ensures whole { IsReadToEnd result (S.left source.new) (string_bytes session.new.output) }
     ensures err { IfErr result (λ stop.
         HasStopped R.responds session.old.responder stop (S.left source.old) (S.left source.new) (K.taken sink.old) (K.taken sink.new)) }
-    ensures read_later { S.faults source.old ≤ S.faults source.new }
-    ensures write_later { K.faults sink.old ≤ K.faults sink.new }
-    ensures read_cause { IsErrOf result ReadFault → HasRisen (S.faults source.old) (S.faults source.new) }
-    ensures write_cause { IsErrOf result WriteFault → HasRisen (K.faults sink.old) (K.faults sink.new) }
-    ensures flushed_fault { IsErrOf result ReadFault → IsUpToDate K.taken K.flushed sink.old sink.new }
-    ensures flushed_long { IsErrOf result TooLong → IsUpToDate K.taken K.flushed sink.old sink.new }
+    ensures faults { TellsRunFaults result (S.faults source.old) (S.faults source.new) (K.faults sink.old) (K.faults sink.new) }
+    ensures flushed { HasFlushed K.taken K.flushed result sink.old sink.new }
 {
     let mut buffer = [0u8; LONGEST_PIECE];
     let mut count: u64 = 0;
@@ -153,9 +140,7 @@ fn close<K: Sink>(session: &mut Session<Machine>, sink: &mut K) -> Result<(), St
     ensures flushed { OnOk result (IsAllFlushed (K.taken sink.new) (K.flushed sink.new)) }
     ensures err { OnErr result ((s : State) → IsAt session.old.responder s →
         HasPart s session.old.line (K.taken sink.old) (K.taken sink.new)) }
-    ensures which { IfErr result (λ stop. (stop ≡ Memory) ⊎ (stop ≡ WriteFault)) }
-    ensures later { K.faults sink.old ≤ K.faults sink.new }
-    ensures cause { IsErrOf result WriteFault → HasRisen (K.faults sink.old) (K.faults sink.new) }
+    ensures stop { TellsSinkStop result (K.faults sink.old) (K.faults sink.new) }
 {
     session.finish()?;
     write_out(&mut session.output, sink)
@@ -170,18 +155,11 @@ pub fn run<S: Source, K: Sink>(
 ) -> Result<Machine, Stop>
     ensures answered { IfOk result (λ last. (s : State) → IsAt machine s → s.blocks ≡ [] →
         IsAnsweredBy machine s (S.left source.old) (S.left source.new) (K.taken sink.old) (K.taken sink.new) (K.flushed sink.new) last) }
-    ensures stopped { OnErr result ((s : State) → IsAt machine s →
-        IsStopped s (S.left source.old) (S.left source.new) (K.taken sink.old) (K.taken sink.new)) }
+    ensures part { HasRunInPart machine result (S.left source.old) (S.left source.new) (K.taken sink.old) (K.taken sink.new) }
     ensures too_long { IfSome (S.left source.old) (λ input.
         IsErrOf result TooLong ↔ (2 ^ 30 + length (unwrap_or (S.left source.new) []) < length input)) }
-    ensures read_cause { IsErrOf result ReadFault → HasRisen (S.faults source.old) (S.faults source.new) }
-    ensures write_cause { IsErrOf result WriteFault → HasRisen (K.faults sink.old) (K.faults sink.new) }
-    ensures flushed_fault { IsErrOf result ReadFault → IsUpToDate K.taken K.flushed sink.old sink.new }
-    ensures flushed_long { IsErrOf result TooLong → IsUpToDate K.taken K.flushed sink.old sink.new }
-    ensures at_fault { IsErrOf result ReadFault → (s : State) → IsAt machine s →
-        IsInterrupted s 0 (S.left source.old) (S.left source.new) (K.taken sink.old) (K.taken sink.new) }
-    ensures at_length { IsErrOf result TooLong → (s : State) → IsAt machine s →
-        IsInterrupted s 4096 (S.left source.old) (S.left source.new) (K.taken sink.old) (K.taken sink.new) }
+    ensures faults { TellsRunFaults result (S.faults source.old) (S.faults source.new) (K.faults sink.old) (K.faults sink.new) }
+    ensures flushed { HasFlushed K.taken K.flushed result sink.old sink.new }
 {
     let mut session = Session::new(alloc, machine);
     read_all(&mut session, source, sink)?;

@@ -1,23 +1,25 @@
 -- A whole input that is replayed.
 use Rattle.std.proofs.Common.{◌≡◌, ◌≤◌, ◌^◌, ℕ, max, List, [], ◌∷◌, ◌++◌, map, take, drop, inl, inr, Option, Some, None, refl, sym, ◌∙◌, ap, subst, arith, take-append-drop}
 use Rattle.std.proofs.lemmas.List.{append-nil}
-use Rattle.std.specs.Io.KnownBytes.{Appends, Consumes, IsAtEnd}
+use Rattle.std.specs.Io.KnownBytes.{Appends, IsAtEnd}
 use Rattle.dlmalloc_chunks.specs.declared.extent.Extent.{Extent}
 use Rattle.heap_model.specs.declared.answer.Answer.{Answer}
 use Rattle.heap_model.specs.declared.call.Call.{Call}
 use Rattle.heap_model.specs.declared.call.Call.TheVariants.{Extents}
 use Rattle.heap_model.specs.State.{State}
 use Rattle.heap_model.specs.Run.{RunsTo}
+use Rattle.heap_model.proofs.Runs.{calls_on}
 use Rattle.kernel_heap.specs.declared.machine.Machine.{Machine}
 use Rattle.kernel_heap.specs.Steps.{StepsTo}
+use Rattle.kernel_heap.proofs.Steps.{calls_steps_on}
 use Rattle.heap_program.specs.declared.run.Stop.{Stop}
 use Rattle.heap_program.specs.Flushed.{IsAllFlushed}
-use Rattle.heap_program.specs.Headline.{IsReadWhole}
 use Rattle.heap_program.specs.Lines.{items_of}
 use Rattle.heap_program.specs.Progress.{IsAt}
 use Rattle.heap_program.specs.Responses.{HasResponded}
 use Rattle.heap_program.specs.Stop.{HasRead, HasStopped}
 use Rattle.heap_program.proofs.Known.{appends_nothing, consumes_nothing}
+use Rattle.heap_program.proofs.Wholes.{read_whole}
 use Rattle.heap_report.specs.declared.listed.Listed.{Listed}
 use Rattle.heap_report.specs.declared.noted.Noted.{Noted}
 use Rattle.heap_report.specs.Calls.{calls_in, calls_of}
@@ -26,7 +28,7 @@ use Rattle.heap_report.specs.Listed.{IsListed}
 use Rattle.heap_report.specs.Live.{live, peak}
 use Rattle.heap_report.specs.Noting.{IsBegunWith, IsNoted, IsReplaying}
 use Rattle.heap_report.specs.NotingLaws.{replaying_on}
-use Rattle.heap_report.specs.ReplayingLaws.{calls_on, steps_joined, peak-append, peak_end}
+use Rattle.heap_report.specs.ReplayingLaws.{peak-append, peak_end}
 use Rattle.heap_report.specs.Reported.{IsReplayOf, IsTold, IsToldInPart, text_of_run}
 use Rattle.heap_report.proofs.Serving.{begun_follows, none_live}
 
@@ -91,7 +93,7 @@ whole keeps s machine first end listed input at none begins served lists =
         good = e.at.good;
       };
       steps = subst (λ (m : Machine). StepsTo m (map Some (calls_of input)) (map Some (k.answers ++ e.answer ∷ [])) listed.machine) begun.machine_is
-          (steps_joined first.replay.machine end.replay.machine listed.machine calls (Extents ∷ []) k.answers (e.answer ∷ []) k.steps e.steps);
+          (calls_steps_on first.replay.machine end.replay.machine listed.machine calls (Extents ∷ []) k.answers (e.answer ∷ []) k.steps e.steps);
       of_heap = e.of_heap;
       at = e.at;
       live_is = e.live_is;
@@ -114,12 +116,6 @@ text_is keeps text s machine input kept listed extents output before w same push
     ∙ ap (λ (l : List Extent). text listed.machine w.state listed.live listed.peak l calls earlier) same
     ∙ ap (λ (n : ℕ). text listed.machine w.state n listed.peak listed.extents calls earlier) w.live_is
     ∙ ap (λ (n : ℕ). text listed.machine w.state (live w.state) n listed.extents calls earlier) w.peak_is
-
-read_whole : (l l1 : Option (List ℕ)) (bytes : List ℕ) → Consumes l l1 bytes → IsAtEnd l1 → IsReadWhole l l1 bytes
-read_whole None l1 bytes consumed end = tt
-read_whole (Some xs) None bytes consumed end = absurd consumed
-read_whole (Some xs) (Some ys) bytes consumed end =
-    (sym (consumed ∙ ap (λ (l : List ℕ). bytes ++ l) end ∙ append-nil bytes), ap (λ (l : List ℕ). Some l) end)
 
 -- nothing, and then a text
 appends_behind : (a b c : Option (List ℕ)) (ys : List ℕ) → Appends a b [] → Appends b c ys → Appends a c ys

@@ -3,11 +3,12 @@ use Rattle.std.proofs.Common.{◌≡◌, ℕ, List, [], ◌∷◌, ◌++◌, Opt
 use Rattle.std.proofs.lemmas.List.{append-nil}
 use Rattle.heap_model.specs.declared.answer.Answer.{Answer}
 use Rattle.heap_model.specs.declared.call.Call.{Call}
-use Rattle.heap_model.proofs.Runs.{runs_none}
+use Rattle.heap_model.proofs.Runs.{runs_none, calls_on}
+use Rattle.kernel_heap.proofs.Steps.{calls_steps_on}
 use Rattle.heap_report.specs.declared.noted.Noted.{Noted}
 use Rattle.heap_report.specs.Calls.{calls_in}
 use Rattle.heap_report.specs.Noting.{IsNoted, IsReplaying}
-use Rattle.heap_report.specs.ReplayingLaws.{calls_on, steps_joined, peak-append, peak_end}
+use Rattle.heap_report.specs.ReplayingLaws.{peak-append, peak_end}
 
 pub calls_in-append : (a b : List (Option Call)) → calls_in (a ++ b) ≡ calls_in a ++ calls_in b
 calls_in-append [] b = refl
@@ -38,7 +39,7 @@ noted_on keeps x y z a b h k = λ s follows least.
         answers = first.answers ++ last.answers;
         state = last.state;
         run = calls_on s first.state last.state a b first.answers last.answers first.run last.run;
-        steps = steps_joined x.replay.machine y.replay.machine z.replay.machine a b first.answers last.answers first.steps last.steps;
+        steps = calls_steps_on x.replay.machine y.replay.machine z.replay.machine a b first.answers last.answers first.steps last.steps;
         follows = last.follows;
         peak_is = let joined = peak-append s first.state a b first.answers last.answers first.run in omega (arith, last.peak_is, first.peak_is, joined);
       };

@@ -1,31 +1,11 @@
--- Laws of runs, one after another.
-use Rattle.std.proofs.Common.{◌≡◌, ◌≤◌, max, List, [], ◌∷◌, ◌++◌, map, Option, Some, refl, sym, ap, subst, arith}
+-- The peak of runs, one after another.
+use Rattle.std.proofs.Common.{◌≡◌, ◌≤◌, max, List, [], ◌∷◌, ◌++◌, map, Some, ap, arith}
 use Rattle.heap_model.specs.declared.answer.Answer.{Answer}
 use Rattle.heap_model.specs.declared.call.Call.{Call}
 use Rattle.heap_model.specs.State.{State}
 use Rattle.heap_model.specs.Answer.{after}
 use Rattle.heap_model.specs.Run.{RunsTo}
-use Rattle.heap_model.proofs.Runs.{run_on}
-use Rattle.kernel_heap.specs.declared.machine.Machine.{Machine}
-use Rattle.kernel_heap.specs.Steps.{StepsTo}
-use Rattle.kernel_heap.proofs.Steps.{steps_on}
 use Rattle.heap_report.specs.Live.{live, peak}
-
-some-append : {A : Type 0} (a b : List A) → map Some (a ++ b) ≡ map Some a ++ map Some b
-some-append [] b = refl
-some-append (x ∷ a) b = ap (λ (l : List (Option _)). Some x ∷ l) (some-append a b)
-
--- one run after another
-pub calls_on : (s m e : State) (a b : List Call) (x y : List Answer) → RunsTo s (map Some a) (map Some x) m → RunsTo m (map Some b) (map Some y) e → RunsTo s (map Some (a ++ b)) (map Some (x ++ y)) e
-calls_on s m e a b x y h k =
-    subst (λ (items : List (Option Call)). RunsTo s items (map Some (x ++ y)) e) (sym (some-append a b))
-    (subst (λ (answers : List (Option Answer)). RunsTo s (map Some a ++ map Some b) answers e) (sym (some-append x y)) (run_on s m e (map Some a) (map Some b) (map Some x) (map Some y) h k))
-
--- and the steps of both
-pub steps_joined : (x y z : Machine) (a b : List Call) (t u : List Answer) → StepsTo x (map Some a) (map Some t) y → StepsTo y (map Some b) (map Some u) z → StepsTo x (map Some (a ++ b)) (map Some (t ++ u)) z
-steps_joined x y z a b t u h k =
-    subst (λ (items : List (Option Call)). StepsTo x items (map Some (t ++ u)) z) (sym (some-append a b))
-    (subst (λ (answers : List (Option Answer)). StepsTo x (map Some a ++ map Some b) answers z) (sym (some-append t u)) (steps_on x y z (map Some a) (map Some b) (map Some t) (map Some u) h k))
 
 -- the peak is at least what is live at the start
 peak_start : (s : State) (calls : List Call) (answers : List Answer) → live s ≤ peak s calls answers

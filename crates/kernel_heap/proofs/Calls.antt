@@ -1,17 +1,16 @@
 -- Calls, one after the other.
-use Rattle.std.proofs.Common.{List, [], ◌∷◌, ◌++◌, map, Some, Option, refl, sym, subst}
-use Rattle.std.proofs.lemmas.List.{map-append}
+use Rattle.std.proofs.Common.{List, [], ◌∷◌, ◌++◌, Some, refl}
 use Rattle.heap_model.specs.declared.call.Call.{Call}
 use Rattle.heap_model.specs.declared.answer.Answer.{Answer}
 use Rattle.heap_model.specs.declared.config.Config.{Config}
 use Rattle.heap_model.specs.State.{State, start}
 use Rattle.heap_model.specs.Answer.{after}
 use Rattle.heap_model.specs.Run.{RunsTo}
-use Rattle.heap_model.proofs.Runs.{runs_none, run_on}
+use Rattle.heap_model.proofs.Runs.{runs_none, calls_on}
 use Rattle.kernel_heap.specs.Runs.{AreServed}
-use Rattle.kernel_heap.specs.Steps.{IsNewMachine, HasStepped, StepsTo}
+use Rattle.kernel_heap.specs.Steps.{IsNewMachine, HasStepped}
 use Rattle.kernel_heap.specs.declared.machine.Machine.{Machine}
-use Rattle.kernel_heap.proofs.Steps.{step_one, steps_on}
+use Rattle.kernel_heap.proofs.Steps.{step_one, calls_steps_on}
 
 -- no call
 pub served_none : (config : Config) (machine : Machine) → IsNewMachine config machine → AreServed config [] [] machine
@@ -35,18 +34,12 @@ served_more config calls answers old new call answer h stepped =
     let step = stepped.allowed h.state h.good h.stands in
     let next = after h.state call answer in
     let one : RunsTo h.state (Some call ∷ []) (Some answer ∷ []) next = record { run = ((step.allowed, step.good), tt); last = refl } in
-    let items = sym (map-append Some calls (call ∷ [])) in
-    let given = sym (map-append Some answers (answer ∷ [])) in
     record {
       first = h.first;
       new = h.new;
-      steps = subst (λ (items : List (Option Call)). StepsTo h.first items (map Some (answers ++ answer ∷ [])) new) items
-          (subst (λ (given : List (Option Answer)). StepsTo h.first (map Some calls ++ Some call ∷ []) given new) given
-          (steps_on h.first old new (map Some calls) (Some call ∷ []) (map Some answers) (Some answer ∷ []) h.steps (step_one old new call answer stepped)));
+      steps = calls_steps_on h.first old new calls (call ∷ []) answers (answer ∷ []) h.steps (step_one old new call answer stepped);
       state = next;
-      run = subst (λ (items : List (Option Call)). RunsTo s items (map Some (answers ++ answer ∷ [])) next) items
-          (subst (λ (given : List (Option Answer)). RunsTo s (map Some calls ++ Some call ∷ []) given next) given
-          (run_on s h.state next (map Some calls) (Some call ∷ []) (map Some answers) (Some answer ∷ []) h.run one));
+      run = calls_on s h.state next calls (call ∷ []) answers (answer ∷ []) h.run one;
       good = step.good;
       stands = step.stands;
     }

@@ -1,5 +1,6 @@
 -- Steps of a machine, one after another.
-use Rattle.std.proofs.Common.{◌≡◌, ℕ, List, [], ◌∷◌, ◌++◌, Option, Some, None, IfOk, IfErr, Result, Ok, Err, refl, sym, ◌∙◌, ap, subst}
+use Rattle.std.proofs.Common.{◌≡◌, ℕ, List, [], ◌∷◌, ◌++◌, map, Option, Some, None, IfOk, IfErr, Result, Ok, Err, refl, sym, ◌∙◌, ap, subst}
+use Rattle.std.proofs.lemmas.List.{map-append}
 use Rattle.std.specs.Prelude.{OnErr}
 use Rattle.std.specs.declared.alloc.AllocError.{AllocError}
 use Rattle.heap_model.specs.declared.answer.Answer.{Answer}
@@ -62,6 +63,14 @@ steps_on x y z [] b [] u one two = subst (λ (m : Parts). StepsTo m b u z) one t
 steps_on x y z (item ∷ a) b (answer ∷ t) u one two = (one.0, one.1, steps_on one.0 y z a b t u one.2 two)
 steps_on x y z [] b (answer ∷ t) u one two = absurd one
 steps_on x y z (item ∷ a) b [] u one two = absurd one
+
+-- where every item is a call
+pub calls_steps_on : (x y z : Parts) (a b : List Call) (t u : List Answer) → StepsTo x (map Some a) (map Some t) y →
+    StepsTo y (map Some b) (map Some u) z → StepsTo x (map Some (a ++ b)) (map Some (t ++ u)) z
+calls_steps_on x y z a b t u one two =
+    subst (λ (items : List (Option Call)). StepsTo x items (map Some (t ++ u)) z) (sym (map-append Some a b))
+    (subst (λ (answers : List (Option Answer)). StepsTo x (map Some a ++ map Some b) answers z) (sym (map-append Some t u))
+    (steps_on x y z (map Some a) (map Some b) (map Some t) (map Some u) one two))
 
 -- one step
 pub step_one : (x y : Parts) (call : Call) (answer : Answer) → HasStepped x call answer y → StepsTo x (Some call ∷ []) (Some answer ∷ []) y

@@ -1,15 +1,15 @@
 -- A run whose machine is traced, and then shown.
-use Rattle.std.proofs.Common.{◌≡◌, ℕ, List, [], ◌∷◌, ◌++◌, Option, Some, None, refl, sym, ◌∙◌, ap, subst, append_assoc}
+use Rattle.std.proofs.Common.{◌≡◌, ℕ, List, [], ◌∷◌, ◌++◌, Option, refl, sym, ◌∙◌, ap, subst, append_assoc}
 use Rattle.std.proofs.lemmas.List.{append-nil}
-use Rattle.std.specs.Io.KnownBytes.{Appends, Consumes, IsAtEnd}
+use Rattle.std.specs.Io.KnownBytes.{Appends, IsAtEnd}
 use Rattle.heap_model.specs.declared.call.Call.{Call}
 use Rattle.heap_program.specs.Answering.{IsAnswering}
 use Rattle.heap_program.specs.Flushed.{IsAllFlushed}
-use Rattle.heap_program.specs.Headline.{IsReadWhole}
 use Rattle.heap_program.specs.Lines.{items_of}
 use Rattle.heap_program.specs.Responses.{HasResponded}
 use Rattle.heap_program.specs.Stop.{HasRead}
 use Rattle.heap_program.proofs.Known.{appends_more}
+use Rattle.heap_program.proofs.Wholes.{read_whole}
 use Rattle.memory_image.specs.declared.tracing.Traced.{Traced}
 use Rattle.memory_image.specs.Image.{image_text}
 use Rattle.memory_image.specs.Imaged.{IsImaged}
@@ -32,12 +32,6 @@ traced_one x y item before middle after last h is written = record {
     (refl, refl),
   );
 }
-
-read_whole : (l l1 : Option (List ℕ)) (bytes : List ℕ) → Consumes l l1 bytes → IsAtEnd l1 → IsReadWhole l l1 bytes
-read_whole None l1 bytes consumed end = tt
-read_whole (Some xs) None bytes consumed end = absurd consumed
-read_whole (Some xs) (Some ys) bytes consumed end =
-    (sym (consumed ∙ ap (λ (l : List ℕ). bytes ++ l) end ∙ append-nil bytes), ap (λ (l : List ℕ). Some l) end)
 
 -- the last line is answered, and the image stands after all
 pub imaged : (first last end : Traced) (line : List ℕ) (l l1 t t1 t2 : Option (List ℕ)) (flushed : Option ℕ) (n : ℕ)

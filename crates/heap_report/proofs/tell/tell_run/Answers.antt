@@ -39,7 +39,7 @@ returns-in_err-end-clause-part g c = on_err c.from_residual-in_err-end.result (�
     let taken = g.K.Sink.taken in
     part_read g.T.Tell.keeps g.T.Tell.text s c.new-session.result.responder c.read_all.new.session.responder
     c.read_all.new.session.line (left c.args.source.now) (left c.read_all.new.source) (taken c.args.sink.now)
-    (taken c.read_all.new.sink) c.in_ok-read_all.field-0 c.in_ok-read_all.ensures.ok c.in_ok-read_all.ensures.short)
+    (taken c.read_all.new.sink) c.in_ok-read_all.field-0 c.in_ok-read_all.ensures.ok c.in_ok-read_all.ensures.whole.short)
 
 pub returns-in_err-end-clause-silent : goal.returns-in_err-end-clause-silent
 returns-in_err-end-clause-silent g c which =
@@ -55,7 +55,7 @@ returns-in_err-end-clause-too_long g c =
     let h = c.in_ok-read_all.ensures.ok in
     let r = c.from_residual-in_err-end in
     read_long r.result (left c.args.source.now) (left c.read_all.new.source) h.bytes c.in_ok-read_all.field-0
-    (not_long r.result Memory r.ensures.1 (inl refl)) h.consumed h.counted c.in_ok-read_all.ensures.short
+    (not_long r.result Memory r.ensures.1 (inl refl)) h.consumed h.counted c.in_ok-read_all.ensures.whole.short
 
 pub returns-in_err-end-clause-read_cause : goal.returns-in_err-end-clause-read_cause
 returns-in_err-end-clause-read_cause g c is less = absurd (not_read c.from_residual-in_err-end.result Memory c.from_residual-in_err-end.ensures.1 (inl refl) is)
@@ -67,7 +67,7 @@ returns-in_err-listed-clause-part g c = on_err c.from_residual-in_err-listed.res
     let taken = g.K.Sink.taken in
     part_read g.T.Tell.keeps g.T.Tell.text s c.new-session.result.responder c.read_all.new.session.responder
     c.read_all.new.session.line (left c.args.source.now) (left c.read_all.new.source) (taken c.args.sink.now)
-    (taken c.read_all.new.sink) c.in_ok-read_all.field-0 c.in_ok-read_all.ensures.ok c.in_ok-read_all.ensures.short)
+    (taken c.read_all.new.sink) c.in_ok-read_all.field-0 c.in_ok-read_all.ensures.ok c.in_ok-read_all.ensures.whole.short)
 
 pub returns-in_err-listed-clause-silent : goal.returns-in_err-listed-clause-silent
 returns-in_err-listed-clause-silent g c which =
@@ -83,7 +83,7 @@ returns-in_err-listed-clause-too_long g c =
     let h = c.in_ok-read_all.ensures.ok in
     let r = c.from_residual-in_err-listed in
     read_long r.result (left c.args.source.now) (left c.read_all.new.source) h.bytes c.in_ok-read_all.field-0
-    (not_long r.result Memory r.ensures.1 (inl refl)) h.consumed h.counted c.in_ok-read_all.ensures.short
+    (not_long r.result Memory r.ensures.1 (inl refl)) h.consumed h.counted c.in_ok-read_all.ensures.whole.short
 
 pub returns-in_err-listed-clause-read_cause : goal.returns-in_err-listed-clause-read_cause
 returns-in_err-listed-clause-read_cause g c is less = absurd (not_read c.from_residual-in_err-listed.result Memory
@@ -96,7 +96,7 @@ returns-in_err-push-clause-part g c = on_err c.from_residual-in_err-push.result 
     let taken = g.K.Sink.taken in
     part_read g.T.Tell.keeps g.T.Tell.text s c.new-session.result.responder c.read_all.new.session.responder
     c.read_all.new.session.line (left c.args.source.now) (left c.read_all.new.source) (taken c.args.sink.now)
-    (taken c.read_all.new.sink) c.in_ok-read_all.field-0 c.in_ok-read_all.ensures.ok c.in_ok-read_all.ensures.short)
+    (taken c.read_all.new.sink) c.in_ok-read_all.field-0 c.in_ok-read_all.ensures.ok c.in_ok-read_all.ensures.whole.short)
 
 pub returns-in_err-push-clause-silent : goal.returns-in_err-push-clause-silent
 returns-in_err-push-clause-silent g c which =
@@ -112,7 +112,7 @@ returns-in_err-push-clause-too_long g c =
     let h = c.in_ok-read_all.ensures.ok in
     let r = c.from_residual-in_err-push in
     read_long r.result (left c.args.source.now) (left c.read_all.new.source) h.bytes c.in_ok-read_all.field-0
-    (not_long r.result Memory r.ensures.1 (inl refl)) h.consumed h.counted c.in_ok-read_all.ensures.short
+    (not_long r.result Memory r.ensures.1 (inl refl)) h.consumed h.counted c.in_ok-read_all.ensures.whole.short
 
 pub returns-in_err-push-clause-read_cause : goal.returns-in_err-push-clause-read_cause
 returns-in_err-push-clause-read_cause g c is less = absurd (not_read c.from_residual-in_err-push.result Memory
@@ -137,7 +137,7 @@ returns-in_err-write_out-clause-part g c = on_err c.from_residual-in_err-write_o
     part_written g.T.Tell.keeps g.T.Tell.text s c.args.machine first last.responder end.kept listed last.line
     (string_bytes c.push.new.output) (left c.args.source.now) (left c.read_all.new.source) (taken c.args.sink.now)
     (taken c.read_all.new.sink) (taken c.write_out.new.sink) c.in_ok-read_all.field-0 part.0
-    h c.in_ok-read_all.ensures.short c.in_ok-read_all.ensures.end w (text_is g.T.Tell.keeps g.T.Tell.text s c.args.machine
+    h c.in_ok-read_all.ensures.whole.short c.in_ok-read_all.ensures.whole.end w (text_is g.T.Tell.keeps g.T.Tell.text s c.args.machine
     h.bytes end.kept listed c.as_slice.result.now (string_bytes c.push.new.output) (string_bytes c.new-output.result) w
     c.as_slice.ensures c.in_ok-push.ensures (search rules)) part.1)
 
@@ -145,8 +145,8 @@ pub returns-in_err-write_out-clause-silent : goal.returns-in_err-write_out-claus
 returns-in_err-write_out-clause-silent g c which =
     let r = c.from_residual-in_err-write_out in
     absurd (elim which [
-      | inl read ↦ not_read r.result c.in_err-write_out.field-0.0 r.ensures.1 c.in_err-write_out.ensures.which read
-      | inr long ↦ not_long r.result c.in_err-write_out.field-0.0 r.ensures.1 c.in_err-write_out.ensures.which long
+      | inl read ↦ not_read r.result c.in_err-write_out.field-0.0 r.ensures.1 c.in_err-write_out.ensures.stop.which read
+      | inr long ↦ not_long r.result c.in_err-write_out.field-0.0 r.ensures.1 c.in_err-write_out.ensures.stop.which long
     ])
 
 pub returns-in_err-write_out-clause-too_long : goal.returns-in_err-write_out-clause-too_long
@@ -155,13 +155,13 @@ returns-in_err-write_out-clause-too_long g c =
     let h = c.in_ok-read_all.ensures.ok in
     let r = c.from_residual-in_err-write_out in
     read_long r.result (left c.args.source.now) (left c.read_all.new.source) h.bytes c.in_ok-read_all.field-0
-    (not_long r.result c.in_err-write_out.field-0.0 r.ensures.1 c.in_err-write_out.ensures.which) h.consumed h.counted
-    c.in_ok-read_all.ensures.short
+    (not_long r.result c.in_err-write_out.field-0.0 r.ensures.1 c.in_err-write_out.ensures.stop.which) h.consumed h.counted
+    c.in_ok-read_all.ensures.whole.short
 
 pub returns-in_err-write_out-clause-read_cause : goal.returns-in_err-write_out-clause-read_cause
 returns-in_err-write_out-clause-read_cause g c is less =
     let r = c.from_residual-in_err-write_out in
-    absurd (not_read r.result c.in_err-write_out.field-0.0 r.ensures.1 c.in_err-write_out.ensures.which is)
+    absurd (not_read r.result c.in_err-write_out.field-0.0 r.ensures.1 c.in_err-write_out.ensures.stop.which is)
 
 -- it was written
 pub returns-clause-told : goal.returns-clause-told
@@ -182,7 +182,7 @@ returns-clause-told g c s at none =
     (string_bytes c.push.new.output) (left c.args.source.now) (left c.read_all.new.source) (taken c.args.sink.now)
     (taken c.read_all.new.sink) (taken c.write_out.new.sink) (g.K.Sink.flushed c.write_out.new.sink)
     c.in_ok-read_all.field-0
-    h c.in_ok-read_all.ensures.end w (text_is g.T.Tell.keeps g.T.Tell.text s c.args.machine h.bytes end.kept listed
+    h c.in_ok-read_all.ensures.whole.end w (text_is g.T.Tell.keeps g.T.Tell.text s c.args.machine h.bytes end.kept listed
     c.as_slice.result.now (string_bytes c.push.new.output) (string_bytes c.new-output.result) w c.as_slice.ensures
     c.in_ok-push.ensures (search rules)) c.in_ok-write_out.ensures.ok c.in_ok-write_out.ensures.flushed
 
@@ -191,7 +191,7 @@ returns-clause-too_long g c =
     let left = g.S.Source.left in
     let h = c.in_ok-read_all.ensures.ok in
     read_long (Ok c.in_ok-listed.listed) (left c.args.source.now) (left c.read_all.new.source) h.bytes
-    c.in_ok-read_all.field-0 (λ is. cc) h.consumed h.counted c.in_ok-read_all.ensures.short
+    c.in_ok-read_all.field-0 (λ is. cc) h.consumed h.counted c.in_ok-read_all.ensures.whole.short
 
 -- the extents that the run leaves are those of a heap
 pub push-requires : goal.push-requires

@@ -23,7 +23,7 @@ returns-in_err-end-clause-too_long g c =
     let r = c.from_residual-in_err-end in
     stop_long (left c.args.source.now) (left c.read_all.new.source) r.result Memory r.ensures.1
     (late_long (left c.args.source.now) (left c.read_all.new.source) h.bytes c.in_ok-read_all.field-0 h.consumed h.counted
-    c.in_ok-read_all.ensures.short Memory (inl refl))
+    c.in_ok-read_all.ensures.whole.short Memory (inl refl))
 
 pub returns-in_err-end-clause-read_cause : goal.returns-in_err-end-clause-read_cause
 returns-in_err-end-clause-read_cause g c is less = absurd (sink_isnt Memory (inl refl)
@@ -37,7 +37,7 @@ returns-in_err-push_image-clause-too_long g c =
     let r = c.from_residual-in_err-push_image in
     stop_long (left c.args.source.now) (left c.read_all.new.source) r.result Memory r.ensures.1
     (late_long (left c.args.source.now) (left c.read_all.new.source) h.bytes c.in_ok-read_all.field-0 h.consumed h.counted
-    c.in_ok-read_all.ensures.short Memory (inl refl))
+    c.in_ok-read_all.ensures.whole.short Memory (inl refl))
 
 pub returns-in_err-push_image-clause-read_cause : goal.returns-in_err-push_image-clause-read_cause
 returns-in_err-push_image-clause-read_cause g c is less = absurd (sink_isnt Memory (inl refl)
@@ -52,11 +52,11 @@ returns-in_err-write_out-clause-too_long g c =
     let r = c.from_residual-in_err-write_out in
     stop_long (left c.args.source.now) (left c.read_all.new.source) r.result stop r.ensures.1
     (late_long (left c.args.source.now) (left c.read_all.new.source) h.bytes c.in_ok-read_all.field-0 h.consumed h.counted
-    c.in_ok-read_all.ensures.short stop c.in_err-write_out.ensures.which)
+    c.in_ok-read_all.ensures.whole.short stop c.in_err-write_out.ensures.stop.which)
 
 pub returns-in_err-write_out-clause-read_cause : goal.returns-in_err-write_out-clause-read_cause
 returns-in_err-write_out-clause-read_cause g c is less =
-    absurd (sink_isnt c.in_err-write_out.field-0.0 c.in_err-write_out.ensures.which
+    absurd (sink_isnt c.in_err-write_out.field-0.0 c.in_err-write_out.ensures.stop.which
     (stop_is c.from_residual-in_err-write_out.result c.in_err-write_out.field-0.0 ReadFault
     c.from_residual-in_err-write_out.ensures.1 is))
 
@@ -73,7 +73,7 @@ returns-clause-imaged g c =
     c.read_all.new.session.line (left c.args.source.now) (left c.read_all.new.source) (taken c.args.sink.now)
     (taken c.read_all.new.sink) (taken c.write_out.new.sink) (g.K.Sink.flushed c.write_out.new.sink)
     c.in_ok-read_all.field-0 _ _ _
-    c.in_ok-read_all.ensures.ok c.in_ok-read_all.ensures.end c.in_ok-read_all.ensures.empty c.in_ok-end.ensures
+    c.in_ok-read_all.ensures.ok c.in_ok-read_all.ensures.whole.end c.in_ok-read_all.ensures.whole.empty c.in_ok-end.ensures
     c.in_ok-push_image.ensures c.in_ok-write_out.ensures.ok c.in_ok-write_out.ensures.flushed)
 
 pub returns-clause-too_long : goal.returns-clause-too_long
@@ -81,4 +81,4 @@ returns-clause-too_long g c =
     let left = g.S.Source.left in
     let h = c.in_ok-read_all.ensures.ok in
     ok_long c.end.new.self.responder.machine (left c.args.source.now) (left c.read_all.new.source) h.bytes
-    c.in_ok-read_all.field-0 h.consumed h.counted c.in_ok-read_all.ensures.short
+    c.in_ok-read_all.field-0 h.consumed h.counted c.in_ok-read_all.ensures.whole.short
