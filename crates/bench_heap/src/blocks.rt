@@ -6,7 +6,7 @@ use sound_heap::Heap;
 use std::alloc::{AllocError, Global};
 use std::io;
 
-/// A system that gives room for so many blocks of 100 bytes, and 1 MiB more.
+/// A system that gives room for this number of blocks of 100 bytes, and 1 MiB more.
 fn system_for(alloc: Global, blocks: u32) -> Result<FlatSystem, AllocError> {
     let mut script = Vec::new(alloc);
     script.push(FlatStep::Give {
@@ -17,7 +17,7 @@ fn system_for(alloc: Global, blocks: u32) -> Result<FlatSystem, AllocError> {
     FlatSystem::new(alloc, script, true, true, 4096)
 }
 
-/// Asks for so many blocks of 100 bytes, and answers how many were given.
+/// Asks for this number of blocks of 100 bytes, and answers how many were given.
 fn give<A: Allocator>(heap: &mut Heap<A>, blocks: u32) -> u32 {
     let mut given = 0u32;
     for _ in 0..blocks {
@@ -40,7 +40,7 @@ fn give_and_free<A: Allocator>(heap: &mut Heap<A>, rounds: u32) -> u32 {
     given
 }
 
-/// How many words a block is given and freed by, beside so many others.
+/// How many words a block is given and freed by, beside this number of others.
 fn words_of_a_pair(alloc: Global, blocks: u32) -> Result<u64, AllocError> {
     const ROUNDS: u32 = 512;
     let mut heap = Heap::new(Counted::new(system_for(alloc, blocks)?));
@@ -51,7 +51,7 @@ fn words_of_a_pair(alloc: Global, blocks: u32) -> Result<u64, AllocError> {
     Ok(words / u64::from(ROUNDS))
 }
 
-/// Measures beside so many live blocks.
+/// Measures beside this number of live blocks.
 pub(crate) fn measure(rt: &HostRuntime, blocks: u32) -> io::Result<()> {
     let rounds = 1_000;
     let mut heap = Heap::new(system_for(rt.alloc(), blocks)?);

@@ -12,7 +12,7 @@ const CONFIG: Config = Config {
     rate: 4095,
 };
 
-/// Makes a call so many times, and answers how often it was not refused.
+/// Makes a call in each round, and answers how often it was not refused.
 fn repeat(machine: &mut Machine, call: &Call, rounds: u32) -> Result<u32, AllocError> {
     let mut served = 0u32;
     for _ in 0..rounds {
@@ -24,7 +24,7 @@ fn repeat(machine: &mut Machine, call: &Call, rounds: u32) -> Result<u32, AllocE
     Ok(served)
 }
 
-/// Asks for a block so many times, ends it each time, and answers how often it was given.
+/// Asks for a block in each round, ends it each time, and answers how often it was given.
 fn repeat_and_free(machine: &mut Machine, call: &Call, rounds: u32) -> Result<u32, AllocError> {
     let mut given = 0u32;
     for _ in 0..rounds {
@@ -74,7 +74,7 @@ fn write_of(alloc: Global) -> Result<Call, AllocError> {
     })
 }
 
-/// Measures beside so many live blocks.
+/// Measures beside this number of live blocks.
 pub(crate) fn measure(rt: &HostRuntime, blocks: u32) -> io::Result<()> {
     let alloc = rt.alloc();
     let Ok(mut machine) = Machine::new(alloc, &CONFIG) else {

@@ -13,7 +13,7 @@ fn place_of(number: u64) -> u64
     0x1000_0000 + 8192 * number
 }
 
-/// Maps so many regions, in an order in which neighbours come far apart, and answers how many were mapped.
+/// Maps `count` regions, in an order in which neighbours come far apart, and answers how many were mapped.
 fn map_all(memory: &mut MappedRegions, count: u32) -> u32
     requires { count ≤ 2 ^ 20 }
 {
@@ -27,7 +27,7 @@ fn map_all(memory: &mut MappedRegions, count: u32) -> u32
     mapped
 }
 
-/// Maps and unmaps a region of so many pages, and answers how often both were served.
+/// Maps and unmaps a region of `pages` pages, and answers how often both were served.
 pub(crate) fn map_and_unmap(
     memory: &mut MappedRegions,
     start: u64,
@@ -43,7 +43,7 @@ pub(crate) fn map_and_unmap(
     served
 }
 
-/// Measures beside so many regions, behind all of them.
+/// Measures beside `count` regions, behind all of them.
 pub(crate) fn measure(rt: &HostRuntime, count: u32) -> io::Result<()>
     requires { count ≤ 2 ^ 20 }
 {

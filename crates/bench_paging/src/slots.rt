@@ -15,14 +15,14 @@ const FIRST: u64 = 0x4000_0000;
 /// How often the pages are mapped and unmapped.
 const ROUNDS: u32 = 20;
 
-/// How many words are put into so many pages: a million, but for few pages.
+/// How many words are put into this number of pages: a million, but for few pages.
 fn words_for(pages: u32) -> u32
     requires few { pages ≤ 2 ^ 20 }
 {
     (2_000 * pages).min(1_000_000)
 }
 
-/// Maps and unmaps the first page of so many slots: each has a table from then on, and is no large page any more.
+/// Maps and unmaps the first page of each of these slots: each has a table from then on, and is no large page any more.
 fn make_tables(memory: &mut MappedRegions, slots: u64)
     requires { slots ≤ 2 ^ 20 }
 {
@@ -31,7 +31,7 @@ fn make_tables(memory: &mut MappedRegions, slots: u64)
     }
 }
 
-/// The place of a word in so many pages: each is a page and a word behind the one before.
+/// The place of a word in this number of pages: each is a page and a word behind the one before.
 fn place_of(number: u32, pages: u32) -> u64
     requires some { 0 < pages }
     requires few { pages ≤ 2 ^ 20 }
@@ -97,7 +97,7 @@ fn measure_region(rt: &HostRuntime, memory: &mut MappedRegions, pages: u32) -> i
     )
 }
 
-/// Measures a region of so many pages with large pages, and then without.
+/// Measures a region of this number of pages with large pages, and then without.
 pub(crate) fn measure(rt: &HostRuntime, pages: u32) -> io::Result<()>
     requires some { 0 < pages }
     requires few { pages ≤ 2 ^ 20 }

@@ -18,7 +18,7 @@ fn refused(_fault: SpaceFault) -> io::Error {
     io::Error::from(io::ErrorKind::Unsupported)
 }
 
-/// Maps so many areas of one page, with a page between each two.
+/// Maps this number of areas of one page, with a page between each two.
 fn map_areas(space: &mut Space, areas: u32) -> Result<(), SpaceFault> {
     for area in 0..areas {
         space.map_at(AREAS + 8192 * u64::from(area), 1, DATA)?;
@@ -64,7 +64,7 @@ fn load(space: &Space, at: u64, length: u64, rounds: u32) -> Result<(), SpaceFau
     Ok(())
 }
 
-/// Calls on so many pages, behind one round that is not counted.
+/// Calls on `pages` pages, behind one round that is not counted.
 fn measure_pages(rt: &HostRuntime, space: &mut Space, pages: u64, rounds: u32) -> io::Result<()> {
     map_and_unmap(space, pages, 1).map_err(refused)?;
     let watch = Watch::start(rt)?;
@@ -98,7 +98,7 @@ fn measure_bytes(rt: &HostRuntime, space: &mut Space, at: u64, rounds: u32) -> i
     eprintln!(rt; "  4096 bytes from {at:#x} on: store {store:?}, load {load:?}")
 }
 
-/// Measures a space with so many areas.
+/// Measures a space with this number of areas.
 pub(crate) fn measure(rt: &HostRuntime, areas: u32) -> io::Result<()>
     requires { areas ≤ 2 ^ 20 }
 {

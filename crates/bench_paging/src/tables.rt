@@ -71,7 +71,7 @@ fn measure_calls(
     )
 }
 
-/// Measures so many pages, over frames of which 1,000 more than the pages are there.
+/// Measures this number of pages, over frames of which there are 1,000 more.
 pub(crate) fn measure(rt: &HostRuntime, pages: u32) -> io::Result<()>
     requires some { 0 < pages }
     requires few { pages ≤ 2 ^ 20 }

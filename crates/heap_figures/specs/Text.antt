@@ -22,11 +22,11 @@ line_text before behind line = before ++ (line ++ behind)
 abbrev pub class_text : List ℕ → List ℕ → List ℕ → ℕ → ℕ → List ℕ
 class_text before behind word class count = if nat_eq count 0 then [] else line_text before behind (two_text word class count)
 
--- the small classes by ascending size, below so many bytes
+-- the small classes by ascending size, below this number of bytes
 unfoldable pub small_texts : List ℕ → List ℕ → List Extent → ℕ → List ℕ
 small_texts before behind extents sizes = flat_map (λ size. class_text before behind (codes "small") size (small_count size extents)) (range_with_len 0 sizes)
 
--- the first so many tree bins, by ascending index
+-- this number of tree bins from the first on, by ascending index
 unfoldable pub tree_texts : List ℕ → List ℕ → List Extent → ℕ → List ℕ
 tree_texts before behind extents bins = flat_map (λ index. class_text before behind (codes "tree") index (tree_count index extents)) (range_with_len 0 bins)
 

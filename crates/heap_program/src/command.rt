@@ -83,7 +83,7 @@ pub fn heap_main<S: Source, K: Sink>(
     ensures generated { (seed count : ℕ) (config : Config) → command_of words.now ≡ Some (Generate seed count config) →
         IsGenerationDone (streams S.left S.faults K.taken K.flushed K.faults) seed count config source.old source.new sink.old sink.new result }
 
-    // The answers of both are steps of one new machine, so all that a step promises holds of each.
+    // At status 0 the answers of both are steps of one new machine, so all that a step promises holds of each.
     ensures steps { AreSteps (streams S.left S.faults K.taken K.flushed K.faults) (command_of words.now) source.old source.new sink.old sink.new result.machine }
 
     // When each status comes, and what was not touched then.

@@ -1,14 +1,13 @@
 // A run over calls that are drawn.
-ghost use Rattle.std.specs.Prelude.{◌≡◌, ◌≤◌, ◌<◌, ◌+◌, ◌^◌, ◌⊎◌, IfOk, IfErr, OnOk, OnErr, IsErrOf, ◌↔◌, IsSome, IfSome};
+ghost use Rattle.std.specs.Prelude.{◌≡◌, ◌≤◌, ◌<◌, ◌+◌, ◌^◌, IfOk, OnOk, OnErr, ◌↔◌, IsSome, IfSome};
 ghost use Rattle.heap_model.specs.State.{State, start};
 ghost use Rattle.heap_program.specs.Drawing.{HasDrawnOne, HasDrawn};
-ghost use Rattle.heap_program.specs.Faults.{HasRisen};
 ghost use Rattle.heap_program.specs.Generated.{IsGenerationStopped};
 ghost use Rattle.heap_program.specs.Generator.{first_state, numbers_given, refusals};
+ghost use Rattle.heap_program.specs.Outcomes.{TellsSinkStop};
 ghost use Rattle.heap_program.specs.Status.{IsGenerationStatus};
 ghost use Rattle.heap_program.specs.Progress.{IsAt};
 ghost use Rattle.heap_program.specs.Stepped.{IsGeneratedBy, IsGeneratedByNew};
-ghost use Rattle.heap_program.specs.declared.run.Stop.TheVariants.{Memory, WriteFault};
 
 use crate::ended::{Ended, ended_early, refusal_status, status_of};
 use crate::generator::{first_state, next_call};
@@ -110,8 +109,7 @@ fn generate<K: Sink>(
     ensures generated { IfOk result (λ last. (s : State) → IsAt machine s →
         IsGeneratedBy machine s seed count (K.taken sink.old) (K.taken sink.new) (K.flushed sink.new) last) }
     ensures stopped { OnErr result ((s : State) → IsAt machine s → IsGenerationStopped s seed count (K.taken sink.old) (K.taken sink.new)) }
-    ensures which { IfErr result (λ stop. (stop ≡ Memory) ⊎ (stop ≡ WriteFault)) }
-    ensures write_cause { IsErrOf result WriteFault → HasRisen (K.faults sink.old) (K.faults sink.new) }
+    ensures faults { TellsSinkStop result (K.faults sink.old) (K.faults sink.new) }
 {
     let mut drawing = Drawing::new(alloc, machine, seed);
     drawing.draw_calls(count)?;

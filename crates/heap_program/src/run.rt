@@ -92,7 +92,7 @@ pub fn write_out<K: Sink>(output: &mut String, sink: &mut K) -> Result<(), Stop>
     ensures emptied { OnOk result (string_bytes output.new ≡ []) }
     ensures flushed { OnOk result (IsAllFlushed (K.taken sink.new) (K.flushed sink.new)) }
     ensures err { OnErr result ((n : ℕ) × Appends (K.taken sink.old) (K.taken sink.new) (take n (string_bytes output.old))) }
-    ensures stop { TellsSinkStop result (K.faults sink.old) (K.faults sink.new) }
+    ensures faults { TellsSinkStop result (K.faults sink.old) (K.faults sink.new) }
 {
     write_all(sink, output.as_bytes())?;
     output.clear();
@@ -140,7 +140,7 @@ fn close<K: Sink>(session: &mut Session<Machine>, sink: &mut K) -> Result<(), St
     ensures flushed { OnOk result (IsAllFlushed (K.taken sink.new) (K.flushed sink.new)) }
     ensures err { OnErr result ((s : State) → IsAt session.old.responder s →
         HasPart s session.old.line (K.taken sink.old) (K.taken sink.new)) }
-    ensures stop { TellsSinkStop result (K.faults sink.old) (K.faults sink.new) }
+    ensures faults { TellsSinkStop result (K.faults sink.old) (K.faults sink.new) }
 {
     session.finish()?;
     write_out(&mut session.output, sink)

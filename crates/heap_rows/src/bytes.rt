@@ -31,7 +31,7 @@ fn has(machine: &mut Machine, block: u64, offset: u64, bytes: &[u8]) -> Result<b
     }
 }
 
-/// So many bytes, none of value 0 or 255, of which two that are eight or 4096 apart differ.
+/// This number of bytes, none of value 0 or 255, of which two that are eight or 4096 apart differ.
 fn numbered(alloc: Global, count: u64) -> Result<Vec<u8>, AllocError> {
     let mut bytes = Vec::new(alloc);
     for k in 0..count {

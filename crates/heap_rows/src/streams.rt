@@ -65,7 +65,7 @@ fn each_piece_is_flushed(rt: HostRuntime) -> Result<(), Fail> {
     Ok(())
 }
 
-/// Looks for the row's output where the source and the sink take pieces of so many bytes.
+/// Looks for the row's output where the source and the sink take pieces of `piece` bytes.
 fn expect_in_pieces(rt: &impl Abort, alloc: Global, row: &Row, piece: u64) -> Result<(), Fail>
     requires { 0 < piece }
 {

@@ -10,7 +10,7 @@ use std::test::Fail;
 /// A request, a map behind the place of its grant, and a greater request, over a window of 64 pages.
 const CALLS: &str = "malloc 100\nmap 0x410000 1 rw--\nmalloc 70000\n";
 
-/// What is printed over so many frames, from the least to the most, before the last line; and how many of them are taken
+/// What is printed over each number of frames from the least to the most, before the last line; and how many are taken
 /// at the end, of which some are tables.
 struct Frames {
     least: u32,
@@ -60,7 +60,7 @@ const FRAMES: [Frames; 5] = [
     },
 ];
 
-/// Looks for what is printed over so many frames.
+/// Looks for what is printed over this number of frames.
 fn expect_over(rt: &impl Abort, alloc: Global, row: &Frames, frames: u32) -> Result<(), Fail> {
     let number = format!(in alloc; "{frames}")?;
     let output = format!(in alloc;

@@ -16,7 +16,8 @@ pub struct Line {
     pub end: u64,
     /// The first frame.
     pub frame: u64,
-    /// Whose the page `page` is, and each other page that is mapped there.
+    /// The owner of the page `page`. If the pages of each large page have one owner, every page that is mapped there has
+    /// this owner.
     pub owner: Owner,
     /// What all entries on the way grant.
     pub rights: Rights,

@@ -16,7 +16,7 @@ pub record IsLonger (old new : FlatWindow) : Type 0 where
   pub base : new.base ≡ old.base
   pub covered : (at : ℕ) → IsCovered old at → IsCovered new at
 
--- so many words from an address on are now those that are told of their places, and every other word stays
+-- `count` words from an address on are now those that are told of their places, and every other word stays
 pub record ArePutAt (old new : FlatWindow) (at count : ℕ) (told : ℕ → ℕ) : Type 0 where
   pub longer : IsLonger old new
   pub here : (k : ℕ) → k % 8 ≡ 0 → at ≤ k → k < at + 8 * count → flat_word new k ≡ told k

@@ -37,24 +37,24 @@ pub record IsNew (p : Paged) (base pages frames : ℕ) : Type 0 where
   pub no_larges : (number : ℕ) → large_of p.words p.root number ≡ None
   pub unmapped : (page : ℕ) → walk_of p.words p.root page ≡ None
 
--- So many pages have their place at an address, and there are frames for them and the tables that they lack.
+-- `pages` pages have their place at an address, and there are frames for them and the tables that they lack.
 pub record CanGrant (p : Paged) (pages address : ℕ) : Type 0 where
   pub some : 0 < pages
   pub place : IsPlace p.base p.pages p.regions pages address
   pub frames : pages + missing_of p.words p.root (address / 4096) pages ≤ free_count p.free
 
--- Why so many pages cannot be granted: they have no place; or they have one, and there are too few free frames for them
+-- Why a number of pages cannot be granted: they have no place; or they have one, and there are too few free frames for them
 -- and the tables that they lack.
 abbrev pub LacksPlaceOrFrames : Paged → ℕ → GrantFault → Type 0
 LacksPlaceOrFrames p pages NoSpace = HasNoPlace p.base p.pages p.regions pages
 LacksPlaceOrFrames p pages NoFrames = (address : ℕ) × IsPlace p.base p.pages p.regions pages address × (free_count p.free < pages + missing_of p.words p.root (address / 4096) pages)
 LacksPlaceOrFrames p pages OutOfMemory = ⊥
 
--- Why a request for so many bytes may be denied. Want of the host's memory may come at any time.
+-- Why a request for a number of bytes may be denied. Want of the host's memory may come at any time.
 abbrev pub MayDeny : Paged → ℕ → GrantFault → Type 0
 MayDeny p asked fault = fault ≢ OutOfMemory → LacksPlaceOrFrames p (pages_in asked) fault
 
--- So many pages were granted at an address, and their region joined the others. Slots that lie whole in it and had no table were
+-- `pages` pages were granted at an address, and their region joined the others. Slots that lie whole in it and had no table were
 -- mapped by one entry each, as long as a run of frames was free.
 pub record IsGranted (old new : Paged) (pages address : ℕ) : Type 0 where
   pub grant : IsPagedGrant old new address pages
@@ -62,7 +62,7 @@ pub record IsGranted (old new : Paged) (pages address : ℕ) : Type 0 where
   pub joins : new.joins ≡ (old.joins + 1) % 2 ^ 64
   pub regions : new.regions ≡ with_region (heap_region address pages) old.regions
 
--- A request of so many bytes was granted: its pages had a place and frames, and they are the grant.
+-- A request for a number of bytes was granted: its pages had a place and frames, and they are the grant.
 pub record IsGrantedFor (old new : Paged) (asked : ℕ) (grant : Grant) : Type 0 where
   pub can : CanGrant old (pages_in asked) grant.base
   pub granted : IsGranted old new (pages_in asked) grant.base

@@ -52,7 +52,7 @@ pub record IsKeptBeside (old new : Dlmalloc PagedSystem) : Type 0 where
   pub regions_same : regions new.system ≡ regions old.system
   pub still : IsStill old new
 
--- A refused call leaves the heap: the heap refused it so many bytes, or was not asked.
+-- A refused call leaves the heap: the heap refused it `size` bytes, or was not asked.
 abbrev pub IsLeft : Dlmalloc PagedSystem → ℕ → Refusal → Dlmalloc PagedSystem → Type 0
 IsLeft old size why new = MatchOption (error_of why) (new ≡ old) (λ error. IsRefusedWith regions word follows refuses denies old size error new)
 

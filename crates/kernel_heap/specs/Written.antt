@@ -8,11 +8,11 @@ use Rattle.heap_model.specs.Machine.{Paged, OnlyHeapBytesChange}
 use Rattle.kernel_heap.specs.Words.{grants_of}
 use Rattle.mapped_regions.specs.Mapped.{word_reached}
 
--- so many bytes from an address lie in regions of the heap
+-- `count` bytes from an address on lie in regions of the heap
 abbrev pub AreInside : Paged → ℕ → ℕ → Type 0
 AreInside p address count = (k : ℕ) → address ≤ k → k < address + count → IsTrue (is_granted (grants_of p) k)
 
--- the first so many of these bytes were put at an address, and every other byte of the regions stays, and every word
+-- the first `count` of these bytes were put at an address, and every other byte of the regions stays, and every word
 -- that has none of them
 pub record IsWritten (old new : Paged) (address : ℕ) (bytes : List ℕ) (count : ℕ) : Type 0 where
   pub still : OnlyHeapBytesChange old new
@@ -34,7 +34,7 @@ pub record ArePut (regions : List Grant) (old : ℕ → ℕ) (at : ℕ) (words :
 abbrev pub AreLoaded : (ℕ → ℕ) → ℕ → List ℕ → Type 0
 AreLoaded word at words = (k : ℕ) → k < length words → slice_index words k ≡ word (at + 8 * k)
 
--- so many words of the regions stand from an address on, at least one, and all in one page
+-- `count` words of the regions stand from an address on, at least one, and all in one page
 pub record AreInPage (p : Paged) (at count : ℕ) : Type 0 where
   pub words : AreWordsOf (grants_of p) at count
   pub some : 0 < count

@@ -17,7 +17,7 @@ use heap_model::{Answer, Call, Refusal, Reply};
 use std::alloc::AllocError;
 
 impl NumberedHeap {
-    /// The address of the byte at an offset of a live block, where so many bytes from there lie in the block.
+    /// The address of the byte at an offset of a live block, where `count` bytes from there lie in the block.
     fn find_bytes(&self, number: u64, offset: u64, count: u64) -> Result<u64, Refusal>
         requires sound { IsSound self.now }
         ensures ok { IfOk result (λ address. HasBytes self.now.blocks.items number offset count address) }

@@ -15,7 +15,7 @@ const LOWER_END: u64 = 1 << 47;
 /// The first address of the upper canonical half.
 const UPPER_START: u64 = 0xffff_8000_0000_0000;
 
-/// Whether a window of so many pages from an address may be used.
+/// Whether a window of `pages` pages from an address may be used.
 fn is_good_window(base: u64, pages: u64) -> bool
     ensures { IsTrue result ↔ IsGoodWindow base pages }
 {

@@ -52,7 +52,7 @@ impl PagedSystem {
         Ok(())
     }
 
-    /// Reads so many words behind the first `done` bytes from the address on, each by one walk.
+    /// Reads `words` words behind the first `done` bytes from the address on, each by one walk.
     fn read_words(
         &self,
         address: u64,

@@ -28,7 +28,7 @@ fn heap_rights() -> Rights
     }
 }
 
-/// The pages that hold so many bytes.
+/// How many pages hold this number of bytes.
 #[tactic(auto, unfolding(heap_model::specs::Request::pages_in))]
 pub(crate) fn pages_in(size: u64) -> u64
     ensures { result ≡ pages_in size }
@@ -137,7 +137,7 @@ impl PagedSystem {
         self.regions.list_of_heap(list)
     }
 
-    /// The place of so many pages, where they have one and can be granted there.
+    /// The place of this number of pages, where they have one and can be granted there.
     pub(crate) fn plan(&self, pages: u64) -> Result<u64, GrantFault>
         requires some { 0 < pages }
         ensures ok { IfOk result (λ place. CanGrant (paged self.now) pages place) }
@@ -152,7 +152,7 @@ impl PagedSystem {
         Ok(place)
     }
 
-    /// Grants so many pages at their place. An `Err` changes nothing.
+    /// Grants this number of pages at their place. An `Err` changes nothing.
     fn grant(&mut self, pages: u64, place: u64) -> Result<(), AllocError>
         requires can { CanGrant (paged self.old) pages place }
         ensures ok { OnOk result (IsGranted (paged self.old) (paged self.new) pages place) }
@@ -161,7 +161,7 @@ impl PagedSystem {
         self.regions.join(heap_region(place, pages))
     }
 
-    /// Grants the pages that hold so many bytes. An `Err` changes nothing.
+    /// Grants the pages that hold this number of bytes. An `Err` changes nothing.
     pub(crate) fn grant_bytes(&mut self, size: u64) -> Result<Grant, GrantFault>
         requires some { 0 < size }
         ensures ok { IfOk result (λ grant. IsGrantedFor (paged self.old) (paged self.new) size grant) }

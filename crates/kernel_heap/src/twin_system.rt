@@ -118,8 +118,8 @@ impl TwinSystem {
         self.flat.copy(from, to, count);
     }
 
-    /// Grants the pages that hold so many bytes, which are cleared in both. The flat words of the grant are made before
-    /// anything is changed. An `Err` changes no region and no word of one.
+    /// Grants the pages that hold this number of bytes, which are cleared in both. The flat words of the grant are made
+    /// before anything is changed. An `Err` changes no region and no word of one.
     fn grant_bytes(&mut self, size: u64) -> Result<Grant, GrantFault>
         requires some { 0 < size }
         ensures ok { IfOk result (λ grant. IsGrantedFor (paged_of self.old) (paged_of self.new) size grant) }

@@ -49,7 +49,7 @@ pub returns-in-Some-Generate-clause-generated : goal.returns-in-Some-Generate-cl
 returns-in-Some-Generate-clause-generated g c = λ seed count config is.
     let taken = g.K.Sink.taken in
     let flushed = g.K.Sink.flushed c.generate_new.new.sink in
-    let statuses = c.generate_new.ensures.statuses in
+    let statuses = c.generate_new.ensures.status.statuses in
     let words = command_of c.args.words.now in
     let it = c.in-Some-Generate in
     let known : words ≡ Some (Generate it.seed it.count it.config) = (let value = c.command_of.ensures.value in let some =
@@ -67,7 +67,7 @@ returns-in-Some-Generate-clause-generated g c = λ seed count config is.
 -- the source is as it was, so no status tells of it
 pub returns-in-Some-Generate-clause-status : goal.returns-in-Some-Generate-clause-status
 returns-in-Some-Generate-clause-status g c =
-    let made = c.generate_new.ensures in
+    let made = c.generate_new.ensures.status in
     let command = Generate c.in-Some-Generate.seed c.in-Some-Generate.count c.in-Some-Generate.config in
     let told = streams g.S.Source.left g.S.Source.faults g.K.Sink.taken g.K.Sink.flushed g.K.Sink.faults in
     let is : command_of c.args.words.now ≡ Some command = (let value = c.command_of.ensures.value in let some =

@@ -69,9 +69,9 @@ returns-in-Err-run-clause-run g c =
     let fresh = c.in-Ok.ensures in
     record {
       answered = search rules;
-      stopped = λ late. c.in-Err-run.ensures.stopped (start c.args.config.now) (record { good = fresh.new.good; stands = fresh.new.stands });
-      caught_up = λ six. c.in-Err-run.ensures.at_fault (search rules) (start c.args.config.now) (record { good = fresh.new.good; stands = fresh.new.stands });
-      caught_up_long = λ eight. c.in-Err-run.ensures.at_length (search rules) (start c.args.config.now)
+      stopped = λ late. c.in-Err-run.ensures.part.stopped (start c.args.config.now) (record { good = fresh.new.good; stands = fresh.new.stands });
+      caught_up = λ six. c.in-Err-run.ensures.part.at_fault (search rules) (start c.args.config.now) (record { good = fresh.new.good; stands = fresh.new.stands });
+      caught_up_long = λ eight. c.in-Err-run.ensures.part.at_length (search rules) (start c.args.config.now)
           (record { good = fresh.new.good; stands = fresh.new.stands });
     }
 

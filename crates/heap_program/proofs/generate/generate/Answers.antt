@@ -3,6 +3,7 @@ use Rattle.heap_program.specs.Progress.{IsAt}
 use Rattle.heap_program.specs.Stepped.{IsGeneratedBy}
 use Rattle.heap_program.proofs.Draws.{all_drawn, whole_text, none_generated, part_generated, all_generated}
 use Rattle.heap_program.proofs.Errors.{if_err, on_err}
+use Rattle.heap_program.proofs.Wholes.{passed_on}
 use Rattle.heap_program.specs.declared.run.Stop.{Stop}
 use Rattle.heap_program.specs.declared.run.Stop.TheVariants.{Memory, WriteFault}
 use Rattle.kernel_heap.specs.declared.machine.Machine.{Machine}
@@ -34,11 +35,16 @@ returns-in_err-write_out-clause-stopped g c = on_err c.from_residual-in_err-writ
     (string_bytes c.push_tally.new.out) out c.new-output.ensures.bytes c.in_ok-push_tally.ensures
     (c.in_ok-push_end.ensures w.state w.at.stands)) part.1)
 
-pub returns-in_err-write_out-clause-which : goal.returns-in_err-write_out-clause-which
-returns-in_err-write_out-clause-which g c =
+pub returns-in_err-write_out-clause-faults : goal.returns-in_err-write_out-clause-faults
+returns-in_err-write_out-clause-faults g c =
     let of = c.in_err-write_out in
-    if_err c.from_residual-in_err-write_out.result (λ stop. stop ≡ of.field-0.0) c.from_residual-in_err-write_out.ensures.1
-    (λ stop made. subst (λ (s : Stop). s ≡ Memory ⊎ s ≡ WriteFault) (sym made) of.ensures.which)
+    let r = c.from_residual-in_err-write_out in
+    record {
+      which = if_err r.result (λ stop. stop ≡ of.field-0.0) r.ensures.1
+          (λ stop made. subst (λ (s : Stop). s ≡ Memory ⊎ s ≡ WriteFault) (sym made) of.ensures.faults.which);
+      later = of.ensures.faults.later;
+      cause = λ is. of.ensures.faults.cause (passed_on r.result of.field-0.0 WriteFault r.ensures.1 is);
+    }
 
 pub returns-clause-generated : goal.returns-clause-generated
 returns-clause-generated g c s at =

@@ -1,3 +1,4 @@
+use Rattle.std.proofs.Common.{rules}
 use Rattle.heap_model.specs.State.{start}
 use Rattle.heap_program.proofs.Commands.{made_status}
 use Rattle.heap_program.proofs.generate.generate_new.Goals as goal
@@ -7,5 +8,10 @@ returns-in-Ok-generate-clause-generated g c =
     let new = c.in-Ok.ensures.new in
     (c.in-Ok.machine, new, c.in-Ok-generate.ensures.generated (start c.args.config.now) (record { good = new.good; stands = new.stands }))
 
-pub returns-in-Ok-generate-clause-refused : goal.returns-in-Ok-generate-clause-refused
-returns-in-Ok-generate-clause-refused g c = made_status c.args.config.now c.in-Ok.ensures.accepted
+pub returns-in-Ok-generate-clause-status : goal.returns-in-Ok-generate-clause-status
+returns-in-Ok-generate-clause-status g c = record {
+  statuses = search rules;
+  refused = made_status c.args.config.now c.in-Ok.ensures.accepted;
+  untouched = search rules;
+  write_fault = search rules;
+}

@@ -67,7 +67,7 @@ returns-in_err-close-clause-part g c =
     let h = c.in_ok-read_all.ensures.ok in
     let r = c.from_residual-in_err-close in
     let stop = c.in_err-close.field-0.0 in
-    let which = c.in_err-close.ensures.stop.which in
+    let which = c.in_err-close.ensures.faults.which in
     record {
       stopped = on_err r.result (λ s at.
           let first = begun s c.new-session.result c.args.machine c.new-session.ensures.responder at in
@@ -87,13 +87,13 @@ returns-in_err-close-clause-too_long g c =
     let h = c.in_ok-read_all.ensures.ok in
     stop_long (left c.args.source.now) (left c.read_all.new.source) c.from_residual-in_err-close.result stop c.from_residual-in_err-close.ensures.1
     (late_long (left c.args.source.now) (left c.read_all.new.source) h.bytes c.in_ok-read_all.field-0 h.consumed h.counted
-    c.in_ok-read_all.ensures.whole.short stop c.in_err-close.ensures.stop.which)
+    c.in_ok-read_all.ensures.whole.short stop c.in_err-close.ensures.faults.which)
 
 pub returns-in_err-close-clause-faults : goal.returns-in_err-close-clause-faults
 returns-in_err-close-clause-faults g c =
     let faults = g.K.Sink.faults in
     let first = c.in_ok-read_all.ensures.faults in
-    let last = c.in_err-close.ensures.stop in
+    let last = c.in_err-close.ensures.faults in
     let r = c.from_residual-in_err-close in
     let stop = c.in_err-close.field-0.0 in
     record {
@@ -108,7 +108,7 @@ pub returns-in_err-close-clause-flushed : goal.returns-in_err-close-clause-flush
 returns-in_err-close-clause-flushed g c =
     let r = c.from_residual-in_err-close in
     let stop = c.in_err-close.field-0.0 in
-    let which = c.in_err-close.ensures.stop.which in
+    let which = c.in_err-close.ensures.faults.which in
     record {
       flushed_fault = λ is. absurd (sink_isnt stop which (stop_is r.result stop ReadFault r.ensures.1 is));
       flushed_long = λ is. absurd (of_sink stop which (stop_is r.result stop TooLong r.ensures.1 is));

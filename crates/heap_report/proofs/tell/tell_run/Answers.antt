@@ -145,8 +145,8 @@ pub returns-in_err-write_out-clause-silent : goal.returns-in_err-write_out-claus
 returns-in_err-write_out-clause-silent g c which =
     let r = c.from_residual-in_err-write_out in
     absurd (elim which [
-      | inl read ↦ not_read r.result c.in_err-write_out.field-0.0 r.ensures.1 c.in_err-write_out.ensures.stop.which read
-      | inr long ↦ not_long r.result c.in_err-write_out.field-0.0 r.ensures.1 c.in_err-write_out.ensures.stop.which long
+      | inl read ↦ not_read r.result c.in_err-write_out.field-0.0 r.ensures.1 c.in_err-write_out.ensures.faults.which read
+      | inr long ↦ not_long r.result c.in_err-write_out.field-0.0 r.ensures.1 c.in_err-write_out.ensures.faults.which long
     ])
 
 pub returns-in_err-write_out-clause-too_long : goal.returns-in_err-write_out-clause-too_long
@@ -155,13 +155,13 @@ returns-in_err-write_out-clause-too_long g c =
     let h = c.in_ok-read_all.ensures.ok in
     let r = c.from_residual-in_err-write_out in
     read_long r.result (left c.args.source.now) (left c.read_all.new.source) h.bytes c.in_ok-read_all.field-0
-    (not_long r.result c.in_err-write_out.field-0.0 r.ensures.1 c.in_err-write_out.ensures.stop.which) h.consumed h.counted
+    (not_long r.result c.in_err-write_out.field-0.0 r.ensures.1 c.in_err-write_out.ensures.faults.which) h.consumed h.counted
     c.in_ok-read_all.ensures.whole.short
 
 pub returns-in_err-write_out-clause-read_cause : goal.returns-in_err-write_out-clause-read_cause
 returns-in_err-write_out-clause-read_cause g c is less =
     let r = c.from_residual-in_err-write_out in
-    absurd (not_read r.result c.in_err-write_out.field-0.0 r.ensures.1 c.in_err-write_out.ensures.stop.which is)
+    absurd (not_read r.result c.in_err-write_out.field-0.0 r.ensures.1 c.in_err-write_out.ensures.faults.which is)
 
 -- it was written
 pub returns-clause-told : goal.returns-clause-told

@@ -52,11 +52,11 @@ returns-in_err-write_out-clause-too_long g c =
     let r = c.from_residual-in_err-write_out in
     stop_long (left c.args.source.now) (left c.read_all.new.source) r.result stop r.ensures.1
     (late_long (left c.args.source.now) (left c.read_all.new.source) h.bytes c.in_ok-read_all.field-0 h.consumed h.counted
-    c.in_ok-read_all.ensures.whole.short stop c.in_err-write_out.ensures.stop.which)
+    c.in_ok-read_all.ensures.whole.short stop c.in_err-write_out.ensures.faults.which)
 
 pub returns-in_err-write_out-clause-read_cause : goal.returns-in_err-write_out-clause-read_cause
 returns-in_err-write_out-clause-read_cause g c is less =
-    absurd (sink_isnt c.in_err-write_out.field-0.0 c.in_err-write_out.ensures.stop.which
+    absurd (sink_isnt c.in_err-write_out.field-0.0 c.in_err-write_out.ensures.faults.which
     (stop_is c.from_residual-in_err-write_out.result c.in_err-write_out.field-0.0 ReadFault
     c.from_residual-in_err-write_out.ensures.1 is))
 
