@@ -1,6 +1,6 @@
-//! Measures page tables: for each number of the command line, that many pages that are mapped, walked to and unmapped, a
-//! region of that many pages with large pages and without, a memory with that many regions, and an address space with that
-//! many areas.
+//! Measures page tables: for each number of the command line, that many pages that are mapped, walked to and unmapped,
+//! a region of that many pages with large pages and without, a memory with that many regions, and an address space with
+//! that many areas.
 //!
 //! Standard output says what the calls found, standard error what processor time each took.
 #![tactic(auto)]

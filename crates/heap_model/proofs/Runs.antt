@@ -25,5 +25,5 @@ pub calls_on : (s m e : State) (a b : List Call) (x y : List Answer) → RunsTo 
     RunsTo m (map Some b) (map Some y) e → RunsTo s (map Some (a ++ b)) (map Some (x ++ y)) e
 calls_on s m e a b x y h k =
     subst (λ (items : List (Option Call)). RunsTo s items (map Some (x ++ y)) e) (sym (map-append Some a b))
-    (subst (λ (answers : List (Option Answer)). RunsTo s (map Some a ++ map Some b) answers e) (sym (map-append Some x y))
-    (run_on s m e (map Some a) (map Some b) (map Some x) (map Some y) h k))
+    (subst (λ (answers : List (Option Answer)). RunsTo s (map Some a ++ map Some b) answers e)
+    (sym (map-append Some x y)) (run_on s m e (map Some a) (map Some b) (map Some x) (map Some y) h k))

@@ -62,7 +62,8 @@ drawn_more s old mid new count h k =
       state = k.state;
       run = subst (λ (calls : List Call). RunsTo s (map Some calls) (map Some (h.answers ++ last)) k.state) (sym one)
           (calls_on s h.state k.state before (call ∷ []) h.answers last h.run k.run);
-      steps = subst (λ (calls : List Call). StepsTo old.machine (map Some calls) (map Some (h.answers ++ last)) new.machine) (sym one)
+      steps = subst (λ (calls : List Call).
+          StepsTo old.machine (map Some calls) (map Some (h.answers ++ last)) new.machine) (sym one)
           (calls_steps_on old.machine mid.machine new.machine before (call ∷ []) h.answers last h.steps k.steps);
       at = k.at;
     }

@@ -431,7 +431,8 @@ stop_is (Ok machine) stop other made is = absurd made
 stop_is (Err e) stop other made is = cc
 
 -- and the result that it came from is this stop too
-pub passed_on : {T : Type 0} (r : Result Machine Stop) (stop other : Stop) → IsErrAnd r (λ e. e ≡ stop) → IsErrOf r other → IsErrOf {T = T} (Err stop) other
+pub passed_on : {T : Type 0} (r : Result Machine Stop) (stop other : Stop) → IsErrAnd r (λ e. e ≡ stop) →
+    IsErrOf r other → IsErrOf {T = T} (Err stop) other
 passed_on r stop other made is = ap (λ (e : Stop). Err e) (stop_is r stop other made is)
 
 -- of a result that is this stop

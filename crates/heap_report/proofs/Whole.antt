@@ -93,7 +93,8 @@ whole keeps s machine first end listed input at none begins served lists =
         good = e.at.good;
       };
       steps = subst (λ (m : Machine). StepsTo m (map Some (calls_of input)) (map Some (k.answers ++ e.answer ∷ [])) listed.machine) begun.machine_is
-          (calls_steps_on first.replay.machine end.replay.machine listed.machine calls (Extents ∷ []) k.answers (e.answer ∷ []) k.steps e.steps);
+          (calls_steps_on first.replay.machine end.replay.machine listed.machine calls (Extents ∷ []) k.answers
+          (e.answer ∷ []) k.steps e.steps);
       of_heap = e.of_heap;
       at = e.at;
       live_is = e.live_is;

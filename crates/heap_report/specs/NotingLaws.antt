@@ -39,7 +39,8 @@ noted_on keeps x y z a b h k = λ s follows least.
         answers = first.answers ++ last.answers;
         state = last.state;
         run = calls_on s first.state last.state a b first.answers last.answers first.run last.run;
-        steps = calls_steps_on x.replay.machine y.replay.machine z.replay.machine a b first.answers last.answers first.steps last.steps;
+        steps = calls_steps_on x.replay.machine y.replay.machine z.replay.machine a b first.answers last.answers
+            first.steps last.steps;
         follows = last.follows;
         peak_is = let joined = peak-append s first.state a b first.answers last.answers first.run in omega (arith, last.peak_is, first.peak_is, joined);
       };

@@ -16,8 +16,8 @@ pub struct Line {
     pub end: u64,
     /// The first frame.
     pub frame: u64,
-    /// The owner of the page `page`. If the pages of each large page have one owner, every page that is mapped there has
-    /// this owner.
+    /// The owner of the page `page`. If the pages of each large page have one owner, every page that is mapped there
+    /// has this owner.
     pub owner: Owner,
     /// What all entries on the way grant.
     pub rights: Rights,

@@ -37,7 +37,8 @@ served_more config calls answers old new call answer h stepped =
     record {
       first = h.first;
       new = h.new;
-      steps = calls_steps_on h.first old new calls (call ∷ []) answers (answer ∷ []) h.steps (step_one old new call answer stepped);
+      steps = calls_steps_on h.first old new calls (call ∷ []) answers (answer ∷ []) h.steps
+          (step_one old new call answer stepped);
       state = next;
       run = calls_on s h.state next calls (call ∷ []) answers (answer ∷ []) h.run one;
       good = step.good;

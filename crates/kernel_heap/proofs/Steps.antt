@@ -69,8 +69,8 @@ pub calls_steps_on : (x y z : Parts) (a b : List Call) (t u : List Answer) → S
     StepsTo y (map Some b) (map Some u) z → StepsTo x (map Some (a ++ b)) (map Some (t ++ u)) z
 calls_steps_on x y z a b t u one two =
     subst (λ (items : List (Option Call)). StepsTo x items (map Some (t ++ u)) z) (sym (map-append Some a b))
-    (subst (λ (answers : List (Option Answer)). StepsTo x (map Some a ++ map Some b) answers z) (sym (map-append Some t u))
-    (steps_on x y z (map Some a) (map Some b) (map Some t) (map Some u) one two))
+    (subst (λ (answers : List (Option Answer)). StepsTo x (map Some a ++ map Some b) answers z)
+    (sym (map-append Some t u)) (steps_on x y z (map Some a) (map Some b) (map Some t) (map Some u) one two))
 
 -- one step
 pub step_one : (x y : Parts) (call : Call) (answer : Answer) → HasStepped x call answer y → StepsTo x (Some call ∷ []) (Some answer ∷ []) y

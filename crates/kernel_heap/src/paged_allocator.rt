@@ -35,8 +35,8 @@ impl Allocator for PagedSystem {
 
     ghost fixed = { λ x y events follows. record { zeros_same = refl; frees_same = refl; parts_same = refl; unit_same = refl } };
 
-    /// Grants the pages that hold this number of bytes, at the lowest place in the window, each with a cleared frame. No
-    /// flag of a grant is set.
+    /// Grants the pages that hold this number of bytes, at the lowest place in the window, each with a cleared frame.
+    /// No flag of a grant is set.
     fn alloc(&mut self, size: u64) -> Result<Grant, GrantFault>
         requires some { 0 < size }
         requires whole { size % 16 ≡ 0 }

@@ -66,13 +66,15 @@ returns-in-Ok-run-clause-status g c =
 -- it stopped early
 pub returns-in-Err-run-clause-run : goal.returns-in-Err-run-clause-run
 returns-in-Err-run-clause-run g c =
-    let fresh = c.in-Ok.ensures in
+    let new = c.in-Ok.ensures.new in
+    let part = c.in-Err-run.ensures.part in
     record {
       answered = search rules;
-      stopped = λ late. c.in-Err-run.ensures.part.stopped (start c.args.config.now) (record { good = fresh.new.good; stands = fresh.new.stands });
-      caught_up = λ six. c.in-Err-run.ensures.part.at_fault (search rules) (start c.args.config.now) (record { good = fresh.new.good; stands = fresh.new.stands });
-      caught_up_long = λ eight. c.in-Err-run.ensures.part.at_length (search rules) (start c.args.config.now)
-          (record { good = fresh.new.good; stands = fresh.new.stands });
+      stopped = λ late. part.stopped (start c.args.config.now) (record { good = new.good; stands = new.stands });
+      caught_up = λ six. part.at_fault (search rules) (start c.args.config.now)
+          (record { good = new.good; stands = new.stands });
+      caught_up_long = λ eight. part.at_length (search rules) (start c.args.config.now)
+          (record { good = new.good; stands = new.stands });
     }
 
 pub returns-in-Err-run-clause-status : goal.returns-in-Err-run-clause-status

@@ -92,8 +92,9 @@ returns-in_err-write_out-clause-err g c = if_err c.from_residual-in_err-write_ou
     let n = c.in_ok-n.n in
     let buf = c.read.new.buf in
     let len : length (take n buf) ≡ n = length-take-le n buf (omega (arith, c.in_ok-n.ensures.within, c.read.auto.buf)) in
-    let part = c.in_err-write_out.ensures.err in
-    let which = subst (λ (e : Stop). (e ≡ Memory) ⊎ (e ≡ WriteFault)) (sym made) c.in_err-write_out.ensures.faults.which in
+    let failed = c.in_err-write_out.ensures in
+    let part = failed.err in
+    let which = subst (λ (e : Stop). (e ≡ Memory) ⊎ (e ≡ WriteFault)) (sym made) failed.faults.which in
     stopped_writing g.R.Respond.responds g.met.R.Respond.responds_on c.args.session.now.responder c.pieces.session
     c.feed.new.self stop (left c.args.source.now) (left c.pieces.source) (left c.read.new.self) (taken c.args.sink.now)
     (taken c.pieces.sink) (taken c.write_out.new.sink) c.pieces.count part.0 (take n buf)

@@ -6,7 +6,8 @@ use Rattle.heap_program.specs.declared.run.Stop.TheVariants.{ReadFault, WriteFau
 use Rattle.heap_program.proofs.Counts.{risen_later}
 use Rattle.heap_program.proofs.Errors.{on_err}
 use Rattle.heap_program.proofs.Sessions.{begun}
-use Rattle.heap_program.proofs.Wholes.{answered, interrupted, seen_stopped, seen_last, err_long, late_long, ok_long, of_sink, sink_isnt, stop_is, passed_on, stop_long}
+use Rattle.heap_program.proofs.Wholes.{answered, interrupted, seen_stopped, seen_last, of_sink, sink_isnt, stop_is, passed_on}
+use Rattle.heap_program.proofs.Wholes.{err_long, late_long, ok_long, stop_long}
 use Rattle.heap_program.proofs.run.run.Goals as goal
 
 -- the machine of the session stands for what the machine stands for
@@ -43,20 +44,22 @@ pub returns-in_err-read_all-clause-faults : goal.returns-in_err-read_all-clause-
 returns-in_err-read_all-clause-faults g c =
     let told = c.in_err-read_all.ensures.faults in
     let stop = c.in_err-read_all.field-0.0 in
+    let r = c.from_residual in
     record {
       read_later = told.read_later;
       write_later = told.write_later;
-      read_cause = λ is. told.read_cause (passed_on c.from_residual.result stop ReadFault c.from_residual.ensures.1 is);
-      write_cause = λ is. told.write_cause (passed_on c.from_residual.result stop WriteFault c.from_residual.ensures.1 is);
+      read_cause = λ is. told.read_cause (passed_on r.result stop ReadFault r.ensures.1 is);
+      write_cause = λ is. told.write_cause (passed_on r.result stop WriteFault r.ensures.1 is);
     }
 
 pub returns-in_err-read_all-clause-flushed : goal.returns-in_err-read_all-clause-flushed
 returns-in_err-read_all-clause-flushed g c =
     let told = c.in_err-read_all.ensures.flushed in
     let stop = c.in_err-read_all.field-0.0 in
+    let r = c.from_residual in
     record {
-      flushed_fault = λ is. told.flushed_fault (passed_on c.from_residual.result stop ReadFault c.from_residual.ensures.1 is);
-      flushed_long = λ is. told.flushed_long (passed_on c.from_residual.result stop TooLong c.from_residual.ensures.1 is);
+      flushed_fault = λ is. told.flushed_fault (passed_on r.result stop ReadFault r.ensures.1 is);
+      flushed_long = λ is. told.flushed_long (passed_on r.result stop TooLong r.ensures.1 is);
     }
 
 -- the sink is all that stops the end of a run
@@ -85,7 +88,8 @@ returns-in_err-close-clause-too_long g c =
     let left = g.S.Source.left in
     let stop = c.in_err-close.field-0.0 in
     let h = c.in_ok-read_all.ensures.ok in
-    stop_long (left c.args.source.now) (left c.read_all.new.source) c.from_residual-in_err-close.result stop c.from_residual-in_err-close.ensures.1
+    let r = c.from_residual-in_err-close in
+    stop_long (left c.args.source.now) (left c.read_all.new.source) r.result stop r.ensures.1
     (late_long (left c.args.source.now) (left c.read_all.new.source) h.bytes c.in_ok-read_all.field-0 h.consumed h.counted
     c.in_ok-read_all.ensures.whole.short stop c.in_err-close.ensures.faults.which)
 

@@ -39,7 +39,8 @@ returns-in_err-end-clause-part g c = on_err c.from_residual-in_err-end.result (�
     let taken = g.K.Sink.taken in
     part_read g.T.Tell.keeps g.T.Tell.text s c.new-session.result.responder c.read_all.new.session.responder
     c.read_all.new.session.line (left c.args.source.now) (left c.read_all.new.source) (taken c.args.sink.now)
-    (taken c.read_all.new.sink) c.in_ok-read_all.field-0 c.in_ok-read_all.ensures.ok c.in_ok-read_all.ensures.whole.short)
+    (taken c.read_all.new.sink) c.in_ok-read_all.field-0 c.in_ok-read_all.ensures.ok
+    c.in_ok-read_all.ensures.whole.short)
 
 pub returns-in_err-end-clause-silent : goal.returns-in_err-end-clause-silent
 returns-in_err-end-clause-silent g c which =
@@ -67,7 +68,8 @@ returns-in_err-listed-clause-part g c = on_err c.from_residual-in_err-listed.res
     let taken = g.K.Sink.taken in
     part_read g.T.Tell.keeps g.T.Tell.text s c.new-session.result.responder c.read_all.new.session.responder
     c.read_all.new.session.line (left c.args.source.now) (left c.read_all.new.source) (taken c.args.sink.now)
-    (taken c.read_all.new.sink) c.in_ok-read_all.field-0 c.in_ok-read_all.ensures.ok c.in_ok-read_all.ensures.whole.short)
+    (taken c.read_all.new.sink) c.in_ok-read_all.field-0 c.in_ok-read_all.ensures.ok
+    c.in_ok-read_all.ensures.whole.short)
 
 pub returns-in_err-listed-clause-silent : goal.returns-in_err-listed-clause-silent
 returns-in_err-listed-clause-silent g c which =
@@ -96,7 +98,8 @@ returns-in_err-push-clause-part g c = on_err c.from_residual-in_err-push.result 
     let taken = g.K.Sink.taken in
     part_read g.T.Tell.keeps g.T.Tell.text s c.new-session.result.responder c.read_all.new.session.responder
     c.read_all.new.session.line (left c.args.source.now) (left c.read_all.new.source) (taken c.args.sink.now)
-    (taken c.read_all.new.sink) c.in_ok-read_all.field-0 c.in_ok-read_all.ensures.ok c.in_ok-read_all.ensures.whole.short)
+    (taken c.read_all.new.sink) c.in_ok-read_all.field-0 c.in_ok-read_all.ensures.ok
+    c.in_ok-read_all.ensures.whole.short)
 
 pub returns-in_err-push-clause-silent : goal.returns-in_err-push-clause-silent
 returns-in_err-push-clause-silent g c which =
@@ -137,16 +140,17 @@ returns-in_err-write_out-clause-part g c = on_err c.from_residual-in_err-write_o
     part_written g.T.Tell.keeps g.T.Tell.text s c.args.machine first last.responder end.kept listed last.line
     (string_bytes c.push.new.output) (left c.args.source.now) (left c.read_all.new.source) (taken c.args.sink.now)
     (taken c.read_all.new.sink) (taken c.write_out.new.sink) c.in_ok-read_all.field-0 part.0
-    h c.in_ok-read_all.ensures.whole.short c.in_ok-read_all.ensures.whole.end w (text_is g.T.Tell.keeps g.T.Tell.text s c.args.machine
-    h.bytes end.kept listed c.as_slice.result.now (string_bytes c.push.new.output) (string_bytes c.new-output.result) w
-    c.as_slice.ensures c.in_ok-push.ensures (search rules)) part.1)
+    h c.in_ok-read_all.ensures.whole.short c.in_ok-read_all.ensures.whole.end w (text_is g.T.Tell.keeps g.T.Tell.text s
+    c.args.machine h.bytes end.kept listed c.as_slice.result.now (string_bytes c.push.new.output)
+    (string_bytes c.new-output.result) w c.as_slice.ensures c.in_ok-push.ensures (search rules)) part.1)
 
 pub returns-in_err-write_out-clause-silent : goal.returns-in_err-write_out-clause-silent
 returns-in_err-write_out-clause-silent g c which =
     let r = c.from_residual-in_err-write_out in
+    let failed = c.in_err-write_out in
     absurd (elim which [
-      | inl read ↦ not_read r.result c.in_err-write_out.field-0.0 r.ensures.1 c.in_err-write_out.ensures.faults.which read
-      | inr long ↦ not_long r.result c.in_err-write_out.field-0.0 r.ensures.1 c.in_err-write_out.ensures.faults.which long
+      | inl read ↦ not_read r.result failed.field-0.0 r.ensures.1 failed.ensures.faults.which read
+      | inr long ↦ not_long r.result failed.field-0.0 r.ensures.1 failed.ensures.faults.which long
     ])
 
 pub returns-in_err-write_out-clause-too_long : goal.returns-in_err-write_out-clause-too_long
@@ -155,8 +159,8 @@ returns-in_err-write_out-clause-too_long g c =
     let h = c.in_ok-read_all.ensures.ok in
     let r = c.from_residual-in_err-write_out in
     read_long r.result (left c.args.source.now) (left c.read_all.new.source) h.bytes c.in_ok-read_all.field-0
-    (not_long r.result c.in_err-write_out.field-0.0 r.ensures.1 c.in_err-write_out.ensures.faults.which) h.consumed h.counted
-    c.in_ok-read_all.ensures.whole.short
+    (not_long r.result c.in_err-write_out.field-0.0 r.ensures.1 c.in_err-write_out.ensures.faults.which) h.consumed
+    h.counted c.in_ok-read_all.ensures.whole.short
 
 pub returns-in_err-write_out-clause-read_cause : goal.returns-in_err-write_out-clause-read_cause
 returns-in_err-write_out-clause-read_cause g c is less =
@@ -182,8 +186,9 @@ returns-clause-told g c s at none =
     (string_bytes c.push.new.output) (left c.args.source.now) (left c.read_all.new.source) (taken c.args.sink.now)
     (taken c.read_all.new.sink) (taken c.write_out.new.sink) (g.K.Sink.flushed c.write_out.new.sink)
     c.in_ok-read_all.field-0
-    h c.in_ok-read_all.ensures.whole.end w (text_is g.T.Tell.keeps g.T.Tell.text s c.args.machine h.bytes end.kept listed
-    c.as_slice.result.now (string_bytes c.push.new.output) (string_bytes c.new-output.result) w c.as_slice.ensures
+    h c.in_ok-read_all.ensures.whole.end w (text_is g.T.Tell.keeps g.T.Tell.text s c.args.machine h.bytes end.kept
+    listed c.as_slice.result.now (string_bytes c.push.new.output) (string_bytes c.new-output.result) w
+    c.as_slice.ensures
     c.in_ok-push.ensures (search rules)) c.in_ok-write_out.ensures.ok c.in_ok-write_out.ensures.flushed
 
 pub returns-clause-too_long : goal.returns-clause-too_long

@@ -73,8 +73,8 @@ returns-clause-imaged g c =
     c.read_all.new.session.line (left c.args.source.now) (left c.read_all.new.source) (taken c.args.sink.now)
     (taken c.read_all.new.sink) (taken c.write_out.new.sink) (g.K.Sink.flushed c.write_out.new.sink)
     c.in_ok-read_all.field-0 _ _ _
-    c.in_ok-read_all.ensures.ok c.in_ok-read_all.ensures.whole.end c.in_ok-read_all.ensures.whole.empty c.in_ok-end.ensures
-    c.in_ok-push_image.ensures c.in_ok-write_out.ensures.ok c.in_ok-write_out.ensures.flushed)
+    c.in_ok-read_all.ensures.ok c.in_ok-read_all.ensures.whole.end c.in_ok-read_all.ensures.whole.empty
+    c.in_ok-end.ensures c.in_ok-push_image.ensures c.in_ok-write_out.ensures.ok c.in_ok-write_out.ensures.flushed)
 
 pub returns-clause-too_long : goal.returns-clause-too_long
 returns-clause-too_long g c =
