@@ -1,11 +1,10 @@
 -- What a command has done when it ends: with its source and its sink, each as it was and as it then is, and with what it hands out.
-use Rattle.std.specs.Prelude.{◌≡◌, ◌≢◌, ◌<◌, ◌≤◌, ◌+◌, ◌^◌, ◌⊎◌, ◌↔◌, ℕ, [], length, unwrap_or, Option, Some, None, IfSome, IsSome}
+use Rattle.std.specs.Prelude.{◌≡◌, ◌≢◌, ◌<◌, ◌≤◌, ◌+◌, ◌^◌, ◌⊎◌, ◌↔◌, ℕ, [], length, unwrap_or, Option, None, IfSome}
 use Rattle.heap_model.specs.declared.config.Config.{Config}
 use Rattle.heap_model.specs.State.{start}
 use Rattle.kernel_heap.specs.Config.{IsGoodConfig}
 use Rattle.kernel_heap.specs.Machine.{seen}
 use Rattle.heap_program.specs.declared.arguments.Command.{Command}
-use Rattle.heap_program.specs.declared.arguments.Command.TheVariants.{Run, Generate}
 use Rattle.heap_program.specs.declared.ended.Ended.{Ended}
 use Rattle.heap_program.specs.Command.{machine_config}
 use Rattle.heap_program.specs.Faults.{HasRisen}
