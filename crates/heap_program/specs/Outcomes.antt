@@ -21,9 +21,9 @@ pub record TellsSinkFaults {T K : Type 0} (needs_memory : K → Type 0) (result 
   -- a sink whose calls want no memory has enough
   pub memory : ((k : K) → needs_memory k → ⊥) → IsErrOf result OutOfMemory → ⊥
 
--- What a write tells that stops a run where it fails. The sink's count of faults is `before`, and then `now`.
+-- What a call that writes, and reads nothing, tells of why it stopped. The sink's count of faults is `before`, and then `now`.
 pub record TellsSinkStop {T : Type 0} (result : Result T Stop) (before now : ℕ) : Type 0 where
-  -- it stops for want of memory, or since the sink failed
+  -- it was for want of memory, or since the sink failed
   pub which : IfErr result (λ stop. (stop ≡ Memory) ⊎ (stop ≡ WriteFault))
   -- the count does not go down
   pub later : before ≤ now
