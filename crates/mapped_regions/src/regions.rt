@@ -1,11 +1,11 @@
 // Regions that are mapped in page tables over a physical memory.
-ghost use Rattle.std.specs.Prelude.{◌≡◌, ℕ, ◌+◌, ◌*◌, ◌/◌, ◌%◌, ◌^◌, ◌≤◌, ◌<◌, ◌↔◌, IsTrue, IsSome, IfOk, IfErr, IfSome, IfNone, OnOk, OnErr, List, Bool, set, filter, length, slice_index, vec_capacity, Some, [], ◌⊎◌, ◌≢◌};
+ghost use Rattle.std.specs.Prelude.{◌≡◌, ℕ, ◌+◌, ◌*◌, ◌/◌, ◌%◌, ◌^◌, ◌≤◌, ◌<◌, ◌↔◌, IsTrue, IsSome, IfOk, IfSome, IfNone, OnOk, OnErr, List, Bool, set, filter, length, slice_index, vec_capacity, Some, [], ◌⊎◌, ◌≢◌};
 ghost use Rattle.std.specs.List.{list_any};
 ghost use Rattle.std.specs.Option.{option_map};
 ghost use Rattle.paging_core.specs.Address.{is_canonical, IsCanonicalRange};
-ghost use Rattle.paging_core.specs.Memory.{word_at, byte_of, AreWordsWritten};
+ghost use Rattle.paging_core.specs.Memory.{byte_of, AreWordsWritten};
 ghost use Rattle.paging_core.specs.Pool.{free_count};
-ghost use Rattle.paging_core.specs.Walk.{walk_of, reach, large_of, reached};
+ghost use Rattle.paging_core.specs.Walk.{walk_of, reached};
 ghost use Rattle.paging_core.specs.Tree.{IsTree};
 ghost use Rattle.heap_model.specs.Place.{IsPlace, HasNoPlace};
 ghost use Rattle.heap_model.specs.Machine.{rights_of};
@@ -60,6 +60,7 @@ pub struct MappedRegions {
 impl MappedRegions {
     ghost use Rattle.mapped_regions.specs.Mapped.{IsEmpty, IsRegion, HasFrames, CanMap, IsRegionJoined, IsLeft, AreGone, IsMappedWord, word_reached};
     ghost use Rattle.mapped_regions.specs.Shown.{shown};
+    ghost use Rattle.paging_core.specs.Stores.{KeepsTables, IsWordPut};
 
     /// A memory with `frames` frames, of which one holds the root table, and with a window of `pages` pages from the
     /// address `base` on. Nothing is mapped.
@@ -310,15 +311,9 @@ impl MappedRegions {
     pub fn set_word(&mut self, at: u64, value: u64)
         requires word { IsMappedWord (shown self.old) at }
         ensures others { shown self.new ≡ record (shown self.old) { words = (shown self.new).words } }
-        ensures size { length (shown self.new).words ≡ length (shown self.old).words }
+        ensures kept { KeepsTables (shown self.old).words (shown self.new).words (shown self.old).root }
         ensures set { IfSome (walk_of (shown self.old).words (shown self.old).root (at / 4096)) (λ place. (shown self.new).words ≡ set (shown self.old).words (512 * place.frame + at % 4096 / 8) value) }
-        ensures walks { (free : List Bool) → IsTree (shown self.old).words (shown self.old).root free → (level number : ℕ) → level ≤ 4 → reach (shown self.new).words (shown self.old).root level number ≡ reach (shown self.old).words (shown self.old).root level number }
-        ensures larges { (free : List Bool) → IsTree (shown self.old).words (shown self.old).root free → (number : ℕ) → large_of (shown self.new).words (shown self.old).root number ≡ large_of (shown self.old).words (shown self.old).root number }
-        ensures tree { (free : List Bool) → IsTree (shown self.old).words (shown self.old).root free → IsTree (shown self.new).words (shown self.old).root free }
-        ensures stored { (free : List Bool) → IsTree (shown self.old).words (shown self.old).root free → IfSome (walk_of (shown self.old).words (shown self.old).root (at / 4096)) (λ place. word_at (shown self.new).words place.frame (at % 4096 / 8) ≡ value) }
-        ensures other_words { (free : List Bool) → IsTree (shown self.old).words (shown self.old).root free → (other : ℕ) → IsTrue (is_canonical other) → (other / 8 ≡ at / 8 → ⊥) →
-            IfSome (walk_of (shown self.old).words (shown self.old).root (other / 4096)) (λ place. word_at (shown self.new).words place.frame (other % 4096 / 8) ≡ word_at (shown self.old).words place.frame (other % 4096 / 8)) }
-        ensures bytes { (free : List Bool) → IsTree (shown self.old).words (shown self.old).root free → (other : ℕ) → IsTrue (is_canonical other) → (other / 8 ≡ at / 8 → ⊥) → reached (shown self.new).words (shown self.old).root other ≡ reached (shown self.old).words (shown self.old).root other }
+        ensures put { IsWordPut (shown self.old).words (shown self.new).words (shown self.old).root at value }
     {
         let page = Page::containing_address(VirtAddr::new(at));
         let frame = self.met_slots.frame_kept(&self.frames, self.root, page);
@@ -344,11 +339,8 @@ impl MappedRegions {
         requires word { IsMappedWord (shown self.old) at }
         requires fits { at % 4096 / 8 + length words.now ≤ 512 }
         ensures others { shown self.new ≡ record (shown self.old) { words = (shown self.new).words } }
-        ensures size { length (shown self.new).words ≡ length (shown self.old).words }
+        ensures kept { KeepsTables (shown self.old).words (shown self.new).words (shown self.old).root }
         ensures set { IfSome (walk_of (shown self.old).words (shown self.old).root (at / 4096)) (λ place. AreWordsWritten (shown self.old).words (shown self.new).words place.frame (at % 4096 / 8) words.now) }
-        ensures walks { (free : List Bool) → IsTree (shown self.old).words (shown self.old).root free → (level number : ℕ) → level ≤ 4 → reach (shown self.new).words (shown self.old).root level number ≡ reach (shown self.old).words (shown self.old).root level number }
-        ensures larges { (free : List Bool) → IsTree (shown self.old).words (shown self.old).root free → (number : ℕ) → large_of (shown self.new).words (shown self.old).root number ≡ large_of (shown self.old).words (shown self.old).root number }
-        ensures tree { (free : List Bool) → IsTree (shown self.old).words (shown self.old).root free → IsTree (shown self.new).words (shown self.old).root free }
         ensures bytes { (free : List Bool) → IsTree (shown self.old).words (shown self.old).root free → (k : ℕ) → k < 8 * length words.now →
             reached (shown self.new).words (shown self.old).root (at + k) ≡ Some (byte_of (slice_index words.now (k / 8)) (k % 8)) }
         ensures other_bytes { (free : List Bool) → IsTree (shown self.old).words (shown self.old).root free → (other : ℕ) → IsTrue (is_canonical other) → (other < at) ⊎ (at + 8 * length words.now ≤ other) →

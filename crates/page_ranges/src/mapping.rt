@@ -1,12 +1,12 @@
-ghost use Rattle.std.specs.Prelude.{◌≡◌, ℕ, ◌+◌, ◌-◌, ◌*◌, ◌/◌, ◌%◌, ◌^◌, ◌<◌, ◌≤◌, None, Some, IsSome, IsTrue, IsFalse};
-ghost use Rattle.paging_core.specs.Address.{is_canonical, IsCanonicalRange};
+ghost use Rattle.std.specs.Prelude.{◌≡◌, ℕ, ◌+◌, ◌-◌, ◌*◌, ◌/◌, ◌%◌, ◌<◌, ◌≤◌, None};
+ghost use Rattle.paging_core.specs.Address.{IsCanonicalRange};
 ghost use Rattle.paging_core.specs.Memory.{frame_count};
-ghost use Rattle.paging_core.specs.Walk.{walk_of, reached, reach, large_of};
+ghost use Rattle.paging_core.specs.Walk.{walk_of};
 ghost use Rattle.paging_core.specs.Pool.{free_count, FreeBelow};
 ghost use Rattle.paging_core.specs.Tree.{IsTree};
 ghost use Rattle.paging_core.specs.Missing.{missing_of};
-ghost use Rattle.paging_core.specs.Large.{slot_of};
 ghost use Rattle.page_ranges.specs.RangeMapping.{NoRunAt, AreSlotsAdded, IsRangeMapped};
+ghost use Rattle.paging_core.specs.Outcomes.{AddsClearPages};
 
 use crate::slots::slot_at;
 use paging_core::{
@@ -72,11 +72,7 @@ pub fn map_pages(
     ensures known { FreeBelow pool.new (frame_count frames.new) }
     ensures stop { result ≤ (first + pages) / 512 }
     ensures mapped { IsRangeMapped frames.old frames.new pool.old pool.new root first pages result rights }
-
-    // No other page's walk is changed, and no byte of a page that was mapped; each byte of the range is 0.
-    ensures elsewhere { (other : ℕ) → IsTrue (is_canonical (other * 4096)) → ((k : ℕ) → k < pages → other ≡ first + k → ⊥) → walk_of frames.new root other ≡ walk_of frames.old root other }
-    ensures zeros { (address k : ℕ) → k < pages → address / 4096 ≡ first + k → reached frames.new root address ≡ Some 0 }
-    ensures bytes { (address : ℕ) → IsSome (walk_of frames.old root (address / 4096)) → reached frames.new root address ≡ reached frames.old root address }
+    ensures clear { AddsClearPages frames.old frames.new root first pages }
 {
     let stop = map_slots(frames, pool, root, first, pages, rights);
     let mut done = 0;

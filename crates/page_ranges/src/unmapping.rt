@@ -1,10 +1,11 @@
-ghost use Rattle.std.specs.Prelude.{◌≡◌, ℕ, ◌+◌, ◌*◌, ◌/◌, ◌%◌, ◌^◌, ◌<◌, ◌≤◌, None, IsSome, IsTrue, length};
-ghost use Rattle.paging_core.specs.Address.{is_canonical, IsCanonicalRange};
+ghost use Rattle.std.specs.Prelude.{ℕ, ◌+◌, ◌/◌, ◌%◌, ◌<◌, ◌≤◌, IsSome, length};
+ghost use Rattle.paging_core.specs.Address.{IsCanonicalRange};
 ghost use Rattle.paging_core.specs.Memory.{frame_count};
-ghost use Rattle.paging_core.specs.Walk.{walk_of, reached};
+ghost use Rattle.paging_core.specs.Walk.{walk_of};
 ghost use Rattle.paging_core.specs.Pool.{FreeBelow};
 ghost use Rattle.paging_core.specs.Tree.{IsTree};
 ghost use Rattle.page_ranges.specs.RangeUnmapping.{NoLargePageReachesOver, AreUnmapped};
+ghost use Rattle.paging_core.specs.Outcomes.{IsRangeTakenOut};
 
 use crate::slots::slot_at;
 use paging_core::{
@@ -57,11 +58,7 @@ pub fn unmap_pages(
     ensures unmapped { AreUnmapped frames.old frames.new pool.old pool.new root first pages }
     ensures tree { IsTree frames.new root pool.new }
     ensures known { FreeBelow pool.old (frame_count frames.old) → FreeBelow pool.new (frame_count frames.new) }
-
-    // The pages of the range are no longer mapped. No other page's walk is changed, and no byte of it.
-    ensures gone { (k : ℕ) → k < pages → walk_of frames.new root (first + k) ≡ None }
-    ensures elsewhere { (other : ℕ) → IsTrue (is_canonical (other * 4096)) → ((k : ℕ) → k < pages → other ≡ first + k → ⊥) → walk_of frames.new root other ≡ walk_of frames.old root other }
-    ensures bytes { (address : ℕ) → IsSome (walk_of frames.new root (address / 4096)) → reached frames.new root address ≡ reached frames.old root address }
+    ensures gone { IsRangeTakenOut frames.old frames.new root first pages }
 {
     let mut done = 0;
     while done < pages {

@@ -7,6 +7,7 @@ use Rattle.paging_core.specs.Memory.{word_at, byte_of, AreWordsWritten, IsFrameC
 use Rattle.paging_core.specs.Prefix.{prefix_of}
 use Rattle.paging_core.specs.Walk.{Place, reach, large_of, walk_of, reached}
 use Rattle.paging_core.specs.Tree.{IsTree}
+use Rattle.paging_core.specs.Stores.{KeepsTables}
 use Rattle.paging_core.proofs.LastEntry.{some_or_none}
 use Rattle.paging_core.proofs.Prefixes.{walk_reach}
 use Rattle.paging_core.proofs.Ranges.{same_number}
@@ -70,6 +71,18 @@ module _ (old new : List ℕ) (root page : ℕ) (place : Place) (free : List Boo
           reached_at new root address p.0 (written_walk (address / 4096) ∙ p.1)
           ∙ (ap (λ w. Some (byte_of w (address % 8))) (word p.0 p.1 (cases_eq p.0.frame place.frame)) ∙ sym (reached_at old root address p.0 p.1))
       go (inr none) = let e = written_walk (address / 4096) ∙ none in rw (e, none) refl
+
+-- words of the page's frame alone were written
+pub page_kept : (old new : List ℕ) (root page : ℕ) (place : Place) → walk_of old root page ≡ Some place →
+    length new ≡ length old →
+    ((free : List Bool) → IsTree old root free → (f i : ℕ) → i < 512 → (f ≡ place.frame → ⊥) → word_at new f i ≡ word_at old f i) →
+    KeepsTables old new root
+page_kept old new root page place at size elsewhere = record {
+  size = size;
+  walks = λ free tree. written_walks old new root page place free at size (elsewhere free tree) tree;
+  larges = λ free tree. written_larges old new root page place free at size (elsewhere free tree) tree;
+  tree = λ free tree. written_tree old new root page place free at size (elsewhere free tree) tree;
+}
 
 -- a run of words was written to the page
 module _ (old new : List ℕ) (root page index : ℕ) (run : List ℕ) (place : Place) (free : List Bool)

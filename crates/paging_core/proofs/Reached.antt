@@ -1,6 +1,6 @@
 -- What the walk to an address reaches, and what a write there keeps.
 use Rattle.std.proofs.Common.{◌≡◌, ℕ, ◌+◌, ◌*◌, ◌/◌, ◌%◌, ◌^◌, ◌<◌, ◌≤◌, Bool, List, length, set, Option, Some, None, refl, sym, ap, ◌∙◌, arith, length-set}
-use Rattle.std.specs.Prelude.{IsTrue, IsSome}
+use Rattle.std.specs.Prelude.{IsTrue, IsSome, IfSome}
 use Rattle.std.specs.Option.{option_map}
 use Rattle.std.proofs.lemmas.Bool.Decides.{nat_tests}
 use Rattle.paging_core.specs.Address.{is_canonical}
@@ -8,6 +8,7 @@ use Rattle.paging_core.specs.Memory.{word_at, frame_count, byte_of}
 use Rattle.paging_core.specs.Prefix.{prefix_of}
 use Rattle.paging_core.specs.Walk.{Place, reach, large_of, walk_of, reached}
 use Rattle.paging_core.specs.Tree.{IsTree}
+use Rattle.paging_core.specs.Stores.{KeepsTables, IsWordPut}
 use Rattle.paging_core.proofs.Reach.{reach_same, larges_same}
 use Rattle.paging_core.proofs.Words.{word_at_set_same, word_at_set_other}
 use Rattle.paging_core.proofs.Prefixes.{walk_reach}
@@ -118,6 +119,35 @@ module _ (old new : List ℕ) (root address value : ℕ) (place : Place) (free :
           ≡ option_map (λ p. byte_of (word_at old p.frame (other % 4096 / 8)) (other % 8)) o
       go None is = refl
       go (Some p) is = ap (λ w. Some (byte_of w (other % 8))) (other_words other p co ne is)
+
+module _ (old new : List ℕ) (root address value : ℕ) (place : Place)
+    (root_in : root < frame_count old)
+    (aligned : address % 8 ≡ 0)
+    (canonical : IsTrue (is_canonical address))
+    (at : walk_of old root (address / 4096) ≡ Some place)
+    (written : new ≡ set old (512 * place.frame + address % 4096 / 8) value) where
+  pub word_kept : KeepsTables old new root
+  word_kept = record {
+    size = rw written (length-set old (512 * place.frame + address % 4096 / 8) value);
+    walks = λ free tree. stored_walks old new root address value place free root_in aligned canonical at written tree;
+    larges = λ free tree. stored_larges old new root address value place free root_in aligned canonical at written tree;
+    tree = λ free tree. stored_tree old new root address value place free root_in aligned canonical at written tree;
+  }
+
+  pub word_put : IsWordPut old new root address value
+  word_put = record {
+    stored = λ free tree. rw at (stored_word old new root address value place free root_in aligned canonical at written tree);
+    other_words = λ free tree other co ne. go free tree other co ne (walk_of old root (other / 4096)) refl;
+    bytes = λ free tree. stored_bytes old new root address value place free root_in aligned canonical at written tree;
+    others = λ free tree. stored_others old new root address value place free root_in aligned canonical at written tree;
+  }
+    where
+      go : (free : List Bool) → IsTree old root free → (other : ℕ) → IsTrue (is_canonical other) →
+          (other / 8 ≡ address / 8 → ⊥) → (o : Option Place) → walk_of old root (other / 4096) ≡ o →
+          IfSome o (λ p. word_at new p.frame (other % 4096 / 8) ≡ word_at old p.frame (other % 4096 / 8))
+      go free tree other co ne None is = tt
+      go free tree other co ne (Some p) is =
+          other_words old new root address value place free root_in aligned canonical at written tree other p co ne is
 
 -- a page that no walk finds is not mapped
 pub some_not_none : (o : Option Place) → IsSome o → o ≡ None → ⊥

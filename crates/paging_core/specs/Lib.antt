@@ -16,6 +16,7 @@ pub mod ProcessorWalk
 pub mod ProcessorAccess
 pub mod Plain
 pub mod Tree
+pub mod Stores
 pub mod Tables
 pub mod Missing
 pub mod Mapping
@@ -23,4 +24,5 @@ pub mod PageChanges
 pub mod WalkEnd
 pub mod Large
 pub mod LargeChanges
+pub mod Outcomes
 pub mod Laws

@@ -1,7 +1,8 @@
-ghost use Rattle.std.specs.Prelude.{◌≡◌, ℕ, ◌+◌, ◌-◌, ◌*◌, ◌/◌, ◌%◌, ◌^◌, ◌<◌, ◌≤◌, IsSome, IfSome, Some, length, List, Bool, set, IsTrue, slice_index};
+ghost use Rattle.std.specs.Prelude.{◌≡◌, ℕ, ◌+◌, ◌-◌, ◌*◌, ◌/◌, ◌%◌, ◌<◌, ◌≤◌, IsSome, IfSome, Some, length, List, Bool, set, IsTrue, slice_index};
 ghost use Rattle.paging_core.specs.Address.{is_canonical};
 ghost use Rattle.paging_core.specs.Memory.{frame_count, word_at, byte_of, IsFrameCopied, AreWordsWritten, AreWordsOf};
-ghost use Rattle.paging_core.specs.Walk.{reach, large_of, walk_of, reached};
+ghost use Rattle.paging_core.specs.Walk.{walk_of, reached};
+ghost use Rattle.paging_core.specs.Stores.{KeepsTables, IsWordPut};
 ghost use Rattle.paging_core.specs.Tree.{IsTree};
 
 use crate::addr::VirtAddr;
@@ -43,15 +44,8 @@ pub fn store_word(frames: &mut Frames, root: PhysFrame, address: VirtAddr, value
     requires aligned { address % 8 ≡ 0 }
     requires mapped { IsSome (walk_of frames.old root (address / 4096)) }
     ensures word { IfSome (walk_of frames.old root (address / 4096)) (λ place. frames.new ≡ set frames.old (512 * place.frame + address % 4096 / 8) value) }
-    ensures size { length frames.new ≡ length frames.old }
-    ensures walks { (free : List Bool) → IsTree frames.old root free → (level number : ℕ) → level ≤ 4 → reach frames.new root level number ≡ reach frames.old root level number }
-    ensures larges { (free : List Bool) → IsTree frames.old root free → (slot : ℕ) → large_of frames.new root slot ≡ large_of frames.old root slot }
-    ensures tree { (free : List Bool) → IsTree frames.old root free → IsTree frames.new root free }
-    ensures stored { (free : List Bool) → IsTree frames.old root free → IfSome (walk_of frames.old root (address / 4096)) (λ place. word_at frames.new place.frame (address % 4096 / 8) ≡ value) }
-    ensures other_words { (free : List Bool) → IsTree frames.old root free → (other : ℕ) → IsTrue (is_canonical other) → (other / 8 ≡ address / 8 → ⊥) →
-        IfSome (walk_of frames.old root (other / 4096)) (λ place. word_at frames.new place.frame (other % 4096 / 8) ≡ word_at frames.old place.frame (other % 4096 / 8)) }
-    ensures bytes { (free : List Bool) → IsTree frames.old root free → (k : ℕ) → k < 8 → reached frames.new root (address + k) ≡ Some (byte_of value k) }
-    ensures others { (free : List Bool) → IsTree frames.old root free → (other : ℕ) → IsTrue (is_canonical other) → (other / 8 ≡ address / 8 → ⊥) → reached frames.new root other ≡ reached frames.old root other }
+    ensures kept { KeepsTables frames.old frames.new root }
+    ensures put { IsWordPut frames.old frames.new root address value }
 {
     let Some(page) = walk(frames, root, Page::containing_address(address)) else {
         unreachable!()
@@ -83,10 +77,7 @@ pub fn store_words(frames: &mut Frames, root: PhysFrame, page: Page, index: u16,
     requires mapped { IsSome (walk_of frames.old root page) }
     requires fits { index + length words.now ≤ 512 }
     ensures words { IfSome (walk_of frames.old root page) (λ place. AreWordsWritten frames.old frames.new place.frame index words.now) }
-    ensures size { length frames.new ≡ length frames.old }
-    ensures walks { (free : List Bool) → IsTree frames.old root free → (level number : ℕ) → level ≤ 4 → reach frames.new root level number ≡ reach frames.old root level number }
-    ensures larges { (free : List Bool) → IsTree frames.old root free → (slot : ℕ) → large_of frames.new root slot ≡ large_of frames.old root slot }
-    ensures tree { (free : List Bool) → IsTree frames.old root free → IsTree frames.new root free }
+    ensures kept { KeepsTables frames.old frames.new root }
     ensures bytes { (free : List Bool) → IsTree frames.old root free → (address : ℕ) → address / 4096 ≡ page → index ≤ address % 4096 / 8 → address % 4096 / 8 < index + length words.now →
         reached frames.new root address ≡ Some (byte_of (slice_index words.now (address % 4096 / 8 - index)) (address % 8)) }
     ensures others { (free : List Bool) → IsTree frames.old root free → (address : ℕ) → IsTrue (is_canonical address) →
@@ -104,10 +95,7 @@ pub fn copy_page(frames: &mut Frames, root: PhysFrame, from: Page, to: Page)
     requires source { IsSome (walk_of frames.old root from) }
     requires target { IsSome (walk_of frames.old root to) }
     ensures words { IfSome (walk_of frames.old root from) (λ source. IfSome (walk_of frames.old root to) (λ target. IsFrameCopied frames.old frames.new source.frame target.frame)) }
-    ensures size { length frames.new ≡ length frames.old }
-    ensures walks { (free : List Bool) → IsTree frames.old root free → (level number : ℕ) → level ≤ 4 → reach frames.new root level number ≡ reach frames.old root level number }
-    ensures larges { (free : List Bool) → IsTree frames.old root free → (slot : ℕ) → large_of frames.new root slot ≡ large_of frames.old root slot }
-    ensures tree { (free : List Bool) → IsTree frames.old root free → IsTree frames.new root free }
+    ensures kept { KeepsTables frames.old frames.new root }
     ensures bytes { (free : List Bool) → IsTree frames.old root free → (k : ℕ) → k < 4096 → reached frames.new root (4096 * to + k) ≡ reached frames.old root (4096 * from + k) }
     ensures others { (free : List Bool) → IsTree frames.old root free → (address : ℕ) → IsTrue (is_canonical address) → (address / 4096 ≡ to → ⊥) → reached frames.new root address ≡ reached frames.old root address }
 {

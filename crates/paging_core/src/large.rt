@@ -1,16 +1,17 @@
-ghost use Rattle.std.specs.Prelude.{◌≡◌, ℕ, ◌+◌, ◌*◌, ◌/◌, ◌%◌, ◌^◌, ◌<◌, ◌≤◌, ◌↔◌, IsSome, IfSome, IsTrue, List, Bool, None, Some, true, false, length, IsFalse};
+ghost use Rattle.std.specs.Prelude.{◌≡◌, ℕ, ◌+◌, ◌*◌, ◌/◌, ◌^◌, ◌<◌, ◌≤◌, ◌↔◌, IsSome, IfSome, IsTrue, List, Bool, None, Some, true, false, length, IsFalse};
 ghost use Rattle.std.specs.Option.{option_map};
 ghost use Rattle.paging_core.specs.Address.{is_canonical, IsCanonicalRange};
-ghost use Rattle.paging_core.specs.Area.{in_area};
+ghost use Rattle.paging_core.specs.Area.{in_area, Whole};
 ghost use Rattle.paging_core.specs.Memory.{frame_count, word_at};
 ghost use Rattle.paging_core.specs.Entry.{page_entry};
-ghost use Rattle.paging_core.specs.Walk.{Place, reach, large_of, walk_of, reached, place_of};
+ghost use Rattle.paging_core.specs.Walk.{reach, large_of, walk_of, reached, place_of};
 ghost use Rattle.paging_core.specs.Pool.{is_free, free_count, FreeBelow, FreeIn, IsOut};
 ghost use Rattle.paging_core.specs.Runs.{IsRunFree};
 ghost use Rattle.paging_core.specs.Tree.{IsTree, IsTreeIn, IsRunUnmet};
 ghost use Rattle.paging_core.specs.Missing.{missing_of};
 ghost use Rattle.paging_core.specs.Moments.{IsChangedIn, IsStill};
-ghost use Rattle.paging_core.specs.Large.{slot_of, missing_above, IsSlotEmpty, IsLargeAdded, AreFramesCleared, IsSlotAdded, IsLargeEntry, IsLargeCleared, IsLargeRemoved, IsLargeCut};
+ghost use Rattle.paging_core.specs.Large.{slot_of, missing_above, IsSlotEmpty, IsLargeAdded, AreFramesCleared, IsLargeEntry, IsLargeCleared, IsLargeCut};
+ghost use Rattle.paging_core.specs.Outcomes.{IsTreeAndPool, KeepsOtherSlots, IsSlotMapped, IsLargeTakenOut};
 
 use crate::frame_allocator::{FrameAllocator, FrameDeallocator};
 use crate::memory::Frames;
@@ -63,11 +64,9 @@ pub fn map_large<M: PhysicalMemory, P: TableFrames>(
     requires room { missing_above (M.words frames.old) root page ≤ free_count (P.free pool.old) }
     requires before { (now : List ℕ) → IsStill (M.area frames.old) (M.words frames.old) root now → M.allows now }
     requires seen { (now : List ℕ) (free : List Bool) → IsLargeAdded (M.words frames.old) now (P.free pool.old) free root page frame rights → M.allows now }
-    ensures tree { IsTreeIn (M.area frames.new) (M.words frames.new) root (P.free pool.new) }
-    ensures known { FreeIn (M.area frames.new) (P.free pool.new) (frame_count (M.words frames.new)) }
+    ensures standing { IsTreeAndPool (M.area frames.new) (M.words frames.new) root (P.free pool.new) }
     ensures area { M.area frames.new ≡ M.area frames.old }
-    ensures elsewhere { (other : ℕ) → IsTrue (is_canonical (other * 4096)) → (other / 512 ≡ page → ⊥) → walk_of (M.words frames.new) root other ≡ walk_of (M.words frames.old) root other }
-    ensures bytes { (address : ℕ) → IsSome (walk_of (M.words frames.old) root (address / 4096)) → reached (M.words frames.new) root address ≡ reached (M.words frames.old) root address }
+    ensures others { KeepsOtherSlots (M.words frames.old) (M.words frames.new) root page }
     ensures added { IsLargeAdded (M.words frames.old) (M.words frames.new) (P.free pool.old) (P.free pool.new) root page frame rights }
 
     // A range of pages with the slot no longer misses the tables above it. The slot's own still counts as missing.
@@ -107,20 +106,10 @@ pub fn map_slot(
     requires tree { IsTree frames.old root pool.old }
     requires empty { IsSlotEmpty frames.old root page }
     requires room { 512 + missing_above frames.old root page ≤ free_count pool.old }
-    ensures tree { IsTree frames.new root pool.new }
-    ensures known { FreeBelow pool.new (frame_count frames.new) }
+    ensures standing { IsTreeAndPool Whole frames.new root pool.new }
     ensures full { IsFalse result → ((run : ℕ) → IsRunFree pool.old run → ⊥) × (frames.new ≡ frames.old) × (pool.new ≡ pool.old) }
-    ensures added { IsTrue result → IsSlotAdded frames.old frames.new pool.old pool.new root page rights }
-
-    // A range of pages with the slot no longer misses the tables above it. The slot's own still counts as missing.
-    ensures missing { IsTrue result → (first pages : ℕ) → IsCanonicalRange first pages → first ≤ 512 * page → 512 * page + 512 ≤ first + pages →
-        missing_of frames.new root first pages + missing_above frames.old root page ≡ missing_of frames.old root first pages }
-    ensures count { IsTrue result → free_count pool.new + 512 + missing_above frames.old root page ≡ free_count pool.old }
-
-    // No other page's walk is changed, and no byte of a page that was mapped; each byte of the slot is 0.
-    ensures elsewhere { (other : ℕ) → IsTrue (is_canonical (other * 4096)) → (other / 512 ≡ page → ⊥) → walk_of frames.new root other ≡ walk_of frames.old root other }
-    ensures zeros { IsTrue result → (address k : ℕ) → k < 512 → address / 4096 ≡ 512 * page + k → reached frames.new root address ≡ Some 0 }
-    ensures bytes { (address : ℕ) → IsSome (walk_of frames.old root (address / 4096)) → reached frames.new root address ≡ reached frames.old root address }
+    ensures mapped { IsTrue result → IsSlotMapped frames.old frames.new pool.old pool.new root page rights }
+    ensures others { KeepsOtherSlots frames.old frames.new root page }
 {
     let run: Option<PhysFrame<Size2MiB>> = pool.allocate_frame();
     let Some(run) = run else {
@@ -210,10 +199,8 @@ pub fn unmap_large<M: PhysicalMemory>(
     ensures area { M.area frames.new ≡ M.area frames.old }
 
     // If the tables are a tree, they stay one, and no other page's walk is changed.
-    ensures tree { (free : List Bool) → IsTreeIn (M.area frames.old) (M.words frames.old) root free → IsTreeIn (M.area frames.new) (M.words frames.new) root free }
-    ensures bytes { (free : List Bool) → IsTreeIn (M.area frames.old) (M.words frames.old) root free → (address : ℕ) → IsSome (walk_of (M.words frames.new) root (address / 4096)) → reached (M.words frames.new) root address ≡ reached (M.words frames.old) root address }
-    ensures removed { (free : List Bool) → IsTreeIn (M.area frames.old) (M.words frames.old) root free → IsLargeRemoved (M.words frames.old) (M.words frames.new) root page }
-    ensures elsewhere { (free : List Bool) → IsTreeIn (M.area frames.old) (M.words frames.old) root free → (other : ℕ) → IsTrue (is_canonical (other * 4096)) → (other / 512 ≡ page → ⊥) → walk_of (M.words frames.new) root other ≡ walk_of (M.words frames.old) root other }
+    ensures gone { (free : List Bool) → IsTreeIn (M.area frames.old) (M.words frames.old) root free →
+        IsLargeTakenOut (M.area frames.new) (M.words frames.old) (M.words frames.new) root free page }
 {
     let LargeEntry {
         table,

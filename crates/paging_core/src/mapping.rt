@@ -1,4 +1,4 @@
-ghost use Rattle.std.specs.Prelude.{◌≡◌, ℕ, ◌+◌, ◌*◌, ◌/◌, ◌%◌, ◌^◌, ◌<◌, ◌≤◌, None, Some, List, Bool, true, false, IsTrue, set};
+ghost use Rattle.std.specs.Prelude.{◌≡◌, ℕ, ◌+◌, ◌*◌, ◌/◌, ◌^◌, ◌<◌, ◌≤◌, None, List, Bool, true, false, IsTrue, set};
 ghost use Rattle.paging_core.specs.Address.{is_canonical, IsCanonicalRange};
 ghost use Rattle.paging_core.specs.Area.{in_area};
 ghost use Rattle.paging_core.specs.Entry.{page_entry};
@@ -10,6 +10,7 @@ ghost use Rattle.paging_core.specs.Missing.{missing_of};
 ghost use Rattle.paging_core.specs.Moments.{IsStill};
 ghost use Rattle.paging_core.specs.Mapping.{IsPageAdded};
 ghost use Rattle.paging_core.specs.WalkEnd.{IsEntryOf};
+ghost use Rattle.paging_core.specs.Outcomes.{IsTreeAndPool, IsPagePut};
 
 use crate::page_table::{PageTableEntry, Rights};
 use crate::pages::{Page, index_after};
@@ -48,12 +49,8 @@ pub fn map_at<M: PhysicalMemory>(
     ensures known { (free : List Bool) → FreeIn (M.area frames.old) free (frame_count (M.words frames.old)) → FreeIn (M.area frames.new) free (frame_count (M.words frames.new)) }
 
     // If the tables are a tree beside some free frames, and the frame is none of these, they stay one.
-    ensures tree { (free : List Bool) → IsTreeIn (M.area frames.old) (M.words frames.old) root free → is_free free frame ≡ false → IsTreeIn (M.area frames.new) (M.words frames.new) root free }
-    ensures elsewhere { (free : List Bool) → IsTreeIn (M.area frames.old) (M.words frames.old) root free → is_free free frame ≡ false →
-        (other : ℕ) → IsTrue (is_canonical (other * 4096)) → (other ≡ page → ⊥) → walk_of (M.words frames.new) root other ≡ walk_of (M.words frames.old) root other }
-    ensures added { (free : List Bool) → IsTreeIn (M.area frames.old) (M.words frames.old) root free → is_free free frame ≡ false → IsPageAdded (M.words frames.old) (M.words frames.new) free free root page frame rights }
-    ensures missing { (free : List Bool) → IsTreeIn (M.area frames.old) (M.words frames.old) root free → is_free free frame ≡ false →
-        (first pages : ℕ) → IsCanonicalRange first pages → first ≤ page → page < first + pages → missing_of (M.words frames.new) root first pages ≡ missing_of (M.words frames.old) root first pages }
+    ensures mapped { (free : List Bool) → IsTreeIn (M.area frames.old) (M.words frames.old) root free → is_free free frame ≡ false →
+        IsPagePut (M.area frames.new) (M.words frames.old) (M.words frames.new) root free page frame rights }
 {
     let _canonical = page.number();
     let entry = PageTableEntry::to_page(frame, rights);
@@ -83,8 +80,7 @@ pub fn map_page<M: PhysicalMemory, P: TableFrames>(
     requires room { missing_of (M.words frames.old) root page 1 ≤ free_count (P.free pool.old) }
     requires before { (now : List ℕ) → IsStill (M.area frames.old) (M.words frames.old) root now → M.allows now }
     requires seen { (now : List ℕ) (free : List Bool) → IsPageAdded (M.words frames.old) now (P.free pool.old) free root page frame rights → M.allows now }
-    ensures tree { IsTreeIn (M.area frames.new) (M.words frames.new) root (P.free pool.new) }
-    ensures known { FreeIn (M.area frames.new) (P.free pool.new) (frame_count (M.words frames.new)) }
+    ensures standing { IsTreeAndPool (M.area frames.new) (M.words frames.new) root (P.free pool.new) }
     ensures area { M.area frames.new ≡ M.area frames.old }
     ensures elsewhere { (other : ℕ) → IsTrue (is_canonical (other * 4096)) → (other ≡ page → ⊥) → walk_of (M.words frames.new) root other ≡ walk_of (M.words frames.old) root other }
     ensures added { IsPageAdded (M.words frames.old) (M.words frames.new) (P.free pool.old) (P.free pool.new) root page frame rights }

@@ -1,13 +1,14 @@
-ghost use Rattle.std.specs.Prelude.{◌≡◌, ℕ, ◌+◌, ◌*◌, ◌/◌, ◌%◌, ◌^◌, ◌<◌, ◌≤◌, IsSome, IfSome, IsTrue, List, Bool, true, set, Some};
-ghost use Rattle.paging_core.specs.Address.{is_canonical, IsCanonicalRange};
+ghost use Rattle.std.specs.Prelude.{◌≡◌, ℕ, ◌+◌, ◌*◌, ◌/◌, ◌<◌, IsSome, List, Bool, true, set};
+ghost use Rattle.paging_core.specs.Address.{IsCanonicalRange};
 ghost use Rattle.paging_core.specs.Area.{in_area};
 ghost use Rattle.paging_core.specs.Entry.{page_entry};
 ghost use Rattle.paging_core.specs.Memory.{frame_count};
 ghost use Rattle.paging_core.specs.Prefix.{prefix_of};
-ghost use Rattle.paging_core.specs.Walk.{reach, walk_of, reached, granted};
+ghost use Rattle.paging_core.specs.Walk.{reach, walk_of, granted};
 ghost use Rattle.paging_core.specs.Tree.{IsTreeIn, HasTreeIn};
-ghost use Rattle.paging_core.specs.PageChanges.{regrant, IsFrameOf, IsPageChanged, ArePagesChanged, only, among};
+ghost use Rattle.paging_core.specs.PageChanges.{regrant, IsFrameOf, IsPageChanged, ArePagesChanged, among};
 ghost use Rattle.paging_core.specs.WalkEnd.{IsEntryOf};
+ghost use Rattle.paging_core.specs.Outcomes.{IsPageRegranted, IsRangeRegranted};
 
 use crate::page_table::{PageTableEntry, Rights};
 use crate::page_walk::{LastEntry, last_entry};
@@ -40,11 +41,8 @@ pub fn protect_at<M: PhysicalMemory>(
     ensures area { M.area frames.new ≡ M.area frames.old }
 
     // If the tables are a tree, they stay one; no other page's walk is changed, and no byte of any page.
-    ensures tree { (free : List Bool) → IsTreeIn (M.area frames.old) (M.words frames.old) root free → IsTreeIn (M.area frames.new) (M.words frames.new) root free }
-    ensures pages { (free : List Bool) → IsTreeIn (M.area frames.old) (M.words frames.old) root free → ArePagesChanged (M.words frames.old) (M.words frames.new) root (regrant rights) (only page) }
-    ensures granted { (free : List Bool) → IsTreeIn (M.area frames.old) (M.words frames.old) root free → IfSome (walk_of (M.words frames.old) root page) (λ place. walk_of (M.words frames.new) root page ≡ Some (granted place.frame rights)) }
-    ensures elsewhere { (free : List Bool) → IsTreeIn (M.area frames.old) (M.words frames.old) root free → (other : ℕ) → IsTrue (is_canonical (other * 4096)) → (other ≡ page → ⊥) → walk_of (M.words frames.new) root other ≡ walk_of (M.words frames.old) root other }
-    ensures bytes { (free : List Bool) → IsTreeIn (M.area frames.old) (M.words frames.old) root free → (address : ℕ) → reached (M.words frames.new) root address ≡ reached (M.words frames.old) root address }
+    ensures granted { (free : List Bool) → IsTreeIn (M.area frames.old) (M.words frames.old) root free →
+        IsPageRegranted (M.area frames.new) (M.words frames.old) (M.words frames.new) root free page rights }
 {
     let _canonical = page.number();
     let entry = PageTableEntry::to_page(frame, rights);
@@ -64,11 +62,8 @@ pub fn protect_page<M: PhysicalMemory>(frames: &mut M, root: PhysFrame, page: Pa
     ensures area { M.area frames.new ≡ M.area frames.old }
 
     // If the tables are a tree, they stay one; no other page's walk is changed, and no byte of any page.
-    ensures tree { (free : List Bool) → IsTreeIn (M.area frames.old) (M.words frames.old) root free → IsTreeIn (M.area frames.new) (M.words frames.new) root free }
-    ensures pages { (free : List Bool) → IsTreeIn (M.area frames.old) (M.words frames.old) root free → ArePagesChanged (M.words frames.old) (M.words frames.new) root (regrant rights) (only page) }
-    ensures granted { (free : List Bool) → IsTreeIn (M.area frames.old) (M.words frames.old) root free → IfSome (walk_of (M.words frames.old) root page) (λ place. walk_of (M.words frames.new) root page ≡ Some (granted place.frame rights)) }
-    ensures elsewhere { (free : List Bool) → IsTreeIn (M.area frames.old) (M.words frames.old) root free → (other : ℕ) → IsTrue (is_canonical (other * 4096)) → (other ≡ page → ⊥) → walk_of (M.words frames.new) root other ≡ walk_of (M.words frames.old) root other }
-    ensures bytes { (free : List Bool) → IsTreeIn (M.area frames.old) (M.words frames.old) root free → (address : ℕ) → reached (M.words frames.new) root address ≡ reached (M.words frames.old) root address }
+    ensures granted { (free : List Bool) → IsTreeIn (M.area frames.old) (M.words frames.old) root free →
+        IsPageRegranted (M.area frames.new) (M.words frames.old) (M.words frames.new) root free page rights }
 {
     let LastEntry {
         table,
@@ -100,9 +95,7 @@ pub fn protect_range<M: PhysicalMemory>(
     ensures tree { (free : List Bool) → IsTreeIn (M.area frames.old) (M.words frames.old) root free → IsTreeIn (M.area frames.new) (M.words frames.new) root free }
 
     // The pages of the range have the rights. No other page's walk is changed, and no byte of any page.
-    ensures granted { (k : ℕ) → k < pages → IfSome (walk_of (M.words frames.old) root (first + k)) (λ place. walk_of (M.words frames.new) root (first + k) ≡ Some (granted place.frame rights)) }
-    ensures elsewhere { (other : ℕ) → IsTrue (is_canonical (other * 4096)) → ((k : ℕ) → k < pages → other ≡ first + k → ⊥) → walk_of (M.words frames.new) root other ≡ walk_of (M.words frames.old) root other }
-    ensures bytes { (address : ℕ) → reached (M.words frames.new) root address ≡ reached (M.words frames.old) root address }
+    ensures granted { IsRangeRegranted (M.words frames.old) (M.words frames.new) root first pages rights }
 {
     for step in 0..pages {
         protect_page(frames, root, first.after(step), rights);

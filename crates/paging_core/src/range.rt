@@ -1,11 +1,12 @@
-ghost use Rattle.std.specs.Prelude.{◌≡◌, ℕ, ◌+◌, ◌*◌, ◌/◌, ◌%◌, ◌^◌, ◌<◌, ◌≤◌, None, Some, IsSome, IsTrue};
-ghost use Rattle.paging_core.specs.Address.{is_canonical, IsCanonicalRange};
+ghost use Rattle.std.specs.Prelude.{◌≡◌, ℕ, ◌+◌, ◌/◌, ◌<◌, ◌≤◌, None, Some};
+ghost use Rattle.paging_core.specs.Address.{IsCanonicalRange};
 ghost use Rattle.paging_core.specs.Memory.{frame_count};
-ghost use Rattle.paging_core.specs.Walk.{walk_of, reached};
+ghost use Rattle.paging_core.specs.Walk.{walk_of};
 ghost use Rattle.paging_core.specs.Pool.{free_count, FreeBelow};
 ghost use Rattle.paging_core.specs.Tree.{IsTree};
 ghost use Rattle.paging_core.specs.Missing.{missing_of};
 ghost use Rattle.paging_core.specs.Mapping.{IsRangeAdded};
+ghost use Rattle.paging_core.specs.Outcomes.{AddsClearPages};
 
 use crate::frame_allocator::FrameAllocator;
 use crate::mapping::map_page;
@@ -58,11 +59,7 @@ pub fn map_range(
     requires room { pages + missing_of frames.old root first pages ≤ free_count pool.old }
     ensures added { IsRangeAdded frames.old frames.new pool.old pool.new root first pages rights }
     ensures known { FreeBelow pool.new (frame_count frames.new) }
-
-    // No other page's walk is changed, and no byte of a page that was mapped; each byte of the range is 0.
-    ensures elsewhere { (other : ℕ) → IsTrue (is_canonical (other * 4096)) → ((k : ℕ) → k < pages → other ≡ first + k → ⊥) → walk_of frames.new root other ≡ walk_of frames.old root other }
-    ensures zeros { (address k : ℕ) → k < pages → address / 4096 ≡ first + k → reached frames.new root address ≡ Some 0 }
-    ensures bytes { (address : ℕ) → IsSome (walk_of frames.old root (address / 4096)) → reached frames.new root address ≡ reached frames.old root address }
+    ensures clear { AddsClearPages frames.old frames.new root first pages }
 {
     for step in 0..pages {
         map_new_page(frames, pool, root, first.after(step), rights);

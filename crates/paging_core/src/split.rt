@@ -1,12 +1,12 @@
-ghost use Rattle.std.specs.Prelude.{◌≡◌, ℕ, ◌+◌, ◌*◌, ◌/◌, ◌%◌, ◌^◌, ◌<◌, ◌≤◌, IsSome, IsTrue, List, Bool};
-ghost use Rattle.paging_core.specs.Address.{is_canonical};
+ghost use Rattle.std.specs.Prelude.{◌≡◌, ℕ, ◌/◌, ◌<◌, IsSome, List, Bool};
 ghost use Rattle.paging_core.specs.Memory.{frame_count};
 ghost use Rattle.paging_core.specs.Walk.{large_of, walk_of, reached};
 ghost use Rattle.paging_core.specs.Pool.{free_count, FreeIn};
 ghost use Rattle.paging_core.specs.Moments.{IsStill};
 ghost use Rattle.paging_core.specs.Tree.{IsTreeIn};
 ghost use Rattle.paging_core.specs.Large.{slot_of};
-ghost use Rattle.paging_core.specs.LargeChanges.{IsLargeSplit, IsLargeRegranted, AreLargeGranted};
+ghost use Rattle.paging_core.specs.LargeChanges.{IsLargeSplit, IsLargeRegranted};
+ghost use Rattle.paging_core.specs.Outcomes.{IsTreeAndPool, IsSlotRegranted};
 
 use crate::large::{LargeEntry, fill_table, large_entry};
 use crate::page_table::{PageTableEntry, Rights};
@@ -34,8 +34,7 @@ pub fn split_large<M: PhysicalMemory, P: TableFrames>(
     requires large { IsSome (large_of (M.words frames.old) root (slot_of page)) }
     requires room { 0 < free_count (P.free pool.old) }
     requires seen { (now : List ℕ) → IsStill (M.area frames.old) (M.words frames.old) root now → M.allows now }
-    ensures tree { IsTreeIn (M.area frames.new) (M.words frames.new) root (P.free pool.new) }
-    ensures known { FreeIn (M.area frames.new) (P.free pool.new) (frame_count (M.words frames.new)) }
+    ensures standing { IsTreeAndPool (M.area frames.new) (M.words frames.new) root (P.free pool.new) }
     ensures area { M.area frames.new ≡ M.area frames.old }
     ensures split { IsLargeSplit (M.words frames.old) (M.words frames.new) (P.free pool.old) (P.free pool.new) root page }
 
@@ -72,10 +71,8 @@ pub fn protect_large<M: PhysicalMemory>(
     ensures area { M.area frames.new ≡ M.area frames.old }
 
     // If the tables are a tree, they stay one; no other page's walk is changed, and no byte of any page.
-    ensures tree { (free : List Bool) → IsTreeIn (M.area frames.old) (M.words frames.old) root free → IsTreeIn (M.area frames.new) (M.words frames.new) root free }
-    ensures granted { (free : List Bool) → IsTreeIn (M.area frames.old) (M.words frames.old) root free → AreLargeGranted (M.words frames.old) (M.words frames.new) root page rights }
-    ensures elsewhere { (free : List Bool) → IsTreeIn (M.area frames.old) (M.words frames.old) root free → (other : ℕ) → IsTrue (is_canonical (other * 4096)) → (other / 512 ≡ page → ⊥) → walk_of (M.words frames.new) root other ≡ walk_of (M.words frames.old) root other }
-    ensures bytes { (free : List Bool) → IsTreeIn (M.area frames.old) (M.words frames.old) root free → (address : ℕ) → reached (M.words frames.new) root address ≡ reached (M.words frames.old) root address }
+    ensures granted { (free : List Bool) → IsTreeIn (M.area frames.old) (M.words frames.old) root free →
+        IsSlotRegranted (M.area frames.new) (M.words frames.old) (M.words frames.new) root free page rights }
 {
     let LargeEntry {
         table,

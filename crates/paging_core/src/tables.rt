@@ -1,12 +1,13 @@
-ghost use Rattle.std.specs.Prelude.{◌≡◌, ℕ, ◌+◌, ◌*◌, ◌/◌, ◌%◌, ◌^◌, ◌<◌, ◌≤◌, None, Some, IfSome, MatchOption, length, true, false, List, Bool};
+ghost use Rattle.std.specs.Prelude.{◌≡◌, ℕ, ◌+◌, ◌/◌, ◌<◌, ◌≤◌, None, Some, IfSome, MatchOption, true, List, Bool};
 ghost use Rattle.paging_core.specs.Area.{in_area};
 ghost use Rattle.paging_core.specs.Memory.{frame_count, cleared};
 ghost use Rattle.paging_core.specs.Prefix.{prefix_of};
-ghost use Rattle.paging_core.specs.Walk.{step, large_of, reach, walk_of, top};
-ghost use Rattle.paging_core.specs.Pool.{is_free, free_count, FreeIn, IsFrameTaken};
+ghost use Rattle.paging_core.specs.Walk.{step, large_of, reach, top};
+ghost use Rattle.paging_core.specs.Pool.{is_free, free_count, FreeIn};
 ghost use Rattle.paging_core.specs.Moments.{IsChangedIn, IsStill};
 ghost use Rattle.paging_core.specs.Tree.{IsTreeIn};
 ghost use Rattle.paging_core.specs.Tables.{IsTableMade, IsEnsured, IsPrepared, missing_past};
+ghost use Rattle.paging_core.specs.Outcomes.{IsLowestFrameTaken, IsRootMade};
 
 use crate::page_table::PageTableEntry;
 use crate::page_walk::{Mapped, next};
@@ -23,19 +24,11 @@ pub fn make_root<M: PhysicalMemory, P: TableFrames>(
 ) -> Option<PhysFrame>
     requires known { FreeIn (M.area frames.old) (P.free pool.old) (frame_count (M.words frames.old)) }
     requires seen { (now : List ℕ) (frame : ℕ) → is_free (P.free pool.old) frame ≡ true → IsChangedIn (M.words frames.old) now frame → M.allows now }
-    ensures taken { IsFrameTaken (P.free pool.old) (P.free pool.new) result }
-    ensures flags { length (P.free pool.new) ≡ length (P.free pool.old) }
-    ensures lowest { IfSome result (λ root. (lower : ℕ) → lower < root → is_free (P.free pool.old) lower ≡ false) }
-    ensures count { MatchOption result (free_count (P.free pool.old) ≡ 0) (λ _. free_count (P.free pool.new) + 1 ≡ free_count (P.free pool.old)) }
+    ensures frame { IsLowestFrameTaken (P.free pool.old) (P.free pool.new) result }
     ensures known { FreeIn (M.area frames.new) (P.free pool.new) (frame_count (M.words frames.new)) }
     ensures words { MatchOption result ((M.words frames.new) ≡ (M.words frames.old)) (λ root. (M.words frames.new) ≡ cleared (M.words frames.old) root) }
-    ensures size { length (M.words frames.new) ≡ length (M.words frames.old) }
+    ensures made { IfSome result (λ root. IsRootMade (M.area frames.new) (M.words frames.old) (M.words frames.new) (P.free pool.new) root) }
     ensures area { M.area frames.new ≡ M.area frames.old }
-    ensures below { IfSome result (λ root. root < frame_count (M.words frames.new)) }
-    ensures tree { IfSome result (λ root. IsTreeIn (M.area frames.new) (M.words frames.new) root (P.free pool.new)) }
-    ensures empty { IfSome result (λ root. (level number : ℕ) → 0 < level → reach (M.words frames.new) root level number ≡ None) }
-    ensures no_large { IfSome result (λ root. (slot : ℕ) → large_of (M.words frames.new) root slot ≡ None) }
-    ensures unmapped { IfSome result (λ root. (page : ℕ) → walk_of (M.words frames.new) root page ≡ None) }
 {
     let root = pool.take_frame()?;
     frames.clear_frame(root);

@@ -1,13 +1,14 @@
-ghost use Rattle.std.specs.Prelude.{◌≡◌, ℕ, ◌+◌, ◌*◌, ◌/◌, ◌%◌, ◌^◌, ◌<◌, ◌≤◌, IsSome, IfSome, IsTrue, List, Bool, true, None, length, set};
-ghost use Rattle.paging_core.specs.Address.{is_canonical, IsCanonicalRange};
+ghost use Rattle.std.specs.Prelude.{◌≡◌, ℕ, ◌+◌, ◌*◌, ◌/◌, ◌<◌, ◌≤◌, IsSome, IfSome, List, Bool, true, length, set};
+ghost use Rattle.paging_core.specs.Address.{IsCanonicalRange};
 ghost use Rattle.paging_core.specs.Area.{in_area};
 ghost use Rattle.paging_core.specs.Memory.{frame_count};
 ghost use Rattle.paging_core.specs.Prefix.{prefix_of};
-ghost use Rattle.paging_core.specs.Walk.{reach, walk_of, reached};
+ghost use Rattle.paging_core.specs.Walk.{reach, walk_of};
 ghost use Rattle.paging_core.specs.Pool.{free_count, FreeBelow};
 ghost use Rattle.paging_core.specs.Tree.{IsTree, IsTreeIn};
-ghost use Rattle.paging_core.specs.PageChanges.{removal, IsPageChanged, ArePagesChanged, ArePagesFreed, only, among};
+ghost use Rattle.paging_core.specs.PageChanges.{removal, IsPageChanged, ArePagesFreed, among};
 ghost use Rattle.paging_core.specs.WalkEnd.{IsEntryOf};
+ghost use Rattle.paging_core.specs.Outcomes.{IsPageTakenOut, IsRangeTakenOut};
 
 use crate::frame_allocator::FrameDeallocator;
 use crate::memory::Frames;
@@ -39,10 +40,8 @@ pub fn clear_at<M: PhysicalMemory>(
     ensures area { M.area frames.new ≡ M.area frames.old }
 
     // If the tables are a tree, they stay one, and no other page's walk is changed.
-    ensures tree { (free : List Bool) → IsTreeIn (M.area frames.old) (M.words frames.old) root free → IsTreeIn (M.area frames.new) (M.words frames.new) root free }
-    ensures pages { (free : List Bool) → IsTreeIn (M.area frames.old) (M.words frames.old) root free → ArePagesChanged (M.words frames.old) (M.words frames.new) root removal (only page) }
-    ensures unmapped { (free : List Bool) → IsTreeIn (M.area frames.old) (M.words frames.old) root free → walk_of (M.words frames.new) root page ≡ None }
-    ensures elsewhere { (free : List Bool) → IsTreeIn (M.area frames.old) (M.words frames.old) root free → (other : ℕ) → IsTrue (is_canonical (other * 4096)) → (other ≡ page → ⊥) → walk_of (M.words frames.new) root other ≡ walk_of (M.words frames.old) root other }
+    ensures gone { (free : List Bool) → IsTreeIn (M.area frames.old) (M.words frames.old) root free →
+        IsPageTakenOut (M.area frames.new) (M.words frames.old) (M.words frames.new) root free page }
 {
     let _canonical = page.number();
     frames.set_word(table, index, 0);
@@ -64,10 +63,8 @@ pub fn unmap_page<M: PhysicalMemory>(frames: &mut M, root: PhysFrame, page: Page
     ensures area { M.area frames.new ≡ M.area frames.old }
 
     // If the tables are a tree, they stay one, and no other page's walk is changed.
-    ensures tree { (free : List Bool) → IsTreeIn (M.area frames.old) (M.words frames.old) root free → IsTreeIn (M.area frames.new) (M.words frames.new) root free }
-    ensures pages { (free : List Bool) → IsTreeIn (M.area frames.old) (M.words frames.old) root free → ArePagesChanged (M.words frames.old) (M.words frames.new) root removal (only page) }
-    ensures unmapped { (free : List Bool) → IsTreeIn (M.area frames.old) (M.words frames.old) root free → walk_of (M.words frames.new) root page ≡ None }
-    ensures elsewhere { (free : List Bool) → IsTreeIn (M.area frames.old) (M.words frames.old) root free → (other : ℕ) → IsTrue (is_canonical (other * 4096)) → (other ≡ page → ⊥) → walk_of (M.words frames.new) root other ≡ walk_of (M.words frames.old) root other }
+    ensures gone { (free : List Bool) → IsTreeIn (M.area frames.old) (M.words frames.old) root free →
+        IsPageTakenOut (M.area frames.new) (M.words frames.old) (M.words frames.new) root free page }
 {
     let LastEntry {
         table,
@@ -101,9 +98,7 @@ pub fn unmap_range(
     ensures known { FreeBelow pool.old (frame_count frames.old) → FreeBelow pool.new (frame_count frames.new) }
 
     // The pages of the range are no longer mapped. No other page's walk is changed, and no byte of it.
-    ensures unmapped { (k : ℕ) → k < pages → walk_of frames.new root (first + k) ≡ None }
-    ensures elsewhere { (other : ℕ) → IsTrue (is_canonical (other * 4096)) → ((k : ℕ) → k < pages → other ≡ first + k → ⊥) → walk_of frames.new root other ≡ walk_of frames.old root other }
-    ensures bytes { (address : ℕ) → IsSome (walk_of frames.new root (address / 4096)) → reached frames.new root address ≡ reached frames.old root address }
+    ensures gone { IsRangeTakenOut frames.old frames.new root first pages }
 {
     for step in 0..pages {
         let frame = unmap_page(frames, root, first.after(step));

@@ -11,42 +11,42 @@ use Rattle.address_space.proofs.copying.copy_to.Goals as goal
 pub protect_page-requires-clause-mapped : goal.protect_page-requires-clause-mapped
 protect_page-requires-clause-mapped c =
     let t = c.requires.tree in
-    subst IsSome (sym (walk_same c.args.frames.now c.copy_page.new.frames c.args.root c.args.target (c.copy_page.ensures.walks t.0 t.1))) c.requires.target
+    subst IsSome (sym (walk_same c.args.frames.now c.copy_page.new.frames c.args.root c.args.target (c.copy_page.ensures.kept.walks t.0 t.1))) c.requires.target
 
 pub protect_page-requires-clause-small : goal.protect_page-requires-clause-small
 protect_page-requires-clause-small c =
     let t = c.requires.tree in
-    by_table c.copy_page.new.frames c.args.root c.args.target (λ slot. c.copy_page.ensures.larges t.0 t.1 slot ∙ c.requires.no_large slot)
-    (subst IsSome (sym (walk_same c.args.frames.now c.copy_page.new.frames c.args.root c.args.target (c.copy_page.ensures.walks t.0 t.1))) c.requires.target)
+    by_table c.copy_page.new.frames c.args.root c.args.target (λ slot. c.copy_page.ensures.kept.larges t.0 t.1 slot ∙ c.requires.no_large slot)
+    (subst IsSome (sym (walk_same c.args.frames.now c.copy_page.new.frames c.args.root c.args.target (c.copy_page.ensures.kept.walks t.0 t.1))) c.requires.target)
 
 pub unreachable-requires : goal.unreachable-requires
 unreachable-requires c =
     let t = c.requires.tree in
     let one = c.copy_page.new.frames in
     not_there (walk_of one c.args.root c.args.source) (sym c.walk.ensures.found ∙ ap (option_map place_of) c.in_default.is)
-    (subst IsSome (sym (walk_same c.args.frames.now one c.args.root c.args.source (c.copy_page.ensures.walks t.0 t.1))) c.requires.source)
+    (subst IsSome (sym (walk_same c.args.frames.now one c.args.root c.args.source (c.copy_page.ensures.kept.walks t.0 t.1))) c.requires.source)
 
 pub returns : goal.returns
 returns c =
     let t = c.requires.tree in
-    let tree = c.copy_page.ensures.tree t.0 t.1 in
-    let walks = c.copy_page.ensures.walks t.0 t.1 in
+    let tree = c.copy_page.ensures.kept.tree t.0 t.1 in
+    let walks = c.copy_page.ensures.kept.walks t.0 t.1 in
     let target = some_place (walk_of c.args.frames.now c.args.root c.args.target) c.requires.target in
     one_copied c.args.frames.now c.copy_page.new.frames c.protect_page.new.frames c.args.root c.args.source c.args.target (place_of c.in-Some.place)
     (record {
       there = sym c.in-Some.ensures.found;
       mapped = subst IsSome (sym (walk_same c.args.frames.now c.copy_page.new.frames c.args.root c.args.target walks)) c.requires.target;
-      size = c.copy_page.ensures.size;
+      size = c.copy_page.ensures.kept.size;
       walks = walks;
-      larges = c.copy_page.ensures.larges t.0 t.1;
-      tree = c.copy_page.ensures.tree;
-      tree_on = c.protect_page.ensures.tree;
+      larges = c.copy_page.ensures.kept.larges t.0 t.1;
+      tree = c.copy_page.ensures.kept.tree;
+      tree_on = λ free tree. (c.protect_page.ensures.granted free tree).tree;
       copied = c.copy_page.ensures.bytes t.0 t.1;
       others = c.copy_page.ensures.others t.0 t.1;
-      changed = c.protect_page.ensures.pages t.0 tree;
-      gave = c.protect_page.ensures.granted t.0 tree;
-      elsewhere = c.protect_page.ensures.elsewhere t.0 tree;
-      bytes = c.protect_page.ensures.bytes t.0 tree;
+      changed = (c.protect_page.ensures.granted t.0 tree).pages;
+      gave = (c.protect_page.ensures.granted t.0 tree).granted;
+      elsewhere = (c.protect_page.ensures.granted t.0 tree).elsewhere;
+      bytes = (c.protect_page.ensures.granted t.0 tree).bytes;
       free = t.0;
       was = t.1;
       at_source = sym (walk_same c.args.frames.now c.copy_page.new.frames c.args.root c.args.source walks) ∙ sym c.in-Some.ensures.found;

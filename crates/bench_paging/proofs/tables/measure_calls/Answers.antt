@@ -11,7 +11,7 @@ protect_range-requires-clause-small c = λ k lt. let t = c.map_range.ensures.add
 pub unmap_range-requires-clause-mapped : goal.unmap_range-requires-clause-mapped
 unmap_range-requires-clause-mapped c = λ k lt.
     let m = c.map_range.ensures.added.mapped k lt in
-    let g = rw m.found at (c.protect_range.ensures.granted k lt) in
+    let g = rw m.found at (c.protect_range.ensures.granted.granted k lt) in
     rw g refl
 
 pub unmap_range-requires-clause-small : goal.unmap_range-requires-clause-small

@@ -93,23 +93,18 @@ returns-clause-mapped c =
     c.map_slots-stop.result c.loop-done.done c.args.rights c.requires.range c.requires.unmapped
     c.map_slots-stop.ensures.added c.map_slots-stop.ensures.full c.loop-done.invariant (omega arith)
 
-pub returns-clause-elsewhere : goal.returns-clause-elsewhere
-returns-clause-elsewhere c =
-    mapped_elsewhere c.args.frames.now c.map_slots-stop.new.frames c.loop-done.frames c.args.pool.now
-    c.map_slots-stop.new.pool c.loop-done.pool c.args.root c.args.first c.args.pages
-    c.map_slots-stop.result c.loop-done.done c.args.rights c.requires.range c.requires.unmapped
-    c.map_slots-stop.ensures.added c.map_slots-stop.ensures.full c.loop-done.invariant (omega arith)
-
-pub returns-clause-zeros : goal.returns-clause-zeros
-returns-clause-zeros c =
-    mapped_zeros c.args.frames.now c.map_slots-stop.new.frames c.loop-done.frames c.args.pool.now c.map_slots-stop.new.pool
-    c.loop-done.pool c.args.root c.args.first c.args.pages
-    c.map_slots-stop.result c.loop-done.done c.args.rights c.requires.range c.requires.unmapped
-    c.map_slots-stop.ensures.added c.map_slots-stop.ensures.full c.loop-done.invariant (omega arith)
-
-pub returns-clause-bytes : goal.returns-clause-bytes
-returns-clause-bytes c =
-    mapped_bytes c.args.frames.now c.map_slots-stop.new.frames c.loop-done.frames c.args.pool.now c.map_slots-stop.new.pool
-    c.loop-done.pool c.args.root c.args.first c.args.pages
-    c.map_slots-stop.result c.loop-done.done c.args.rights c.requires.range c.requires.unmapped
-    c.map_slots-stop.ensures.added c.map_slots-stop.ensures.full c.loop-done.invariant (omega arith)
+pub returns-clause-clear : goal.returns-clause-clear
+returns-clause-clear c = record {
+  elsewhere = mapped_elsewhere c.args.frames.now c.map_slots-stop.new.frames c.loop-done.frames c.args.pool.now
+      c.map_slots-stop.new.pool c.loop-done.pool c.args.root c.args.first c.args.pages
+      c.map_slots-stop.result c.loop-done.done c.args.rights c.requires.range c.requires.unmapped
+      c.map_slots-stop.ensures.added c.map_slots-stop.ensures.full c.loop-done.invariant (omega arith);
+  zeros = mapped_zeros c.args.frames.now c.map_slots-stop.new.frames c.loop-done.frames c.args.pool.now c.map_slots-stop.new.pool
+      c.loop-done.pool c.args.root c.args.first c.args.pages
+      c.map_slots-stop.result c.loop-done.done c.args.rights c.requires.range c.requires.unmapped
+      c.map_slots-stop.ensures.added c.map_slots-stop.ensures.full c.loop-done.invariant (omega arith);
+  bytes = mapped_bytes c.args.frames.now c.map_slots-stop.new.frames c.loop-done.frames c.args.pool.now c.map_slots-stop.new.pool
+      c.loop-done.pool c.args.root c.args.first c.args.pages
+      c.map_slots-stop.result c.loop-done.done c.args.rights c.requires.range c.requires.unmapped
+      c.map_slots-stop.ensures.added c.map_slots-stop.ensures.full c.loop-done.invariant (omega arith);
+}

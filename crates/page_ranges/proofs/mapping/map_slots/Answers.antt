@@ -56,10 +56,10 @@ loop-slot-preserved c =
             c.args.pages c.loop-slot.slot c.args.rights
             c.requires.range c.requires.known c.requires.unmapped c.requires.room c.loop-slot.invariant.added c.loop-slot.invariant.from to
             w.map_slot.new.frames w.map_slot.new.pool (ap (λ s. reach c.loop-slot.frames c.args.root 3 (slot_of s)) (sym e) ∙ t)
-            (rw e at (w.map_slot.ensures.added w.if-not-map_slot.false)) w.map_slot.ensures.tree
-            (rw e at (w.map_slot.ensures.missing w.if-not-map_slot.false c.args.first c.args.pages c.requires.range
+            (rw e at ((w.map_slot.ensures.mapped w.if-not-map_slot.false).added)) w.map_slot.ensures.standing.tree
+            (rw e at ((w.map_slot.ensures.mapped w.if-not-map_slot.false).missing c.args.first c.args.pages c.requires.range
             (rw e c.loop-slot.invariant.from) (rw e to)))
-            (rw e at (w.map_slot.ensures.count w.if-not-map_slot.false)))
+            (rw e at ((w.map_slot.ensures.mapped w.if-not-map_slot.false).count)))
         | else-not-has_table-via-else-not-has_table w ↦
             rw (w.frames-is, w.pool-is)
             (slots_skip c.args.frames.now c.loop-slot.frames c.args.pool.now c.loop-slot.pool c.args.root c.args.first

@@ -73,16 +73,11 @@ returns-clause-known c =
     c.requires.range.some c.requires.tree (all c (omega arith)) c.requires.root
 
 pub returns-clause-gone : goal.returns-clause-gone
-returns-clause-gone c =
-    unmapped_gone c.args.frames.now c.loop-done.frames c.args.pool.now c.loop-done.pool c.args.root c.args.first c.args.pages
-    c.requires.range.some c.requires.tree (all c (omega arith)) c.requires.range
-
-pub returns-clause-elsewhere : goal.returns-clause-elsewhere
-returns-clause-elsewhere c =
-    unmapped_elsewhere c.args.frames.now c.loop-done.frames c.args.pool.now c.loop-done.pool c.args.root c.args.first c.args.pages
-    c.requires.range.some c.requires.tree (all c (omega arith)) c.requires.range
-
-pub returns-clause-bytes : goal.returns-clause-bytes
-returns-clause-bytes c =
-    unmapped_bytes c.args.frames.now c.loop-done.frames c.args.pool.now c.loop-done.pool c.args.root c.args.first c.args.pages
-    c.requires.range.some c.requires.tree (all c (omega arith))
+returns-clause-gone c = record {
+  unmapped = unmapped_gone c.args.frames.now c.loop-done.frames c.args.pool.now c.loop-done.pool c.args.root c.args.first c.args.pages
+      c.requires.range.some c.requires.tree (all c (omega arith)) c.requires.range;
+  elsewhere = unmapped_elsewhere c.args.frames.now c.loop-done.frames c.args.pool.now c.loop-done.pool c.args.root c.args.first c.args.pages
+      c.requires.range.some c.requires.tree (all c (omega arith)) c.requires.range;
+  bytes = unmapped_bytes c.args.frames.now c.loop-done.frames c.args.pool.now c.loop-done.pool c.args.root c.args.first c.args.pages
+      c.requires.range.some c.requires.tree (all c (omega arith));
+}

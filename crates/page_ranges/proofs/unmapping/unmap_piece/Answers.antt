@@ -36,7 +36,7 @@ deallocate_number-requires c =
     let p = found c.args.frames.now c.args.root c.args.first c.slot_at-slot.result c.large_page.result c.large_page.ensures
     (c.is_none.ensures ∙ ap not c.if-is_none.false) c.slot_at-slot.ensures in
     let framed : 512 * c.unmap_large-run.result ≡ p.0.frame = rw (c.slot_at-slot.ensures, p.1) at c.unmap_large-run.ensures.frame in
-    let size = (c.unmap_large-run.ensures.removed c.args.pool.now c.requires.tree).size in
+    let size = ((c.unmap_large-run.ensures.gone c.args.pool.now c.requires.tree).removed).size in
     let below = c.unmap_large-run.ensures.below in
     let n = c.number.ensures.value in
     record {
@@ -57,7 +57,7 @@ returns-then-offset-eq0 c =
     c.unmap_large-run.new.frames c.args.pool.now c.deallocate_number.new.self
     c.args.root _ p.0 c.requires.root c.requires.tree (omega arith) (omega arith) p.1 (omega arith)
     (rw c.slot_at-slot.ensures at c.unmap_large-run.ensures.cleared)
-    (rw c.slot_at-slot.ensures at (c.unmap_large-run.ensures.removed c.args.pool.now c.requires.tree))
+    (rw c.slot_at-slot.ensures at ((c.unmap_large-run.ensures.gone c.args.pool.now c.requires.tree).removed))
     c.deallocate_number.ensures.given c.deallocate_number.ensures.count
 
 pub returns-else-offset-eq0 : goal.returns-else-offset-eq0

@@ -1,6 +1,6 @@
 use Rattle.std.proofs.Common.{ℕ, sym, subst}
 use Rattle.paging_core.specs.Memory.{IsFrameCopied}
-use Rattle.paging_core.proofs.PageWritten.{written_walks, written_larges, written_tree, copy_bytes, copy_others}
+use Rattle.paging_core.proofs.PageWritten.{page_kept, copy_bytes, copy_others}
 use Rattle.paging_core.proofs.access.copy_page.Goals as goal
 
 copied : (c : goal.After-copy_frame) →
@@ -15,26 +15,10 @@ copied c =
 pub returns-clause-words : goal.returns-clause-words
 returns-clause-words c = rw (c.frame_of_page-source.ensures.place.found, c.frame_of_page-target.ensures.place.found) (copied c)
 
-pub returns-clause-size : goal.returns-clause-size
-returns-clause-size c = c.copy_frame.ensures.size
-
-pub returns-clause-walks : goal.returns-clause-walks
-returns-clause-walks c = λ free tree.
+pub returns-clause-kept : goal.returns-clause-kept
+returns-clause-kept c =
     let e = c.frame_of_page-target.ensures.place in
-    let p = copied c in
-    written_walks c.args.frames.now c.copy_frame.new.self c.args.root c.args.to e.place free e.found p.size p.others tree
-
-pub returns-clause-larges : goal.returns-clause-larges
-returns-clause-larges c = λ free tree.
-    let e = c.frame_of_page-target.ensures.place in
-    let p = copied c in
-    written_larges c.args.frames.now c.copy_frame.new.self c.args.root c.args.to e.place free e.found p.size p.others tree
-
-pub returns-clause-tree : goal.returns-clause-tree
-returns-clause-tree c = λ free tree.
-    let e = c.frame_of_page-target.ensures.place in
-    let p = copied c in
-    written_tree c.args.frames.now c.copy_frame.new.self c.args.root c.args.to e.place free e.found p.size p.others tree
+    page_kept c.args.frames.now c.copy_frame.new.self c.args.root c.args.to e.place e.found (copied c).size (λ _ _. (copied c).others)
 
 pub returns-clause-bytes : goal.returns-clause-bytes
 returns-clause-bytes c = λ free tree.

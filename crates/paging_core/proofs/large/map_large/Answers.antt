@@ -43,23 +43,6 @@ written g c =
     ∙ ap (set (g.M.PhysicalMemory.words c.ensure_tables-table.new.frames) (512 * c.ensure_tables-table.result + c.index_after.result))
     (c.bits.ensures ∙ (c.to_large-entry.ensures.value ∙ ap (λ f. large_entry f c.args.rights) c.first_frame.ensures.first))
 
-pub returns-clause-tree : goal.returns-clause-tree
-returns-clause-tree g c =
-    tree_moved (g.M.PhysicalMemory.area c.args.frames.now) (g.M.PhysicalMemory.area c.set_word.new.self)
-    (g.M.PhysicalMemory.words c.set_word.new.self) c.args.root (g.P.TableFrames.free c.ensure_tables-table.new.pool)
-    (c.set_word.ensures.area ∙ c.ensure_tables-table.ensures.area)
-    (large_tree (g.M.PhysicalMemory.words c.args.frames.now) (g.M.PhysicalMemory.words c.ensure_tables-table.new.frames)
-    (g.M.PhysicalMemory.words c.set_word.new.self) (g.P.TableFrames.free c.args.pool.now)
-    (g.P.TableFrames.free c.ensure_tables-table.new.pool) c.args.root c.args.page
-    c.ensure_tables-table.result c.index_after.result c.args.frame c.args.rights
-    c.requires.root c.requires.empty (small g c) c.requires.frame c.requires.used
-    (run_unmet_at (g.M.PhysicalMemory.area c.args.frames.now) (g.M.PhysicalMemory.words c.args.frames.now) c.args.root
-    (512 * c.args.frame) c.requires.unmet) (index g c)
-    (tree_moved (g.M.PhysicalMemory.area c.ensure_tables-table.new.frames) (g.M.PhysicalMemory.area c.args.frames.now)
-    (g.M.PhysicalMemory.words c.ensure_tables-table.new.frames) c.args.root
-    (g.P.TableFrames.free c.ensure_tables-table.new.pool) (sym c.ensure_tables-table.ensures.area)
-    c.ensure_tables-table.ensures.tree) (met g c) (prepared g c) (written g c))
-
 pub returns-clause-added : goal.returns-clause-added
 returns-clause-added g c =
     large_added (g.M.PhysicalMemory.words c.args.frames.now) (g.M.PhysicalMemory.words c.ensure_tables-table.new.frames)
@@ -74,24 +57,49 @@ returns-clause-added g c =
     (g.P.TableFrames.free c.ensure_tables-table.new.pool) (sym c.ensure_tables-table.ensures.area)
     c.ensure_tables-table.ensures.tree) (met g c) (prepared g c) (written g c)
 
-pub returns-clause-elsewhere : goal.returns-clause-elsewhere
-returns-clause-elsewhere g c = λ other canonical ne.
-    let added = returns-clause-added g c in
-    added.pages other (λ e. ne (same_slot other c.args.page canonical (rw c.first_page-first.ensures at c.index_after.ensures.canonical) e))
+pub returns-clause-standing : goal.returns-clause-standing
+returns-clause-standing g c = record {
+  tree = tree_moved (g.M.PhysicalMemory.area c.args.frames.now) (g.M.PhysicalMemory.area c.set_word.new.self)
+      (g.M.PhysicalMemory.words c.set_word.new.self) c.args.root (g.P.TableFrames.free c.ensure_tables-table.new.pool)
+      (c.set_word.ensures.area ∙ c.ensure_tables-table.ensures.area)
+      (large_tree (g.M.PhysicalMemory.words c.args.frames.now) (g.M.PhysicalMemory.words c.ensure_tables-table.new.frames)
+      (g.M.PhysicalMemory.words c.set_word.new.self) (g.P.TableFrames.free c.args.pool.now)
+      (g.P.TableFrames.free c.ensure_tables-table.new.pool) c.args.root c.args.page
+      c.ensure_tables-table.result c.index_after.result c.args.frame c.args.rights
+      c.requires.root c.requires.empty (small g c) c.requires.frame c.requires.used
+      (run_unmet_at (g.M.PhysicalMemory.area c.args.frames.now) (g.M.PhysicalMemory.words c.args.frames.now) c.args.root
+      (512 * c.args.frame) c.requires.unmet) (index g c)
+      (tree_moved (g.M.PhysicalMemory.area c.ensure_tables-table.new.frames) (g.M.PhysicalMemory.area c.args.frames.now)
+      (g.M.PhysicalMemory.words c.ensure_tables-table.new.frames) c.args.root
+      (g.P.TableFrames.free c.ensure_tables-table.new.pool) (sym c.ensure_tables-table.ensures.area)
+      c.ensure_tables-table.ensures.tree) (met g c) (prepared g c) (written g c));
+  known = let added = returns-clause-added g c in
+      let s = added.size in
+      known_moved (g.M.PhysicalMemory.area c.args.frames.now) (g.M.PhysicalMemory.area c.set_word.new.self)
+      (g.P.TableFrames.free c.ensure_tables-table.new.pool) (frame_count (g.M.PhysicalMemory.words c.set_word.new.self))
+      (c.set_word.ensures.area ∙ c.ensure_tables-table.ensures.area)
+      (free_stays (g.M.PhysicalMemory.area c.args.frames.now) (g.P.TableFrames.free c.args.pool.now)
+      (g.P.TableFrames.free c.ensure_tables-table.new.pool) (frame_count (g.M.PhysicalMemory.words c.args.frames.now))
+      (frame_count (g.M.PhysicalMemory.words c.set_word.new.self)) c.requires.known (omega arith) added.fewer);
+}
 
-pub returns-clause-bytes : goal.returns-clause-bytes
-returns-clause-bytes g c =
-    large_bytes (g.M.PhysicalMemory.words c.args.frames.now) (g.M.PhysicalMemory.words c.ensure_tables-table.new.frames)
-    (g.M.PhysicalMemory.words c.set_word.new.self) (g.P.TableFrames.free c.args.pool.now)
-    (g.P.TableFrames.free c.ensure_tables-table.new.pool) c.args.root c.args.page
-    c.ensure_tables-table.result c.index_after.result c.args.frame c.args.rights
-    c.requires.root c.requires.empty (small g c) c.requires.frame c.requires.used
-    (run_unmet_at (g.M.PhysicalMemory.area c.args.frames.now) (g.M.PhysicalMemory.words c.args.frames.now) c.args.root
-    (512 * c.args.frame) c.requires.unmet) (index g c)
-    (tree_moved (g.M.PhysicalMemory.area c.ensure_tables-table.new.frames) (g.M.PhysicalMemory.area c.args.frames.now)
-    (g.M.PhysicalMemory.words c.ensure_tables-table.new.frames) c.args.root
-    (g.P.TableFrames.free c.ensure_tables-table.new.pool) (sym c.ensure_tables-table.ensures.area)
-    c.ensure_tables-table.ensures.tree) (met g c) (prepared g c) (written g c)
+pub returns-clause-others : goal.returns-clause-others
+returns-clause-others g c = record {
+  elsewhere = λ other canonical ne.
+      let added = returns-clause-added g c in
+      added.pages other (λ e. ne (same_slot other c.args.page canonical (rw c.first_page-first.ensures at c.index_after.ensures.canonical) e));
+  bytes = large_bytes (g.M.PhysicalMemory.words c.args.frames.now) (g.M.PhysicalMemory.words c.ensure_tables-table.new.frames)
+      (g.M.PhysicalMemory.words c.set_word.new.self) (g.P.TableFrames.free c.args.pool.now)
+      (g.P.TableFrames.free c.ensure_tables-table.new.pool) c.args.root c.args.page
+      c.ensure_tables-table.result c.index_after.result c.args.frame c.args.rights
+      c.requires.root c.requires.empty (small g c) c.requires.frame c.requires.used
+      (run_unmet_at (g.M.PhysicalMemory.area c.args.frames.now) (g.M.PhysicalMemory.words c.args.frames.now) c.args.root
+      (512 * c.args.frame) c.requires.unmet) (index g c)
+      (tree_moved (g.M.PhysicalMemory.area c.ensure_tables-table.new.frames) (g.M.PhysicalMemory.area c.args.frames.now)
+      (g.M.PhysicalMemory.words c.ensure_tables-table.new.frames) c.args.root
+      (g.P.TableFrames.free c.ensure_tables-table.new.pool) (sym c.ensure_tables-table.ensures.area)
+      c.ensure_tables-table.ensures.tree) (met g c) (prepared g c) (written g c);
+}
 
 pub returns-clause-missing : goal.returns-clause-missing
 returns-clause-missing g c =
@@ -102,17 +110,6 @@ returns-clause-missing g c =
 
 pub returns-clause-area : goal.returns-clause-area
 returns-clause-area g c = c.set_word.ensures.area ∙ c.ensure_tables-table.ensures.area
-
-pub returns-clause-known : goal.returns-clause-known
-returns-clause-known g c =
-    let added = returns-clause-added g c in
-    let s = added.size in
-    known_moved (g.M.PhysicalMemory.area c.args.frames.now) (g.M.PhysicalMemory.area c.set_word.new.self)
-    (g.P.TableFrames.free c.ensure_tables-table.new.pool) (frame_count (g.M.PhysicalMemory.words c.set_word.new.self))
-    (c.set_word.ensures.area ∙ c.ensure_tables-table.ensures.area)
-    (free_stays (g.M.PhysicalMemory.area c.args.frames.now) (g.P.TableFrames.free c.args.pool.now)
-    (g.P.TableFrames.free c.ensure_tables-table.new.pool) (frame_count (g.M.PhysicalMemory.words c.args.frames.now))
-    (frame_count (g.M.PhysicalMemory.words c.set_word.new.self)) c.requires.known (omega arith) added.fewer)
 
 pub set_word-requires-clause-inside : goal.set_word-requires-clause-inside
 set_word-requires-clause-inside g c =

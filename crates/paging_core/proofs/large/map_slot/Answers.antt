@@ -60,47 +60,47 @@ map_large-requires-clause-room c =
     let n = c.in-Some.ensures.count in
     omega (arith, c.requires.room)
 
-pub returns-clause-elsewhere : goal.returns-clause-elsewhere
-returns-clause-elsewhere c = λ other canonical ne. c.map_large.ensures.elsewhere other canonical ne
-    ∙ run_walk c.args.frames.now c.clear_frames.new.frames c.args.pool.now c.allocate_frame-run.new.self c.args.root
-    c.in-Some.run' c.requires.known c.requires.tree c.in-Some.ensures.run.0 c.in-Some.ensures.run.1
-    (let P : ℕ → Type 0 = λ f. AreFramesCleared c.args.frames.now c.clear_frames.new.frames f 512 in
-    subst P c.first_frame.ensures.first c.clear_frames.ensures) other
+pub returns-clause-others : goal.returns-clause-others
+returns-clause-others c =
+    let old = c.args.frames.now in
+    let blank = c.clear_frames.new.frames in
+    let taken = c.in-Some.ensures.run in
+    let P : ℕ → Type 0 = λ f. AreFramesCleared old blank f 512 in
+    let cleared = subst P c.first_frame.ensures.first c.clear_frames.ensures in
+    record {
+      elsewhere = λ other canonical ne. c.map_large.ensures.others.elsewhere other canonical ne
+          ∙ run_walk old blank c.args.pool.now c.allocate_frame-run.new.self c.args.root c.in-Some.run' c.requires.known
+          c.requires.tree taken.0 taken.1 cleared other;
+      bytes = slot_bytes old blank c.args.pool.now c.allocate_frame-run.new.self c.args.root c.in-Some.run' c.requires.known
+          c.requires.tree taken.0 taken.1 cleared c.map_large.new.frames c.map_large.new.pool c.args.page c.args.rights
+          c.map_large.ensures.added c.map_large.ensures.standing.tree c.map_large.ensures.others.bytes;
+    }
 
-pub returns-clause-zeros : goal.returns-clause-zeros
-returns-clause-zeros c = λ _. slot_zeros c.args.frames.now c.clear_frames.new.frames c.args.pool.now
-    c.allocate_frame-run.new.self c.args.root c.in-Some.run' c.requires.known c.requires.tree c.in-Some.ensures.run.0
-    c.in-Some.ensures.run.1 (let P : ℕ → Type 0 = λ f. AreFramesCleared c.args.frames.now c.clear_frames.new.frames f 512 in
-    subst P c.first_frame.ensures.first c.clear_frames.ensures) c.map_large.new.frames c.map_large.new.pool c.args.page
-    c.args.rights c.map_large.ensures.added c.map_large.ensures.tree
-
-pub returns-clause-bytes : goal.returns-clause-bytes
-returns-clause-bytes c =
-    slot_bytes c.args.frames.now c.clear_frames.new.frames c.args.pool.now c.allocate_frame-run.new.self c.args.root
-    c.in-Some.run' c.requires.known c.requires.tree c.in-Some.ensures.run.0 c.in-Some.ensures.run.1
-    (let P : ℕ → Type 0 = λ f. AreFramesCleared c.args.frames.now c.clear_frames.new.frames f 512 in
-    subst P c.first_frame.ensures.first c.clear_frames.ensures) c.map_large.new.frames c.map_large.new.pool c.args.page
-    c.args.rights c.map_large.ensures.added c.map_large.ensures.tree c.map_large.ensures.bytes
-
-pub returns-clause-missing : goal.returns-clause-missing
-returns-clause-missing c = λ _ first pages range lo hi.
-    let a = c.map_large.ensures.missing first pages range lo hi in
-    let b = run_missing_of c.args.frames.now c.clear_frames.new.frames c.args.pool.now c.allocate_frame-run.new.self
-    c.args.root c.in-Some.run' c.requires.known c.requires.tree c.in-Some.ensures.run.0 c.in-Some.ensures.run.1
-    (let P : ℕ → Type 0 = λ f. AreFramesCleared c.args.frames.now c.clear_frames.new.frames f 512 in
-    subst P c.first_frame.ensures.first c.clear_frames.ensures) first pages in
-    let m = run_missing c.args.frames.now c.clear_frames.new.frames c.args.pool.now c.allocate_frame-run.new.self
-    c.args.root c.in-Some.run' c.requires.known c.requires.tree c.in-Some.ensures.run.0 c.in-Some.ensures.run.1
-    (let P : ℕ → Type 0 = λ f. AreFramesCleared c.args.frames.now c.clear_frames.new.frames f 512 in
-    subst P c.first_frame.ensures.first c.clear_frames.ensures) c.args.page in
-    omega arith
-
-pub returns-clause-count : goal.returns-clause-count
-returns-clause-count c = λ _.
-    let m = run_missing c.args.frames.now c.clear_frames.new.frames c.args.pool.now c.allocate_frame-run.new.self
-    c.args.root c.in-Some.run' c.requires.known c.requires.tree c.in-Some.ensures.run.0 c.in-Some.ensures.run.1
-    (let P : ℕ → Type 0 = λ f. AreFramesCleared c.args.frames.now c.clear_frames.new.frames f 512 in
-    subst P c.first_frame.ensures.first c.clear_frames.ensures) c.args.page in
-    let n = c.in-Some.ensures.count in
-    let k = c.map_large.ensures.added.count in
-    omega arith
+pub returns-clause-mapped : goal.returns-clause-mapped
+returns-clause-mapped c = λ _.
+    let old = c.args.frames.now in
+    let blank = c.clear_frames.new.frames in
+    let taken = c.in-Some.ensures.run in
+    let P : ℕ → Type 0 = λ f. AreFramesCleared old blank f 512 in
+    let cleared = subst P c.first_frame.ensures.first c.clear_frames.ensures in
+    let missed = run_missing old blank c.args.pool.now c.allocate_frame-run.new.self c.args.root c.in-Some.run' c.requires.known
+    c.requires.tree taken.0 taken.1 cleared c.args.page in
+    record {
+      added = record {
+        run = c.in-Some.run';
+        left = c.allocate_frame-run.new.self;
+        blank = blank;
+        taken = taken;
+        cleared = cleared;
+        added = c.map_large.ensures.added;
+      };
+      missing = λ first pages range lo hi.
+          let a = c.map_large.ensures.missing first pages range lo hi in
+          let b = run_missing_of old blank c.args.pool.now c.allocate_frame-run.new.self c.args.root c.in-Some.run' c.requires.known
+          c.requires.tree taken.0 taken.1 cleared first pages in
+          omega (arith, missed);
+      count = let n = c.in-Some.ensures.count in let k = c.map_large.ensures.added.count in omega (arith, missed);
+      zeros = slot_zeros old blank c.args.pool.now c.allocate_frame-run.new.self c.args.root c.in-Some.run' c.requires.known
+          c.requires.tree taken.0 taken.1 cleared c.map_large.new.frames c.map_large.new.pool c.args.page c.args.rights
+          c.map_large.ensures.added c.map_large.ensures.standing.tree;
+    }

@@ -39,26 +39,18 @@ returns-clause-below g c =
     ∙ length-set (g.M.PhysicalMemory.words c.args.frames.now) (512 * c.large_entry-table.result.table + c.large_entry-table.result.index) 0 in
     omega (arith, b.1)
 
-pub returns-clause-tree : goal.returns-clause-tree
-returns-clause-tree g c = λ free tree. tree_moved (g.M.PhysicalMemory.area c.args.frames.now)
-    (g.M.PhysicalMemory.area c.set_word.new.self) (g.M.PhysicalMemory.words c.set_word.new.self) c.args.root free
-    c.set_word.ensures.area
-    (gone_tree (g.M.PhysicalMemory.words c.args.frames.now) (g.M.PhysicalMemory.words c.set_word.new.self) c.args.root
-    c.args.page c.requires.root (cleared g c) free tree)
-
-pub returns-clause-removed : goal.returns-clause-removed
-returns-clause-removed g c = λ free tree. large_removed (g.M.PhysicalMemory.words c.args.frames.now)
-    (g.M.PhysicalMemory.words c.set_word.new.self) c.args.root c.args.page c.requires.root (cleared g c) free tree
-
-pub returns-clause-elsewhere : goal.returns-clause-elsewhere
-returns-clause-elsewhere g c = λ free tree other canonical ne.
-    gone_elsewhere (g.M.PhysicalMemory.words c.args.frames.now) (g.M.PhysicalMemory.words c.set_word.new.self) c.args.root
-    c.args.page c.requires.root (cleared g c) free tree other
-    (λ e. ne (same_slot other c.args.page canonical c.large_entry-table.ensures.canonical e))
-
-pub returns-clause-bytes : goal.returns-clause-bytes
-returns-clause-bytes g c = λ free tree. gone_bytes (g.M.PhysicalMemory.words c.args.frames.now)
-    (g.M.PhysicalMemory.words c.set_word.new.self) c.args.root c.args.page c.requires.root (cleared g c) free tree
+pub returns-clause-gone : goal.returns-clause-gone
+returns-clause-gone g c = λ free tree.
+    let old = g.M.PhysicalMemory.words c.args.frames.now in
+    let new = g.M.PhysicalMemory.words c.set_word.new.self in
+    record {
+      tree = tree_moved (g.M.PhysicalMemory.area c.args.frames.now) (g.M.PhysicalMemory.area c.set_word.new.self) new c.args.root
+          free c.set_word.ensures.area (gone_tree old new c.args.root c.args.page c.requires.root (cleared g c) free tree);
+      bytes = gone_bytes old new c.args.root c.args.page c.requires.root (cleared g c) free tree;
+      removed = large_removed old new c.args.root c.args.page c.requires.root (cleared g c) free tree;
+      elsewhere = λ other canonical ne. gone_elsewhere old new c.args.root c.args.page c.requires.root (cleared g c) free tree other
+          (λ e. ne (same_slot other c.args.page canonical c.large_entry-table.ensures.canonical e));
+    }
 
 pub set_word-requires-clause-seen : goal.set_word-requires-clause-seen
 set_word-requires-clause-seen g c =

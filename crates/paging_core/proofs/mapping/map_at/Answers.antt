@@ -37,42 +37,29 @@ met g c free tree =
     let full : e.met ≡ top e.met.frame = tree.rights 3 (prefix_of c.args.page 3) e.met (omega arith) e.reached in
     e.reached ∙ ap Some (full ∙ ap top e.in_table)
 
-pub returns-clause-tree : goal.returns-clause-tree
-returns-clause-tree g c = λ free tree used.
-    tree_moved (g.M.PhysicalMemory.area c.args.frames.now) (g.M.PhysicalMemory.area c.set_word.new.self)
-    (g.M.PhysicalMemory.words c.set_word.new.self) c.args.root free c.set_word.ensures.area
-    (mapped_tree (g.M.PhysicalMemory.words c.args.frames.now) (g.M.PhysicalMemory.words c.args.frames.now)
-    (g.M.PhysicalMemory.words c.set_word.new.self) free free c.args.root c.args.page
-    c.args.table c.args.index c.args.frame c.args.rights
-    c.requires.root c.requires.unmapped c.to_page-entry.ensures.fits c.requires.frame used
-    (unmet_at (g.M.PhysicalMemory.area c.args.frames.now) (g.M.PhysicalMemory.words c.args.frames.now) c.args.root
-    c.args.frame c.requires.unmet) c.requires.entry.at_index
-    tree (met g c free tree) (prepared_all (g.M.PhysicalMemory.words c.args.frames.now) free c.args.root c.args.page
-    (top c.args.table) (met g c free tree)) (returns-clause-words g c))
-
-pub returns-clause-added : goal.returns-clause-added
-returns-clause-added g c = λ free tree used.
-    mapped_page (g.M.PhysicalMemory.words c.args.frames.now) (g.M.PhysicalMemory.words c.args.frames.now)
-    (g.M.PhysicalMemory.words c.set_word.new.self) free free c.args.root c.args.page
-    c.args.table c.args.index c.args.frame c.args.rights
-    c.requires.root c.requires.unmapped c.to_page-entry.ensures.fits c.requires.frame used
-    (unmet_at (g.M.PhysicalMemory.area c.args.frames.now) (g.M.PhysicalMemory.words c.args.frames.now) c.args.root
-    c.args.frame c.requires.unmet) c.requires.entry.at_index
-    tree (met g c free tree) (prepared_all (g.M.PhysicalMemory.words c.args.frames.now) free c.args.root c.args.page
-    (top c.args.table) (met g c free tree)) (returns-clause-words g c)
-
-pub returns-clause-elsewhere : goal.returns-clause-elsewhere
-returns-clause-elsewhere g c = λ free tree used other canonical ne.
-    let added = returns-clause-added g c free tree used in
-    added.pages other (λ e. ne (same_number other c.args.page canonical (rw c.number-canonical.ensures.value at c.number-canonical.ensures.canonical) e))
-
-pub returns-clause-missing : goal.returns-clause-missing
-returns-clause-missing g c = λ free tree used first pages range lo hi.
-    let m = page_missing (g.M.PhysicalMemory.words c.args.frames.now) (g.M.PhysicalMemory.words c.set_word.new.self) free
-    free c.args.root c.args.page c.args.frame c.args.rights
-    (returns-clause-added g c free tree used) first pages range lo hi in
-    let z = none_missing (g.M.PhysicalMemory.words c.args.frames.now) c.args.root c.args.page (top c.args.table) (met g c free tree) in
-    omega arith
+pub returns-clause-mapped : goal.returns-clause-mapped
+returns-clause-mapped g c = λ free tree used.
+    let old = g.M.PhysicalMemory.words c.args.frames.now in
+    let new = g.M.PhysicalMemory.words c.set_word.new.self in
+    let unmet = unmet_at (g.M.PhysicalMemory.area c.args.frames.now) old c.args.root c.args.frame c.requires.unmet in
+    let all = prepared_all old free c.args.root c.args.page (top c.args.table) (met g c free tree) in
+    let added = mapped_page old old new free free c.args.root c.args.page c.args.table c.args.index c.args.frame c.args.rights
+    c.requires.root c.requires.unmapped c.to_page-entry.ensures.fits c.requires.frame used unmet c.requires.entry.at_index
+    tree (met g c free tree) all (returns-clause-words g c) in
+    record {
+      tree = tree_moved (g.M.PhysicalMemory.area c.args.frames.now) (g.M.PhysicalMemory.area c.set_word.new.self) new c.args.root
+          free c.set_word.ensures.area
+          (mapped_tree old old new free free c.args.root c.args.page c.args.table c.args.index c.args.frame c.args.rights
+          c.requires.root c.requires.unmapped c.to_page-entry.ensures.fits c.requires.frame used unmet c.requires.entry.at_index
+          tree (met g c free tree) all (returns-clause-words g c));
+      added = added;
+      elsewhere = λ other canonical ne. added.pages other
+          (λ e. ne (same_number other c.args.page canonical (rw c.number-canonical.ensures.value at c.number-canonical.ensures.canonical) e));
+      missing = λ first pages range lo hi.
+          let m = page_missing old new free free c.args.root c.args.page c.args.frame c.args.rights added first pages range lo hi in
+          let z = none_missing old c.args.root c.args.page (top c.args.table) (met g c free tree) in
+          omega arith;
+    }
 
 pub set_word-requires-clause-seen : goal.set_word-requires-clause-seen
 set_word-requires-clause-seen g c =

@@ -64,24 +64,6 @@ map_at-requires-clause-unmet g c =
     c.requires.used c.ensure_tables-table.ensures.prepared
     (unmet_at (g.M.PhysicalMemory.area c.args.frames.now) (g.M.PhysicalMemory.words c.args.frames.now) c.args.root c.args.frame c.requires.unmet)))
 
-pub returns-clause-tree : goal.returns-clause-tree
-returns-clause-tree g c =
-    tree_moved (g.M.PhysicalMemory.area c.args.frames.now) (g.M.PhysicalMemory.area c.map_at.new.frames)
-    (g.M.PhysicalMemory.words c.map_at.new.frames) c.args.root (g.P.TableFrames.free c.ensure_tables-table.new.pool)
-    (c.map_at.ensures.area ∙ c.ensure_tables-table.ensures.area)
-    (mapped_tree (g.M.PhysicalMemory.words c.args.frames.now) (g.M.PhysicalMemory.words c.ensure_tables-table.new.frames)
-    (g.M.PhysicalMemory.words c.map_at.new.frames) (g.P.TableFrames.free c.args.pool.now)
-    (g.P.TableFrames.free c.ensure_tables-table.new.pool) c.args.root c.args.page
-    c.ensure_tables-table.result c.index_after-index.result c.args.frame c.args.rights
-    c.requires.root c.requires.unmapped c.map_at.ensures.fits c.requires.frame c.requires.used
-    (unmet_at (g.M.PhysicalMemory.area c.args.frames.now) (g.M.PhysicalMemory.words c.args.frames.now) c.args.root
-    c.args.frame c.requires.unmet) c.index_after-index.ensures.value
-    (tree_moved (g.M.PhysicalMemory.area c.ensure_tables-table.new.frames) (g.M.PhysicalMemory.area c.args.frames.now)
-    (g.M.PhysicalMemory.words c.ensure_tables-table.new.frames) c.args.root
-    (g.P.TableFrames.free c.ensure_tables-table.new.pool) (sym c.ensure_tables-table.ensures.area)
-    c.ensure_tables-table.ensures.tree) c.ensure_tables-table.ensures.met c.ensure_tables-table.ensures.prepared
-    c.map_at.ensures.words)
-
 pub returns-clause-added : goal.returns-clause-added
 returns-clause-added g c =
     mapped_page (g.M.PhysicalMemory.words c.args.frames.now) (g.M.PhysicalMemory.words c.ensure_tables-table.new.frames)
@@ -97,6 +79,33 @@ returns-clause-added g c =
     c.ensure_tables-table.ensures.tree) c.ensure_tables-table.ensures.met c.ensure_tables-table.ensures.prepared
     c.map_at.ensures.words
 
+pub returns-clause-standing : goal.returns-clause-standing
+returns-clause-standing g c = record {
+  tree = tree_moved (g.M.PhysicalMemory.area c.args.frames.now) (g.M.PhysicalMemory.area c.map_at.new.frames)
+      (g.M.PhysicalMemory.words c.map_at.new.frames) c.args.root (g.P.TableFrames.free c.ensure_tables-table.new.pool)
+      (c.map_at.ensures.area ∙ c.ensure_tables-table.ensures.area)
+      (mapped_tree (g.M.PhysicalMemory.words c.args.frames.now) (g.M.PhysicalMemory.words c.ensure_tables-table.new.frames)
+      (g.M.PhysicalMemory.words c.map_at.new.frames) (g.P.TableFrames.free c.args.pool.now)
+      (g.P.TableFrames.free c.ensure_tables-table.new.pool) c.args.root c.args.page
+      c.ensure_tables-table.result c.index_after-index.result c.args.frame c.args.rights
+      c.requires.root c.requires.unmapped c.map_at.ensures.fits c.requires.frame c.requires.used
+      (unmet_at (g.M.PhysicalMemory.area c.args.frames.now) (g.M.PhysicalMemory.words c.args.frames.now) c.args.root
+      c.args.frame c.requires.unmet) c.index_after-index.ensures.value
+      (tree_moved (g.M.PhysicalMemory.area c.ensure_tables-table.new.frames) (g.M.PhysicalMemory.area c.args.frames.now)
+      (g.M.PhysicalMemory.words c.ensure_tables-table.new.frames) c.args.root
+      (g.P.TableFrames.free c.ensure_tables-table.new.pool) (sym c.ensure_tables-table.ensures.area)
+      c.ensure_tables-table.ensures.tree) c.ensure_tables-table.ensures.met c.ensure_tables-table.ensures.prepared
+      c.map_at.ensures.words);
+  known = let added = returns-clause-added g c in
+      let s = added.size in
+      known_moved (g.M.PhysicalMemory.area c.args.frames.now) (g.M.PhysicalMemory.area c.map_at.new.frames)
+      (g.P.TableFrames.free c.ensure_tables-table.new.pool) (frame_count (g.M.PhysicalMemory.words c.map_at.new.frames))
+      (c.map_at.ensures.area ∙ c.ensure_tables-table.ensures.area)
+      (free_stays (g.M.PhysicalMemory.area c.args.frames.now) (g.P.TableFrames.free c.args.pool.now)
+      (g.P.TableFrames.free c.ensure_tables-table.new.pool) (frame_count (g.M.PhysicalMemory.words c.args.frames.now))
+      (frame_count (g.M.PhysicalMemory.words c.map_at.new.frames)) c.requires.known (omega arith) added.fewer);
+}
+
 pub returns-clause-missing : goal.returns-clause-missing
 returns-clause-missing g c =
     page_missing (g.M.PhysicalMemory.words c.args.frames.now) (g.M.PhysicalMemory.words c.map_at.new.frames)
@@ -111,17 +120,6 @@ returns-clause-elsewhere g c = λ other canonical ne.
 
 pub returns-clause-area : goal.returns-clause-area
 returns-clause-area g c = c.map_at.ensures.area ∙ c.ensure_tables-table.ensures.area
-
-pub returns-clause-known : goal.returns-clause-known
-returns-clause-known g c =
-    let added = returns-clause-added g c in
-    let s = added.size in
-    known_moved (g.M.PhysicalMemory.area c.args.frames.now) (g.M.PhysicalMemory.area c.map_at.new.frames)
-    (g.P.TableFrames.free c.ensure_tables-table.new.pool) (frame_count (g.M.PhysicalMemory.words c.map_at.new.frames))
-    (c.map_at.ensures.area ∙ c.ensure_tables-table.ensures.area)
-    (free_stays (g.M.PhysicalMemory.area c.args.frames.now) (g.P.TableFrames.free c.args.pool.now)
-    (g.P.TableFrames.free c.ensure_tables-table.new.pool) (frame_count (g.M.PhysicalMemory.words c.args.frames.now))
-    (frame_count (g.M.PhysicalMemory.words c.map_at.new.frames)) c.requires.known (omega arith) added.fewer)
 
 pub map_at-requires-clause-seen : goal.map_at-requires-clause-seen
 map_at-requires-clause-seen g c = λ fits.

@@ -46,9 +46,7 @@ loop-step-preserved g c =
           c.args.root c.args.first c.args.pages c.loop-step.step (regrant c.args.rights)
           c.requires.range c.loop-step.invariant.changed c.loop-step-test.true
           (g.M.PhysicalMemory.words c.protect_page.new.frames) c.requires.tree.0 c.requires.tree.1
-          (rw c.after.ensures at (c.protect_page.ensures.pages c.requires.tree.0
-          (tree_moved (g.M.PhysicalMemory.area c.args.frames.now) (g.M.PhysicalMemory.area c.loop-step.frames)
-          (g.M.PhysicalMemory.words c.loop-step.frames) c.args.root c.requires.tree.0 c.loop-step.invariant.area t)));
+          (rw c.after.ensures at ((c.protect_page.ensures.granted c.requires.tree.0 (tree_moved (g.M.PhysicalMemory.area c.args.frames.now) (g.M.PhysicalMemory.area c.loop-step.frames) (g.M.PhysicalMemory.words c.loop-step.frames) c.args.root c.requires.tree.0 c.loop-step.invariant.area t)).pages));
     }
 
 pub returns-clause-tree : goal.returns-clause-tree
@@ -59,27 +57,23 @@ returns-clause-tree g c = λ free tree.
     (regrant c.args.rights) (among c.args.first c.loop-step.step) c.loop-step.invariant.changed
     (regrant_keeps c.args.rights) free tree)
 
-pub returns-clause-granted : goal.returns-clause-granted
-returns-clause-granted g c = λ k lt.
-    let p = some_place (walk_of (g.M.PhysicalMemory.words c.args.frames.now) c.args.root (c.args.first + k)) (c.requires.mapped k lt) in
-    rw p.1
-    (range_leads (g.M.PhysicalMemory.words c.args.frames.now) (g.M.PhysicalMemory.words c.loop-step.frames) c.args.root
-    c.args.first c.args.pages c.loop-step.step (regrant c.args.rights)
-    c.requires.range c.loop-step.invariant.changed (omega arith) k (omega arith) p.0 p.1)
-
-pub returns-clause-elsewhere : goal.returns-clause-elsewhere
-returns-clause-elsewhere g c =
-    range_rest (g.M.PhysicalMemory.words c.args.frames.now) (g.M.PhysicalMemory.words c.loop-step.frames) c.args.root
-    c.args.first c.args.pages c.loop-step.step (regrant c.args.rights)
-    c.requires.range c.loop-step.invariant.changed (omega arith)
-
-pub returns-clause-bytes : goal.returns-clause-bytes
-returns-clause-bytes g c =
-    regranted_bytes (g.M.PhysicalMemory.words c.args.frames.now) (g.M.PhysicalMemory.words c.loop-step.frames) c.args.root
-    c.args.rights (among c.args.first c.loop-step.step) c.requires.tree.0
-    c.loop-step.invariant.changed c.requires.tree.1
-
 pub protect_page-requires-clause-seen : goal.protect_page-requires-clause-seen
 protect_page-requires-clause-seen g c = λ now changed.
     c.requires.seen (g.M.PhysicalMemory.words c.loop-step.frames) now c.loop-step.step c.loop-step-test.true
     c.loop-step.invariant.changed (rw c.after.ensures at changed)
+
+pub returns-clause-granted : goal.returns-clause-granted
+returns-clause-granted g c =
+    let old = g.M.PhysicalMemory.words c.args.frames.now in
+    let new = g.M.PhysicalMemory.words c.loop-step.frames in
+    let changed = c.loop-step.invariant.changed in
+    record {
+      granted = λ k lt.
+          let p = some_place (walk_of old c.args.root (c.args.first + k)) (c.requires.mapped k lt) in
+          rw p.1
+          (range_leads old new c.args.root c.args.first c.args.pages c.loop-step.step (regrant c.args.rights) c.requires.range
+          changed (omega arith) k (omega arith) p.0 p.1);
+      elsewhere = range_rest old new c.args.root c.args.first c.args.pages c.loop-step.step (regrant c.args.rights) c.requires.range
+          changed (omega arith);
+      bytes = regranted_bytes old new c.args.root c.args.rights (among c.args.first c.loop-step.step) c.requires.tree.0 changed c.requires.tree.1;
+    }

@@ -68,4 +68,4 @@ returns c =
     new_page c.args.frames.now c.clear_frame.new.self c.args.pool.now c.allocate_frame.new.self c.args.root c.in-Some.frame
     c.requires.root c.requires.known c.requires.tree c.in-Some.ensures.taken.0 c.in-Some.ensures.lowest
     c.in-Some.ensures.taken.1 c.clear_frame.ensures
-    c.map_page.new.frames c.map_page.new.pool c.args.page c.args.rights c.requires.unmapped c.map_page.ensures.added c.map_page.ensures.tree
+    c.map_page.new.frames c.map_page.new.pool c.args.page c.args.rights c.requires.unmapped c.map_page.ensures.added c.map_page.ensures.standing.tree

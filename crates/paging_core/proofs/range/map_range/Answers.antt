@@ -1,6 +1,8 @@
-use Rattle.std.proofs.Common.{◌∙◌, ap, arith}
+use Rattle.std.proofs.Common.{◌∙◌, ◌/◌, ◌%◌, refl, ap, arith}
 use Rattle.paging_core.specs.Walk.{walk_of}
 use Rattle.paging_core.proofs.Ranges.{page_canonical}
+use Rattle.paging_core.proofs.PageChanged.{some_place}
+use Rattle.paging_core.proofs.PageWritten.{same_byte}
 use Rattle.paging_core.proofs.RangeAdded.{range_start, next_room, next_unmapped, range_more, range_elsewhere, range_zeros}
 use Rattle.paging_core.proofs.range.map_range.Goals as goal
 
@@ -28,12 +30,17 @@ loop-step-preserved c =
     c.requires.range c.loop-step-test.true c.loop-step.invariant
     c.map_new_page.new.frames c.map_new_page.new.pool (rw c.after.ensures at c.map_new_page.ensures)
 
-pub returns-clause-elsewhere : goal.returns-clause-elsewhere
-returns-clause-elsewhere c = λ other canonical ne.
-    range_elsewhere c.args.frames.now c.loop-step.frames c.args.pool.now c.loop-step.pool c.args.root c.args.first c.args.pages c.loop-step.step c.args.rights
-    c.requires.range (omega arith) c.loop-step.invariant other canonical ne
-
-pub returns-clause-zeros : goal.returns-clause-zeros
-returns-clause-zeros c = λ address k lt at.
-    range_zeros c.args.frames.now c.loop-step.frames c.args.pool.now c.loop-step.pool c.args.root c.args.first c.args.pages c.loop-step.step c.args.rights
-    c.requires.range (omega arith) c.loop-step.invariant address k lt at
+pub returns-clause-clear : goal.returns-clause-clear
+returns-clause-clear c = record {
+  elsewhere =
+      range_elsewhere c.args.frames.now c.loop-step.frames c.args.pool.now c.loop-step.pool c.args.root c.args.first c.args.pages
+      c.loop-step.step c.args.rights c.requires.range (omega arith) c.loop-step.invariant;
+  zeros =
+      range_zeros c.args.frames.now c.loop-step.frames c.args.pool.now c.loop-step.pool c.args.root c.args.first c.args.pages
+      c.loop-step.step c.args.rights c.requires.range (omega arith) c.loop-step.invariant;
+  bytes = λ address some.
+      let p = some_place (walk_of c.args.frames.now c.args.root (address / 4096)) some in
+      same_byte c.args.frames.now c.loop-step.frames c.args.root address p.0 p.0 p.1
+      (c.loop-step.invariant.pages_stay (address / 4096) p.0 p.1) refl
+      (c.loop-step.invariant.bytes_stay (address / 4096) p.0 (address % 4096 / 8) p.1 (omega arith));
+}

@@ -15,28 +15,19 @@ returns-clause-regranted g c =
     (512 * c.large_entry-table.result.table + c.large_entry-table.result.index))
     (c.bits.ensures ∙ c.to_large-entry.ensures.value))
 
-pub returns-clause-tree : goal.returns-clause-tree
-returns-clause-tree g c = λ free tree.
-    tree_moved (g.M.PhysicalMemory.area c.args.frames.now) (g.M.PhysicalMemory.area c.set_word.new.self)
-    (g.M.PhysicalMemory.words c.set_word.new.self) c.args.root free c.set_word.ensures.area
-    (granted_tree (g.M.PhysicalMemory.words c.args.frames.now) (g.M.PhysicalMemory.words c.set_word.new.self) c.args.root
-    c.args.page c.args.rights c.requires.root (returns-clause-regranted g c) free tree)
-
 pub returns-clause-granted : goal.returns-clause-granted
 returns-clause-granted g c = λ free tree.
-    large_granted (g.M.PhysicalMemory.words c.args.frames.now) (g.M.PhysicalMemory.words c.set_word.new.self) c.args.root
-    c.args.page c.args.rights c.requires.root (returns-clause-regranted g c) free tree
-
-pub returns-clause-elsewhere : goal.returns-clause-elsewhere
-returns-clause-elsewhere g c = λ free tree other canonical ne.
-    granted_elsewhere (g.M.PhysicalMemory.words c.args.frames.now) (g.M.PhysicalMemory.words c.set_word.new.self)
-    c.args.root c.args.page c.args.rights c.requires.root (returns-clause-regranted g c) free tree other
-    (λ e. ne (same_slot other c.args.page canonical c.large_entry-table.ensures.canonical e))
-
-pub returns-clause-bytes : goal.returns-clause-bytes
-returns-clause-bytes g c = λ free tree.
-    granted_bytes (g.M.PhysicalMemory.words c.args.frames.now) (g.M.PhysicalMemory.words c.set_word.new.self) c.args.root
-    c.args.page c.args.rights c.requires.root (returns-clause-regranted g c) free tree
+    let old = g.M.PhysicalMemory.words c.args.frames.now in
+    let new = g.M.PhysicalMemory.words c.set_word.new.self in
+    let regranted = returns-clause-regranted g c in
+    record {
+      tree = tree_moved (g.M.PhysicalMemory.area c.args.frames.now) (g.M.PhysicalMemory.area c.set_word.new.self) new c.args.root
+          free c.set_word.ensures.area (granted_tree old new c.args.root c.args.page c.args.rights c.requires.root regranted free tree);
+      granted = large_granted old new c.args.root c.args.page c.args.rights c.requires.root regranted free tree;
+      elsewhere = λ other canonical ne. granted_elsewhere old new c.args.root c.args.page c.args.rights c.requires.root regranted free tree other
+          (λ e. ne (same_slot other c.args.page canonical c.large_entry-table.ensures.canonical e));
+      bytes = granted_bytes old new c.args.root c.args.page c.args.rights c.requires.root regranted free tree;
+    }
 
 pub set_word-requires-clause-seen : goal.set_word-requires-clause-seen
 set_word-requires-clause-seen g c =

@@ -74,33 +74,31 @@ returns-clause-bytes g c =
     c.in-Some.ensures.taken.0 c.in-Some.ensures.taken.1 c.in-Some.ensures.lowest c.fill_table.ensures.size
     (rw c.rights.ensures at c.fill_table.ensures.filled) c.fill_table.ensures.others (written g c)
 
-pub returns-clause-tree : goal.returns-clause-tree
-returns-clause-tree g c =
-    tree_moved (g.M.PhysicalMemory.area c.args.frames.now) (g.M.PhysicalMemory.area c.set_word.new.self)
-    (g.M.PhysicalMemory.words c.set_word.new.self) c.args.root (g.P.TableFrames.free c.take_frame.new.self)
-    (c.set_word.ensures.area ∙ c.fill_table.ensures.area)
-    (split_tree (g.M.PhysicalMemory.area c.args.frames.now) (g.M.PhysicalMemory.words c.args.frames.now)
-    (g.M.PhysicalMemory.words c.fill_table.new.frames) (g.M.PhysicalMemory.words c.set_word.new.self)
-    (g.P.TableFrames.free c.args.pool.now) (g.P.TableFrames.free c.take_frame.new.self) c.args.root c.args.page
-    c.large_entry-index.result.table c.large_entry-index.result.index c.in-Some.made
-    (place_of c.large_entry-index.result.large) c.large_entry-index.ensures.bounded (omega arith) c.requires.known
-    c.requires.tree c.large_entry-index.ensures.entry c.large_entry-index.ensures.table
-    c.in-Some.ensures.taken.0 c.in-Some.ensures.taken.1 c.in-Some.ensures.lowest c.fill_table.ensures.size
-    (rw c.rights.ensures at c.fill_table.ensures.filled) c.fill_table.ensures.others (written g c))
-
-pub returns-clause-known : goal.returns-clause-known
-returns-clause-known g c =
-    known_moved (g.M.PhysicalMemory.area c.args.frames.now) (g.M.PhysicalMemory.area c.set_word.new.self)
-    (g.P.TableFrames.free c.take_frame.new.self) (frame_count (g.M.PhysicalMemory.words c.set_word.new.self))
-    (c.set_word.ensures.area ∙ c.fill_table.ensures.area)
-    (split_known (g.M.PhysicalMemory.area c.args.frames.now) (g.M.PhysicalMemory.words c.args.frames.now)
-    (g.M.PhysicalMemory.words c.fill_table.new.frames) (g.M.PhysicalMemory.words c.set_word.new.self)
-    (g.P.TableFrames.free c.args.pool.now) (g.P.TableFrames.free c.take_frame.new.self) c.args.root c.args.page
-    c.large_entry-index.result.table c.large_entry-index.result.index c.in-Some.made
-    (place_of c.large_entry-index.result.large) c.large_entry-index.ensures.bounded (omega arith) c.requires.known
-    c.requires.tree c.large_entry-index.ensures.entry c.large_entry-index.ensures.table
-    c.in-Some.ensures.taken.0 c.in-Some.ensures.taken.1 c.in-Some.ensures.lowest c.fill_table.ensures.size
-    (rw c.rights.ensures at c.fill_table.ensures.filled) c.fill_table.ensures.others (written g c))
+pub returns-clause-standing : goal.returns-clause-standing
+returns-clause-standing g c = record {
+  tree = tree_moved (g.M.PhysicalMemory.area c.args.frames.now) (g.M.PhysicalMemory.area c.set_word.new.self)
+      (g.M.PhysicalMemory.words c.set_word.new.self) c.args.root (g.P.TableFrames.free c.take_frame.new.self)
+      (c.set_word.ensures.area ∙ c.fill_table.ensures.area)
+      (split_tree (g.M.PhysicalMemory.area c.args.frames.now) (g.M.PhysicalMemory.words c.args.frames.now)
+      (g.M.PhysicalMemory.words c.fill_table.new.frames) (g.M.PhysicalMemory.words c.set_word.new.self)
+      (g.P.TableFrames.free c.args.pool.now) (g.P.TableFrames.free c.take_frame.new.self) c.args.root c.args.page
+      c.large_entry-index.result.table c.large_entry-index.result.index c.in-Some.made
+      (place_of c.large_entry-index.result.large) c.large_entry-index.ensures.bounded (omega arith) c.requires.known
+      c.requires.tree c.large_entry-index.ensures.entry c.large_entry-index.ensures.table
+      c.in-Some.ensures.taken.0 c.in-Some.ensures.taken.1 c.in-Some.ensures.lowest c.fill_table.ensures.size
+      (rw c.rights.ensures at c.fill_table.ensures.filled) c.fill_table.ensures.others (written g c));
+  known = known_moved (g.M.PhysicalMemory.area c.args.frames.now) (g.M.PhysicalMemory.area c.set_word.new.self)
+      (g.P.TableFrames.free c.take_frame.new.self) (frame_count (g.M.PhysicalMemory.words c.set_word.new.self))
+      (c.set_word.ensures.area ∙ c.fill_table.ensures.area)
+      (split_known (g.M.PhysicalMemory.area c.args.frames.now) (g.M.PhysicalMemory.words c.args.frames.now)
+      (g.M.PhysicalMemory.words c.fill_table.new.frames) (g.M.PhysicalMemory.words c.set_word.new.self)
+      (g.P.TableFrames.free c.args.pool.now) (g.P.TableFrames.free c.take_frame.new.self) c.args.root c.args.page
+      c.large_entry-index.result.table c.large_entry-index.result.index c.in-Some.made
+      (place_of c.large_entry-index.result.large) c.large_entry-index.ensures.bounded (omega arith) c.requires.known
+      c.requires.tree c.large_entry-index.ensures.entry c.large_entry-index.ensures.table
+      c.in-Some.ensures.taken.0 c.in-Some.ensures.taken.1 c.in-Some.ensures.lowest c.fill_table.ensures.size
+      (rw c.rights.ensures at c.fill_table.ensures.filled) c.fill_table.ensures.others (written g c));
+}
 
 pub fill_table-requires-clause-seen : goal.fill_table-requires-clause-seen
 fill_table-requires-clause-seen g c = λ now only.

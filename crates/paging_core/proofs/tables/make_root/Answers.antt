@@ -7,95 +7,50 @@ use Rattle.paging_core.proofs.tables.make_root.Goals as goal
 
 pub returns-clause-known : goal.returns-clause-known
 returns-clause-known g c =
-    let s = fresh_size (g.M.PhysicalMemory.words c.args.frames.now) (g.M.PhysicalMemory.words c.clear_frame.new.self)
-    (g.P.TableFrames.free c.args.pool.now) (g.P.TableFrames.free c.take_frame.new.self) c.in_ok-root.root
-    (free_below (g.M.PhysicalMemory.area c.args.frames.now) (g.P.TableFrames.free c.args.pool.now)
-    (frame_count (g.M.PhysicalMemory.words c.args.frames.now)) c.requires.known) c.in_ok-root.ensures.taken.0
-    c.in_ok-root.ensures.taken.1 c.clear_frame.ensures.words in
-    known_moved (g.M.PhysicalMemory.area c.args.frames.now) (g.M.PhysicalMemory.area c.clear_frame.new.self)
-    (g.P.TableFrames.free c.take_frame.new.self) (frame_count (g.M.PhysicalMemory.words c.clear_frame.new.self))
-    c.clear_frame.ensures.area
-    (free_stays (g.M.PhysicalMemory.area c.args.frames.now) (g.P.TableFrames.free c.args.pool.now)
-    (g.P.TableFrames.free c.take_frame.new.self) (frame_count (g.M.PhysicalMemory.words c.args.frames.now))
-    (frame_count (g.M.PhysicalMemory.words c.clear_frame.new.self)) c.requires.known (omega arith)
-    (fresh_fewer (g.M.PhysicalMemory.words c.args.frames.now) (g.M.PhysicalMemory.words c.clear_frame.new.self)
-    (g.P.TableFrames.free c.args.pool.now) (g.P.TableFrames.free c.take_frame.new.self) c.in_ok-root.root
-    (free_below (g.M.PhysicalMemory.area c.args.frames.now) (g.P.TableFrames.free c.args.pool.now)
-    (frame_count (g.M.PhysicalMemory.words c.args.frames.now)) c.requires.known) c.in_ok-root.ensures.taken.0
-    c.in_ok-root.ensures.taken.1 c.clear_frame.ensures.words))
+    let old = g.M.PhysicalMemory.words c.args.frames.now in
+    let new = g.M.PhysicalMemory.words c.clear_frame.new.self in
+    let area = g.M.PhysicalMemory.area c.args.frames.now in
+    let free = g.P.TableFrames.free c.args.pool.now in
+    let left = g.P.TableFrames.free c.take_frame.new.self in
+    let root = c.in_ok-root.root in
+    let below = free_below area free (frame_count old) c.requires.known in
+    let taken = c.in_ok-root.ensures.taken in
+    let size = fresh_size old new free left root below taken.0 taken.1 c.clear_frame.ensures.words in
+    known_moved area (g.M.PhysicalMemory.area c.clear_frame.new.self) left (frame_count new) c.clear_frame.ensures.area
+    (free_stays area free left (frame_count old) (frame_count new) c.requires.known (omega arith)
+    (fresh_fewer old new free left root below taken.0 taken.1 c.clear_frame.ensures.words))
 
-pub returns-clause-size : goal.returns-clause-size
-returns-clause-size g c =
-    fresh_size (g.M.PhysicalMemory.words c.args.frames.now) (g.M.PhysicalMemory.words c.clear_frame.new.self)
-    (g.P.TableFrames.free c.args.pool.now) (g.P.TableFrames.free c.take_frame.new.self) c.in_ok-root.root
-    (free_below (g.M.PhysicalMemory.area c.args.frames.now) (g.P.TableFrames.free c.args.pool.now)
-    (frame_count (g.M.PhysicalMemory.words c.args.frames.now)) c.requires.known) c.in_ok-root.ensures.taken.0
-    c.in_ok-root.ensures.taken.1 c.clear_frame.ensures.words
+pub returns-clause-made : goal.returns-clause-made
+returns-clause-made g c =
+    let old = g.M.PhysicalMemory.words c.args.frames.now in
+    let new = g.M.PhysicalMemory.words c.clear_frame.new.self in
+    let area = g.M.PhysicalMemory.area c.args.frames.now in
+    let free = g.P.TableFrames.free c.args.pool.now in
+    let left = g.P.TableFrames.free c.take_frame.new.self in
+    let root = c.in_ok-root.root in
+    let below = free_below area free (frame_count old) c.requires.known in
+    let taken = c.in_ok-root.ensures.taken in
+    let size = fresh_size old new free left root below taken.0 taken.1 c.clear_frame.ensures.words in
+    let inside = fresh_in old new free left root below taken.0 taken.1 c.clear_frame.ensures.words in
+    let zero = fresh_zero old new free left root below taken.0 taken.1 c.clear_frame.ensures.words in
+    let used = fresh_used old new free left root below taken.0 taken.1 c.clear_frame.ensures.words in
+    record {
+      size = size;
+      below = omega arith;
+      tree = tree_moved area (g.M.PhysicalMemory.area c.clear_frame.new.self) new root left c.clear_frame.ensures.area
+          (tree_start area new root left zero used (free_inside area free (frame_count old) c.requires.known root taken.0));
+      empty = none_past new root zero;
+      no_large = no_large new root zero;
+      unmapped = nothing_mapped new root zero;
+    }
 
-pub returns-clause-below : goal.returns-clause-below
-returns-clause-below g c =
-    let s = fresh_size (g.M.PhysicalMemory.words c.args.frames.now) (g.M.PhysicalMemory.words c.clear_frame.new.self)
-    (g.P.TableFrames.free c.args.pool.now) (g.P.TableFrames.free c.take_frame.new.self) c.in_ok-root.root
-    (free_below (g.M.PhysicalMemory.area c.args.frames.now) (g.P.TableFrames.free c.args.pool.now)
-    (frame_count (g.M.PhysicalMemory.words c.args.frames.now)) c.requires.known) c.in_ok-root.ensures.taken.0
-    c.in_ok-root.ensures.taken.1 c.clear_frame.ensures.words in
-    let f = fresh_in (g.M.PhysicalMemory.words c.args.frames.now) (g.M.PhysicalMemory.words c.clear_frame.new.self)
-    (g.P.TableFrames.free c.args.pool.now) (g.P.TableFrames.free c.take_frame.new.self) c.in_ok-root.root
-    (free_below (g.M.PhysicalMemory.area c.args.frames.now) (g.P.TableFrames.free c.args.pool.now)
-    (frame_count (g.M.PhysicalMemory.words c.args.frames.now)) c.requires.known) c.in_ok-root.ensures.taken.0
-    c.in_ok-root.ensures.taken.1 c.clear_frame.ensures.words in
-    omega arith
-
-pub returns-clause-tree : goal.returns-clause-tree
-returns-clause-tree g c =
-    tree_moved (g.M.PhysicalMemory.area c.args.frames.now) (g.M.PhysicalMemory.area c.clear_frame.new.self)
-    (g.M.PhysicalMemory.words c.clear_frame.new.self) c.in_ok-root.root (g.P.TableFrames.free c.take_frame.new.self)
-    c.clear_frame.ensures.area
-    (tree_start (g.M.PhysicalMemory.area c.args.frames.now) (g.M.PhysicalMemory.words c.clear_frame.new.self)
-    c.in_ok-root.root (g.P.TableFrames.free c.take_frame.new.self)
-    (fresh_zero (g.M.PhysicalMemory.words c.args.frames.now) (g.M.PhysicalMemory.words c.clear_frame.new.self)
-    (g.P.TableFrames.free c.args.pool.now) (g.P.TableFrames.free c.take_frame.new.self) c.in_ok-root.root
-    (free_below (g.M.PhysicalMemory.area c.args.frames.now) (g.P.TableFrames.free c.args.pool.now)
-    (frame_count (g.M.PhysicalMemory.words c.args.frames.now)) c.requires.known) c.in_ok-root.ensures.taken.0
-    c.in_ok-root.ensures.taken.1 c.clear_frame.ensures.words)
-    (fresh_used (g.M.PhysicalMemory.words c.args.frames.now) (g.M.PhysicalMemory.words c.clear_frame.new.self)
-    (g.P.TableFrames.free c.args.pool.now) (g.P.TableFrames.free c.take_frame.new.self) c.in_ok-root.root
-    (free_below (g.M.PhysicalMemory.area c.args.frames.now) (g.P.TableFrames.free c.args.pool.now)
-    (frame_count (g.M.PhysicalMemory.words c.args.frames.now)) c.requires.known) c.in_ok-root.ensures.taken.0
-    c.in_ok-root.ensures.taken.1 c.clear_frame.ensures.words)
-    (free_inside (g.M.PhysicalMemory.area c.args.frames.now) (g.P.TableFrames.free c.args.pool.now)
-    (frame_count (g.M.PhysicalMemory.words c.args.frames.now)) c.requires.known c.in_ok-root.root
-    c.in_ok-root.ensures.taken.0))
-
-pub returns-clause-empty : goal.returns-clause-empty
-returns-clause-empty g c =
-    none_past (g.M.PhysicalMemory.words c.clear_frame.new.self) c.in_ok-root.root
-    (fresh_zero (g.M.PhysicalMemory.words c.args.frames.now) (g.M.PhysicalMemory.words c.clear_frame.new.self)
-    (g.P.TableFrames.free c.args.pool.now) (g.P.TableFrames.free c.take_frame.new.self) c.in_ok-root.root
-    (free_below (g.M.PhysicalMemory.area c.args.frames.now) (g.P.TableFrames.free c.args.pool.now)
-    (frame_count (g.M.PhysicalMemory.words c.args.frames.now)) c.requires.known) c.in_ok-root.ensures.taken.0
-    c.in_ok-root.ensures.taken.1 c.clear_frame.ensures.words)
-
-pub returns-clause-no_large : goal.returns-clause-no_large
-returns-clause-no_large g c =
-    no_large (g.M.PhysicalMemory.words c.clear_frame.new.self) c.in_ok-root.root
-    (fresh_zero (g.M.PhysicalMemory.words c.args.frames.now) (g.M.PhysicalMemory.words c.clear_frame.new.self)
-    (g.P.TableFrames.free c.args.pool.now) (g.P.TableFrames.free c.take_frame.new.self) c.in_ok-root.root
-    (free_below (g.M.PhysicalMemory.area c.args.frames.now) (g.P.TableFrames.free c.args.pool.now)
-    (frame_count (g.M.PhysicalMemory.words c.args.frames.now)) c.requires.known) c.in_ok-root.ensures.taken.0
-    c.in_ok-root.ensures.taken.1 c.clear_frame.ensures.words)
-
-pub returns-clause-unmapped : goal.returns-clause-unmapped
-returns-clause-unmapped g c =
-    nothing_mapped (g.M.PhysicalMemory.words c.clear_frame.new.self) c.in_ok-root.root
-    (fresh_zero (g.M.PhysicalMemory.words c.args.frames.now) (g.M.PhysicalMemory.words c.clear_frame.new.self)
-    (g.P.TableFrames.free c.args.pool.now) (g.P.TableFrames.free c.take_frame.new.self) c.in_ok-root.root
-    (free_below (g.M.PhysicalMemory.area c.args.frames.now) (g.P.TableFrames.free c.args.pool.now)
-    (frame_count (g.M.PhysicalMemory.words c.args.frames.now)) c.requires.known) c.in_ok-root.ensures.taken.0
-    c.in_ok-root.ensures.taken.1 c.clear_frame.ensures.words)
-
-pub returns-clause-flags : goal.returns-clause-flags
-returns-clause-flags g c = ap length c.in_ok-root.ensures.taken.1 ∙ length-set (g.P.TableFrames.free c.args.pool.now) c.in_ok-root.root false
+pub returns-clause-frame : goal.returns-clause-frame
+returns-clause-frame g c = record {
+  taken = c.in_ok-root.ensures.taken;
+  flags = ap length c.in_ok-root.ensures.taken.1 ∙ length-set (g.P.TableFrames.free c.args.pool.now) c.in_ok-root.root false;
+  lowest = c.in_ok-root.ensures.lowest;
+  count = c.in_ok-root.ensures.count;
+}
 
 pub clear_frame-requires-clause-inside : goal.clear_frame-requires-clause-inside
 clear_frame-requires-clause-inside g c = free_inside (g.M.PhysicalMemory.area c.args.frames.now)

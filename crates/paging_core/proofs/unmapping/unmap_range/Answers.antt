@@ -81,19 +81,17 @@ returns-clause-known c =
     freed_known c.args.frames.now c.loop-step.frames c.args.pool.now c.loop-step.pool c.args.root
     (among c.args.first c.loop-step.step) c.requires.root c.loop-step.invariant.freed
 
-pub returns-clause-unmapped : goal.returns-clause-unmapped
-returns-clause-unmapped c = λ k lt.
-    let p = some_place (walk_of c.args.frames.now c.args.root (c.args.first + k)) (c.requires.mapped k lt) in
-    range_leads c.args.frames.now c.loop-step.frames c.args.root c.args.first c.args.pages c.loop-step.step removal
-    c.requires.range c.loop-step.invariant.freed.removed (omega arith) k (omega arith) p.0 p.1
-
-pub returns-clause-elsewhere : goal.returns-clause-elsewhere
-returns-clause-elsewhere c =
-    range_rest c.args.frames.now c.loop-step.frames c.args.root c.args.first c.args.pages c.loop-step.step removal
-    c.requires.range c.loop-step.invariant.freed.removed (omega arith)
-
-pub returns-clause-bytes : goal.returns-clause-bytes
-returns-clause-bytes c = λ address is.
-    let p = some_place (walk_of c.loop-step.frames c.args.root (address / 4096)) is in
-    bytes_stay c.args.frames.now c.loop-step.frames c.args.root removal (among c.args.first c.loop-step.step) c.loop-step.invariant.freed.removed
-    removal_keeps c.args.pool.now c.requires.tree address p.0 p.1
+pub returns-clause-gone : goal.returns-clause-gone
+returns-clause-gone c =
+    let old = c.args.frames.now in
+    let new = c.loop-step.frames in
+    let removed = c.loop-step.invariant.freed.removed in
+    record {
+      unmapped = λ k lt.
+          let p = some_place (walk_of old c.args.root (c.args.first + k)) (c.requires.mapped k lt) in
+          range_leads old new c.args.root c.args.first c.args.pages c.loop-step.step removal c.requires.range removed (omega arith) k (omega arith) p.0 p.1;
+      elsewhere = range_rest old new c.args.root c.args.first c.args.pages c.loop-step.step removal c.requires.range removed (omega arith);
+      bytes = λ address is.
+          let p = some_place (walk_of new c.args.root (address / 4096)) is in
+          bytes_stay old new c.args.root removal (among c.args.first c.loop-step.step) removed removal_keeps c.args.pool.now c.requires.tree address p.0 p.1;
+    }

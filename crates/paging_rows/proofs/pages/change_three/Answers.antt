@@ -10,7 +10,7 @@ protect_range-requires-clause-tree g c = (c.map_range.new.pool, c.map_range.ensu
 pub unmap_range-requires-clause-mapped : goal.unmap_range-requires-clause-mapped
 unmap_range-requires-clause-mapped g c = λ k lt.
     let m = c.map_range.ensures.added.mapped k lt in
-    let g = rw m.found at (c.protect_range.ensures.granted k lt) in
+    let g = rw m.found at (c.protect_range.ensures.granted.granted k lt) in
     rw g refl
 
 pub protect_range-requires-clause-small : goal.protect_range-requires-clause-small

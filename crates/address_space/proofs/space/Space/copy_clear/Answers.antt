@@ -20,7 +20,7 @@ copy_pages-requires-clause-read c = λ k less.
     let t = tables_of c.args.self.now in
     subst (λ (n : ℕ). IsSome (walk_of c.map_range.new.frames t.root (n + k))) (sym c.number-from.ensures.value)
     (source_mapped t c.map_range.new.frames c.args.source c.args.pages c.args.target k c.args.self.now.kept
-    c.requires.source c.requires.full c.requires.clear c.map_range.ensures.elsewhere less)
+    c.requires.source c.requires.full c.requires.clear c.map_range.ensures.clear.elsewhere less)
 
 pub copy_pages-requires-clause-written : goal.copy_pages-requires-clause-written
 copy_pages-requires-clause-written c = λ k less.
@@ -50,8 +50,8 @@ invariant_of-self-2 c =
       clear = c.requires.clear;
       added = c.map_range.ensures.added;
       known = c.map_range.ensures.known;
-      elsewhere = c.map_range.ensures.elsewhere;
-      bytes = c.map_range.ensures.bytes;
+      elsewhere = c.map_range.ensures.clear.elsewhere;
+      bytes = c.map_range.ensures.clear.bytes;
       copied = subst (λ (n : ℕ). ArePagesCopied one words t.root n c.args.pages c.args.target) c.number-from.ensures.value
           (subst (λ (n : ℕ). ArePagesCopied one words t.root c.number-from.result c.args.pages n) c.number-to.ensures.value c.copy_pages.ensures);
       runs_copied = subst (λ (n : ℕ). AreCopied t.runs runs n c.args.pages c.args.target) c.number-from.ensures.value
@@ -77,8 +77,8 @@ returns-clause-ok c =
       clear = c.requires.clear;
       added = c.map_range.ensures.added;
       known = c.map_range.ensures.known;
-      elsewhere = c.map_range.ensures.elsewhere;
-      bytes = c.map_range.ensures.bytes;
+      elsewhere = c.map_range.ensures.clear.elsewhere;
+      bytes = c.map_range.ensures.clear.bytes;
       copied = subst (λ (n : ℕ). ArePagesCopied one words t.root n c.args.pages c.args.target) c.number-from.ensures.value
           (subst (λ (n : ℕ). ArePagesCopied one words t.root c.number-from.result c.args.pages n) c.number-to.ensures.value c.copy_pages.ensures);
       runs_copied = subst (λ (n : ℕ). AreCopied t.runs runs n c.args.pages c.args.target) c.number-from.ensures.value

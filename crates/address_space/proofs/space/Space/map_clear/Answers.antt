@@ -13,9 +13,9 @@ invariant_of-self-2 c = record {
         range = c.requires.range;
         added = c.map_range.ensures.added;
         known = c.map_range.ensures.known;
-        elsewhere = c.map_range.ensures.elsewhere;
-        zeros = c.map_range.ensures.zeros;
-        bytes = c.map_range.ensures.bytes;
+        elsewhere = c.map_range.ensures.clear.elsewhere;
+        zeros = c.map_range.ensures.clear.zeros;
+        bytes = c.map_range.ensures.clear.bytes;
         runs_added = subst (λ (n : ℕ). IsAdded (entries c.args.self.now.runs) (entries c.add.new.runs) n (n + c.args.pages)
             c.args.rights) c.number-number.ensures.value c.in_ok-add.ensures.ok;
       });
@@ -29,9 +29,9 @@ returns-clause-ok c = record {
         range = c.requires.range;
         added = c.map_range.ensures.added;
         known = c.map_range.ensures.known;
-        elsewhere = c.map_range.ensures.elsewhere;
-        zeros = c.map_range.ensures.zeros;
-        bytes = c.map_range.ensures.bytes;
+        elsewhere = c.map_range.ensures.clear.elsewhere;
+        zeros = c.map_range.ensures.clear.zeros;
+        bytes = c.map_range.ensures.clear.bytes;
         runs_added = subst (λ (n : ℕ). IsAdded (entries c.args.self.now.runs) (entries c.add.new.runs) n (n + c.args.pages)
             c.args.rights) c.number-number.ensures.value c.in_ok-add.ensures.ok;
       });

@@ -20,9 +20,9 @@ invariant_of-self-2 c =
       full = c.requires.full;
       changed = c.protect_range.ensures.changed;
       tree = c.protect_range.ensures.tree c.args.self.now.pool c.args.self.now.kept.tree;
-      there = c.protect_range.ensures.granted;
-      elsewhere = c.protect_range.ensures.elsewhere;
-      bytes = c.protect_range.ensures.bytes;
+      there = c.protect_range.ensures.granted.granted;
+      elsewhere = c.protect_range.ensures.granted.elsewhere;
+      bytes = c.protect_range.ensures.granted.bytes;
       added = subst (λ (n : ℕ). IsAdded (entries c.args.self.now.runs) (entries c.set_rights.new.runs) n (n + c.args.pages)
           c.args.rights) c.number-number.ensures.value c.in_ok-set_rights.ensures.ok;
     } in
@@ -37,9 +37,9 @@ returns-clause-ok c =
       full = c.requires.full;
       changed = c.protect_range.ensures.changed;
       tree = c.protect_range.ensures.tree c.args.self.now.pool c.args.self.now.kept.tree;
-      there = c.protect_range.ensures.granted;
-      elsewhere = c.protect_range.ensures.elsewhere;
-      bytes = c.protect_range.ensures.bytes;
+      there = c.protect_range.ensures.granted.granted;
+      elsewhere = c.protect_range.ensures.granted.elsewhere;
+      bytes = c.protect_range.ensures.granted.bytes;
       added = subst (λ (n : ℕ). IsAdded (entries c.args.self.now.runs) (entries c.set_rights.new.runs) n (n + c.args.pages)
           c.args.rights) c.number-number.ensures.value c.in_ok-set_rights.ensures.ok;
     } in

@@ -107,9 +107,9 @@ invariant_of-self-2 c =
       tree = c.unmap_range.ensures.tree;
       count = c.unmap_range.ensures.count;
       known = c.unmap_range.ensures.known c.args.self.now.kept.known;
-      gone = c.unmap_range.ensures.unmapped;
-      elsewhere = c.unmap_range.ensures.elsewhere;
-      bytes = c.unmap_range.ensures.bytes;
+      gone = c.unmap_range.ensures.gone.unmapped;
+      elsewhere = c.unmap_range.ensures.gone.elsewhere;
+      bytes = c.unmap_range.ensures.gone.bytes;
       taken = subst (λ (n : ℕ). AreTaken (entries c.args.self.now.runs) (entries c.take.new.runs) n (n + count)) (sym at) c.in_ok-take.ensures.ok;
     } in
     record { kept = unmapped_kept t c.unmap_range.new.frames c.unmap_range.new.pool (entries c.take.new.runs) c.page_at.result count m }
@@ -144,9 +144,9 @@ returns-clause-ok c =
       tree = c.unmap_range.ensures.tree;
       count = c.unmap_range.ensures.count;
       known = c.unmap_range.ensures.known c.args.self.now.kept.known;
-      gone = c.unmap_range.ensures.unmapped;
-      elsewhere = c.unmap_range.ensures.elsewhere;
-      bytes = c.unmap_range.ensures.bytes;
+      gone = c.unmap_range.ensures.gone.unmapped;
+      elsewhere = c.unmap_range.ensures.gone.elsewhere;
+      bytes = c.unmap_range.ensures.gone.bytes;
       taken = subst (λ (n : ℕ). AreTaken (entries c.args.self.now.runs) (entries c.take.new.runs) n (n + count)) (sym at) c.in_ok-take.ensures.ok;
     } in
     subst (λ (n : ℕ). IsUnmapped t new n more count) at

@@ -16,20 +16,20 @@ pub invariant_of-self : goal.invariant_of-self
 invariant_of-self c = record {
   kept = subst IsPagedKept (sym c.set_word.ensures.others) (kept_stored (paged c.args.self.now)
       (shown c.set_word.new.self).words c.args.at c.args.value c.args.at c.args.self.now.kept c.requires refl
-      c.set_word.ensures.size c.set_word.ensures.set c.set_word.ensures.walks c.set_word.ensures.larges
-      c.set_word.ensures.tree c.set_word.ensures.stored c.set_word.ensures.other_words c.set_word.ensures.bytes);
+      c.set_word.ensures.kept.size c.set_word.ensures.set c.set_word.ensures.kept.walks c.set_word.ensures.kept.larges
+      c.set_word.ensures.kept.tree c.set_word.ensures.put.stored c.set_word.ensures.put.other_words c.set_word.ensures.put.others);
 }
 
 pub returns-clause-still : goal.returns-clause-still
 returns-clause-still c = subst (OnlyHeapBytesChange (paged c.args.self.now)) (sym c.set_word.ensures.others)
     (still_stored (paged c.args.self.now) (shown c.set_word.new.self).words c.args.at c.args.value c.args.at
     c.args.self.now.kept c.requires refl
-    c.set_word.ensures.size c.set_word.ensures.set c.set_word.ensures.walks c.set_word.ensures.larges
-    c.set_word.ensures.tree c.set_word.ensures.stored c.set_word.ensures.other_words c.set_word.ensures.bytes)
+    c.set_word.ensures.kept.size c.set_word.ensures.set c.set_word.ensures.kept.walks c.set_word.ensures.kept.larges
+    c.set_word.ensures.kept.tree c.set_word.ensures.put.stored c.set_word.ensures.put.other_words c.set_word.ensures.put.others)
 
 pub returns-clause-stored : goal.returns-clause-stored
 returns-clause-stored c = subst (λ (p : Paged). IsStored (grants_of (paged c.args.self.now))
     (word_reached (paged c.args.self.now)) c.args.at c.args.value (word_reached p)) (sym c.set_word.ensures.others)
     (is_stored (paged c.args.self.now) (shown c.set_word.new.self).words c.args.at c.args.value c.args.at c.args.self.now.kept c.requires refl
-    c.set_word.ensures.size c.set_word.ensures.set c.set_word.ensures.walks c.set_word.ensures.larges
-    c.set_word.ensures.tree c.set_word.ensures.stored c.set_word.ensures.other_words c.set_word.ensures.bytes)
+    c.set_word.ensures.kept.size c.set_word.ensures.set c.set_word.ensures.kept.walks c.set_word.ensures.kept.larges
+    c.set_word.ensures.kept.tree c.set_word.ensures.put.stored c.set_word.ensures.put.other_words c.set_word.ensures.put.others)

@@ -20,20 +20,20 @@ pub invariant_of-self : goal.invariant_of-self
 invariant_of-self c = record {
   kept = subst IsPagedKept (sym c.set_words.ensures.others) (kept_put (paged c.args.self.now)
       (shown c.set_words.new.self).words c.args.words.now c.args.at c.args.self.now.kept c.requires
-      c.set_words.ensures.size c.set_words.ensures.set c.set_words.ensures.walks c.set_words.ensures.larges
-      c.set_words.ensures.tree c.set_words.ensures.other_bytes);
+      c.set_words.ensures.kept.size c.set_words.ensures.set c.set_words.ensures.kept.walks c.set_words.ensures.kept.larges
+      c.set_words.ensures.kept.tree c.set_words.ensures.other_bytes);
 }
 
 pub returns-clause-still : goal.returns-clause-still
 returns-clause-still c = subst (OnlyHeapBytesChange (paged c.args.self.now)) (sym c.set_words.ensures.others)
     (still_put (paged c.args.self.now) (shown c.set_words.new.self).words c.args.words.now c.args.at c.args.self.now.kept
     c.requires
-    c.set_words.ensures.size c.set_words.ensures.set c.set_words.ensures.walks c.set_words.ensures.larges
-    c.set_words.ensures.tree c.set_words.ensures.other_bytes)
+    c.set_words.ensures.kept.size c.set_words.ensures.set c.set_words.ensures.kept.walks c.set_words.ensures.kept.larges
+    c.set_words.ensures.kept.tree c.set_words.ensures.other_bytes)
 
 pub returns-clause-put : goal.returns-clause-put
 returns-clause-put c = subst (λ (p : Paged). ArePut (grants_of (paged c.args.self.now))
     (word_reached (paged c.args.self.now)) c.args.at c.args.words.now (word_reached p)) (sym c.set_words.ensures.others)
     (run_put (paged c.args.self.now) (shown c.set_words.new.self).words c.args.words.now c.args.at c.args.self.now.kept c.requires
-    c.set_words.ensures.size c.set_words.ensures.set c.set_words.ensures.walks c.set_words.ensures.larges
-    c.set_words.ensures.tree c.set_words.ensures.other_bytes)
+    c.set_words.ensures.kept.size c.set_words.ensures.set c.set_words.ensures.kept.walks c.set_words.ensures.kept.larges
+    c.set_words.ensures.kept.tree c.set_words.ensures.other_bytes)

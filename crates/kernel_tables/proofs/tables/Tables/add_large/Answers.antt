@@ -19,8 +19,8 @@ invariant_of-self c =
     let size = added.size in
     record {
       root_in = omega (arith, c.self.invariant.root_in, size);
-      tree = c.map_large.ensures.tree;
-      known = c.map_large.ensures.known;
+      tree = c.map_large.ensures.standing.tree;
+      known = c.map_large.ensures.standing.known;
       apart = λ page place is.
           ap (λ a. in_area a place.frame) c.map_large.ensures.area
           ∙ large_outside c.self.inside.memory.area c.self.inside.memory.words c.map_large.new.frames.words
@@ -32,4 +32,4 @@ pub returns-clause-only : goal.returns-clause-only
 returns-clause-only c =
     let added = c.map_large.ensures.added in
     only_seen c.self.view_is c.map_large.ensures.area added.size (λ l n met lt is. added.stayed l n met (omega (arith, lt)) is)
-    (λ other canonical not. c.map_large.ensures.elsewhere other canonical (other_slot c.args.page other not))
+    (λ other canonical not. c.map_large.ensures.others.elsewhere other canonical (other_slot c.args.page other not))

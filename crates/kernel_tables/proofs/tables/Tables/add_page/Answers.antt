@@ -12,11 +12,11 @@ invariant_of-self c =
     let out : in_area c.self.inside.memory.area c.args.frame ≡ false =
     ap (λ (s : TableState). in_area s.area c.args.frame) c.self.view_is ∙ c.requires.outside in
     let used = outside_used c.self.inside.memory.area c.self.inside.free (frame_count c.self.inside.memory.words) c.args.frame c.self.invariant.known out in
-    let added = c.map_at.ensures.added c.self.inside.free c.self.invariant.tree used in
+    let added = (c.map_at.ensures.mapped c.self.inside.free c.self.invariant.tree used).added in
     let size = added.size in
     record {
       root_in = omega (arith, c.self.invariant.root_in, size);
-      tree = c.map_at.ensures.tree c.self.inside.free c.self.invariant.tree used;
+      tree = (c.map_at.ensures.mapped c.self.inside.free c.self.invariant.tree used).tree;
       known = c.map_at.ensures.known c.self.inside.free c.self.invariant.known;
       apart = λ page place is.
           ap (λ a. in_area a place.frame) c.map_at.ensures.area
@@ -31,8 +31,7 @@ returns-in-Entry-clause-added c =
     ap (λ (s : TableState). in_area s.area c.args.frame) c.self.view_is ∙ c.requires.outside in
     subst (λ (s : TableState). IsPageAdded s.words c.map_at.new.frames.words s.free c.self.inside.free s.root c.args.page
     c.args.frame c.args.rights) c.self.view_is
-    (c.map_at.ensures.added c.self.inside.free c.self.invariant.tree
-    (outside_used c.self.inside.memory.area c.self.inside.free (frame_count c.self.inside.memory.words) c.args.frame c.self.invariant.known out))
+    ((c.map_at.ensures.mapped c.self.inside.free c.self.invariant.tree (outside_used c.self.inside.memory.area c.self.inside.free (frame_count c.self.inside.memory.words) c.args.frame c.self.invariant.known out)).added)
 
 pub invariant_of-self-in_default : goal.invariant_of-self-in_default
 invariant_of-self-in_default c =
@@ -42,8 +41,8 @@ invariant_of-self-in_default c =
     ap (λ (s : TableState). in_area s.area c.args.frame) c.self.view_is ∙ c.requires.outside in
     record {
       root_in = omega (arith, c.self.invariant.root_in, size);
-      tree = c.map_page.ensures.tree;
-      known = c.map_page.ensures.known;
+      tree = c.map_page.ensures.standing.tree;
+      known = c.map_page.ensures.standing.known;
       apart = λ page place is.
           ap (λ a. in_area a place.frame) c.map_page.ensures.area
           ∙ added_outside c.self.inside.memory.area c.self.inside.memory.words c.map_page.new.frames.words
@@ -56,9 +55,9 @@ returns-in-Entry-clause-only c =
     let out : in_area c.self.inside.memory.area c.args.frame ≡ false =
     ap (λ (s : TableState). in_area s.area c.args.frame) c.self.view_is ∙ c.requires.outside in
     let used = outside_used c.self.inside.memory.area c.self.inside.free (frame_count c.self.inside.memory.words) c.args.frame c.self.invariant.known out in
-    let added = c.map_at.ensures.added c.self.inside.free c.self.invariant.tree used in
+    let added = (c.map_at.ensures.mapped c.self.inside.free c.self.invariant.tree used).added in
     only_seen c.self.view_is c.map_at.ensures.area added.size added.stayed
-    (λ other canonical not. c.map_at.ensures.elsewhere c.self.inside.free c.self.invariant.tree used other canonical (other_page c.args.page other not))
+    (λ other canonical not. (c.map_at.ensures.mapped c.self.inside.free c.self.invariant.tree used).elsewhere other canonical (other_page c.args.page other not))
 
 pub returns-in_default-clause-only : goal.returns-in_default-clause-only
 returns-in_default-clause-only c =

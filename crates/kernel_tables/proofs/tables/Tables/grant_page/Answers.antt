@@ -11,11 +11,11 @@ use Rattle.kernel_tables.proofs.tables.Tables.grant_page.Goals as goal
 
 pub invariant_of-self : goal.invariant_of-self
 invariant_of-self c =
-    let all = c.protect_page.ensures.pages c.self.inside.free c.self.invariant.tree in
+    let all = (c.protect_page.ensures.granted c.self.inside.free c.self.invariant.tree).pages in
     let size = all.size in
     record {
       root_in = omega (arith, c.self.invariant.root_in, size);
-      tree = c.protect_page.ensures.tree c.self.inside.free c.self.invariant.tree;
+      tree = (c.protect_page.ensures.granted c.self.inside.free c.self.invariant.tree).tree;
       known = known_moved c.self.inside.memory.area c.protect_page.new.frames.area c.self.inside.free
           (frame_count c.protect_page.new.frames.words) c.protect_page.ensures.area
           (free_stays c.self.inside.memory.area c.self.inside.free c.self.inside.free
@@ -29,18 +29,18 @@ invariant_of-self c =
 
 pub returns-clause-larges : goal.returns-clause-larges
 returns-clause-larges c = λ n.
-    let all = c.protect_page.ensures.pages c.self.inside.free c.self.invariant.tree in
+    let all = (c.protect_page.ensures.granted c.self.inside.free c.self.invariant.tree).pages in
     all.larges n ∙ ap (λ (s : TableState). large_of s.words s.root n) c.self.view_is
 
 pub returns-clause-granted : goal.returns-clause-granted
 returns-clause-granted c =
     subst (λ (s : TableState). IfSome (leads s c.args.page) (λ place. walk_of c.protect_page.new.frames.words
     c.self.inside.root c.args.page ≡ Some (granted place.frame c.args.rights)))
-    c.self.view_is (c.protect_page.ensures.granted c.self.inside.free c.self.invariant.tree)
+    c.self.view_is ((c.protect_page.ensures.granted c.self.inside.free c.self.invariant.tree).granted)
 
 pub returns-clause-only : goal.returns-clause-only
 returns-clause-only c =
-    let all = c.protect_page.ensures.pages c.self.inside.free c.self.invariant.tree in
+    let all = (c.protect_page.ensures.granted c.self.inside.free c.self.invariant.tree).pages in
     only_seen c.self.view_is c.protect_page.ensures.area all.size (λ l n met lt is.
     all.stayed l n (omega (arith, lt)) (λ e. absurd (omega (arith, lt, e))) ∙ is)
-    (λ other canonical not. c.protect_page.ensures.elsewhere c.self.inside.free c.self.invariant.tree other canonical (other_page c.args.page other not))
+    (λ other canonical not. (c.protect_page.ensures.granted c.self.inside.free c.self.invariant.tree).elsewhere other canonical (other_page c.args.page other not))

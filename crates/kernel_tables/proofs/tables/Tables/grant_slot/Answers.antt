@@ -11,11 +11,11 @@ use Rattle.kernel_tables.proofs.tables.Tables.grant_slot.Goals as goal
 
 pub invariant_of-self : goal.invariant_of-self
 invariant_of-self c =
-    let all = c.protect_large.ensures.granted c.self.inside.free c.self.invariant.tree in
+    let all = (c.protect_large.ensures.granted c.self.inside.free c.self.invariant.tree).granted in
     let size = all.size in
     record {
       root_in = omega (arith, c.self.invariant.root_in, size);
-      tree = c.protect_large.ensures.tree c.self.inside.free c.self.invariant.tree;
+      tree = (c.protect_large.ensures.granted c.self.inside.free c.self.invariant.tree).tree;
       known = known_moved c.self.inside.memory.area c.protect_large.new.frames.area c.self.inside.free
           (frame_count c.protect_large.new.frames.words) c.protect_large.ensures.area
           (free_stays c.self.inside.memory.area c.self.inside.free c.self.inside.free
@@ -29,7 +29,7 @@ invariant_of-self c =
 
 pub returns-clause-larges : goal.returns-clause-larges
 returns-clause-larges c = λ n ne.
-    let all = c.protect_large.ensures.granted c.self.inside.free c.self.invariant.tree in
+    let all = (c.protect_large.ensures.granted c.self.inside.free c.self.invariant.tree).granted in
     all.larges n ne ∙ ap (λ (s : TableState). large_of s.words s.root n) c.self.view_is
 
 pub returns-clause-granted : goal.returns-clause-granted
@@ -39,11 +39,11 @@ returns-clause-granted c = λ k lt.
     (granted place.frame c.args.rights)))
     c.self.view_is
     (slot_granted c.self.inside.memory.words c.protect_large.new.frames.words c.self.inside.root c.args.slot c.args.rights
-    (c.protect_large.ensures.granted c.self.inside.free c.self.invariant.tree) k lt)
+    ((c.protect_large.ensures.granted c.self.inside.free c.self.invariant.tree).granted) k lt)
 
 pub returns-clause-only : goal.returns-clause-only
 returns-clause-only c =
-    let all = c.protect_large.ensures.granted c.self.inside.free c.self.invariant.tree in
+    let all = (c.protect_large.ensures.granted c.self.inside.free c.self.invariant.tree).granted in
     only_seen c.self.view_is c.protect_large.ensures.area all.size (λ l n met lt is.
     all.others l n (omega (arith, lt)) (λ e _. absurd (omega (arith, lt, e))) ∙ is)
-    (λ other canonical not. c.protect_large.ensures.elsewhere c.self.inside.free c.self.invariant.tree other canonical (other_slot c.args.slot other not))
+    (λ other canonical not. (c.protect_large.ensures.granted c.self.inside.free c.self.invariant.tree).elsewhere other canonical (other_slot c.args.slot other not))

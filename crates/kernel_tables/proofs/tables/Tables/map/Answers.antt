@@ -16,11 +16,11 @@ invariant_of-self c =
     let out : in_area c.self.inside.memory.area c.args.frame ≡ false =
     ap (λ (s : TableState). in_area s.area c.args.frame) c.self.view_is ∙ no_fault c.args.self.now c.args.page c.args.frame (sym c.in-None.ensures.fault) in
     let used = outside_used c.self.inside.memory.area c.self.inside.free (frame_count c.self.inside.memory.words) c.args.frame c.self.invariant.known out in
-    let added = c.map_at.ensures.added c.self.inside.free c.self.invariant.tree used in
+    let added = (c.map_at.ensures.mapped c.self.inside.free c.self.invariant.tree used).added in
     let size = added.size in
     record {
       root_in = omega (arith, c.self.invariant.root_in, size);
-      tree = c.map_at.ensures.tree c.self.inside.free c.self.invariant.tree used;
+      tree = (c.map_at.ensures.mapped c.self.inside.free c.self.invariant.tree used).tree;
       known = c.map_at.ensures.known c.self.inside.free c.self.invariant.known;
       apart = λ page place is.
           ap (λ a. in_area a place.frame) c.map_at.ensures.area
@@ -46,13 +46,13 @@ used c = outside_used c.self.inside.memory.area c.self.inside.free (frame_count 
 pub returns-in-None-clause-only : goal.returns-in-None-clause-only
 returns-in-None-clause-only c =
     let used = used (goal.at.returns-in-None-clause-only c).In-None in
-    let added = c.map_at.ensures.added c.self.inside.free c.self.invariant.tree used in
+    let added = (c.map_at.ensures.mapped c.self.inside.free c.self.invariant.tree used).added in
     only_seen c.self.view_is c.map_at.ensures.area added.size added.stayed
-    (λ other canonical not. c.map_at.ensures.elsewhere c.self.inside.free c.self.invariant.tree used other canonical (other_page c.args.page other not))
+    (λ other canonical not. (c.map_at.ensures.mapped c.self.inside.free c.self.invariant.tree used).elsewhere other canonical (other_page c.args.page other not))
 
 pub returns-in-None-clause-mapped : goal.returns-in-None-clause-mapped
 returns-in-None-clause-mapped c =
-    let added = c.map_at.ensures.added c.self.inside.free c.self.invariant.tree (used (goal.at.returns-in-None-clause-mapped c).In-None) in
+    let added = (c.map_at.ensures.mapped c.self.inside.free c.self.invariant.tree (used (goal.at.returns-in-None-clause-mapped c).In-None)).added in
     subst (λ (s : TableState). IsPageMapped s (record {
       words = c.map_at.new.frames.words;
       area = c.map_at.new.frames.area;
@@ -89,8 +89,8 @@ invariant_of-self-in-None-map_fault c =
     let size = added.size in
     record {
       root_in = omega (arith, c.self.invariant.root_in, size);
-      tree = c.map_page.ensures.tree;
-      known = c.map_page.ensures.known;
+      tree = c.map_page.ensures.standing.tree;
+      known = c.map_page.ensures.standing.known;
       apart = λ page place is.
           ap (λ a. in_area a place.frame) c.map_page.ensures.area
           ∙ added_outside c.self.inside.memory.area c.self.inside.memory.words c.map_page.new.frames.words

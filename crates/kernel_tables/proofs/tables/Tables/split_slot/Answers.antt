@@ -10,8 +10,8 @@ invariant_of-self c =
     let size = split.size in
     record {
       root_in = omega (arith, c.self.invariant.root_in, size);
-      tree = c.split_large.ensures.tree;
-      known = c.split_large.ensures.known;
+      tree = c.split_large.ensures.standing.tree;
+      known = c.split_large.ensures.standing.known;
       apart = λ page place is. ap (λ a. in_area a place.frame) c.split_large.ensures.area
           ∙ c.self.invariant.apart page place (sym (c.split_large.ensures.walks page) ∙ is);
     }

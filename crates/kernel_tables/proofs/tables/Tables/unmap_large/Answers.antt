@@ -10,11 +10,11 @@ use Rattle.kernel_tables.proofs.tables.Tables.unmap_large.Goals as goal
 
 pub invariant_of-self : goal.invariant_of-self
 invariant_of-self c =
-    let gone = c.unmap_large.ensures.removed c.self.inside.free c.self.invariant.tree in
+    let gone = (c.unmap_large.ensures.gone c.self.inside.free c.self.invariant.tree).removed in
     let size = gone.size in
     record {
       root_in = omega (arith, c.self.invariant.root_in, size);
-      tree = c.unmap_large.ensures.tree c.self.inside.free c.self.invariant.tree;
+      tree = (c.unmap_large.ensures.gone c.self.inside.free c.self.invariant.tree).tree;
       known = known_moved c.self.inside.memory.area c.unmap_large.new.frames.area c.self.inside.free
           (frame_count c.unmap_large.new.frames.words) c.unmap_large.ensures.area
           (free_stays c.self.inside.memory.area c.self.inside.free c.self.inside.free
@@ -28,17 +28,17 @@ invariant_of-self c =
 
 pub returns-clause-only : goal.returns-clause-only
 returns-clause-only c =
-    let gone = c.unmap_large.ensures.removed c.self.inside.free c.self.invariant.tree in
+    let gone = (c.unmap_large.ensures.gone c.self.inside.free c.self.invariant.tree).removed in
     only_seen c.self.view_is c.unmap_large.ensures.area gone.size (λ l n met lt is.
     gone.others l n (omega (arith, lt)) (λ e _. absurd (omega (arith, lt, e))) ∙ is)
-    (λ other canonical not. c.unmap_large.ensures.elsewhere c.self.inside.free c.self.invariant.tree other canonical (other_slot c.args.page other not))
+    (λ other canonical not. (c.unmap_large.ensures.gone c.self.inside.free c.self.invariant.tree).elsewhere other canonical (other_slot c.args.page other not))
 
 pub returns-clause-flush : goal.returns-clause-flush
 returns-clause-flush c = flush_of (returns-clause-only c)
 
 pub returns-clause-unmapped : goal.returns-clause-unmapped
 returns-clause-unmapped c =
-    let gone = c.unmap_large.ensures.removed c.self.inside.free c.self.invariant.tree in
+    let gone = (c.unmap_large.ensures.gone c.self.inside.free c.self.invariant.tree).removed in
     subst (λ (s : TableState). IsLargeUnmapped s (record {
       words = c.unmap_large.new.frames.words;
       area =

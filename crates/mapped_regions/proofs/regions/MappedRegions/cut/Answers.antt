@@ -68,8 +68,8 @@ gone c =
       regions = c.cut.ensures.regions ∙ ap (λ a. cut_of a c.args.pages (shown c.args.self.now).regions) (page_is c.args.start c.requires.range.0);
       gone = pages_gone (shown c.args.self.now) c.unmap_pages.new.frames c.unmap_pages.new.pool c.cut.new.self
           (after c).tables c.containing_address.result c.args.start c.args.pages first
-          c.unmap_pages.ensures.unmapped c.unmap_pages.ensures.tree c.unmap_pages.ensures.gone
-          c.unmap_pages.ensures.elsewhere c.unmap_pages.ensures.bytes (omega arith);
+          c.unmap_pages.ensures.unmapped c.unmap_pages.ensures.tree c.unmap_pages.ensures.gone.unmapped
+          c.unmap_pages.ensures.gone.elsewhere c.unmap_pages.ensures.gone.bytes (omega arith);
     }
 
 taken : (c : After-forget_pages) → AreTakenOut c.args.start (c.args.start + 4096 * c.args.pages) (shown c.args.self.now).regions c.cut.new.self

@@ -78,9 +78,9 @@ joined c =
           c.args.self.now.root c.args.region.start c.args.region.pages c.map_pages-stop.result c.args.region.rights whole a;
       zeros = λ address here. (
           let bounds = within_bounds address c.args.region here in
-          c.map_pages-stop.ensures.zeros address (address / 4096 - c.args.region.start / 4096)
+          c.map_pages-stop.ensures.clear.zeros address (address / 4096 - c.args.region.start / 4096)
           (omega (arith, bounds.0, bounds.1)) (omega (arith, bounds.0, bounds.1)));
-      bytes = c.map_pages-stop.ensures.bytes;
+      bytes = c.map_pages-stop.ensures.clear.bytes;
     }
 
 pub invariant_of-self-2 : goal.invariant_of-self-2
@@ -93,7 +93,7 @@ invariant_of-self-2 c =
           pages.large_stayed c.args.self.now.met;
       mapped = joined_mapped (shown c.args.self.now) (after c) c.args.region c.args.self.now.mapped c.requires.region
           c.requires.can (joined c) c.in_ok-add.ensures.put
-          (λ other canonical apart. c.map_pages-stop.ensures.elsewhere other canonical (λ k less e. apart k less (e ∙ ap (λ f. f + k) first)));
+          (λ other canonical apart. c.map_pages-stop.ensures.clear.elsewhere other canonical (λ k less e. apart k less (e ∙ ap (λ f. f + k) first)));
     }
 
 pub returns-clause-ok : goal.returns-clause-ok

@@ -67,8 +67,8 @@ left c =
       regions = c.remove.ensures.regions;
       gone = pages_gone (shown c.args.self.now) c.unmap_pages.new.frames c.unmap_pages.new.pool c.remove.new.self
           c.args.self.now.tables c.containing_address.result c.args.region.now.start c.args.region.now.pages first
-          c.unmap_pages.ensures.unmapped c.unmap_pages.ensures.tree c.unmap_pages.ensures.gone
-          c.unmap_pages.ensures.elsewhere c.unmap_pages.ensures.bytes (omega arith);
+          c.unmap_pages.ensures.unmapped c.unmap_pages.ensures.tree c.unmap_pages.ensures.gone.unmapped
+          c.unmap_pages.ensures.gone.elsewhere c.unmap_pages.ensures.gone.bytes (omega arith);
       whole = whole;
     }
 

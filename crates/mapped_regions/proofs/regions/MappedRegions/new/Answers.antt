@@ -13,25 +13,25 @@ use Rattle.mapped_regions.proofs.regions.MappedRegions.new.Goals as goal
 
 pub invariant_of-result : goal.invariant_of-result
 invariant_of-result c =
-    let size : frame_count c.make_root.new.frames ≡ c.args.frames = ap (λ n. n / 512) c.in-Some.ensures.size ∙ c.in_ok-memory.ensures.count in
+    let size : frame_count c.make_root.new.frames ≡ c.args.frames = ap (λ n. n / 512) c.in-Some.ensures.made.size ∙ c.in_ok-memory.ensures.count in
     let fits = c.ranges.frames.fits in
-    let free = c.in-Some.ensures.count in
+    let free = c.in-Some.ensures.frame.count in
     let all = c.in_ok-pool.ensures.count in
     let none : total_pages c.new-5.result ≡ 0 = ap total_pages c.new-5.ensures in
     record {
       met = c.new-3.ensures c.make_root.new.frames c.in-Some.root;
       mapped = record {
         window = c.requires.window;
-        tree = c.in-Some.ensures.tree;
+        tree = c.in-Some.ensures.made.tree;
         known = c.in-Some.ensures.known;
-        flags = c.in-Some.ensures.flags ∙ (ap length c.in_ok-pool.ensures.free ∙ (length-replicate c.args.frames true ∙ sym size));
-        root_in = c.in-Some.ensures.below;
+        flags = c.in-Some.ensures.frame.flags ∙ (ap length c.in_ok-pool.ensures.free ∙ (length-replicate c.args.frames true ∙ sym size));
+        root_in = c.in-Some.ensures.made.below;
         few_frames = omega arith;
         count = omega arith;
         regions = subst (AllByRecursion (IsRegion c.args.base c.args.pages)) (sym c.new-5.ensures) tt;
-        found = λ page canonical. ap (option_map rights_of) (c.in-Some.ensures.unmapped page)
+        found = λ page canonical. ap (option_map rights_of) (c.in-Some.ensures.made.unmapped page)
             ∙ ap (λ (rs : List Region). option_map (λ (kind : Bool × Rights). kind.1) (kind_at rs (4096 * page)))
             (sym c.new-5.ensures);
-        larges = none_large c.make_root.new.frames c.in-Some.root c.new-5.result c.in-Some.ensures.no_large;
+        larges = none_large c.make_root.new.frames c.in-Some.root c.new-5.result c.in-Some.ensures.made.no_large;
       };
     }

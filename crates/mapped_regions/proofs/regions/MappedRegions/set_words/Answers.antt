@@ -1,64 +1,42 @@
 use Rattle.std.proofs.Common.{◌≡◌, ◌+◌, ◌-◌, ◌/◌, ◌%◌, Some, get_or, ap, ◌∙◌, inl, inr, arith}
 use Rattle.paging_core.specs.Memory.{byte_of}
-use Rattle.paging_core.proofs.PageWritten.{written_walks, written_larges, written_tree, run_elsewhere, run_bytes, run_others}
+use Rattle.paging_core.proofs.PageWritten.{page_kept, run_elsewhere, run_bytes, run_others}
 use Rattle.mapped_regions.specs.Shown.{shown}
 use Rattle.mapped_regions.proofs.MetSlots.{met_stay, frame_at, put_at, page_canonical}
 use Rattle.mapped_regions.proofs.Mapped.{stored_mapped}
 use Rattle.mapped_regions.proofs.regions.MappedRegions.set_words.Goals as goal
 
+pub returns-clause-kept : goal.returns-clause-kept
+returns-clause-kept c =
+    let old = c.args.self.now.frames in
+    let new = c.write_words.new.self in
+    let root = c.args.self.now.root in
+    let f = frame_at old root c.args.at c.new.result c.containing_address-page.result c.meet-frame.result
+    c.containing_address-page.ensures c.new.ensures c.meet-frame.ensures.frame in
+    let put = put_at old new root c.args.at c.word_index.result c.meet-frame.result c.args.words.now f c.word_index.ensures.index
+    c.write_words.ensures in
+    page_kept old new root (c.args.at / 4096) f.place f.found put.size
+    (λ free. run_elsewhere old new root (c.args.at / 4096) (c.args.at % 4096 / 8) c.args.words.now f.place free f.found c.requires.fits put)
+
 pub invariant_of-self : goal.invariant_of-self
 invariant_of-self c =
+    let old = c.args.self.now.frames in
+    let new = c.write_words.new.self in
+    let root = c.args.self.now.root in
+    let f = frame_at old root c.args.at c.new.result c.containing_address-page.result c.meet-frame.result
+    c.containing_address-page.ensures c.new.ensures c.meet-frame.ensures.frame in
+    let put = put_at old new root c.args.at c.word_index.result c.meet-frame.result c.args.words.now f c.word_index.ensures.index
+    c.write_words.ensures in
+    let kept = page_kept old new root (c.args.at / 4096) f.place f.found put.size
+    (λ free. run_elsewhere old new root (c.args.at / 4096) (c.args.at % 4096 / 8) c.args.words.now f.place free f.found c.requires.fits put) in
     let free = c.args.self.now.pool in
     let tree = c.args.self.now.mapped.tree in
-    let f = frame_at c.args.self.now.frames c.args.self.now.root c.args.at c.new.result c.containing_address-page.result
-    c.meet-frame.result c.containing_address-page.ensures c.new.ensures c.meet-frame.ensures.frame in
-    let put = put_at c.args.self.now.frames c.write_words.new.self c.args.self.now.root c.args.at c.word_index.result
-    c.meet-frame.result c.args.words.now f c.word_index.ensures.index c.write_words.ensures in
-    let walks = written_walks c.args.self.now.frames c.write_words.new.self c.args.self.now.root (c.args.at / 4096) f.place
-    free f.found put.size (run_elsewhere c.args.self.now.frames c.write_words.new.self c.args.self.now.root
-    (c.args.at / 4096) (c.args.at % 4096 / 8) c.args.words.now f.place free f.found c.requires.fits put tree) tree in
-    let larges = written_larges c.args.self.now.frames c.write_words.new.self c.args.self.now.root (c.args.at / 4096)
-    f.place free f.found put.size (run_elsewhere c.args.self.now.frames c.write_words.new.self c.args.self.now.root
-    (c.args.at / 4096) (c.args.at % 4096 / 8) c.args.words.now f.place free f.found c.requires.fits put tree) tree in
     record {
-      met = met_stay c.args.self.now.frames c.write_words.new.self c.args.self.now.root c.meet-frame.new.self
-          (λ l number met le is. walks l number le ∙ is) (λ number large is. larges number ∙ is) c.meet-frame.ensures.met;
-      mapped = stored_mapped (shown c.args.self.now) c.write_words.new.self c.args.self.now.mapped put.size
-          (written_tree c.args.self.now.frames c.write_words.new.self c.args.self.now.root (c.args.at / 4096) f.place free
-          f.found put.size (run_elsewhere c.args.self.now.frames c.write_words.new.self c.args.self.now.root
-          (c.args.at / 4096) (c.args.at % 4096 / 8) c.args.words.now f.place free f.found c.requires.fits put tree) tree)
-          walks larges;
+      met = met_stay old new root c.meet-frame.new.self (λ l number met le is. kept.walks free tree l number le ∙ is)
+          (λ number large is. kept.larges free tree number ∙ is) c.meet-frame.ensures.met;
+      mapped = stored_mapped (shown c.args.self.now) new c.args.self.now.mapped put.size (kept.tree free tree) (kept.walks free tree)
+          (kept.larges free tree);
     }
-
-pub returns-clause-walks : goal.returns-clause-walks
-returns-clause-walks c = λ free tree.
-    let f = frame_at c.args.self.now.frames c.args.self.now.root c.args.at c.new.result c.containing_address-page.result
-    c.meet-frame.result c.containing_address-page.ensures c.new.ensures c.meet-frame.ensures.frame in
-    let put = put_at c.args.self.now.frames c.write_words.new.self c.args.self.now.root c.args.at c.word_index.result
-    c.meet-frame.result c.args.words.now f c.word_index.ensures.index c.write_words.ensures in
-    written_walks c.args.self.now.frames c.write_words.new.self c.args.self.now.root (c.args.at / 4096) f.place free f.found
-    put.size (run_elsewhere c.args.self.now.frames c.write_words.new.self c.args.self.now.root (c.args.at / 4096)
-    (c.args.at % 4096 / 8) c.args.words.now f.place free f.found c.requires.fits put tree) tree
-
-pub returns-clause-larges : goal.returns-clause-larges
-returns-clause-larges c = λ free tree.
-    let f = frame_at c.args.self.now.frames c.args.self.now.root c.args.at c.new.result c.containing_address-page.result
-    c.meet-frame.result c.containing_address-page.ensures c.new.ensures c.meet-frame.ensures.frame in
-    let put = put_at c.args.self.now.frames c.write_words.new.self c.args.self.now.root c.args.at c.word_index.result
-    c.meet-frame.result c.args.words.now f c.word_index.ensures.index c.write_words.ensures in
-    written_larges c.args.self.now.frames c.write_words.new.self c.args.self.now.root (c.args.at / 4096) f.place free
-    f.found put.size (run_elsewhere c.args.self.now.frames c.write_words.new.self c.args.self.now.root
-    (c.args.at / 4096) (c.args.at % 4096 / 8) c.args.words.now f.place free f.found c.requires.fits put tree) tree
-
-pub returns-clause-tree : goal.returns-clause-tree
-returns-clause-tree c = λ free tree.
-    let f = frame_at c.args.self.now.frames c.args.self.now.root c.args.at c.new.result c.containing_address-page.result
-    c.meet-frame.result c.containing_address-page.ensures c.new.ensures c.meet-frame.ensures.frame in
-    let put = put_at c.args.self.now.frames c.write_words.new.self c.args.self.now.root c.args.at c.word_index.result
-    c.meet-frame.result c.args.words.now f c.word_index.ensures.index c.write_words.ensures in
-    written_tree c.args.self.now.frames c.write_words.new.self c.args.self.now.root (c.args.at / 4096) f.place free f.found
-    put.size (run_elsewhere c.args.self.now.frames c.write_words.new.self c.args.self.now.root (c.args.at / 4096)
-    (c.args.at % 4096 / 8) c.args.words.now f.place free f.found c.requires.fits put tree) tree
 
 pub returns-clause-bytes : goal.returns-clause-bytes
 returns-clause-bytes c = λ free tree k less.

@@ -1,0 +1,120 @@
+-- What a call that writes entries leaves, by the walk. `old` are the words of the memory before, `new` after; `area` is
+-- where the tables may lie.
+use Rattle.std.specs.Prelude.{◌≡◌, ℕ, ◌+◌, ◌*◌, ◌/◌, ◌<◌, ◌≤◌, Bool, false, List, length, IsTrue, IsSome, IfSome, MatchOption, Option, Some, None}
+use Rattle.paging_core.specs.Address.{is_canonical, IsCanonicalRange}
+use Rattle.paging_core.specs.Area.{Area}
+use Rattle.paging_core.specs.Memory.{frame_count}
+use Rattle.paging_core.specs.Pool.{is_free, free_count, FreeIn, IsFrameTaken}
+use Rattle.paging_core.specs.Walk.{reach, large_of, walk_of, reached, granted}
+use Rattle.paging_core.specs.Tree.{IsTreeIn}
+use Rattle.paging_core.specs.Missing.{missing_of}
+use Rattle.paging_core.specs.Mapping.{IsPageAdded}
+use Rattle.paging_core.specs.PageChanges.{ArePagesChanged, removal, regrant, only}
+use Rattle.paging_core.specs.Large.{IsSlotAdded, IsLargeRemoved, missing_above}
+use Rattle.paging_core.specs.LargeChanges.{AreLargeGranted}
+use Rattle.paging_core.specs.declared.page_table.Rights.{Rights}
+
+-- The tables are a tree beside the free frames, and these lie in the area.
+pub record IsTreeAndPool (area : Area) (words : List ℕ) (root : ℕ) (free : List Bool) : Type 0 where
+  pub tree : IsTreeIn area words root free
+  pub known : FreeIn area free (frame_count words)
+
+-- The lowest free frame was taken; None exactly if no frame is free.
+pub record IsLowestFrameTaken (free free' : List Bool) (result : Option ℕ) : Type 0 where
+  pub taken : IsFrameTaken free free' result
+  pub flags : length free' ≡ length free
+  pub lowest : IfSome result (λ frame. (lower : ℕ) → lower < frame → is_free free lower ≡ false)
+  pub count : MatchOption result (free_count free ≡ 0) (λ _. free_count free' + 1 ≡ free_count free)
+
+-- A root table that maps nothing.
+pub record IsRootMade (area : Area) (old new : List ℕ) (free : List Bool) (root : ℕ) : Type 0 where
+  pub size : length new ≡ length old
+  pub below : root < frame_count new
+  pub tree : IsTreeIn area new root free
+  pub empty : (level number : ℕ) → 0 < level → reach new root level number ≡ None
+  pub no_large : (slot : ℕ) → large_of new root slot ≡ None
+  pub unmapped : (page : ℕ) → walk_of new root page ≡ None
+
+-- The page was mapped to the frame, and no other page's walk is changed. A range of pages with it misses the tables that
+-- it missed.
+pub record IsPagePut (area : Area) (old new : List ℕ) (root : ℕ) (free : List Bool) (page frame : ℕ) (rights : Rights) : Type 0 where
+  pub tree : IsTreeIn area new root free
+  pub elsewhere : (other : ℕ) → IsTrue (is_canonical (other * 4096)) → (other ≡ page → ⊥) → walk_of new root other ≡ walk_of old root other
+  pub added : IsPageAdded old new free free root page frame rights
+  pub missing :
+      (first pages : ℕ) → IsCanonicalRange first pages → first ≤ page → page < first + pages →
+      missing_of new root first pages ≡ missing_of old root first pages
+
+-- The page was unmapped, and no other page's walk is changed.
+pub record IsPageTakenOut (area : Area) (old new : List ℕ) (root : ℕ) (free : List Bool) (page : ℕ) : Type 0 where
+  pub tree : IsTreeIn area new root free
+  pub pages : ArePagesChanged old new root removal (only page)
+  pub unmapped : walk_of new root page ≡ None
+  pub elsewhere : (other : ℕ) → IsTrue (is_canonical (other * 4096)) → (other ≡ page → ⊥) → walk_of new root other ≡ walk_of old root other
+
+-- The page has these rights; no other page's walk is changed, and no byte of any page.
+pub record IsPageRegranted (area : Area) (old new : List ℕ) (root : ℕ) (free : List Bool) (page : ℕ) (rights : Rights) : Type 0 where
+  pub tree : IsTreeIn area new root free
+  pub pages : ArePagesChanged old new root (regrant rights) (only page)
+  pub granted : IfSome (walk_of old root page) (λ place. walk_of new root page ≡ Some (granted place.frame rights))
+  pub elsewhere : (other : ℕ) → IsTrue (is_canonical (other * 4096)) → (other ≡ page → ⊥) → walk_of new root other ≡ walk_of old root other
+  pub bytes : (address : ℕ) → reached new root address ≡ reached old root address
+
+-- Pages from `first` on were mapped, each byte of them is 0; no other page's walk is changed, and no byte of a page that
+-- was mapped.
+pub record AddsClearPages (old new : List ℕ) (root first pages : ℕ) : Type 0 where
+  pub elsewhere :
+      (other : ℕ) → IsTrue (is_canonical (other * 4096)) → ((k : ℕ) → k < pages → other ≡ first + k → ⊥) →
+      walk_of new root other ≡ walk_of old root other
+  pub zeros : (address k : ℕ) → k < pages → address / 4096 ≡ first + k → reached new root address ≡ Some 0
+  pub bytes : (address : ℕ) → IsSome (walk_of old root (address / 4096)) → reached new root address ≡ reached old root address
+
+-- The pages from `first` on are no longer mapped; no other page's walk is changed, and no byte of it.
+pub record IsRangeTakenOut (old new : List ℕ) (root first pages : ℕ) : Type 0 where
+  pub unmapped : (k : ℕ) → k < pages → walk_of new root (first + k) ≡ None
+  pub elsewhere :
+      (other : ℕ) → IsTrue (is_canonical (other * 4096)) → ((k : ℕ) → k < pages → other ≡ first + k → ⊥) →
+      walk_of new root other ≡ walk_of old root other
+  pub bytes : (address : ℕ) → IsSome (walk_of new root (address / 4096)) → reached new root address ≡ reached old root address
+
+-- The pages from `first` on have these rights; no other page's walk is changed, and no byte of any page.
+pub record IsRangeRegranted (old new : List ℕ) (root first pages : ℕ) (rights : Rights) : Type 0 where
+  pub granted :
+      (k : ℕ) → k < pages →
+      IfSome (walk_of old root (first + k)) (λ place. walk_of new root (first + k) ≡ Some (granted place.frame rights))
+  pub elsewhere :
+      (other : ℕ) → IsTrue (is_canonical (other * 4096)) → ((k : ℕ) → k < pages → other ≡ first + k → ⊥) →
+      walk_of new root other ≡ walk_of old root other
+  pub bytes : (address : ℕ) → reached new root address ≡ reached old root address
+
+-- No page outside the slot leads elsewhere, and no byte of a page that was mapped is changed.
+pub record KeepsOtherSlots (old new : List ℕ) (root page : ℕ) : Type 0 where
+  pub elsewhere :
+      (other : ℕ) → IsTrue (is_canonical (other * 4096)) → (other / 512 ≡ page → ⊥) → walk_of new root other ≡ walk_of old root other
+  pub bytes : (address : ℕ) → IsSome (walk_of old root (address / 4096)) → reached new root address ≡ reached old root address
+
+-- The slot was mapped to the lowest run that was free, and each of its bytes is 0.
+pub record IsSlotMapped (old new : List ℕ) (free free' : List Bool) (root page : ℕ) (rights : Rights) : Type 0 where
+  pub added : IsSlotAdded old new free free' root page rights
+  -- A range of pages with the slot no longer misses the tables above it. The slot's own still counts as missing.
+  pub missing :
+      (first pages : ℕ) → IsCanonicalRange first pages → first ≤ 512 * page → 512 * page + 512 ≤ first + pages →
+      missing_of new root first pages + missing_above old root page ≡ missing_of old root first pages
+  pub count : free_count free' + 512 + missing_above old root page ≡ free_count free
+  pub zeros : (address k : ℕ) → k < 512 → address / 4096 ≡ 512 * page + k → reached new root address ≡ Some 0
+
+-- The slot was unmapped; no other page's walk is changed, and no byte of it.
+pub record IsLargeTakenOut (area : Area) (old new : List ℕ) (root : ℕ) (free : List Bool) (page : ℕ) : Type 0 where
+  pub tree : IsTreeIn area new root free
+  pub bytes : (address : ℕ) → IsSome (walk_of new root (address / 4096)) → reached new root address ≡ reached old root address
+  pub removed : IsLargeRemoved old new root page
+  pub elsewhere :
+      (other : ℕ) → IsTrue (is_canonical (other * 4096)) → (other / 512 ≡ page → ⊥) → walk_of new root other ≡ walk_of old root other
+
+-- The slot's pages have these rights; no other page's walk is changed, and no byte of any page.
+pub record IsSlotRegranted (area : Area) (old new : List ℕ) (root : ℕ) (free : List Bool) (page : ℕ) (rights : Rights) : Type 0 where
+  pub tree : IsTreeIn area new root free
+  pub granted : AreLargeGranted old new root page rights
+  pub elsewhere :
+      (other : ℕ) → IsTrue (is_canonical (other * 4096)) → (other / 512 ≡ page → ⊥) → walk_of new root other ≡ walk_of old root other
+  pub bytes : (address : ℕ) → reached new root address ≡ reached old root address
