@@ -4,16 +4,16 @@ use Rattle.std.specs.Prelude.{IsSome, is_some}
 use Rattle.paging_core.specs.Walk.{reached}
 use Rattle.paging_core.specs.declared.page_table.Rights.{Rights}
 use Rattle.address_space.specs.Runs.{rights_in}
-use Rattle.address_space.specs.Access.{denies, IsGranted, AreBytesAt}
-use Rattle.address_space.specs.Changing.{IsStored}
-use Rattle.address_space.specs.Space.{Tables, map_of}
+use Rattle.address_space.specs.Access.{rights_deny, IsAccessGranted, AreBytesAt}
+use Rattle.address_space.specs.Changing.{AreBytesStored}
+use Rattle.address_space.specs.Space.{Tables, page_map_of}
 use Rattle.address_space.proofs.Cutting.{side_of, else_out}
 
 -- if an access is granted, the page is mapped
 pub granted_mapped : (rights : ℕ → Option Rights) (write user : Bool) (at count any : ℕ) →
-    IsGranted rights write user at count → at ≤ any → any < at + count → IsSome (rights (any / 4096))
+    IsAccessGranted rights write user at count → at ≤ any → any < at + count → IsSome (rights (any / 4096))
 granted_mapped rights write user at count any g h k = go (rights (any / 4096)) (g any h k) where
-  go : (o : Option Rights) → denies write user o ≡ false → IsSome o
+  go : (o : Option Rights) → rights_deny write user o ≡ false → IsSome o
   go None is = absurd (cc)
   go (Some r) is = refl
 
@@ -24,18 +24,18 @@ byte_there (Some r) b h = refl
 pub bytes_in_map : (t : Tables) (at count : ℕ) (bytes : List ℕ) → length bytes ≡ count →
     AreBytesAt (reached t.words t.root) at bytes → ((any : ℕ) → at ≤ any → any < at + count →
     IsSome (rights_in t.runs (any / 4096))) →
-    AreBytesAt (map_of t).byte at bytes
+    AreBytesAt (page_map_of t).byte at bytes
 bytes_in_map t at count bytes size read mapped = record {
   each = λ k less. byte_there (rights_in t.runs ((at + k) / 4096)) (reached t.words t.root (at + k))
       (mapped (at + k) (omega arith) (omega (arith, less, size))) ∙ read.each k less;
 }
 
-pub stored_none : (t : Tables) (at : ℕ) (bytes : List ℕ) → length bytes ≡ 0 → IsStored t t at bytes
+pub stored_none : (t : Tables) (at : ℕ) (bytes : List ℕ) → length bytes ≡ 0 → AreBytesStored t t at bytes
 stored_none t at bytes empty = record {
   map = record {
     rights = λ page. refl;
     bytes = λ address. sym (else_out at (at + length bytes) address (Some (slice_index bytes (address - at)))
-        ((map_of t).byte address) (out address (side_of at (at + length bytes) address)));
+        ((page_map_of t).byte address) (out address (side_of at (at + length bytes) address)));
   };
   free = refl;
   root = refl;

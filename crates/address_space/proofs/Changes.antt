@@ -8,7 +8,7 @@ use Rattle.meminterval.specs.declared.interval.Interval.{Interval}
 use Rattle.meminterval.specs.Entries.{AllItems, or_else, with_entry, without_key}
 use Rattle.meminterval.specs.Interval.{by_ends, with_end, HasOwnStart}
 use Rattle.paging_core.specs.declared.page_table.Rights.{Rights}
-use Rattle.address_space.specs.Runs.{Follow, rights_in, begins_at, holds}
+use Rattle.address_space.specs.Runs.{RunsFollow, rights_in, has_run_at, holds}
 use Rattle.address_space.proofs.Splits.{follow_to}
 
 pub less : (x e : Interval ℕ) → x.start < e.start → by_ends nat_cmp x e ≡ Less
@@ -24,7 +24,7 @@ equal_itself i = grind (arith, nat_tests)
 
 -- one more, between those that begin before it and those that begin after it
 pub entry_between : (x : Interval ℕ × Rights) (from : ℕ) (front back : List (Interval ℕ × Rights)) (next to : ℕ) →
-    Follow from front x.0.start → x.0.start < next → Follow next back to →
+    RunsFollow from front x.0.start → x.0.start < next → RunsFollow next back to →
     with_entry (by_ends nat_cmp) x (front ++ back) ≡ front ++ x ∷ back
 entry_between x from [] [] next to f h g = refl
 entry_between x from [] (e ∷ back) next to f h g = let order = less x.0 e.0 (omega (arith, h, g.0)) in rw order refl
@@ -33,7 +33,7 @@ entry_between x from (e ∷ front) back next to f h g =
     let order = greater x.0 e.0 (omega (arith, i, f.1)) in
     rw order (ap (λ ys. e ∷ ys) (entry_between x e.0.end front back next to f.2 h g))
 
-pub without_between : (e : Interval ℕ × Rights) (from : ℕ) (front back : List (Interval ℕ × Rights)) → Follow from front e.0.start →
+pub without_between : (e : Interval ℕ × Rights) (from : ℕ) (front back : List (Interval ℕ × Rights)) → RunsFollow from front e.0.start →
     without_key (by_ends nat_cmp) e.0 (front ++ e ∷ back) ≡ front ++ back
 without_between e from [] back f = let order = equal_itself e.0 in rw order refl
 without_between e from (x ∷ front) back f =
@@ -43,14 +43,14 @@ without_between e from (x ∷ front) back f =
 
 -- no pair after is changed
 end_behind : (i : Interval ℕ) (end next : ℕ) (back : List (Interval ℕ × Rights)) (to : ℕ) → i.start < next →
-    Follow next back to → map (with_end nat_cmp i end) back ≡ back
+    RunsFollow next back to → map (with_end nat_cmp i end) back ≡ back
 end_behind i end next [] to h g = refl
 end_behind i end next (e ∷ back) to h g =
     let order = less i e.0 (omega (arith, h, g.0)) in
     rw order (ap (λ ys. e ∷ ys) (end_behind i end e.0.end back to (omega (arith, h, g.0, g.1)) g.2))
 
 pub end_between : (e : Interval ℕ × Rights) (end from : ℕ) (front back : List (Interval ℕ × Rights)) (next to : ℕ) →
-    Follow from front e.0.start → e.0.start < next → Follow next back to →
+    RunsFollow from front e.0.start → e.0.start < next → RunsFollow next back to →
     map (with_end nat_cmp e.0 end) (front ++ e ∷ back) ≡ front ++ (record { start = e.0.start; end = end }, e.1) ∷ back
 end_between e end from [] back next to f h g =
     let order = equal_itself e.0 in rw order (ap (λ ys. (record { start = e.0.start; end = end }, e.1) ∷ ys) (end_behind e.0 end next back to h g))
@@ -67,12 +67,12 @@ own_after : (i e : Interval ℕ) → i.start < e.start → nat_cmp i.start e.sta
 own_after i e h q = grind (arith, nat_tests)
 
 own_behind : (i : Interval ℕ) (next : ℕ) (back : List (Interval ℕ × Rights)) (to : ℕ) → i.start < next →
-    Follow next back to → AllItems (HasOwnStart nat_cmp i) back
+    RunsFollow next back to → AllItems (HasOwnStart nat_cmp i) back
 own_behind i next [] to h g = tt
 own_behind i next (e ∷ back) to h g = ((λ q. absurd (own_after i e.0 (omega (arith, h, g.0)) q)), own_behind i e.0.end back to (omega (arith, h, g.0, g.1)) g.2)
 
 pub own_between : (e : Interval ℕ × Rights) (from : ℕ) (front back : List (Interval ℕ × Rights)) (next to : ℕ) →
-    Follow from front e.0.start → e.0.start < next → Follow next back to →
+    RunsFollow from front e.0.start → e.0.start < next → RunsFollow next back to →
     AllItems (HasOwnStart nat_cmp e.0) (front ++ e ∷ back)
 own_between e from [] back next to f h g = ((λ q. equal_itself e.0), own_behind e.0 next back to h g)
 own_between e from (x ∷ front) back next to f h g =
@@ -90,12 +90,12 @@ rights_append (e ∷ front) back page = by_test (holds page e) refl (rights_appe
   by_test true is rest = rw is refl
   by_test false is rest = rw is rest
 
-pub begins_append : (front back : List (Interval ℕ × Rights)) (page : ℕ) → begins_at (front ++ back) page ≡ (begins_at front page || begins_at back page)
+pub begins_append : (front back : List (Interval ℕ × Rights)) (page : ℕ) → has_run_at (front ++ back) page ≡ (has_run_at front page || has_run_at back page)
 begins_append [] back page = refl
 begins_append (e ∷ front) back page = by_test (e.0.start == page) refl (begins_append front back page) where
-  by_test : (t : Bool) → (e.0.start == page) ≡ t → begins_at (front ++ back)
-      page ≡ (begins_at front page || begins_at back page) → begins_at ((e ∷ front) ++ back)
-      page ≡ (begins_at (e ∷ front) page || begins_at back page)
+  by_test : (t : Bool) → (e.0.start == page) ≡ t → has_run_at (front ++ back)
+      page ≡ (has_run_at front page || has_run_at back page) → has_run_at ((e ∷ front) ++ back)
+      page ≡ (has_run_at (e ∷ front) page || has_run_at back page)
   by_test true is rest = rw is refl
   by_test false is rest = rw is rest
 
@@ -109,37 +109,38 @@ pub holds_inside : (page : ℕ) (e : Interval ℕ × Rights) → e.0.start ≤ p
 holds_inside page e h k = grind (arith, nat_tests)
 
 -- no page before the runs or after them
-pub none_below : (from : ℕ) (es : List (Interval ℕ × Rights)) (to page : ℕ) → Follow from es to → page < from → rights_in es page ≡ None
+pub none_below : (from : ℕ) (es : List (Interval ℕ × Rights)) (to page : ℕ) → RunsFollow from es to → page < from → rights_in es page ≡ None
 none_below from [] to page f h = refl
 none_below from (e ∷ es) to page f h =
     let t = holds_not_below page e (omega (arith, h, f.0)) in rw t (none_below e.0.end es to page f.2 (omega (arith, h, f.0, f.1)))
 
-pub none_above : (from : ℕ) (es : List (Interval ℕ × Rights)) (to page : ℕ) → Follow from es to → to ≤ page → rights_in es page ≡ None
+pub none_above : (from : ℕ) (es : List (Interval ℕ × Rights)) (to page : ℕ) → RunsFollow from es to → to ≤ page → rights_in es page ≡ None
 none_above from [] to page f h = refl
 none_above from (e ∷ es) to page f h =
     let i = follow_to e.0.end es to f.2 in
     let t = holds_not_above page e (omega (arith, i, h)) in rw t (none_above e.0.end es to page f.2 h)
 
 -- no run begins before the runs, or after them
-pub none_begins_below : (from : ℕ) (es : List (Interval ℕ × Rights)) (to page : ℕ) → Follow from es to → page < from → begins_at es page ≡ false
+pub none_begins_below : (from : ℕ) (es : List (Interval ℕ × Rights)) (to page : ℕ) → RunsFollow from es to → page < from → has_run_at es page ≡ false
 none_begins_below from [] to page f h = refl
 none_begins_below from (e ∷ es) to page f h =
     let t : (e.0.start == page) ≡ false = grind (arith, nat_tests, f.0, h) in rw t (none_begins_below e.0.end es to page f.2 (omega (arith, h, f.0, f.1)))
 
-pub none_begins_above : (from : ℕ) (es : List (Interval ℕ × Rights)) (to page : ℕ) → Follow from es to → to ≤ page → begins_at es page ≡ false
+pub none_begins_above : (from : ℕ) (es : List (Interval ℕ × Rights)) (to page : ℕ) → RunsFollow from es to → to ≤ page → has_run_at es page ≡ false
 none_begins_above from [] to page f h = refl
 none_begins_above from (e ∷ es) to page f h =
     let i = follow_to e.0.end es to f.2 in
     let t : (e.0.start == page) ≡ false = grind (arith, nat_tests, f.1, i, h) in rw t (none_begins_above e.0.end es to page f.2 h)
 
 -- where a run begins, a page is mapped
-pub begins_mapped : (from : ℕ) (es : List (Interval ℕ × Rights)) (to page : ℕ) → Follow from es to → begins_at es page ≡ true → rights_in es page ≡ None → ⊥
+pub begins_mapped : (from : ℕ) (es : List (Interval ℕ × Rights)) (to page : ℕ) → RunsFollow from es to →
+    has_run_at es page ≡ true → rights_in es page ≡ None → ⊥
 begins_mapped from [] to page f h n = absurd (cc)
 begins_mapped from (e ∷ es) to page f h n = by_test (e.0.start == page) refl (begins_mapped e.0.end es to page f.2) where
-  by_hold : (t : Bool) → holds page e ≡ t → (begins_at es page ≡ true → rights_in es page ≡ None → ⊥) → begins_at es page ≡ true → ⊥
+  by_hold : (t : Bool) → holds page e ≡ t → (has_run_at es page ≡ true → rights_in es page ≡ None → ⊥) → has_run_at es page ≡ true → ⊥
   by_hold true is rest k = let no : Some e.1 ≡ None = rw is at n in absurd (cc)
   by_hold false is rest k = rest k (rw is at n)
 
-  by_test : (t : Bool) → (e.0.start == page) ≡ t → (begins_at es page ≡ true → rights_in es page ≡ None → ⊥) → ⊥
+  by_test : (t : Bool) → (e.0.start == page) ≡ t → (has_run_at es page ≡ true → rights_in es page ≡ None → ⊥) → ⊥
   by_test true is rest = let t : holds page e ≡ true = grind (arith, nat_tests, f.1, is) in let no : Some e.1 ≡ None = rw t at n in absurd (cc)
   by_test false is rest = by_hold (holds page e) refl rest (rw is at h)

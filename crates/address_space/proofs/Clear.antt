@@ -6,7 +6,7 @@ use Rattle.meminterval.specs.declared.interval.Interval.{Interval}
 use Rattle.meminterval.specs.Entries.{last, or_else}
 use Rattle.meminterval.specs.Interval.{starts_below}
 use Rattle.paging_core.specs.declared.page_table.Rights.{Rights}
-use Rattle.address_space.specs.Runs.{Follow, rights_in}
+use Rattle.address_space.specs.Runs.{RunsFollow, rights_in}
 use Rattle.address_space.proofs.Splits.{follow_append, IsLast, none_last, last_is}
 use Rattle.address_space.proofs.Changes.{rights_append, none_above, none_below, holds_inside}
 
@@ -17,8 +17,8 @@ pub record IsSplit (first end : ℕ) (es : List (Interval ℕ × Rights)) (to : 
   pub front : List (Interval ℕ × Rights)
   pub back : List (Interval ℕ × Rights)
   pub whole : es ≡ front ++ back
-  pub before : Follow 0 front first
-  pub behind : Follow end back to
+  pub before : RunsFollow 0 front first
+  pub behind : RunsFollow end back to
 
 pub or_none : {A : Type 0} (a b : Option A) → a ≡ None → b ≡ None → or_else a b ≡ None
 or_none {A} a b h k = rw h k
@@ -43,7 +43,7 @@ split_last first end es to e i h = record {
   behind = i.behind;
 }
 
-pub split_none : (first end : ℕ) (es : List (Interval ℕ × Rights)) (to : ℕ) → Follow end es to → IsSplit first end es to
+pub split_none : (first end : ℕ) (es : List (Interval ℕ × Rights)) (to : ℕ) → RunsFollow end es to → IsSplit first end es to
 split_none first end es to f = record { front = []; back = es; whole = refl; before = omega arith; behind = f }
 
 -- a page of the last run
@@ -67,7 +67,7 @@ clear_last first end es to e some i clear = go (cases_lt first e.0.end) (cases_l
   go (inl h) (inl k) = absurd (at e.0.start (omega (arith, k)) i.starts (omega arith) i.some)
   go (inl h) (inr k) = absurd (at first (omega arith) some k h)
 
-pub clear_split : (first end : ℕ) (es : List (Interval ℕ × Rights)) (to : ℕ) → first < end → end ≤ to → Follow 0 es to →
+pub clear_split : (first end : ℕ) (es : List (Interval ℕ × Rights)) (to : ℕ) → first < end → end ≤ to → RunsFollow 0 es to →
     AreClear es first end → IsSplit first end es to
 clear_split first end es to some within f clear = go (last (starts_below nat_cmp end) es) refl where
   go : (o : Option (Interval ℕ × Rights)) → last (starts_below nat_cmp end) es ≡ o → IsSplit first end es to

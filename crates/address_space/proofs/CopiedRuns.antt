@@ -3,18 +3,18 @@ use Rattle.std.proofs.Common.{◌≡◌, ◌∙◌, sym, ℕ, ◌+◌, ◌-◌, 
 use Rattle.std.specs.Prelude.{nat_lt, nat_le, IsSome}
 use Rattle.meminterval.specs.declared.interval.Interval.{Interval}
 use Rattle.paging_core.specs.declared.page_table.Rights.{Rights}
-use Rattle.address_space.specs.Runs.{Follow, AreLongest, rights_in, is_among}
-use Rattle.address_space.specs.Joining.{IsAdded}
-use Rattle.address_space.specs.RunChanges.{IsCut, AreCopied, AreHeld, AreFree}
+use Rattle.address_space.specs.Runs.{RunsFollow, AreLongest, rights_in, is_among}
+use Rattle.address_space.specs.Joining.{IsRunAdded}
+use Rattle.address_space.specs.RunChanges.{IsCut, AreRightsCopied, AreInRuns, AreFree}
 use Rattle.address_space.proofs.Changes.{begins_mapped}
 use Rattle.address_space.proofs.Cutting.{side_of, then_in, else_out}
 use Rattle.address_space.proofs.Unique.{runs_same}
 
 pub record AreCopiedTo (old new : List (Interval ℕ × Rights)) (from pages to done : ℕ) : Type 0 where
-  pub copied : AreCopied old new from done to
+  pub copied : AreRightsCopied old new from done to
   pub within : done ≤ pages
 
-pub none_copied : (es : List (Interval ℕ × Rights)) (from pages to : ℕ) → Follow 0 es (2 ^ 52) → AreLongest es → AreCopiedTo es es from pages to 0
+pub none_copied : (es : List (Interval ℕ × Rights)) (from pages to : ℕ) → RunsFollow 0 es (2 ^ 52) → AreLongest es → AreCopiedTo es es from pages to 0
 none_copied es from pages to f longest = record {
   copied = record {
     follow = f;
@@ -33,7 +33,7 @@ none_some {A} None h some = absurd (cc)
 none_some {A} (Some a) h some = let no : Some a ≡ None = h in absurd (cc)
 
 -- the source is as it was
-pub source_kept : (old new : List (Interval ℕ × Rights)) (from pages to done any : ℕ) → AreHeld old from (from + pages) →
+pub source_kept : (old new : List (Interval ℕ × Rights)) (from pages to done any : ℕ) → AreInRuns old from (from + pages) →
     AreFree old to (to + pages) → AreCopiedTo old new from pages to done → from ≤ any → any < from + pages →
     rights_in new any ≡ rights_in old any
 source_kept old new from pages to done any held free c h k = c.copied.pages_are any ∙ go (side_of to (to + done) any) where
@@ -49,10 +49,10 @@ target_free old new from pages to done any free c h k =
     c.copied.pages_are any ∙ (else_out to (to + done) any (rights_in old (any - to + from)) (rights_in old any) (inr h) ∙ free any (omega (arith, h)) k)
 
 pub copied_on : (old one new : List (Interval ℕ × Rights)) (from pages to done count first end : ℕ) (rights : Rights) →
-    AreHeld old from (from + pages) → AreFree old to (to + pages) → AreCopiedTo old one from pages to done →
+    AreInRuns old from (from + pages) → AreFree old to (to + pages) → AreCopiedTo old one from pages to done →
     done + count ≤ pages →
     ((any : ℕ) → from + done ≤ any → any < from + done + count → rights_in one any ≡ Some rights) → first ≡ to + done →
-    end ≡ to + (done + count) → IsAdded one new first end rights → AreCopiedTo old new from pages to (done + count)
+    end ≡ to + (done + count) → IsRunAdded one new first end rights → AreCopiedTo old new from pages to (done + count)
 copied_on old one new from pages to done count first end rights held free c few run first_is end_is a = record {
   copied = record {
     follow = a.follow;
@@ -88,7 +88,7 @@ copied_on old one new from pages to done count first end rights held free c few 
         out (inr h) (inr k) = inr (omega (arith, h, end_is))
 
 -- pages that were copied, and left again
-pub copied_undone : (old one new : List (Interval ℕ × Rights)) (from pages to done : ℕ) → Follow 0 old (2 ^ 52) →
+pub copied_undone : (old one new : List (Interval ℕ × Rights)) (from pages to done : ℕ) → RunsFollow 0 old (2 ^ 52) →
     AreLongest old → AreFree old to (to + pages) → AreCopiedTo old one from pages to done → IsCut one new to (to + done) →
     new ≡ old
 copied_undone old one new from pages to done f longest free c d = runs_same 0 new old (2 ^ 52) d.follow is_longest f longest same where

@@ -9,7 +9,7 @@ use Rattle.paging_core.specs.Memory.{word_at, IsFrameCopied}
 use Rattle.paging_core.specs.PageChanges.{ArePagesChanged, regrant, among, only}
 use Rattle.paging_core.specs.Prefix.{prefix_of}
 use Rattle.paging_core.specs.Tree.{IsTree}
-use Rattle.paging_core.specs.Walk.{Place, reach, walk_of, granted, top}
+use Rattle.paging_core.specs.Walk.{Place, reach, walk_of, place_with, top}
 use Rattle.paging_core.specs.declared.page_table.Rights.{Rights}
 use Rattle.paging_core.proofs.Prefixes.{walk_reach}
 use Rattle.paging_core.proofs.Ranges.{same_number}
@@ -63,7 +63,7 @@ only_in page n h = grind (arith, nat_tests, h)
 not_only : (page n : ℕ) → among page 1 n ≡ false → only page n ≡ false
 not_only page n h = grind (arith, nat_tests, h)
 
-entry_is : (q p : Place) (rights : Rights) → Some (granted q.frame rights) ≡ Some p → page_entry q.frame rights ≡ page_entry p.frame (rights_of_place p)
+entry_is : (q p : Place) (rights : Rights) → Some (place_with q.frame rights) ≡ Some p → page_entry q.frame rights ≡ page_entry p.frame (rights_of_place p)
 unfolding from_some
 entry_is q p rights h = ap (λ (o : Option Place). page_entry (from_some o p).frame (rights_of_place (from_some o p))) h
 

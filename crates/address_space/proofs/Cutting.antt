@@ -8,8 +8,8 @@ use Rattle.meminterval.specs.declared.interval.Interval.{Interval}
 use Rattle.meminterval.specs.Entries.{without_key}
 use Rattle.meminterval.specs.Interval.{by_ends, with_end}
 use Rattle.paging_core.specs.declared.page_table.Rights.{Rights}
-use Rattle.address_space.specs.Runs.{Follow, HasRun, rights_in, begins_at, crosses}
-use Rattle.address_space.specs.RunChanges.{IsCut, IsRunSet, KeepsApart, IsParted}
+use Rattle.address_space.specs.Runs.{RunsFollow, HasRun, rights_in, has_run_at, crosses}
+use Rattle.address_space.specs.RunChanges.{IsCut, IsOwnRun, KeepsApart, IsParted}
 use Rattle.address_space.proofs.Splits.{follow_append}
 use Rattle.address_space.proofs.Changes.{holds_inside}
 use Rattle.address_space.proofs.OneRun.{run_of, run_follow, run_rights, run_apart, run_begins, start_apart, IsReplaced, replaced_follow, replaced_inside, replaced_outside, replaced_begins, replaced_apart, among, shortened, deleted}
@@ -54,9 +54,9 @@ one_misses : (start end page : ℕ) (rights : Rights) (more : List (Interval ℕ
 one_misses start end page rights more h = let t = test_out start end page h in rw t refl
 
 one_begins : (start end page : ℕ) (rights : Rights) (more : List (Interval ℕ × Rights)) →
-    begins_at (run_of start end rights ∷ more) page ≡ true → (page ≡ start) ⊎ (begins_at more page ≡ true)
+    has_run_at (run_of start end rights ∷ more) page ≡ true → (page ≡ start) ⊎ (has_run_at more page ≡ true)
 one_begins start end page rights more h = go (start == page) refl where
-  go : (t : Bool) → (start == page) ≡ t → (page ≡ start) ⊎ (begins_at more page ≡ true)
+  go : (t : Bool) → (start == page) ≡ t → (page ≡ start) ⊎ (has_run_at more page ≡ true)
   go true is = inl (grind (arith, nat_tests, is))
   go false is = inr (rw is at h)
 
@@ -70,7 +70,7 @@ one_apart start end page rights more h rest = go (nat_lt start page && nat_lt pa
       let out = h above in absurd (omega (arith, out, below))
   go false is = rw is rest
 
-no_begin : (page : ℕ) → begins_at [] page ≡ true → ⊥
+no_begin : (page : ℕ) → has_run_at [] page ≡ true → ⊥
 no_begin page h = absurd (cc)
 
 -- ---- a cut
@@ -111,11 +111,12 @@ cut_short old new start end from rights i h above below s e is = record {
   by_side any (inr (inr k)) l =
       replaced_outside old new start end end rights (run_of start from rights ∷ []) any r (inr k) ∙ sym (else_out from end any None (rights_in old any) (inr k))
 
-  begin : (any : ℕ) → begins_at new any ≡ true → (begins_at (run_of start from rights ∷ []) any ≡ true) ⊎ (begins_at old any ≡ true) → begins_at old any ≡ true
+  begin : (any : ℕ) → has_run_at new any ≡ true → (has_run_at (run_of start from rights ∷ []) any ≡ true) ⊎ (has_run_at old
+      any ≡ true) → has_run_at old any ≡ true
   begin any b (inr o) = o
   begin any b (inl m) = at (one_begins start from any rights [] m) where
-    at : (any ≡ start) ⊎ (begins_at [] any ≡ true) → begins_at old any ≡ true
-    at (inl k) = ap (begins_at old) k ∙ run_begins old start end rights h
+    at : (any ≡ start) ⊎ (has_run_at [] any ≡ true) → has_run_at old any ≡ true
+    at (inl k) = ap (has_run_at old) k ∙ run_begins old start end rights h
     at (inr k) = absurd (no_begin any k)
 
 pub cut_whole : (old new : List (Interval ℕ × Rights)) (start end from : ℕ) (rights : Rights) (i : Interval ℕ) →
@@ -145,14 +146,14 @@ cut_whole old new start end from rights i h at s e is = record {
       ∙ sym (else_out from end any None (rights_in old any) (inl (omega (arith, k, at))))
   by_side any (inr (inr k)) = replaced_outside old new start end end rights [] any r (inr k) ∙ sym (else_out from end any None (rights_in old any) (inr k))
 
-  begin : (any : ℕ) → (begins_at [] any ≡ true) ⊎ (begins_at old any ≡ true) → begins_at old any ≡ true
+  begin : (any : ℕ) → (has_run_at [] any ≡ true) ⊎ (has_run_at old any ≡ true) → has_run_at old any ≡ true
   begin any (inl m) = absurd (no_begin any m)
   begin any (inr o) = o
 
 -- ---- a run that is split, or gets other rights
 
 pub record IsSet (old new : List (Interval ℕ × Rights)) (first end : ℕ) (rights : Rights) : Type 0 where
-  pub set : IsRunSet old new first end rights
+  pub set : IsOwnRun old new first end rights
   pub keeps : KeepsApart old new
 
 pub split_set : (old new : List (Interval ℕ × Rights)) (start end page : ℕ) (rights new_rights : Rights)
@@ -202,21 +203,21 @@ split_set old new start end page rights new_rights h above below is = record {
   by_side any (inr (inr k)) l =
       replaced_outside old new start end end rights two any r (inr k) ∙ sym (else_out page end any (Some new_rights) (rights_in old any) (inr k))
 
-  begin : (any : ℕ) → (begins_at two any ≡ true) ⊎ (begins_at old any ≡ true) → (any ≡ page) ⊎ (begins_at old any ≡ true)
+  begin : (any : ℕ) → (has_run_at two any ≡ true) ⊎ (has_run_at old any ≡ true) → (any ≡ page) ⊎ (has_run_at old any ≡ true)
   begin any (inr o) = inr o
   begin any (inl m) = at (one_begins start page any rights (run_of page end new_rights ∷ []) m) where
-    at_second : (any ≡ page) ⊎ (begins_at [] any ≡ true) → (any ≡ page) ⊎ (begins_at old any ≡ true)
+    at_second : (any ≡ page) ⊎ (has_run_at [] any ≡ true) → (any ≡ page) ⊎ (has_run_at old any ≡ true)
     at_second (inl k) = inl k
     at_second (inr k) = absurd (no_begin any k)
 
-    at : (any ≡ start) ⊎ (begins_at (run_of page end new_rights ∷ []) any ≡ true) → (any ≡ page) ⊎ (begins_at old any ≡ true)
-    at (inl k) = inr (ap (begins_at old) k ∙ run_begins old start end rights h)
+    at : (any ≡ start) ⊎ (has_run_at (run_of page end new_rights ∷ []) any ≡ true) → (any ≡ page) ⊎ (has_run_at old any ≡ true)
+    at (inl k) = inr (ap (has_run_at old) k ∙ run_begins old start end rights h)
     at (inr k) = at_second (one_begins page end any new_rights [] k)
 
 -- one run, with other rights or a later end, in the place of one
 pub one_set : (old new : List (Interval ℕ × Rights)) (start end to : ℕ) (rights new_rights : Rights)
-    (h : HasRun old start end rights) → end ≤ to → Follow to h.back (2 ^ 52) →
-    new ≡ h.front ++ run_of start to new_rights ∷ h.back → IsRunSet old new start to new_rights
+    (h : HasRun old start end rights) → end ≤ to → RunsFollow to h.back (2 ^ 52) →
+    new ≡ h.front ++ run_of start to new_rights ∷ h.back → IsOwnRun old new start to new_rights
 one_set old new start end to rights new_rights h order behind is = record {
   run = record { front = h.front; back = h.back; whole = is; before = h.before; some = (let k = h.some in omega (arith, k, order)); behind = behind };
   pages = λ any. by_side any (side_of start to any);
@@ -233,10 +234,10 @@ one_set old new start end to rights new_rights h order behind is = record {
   by_side any (inr k) = replaced_outside old new start end to rights (run_of start to new_rights ∷ []) any r k
       ∙ sym (else_out start to any (Some new_rights) (rights_in old any) k)
 
-  begin : (any : ℕ) → (begins_at (run_of start to new_rights ∷ []) any ≡ true) ⊎ (begins_at old any ≡ true) → (any ≡ start) ⊎ (begins_at old any ≡ true)
+  begin : (any : ℕ) → (has_run_at (run_of start to new_rights ∷ []) any ≡ true) ⊎ (has_run_at old any ≡ true) → (any ≡ start) ⊎ (has_run_at old any ≡ true)
   begin any (inr o) = inr o
   begin any (inl m) = at (one_begins start to any new_rights [] m) where
-    at : (any ≡ start) ⊎ (begins_at [] any ≡ true) → (any ≡ start) ⊎ (begins_at old any ≡ true)
+    at : (any ≡ start) ⊎ (has_run_at [] any ≡ true) → (any ≡ start) ⊎ (has_run_at old any ≡ true)
     at (inl k) = inl k
     at (inr k) = absurd (no_begin any k)
 
@@ -252,11 +253,11 @@ run_set old new start end rights new_rights h is = record {
 }
 
 -- runs after free pages
-pub follow_up : (from at : ℕ) (es : List (Interval ℕ × Rights)) (to : ℕ) → Follow from es to → at ≤ to →
-    ((page : ℕ) → from ≤ page → page < at → rights_in es page ≡ None) → Follow at es to
+pub follow_up : (from at : ℕ) (es : List (Interval ℕ × Rights)) (to : ℕ) → RunsFollow from es to → at ≤ to →
+    ((page : ℕ) → from ≤ page → page < at → rights_in es page ≡ None) → RunsFollow at es to
 follow_up from at [] to f le free = le
 follow_up from at (e ∷ es) to f le free = go (cases_lt e.0.start at) where
-  go : (e.0.start < at) ⊎ (at ≤ e.0.start) → Follow at (e ∷ es) to
+  go : (e.0.start < at) ⊎ (at ≤ e.0.start) → RunsFollow at (e ∷ es) to
   go (inr h) = (h, f.1, f.2)
   go (inl h) =
       let none = free e.0.start f.0 h in
@@ -266,7 +267,7 @@ follow_up from at (e ∷ es) to f le free = go (cases_lt e.0.start at) where
 -- ---- no run goes on over a page
 
 pub parted_by : (old new : List (Interval ℕ × Rights)) (start end page : ℕ) (rights : Rights) →
-    HasRun old start end rights → start < page → IsRunSet old new page end rights → IsParted old new page
+    HasRun old start end rights → start < page → IsOwnRun old new page end rights → IsParted old new page
 parted_by old new start end page rights h above s = record {
   follow = run_follow new page end rights s.run;
   pages = λ any. s.pages any ∙ by_side any (side_of page end any);

@@ -10,15 +10,15 @@ use Rattle.paging_core.specs.PageChanges.{ArePagesChanged, regrant, among, only}
 use Rattle.paging_core.specs.Pool.{FreeBelow}
 use Rattle.paging_core.specs.Prefix.{prefix_of}
 use Rattle.paging_core.specs.Tree.{IsTree}
-use Rattle.paging_core.specs.Walk.{Place, reach, large_of, walk_of, reached, granted}
+use Rattle.paging_core.specs.Walk.{Place, reach, large_of, walk_of, reached, place_with}
 use Rattle.paging_core.specs.declared.page_table.Rights.{Rights}
 use Rattle.meminterval.specs.declared.interval.Interval.{Interval}
 use Rattle.address_space.specs.Runs.{rights_in, is_among}
-use Rattle.address_space.specs.RunChanges.{AreCopied}
+use Rattle.address_space.specs.RunChanges.{AreRightsCopied}
 use Rattle.address_space.specs.PageMap.{IsMap, duplicated}
 use Rattle.address_space.specs.PageCopies.{ArePagesCopied}
 use Rattle.address_space.specs.Changing.{IsDuplicated, AreWordsCopied}
-use Rattle.address_space.specs.Space.{Tables, AreTablesKept, map_of, rights_of_place}
+use Rattle.address_space.specs.Space.{Tables, AreTablesKept, page_map_of, rights_of_place}
 use Rattle.address_space.proofs.Mapped.{canonical_in, is_some_of}
 use Rattle.address_space.proofs.Cutting.{side_of, then_in, else_out}
 use Rattle.address_space.proofs.Unmapped.{among_parts, not_among}
@@ -28,7 +28,8 @@ use Rattle.address_space.proofs.CopiedWords.{one_words, one_entries, one_others,
 
 -- ---- one page
 
-granted_as : (o w : Option Place) (rights : Rights) → IsSome o → IfSome o (λ place. w ≡ Some (granted place.frame rights)) →
+granted_as : (o w : Option Place) (rights : Rights) → IsSome o → IfSome o
+    (λ place. w ≡ Some (place_with place.frame rights)) →
     option_map rights_of_place w ≡ Some rights
 granted_as None w rights some is = absurd (cc)
 granted_as (Some place) w rights some is = ap (option_map rights_of_place) is
@@ -57,7 +58,7 @@ pub record IsOneCopied (old one new : List ℕ) (root source target : ℕ) (plac
   pub copied : (k : ℕ) → k < 4096 → reached one root (4096 * target + k) ≡ reached old root (4096 * source + k)
   pub others : (address : ℕ) → IsTrue (is_canonical address) → (address / 4096 ≡ target → ⊥) → reached one root address ≡ reached old root address
   pub changed : ArePagesChanged one new root (regrant (rights_of_place place)) (only target)
-  pub gave : IfSome (walk_of one root target) (λ met. walk_of new root target ≡ Some (granted met.frame (rights_of_place place)))
+  pub gave : IfSome (walk_of one root target) (λ met. walk_of new root target ≡ Some (place_with met.frame (rights_of_place place)))
   pub elsewhere : (other : ℕ) → IsTrue (is_canonical (other * 4096)) → (other ≡ target → ⊥) → walk_of new root other ≡ walk_of one root other
   pub bytes : (address : ℕ) → reached new root address ≡ reached one root address
   pub free : List Bool
@@ -90,7 +91,7 @@ one_copied old one new root source target place c = record {
 } where
   by_only : (number : ℕ) (met : Place) → reach one root 4 number ≡ Some met → (t : Bool) → only target number ≡ t →
       (now : Place) × (reach new root 4 number ≡ Some now) × (now.frame ≡ met.frame)
-  by_only number met at true is = (granted met.frame (rights_of_place place), c.changed.changed number met is at, refl)
+  by_only number met at true is = (place_with met.frame (rights_of_place place), c.changed.changed number met is at, refl)
   by_only number met at false is = (met, c.changed.stayed 4 number (omega arith) (λ four. is) ∙ at, refl)
 
   first_rights : (k : ℕ) → k ≡ 0 → option_map rights_of_place (walk_of new root (target + k)) ≡ option_map rights_of_place (walk_of old root (source + k))
@@ -210,7 +211,7 @@ pub record AreDuplicated (old : Tables) (one words : List ℕ) (free : List Bool
       walk_of one old.root other ≡ walk_of old.words old.root other
   pub bytes : (address : ℕ) → IsSome (walk_of old.words old.root (address / 4096)) → reached one old.root address ≡ reached old.words old.root address
   pub copied : ArePagesCopied one words old.root from pages to
-  pub runs_copied : AreCopied old.runs runs from pages to
+  pub runs_copied : AreRightsCopied old.runs runs from pages to
 
 gone : (o : Option Rights) → o ≡ None → IsSome o → ⊥
 gone None h some = absurd (cc)
@@ -288,7 +289,7 @@ duplicated_kept old one words free runs from pages to rights m =
 
 pub duplicated_map : (old : Tables) (one words : List ℕ) (free : List Bool) (runs : List (Interval ℕ × Rights))
     (from pages to : ℕ) (rights : Rights) → AreDuplicated old one words free runs from pages to rights →
-    IsMap (map_of (record { words = words; root = old.root; free = free; runs = runs })) (duplicated from pages to (map_of old))
+    IsMap (page_map_of (record { words = words; root = old.root; free = free; runs = runs })) (duplicated from pages to (page_map_of old))
 duplicated_map old one words free runs from pages to rights m = record {
   rights = m.runs_copied.pages_are;
   bytes = λ address. by_side address (side_of to (to + pages) (address / 4096));
@@ -381,7 +382,7 @@ page_of_number to pages n one h =
 
 pub duplicated_is : (old new : Tables) (one : List ℕ) (from pages to : ℕ) (rights : Rights) →
     AreDuplicated old one new.words new.free new.runs from pages to rights → new.root ≡ old.root →
-    IsMap (map_of new) (duplicated from pages to (map_of old)) → AreWordsCopied old new from pages to → IsDuplicated old new from pages to
+    IsMap (page_map_of new) (duplicated from pages to (page_map_of old)) → AreWordsCopied old new from pages to → IsDuplicated old new from pages to
 duplicated_is old new one from pages to rights m root map words = record {
   map = map;
   count = m.added.count;
@@ -436,4 +437,4 @@ source_mapped old one from pages to k kept source full clear elsewhere less =
 pub target_mapped : (old one : List ℕ) (free free' : List Bool) (root first pages k : ℕ) (rights : Rights) →
     IsRangeAdded old one free free' root first pages rights → k < pages → IsSome (walk_of one root (first + k))
 target_mapped old one free free' root first pages k rights added less = let new = added.mapped k less in
-    is_some_of (walk_of one root (first + k)) (granted new.frame rights) new.found
+    is_some_of (walk_of one root (first + k)) (place_with new.frame rights) new.found

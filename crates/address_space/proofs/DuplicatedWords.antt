@@ -4,9 +4,9 @@ use Rattle.std.proofs.lemmas.Bool.{cases_lt}
 use Rattle.paging_core.specs.Entry.{table_entry, page_entry}
 use Rattle.paging_core.specs.Memory.{word_at}
 use Rattle.paging_core.specs.PageChanges.{among}
-use Rattle.paging_core.specs.Pool.{is_free}
+use Rattle.paging_core.specs.Pool.{is_frame_free}
 use Rattle.paging_core.specs.Prefix.{prefix_of}
-use Rattle.paging_core.specs.Walk.{Place, reach, walk_of, granted, top}
+use Rattle.paging_core.specs.Walk.{Place, reach, walk_of, place_with, top}
 use Rattle.paging_core.specs.declared.page_table.Rights.{Rights}
 use Rattle.paging_core.proofs.Prefixes.{walk_reach}
 use Rattle.address_space.specs.Changing.{AreWordsCopied}
@@ -20,11 +20,11 @@ some_none {A} o a h k = let no : Some a ≡ None = sym h ∙ k in absurd (cc)
 module _ (old new : Tables) (one : List ℕ) (from pages to : ℕ) (rights : Rights)
     (m : AreDuplicated old one new.words new.free new.runs from pages to rights) where
   -- a target page before it got its bytes
-  blank_page : (n : ℕ) → among to pages n ≡ true → (place : Place) × (reach one old.root 4 n ≡ Some place) × (is_free old.free place.frame ≡ true)
+  blank_page : (n : ℕ) → among to pages n ≡ true → (place : Place) × (reach one old.root 4 n ≡ Some place) × (is_frame_free old.free place.frame ≡ true)
   blank_page n h =
       let k = page_of_number to pages n m.target.one_half h in
       let page = m.added.mapped k.0 k.1 in
-      (granted page.frame rights, ap (reach one old.root 4) k.2 ∙ (sym (walk_reach one old.root (to + k.0)) ∙ page.found), page.was_free)
+      (place_with page.frame rights, ap (reach one old.root 4) k.2 ∙ (sym (walk_reach one old.root (to + k.0)) ∙ page.found), page.was_free)
 
   other_page : (n : ℕ) → among to pages n ≡ false → reach new.words old.root 4 n ≡ reach old.words old.root 4 n
   other_page n h = m.copied.outside n h ∙ m.added.others 4 n (omega arith) (λ k less is. some_none_test n k less is h) where
@@ -62,7 +62,7 @@ module _ (old new : Tables) (one : List ℕ) (from pages to : ℕ) (rights : Rig
       let p = blank_page n h in
       let same = same_place (reach one old.root 4 n) p.0 place p.1 (m.added.stayed 4 n place (omega arith) at) in
       let used = m.kept.tree.used 4 n place (omega arith) at in
-      let no : true ≡ false = sym p.2 ∙ (ap (λ (x : Place). is_free old.free x.frame) same ∙ used) in absurd (cc)
+      let no : true ≡ false = sym p.2 ∙ (ap (λ (x : Place). is_frame_free old.free x.frame) same ∙ used) in absurd (cc)
 
   out_of : (n : ℕ) → reach new.words old.root 4 n ≡ reach old.words old.root 4 n → among to pages n ≡ false
   out_of n same = go (among to pages n) refl where
@@ -127,15 +127,16 @@ module _ (old new : Tables) (one : List ℕ) (from pages to : ℕ) (rights : Rig
     go true h = m.copied.entries n i f place small h (now 3 n f (omega arith) table) at
     go false h = absurd (some_none (reach new.words old.root 4 (512 * n + i)) place at (other_page (512 * n + i) h ∙ missed))
 
-  others : (f i : ℕ) → i < 512 → is_free old.free f ≡ false → ((l n : ℕ) → l < 4 →
+  others : (f i : ℕ) → i < 512 → is_frame_free old.free f ≡ false → ((l n : ℕ) → l < 4 →
       reach old.words old.root l n ≡ Some (top f) → ⊥) → word_at new.words f i ≡ word_at old.words f i
   others f i small used unmet = m.copied.others f i small (λ k p few at same. no_page k p few at same)
       (λ n table. absurd (not_a_table n table)) ∙ m.added.words f i small used unmet where
         no_page : (k : ℕ) (p : Place) → k < pages → walk_of one old.root (to + k) ≡ Some p → p.frame ≡ f → ⊥
         no_page k p few at same =
             let page = m.added.mapped k few in
-            let is = same_place (walk_of one old.root (to + k)) (granted page.frame rights) p page.found at in
-            let no : true ≡ false = sym page.was_free ∙ (ap (λ (x : Place). is_free old.free x.frame) is ∙ (ap (is_free old.free) same ∙ used)) in absurd (cc)
+            let is = same_place (walk_of one old.root (to + k)) (place_with page.frame rights) p page.found at in
+            let no : true ≡ false = sym page.was_free ∙ (ap (λ (x : Place). is_frame_free old.free x.frame) is
+            ∙ (ap (is_frame_free old.free) same ∙ used)) in absurd (cc)
 
         not_a_table : (n : ℕ) → reach one old.root 3 n ≡ Some (top f) → ⊥
         not_a_table n table = go (reach old.words old.root 3 n) refl where
@@ -145,15 +146,15 @@ module _ (old new : Tables) (one : List ℕ) (from pages to : ℕ) (rights : Rig
               let is = same_place (reach one old.root 3 n) met (top f) (m.added.stayed 3 n met (omega arith) at) table in
               unmet 3 n (omega arith) (at ∙ ap (λ (p : Place). Some p) is)
 
-  still_free : (f i : ℕ) → i < 512 → is_free new.free f ≡ true → word_at new.words f i ≡ word_at old.words f i
+  still_free : (f i : ℕ) → i < 512 → is_frame_free new.free f ≡ true → word_at new.words f i ≡ word_at old.words f i
   still_free f i small free = m.copied.others f i small (λ k p few at same. no_page k p few at same)
       (λ n table. absurd (not_a_table n table)) ∙ m.added.free_words f i small free where
         no_page : (k : ℕ) (p : Place) → k < pages → walk_of one old.root (to + k) ≡ Some p → p.frame ≡ f → ⊥
         no_page k p few at same =
             let page = m.added.mapped k few in
-            let is = same_place (walk_of one old.root (to + k)) (granted page.frame rights) p page.found at in
-            let no : true ≡ false = sym free ∙ (ap (is_free new.free) (sym same)
-            ∙ (ap (λ (x : Place). is_free new.free x.frame) (sym is) ∙ page.taken)) in absurd (cc)
+            let is = same_place (walk_of one old.root (to + k)) (place_with page.frame rights) p page.found at in
+            let no : true ≡ false = sym free ∙ (ap (is_frame_free new.free) (sym same)
+            ∙ (ap (λ (x : Place). is_frame_free new.free x.frame) (sym is) ∙ page.taken)) in absurd (cc)
 
         not_a_table : (n : ℕ) → reach one old.root 3 n ≡ Some (top f) → ⊥
         not_a_table n table = let used = m.added.tree.used 3 n (top f) (omega arith) table in let no : true ≡ false = sym free ∙ used in absurd (cc)
@@ -163,7 +164,7 @@ module _ (old new : Tables) (one : List ℕ) (from pages to : ℕ) (rights : Rig
       word_at new.words target.frame i ≡ word_at old.words source.frame i
   copied k i source target less small at_s at_t =
       let page = m.added.mapped k less in
-      let before = granted page.frame rights in
+      let before = place_with page.frame rights in
       let p = m.copied.frames (prefix_of (to + k) 4) before (sym (walk_reach one old.root (to + k)) ∙ page.found) in
       let is = same_place (walk_of new.words old.root (to + k)) target p.0 at_t (walk_reach new.words old.root (to + k) ∙ p.1) in
       let frame : target.frame ≡ page.frame = ap (λ (x : Place). x.frame) is ∙ p.2 in

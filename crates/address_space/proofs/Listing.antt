@@ -6,7 +6,7 @@ use Rattle.meminterval.specs.Entries.{AllItems, first}
 use Rattle.meminterval.specs.Interval.{starts_from}
 use Rattle.paging_core.specs.declared.page_table.Rights.{Rights}
 use Rattle.address_space.specs.declared.area.Area.{Area}
-use Rattle.address_space.specs.Runs.{Follow, area_of, areas_of}
+use Rattle.address_space.specs.Runs.{RunsFollow, area_of, areas_of}
 use Rattle.address_space.proofs.Splits.{past_front, head_is, none_is, follow_to}
 
 -- the runs before a page were listed
@@ -15,7 +15,7 @@ pub record Listed (at : ℕ) (es : List (Interval ℕ × Rights)) (items : List 
   pub back : List (Interval ℕ × Rights)
   pub whole : es ≡ front ++ back
   pub before : AllItems (λ e. e.0.start < at) front
-  pub follow : Follow at back to
+  pub follow : RunsFollow at back to
   pub items_are : items ≡ areas_of front
 
 all_later : (at later : ℕ) (front : List (Interval ℕ × Rights)) (e : Interval ℕ × Rights) → at ≤ later → e.0.start < later →
@@ -27,7 +27,7 @@ areas_more : (front : List (Interval ℕ × Rights)) (e : Interval ℕ × Rights
 areas_more [] e = refl
 areas_more (x ∷ front) e = ap (λ rs. area_of x ∷ rs) (areas_more front e)
 
-pub listed_none : (es : List (Interval ℕ × Rights)) (items : List Area) (to : ℕ) → Follow 0 es to → items ≡ [] → Listed 0 es items to
+pub listed_none : (es : List (Interval ℕ × Rights)) (items : List Area) (to : ℕ) → RunsFollow 0 es to → items ≡ [] → Listed 0 es items to
 listed_none es items to f h = record { front = []; back = es; whole = refl; before = tt; follow = f; items_are = h }
 
 pub listed_all : (at : ℕ) (es : List (Interval ℕ × Rights)) (items : List Area) (to : ℕ) → Listed at es items to →
@@ -47,7 +47,7 @@ pub listed_on : (at : ℕ) (es : List (Interval ℕ × Rights)) (items : List Ar
 listed_on at es items to next l h =
     let head = head_is at l.back to next l.follow (sym (past_front at l.front l.back l.before) ∙ (sym (ap (first (starts_from nat_cmp at)) l.whole) ∙ h)) in
     let rest = head.0 in
-    let f : Follow at (next ∷ rest) to = subst (λ (b : List (Interval ℕ × Rights)). Follow at b to) head.1 l.follow in
+    let f : RunsFollow at (next ∷ rest) to = subst (λ (b : List (Interval ℕ × Rights)). RunsFollow at b to) head.1 l.follow in
     let whole : es ≡ l.front ++ next ∷ rest = l.whole ∙ ap (λ b. l.front ++ b) head.1 in
     record {
       more = record {

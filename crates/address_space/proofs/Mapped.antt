@@ -13,9 +13,9 @@ use Rattle.paging_core.specs.Mapping.{IsRangeAdded}
 use Rattle.paging_core.specs.declared.page_table.Rights.{Rights}
 use Rattle.meminterval.specs.declared.interval.Interval.{Interval}
 use Rattle.address_space.specs.Runs.{rights_in, is_among}
-use Rattle.address_space.specs.Joining.{IsAdded}
+use Rattle.address_space.specs.Joining.{IsRunAdded}
 use Rattle.address_space.specs.PageMap.{IsMap, mapped}
-use Rattle.address_space.specs.Space.{Tables, AreTablesKept, map_of, rights_of_place}
+use Rattle.address_space.specs.Space.{Tables, AreTablesKept, page_map_of, rights_of_place}
 
 -- ---- ranges
 
@@ -75,7 +75,7 @@ pub record AreMapped (old : Tables) (words : List ℕ) (free : List Bool) (runs 
       walk_of words old.root other ≡ walk_of old.words old.root other
   pub zeros : (address k : ℕ) → k < pages → address / 4096 ≡ first + k → reached words old.root address ≡ Some 0
   pub bytes : (address : ℕ) → IsSome (walk_of old.words old.root (address / 4096)) → reached words old.root address ≡ reached old.words old.root address
-  pub runs_added : IsAdded old.runs runs first (first + pages) rights
+  pub runs_added : IsRunAdded old.runs runs first (first + pages) rights
 
 pub mapped_kept : (old : Tables) (words : List ℕ) (free : List Bool) (runs : List (Interval ℕ × Rights)) (first pages : ℕ)
     (rights : Rights) → AreMapped old words free runs first pages rights →
@@ -116,7 +116,7 @@ mapped_kept old words free runs first pages rights m =
 
 pub mapped_map : (old : Tables) (words : List ℕ) (free : List Bool) (runs : List (Interval ℕ × Rights)) (first pages : ℕ)
     (rights : Rights) → AreMapped old words free runs first pages rights →
-    IsMap (map_of (record { words = words; root = old.root; free = free; runs = runs })) (mapped first pages rights (map_of old))
+    IsMap (page_map_of (record { words = words; root = old.root; free = free; runs = runs })) (mapped first pages rights (page_map_of old))
 mapped_map old words free runs first pages rights m = record {
   rights = m.runs_added.pages;
   bytes = λ address. byte address (is_among first pages (address / 4096)) refl;

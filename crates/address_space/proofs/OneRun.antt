@@ -9,7 +9,7 @@ use Rattle.meminterval.specs.declared.interval.Interval.{Interval}
 use Rattle.meminterval.specs.Entries.{AllItems, or_else, with_entry, without_key}
 use Rattle.meminterval.specs.Interval.{by_ends, with_end, HasOwnStart}
 use Rattle.paging_core.specs.declared.page_table.Rights.{Rights}
-use Rattle.address_space.specs.Runs.{Follow, HasRun, rights_in, begins_at, crosses, holds}
+use Rattle.address_space.specs.Runs.{RunsFollow, HasRun, rights_in, has_run_at, crosses, holds}
 use Rattle.address_space.proofs.Splits.{follow_to, follow_append}
 use Rattle.address_space.proofs.Changes.{less, greater, rights_append, begins_append, none_above, none_below, without_between, end_between, own_between, holds_inside}
 use Rattle.address_space.proofs.Clear.{IsSplit, or_first}
@@ -60,9 +60,9 @@ right_true false b h = h
 
 -- ---- what a run says
 
-pub run_follow : (es : List (Interval ℕ × Rights)) (start end : ℕ) (rights : Rights) → HasRun es start end rights → Follow 0 es (2 ^ 52)
+pub run_follow : (es : List (Interval ℕ × Rights)) (start end : ℕ) (rights : Rights) → HasRun es start end rights → RunsFollow 0 es (2 ^ 52)
 run_follow es start end rights h =
-    subst (λ (xs : List (Interval ℕ × Rights)). Follow 0 xs (2 ^ 52)) (sym h.whole)
+    subst (λ (xs : List (Interval ℕ × Rights)). RunsFollow 0 xs (2 ^ 52)) (sym h.whole)
     (follow_append 0 start h.front (run_of start end rights ∷ h.back) (2 ^ 52) h.before (omega arith, h.some, h.behind))
 
 pub run_within : (es : List (Interval ℕ × Rights)) (start end : ℕ) (rights : Rights) → HasRun es start end rights → end ≤ 2 ^ 52
@@ -90,23 +90,23 @@ run_apart es start end rights page h apart from = go (cases_lt page end) where
       let t : (nat_lt start page && nat_lt page end) ≡ true = grind (arith, nat_tests, from, k) in
       let no : true ≡ false = rw t at none.1 in absurd (cc)
 
-pub run_begins : (es : List (Interval ℕ × Rights)) (start end : ℕ) (rights : Rights) → HasRun es start end rights → begins_at es start ≡ true
+pub run_begins : (es : List (Interval ℕ × Rights)) (start end : ℕ) (rights : Rights) → HasRun es start end rights → has_run_at es start ≡ true
 run_begins es start end rights h =
     let x : Interval ℕ × Rights = run_of start end rights in
     let t : (start == start) ≡ true = grind (arith, nat_tests) in
-    let here : begins_at (x ∷ h.back) start ≡ true = rw t refl in
-    ap (λ (xs : List (Interval ℕ × Rights)). begins_at xs start) h.whole
-    ∙ (begins_append h.front (x ∷ h.back) start ∙ right_true (begins_at h.front start) (begins_at (x ∷ h.back) start)
+    let here : has_run_at (x ∷ h.back) start ≡ true = rw t refl in
+    ap (λ (xs : List (Interval ℕ × Rights)). has_run_at xs start) h.whole
+    ∙ (begins_append h.front (x ∷ h.back) start ∙ right_true (has_run_at h.front start) (has_run_at (x ∷ h.back) start)
     here)
 
 -- runs before a page or after it do not go on over it
-pub apart_above : (from : ℕ) (es : List (Interval ℕ × Rights)) (to page : ℕ) → Follow from es to → to ≤ page → crosses es page ≡ false
+pub apart_above : (from : ℕ) (es : List (Interval ℕ × Rights)) (to page : ℕ) → RunsFollow from es to → to ≤ page → crosses es page ≡ false
 apart_above from [] to page f h = refl
 apart_above from (e ∷ es) to page f h =
     let i = follow_to e.0.end es to f.2 in
     let t : (nat_lt e.0.start page && nat_lt page e.0.end) ≡ false = grind (arith, nat_tests, i, h) in rw t (apart_above e.0.end es to page f.2 h)
 
-pub apart_below : (from : ℕ) (es : List (Interval ℕ × Rights)) (to page : ℕ) → Follow from es to → page ≤ from → crosses es page ≡ false
+pub apart_below : (from : ℕ) (es : List (Interval ℕ × Rights)) (to page : ℕ) → RunsFollow from es to → page ≤ from → crosses es page ≡ false
 apart_below from [] to page f h = refl
 apart_below from (e ∷ es) to page f h =
     let t : (nat_lt e.0.start page && nat_lt page e.0.end) ≡ false = grind (arith, nat_tests, f.0, h) in
@@ -136,13 +136,13 @@ pub record IsReplaced (old new : List (Interval ℕ × Rights)) (start end to : 
   pub run : HasRun old start end rights
   pub whole : new ≡ run.front ++ (middle ++ run.back)
   pub order : end ≤ to
-  pub follow : Follow start middle to
-  pub behind : Follow to run.back (2 ^ 52)
+  pub follow : RunsFollow start middle to
+  pub behind : RunsFollow to run.back (2 ^ 52)
 
 pub replaced_follow : (old new : List (Interval ℕ × Rights)) (start end to : ℕ) (rights : Rights)
-    (middle : List (Interval ℕ × Rights)) → IsReplaced old new start end to rights middle → Follow 0 new (2 ^ 52)
+    (middle : List (Interval ℕ × Rights)) → IsReplaced old new start end to rights middle → RunsFollow 0 new (2 ^ 52)
 replaced_follow old new start end to rights middle i =
-    subst (λ (xs : List (Interval ℕ × Rights)). Follow 0 xs (2 ^ 52)) (sym i.whole)
+    subst (λ (xs : List (Interval ℕ × Rights)). RunsFollow 0 xs (2 ^ 52)) (sym i.whole)
     (follow_append 0 start i.run.front (middle ++ i.run.back) (2 ^ 52) i.run.before (follow_append start to middle i.run.back (2 ^ 52) i.follow i.behind))
 
 or_left : {A : Type 0} (a b : Option A) → b ≡ None → or_else a b ≡ a
@@ -194,28 +194,29 @@ replaced_outside old new start end to rights middle page i side =
 
 pub replaced_begins : (old new : List (Interval ℕ × Rights)) (start end to : ℕ) (rights : Rights)
     (middle : List (Interval ℕ × Rights)) (page : ℕ) → IsReplaced old new start end to rights middle →
-    begins_at new page ≡ true → (begins_at middle page ≡ true) ⊎ (begins_at old page ≡ true)
+    has_run_at new page ≡ true → (has_run_at middle page ≡ true) ⊎ (has_run_at old page ≡ true)
 replaced_begins old new start end to rights middle page i h =
-    go (or_true (begins_at i.run.front page) (begins_at (middle ++ i.run.back) page)
+    go (or_true (has_run_at i.run.front page) (has_run_at (middle ++ i.run.back) page)
     (sym (begins_append i.run.front (middle ++ i.run.back) page) ∙ (ap
-    (λ (xs : List (Interval ℕ × Rights)). begins_at xs page) (sym i.whole) ∙ h))) where
+    (λ (xs : List (Interval ℕ × Rights)). has_run_at xs page) (sym i.whole) ∙ h))) where
       x : Interval ℕ × Rights
       x = run_of start end rights
 
-      was : begins_at old page ≡ (begins_at i.run.front page || begins_at (x ∷ i.run.back) page)
-      was = ap (λ (xs : List (Interval ℕ × Rights)). begins_at xs page) i.run.whole ∙ begins_append i.run.front (x ∷ i.run.back) page
+      was : has_run_at old page ≡ (has_run_at i.run.front page || has_run_at (x ∷ i.run.back) page)
+      was = ap (λ (xs : List (Interval ℕ × Rights)). has_run_at xs page) i.run.whole ∙ begins_append i.run.front (x ∷ i.run.back) page
 
-      later : (t : Bool) → (start == page) ≡ t → begins_at i.run.back page ≡ true → begins_at (x ∷ i.run.back) page ≡ true
+      later : (t : Bool) → (start == page) ≡ t → has_run_at i.run.back page ≡ true → has_run_at (x ∷ i.run.back) page ≡ true
       later true is b = rw is refl
       later false is b = rw is b
 
-      behind : (begins_at middle page ≡ true) ⊎ (begins_at i.run.back page ≡ true) → (begins_at middle page ≡ true) ⊎ (begins_at old page ≡ true)
+      behind : (has_run_at middle page ≡ true) ⊎ (has_run_at i.run.back page ≡ true) → (has_run_at middle page ≡ true) ⊎ (has_run_at old page ≡ true)
       behind (inl m) = inl m
-      behind (inr b) = inr (was ∙ right_true (begins_at i.run.front page) (begins_at (x ∷ i.run.back) page) (later (start == page) refl b))
+      behind (inr b) = inr (was ∙ right_true (has_run_at i.run.front page) (has_run_at (x ∷ i.run.back) page) (later (start == page) refl b))
 
-      go : (begins_at i.run.front page ≡ true) ⊎ (begins_at (middle ++ i.run.back) page ≡ true) → (begins_at middle page ≡ true) ⊎ (begins_at old page ≡ true)
-      go (inl f) = inr (was ∙ left_true (begins_at i.run.front page) (begins_at (x ∷ i.run.back) page) f)
-      go (inr m) = behind (or_true (begins_at middle page) (begins_at i.run.back page) (sym (begins_append middle i.run.back page) ∙ m))
+      go : (has_run_at i.run.front page ≡ true) ⊎ (has_run_at (middle ++ i.run.back) page ≡ true) →
+          (has_run_at middle page ≡ true) ⊎ (has_run_at old page ≡ true)
+      go (inl f) = inr (was ∙ left_true (has_run_at i.run.front page) (has_run_at (x ∷ i.run.back) page) f)
+      go (inr m) = behind (or_true (has_run_at middle page) (has_run_at i.run.back page) (sym (begins_append middle i.run.back page) ∙ m))
 
 pub replaced_apart : (old new : List (Interval ℕ × Rights)) (start end to : ℕ) (rights : Rights)
     (middle : List (Interval ℕ × Rights)) (page : ℕ) → IsReplaced old new start end to rights middle →
@@ -240,8 +241,8 @@ longer : (start a b : ℕ) → b < a → by_ends nat_cmp (record { start = start
 longer start a b h = grind (arith, nat_tests)
 
 entry_behind : (x e : Interval ℕ × Rights) (from : ℕ) (front back : List (Interval ℕ × Rights)) (next to : ℕ) →
-    Follow from front e.0.start → e.0.start ≤ x.0.start → by_ends nat_cmp x.0 e.0 ≡ Greater → x.0.start < next →
-    Follow next back to →
+    RunsFollow from front e.0.start → e.0.start ≤ x.0.start → by_ends nat_cmp x.0 e.0 ≡ Greater → x.0.start < next →
+    RunsFollow next back to →
     with_entry (by_ends nat_cmp) x (front ++ e ∷ back) ≡ front ++ e ∷ x ∷ back
 entry_behind x e from [] [] next to f le order h g = rw order refl
 entry_behind x e from [] (b ∷ back) next to f le order h g = let later = less x.0 b.0 (omega (arith, h, g.0)) in rw order (rw later refl)
@@ -255,9 +256,9 @@ pub record IsAmong (es : List (Interval ℕ × Rights)) (start end next : ℕ) (
   pub front : List (Interval ℕ × Rights)
   pub back : List (Interval ℕ × Rights)
   pub whole : es ≡ front ++ (record { start = start; end = end }, rights) ∷ back
-  pub before : Follow 0 front start
+  pub before : RunsFollow 0 front start
   pub some : start < next
-  pub behind : Follow next back (2 ^ 52)
+  pub behind : RunsFollow next back (2 ^ 52)
 
 abbrev pub among : (es : List (Interval ℕ × Rights)) (start end : ℕ) (rights : Rights) → HasRun es start end rights → IsAmong es start end end rights
 among es start end rights h = record { front = h.front; back = h.back; whole = h.whole; before = h.before; some = h.some; behind = h.behind }
@@ -278,7 +279,7 @@ shortened es new start end next to rights i h s e is =
     ∙ end_between (run_of start end rights) to 0 h.front h.back next (2 ^ 52) h.before h.some h.behind))
 
 pub deleted : (es new front back : List (Interval ℕ × Rights)) (start end : ℕ) (rights : Rights) (i : Interval ℕ) →
-    es ≡ front ++ run_of start end rights ∷ back → Follow 0 front start → i.start ≡ start → i.end ≡ end →
+    es ≡ front ++ run_of start end rights ∷ back → RunsFollow 0 front start → i.start ≡ start → i.end ≡ end →
     new ≡ without_key (by_ends nat_cmp) i es →
     new ≡ front ++ back
 deleted es new front back start end rights i whole before s e is =

@@ -7,13 +7,13 @@ use Rattle.paging_core.specs.Memory.{frame_count}
 use Rattle.paging_core.specs.PageChanges.{ArePagesChanged, regrant, among}
 use Rattle.paging_core.specs.Pool.{FreeBelow}
 use Rattle.paging_core.specs.Tree.{IsTree}
-use Rattle.paging_core.specs.Walk.{Place, reach, walk_of, reached, granted}
+use Rattle.paging_core.specs.Walk.{Place, reach, walk_of, reached, place_with}
 use Rattle.paging_core.specs.declared.page_table.Rights.{Rights}
 use Rattle.meminterval.specs.declared.interval.Interval.{Interval}
 use Rattle.address_space.specs.Runs.{rights_in}
-use Rattle.address_space.specs.Joining.{IsAdded}
+use Rattle.address_space.specs.Joining.{IsRunAdded}
 use Rattle.address_space.specs.PageMap.{IsMap, protected}
-use Rattle.address_space.specs.Space.{Tables, AreTablesKept, map_of, rights_of_place}
+use Rattle.address_space.specs.Space.{Tables, AreTablesKept, page_map_of, rights_of_place}
 use Rattle.address_space.proofs.Mapped.{canonical_in, walks, is_some_of}
 use Rattle.address_space.proofs.Cutting.{side_of, then_in, else_out}
 use Rattle.address_space.proofs.Unmapped.{not_among}
@@ -25,14 +25,14 @@ pub record AreProtected (old : Tables) (words : List ℕ) (runs : List (Interval
   pub changed : ArePagesChanged old.words words old.root (regrant rights) (among first pages)
   pub tree : IsTree words old.root old.free
   pub there : (k : ℕ) → k < pages → IfSome (walk_of old.words old.root (first + k))
-      (λ place. walk_of words old.root (first + k) ≡ Some (granted place.frame rights))
+      (λ place. walk_of words old.root (first + k) ≡ Some (place_with place.frame rights))
   pub elsewhere : (other : ℕ) → IsTrue (is_canonical (other * 4096)) → ((k : ℕ) → k < pages → other ≡ first + k → ⊥) →
       walk_of words old.root other ≡ walk_of old.words old.root other
   pub bytes : (address : ℕ) → reached words old.root address ≡ reached old.words old.root address
-  pub added : IsAdded old.runs runs first (first + pages) rights
+  pub added : IsRunAdded old.runs runs first (first + pages) rights
 
 granted_rights : (o w : Option Place) (rights : Rights) → IsSome o → IfSome o
-    (λ place. w ≡ Some (granted place.frame rights)) → option_map rights_of_place w ≡ Some rights
+    (λ place. w ≡ Some (place_with place.frame rights)) → option_map rights_of_place w ≡ Some rights
 granted_rights None w rights some is = absurd (cc)
 granted_rights (Some place) w rights some is = ap (option_map rights_of_place) is
 
@@ -94,7 +94,7 @@ protected_kept old words runs first pages rights m =
         by_level true t true k =
             let four : level ≡ 4 = grind (arith, nat_tests, t) in
             let before : reach old.words old.root 4 number ≡ Some met = subst (λ (l : ℕ). reach old.words old.root l number ≡ Some met) four at in
-            unmet 4 number (granted met.frame rights) (omega arith) (m.changed.changed number met k before) same
+            unmet 4 number (place_with met.frame rights) (omega arith) (m.changed.changed number met k before) same
 
 byte_in : (o p : Option Rights) (a b : Option ℕ) → IsSome o → IsSome p → a ≡ b → cond (is_some o) a None ≡ cond (is_some p) b None
 byte_in None p a b h k same = absurd (cc)
@@ -106,7 +106,7 @@ byte_out o p a b h same = ap (λ (q : Option Rights). cond (is_some q) a None) h
 
 pub protected_map : (old : Tables) (words : List ℕ) (runs : List (Interval ℕ × Rights)) (first pages : ℕ)
     (rights : Rights) → AreProtected old words runs first pages rights →
-    IsMap (map_of (record { words = words; root = old.root; free = old.free; runs = runs })) (protected first pages rights (map_of old))
+    IsMap (page_map_of (record { words = words; root = old.root; free = old.free; runs = runs })) (protected first pages rights (page_map_of old))
 protected_map old words runs first pages rights m = record {
   rights = m.added.pages;
   bytes = λ address. by_side address (side_of first (first + pages) (address / 4096));

@@ -4,7 +4,7 @@ use Rattle.std.proofs.lemmas.Bool.{cases_lt}
 use Rattle.std.specs.Prelude.{nat_lt, nat_le}
 use Rattle.meminterval.specs.declared.interval.Interval.{Interval}
 use Rattle.paging_core.specs.declared.page_table.Rights.{Rights}
-use Rattle.address_space.specs.Runs.{Follow, AreLongest, HasRun, rights_in, begins_at, crosses}
+use Rattle.address_space.specs.Runs.{RunsFollow, AreLongest, HasRun, rights_in, has_run_at, crosses}
 use Rattle.address_space.specs.RunChanges.{IsCut, AreTaken, IsParted, AreFree}
 use Rattle.address_space.proofs.Changes.{begins_mapped}
 use Rattle.address_space.proofs.OneRun.{crosses_free, run_apart}
@@ -18,7 +18,7 @@ pub record AreTakenTo (old new : List (Interval ℕ × Rights)) (first at end : 
   pub to : at ≤ end
   pub apart : crosses new at ≡ false
 
-pub none_taken : (es : List (Interval ℕ × Rights)) (first end : ℕ) → Follow 0 es (2 ^ 52) → first ≤ end →
+pub none_taken : (es : List (Interval ℕ × Rights)) (first end : ℕ) → RunsFollow 0 es (2 ^ 52) → first ≤ end →
     crosses es end ≡ false → AreTakenTo es es first end end
 none_taken es first end f order apart = record {
   cut = record {
@@ -101,9 +101,9 @@ taken_on old one new first at end start stop from rights t h below over free lo 
 some_none : {A : Type 0} (o : Option A) (a : A) → o ≡ Some a → o ≡ None → ⊥
 some_none {A} o a h k = let no : Some a ≡ None = sym h ∙ k in absurd (cc)
 
-pub taken_longest : (old new : List (Interval ℕ × Rights)) (first end : ℕ) → AreLongest old → Follow 0 new (2 ^ 52) → first < end →
+pub taken_longest : (old new : List (Interval ℕ × Rights)) (first end : ℕ) → AreLongest old → RunsFollow 0 new (2 ^ 52) → first < end →
     ((any : ℕ) → rights_in new any ≡ cond (nat_le first any && nat_lt any end) None (rights_in old any)) →
-    ((any : ℕ) → begins_at new any ≡ true → (any ≡ end) ⊎ (begins_at old any ≡ true)) → AreLongest new
+    ((any : ℕ) → has_run_at new any ≡ true → (any ≡ end) ⊎ (has_run_at old any ≡ true)) → AreLongest new
 taken_longest old new first end longest f some pages begins page b same =
     go (side_of first end page) (side_of first end (page + 1)) (begins (page + 1) b) where
       mapped : rights_in new (page + 1) ≡ None → ⊥
@@ -111,7 +111,7 @@ taken_longest old new first end longest f some pages begins page b same =
 
       go : ((first ≤ page) × (page < end)) ⊎ ((page < first) ⊎ (end ≤ page)) →
           ((first ≤ page + 1) × (page + 1 < end)) ⊎ ((page + 1 < first) ⊎ (end ≤ page + 1)) →
-          (page + 1 ≡ end) ⊎ (begins_at old (page + 1) ≡ true) → ⊥
+          (page + 1 ≡ end) ⊎ (has_run_at old (page + 1) ≡ true) → ⊥
       go (inl k) l o = mapped (sym same ∙ (pages page ∙ then_in first end page None (rights_in old page) k.0 k.1))
       go (inr k) (inl l) o = mapped (pages (page + 1) ∙ then_in first end (page + 1) None (rights_in old (page + 1)) l.0 l.1)
       go (inr (inl k)) (inr l) (inl at) = absurd (omega (arith, k, at, some))
@@ -138,5 +138,5 @@ taken old one new first end longest p c some =
       pages = pages;
     }
 
-pub parted_itself : (es : List (Interval ℕ × Rights)) (page : ℕ) → Follow 0 es (2 ^ 52) → crosses es page ≡ false → IsParted es es page
+pub parted_itself : (es : List (Interval ℕ × Rights)) (page : ℕ) → RunsFollow 0 es (2 ^ 52) → crosses es page ≡ false → IsParted es es page
 parted_itself es page f apart = record { follow = f; pages = λ any. refl; begins = λ any b. inr b; apart = apart }

@@ -7,7 +7,7 @@ use Rattle.meminterval.specs.declared.interval.Interval.{Interval}
 use Rattle.meminterval.specs.Entries.{AllItems, first, last, or_else}
 use Rattle.meminterval.specs.Interval.{starts_below, starts_from}
 use Rattle.paging_core.specs.declared.page_table.Rights.{Rights}
-use Rattle.address_space.specs.Runs.{Follow}
+use Rattle.address_space.specs.Runs.{RunsFollow}
 
 below : (a b : ℕ) → is_lt (nat_cmp a b) ≡ nat_lt a b
 below a b = grind (arith, nat_tests)
@@ -26,19 +26,20 @@ ge_test page e h = grind (arith, nat_tests)
 
 -- ---- runs that follow each other
 
-pub follow_to : (from : ℕ) (es : List (Interval ℕ × Rights)) (to : ℕ) → Follow from es to → from ≤ to
+pub follow_to : (from : ℕ) (es : List (Interval ℕ × Rights)) (to : ℕ) → RunsFollow from es to → from ≤ to
 follow_to from [] to f = f
 follow_to from (e ∷ es) to f = let i = follow_to e.0.end es to f.2 in omega (arith, i, f.0, f.1)
 
-pub follow_down : (from lower : ℕ) (es : List (Interval ℕ × Rights)) (to : ℕ) → Follow from es to → lower ≤ from → Follow lower es to
+pub follow_down : (from lower : ℕ) (es : List (Interval ℕ × Rights)) (to : ℕ) → RunsFollow from es to → lower ≤ from → RunsFollow lower es to
 follow_down from lower [] to f h = omega (arith, f, h)
 follow_down from lower (e ∷ es) to f h = (omega (arith, f.0, h), f.1, f.2)
 
-pub follow_length : (from : ℕ) (es : List (Interval ℕ × Rights)) (to : ℕ) → Follow from es to → length es + from ≤ to
+pub follow_length : (from : ℕ) (es : List (Interval ℕ × Rights)) (to : ℕ) → RunsFollow from es to → length es + from ≤ to
 follow_length from [] to f = omega (arith, f)
 follow_length from (e ∷ es) to f = let i = follow_length e.0.end es to f.2 in omega (arith, i, f.0, f.1)
 
-pub follow_append : (from middle : ℕ) (es fs : List (Interval ℕ × Rights)) (to : ℕ) → Follow from es middle → Follow middle fs to → Follow from (es ++ fs) to
+pub follow_append : (from middle : ℕ) (es fs : List (Interval ℕ × Rights)) (to : ℕ) → RunsFollow from es middle →
+    RunsFollow middle fs to → RunsFollow from (es ++ fs) to
 follow_append from middle [] fs to f g = follow_down middle from fs to g f
 follow_append from middle (e ∷ es) fs to f g = (f.0, f.1, follow_append e.0.end middle es fs to f.2 g)
 
@@ -49,22 +50,22 @@ pub record IsLast (at from : ℕ) (es : List (Interval ℕ × Rights)) (to : ℕ
   pub front : List (Interval ℕ × Rights)
   pub back : List (Interval ℕ × Rights)
   pub whole : es ≡ front ++ e ∷ back
-  pub before : Follow from front e.0.start
+  pub before : RunsFollow from front e.0.start
   pub starts : e.0.start < at
   pub some : e.0.start < e.0.end
-  pub next : Follow e.0.end back to
-  pub behind : Follow at back to
+  pub next : RunsFollow e.0.end back to
+  pub behind : RunsFollow at back to
 
-pub none_last : (at from : ℕ) (es : List (Interval ℕ × Rights)) (to : ℕ) → Follow from es to → at ≤ to →
-    last (starts_below nat_cmp at) es ≡ None → Follow at es to
+pub none_last : (at from : ℕ) (es : List (Interval ℕ × Rights)) (to : ℕ) → RunsFollow from es to → at ≤ to →
+    last (starts_below nat_cmp at) es ≡ None → RunsFollow at es to
 none_last at from [] to f k l = k
 none_last at from (x ∷ es) to f k l = by_rest (last (starts_below nat_cmp at) es) (starts_below nat_cmp at x) refl refl where
-  by_rest : (o : Option (Interval ℕ × Rights)) (t : Bool) → last (starts_below nat_cmp at) es ≡ o → starts_below nat_cmp at x ≡ t → Follow at (x ∷ es) to
+  by_rest : (o : Option (Interval ℕ × Rights)) (t : Bool) → last (starts_below nat_cmp at) es ≡ o → starts_below nat_cmp at x ≡ t → RunsFollow at (x ∷ es) to
   by_rest (Some later) t is q = let no : Some later ≡ None = rw is at l in absurd (cc)
   by_rest None true is q = let no : or_else None (Some x) ≡ None = rw q at (rw is at l) in absurd (cc)
   by_rest None false is q = (start_ge at x q, f.1, f.2)
 
-pub last_is : (at from : ℕ) (es : List (Interval ℕ × Rights)) (to : ℕ) (e : Interval ℕ × Rights) → Follow from es to →
+pub last_is : (at from : ℕ) (es : List (Interval ℕ × Rights)) (to : ℕ) (e : Interval ℕ × Rights) → RunsFollow from es to →
     at ≤ to → last (starts_below nat_cmp at) es ≡ Some e → IsLast at from es to e
 last_is at from [] to e f k l = absurd (cc)
 last_is at from (x ∷ es) to e f k l = by_rest (last (starts_below nat_cmp at) es) (starts_below nat_cmp at x) refl refl (last_is at x.0.end es to e f.2 k) where
@@ -106,7 +107,7 @@ pub past_front : (at : ℕ) (front back : List (Interval ℕ × Rights)) → All
 past_front at [] back h = refl
 past_front at (e ∷ front) back h = let t = lt_test at e h.0 in rw t (past_front at front back h.1)
 
-pub head_is : (at : ℕ) (back : List (Interval ℕ × Rights)) (to : ℕ) (next : Interval ℕ × Rights) → Follow at back to →
+pub head_is : (at : ℕ) (back : List (Interval ℕ × Rights)) (to : ℕ) (next : Interval ℕ × Rights) → RunsFollow at back to →
     first (starts_from nat_cmp at) back ≡ Some next → (rest : List (Interval ℕ × Rights)) × (back ≡ next ∷ rest)
 head_is at [] to next f h = absurd (cc)
 head_is at (e ∷ rest) to next f h =
@@ -115,11 +116,11 @@ head_is at (e ∷ rest) to next f h =
     let is_it : e ≡ next = cc in
     (rest, ap (λ x. x ∷ rest) is_it)
 
-pub none_is : (at : ℕ) (back : List (Interval ℕ × Rights)) (to : ℕ) → Follow at back to → first (starts_from nat_cmp at) back ≡ None → back ≡ []
+pub none_is : (at : ℕ) (back : List (Interval ℕ × Rights)) (to : ℕ) → RunsFollow at back to → first (starts_from nat_cmp at) back ≡ None → back ≡ []
 none_is at [] to f h = refl
 none_is at (e ∷ rest) to f h = let t = ge_test at e f.0 in let no : Some e ≡ None = rw t at h in absurd (cc)
 
 -- runs before a page begin before it
-pub all_before : (from : ℕ) (front : List (Interval ℕ × Rights)) (end at : ℕ) → Follow from front end → end ≤ at → AllItems (λ e. e.0.start < at) front
+pub all_before : (from : ℕ) (front : List (Interval ℕ × Rights)) (end at : ℕ) → RunsFollow from front end → end ≤ at → AllItems (λ e. e.0.start < at) front
 all_before from [] end at f h = tt
 all_before from (e ∷ front) end at f h = let i = follow_to e.0.end front end f.2 in (omega (arith, i, f.1, h), all_before e.0.end front end at f.2 h)

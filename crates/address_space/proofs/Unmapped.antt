@@ -8,7 +8,7 @@ use Rattle.paging_core.specs.Memory.{frame_count}
 use Rattle.paging_core.specs.PageChanges.{ArePagesChanged, ArePagesFreed, removal, among}
 use Rattle.paging_core.proofs.PageChanged.{changed_more, none_changed}
 use Rattle.paging_core.proofs.Prefixes.{walk_reach}
-use Rattle.paging_core.specs.Pool.{is_free, FreeBelow, free_count}
+use Rattle.paging_core.specs.Pool.{is_frame_free, FreeBelow, free_count}
 use Rattle.paging_core.specs.Prefix.{prefix_of}
 use Rattle.paging_core.specs.Tree.{IsTree}
 use Rattle.paging_core.specs.Walk.{Place, reach, walk_of, reached}
@@ -18,7 +18,7 @@ use Rattle.address_space.specs.Runs.{rights_in, is_among}
 use Rattle.address_space.specs.RunChanges.{AreTaken, AreFree}
 use Rattle.address_space.specs.PageMap.{IsMap, unmapped, mapped_count}
 use Rattle.address_space.specs.Changing.{IsUnmapped, is_mapped_in}
-use Rattle.address_space.specs.Space.{Tables, AreTablesKept, map_of, rights_of_place}
+use Rattle.address_space.specs.Space.{Tables, AreTablesKept, page_map_of, rights_of_place}
 use Rattle.address_space.proofs.Mapped.{canonical_in, walks}
 use Rattle.address_space.proofs.Cutting.{side_of, then_in, else_out}
 use Rattle.address_space.proofs.Counting.{count_split, count_same, count_full, count_free}
@@ -70,7 +70,7 @@ unmapped_kept old words free runs first pages m =
       few_frames = (let r = m.kept.few_frames in omega (arith, count, r));
       canonical = λ page some. is_there page (side_of first (first + pages) page) some;
       found = λ page canonical. finds page canonical (side_of first (first + pages) page);
-      accounted = λ frame less unmet. at_frame frame (omega (arith, count, less)) unmet (is_free free frame) refl;
+      accounted = λ frame less unmet. at_frame frame (omega (arith, count, less)) unmet (is_frame_free free frame) refl;
       no_large = λ slot. m.freed.removed.larges slot ∙ m.kept.no_large slot;
       follow = m.taken.follow;
       longest = m.taken.longest;
@@ -93,12 +93,12 @@ unmapped_kept old words free runs first pages m =
           ap (option_map rights_of_place) (m.elsewhere page canonical (λ j less is. not_among first pages page j k less is))
           ∙ (m.kept.found page canonical ∙ sym (m.taken.pages page ∙ else_out first (first + pages) page None (rights_in old.runs page) k))
 
-      clash : (frame : ℕ) (n : ℕ) (place : Place) → is_free free frame ≡ false → among first pages n ≡ true →
+      clash : (frame : ℕ) (n : ℕ) (place : Place) → is_frame_free free frame ≡ false → among first pages n ≡ true →
           reach old.words old.root 4 n ≡ Some place → place.frame ≡ frame → ⊥
       clash frame n place is gone at same =
-          let no : true ≡ false = sym (m.freed.given n place gone at) ∙ (ap (is_free free) same ∙ is) in absurd (cc)
+          let no : true ≡ false = sym (m.freed.given n place gone at) ∙ (ap (is_frame_free free) same ∙ is) in absurd (cc)
 
-      unmet_before : (frame : ℕ) → is_free free frame ≡ false → ((level number : ℕ) (met : Place) → level ≤ 4 →
+      unmet_before : (frame : ℕ) → is_frame_free free frame ≡ false → ((level number : ℕ) (met : Place) → level ≤ 4 →
           reach words old.root level number ≡ Some met → met.frame ≡ frame → ⊥) →
           (level number : ℕ) (met : Place) → level ≤ 4 → reach old.words old.root level number ≡ Some met → met.frame ≡ frame → ⊥
       unmet_before frame is unmet level number met le at same = by_level (level == 4) refl (among first pages number) refl where
@@ -110,8 +110,9 @@ unmapped_kept old words free runs first pages m =
             clash frame number met is k (subst (λ (l : ℕ). reach old.words old.root l number ≡ Some met) four at) same
 
       at_frame : (frame : ℕ) → frame < frame_count old.words → ((level number : ℕ) (met : Place) → level ≤ 4 →
-          reach words old.root level number ≡ Some met → met.frame ≡ frame → ⊥) → (t : Bool) → is_free free frame ≡ t →
-          is_free free frame ≡ true
+          reach words old.root level number ≡ Some met → met.frame ≡ frame → ⊥) → (t : Bool) →
+          is_frame_free free frame ≡ t →
+          is_frame_free free frame ≡ true
       at_frame frame less unmet true is = is
       at_frame frame less unmet false is =
           m.freed.kept frame (λ n place gone at same. clash frame n place is gone at same) ∙ m.kept.accounted frame less (unmet_before frame is unmet)
@@ -121,7 +122,8 @@ byte_none o a b h = rw h refl
 
 pub unmapped_map : (old : Tables) (words : List ℕ) (free : List Bool) (runs : List (Interval ℕ × Rights))
     (first pages : ℕ) → AreUnmapped old words free runs first pages →
-    IsMap (map_of (record { words = words; root = old.root; free = free; runs = runs })) (unmapped first pages (map_of old))
+    IsMap (page_map_of (record { words = words; root = old.root; free = free; runs = runs }))
+    (unmapped first pages (page_map_of old))
 unmapped_map old words free runs first pages m = record {
   rights = m.taken.pages;
   bytes = λ address. by_side address (side_of first (first + pages) (address / 4096));
@@ -369,7 +371,7 @@ pub unmapped_on : (old one new : Tables) (first half pages more count counted : 
 unmapped_on old one new first half pages more count counted tree range is u v = record {
   map = record {
     rights = λ page. v.map.rights page ∙ joined page (rights_in old.runs page) (rights_in one.runs page) (u.map.rights page);
-    bytes = λ address. v.map.bytes address ∙ joined (address / 4096) ((map_of old).byte address) ((map_of one).byte address) (u.map.bytes address);
+    bytes = λ address. v.map.bytes address ∙ joined (address / 4096) ((page_map_of old).byte address) ((page_map_of one).byte address) (u.map.bytes address);
   };
   count_is = (let split = count_split (rights_in old.runs) first pages more in
       let later : mapped_count (rights_in old.runs) (first + pages) more ≡ mapped_count (rights_in old.runs) half more =

@@ -3,14 +3,14 @@ use Rattle.std.proofs.Common.{◌≡◌, ◌∙◌, ap, sym, refl, ℕ, zero, su
 use Rattle.std.proofs.lemmas.Bool.Decides.{nat_tests}
 use Rattle.std.proofs.lemmas.List.{get_or-set_same, get_or-set_other}
 use Rattle.std.specs.Prelude.{nat_le, nat_lt}
-use Rattle.paging_core.specs.Field.{with_field}
+use Rattle.paging_core.specs.Field.{with_bit_field}
 use Rattle.paging_core.specs.Memory.{byte_of}
 use Rattle.address_space.specs.Access.{byte_at, AreBytesPut}
 use Rattle.address_space.proofs.Cutting.{side_of, then_in, else_out}
 
 -- ---- a word with another byte
 
-pub byte_here : (word byte value : ℕ) → byte < 8 → value < 256 → byte_of (with_field word (8 * byte) (8 * byte + 8) value) byte ≡ value
+pub byte_here : (word byte value : ℕ) → byte < 8 → value < 256 → byte_of (with_bit_field word (8 * byte) (8 * byte + 8) value) byte ≡ value
 byte_here word zero value less small = omega (arith, small)
 byte_here word (suc zero) value less small = omega (arith, small)
 byte_here word (suc (suc zero)) value less small = omega (arith, small)
@@ -22,7 +22,7 @@ byte_here word (suc (suc (suc (suc (suc (suc (suc zero))))))) value less small =
 byte_here word (suc (suc (suc (suc (suc (suc (suc (suc byte)))))))) value less small = absurd (omega (arith, less))
 
 pub byte_other : (word byte value other : ℕ) → byte < 8 → other < 8 → value < 256 → (other ≡ byte → ⊥) →
-    byte_of (with_field word (8 * byte) (8 * byte + 8) value) other ≡ byte_of word other
+    byte_of (with_bit_field word (8 * byte) (8 * byte + 8) value) other ≡ byte_of word other
 byte_other word zero value zero less k small h = absurd (h refl)
 byte_other word zero value (suc zero) less k small h = omega (arith, small)
 byte_other word zero value (suc (suc zero)) less k small h = omega (arith, small)

@@ -4,7 +4,7 @@ use Rattle.std.proofs.lemmas.Bool.{cases_lt, cases_eq}
 use Rattle.std.proofs.lemmas.List.{length-drop, length-take-le, get_or-take, get_or-drop}
 use Rattle.std.specs.Prelude.{nat_le, nat_lt, IsTrue, IsSome, IfSome, is_some}
 use Rattle.paging_core.specs.Address.{is_canonical}
-use Rattle.paging_core.specs.Memory.{frame_count, word_at, byte_of, AreWordsOf, AreWordsWritten}
+use Rattle.paging_core.specs.Memory.{frame_count, word_at, byte_of, AreFrameWords, AreWordsWritten}
 use Rattle.paging_core.specs.Pool.{FreeBelow}
 use Rattle.paging_core.specs.Tree.{IsTree}
 use Rattle.paging_core.specs.Walk.{Place, reach, large_of, walk_of, reached}
@@ -12,7 +12,7 @@ use Rattle.paging_core.specs.declared.page_table.Rights.{Rights}
 use Rattle.address_space.specs.Runs.{rights_in}
 use Rattle.address_space.specs.PageMap.{IsMap, stored}
 use Rattle.address_space.specs.Access.{IsGoodSpan, byte_at, AreBytesPut, AreWritten, LiesIn, AreOtherWordsKept}
-use Rattle.address_space.specs.Space.{Tables, AreTablesKept, map_of, rights_of_place}
+use Rattle.address_space.specs.Space.{Tables, AreTablesKept, page_map_of, rights_of_place}
 use Rattle.address_space.proofs.Cutting.{side_of, then_in, else_out}
 
 -- every address of bytes in one canonical half is canonical
@@ -37,7 +37,7 @@ byte_from run address index low =
 
 -- a byte of a mapped page, of which words were read from `index` on
 pub reached_in : (words : List ℕ) (root address index : ℕ) (o : Option Place) → walk_of words root (address / 4096) ≡ o →
-    (run : List ℕ) → IfSome o (λ place. AreWordsOf words place.frame index run) → IsSome o →
+    (run : List ℕ) → IfSome o (λ place. AreFrameWords words place.frame index run) → IsSome o →
     index ≤ address % 4096 / 8 → address % 4096 / 8 < index + length run → reached words root address ≡ Some (byte_at run (address % 4096 - 8 * index))
 reached_in words root address index None is run of_frame some low high = absurd (cc)
 reached_in words root address index (Some place) is run of_frame some low high =
@@ -57,7 +57,7 @@ pub record IsPartWritten (old new words put bytes : List ℕ) (root at page firs
   pub some : 0 < length bytes
   pub fits : at % 4096 + length bytes ≤ 4096
   pub size : length words ≡ (at % 8 + length bytes + 7) / 8
-  pub of_frame : AreWordsOf old place.frame first words
+  pub of_frame : AreFrameWords old place.frame first words
   pub bytes_put : AreBytesPut words put (at % 8) (length bytes) bytes
   pub words_put : AreWordsWritten old new place.frame first put
 
@@ -306,7 +306,7 @@ pub written_map : (old : Tables) (words : List ℕ) (at : ℕ) (bytes : List ℕ
     AreWritten (reached old.words old.root) (reached words old.root) at (length bytes) bytes →
     IsGoodSpan at (length bytes) →
     ((any : ℕ) → at ≤ any → any < at + length bytes → IsSome (rights_in old.runs (any / 4096))) →
-    IsMap (map_of (record { words = words; root = old.root; free = old.free; runs = old.runs })) (stored at bytes (map_of old))
+    IsMap (page_map_of (record { words = words; root = old.root; free = old.free; runs = old.runs })) (stored at bytes (page_map_of old))
 written_map old words at bytes kept w span mapped = record {
   rights = λ page. refl;
   bytes = λ address. by_page address (rights_in old.runs (address / 4096)) refl (side_of at (at + length bytes) address);

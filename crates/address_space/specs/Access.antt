@@ -16,25 +16,25 @@ pub record IsGoodSpan (at length : ℕ) : Type 0 where
   pub one_half : (at + length - 1) / 2 ^ 47 ≡ at / 2 ^ 47
 
 -- whether the rights of a page deny an access: it is not mapped, a write is not granted, or one by the user is not
-abbrev pub denies : Bool → Bool → Option Rights → Bool
-denies write user None = true
-denies write user (Some rights) = (write && not rights.write) || (user && not rights.user)
+abbrev pub rights_deny : Bool → Bool → Option Rights → Bool
+rights_deny write user None = true
+rights_deny write user (Some rights) = (write && not rights.write) || (user && not rights.user)
 
 -- the page fault's code (AMD64 volume 2, section 8.4.2): 1 if the page is mapped, 2 for a write, 4 for the user
-abbrev pub fault_code : Bool → Bool → Option Rights → ℕ
-fault_code write user rights = (if is_some rights then 1 else 0) + (if write then 2 else 0) + (if user then 4 else 0)
+abbrev pub denial_code : Bool → Bool → Option Rights → ℕ
+denial_code write user rights = (if is_some rights then 1 else 0) + (if write then 2 else 0) + (if user then 4 else 0)
 
 -- the access is granted at each of `length` bytes from an address on
-abbrev pub IsGranted : (ℕ → Option Rights) → Bool → Bool → ℕ → ℕ → Type 0
-IsGranted rights write user at length = (any : ℕ) → at ≤ any → any < at + length → denies write user (rights (any / 4096)) ≡ false
+abbrev pub IsAccessGranted : (ℕ → Option Rights) → Bool → Bool → ℕ → ℕ → Type 0
+IsAccessGranted rights write user at length = (any : ℕ) → at ≤ any → any < at + length → rights_deny write user (rights (any / 4096)) ≡ false
 
 -- the access is denied at a byte of them, and granted at each before it
-pub record IsDenied (rights : ℕ → Option Rights) (write user : Bool) (at length byte code : ℕ) : Type 0 where
+pub record IsAccessDenied (rights : ℕ → Option Rights) (write user : Bool) (at length byte code : ℕ) : Type 0 where
   pub from : at ≤ byte
   pub within : byte < at + length
-  pub denied : denies write user (rights (byte / 4096)) ≡ true
-  pub first : (any : ℕ) → at ≤ any → any < byte → denies write user (rights (any / 4096)) ≡ false
-  pub code_is : code ≡ fault_code write user (rights (byte / 4096))
+  pub denied : rights_deny write user (rights (byte / 4096)) ≡ true
+  pub first : (any : ℕ) → at ≤ any → any < byte → rights_deny write user (rights (any / 4096)) ≡ false
+  pub code_is : code ≡ denial_code write user (rights (byte / 4096))
 
 -- the bytes are those of the map from an address on
 pub record AreBytesAt (byte : ℕ → Option ℕ) (at : ℕ) (bytes : List ℕ) : Type 0 where
@@ -72,8 +72,8 @@ pub record AreOtherWordsKept (old new : List ℕ) (root at count : ℕ) : Type 0
 
 -- When an access to `length` bytes gets each answer. An access to no bytes is always served.
 abbrev pub IsAccessAnswer : {A : Type 0} → PageMap → Bool → Bool → ℕ → ℕ → Result A SpaceFault → Type 0
-IsAccessAnswer {A} map write user at length (Ok done) = 0 < length → IsGoodSpan at length × IsGranted map.rights write user at length
+IsAccessAnswer {A} map write user at length (Ok done) = 0 < length → IsGoodSpan at length × IsAccessGranted map.rights write user at length
 IsAccessAnswer {A} map write user at length (Err BadRange) = (0 < length) × (IsGoodSpan at length → ⊥)
-IsAccessAnswer {A} map write user at length (Err (Denied byte code)) = IsGoodSpan at length × IsDenied map.rights write user at length byte (page_fault_bits code)
-IsAccessAnswer {A} map write user at length (Err OutOfMemory) = IsGoodSpan at length × IsGranted map.rights write user at length
+IsAccessAnswer {A} map write user at length (Err (Denied byte code)) = IsGoodSpan at length × IsAccessDenied map.rights write user at length byte (page_fault_bits code)
+IsAccessAnswer {A} map write user at length (Err OutOfMemory) = IsGoodSpan at length × IsAccessGranted map.rights write user at length
 IsAccessAnswer {A} map write user at length (Err fault) = ⊥

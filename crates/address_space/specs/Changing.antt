@@ -4,14 +4,14 @@ use Rattle.paging_core.specs.Memory.{word_at}
 use Rattle.paging_core.specs.Entry.{table_entry, page_entry}
 use Rattle.paging_core.specs.Missing.{missing_of}
 use Rattle.paging_core.specs.PageChanges.{ArePagesChanged, removal, regrant, among}
-use Rattle.paging_core.specs.Pool.{is_free, free_count}
+use Rattle.paging_core.specs.Pool.{is_frame_free, free_count}
 use Rattle.paging_core.specs.Prefix.{prefix_of}
 use Rattle.paging_core.specs.Walk.{Place, reach, walk_of, top}
 use Rattle.paging_core.specs.declared.page_table.Rights.{Rights}
 use Rattle.address_space.specs.declared.space_fault.SpaceFault.{SpaceFault}
 use Rattle.address_space.specs.declared.space_fault.SpaceFault.TheVariants.{BadRange, Overlap, Hole, NoFrames, OutOfMemory}
-use Rattle.address_space.specs.PageMap.{IsMap, unmapped, protected, duplicated, stored, mapped_count, IsGoodRange, IsClear, IsFull, IsHole}
-use Rattle.address_space.specs.Space.{Tables, map_of, rights_of_place}
+use Rattle.address_space.specs.PageMap.{IsMap, unmapped, protected, duplicated, stored, mapped_count, IsGoodRange, AreNoneMapped, AreAllMapped, IsHole}
+use Rattle.address_space.specs.Space.{Tables, page_map_of, rights_of_place}
 use Rattle.address_space.specs.Access.{AreOtherWordsKept}
 use Rattle.address_space.specs.Mapping.{HasFrames}
 
@@ -22,8 +22,8 @@ is_mapped_in t first pages number = among first pages number && is_some (reach t
 -- The mapped pages of a range leave the map, and nothing else is changed: the entry of each is 0, and every other word
 -- is as it was. Their frames are free again; no table leaves.
 pub record IsUnmapped (old new : Tables) (first pages count : ℕ) : Type 0 where
-  pub map : IsMap (map_of new) (unmapped first pages (map_of old))
-  pub count_is : count ≡ mapped_count (map_of old).rights first pages
+  pub map : IsMap (page_map_of new) (unmapped first pages (page_map_of old))
+  pub count_is : count ≡ mapped_count (page_map_of old).rights first pages
   pub free : free_count new.free ≡ free_count old.free + count
   pub root : new.root ≡ old.root
   pub entries : ArePagesChanged old.words new.words old.root removal (is_mapped_in old first pages)
@@ -31,7 +31,7 @@ pub record IsUnmapped (old new : Tables) (first pages count : ℕ) : Type 0 wher
 -- The pages of a range get the rights, and nothing else is changed: the entries of these pages are written, and no
 -- other word. No frame is taken or given back.
 pub record IsProtected (old new : Tables) (first pages : ℕ) (rights : Rights) : Type 0 where
-  pub map : IsMap (map_of new) (protected first pages rights (map_of old))
+  pub map : IsMap (page_map_of new) (protected first pages rights (page_map_of old))
   pub free : new.free ≡ old.free
   pub root : new.root ≡ old.root
   pub entries : ArePagesChanged old.words new.words old.root (regrant rights) (among first pages)
@@ -60,15 +60,15 @@ pub record AreWordsCopied (old new : Tables) (from pages to : ℕ) : Type 0 wher
       reach new.words old.root 4 (512 * n + i) ≡ Some place → word_at new.words f i ≡ page_entry place.frame (rights_of_place place)
   -- a page that was mapped keeps its words
   pub others :
-      (f i : ℕ) → i < 512 → is_free old.free f ≡ false → ((l n : ℕ) → l < 4 → reach old.words old.root l n ≡ Some (top f) → ⊥) →
+      (f i : ℕ) → i < 512 → is_frame_free old.free f ≡ false → ((l n : ℕ) → l < 4 → reach old.words old.root l n ≡ Some (top f) → ⊥) →
       word_at new.words f i ≡ word_at old.words f i
   -- and so does a frame that is still free
-  pub still_free : (f i : ℕ) → i < 512 → is_free new.free f ≡ true → word_at new.words f i ≡ word_at old.words f i
+  pub still_free : (f i : ℕ) → i < 512 → is_frame_free new.free f ≡ true → word_at new.words f i ≡ word_at old.words f i
 
 -- The target pages get the rights and bytes of the source, and nothing else is changed. They and the tables that they
 -- missed took frames, and nothing else did.
 pub record IsDuplicated (old new : Tables) (from pages to : ℕ) : Type 0 where
-  pub map : IsMap (map_of new) (duplicated from pages to (map_of old))
+  pub map : IsMap (page_map_of new) (duplicated from pages to (page_map_of old))
   pub count : free_count new.free + pages + missing_of old.words old.root to pages ≡ free_count old.free
   pub root : new.root ≡ old.root
   pub size : length new.words ≡ length old.words
@@ -80,8 +80,8 @@ pub record IsDuplicated (old new : Tables) (from pages to : ℕ) : Type 0 where
 
 -- The bytes are those of the range, and nothing else is changed: the walk meets every table and every page as before,
 -- and every word in which none of the bytes lies is as it was.
-pub record IsStored (old new : Tables) (at : ℕ) (bytes : List ℕ) : Type 0 where
-  pub map : IsMap (map_of new) (stored at bytes (map_of old))
+pub record AreBytesStored (old new : Tables) (at : ℕ) (bytes : List ℕ) : Type 0 where
+  pub map : IsMap (page_map_of new) (stored at bytes (page_map_of old))
   pub free : new.free ≡ old.free
   pub root : new.root ≡ old.root
   pub runs : new.runs ≡ old.runs
@@ -98,10 +98,10 @@ IsUnmapAnswer start pages (Err OutOfMemory) = IsGoodRange start pages
 IsUnmapAnswer start pages (Err fault) = ⊥
 
 abbrev pub IsProtectAnswer : Tables → ℕ → ℕ → Result (Unit {0}) SpaceFault → Type 0
-IsProtectAnswer t start pages (Ok done) = IsGoodRange start pages × IsFull (map_of t) (start / 4096) pages
+IsProtectAnswer t start pages (Ok done) = IsGoodRange start pages × AreAllMapped (page_map_of t) (start / 4096) pages
 IsProtectAnswer t start pages (Err BadRange) = IsGoodRange start pages → ⊥
-IsProtectAnswer t start pages (Err (Hole at)) = IsGoodRange start pages × ((page : ℕ) × (at ≡ 4096 * page) × IsHole (map_of t) (start / 4096) pages page)
-IsProtectAnswer t start pages (Err OutOfMemory) = IsGoodRange start pages × IsFull (map_of t) (start / 4096) pages
+IsProtectAnswer t start pages (Err (Hole at)) = IsGoodRange start pages × ((page : ℕ) × (at ≡ 4096 * page) × IsHole (page_map_of t) (start / 4096) pages page)
+IsProtectAnswer t start pages (Err OutOfMemory) = IsGoodRange start pages × AreAllMapped (page_map_of t) (start / 4096) pages
 IsProtectAnswer t start pages (Err fault) = ⊥
 
 abbrev pub AreGoodRanges : ℕ → ℕ → ℕ → Type 0
@@ -109,12 +109,12 @@ AreGoodRanges from pages to = IsGoodRange from pages × IsGoodRange to pages
 
 abbrev pub IsDuplicateAnswer : Tables → ℕ → ℕ → ℕ → Result (Unit {0}) SpaceFault → Type 0
 IsDuplicateAnswer t from pages to (Ok done) =
-    AreGoodRanges from pages to × IsFull (map_of t) (from / 4096) pages × IsClear (map_of t) (to / 4096) pages × HasFrames t (to / 4096) pages
+    AreGoodRanges from pages to × AreAllMapped (page_map_of t) (from / 4096) pages × AreNoneMapped (page_map_of t) (to / 4096) pages × HasFrames t (to / 4096) pages
 IsDuplicateAnswer t from pages to (Err BadRange) = AreGoodRanges from pages to → ⊥
-IsDuplicateAnswer t from pages to (Err (Hole at)) = AreGoodRanges from pages to × ((page : ℕ) × (at ≡ 4096 * page) × IsHole (map_of t) (from / 4096) pages page)
-IsDuplicateAnswer t from pages to (Err Overlap) = AreGoodRanges from pages to × IsFull (map_of t) (from / 4096) pages × (IsClear (map_of t) (to / 4096) pages → ⊥)
+IsDuplicateAnswer t from pages to (Err (Hole at)) = AreGoodRanges from pages to × ((page : ℕ) × (at ≡ 4096 * page) × IsHole (page_map_of t) (from / 4096) pages page)
+IsDuplicateAnswer t from pages to (Err Overlap) = AreGoodRanges from pages to × AreAllMapped (page_map_of t) (from / 4096) pages × (AreNoneMapped (page_map_of t) (to / 4096) pages → ⊥)
 IsDuplicateAnswer t from pages to (Err NoFrames) =
-    AreGoodRanges from pages to × IsFull (map_of t) (from / 4096) pages × IsClear (map_of t) (to / 4096) pages × (HasFrames t (to / 4096) pages → ⊥)
+    AreGoodRanges from pages to × AreAllMapped (page_map_of t) (from / 4096) pages × AreNoneMapped (page_map_of t) (to / 4096) pages × (HasFrames t (to / 4096) pages → ⊥)
 IsDuplicateAnswer t from pages to (Err OutOfMemory) =
-    AreGoodRanges from pages to × IsFull (map_of t) (from / 4096) pages × IsClear (map_of t) (to / 4096) pages × HasFrames t (to / 4096) pages
+    AreGoodRanges from pages to × AreAllMapped (page_map_of t) (from / 4096) pages × AreNoneMapped (page_map_of t) (to / 4096) pages × HasFrames t (to / 4096) pages
 IsDuplicateAnswer t from pages to (Err fault) = ⊥

@@ -59,12 +59,12 @@ pub record IsGoodRange (start pages : ℕ) : Type 0 where
   pub canonical : IsCanonicalRange (start / 4096) pages
 
 -- no page of a range is mapped
-abbrev pub IsClear : PageMap → ℕ → ℕ → Type 0
-IsClear map first pages = (page : ℕ) → first ≤ page → page < first + pages → map.rights page ≡ None
+abbrev pub AreNoneMapped : PageMap → ℕ → ℕ → Type 0
+AreNoneMapped map first pages = (page : ℕ) → first ≤ page → page < first + pages → map.rights page ≡ None
 
 -- each page of a range is mapped
-abbrev pub IsFull : PageMap → ℕ → ℕ → Type 0
-IsFull map first pages = (page : ℕ) → first ≤ page → page < first + pages → IsSome (map.rights page)
+abbrev pub AreAllMapped : PageMap → ℕ → ℕ → Type 0
+AreAllMapped map first pages = (page : ℕ) → first ≤ page → page < first + pages → IsSome (map.rights page)
 
 -- a page is the lowest of a range that is not mapped
 pub record IsHole (map : PageMap) (first pages page : ℕ) : Type 0 where

@@ -2,26 +2,26 @@
 use Rattle.std.specs.Prelude.{◌≡◌, ℕ, ◌+◌, ◌-◌, ◌^◌, ◌<◌, ◌≤◌, ◌⊎◌, ◌&&◌, true, false, nat_lt, nat_le, if◌then◌else◌, IsSome, List, Some, None}
 use Rattle.paging_core.specs.declared.page_table.Rights.{Rights}
 use Rattle.meminterval.specs.declared.interval.Interval.{Interval}
-use Rattle.address_space.specs.Runs.{Follow, AreLongest, HasRun, rights_in, begins_at, crosses, is_among}
+use Rattle.address_space.specs.Runs.{RunsFollow, AreLongest, HasRun, rights_in, has_run_at, crosses, is_among}
 
 -- the pages from `first` up to `end` are in no run, and every other page is where it was
 pub record IsCut (old new : List (Interval ℕ × Rights)) (first end : ℕ) : Type 0 where
-  pub follow : Follow 0 new (2 ^ 52)
+  pub follow : RunsFollow 0 new (2 ^ 52)
   pub pages : (any : ℕ) → rights_in new any ≡ (if nat_le first any && nat_lt any end then None else rights_in old any)
-  pub begins : (any : ℕ) → begins_at new any ≡ true → begins_at old any ≡ true
+  pub begins : (any : ℕ) → has_run_at new any ≡ true → has_run_at old any ≡ true
   pub apart : (any : ℕ) → crosses old any ≡ false → crosses new any ≡ false
 
 -- the same, of runs that are as long as they can be
 pub record AreTaken (old new : List (Interval ℕ × Rights)) (first end : ℕ) : Type 0 where
-  pub follow : Follow 0 new (2 ^ 52)
+  pub follow : RunsFollow 0 new (2 ^ 52)
   pub longest : AreLongest new
   pub pages : (any : ℕ) → rights_in new any ≡ (if nat_le first any && nat_lt any end then None else rights_in old any)
 
 -- the pages from `first` up to `end` are a run of their own, with these rights
-pub record IsRunSet (old new : List (Interval ℕ × Rights)) (first end : ℕ) (rights : Rights) : Type 0 where
+pub record IsOwnRun (old new : List (Interval ℕ × Rights)) (first end : ℕ) (rights : Rights) : Type 0 where
   pub run : HasRun new first end rights
   pub pages : (any : ℕ) → rights_in new any ≡ (if nat_le first any && nat_lt any end then Some rights else rights_in old any)
-  pub begins : (any : ℕ) → begins_at new any ≡ true → (any ≡ first) ⊎ (begins_at old any ≡ true)
+  pub begins : (any : ℕ) → has_run_at new any ≡ true → (any ≡ first) ⊎ (has_run_at old any ≡ true)
 
 -- no run goes on over a page over which none went
 pub record KeepsApart (old new : List (Interval ℕ × Rights)) : Type 0 where
@@ -29,20 +29,20 @@ pub record KeepsApart (old new : List (Interval ℕ × Rights)) : Type 0 where
 
 -- no run goes on over the page
 pub record IsParted (old new : List (Interval ℕ × Rights)) (page : ℕ) : Type 0 where
-  pub follow : Follow 0 new (2 ^ 52)
+  pub follow : RunsFollow 0 new (2 ^ 52)
   pub pages : (any : ℕ) → rights_in new any ≡ rights_in old any
-  pub begins : (any : ℕ) → begins_at new any ≡ true → (any ≡ page) ⊎ (begins_at old any ≡ true)
+  pub begins : (any : ℕ) → has_run_at new any ≡ true → (any ≡ page) ⊎ (has_run_at old any ≡ true)
   pub apart : crosses new page ≡ false
 
 -- `pages` pages from `to` on got the rights of those from `from` on
-pub record AreCopied (old new : List (Interval ℕ × Rights)) (from pages to : ℕ) : Type 0 where
-  pub follow : Follow 0 new (2 ^ 52)
+pub record AreRightsCopied (old new : List (Interval ℕ × Rights)) (from pages to : ℕ) : Type 0 where
+  pub follow : RunsFollow 0 new (2 ^ 52)
   pub longest : AreLongest new
   pub pages_are : (any : ℕ) → rights_in new any ≡ (if is_among to pages any then rights_in old (any - to + from) else rights_in old any)
 
 -- the pages from `first` up to `end` are all in runs
-abbrev pub AreHeld : List (Interval ℕ × Rights) → ℕ → ℕ → Type 0
-AreHeld runs first end = (any : ℕ) → first ≤ any → any < end → IsSome (rights_in runs any)
+abbrev pub AreInRuns : List (Interval ℕ × Rights) → ℕ → ℕ → Type 0
+AreInRuns runs first end = (any : ℕ) → first ≤ any → any < end → IsSome (rights_in runs any)
 
 -- none of them is
 abbrev pub AreFree : List (Interval ℕ × Rights) → ℕ → ℕ → Type 0
@@ -53,4 +53,4 @@ pub record IsGap (runs : List (Interval ℕ × Rights)) (first end page : ℕ) :
   pub from : first ≤ page
   pub within : page < end
   pub gone : rights_in runs page ≡ None
-  pub lowest : AreHeld runs first page
+  pub lowest : AreInRuns runs first page

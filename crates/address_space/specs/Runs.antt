@@ -19,9 +19,9 @@ rights_in [] page = None
 rights_in (run ∷ runs) page = (if holds page run then Some run.1 else rights_in runs page)
 
 -- whether a run begins at a page
-abbrev pub begins_at : List (Interval ℕ × Rights) → ℕ → Bool
-begins_at [] page = false
-begins_at (run ∷ runs) page = (if run.0.start == page then true else begins_at runs page)
+abbrev pub has_run_at : List (Interval ℕ × Rights) → ℕ → Bool
+has_run_at [] page = false
+has_run_at (run ∷ runs) page = (if run.0.start == page then true else has_run_at runs page)
 
 -- whether a run begins before a page and goes on after it
 abbrev pub crosses : List (Interval ℕ × Rights) → ℕ → Bool
@@ -29,22 +29,22 @@ crosses [] page = false
 crosses (run ∷ runs) page = (if nat_lt run.0.start page && nat_lt page run.0.end then true else crosses runs page)
 
 -- runs one after the other between two pages, each of at least one page
-abbrev pub Follow : ℕ → List (Interval ℕ × Rights) → ℕ → Type 0
-Follow from [] to = from ≤ to
-Follow from (run ∷ runs) to = (from ≤ run.0.start) × (run.0.start < run.0.end) × Follow run.0.end runs to
+abbrev pub RunsFollow : ℕ → List (Interval ℕ × Rights) → ℕ → Type 0
+RunsFollow from [] to = from ≤ to
+RunsFollow from (run ∷ runs) to = (from ≤ run.0.start) × (run.0.start < run.0.end) × RunsFollow run.0.end runs to
 
 -- a run stands among others
 pub record HasRun (runs : List (Interval ℕ × Rights)) (start end : ℕ) (rights : Rights) : Type 0 where
   pub front : List (Interval ℕ × Rights)
   pub back : List (Interval ℕ × Rights)
   pub whole : runs ≡ front ++ (record { start = start; end = end }, rights) ∷ back
-  pub before : Follow 0 front start
+  pub before : RunsFollow 0 front start
   pub some : start < end
-  pub behind : Follow end back (2 ^ 52)
+  pub behind : RunsFollow end back (2 ^ 52)
 
 -- no run could be longer: the page before it has other rights, or is not mapped
 abbrev pub AreLongest : List (Interval ℕ × Rights) → Type 0
-AreLongest runs = (page : ℕ) → IsTrue (begins_at runs (page + 1)) → rights_in runs page ≡ rights_in runs (page + 1) → ⊥
+AreLongest runs = (page : ℕ) → IsTrue (has_run_at runs (page + 1)) → rights_in runs page ≡ rights_in runs (page + 1) → ⊥
 
 -- the areas of runs
 abbrev pub area_of : Interval ℕ × Rights → Area
@@ -54,6 +54,6 @@ abbrev pub areas_of : List (Interval ℕ × Rights) → List Area
 areas_of runs = map area_of runs
 
 -- runs follow each other in one way
-pub Follow-prop : (from : ℕ) (runs : List (Interval ℕ × Rights)) (to : ℕ) → IsProp (Follow from runs to)
-Follow-prop from [] to = hlevel props
-Follow-prop from (run ∷ runs) to = hlevel (props, Follow-prop run.0.end runs to)
+pub RunsFollow-prop : (from : ℕ) (runs : List (Interval ℕ × Rights)) (to : ℕ) → IsProp (RunsFollow from runs to)
+RunsFollow-prop from [] to = hlevel props
+RunsFollow-prop from (run ∷ runs) to = hlevel (props, RunsFollow-prop run.0.end runs to)

@@ -4,12 +4,12 @@ use Rattle.std.specs.Option.{option_map}
 use Rattle.std.proofs.Props.{props}
 use Rattle.paging_core.specs.Address.{is_canonical}
 use Rattle.paging_core.specs.Memory.{frame_count}
-use Rattle.paging_core.specs.Pool.{is_free, FreeBelow}
+use Rattle.paging_core.specs.Pool.{is_frame_free, FreeBelow}
 use Rattle.paging_core.specs.Walk.{Place, reach, large_of, walk_of, reached}
 use Rattle.paging_core.specs.Tree.{IsTree}
 use Rattle.paging_core.specs.declared.page_table.Rights.{Rights}
 use Rattle.meminterval.specs.declared.interval.Interval.{Interval}
-use Rattle.address_space.specs.Runs.{Follow, Follow-prop, AreLongest, rights_in}
+use Rattle.address_space.specs.Runs.{RunsFollow, RunsFollow-prop, AreLongest, rights_in}
 use Rattle.address_space.specs.PageMap.{PageMap}
 
 pub record Tables : Type 0 where
@@ -23,8 +23,8 @@ abbrev pub rights_of_place : Place → Rights
 rights_of_place place = record { write = place.write; user = place.user; fetch = place.fetch }
 
 -- The plain map for which the tables stand: the runs name the pages and their rights, and the walk reaches the bytes.
-abbrev pub map_of : Tables → PageMap
-map_of t = record {
+abbrev pub page_map_of : Tables → PageMap
+page_map_of t = record {
   rights = rights_in t.runs;
   byte = λ address. (if is_some (rights_in t.runs (address / 4096)) then reached t.words t.root address else None);
 }
@@ -42,10 +42,10 @@ pub record AreTablesKept (t : Tables) : Type 0 where
   pub accounted :
       (frame : ℕ) → frame < frame_count t.words →
       ((level number : ℕ) (met : Place) → level ≤ 4 → reach t.words t.root level number ≡ Some met → met.frame ≡ frame → ⊥) →
-      is_free t.free frame ≡ true
+      is_frame_free t.free frame ≡ true
   pub no_large : (slot : ℕ) → large_of t.words t.root slot ≡ None
-  pub follow : Follow 0 t.runs (2 ^ 52)
+  pub follow : RunsFollow 0 t.runs (2 ^ 52)
   pub longest : AreLongest t.runs
 
 pub AreTablesKept-prop : (t : Tables) → IsProp (AreTablesKept t)
-AreTablesKept-prop t = hlevel (props, Follow-prop 0 t.runs (2 ^ 52))
+AreTablesKept-prop t = hlevel (props, RunsFollow-prop 0 t.runs (2 ^ 52))

@@ -1,11 +1,11 @@
 //! Reading and writing bytes.
 ghost use Rattle.std.specs.Prelude.{◌≡◌, ℕ, ◌+◌, ◌*◌, ◌/◌, ◌^◌, ◌<◌, ◌≤◌, IfOk, OnOk, OnErr, Err, IfSome, IfNone, IsTrue, Some, None, true, false, length, if◌then◌else◌};
 ghost use Rattle.meminterval.specs.Tree.{entries};
-ghost use Rattle.address_space.specs.Runs.{Follow, rights_in};
-ghost use Rattle.address_space.specs.Space.{map_of};
+ghost use Rattle.address_space.specs.Runs.{RunsFollow, rights_in};
+ghost use Rattle.address_space.specs.Space.{page_map_of};
 ghost use Rattle.address_space.specs.Seen.{tables_of};
-ghost use Rattle.address_space.specs.Access.{denies, fault_code, IsGranted, IsDenied, AreBytesAt, IsAccessAnswer};
-ghost use Rattle.address_space.specs.Changing.{IsStored};
+ghost use Rattle.address_space.specs.Access.{rights_deny, denial_code, IsAccessGranted, IsAccessDenied, AreBytesAt, IsAccessAnswer};
+ghost use Rattle.address_space.specs.Changing.{AreBytesStored};
 ghost use Rattle.x86_flags.specs.PageFaultErrorCode.{page_fault_bits};
 
 use crate::bytes::{read_bytes, write_bytes};
@@ -32,7 +32,7 @@ struct Access {
 impl Access {
     /// Whether the rights of a page that is mapped deny the access.
     fn is_denied(self, rights: Rights) -> bool
-        ensures { result ≡ denies self.write self.user (Some rights) }
+        ensures { result ≡ rights_deny self.write self.user (Some rights) }
     {
         self.write && !rights.write || self.user && !rights.user
     }
@@ -74,11 +74,11 @@ fn first_denied(
     count: u64,
     access: Access,
 ) -> Option<Denial>
-    requires follow { Follow 0 (entries runs.now) (2 ^ 52) }
+    requires follow { RunsFollow 0 (entries runs.now) (2 ^ 52) }
     requires some { 0 < count }
     requires fits { at + count ≤ 2 ^ 64 }
-    ensures denied { IfSome result (λ denial. IsDenied (rights_in (entries runs.now)) access.write access.user at count denial.at (page_fault_bits denial.code)) }
-    ensures granted { IfNone result (IsGranted (rights_in (entries runs.now)) access.write access.user at count) }
+    ensures denied { IfSome result (λ denial. IsAccessDenied (rights_in (entries runs.now)) access.write access.user at count denial.at (page_fault_bits denial.code)) }
+    ensures granted { IfNone result (IsAccessGranted (rights_in (entries runs.now)) access.write access.user at count) }
 {
     let last = (at + (count - 1)) / 4096;
     let mut page = at / 4096;
@@ -105,8 +105,8 @@ impl Space {
     /// whole pages.
     pub fn load(&self, at: u64, count: u64, user: bool) -> Result<Bytes, SpaceFault>
         ensures count { IfOk result (λ bytes. length bytes ≡ count) }
-        ensures bytes { IfOk result (λ bytes. AreBytesAt (map_of (tables_of self.now)).byte at bytes) }
-        ensures causes { IsAccessAnswer (map_of (tables_of self.now)) false user at count result }
+        ensures bytes { IfOk result (λ bytes. AreBytesAt (page_map_of (tables_of self.now)).byte at bytes) }
+        ensures causes { IsAccessAnswer (page_map_of (tables_of self.now)) false user at count result }
     {
         if count == 0 {
             return Ok(Bytes::new(self.alloc));
@@ -130,9 +130,9 @@ impl Space {
     /// Writes the bytes from the address on, by an access of the user or of the supervisor. It goes by whole pages, and
     /// takes no memory. An `Err` changes nothing.
     pub fn store(&mut self, at: u64, bytes: &[u8], user: bool) -> Result<(), SpaceFault>
-        ensures ok { OnOk result (IsStored (tables_of self.old) (tables_of self.new) at bytes.now) }
+        ensures ok { OnOk result (AreBytesStored (tables_of self.old) (tables_of self.new) at bytes.now) }
         ensures err { OnErr result (tables_of self.new ≡ tables_of self.old) }
-        ensures causes { IsAccessAnswer (map_of (tables_of self.old)) true user at (length bytes.now) result }
+        ensures causes { IsAccessAnswer (page_map_of (tables_of self.old)) true user at (length bytes.now) result }
         ensures memory { result ≡ Err SpaceFault.OutOfMemory → ⊥ }
     {
         if bytes.is_empty() {

@@ -1,9 +1,9 @@
 //! Unmapping pages, and changing their rights.
 ghost use Rattle.std.specs.Prelude.{◌≡◌, ◌+◌, ◌-◌, ◌*◌, ◌/◌, ◌^◌, ◌<◌, ◌≤◌, IsTrue, IsSome, IfOk, IfErr, OnOk, OnErr};
 ghost use Rattle.paging_core.specs.Address.{IsCanonicalRange};
-ghost use Rattle.address_space.specs.Space.{map_of};
+ghost use Rattle.address_space.specs.Space.{page_map_of};
 ghost use Rattle.address_space.specs.Seen.{tables_of};
-ghost use Rattle.address_space.specs.PageMap.{IsFull};
+ghost use Rattle.address_space.specs.PageMap.{AreAllMapped};
 ghost use Rattle.address_space.specs.Changing.{IsUnmapped, IsProtected, IsUnmapAnswer, IsProtectAnswer};
 
 use crate::range::{first_page, page_at};
@@ -60,7 +60,7 @@ impl Space {
         ensures less { IfOk result (λ part. part.first < end) }
         ensures ok { IfOk result (λ part. IsUnmapped (tables_of self.old) (tables_of self.new) part.first (end - part.first) part.count) }
         ensures err { OnErr result (tables_of self.new ≡ tables_of self.old) }
-        ensures over { IfErr result (λ error. IsSome ((map_of (tables_of self.old)).rights end)) }
+        ensures over { IfErr result (λ error. IsSome ((page_map_of (tables_of self.old)).rights end)) }
     {
         let Some(run) = runs::run_below(&self.runs, end) else {
             return Ok(Part { first, count: 0 });
@@ -104,7 +104,7 @@ impl Space {
     fn protect_full(&mut self, first: Page, pages: u64, rights: Rights) -> Result<(), AllocError>
         requires range { IsCanonicalRange first pages }
         requires within { first + pages ≤ 2 ^ 52 }
-        requires full { IsFull (map_of (tables_of self.old)) first pages }
+        requires full { AreAllMapped (page_map_of (tables_of self.old)) first pages }
         ensures ok { OnOk result (IsProtected (tables_of self.old) (tables_of self.new) first pages rights) }
         ensures err { OnErr result (tables_of self.new ≡ tables_of self.old) }
     {

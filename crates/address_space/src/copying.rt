@@ -4,10 +4,10 @@ ghost use Rattle.paging_core.specs.Address.{IsCanonicalRange};
 ghost use Rattle.paging_core.specs.Memory.{frame_count};
 ghost use Rattle.paging_core.specs.Tree.{HasTree};
 ghost use Rattle.paging_core.specs.Walk.{large_of, walk_of};
-ghost use Rattle.address_space.specs.Space.{map_of};
+ghost use Rattle.address_space.specs.Space.{page_map_of};
 ghost use Rattle.address_space.specs.Seen.{tables_of};
 ghost use Rattle.address_space.specs.Mapping.{HasFrames};
-ghost use Rattle.address_space.specs.PageMap.{IsClear, IsFull};
+ghost use Rattle.address_space.specs.PageMap.{AreNoneMapped, AreAllMapped};
 ghost use Rattle.address_space.specs.Changing.{IsDuplicated, IsDuplicateAnswer};
 ghost use Rattle.address_space.specs.PageCopies.{ArePagesCopied};
 
@@ -100,8 +100,8 @@ impl Space {
         requires target { IsCanonicalRange target pages }
         requires source_within { source + pages ≤ 2 ^ 52 }
         requires target_within { target + pages ≤ 2 ^ 52 }
-        requires full { IsFull (map_of (tables_of self.old)) source pages }
-        requires clear { IsClear (map_of (tables_of self.old)) target pages }
+        requires full { AreAllMapped (page_map_of (tables_of self.old)) source pages }
+        requires clear { AreNoneMapped (page_map_of (tables_of self.old)) target pages }
         requires frames { HasFrames (tables_of self.old) target pages }
         ensures ok { OnOk result (IsDuplicated (tables_of self.old) (tables_of self.new) source pages target) }
         ensures err { OnErr result (tables_of self.new ≡ tables_of self.old) }

@@ -3,10 +3,10 @@ ghost use Rattle.std.specs.Prelude.{◌≡◌, ℕ, ◌+◌, ◌/◌, ◌^◌, �
 ghost use Rattle.paging_core.specs.Address.{IsCanonicalRange};
 ghost use Rattle.paging_core.specs.Missing.{missing_of};
 ghost use Rattle.paging_core.specs.Pool.{free_count};
-ghost use Rattle.address_space.specs.PageMap.{IsClear};
-ghost use Rattle.address_space.specs.Space.{map_of};
+ghost use Rattle.address_space.specs.PageMap.{AreNoneMapped};
+ghost use Rattle.address_space.specs.Space.{page_map_of};
 ghost use Rattle.address_space.specs.Seen.{tables_of};
-ghost use Rattle.address_space.specs.Mapping.{HasFrames, IsMapped, IsMapAnswer, IsPlaceAnswer};
+ghost use Rattle.address_space.specs.Mapping.{HasFrames, ArePagesMapped, IsMapAnswer, IsPlaceAnswer};
 
 use crate::range::{first_page, first_page_below};
 use crate::runs;
@@ -17,7 +17,7 @@ use paging_core::{Page, Rights};
 impl Space {
     /// Maps `pages` pages from the address on, with the rights and bytes that are 0. An `Err` changes nothing.
     pub fn map_at(&mut self, start: u64, pages: u64, rights: Rights) -> Result<(), SpaceFault>
-        ensures ok { OnOk result (IsMapped (tables_of self.old) (tables_of self.new) (start / 4096) pages rights) }
+        ensures ok { OnOk result (ArePagesMapped (tables_of self.old) (tables_of self.new) (start / 4096) pages rights) }
         ensures err { OnErr result (tables_of self.new ≡ tables_of self.old) }
         ensures causes { IsMapAnswer (tables_of self.old) start pages result }
     {
@@ -45,7 +45,7 @@ impl Space {
         pages: u64,
         rights: Rights,
     ) -> Result<u64, SpaceFault>
-        ensures ok { IfOk result (λ at. IsMapped (tables_of self.old) (tables_of self.new) (at / 4096) pages rights) }
+        ensures ok { IfOk result (λ at. ArePagesMapped (tables_of self.old) (tables_of self.new) (at / 4096) pages rights) }
         ensures err { OnErr result (tables_of self.new ≡ tables_of self.old) }
         ensures causes { IsPlaceAnswer (tables_of self.old) low high pages result }
     {

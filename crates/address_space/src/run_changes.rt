@@ -1,9 +1,9 @@
 //! Runs whose pages leave, get other rights, or are copied.
 ghost use Rattle.std.specs.Prelude.{◌≡◌, ◌+◌, ◌^◌, ◌<◌, ◌≤◌, true, false, IsSome, IfOk, IfErr, OnOk, OnErr};
 ghost use Rattle.meminterval.specs.Tree.{entries};
-ghost use Rattle.address_space.specs.Runs.{Follow, AreLongest, HasRun, rights_in, crosses};
-ghost use Rattle.address_space.specs.Joining.{IsAdded};
-ghost use Rattle.address_space.specs.RunChanges.{IsCut, AreTaken, IsRunSet, KeepsApart, IsParted, AreCopied, AreHeld, AreFree};
+ghost use Rattle.address_space.specs.Runs.{RunsFollow, AreLongest, HasRun, rights_in, crosses};
+ghost use Rattle.address_space.specs.Joining.{IsRunAdded};
+ghost use Rattle.address_space.specs.RunChanges.{IsCut, AreTaken, IsOwnRun, KeepsApart, IsParted, AreRightsCopied, AreInRuns, AreFree};
 
 use crate::runs::{Run, add, join, run_at, run_below};
 use meminterval::{Interval, IntervalTree};
@@ -39,7 +39,7 @@ fn split(
     requires run { HasRun (entries runs.old) run.start run.end run.rights }
     requires above { run.start < page }
     requires below { page < run.end }
-    ensures ok { OnOk result (IsRunSet (entries runs.old) (entries runs.new) page run.end rights) }
+    ensures ok { OnOk result (IsOwnRun (entries runs.old) (entries runs.new) page run.end rights) }
     ensures apart { OnOk result (KeepsApart (entries runs.old) (entries runs.new)) }
     ensures err { OnErr result (runs.new ≡ runs.old) }
 {
@@ -56,7 +56,7 @@ fn set_run(
     rights: Rights,
 ) -> Result<(), AllocError>
     requires run { HasRun (entries runs.old) run.start run.end run.rights }
-    ensures ok { OnOk result (IsRunSet (entries runs.old) (entries runs.new) run.start run.end rights) }
+    ensures ok { OnOk result (IsOwnRun (entries runs.old) (entries runs.new) run.start run.end rights) }
     ensures apart { OnOk result (KeepsApart (entries runs.old) (entries runs.new)) }
     ensures err { OnErr result (runs.new ≡ runs.old) }
 {
@@ -75,10 +75,10 @@ fn set_from(
     first: u64,
     rights: Rights,
 ) -> Result<u64, AllocError>
-    requires follow { Follow 0 (entries runs.old) (2 ^ 52) }
+    requires follow { RunsFollow 0 (entries runs.old) (2 ^ 52) }
     requires page { first < 2 ^ 52 }
     requires held { IsSome (rights_in (entries runs.old) first) }
-    ensures ok { IfOk result (λ end. IsRunSet (entries runs.old) (entries runs.new) first end rights) }
+    ensures ok { IfOk result (λ end. IsOwnRun (entries runs.old) (entries runs.new) first end rights) }
     ensures apart { OnOk result (KeepsApart (entries runs.old) (entries runs.new)) }
     ensures err { OnErr result (runs.new ≡ runs.old) }
 {
@@ -95,7 +95,7 @@ fn set_from(
 
 /// Lets a run begin at a page if one goes on over it. An `Err` changes nothing, and is possible only then.
 fn part(runs: &mut IntervalTree<u64, Rights>, alloc: Global, page: u64) -> Result<(), AllocError>
-    requires follow { Follow 0 (entries runs.old) (2 ^ 52) }
+    requires follow { RunsFollow 0 (entries runs.old) (2 ^ 52) }
     requires within { page ≤ 2 ^ 52 }
     ensures ok { OnOk result (IsParted (entries runs.old) (entries runs.new) page) }
     ensures err { OnErr result (runs.new ≡ runs.old) }
@@ -113,7 +113,7 @@ fn part(runs: &mut IntervalTree<u64, Rights>, alloc: Global, page: u64) -> Resul
 
 /// Takes the pages from `first` up to `end` out of all runs. No run goes on over `end`.
 fn take_out(runs: &mut IntervalTree<u64, Rights>, first: u64, end: u64)
-    requires follow { Follow 0 (entries runs.old) (2 ^ 52) }
+    requires follow { RunsFollow 0 (entries runs.old) (2 ^ 52) }
     requires order { first ≤ end }
     requires within { end ≤ 2 ^ 52 }
     requires apart { crosses (entries runs.old) end ≡ false }
@@ -138,7 +138,7 @@ pub(crate) fn take(
     first: u64,
     end: u64,
 ) -> Result<(), AllocError>
-    requires follow { Follow 0 (entries runs.old) (2 ^ 52) }
+    requires follow { RunsFollow 0 (entries runs.old) (2 ^ 52) }
     requires longest { AreLongest (entries runs.old) }
     requires some { first < end }
     requires within { end ≤ 2 ^ 52 }
@@ -158,7 +158,7 @@ fn spread(runs: &mut IntervalTree<u64, Rights>, run: Run, end: u64)
     requires within { end ≤ 2 ^ 52 }
     requires apart { crosses (entries runs.old) end ≡ false }
     requires begins { crosses (entries runs.old) run.start ≡ false }
-    ensures { IsRunSet (entries runs.old) (entries runs.new) run.start end run.rights }
+    ensures { IsOwnRun (entries runs.old) (entries runs.new) run.start end run.rights }
 {
     take_out(runs, run.end, end);
     runs.shorten(&Interval::new(run.start, run.end), end);
@@ -172,12 +172,12 @@ pub(crate) fn set_rights(
     end: u64,
     rights: Rights,
 ) -> Result<(), AllocError>
-    requires follow { Follow 0 (entries runs.old) (2 ^ 52) }
+    requires follow { RunsFollow 0 (entries runs.old) (2 ^ 52) }
     requires longest { AreLongest (entries runs.old) }
     requires some { first < end }
     requires within { end ≤ 2 ^ 52 }
-    requires held { AreHeld (entries runs.old) first end }
-    ensures ok { OnOk result (IsAdded (entries runs.old) (entries runs.new) first end rights) }
+    requires held { AreInRuns (entries runs.old) first end }
+    ensures ok { OnOk result (IsRunAdded (entries runs.old) (entries runs.new) first end rights) }
     ensures err { OnErr result (entries runs.new ≡ entries runs.old) }
 {
     part(runs, alloc, end)?;
@@ -209,13 +209,13 @@ pub(crate) fn copy(
     pages: u64,
     to: u64,
 ) -> Result<(), AllocError>
-    requires follow { Follow 0 (entries runs.old) (2 ^ 52) }
+    requires follow { RunsFollow 0 (entries runs.old) (2 ^ 52) }
     requires longest { AreLongest (entries runs.old) }
     requires source { from + pages ≤ 2 ^ 52 }
     requires target { to + pages ≤ 2 ^ 52 }
-    requires held { AreHeld (entries runs.old) from (from + pages) }
+    requires held { AreInRuns (entries runs.old) from (from + pages) }
     requires free { AreFree (entries runs.old) to (to + pages) }
-    ensures ok { OnOk result (AreCopied (entries runs.old) (entries runs.new) from pages to) }
+    ensures ok { OnOk result (AreRightsCopied (entries runs.old) (entries runs.new) from pages to) }
     ensures err { OnErr result (entries runs.new ≡ entries runs.old) }
 {
     let mut done = 0;

@@ -5,9 +5,9 @@ ghost use Rattle.paging_core.specs.Memory.{frame_count};
 ghost use Rattle.paging_core.specs.Pool.{free_count};
 ghost use Rattle.meminterval.specs.Tree.{entries};
 ghost use Rattle.address_space.specs.Runs.{areas_of};
-ghost use Rattle.address_space.specs.Space.{AreTablesKept, AreTablesKept-prop, map_of};
-ghost use Rattle.address_space.specs.PageMap.{IsClear, IsPagePlace, HasNoPagePlace};
-ghost use Rattle.address_space.specs.Mapping.{HasFrames, IsMapped};
+ghost use Rattle.address_space.specs.Space.{AreTablesKept, AreTablesKept-prop, page_map_of};
+ghost use Rattle.address_space.specs.PageMap.{AreNoneMapped, IsPagePlace, HasNoPagePlace};
+ghost use Rattle.address_space.specs.Mapping.{HasFrames, ArePagesMapped};
 
 use crate::area::AreaList;
 use crate::runs;
@@ -88,7 +88,7 @@ impl Space {
     pub(crate) fn is_clear(&self, first: Page, pages: u64) -> bool
         requires some { 0 < pages }
         requires within { first + pages ≤ 2 ^ 52 }
-        ensures { IsTrue result ↔ IsClear (map_of (tables_of self.now)) first pages }
+        ensures { IsTrue result ↔ AreNoneMapped (page_map_of (tables_of self.now)) first pages }
     {
         runs::is_clear(&self.runs, first.number(), first.number() + pages)
     }
@@ -98,9 +98,9 @@ impl Space {
         requires some { 0 < pages }
         requires window { end ≤ 2 ^ 52 }
         requires range { IsCanonicalRange base (end - base) }
-        ensures place { IfSome result (IsPagePlace (map_of (tables_of self.now)).rights base end pages) }
+        ensures place { IfSome result (IsPagePlace (page_map_of (tables_of self.now)).rights base end pages) }
         ensures range { IfSome result (λ first. IsCanonicalRange first pages) }
-        ensures none { IfNone result (HasNoPagePlace (map_of (tables_of self.now)).rights base end pages) }
+        ensures none { IfNone result (HasNoPagePlace (page_map_of (tables_of self.now)).rights base end pages) }
     {
         let Some(number) = runs::lowest_place(&self.runs, base.number(), end, pages) else {
             return None;
@@ -129,9 +129,9 @@ impl Space {
     ) -> Result<(), AllocError>
         requires range { IsCanonicalRange first pages }
         requires within { first + pages ≤ 2 ^ 52 }
-        requires clear { IsClear (map_of (tables_of self.old)) first pages }
+        requires clear { AreNoneMapped (page_map_of (tables_of self.old)) first pages }
         requires frames { HasFrames (tables_of self.old) first pages }
-        ensures ok { OnOk result (IsMapped (tables_of self.old) (tables_of self.new) first pages rights) }
+        ensures ok { OnOk result (ArePagesMapped (tables_of self.old) (tables_of self.new) first pages rights) }
         ensures err { OnErr result (tables_of self.new ≡ tables_of self.old) }
     {
         let number = first.number();

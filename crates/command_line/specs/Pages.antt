@@ -17,5 +17,5 @@ page_named pages (word ∷ other ∷ []) = if is_help word && bytes_eq other (co
 page_named pages words = None
 
 -- the page that these words ask for, if they do
-abbrev pub page_of : Pages → List (String Global) → Option (List ℕ)
-page_of pages words = page_named pages (map string_bytes words)
+abbrev pub asked_page : Pages → List (String Global) → Option (List ℕ)
+asked_page pages words = page_named pages (map string_bytes words)

@@ -1,6 +1,6 @@
 // The texts that a program prints of itself.
 ghost use Rattle.std.specs.Prelude.{◌≡◌, option_copied, string_bytes};
-ghost use Rattle.command_line.specs.Pages.{is_help, page_of};
+ghost use Rattle.command_line.specs.Pages.{is_help, asked_page};
 
 /// The texts that a program prints of itself.
 #[derive(Clone, Copy, Debug)]
@@ -21,7 +21,7 @@ fn is_help(word: &String) -> bool
 
 /// The page that these words ask for, if they do.
 pub fn page_of(pages: &Pages, words: &[String]) -> Option<&'static str>
-    ensures { option_copied result ≡ page_of pages.now words.now }
+    ensures { option_copied result ≡ asked_page pages.now words.now }
 {
     match words {
         [word] if is_help(word) => Some(pages.help),

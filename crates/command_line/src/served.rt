@@ -3,7 +3,7 @@ ghost use Rattle.std.specs.Prelude.{◌≡◌, ◌<◌, ◌≤◌, IfOk, IfErr, 
 ghost use Rattle.std.specs.Process.{exit_status};
 ghost use Rattle.heap_program.specs.Faults.{HasRisen};
 ghost use Rattle.command_line.specs.Process.{IsStatusTold};
-ghost use Rattle.command_line.specs.Served.{IsServed, IsUnread};
+ghost use Rattle.command_line.specs.Served.{AreWordsServed, IsUnread};
 ghost use Rattle.heap_program.specs.Streams.{streams};
 
 use crate::command::Command;
@@ -22,7 +22,7 @@ fn serve<C: Command, S: Source, K: Sink>(
     source: &mut S,
     sink: &mut K,
 ) -> u8
-    ensures { IsServed C.comes (streams S.left S.faults K.taken K.flushed K.faults) K.needs_memory pages.now words.now source.old source.new sink.old sink.new result }
+    ensures { AreWordsServed C.comes (streams S.left S.faults K.taken K.flushed K.faults) K.needs_memory pages.now words.now source.old source.new sink.old sink.new result }
 {
     match page_of(pages, words) {
         Some(text) => show(sink, text),
@@ -41,7 +41,7 @@ pub fn program<C: Command, S: Source, K: Sink, E: Sink>(
     errors: &mut E,
 ) -> ExitCode
     ensures served { IfOk arguments (λ all.
-        IsServed C.comes (streams S.left S.faults K.taken K.flushed K.faults) K.needs_memory pages.now (drop 1 all.items) source.old source.new sink.old sink.new (exit_status result)) }
+        AreWordsServed C.comes (streams S.left S.faults K.taken K.flushed K.faults) K.needs_memory pages.now (drop 1 all.items) source.old source.new sink.old sink.new (exit_status result)) }
     ensures unread { IfErr arguments (λ error. IsUnread error source.old source.new sink.old sink.new (exit_status result)) }
 
     // What a status other than 0 means is told where errors go.

@@ -12,19 +12,20 @@ use Rattle.heap_cells.specs.declared.scale.Row.{Row}
 use Rattle.heap_cells.specs.declared.sums.Change.{Change}
 use Rattle.heap_cells.specs.declared.sums.Change.TheVariants.{Comes, Goes}
 use Rattle.heap_cells.specs.Spans.{shows, overlap, used_in}
-use Rattle.heap_cells.specs.Shades.{columns_of, calls_at, shade_of, cell_shade}
-use Rattle.heap_cells.specs.Changes.{first_column, call_of, changed}
+use Rattle.heap_cells.specs.Shades.{cell_columns, calls_at, shade_of, cell_shade}
+use Rattle.heap_cells.specs.Changes.{first_column, change_call, changed_bytes}
 use Rattle.heap_cells.proofs.Totals.{sums_joined, sums_least, sums_none}
 
 -- the bytes of a row that have come, or gone, in the first so many columns
 abbrev pub changed_before : Scale → Change → Row → List Span → ℕ → ℕ
-changed_before scale change row spans column = sum_by (λ span. if nat_lt (first_column scale (call_of change span)) column
+changed_before scale change row spans column = sum_by (λ span. if nat_lt (first_column scale (change_call change span))
+    column
     then overlap row.low row.high span else 0) spans
 
 -- in no column nothing has
 pub before_none : (scale : Scale) (change : Change) (row : Row) (spans : List Span) → changed_before scale change row spans 0 ≡ 0
 before_none scale change row spans =
-    sums_none (λ span. if nat_lt (first_column scale (call_of change span)) 0 then overlap row.low row.high span else 0)
+    sums_none (λ span. if nat_lt (first_column scale (change_call change span)) 0 then overlap row.low row.high span else 0)
     (λ span. grind (arith, nat_tests)) spans
 
 one_more : (f c n : ℕ) → (if nat_lt f c then n else 0) + (if nat_eq c f then n else 0) ≡ (if nat_lt f (c + 1) then n else 0)
@@ -32,12 +33,13 @@ one_more f c n = grind (arith, nat_tests)
 
 -- in one column more what changes in it has
 pub before_step : (scale : Scale) (change : Change) (row : Row) (spans : List Span) (column : ℕ) →
-    changed_before scale change row spans column + changed scale change row spans column ≡ changed_before scale change row spans (column + 1)
+    changed_before scale change row spans column + changed_bytes scale change row spans column ≡ changed_before scale change row spans (column + 1)
 before_step scale change row spans column =
-    sums_joined (λ span. if nat_lt (first_column scale (call_of change span)) column then overlap row.low row.high span else 0)
-    (λ span. if nat_eq column (first_column scale (call_of change span)) then overlap row.low row.high span else 0)
-    (λ span. if nat_lt (first_column scale (call_of change span)) (column + 1) then overlap row.low row.high span else 0)
-    (λ span. one_more (first_column scale (call_of change span)) column (overlap row.low row.high span)) spans
+    sums_joined (λ span. if nat_lt (first_column scale (change_call change span)) column then overlap row.low row.high span else 0)
+    (λ span. if nat_eq column (first_column scale (change_call change span)) then overlap row.low row.high span else 0)
+    (λ span. if nat_lt (first_column scale (change_call change span)) (column + 1) then overlap row.low row.high span
+    else 0)
+    (λ span. one_more (first_column scale (change_call change span)) column (overlap row.low row.high span)) spans
 
 at_most : (b : Bool) (n : ℕ) → (if b then n else 0) ≤ n
 at_most true n = omega arith
@@ -45,16 +47,16 @@ at_most false n = omega arith
 
 -- no more comes or goes than there is
 pub changed_few : (scale : Scale) (change : Change) (row : Row) (spans : List Span) (column : ℕ) →
-    changed scale change row spans column ≤ sum_by (overlap row.low row.high) spans
+    changed_bytes scale change row spans column ≤ sum_by (overlap row.low row.high) spans
 changed_few scale change row spans column =
-    sums_least (λ span. if nat_eq column (first_column scale (call_of change span)) then overlap row.low row.high span else 0) (overlap row.low row.high)
-    (λ span. at_most (nat_eq column (first_column scale (call_of change span))) (overlap row.low row.high span)) spans
+    sums_least (λ span. if nat_eq column (first_column scale (change_call change span)) then overlap row.low row.high span else 0) (overlap row.low row.high)
+    (λ span. at_most (nat_eq column (first_column scale (change_call change span))) (overlap row.low row.high span)) spans
 
 pub before_few : (scale : Scale) (change : Change) (row : Row) (spans : List Span) (column : ℕ) →
     changed_before scale change row spans column ≤ sum_by (overlap row.low row.high) spans
 before_few scale change row spans column =
-    sums_least (λ span. if nat_lt (first_column scale (call_of change span)) column then overlap row.low row.high span else 0) (overlap row.low row.high)
-    (λ span. at_most (nat_lt (first_column scale (call_of change span)) column) (overlap row.low row.high span)) spans
+    sums_least (λ span. if nat_lt (first_column scale (change_call change span)) column then overlap row.low row.high span else 0) (overlap row.low row.high)
+    (λ span. at_most (nat_lt (first_column scale (change_call change span)) column) (overlap row.low row.high span)) spans
 
 same_test : (a b c d : ℕ) → (a < b → c < d) → (c < d → a < b) → nat_lt a b ≡ nat_lt c d
 same_test a b c d to from = go (nat_lt a b) (nat_lt c d) refl refl
@@ -90,19 +92,19 @@ after_first call column calls columns some wide less =
     div_below ((call + 1) * columns - 1) calls (column + 1) some (omega (arith, least, positive, wide))
 
 -- a column shows the heap after a call if it is the first that does, or right of it
-pub shown_from : (scale : Scale) (call column : ℕ) → 0 < scale.calls → 1 ≤ columns_of scale →
+pub shown_from : (scale : Scale) (call column : ℕ) → 0 < scale.calls → 1 ≤ cell_columns scale →
     nat_lt (first_column scale call) (column + 1) ≡ nat_lt call (calls_at scale column)
 shown_from scale call column some wide =
     same_test (first_column scale call) (column + 1) call (calls_at scale column)
-    (first_after call column scale.calls (columns_of scale) some wide)
-    (after_first call column scale.calls (columns_of scale) some wide)
+    (first_after call column scale.calls (cell_columns scale) some wide)
+    (after_first call column scale.calls (cell_columns scale) some wide)
 
 one_shown : (born end calls n : ℕ) → (if nat_lt born calls && nat_le calls end then n else 0) + (if nat_lt (max born end)
     calls then n else 0) ≡ (if nat_lt born calls then n else 0)
 one_shown born end calls n = grind (arith, nat_tests)
 
 -- what shows in a column, and what has gone, is what has come
-pub shown_in : (scale : Scale) (row : Row) (spans : List Span) (column : ℕ) → 0 < scale.calls → 1 ≤ columns_of scale →
+pub shown_in : (scale : Scale) (row : Row) (spans : List Span) (column : ℕ) → 0 < scale.calls → 1 ≤ cell_columns scale →
     used_in row.low row.high (calls_at scale column) spans + changed_before scale Goes row spans
     (column + 1) ≡ changed_before scale Comes row spans (column + 1)
 shown_in scale row spans column some wide =
@@ -125,7 +127,7 @@ shown_in scale row spans column some wide =
 -- the sum so far, with what changes in the next column
 pub next_before : (scale : Scale) (change : Change) (row : Row) (spans : List Span) (sums : List ℕ)
     (column before one : ℕ) → before ≡ changed_before scale change row spans column →
-    column < length sums → one ≡ get_or sums column one → get_or sums column 0 ≡ changed scale change row spans column →
+    column < length sums → one ≡ get_or sums column one → get_or sums column 0 ≡ changed_bytes scale change row spans column →
     before + one ≡ changed_before scale change row spans (column + 1)
 next_before scale change row spans sums column before one so_far within is changes =
     let more = before_step scale change row spans column in
@@ -133,7 +135,7 @@ next_before scale change row spans sums column before one so_far within is chang
     omega (arith, so_far, is, same, changes, more)
 
 -- the shade of a cell, by what has come and what has gone
-pub shade_is : (scale : Scale) (shades : ℕ) (row : Row) (spans : List Span) (column since until : ℕ) → 0 < scale.calls → 1 ≤ columns_of scale →
+pub shade_is : (scale : Scale) (shades : ℕ) (row : Row) (spans : List Span) (column since until : ℕ) → 0 < scale.calls → 1 ≤ cell_columns scale →
     since ≡ changed_before scale Comes row spans (column + 1) → until ≡ changed_before scale Goes row spans (column + 1) →
     shade_of shades (since - until) (row.high - row.low) ≡ cell_shade scale shades row spans column
 shade_is scale shades row spans column since until some wide came went =

@@ -7,7 +7,7 @@ use Rattle.std.proofs.lemmas.List.{append-nil}
 use Rattle.std.proofs.lemmas.List.Sums.{sum_by-append}
 use Rattle.std.proofs.Math.Nat.{mul-le-mul_left}
 use Rattle.heap_cells.specs.declared.bars.Bar.{Bar}
-use Rattle.heap_cells.specs.Bars.{bar_of, bars_from, shade_at, IsLeftOf, AreApart, BarsAreCells}
+use Rattle.heap_cells.specs.Bars.{bar_of, bars_from, shade_at, IsLeftOf, AreBarsApart, BarsAreCells}
 
 -- whether a pixel of a column is in the pixels of columns is whether the column is one of them
 same_tests : (first pixel width start column next shade : ℕ) → (start ≤ column → first ≤ pixel) →
@@ -174,27 +174,28 @@ left_of side y start next shade one (bar ∷ bars) order differs after =
     (omega (arith, wide, place), λ touches same. differs (sym (after.1 (omega (arith, wide, touches))) ∙ sym same))
 
 apart_bar : (side y start next shade one : ℕ) (bars : List Bar) → start ≤ next → (one ≡ shade → ⊥) →
-    Begins side next one bars → AreApart bars → AreApart (bar_of side y start next shade ++ bars)
+    Begins side next one bars → AreBarsApart bars → AreBarsApart (bar_of side y start next shade ++ bars)
 apart_bar side y start next shade one bars order differs after rest = go (nat_eq shade 0)
   where
-    go : (b : Bool) → AreApart ((if b then [] else record { x = 144 + side * start; y = y; width = side * (next - start); shade = shade } ∷ []) ++ bars)
+    go : (b : Bool) → AreBarsApart ((if b then [] else record { x = 144 + side * start; y = y; width = side * (next - start); shade = shade } ∷ []) ++ bars)
     go true = rest
     go false = (left_of side y start next shade one bars order differs after, rest)
 
-last_apart : (side y start next shade : ℕ) → AreApart (bar_of side y start next shade)
+last_apart : (side y start next shade : ℕ) → AreBarsApart (bar_of side y start next shade)
 last_apart side y start next shade = go (nat_eq shade 0)
   where
-    go : (b : Bool) → AreApart (if b then [] else record { x = 144 + side * start; y = y; width = side * (next - start); shade = shade } ∷ [])
+    go : (b : Bool) → AreBarsApart (if b then [] else record { x = 144 + side * start; y = y; width = side * (next - start); shade = shade } ∷ [])
     go true = tt
     go false = (tt, tt)
 
-apart : (side y start next shade : ℕ) (rest : List ℕ) → 0 < side → start ≤ next → AreApart (bars_from side y start next shade rest)
+apart : (side y start next shade : ℕ) (rest : List ℕ) → 0 < side → start ≤ next → AreBarsApart (bars_from side y start next shade rest)
 apart side y start next shade [] some order = last_apart side y start next shade
 apart side y start next shade (one ∷ rest) some order =
     go (nat_eq one shade) refl (apart side y start (next + 1) shade rest some (omega (arith, order))) (apart side y next (next + 1) one rest some (omega arith))
   where
-    go : (b : Bool) → nat_eq one shade ≡ b → AreApart (bars_from side y start (next + 1) shade rest) → AreApart (bars_from side y next (next + 1) one rest) →
-        AreApart (if b then bars_from side y start (next + 1) shade rest else bar_of side y start next shade ++ bars_from side y next (next + 1) one rest)
+    go : (b : Bool) → nat_eq one shade ≡ b → AreBarsApart (bars_from side y start (next + 1) shade rest) →
+        AreBarsApart (bars_from side y next (next + 1) one rest) →
+        AreBarsApart (if b then bars_from side y start (next + 1) shade rest else bar_of side y start next shade ++ bars_from side y next (next + 1) one rest)
     go true is on other = on
     go false is on other =
         apart_bar side y start next shade one (bars_from side y next (next + 1) one rest) order

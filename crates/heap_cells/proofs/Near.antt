@@ -13,7 +13,7 @@ use Rattle.heap_cells.specs.declared.scale.Scale.{Scale}
 use Rattle.heap_cells.specs.declared.scale.Row.{Row}
 use Rattle.heap_cells.specs.declared.bars.Bar.{Bar}
 use Rattle.heap_cells.specs.Spans.{shows, overlap, spans_in, used_in}
-use Rattle.heap_cells.specs.Shades.{columns_of, calls_at, shade_of, cell_shade, first_shades, row_shades}
+use Rattle.heap_cells.specs.Shades.{cell_columns, calls_at, shade_of, cell_shade, first_shades, row_shades}
 use Rattle.heap_cells.specs.Bars.{bars_of}
 use Rattle.heap_cells.specs.Rows.{rows_of, row_start, row_at, row_bars, rows_from}
 
@@ -54,7 +54,7 @@ pub row_near : (low high : ℕ) (scale : Scale) (shades : ℕ) (row : Row) (span
     row_bars scale shades row (spans_in low high spans) ≡ row_bars scale shades row spans
 unfolding row_shades
 row_near low high scale shades row spans before after = ap (bars_of scale.side row.y)
-    (shades_near low high scale shades row spans (columns_of scale) before after)
+    (shades_near low high scale shades row spans (cell_columns scale) before after)
 
 start_least : (scale : Scale) (band : Band) (one other : ℕ) → 0 < rows_of scale band → one ≤ other → row_start scale band one ≤ row_start scale band other
 start_least scale band one other some less =

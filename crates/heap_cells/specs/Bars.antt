@@ -28,14 +28,14 @@ IsLeftOf bar [] = Unit {0}
 IsLeftOf bar (next ∷ rest) = (bar.x + bar.width ≤ next.x) × (bar.x + bar.width ≡ next.x → bar.shade ≢ next.shade)
 
 -- bars are in order, and each is as long as it can be
-abbrev pub AreApart : List Bar → Type 0
-AreApart [] = Unit {0}
-AreApart (bar ∷ bars) = IsLeftOf bar bars × AreApart bars
+abbrev pub AreBarsApart : List Bar → Type 0
+AreBarsApart [] = Unit {0}
+AreBarsApart (bar ∷ bars) = IsLeftOf bar bars × AreBarsApart bars
 
 -- the bars of a row give each cell its shade, and neighbours of one shade are one bar
 pub record AreCells (side y : ℕ) (shades : List ℕ) : Type 0 where
   pub each : (column : ℕ) → shade_at (144 + side * column) (bars_of side y shades) ≡ get_or shades column 0
-  pub apart : AreApart (bars_of side y shades)
+  pub apart : AreBarsApart (bars_of side y shades)
 
 abbrev pub BarsAreCells : Type 0
 BarsAreCells = (side y : ℕ) (shades : List ℕ) → 0 < side → AreCells side y shades

@@ -7,17 +7,17 @@ use Rattle.heap_cells.specs.declared.sums.Change.TheVariants.{Comes, Goes}
 use Rattle.heap_cells.specs.declared.scale.Scale.{Scale}
 use Rattle.heap_cells.specs.declared.scale.Row.{Row}
 use Rattle.heap_cells.specs.Spans.{overlap}
-use Rattle.heap_cells.specs.Shades.{columns_of}
+use Rattle.heap_cells.specs.Shades.{cell_columns}
 
 -- the first column that shows the heap after a call
 abbrev pub first_column : Scale → ℕ → ℕ
-first_column scale call = ((call + 1) * columns_of scale - 1) / scale.calls
+first_column scale call = ((call + 1) * cell_columns scale - 1) / scale.calls
 
 -- the call with which a span comes, and the one with which it goes; one that ends before it is born goes at once
-abbrev pub call_of : Change → Span → ℕ
-call_of Comes span = span.born
-call_of Goes span = max span.born span.end
+abbrev pub change_call : Change → Span → ℕ
+change_call Comes span = span.born
+change_call Goes span = max span.born span.end
 
 -- the bytes of a row that first are there, or no longer are, in a column
-abbrev pub changed : Scale → Change → Row → List Span → ℕ → ℕ
-changed scale change row spans column = sum_by (λ span. if nat_eq column (first_column scale (call_of change span)) then overlap row.low row.high span else 0) spans
+abbrev pub changed_bytes : Scale → Change → Row → List Span → ℕ → ℕ
+changed_bytes scale change row spans column = sum_by (λ span. if nat_eq column (first_column scale (change_call change span)) then overlap row.low row.high span else 0) spans

@@ -6,12 +6,12 @@ use Rattle.heap_cells.specs.declared.scale.Row.{Row}
 use Rattle.heap_cells.specs.Spans.{used_in}
 
 -- the columns of all cells: they are 1024 pixels wide together
-abbrev pub columns_of : Scale → ℕ
-columns_of scale = 1024 / scale.side
+abbrev pub cell_columns : Scale → ℕ
+cell_columns scale = 1024 / scale.side
 
 -- The calls after which a column shows the heap: that is the state after the last call of those that lie in it or left of it, and no mean.
 abbrev pub calls_at : Scale → ℕ → ℕ
-calls_at scale column = (column + 1) * scale.calls / columns_of scale
+calls_at scale column = (column + 1) * scale.calls / cell_columns scale
 
 -- The shade of a cell of which `used` bytes are used: their part of the cell, in `shades` steps, rounded up.
 abbrev pub shade_of : ℕ → ℕ → ℕ → ℕ
@@ -28,7 +28,7 @@ first_shades scale shades row spans (suc column) = first_shades scale shades row
 
 -- the shades of all cells of a row
 unfoldable pub row_shades : Scale → ℕ → Row → List Span → List ℕ
-row_shades scale shades row spans = first_shades scale shades row spans (columns_of scale)
+row_shades scale shades row spans = first_shades scale shades row spans (cell_columns scale)
 
 -- a shade is the share of used bytes, rounded up: the least one that is no less
 pub record IsShare (shades used bytes : ℕ) : Type 0 where

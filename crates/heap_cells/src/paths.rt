@@ -1,14 +1,14 @@
 // Bars as paths of an SVG document.
 ghost use Rattle.std.specs.Prelude.{◌≡◌, ◌++◌, OnOk, string_bytes};
-ghost use Rattle.heap_cells.specs.Paths.{bar_text, bars_text, path_front, plain_end, shade_end, heap_path, shade_path, paths_text};
+ghost use Rattle.heap_cells.specs.Paths.{bar_path, shade_bars_text, bars_path_front, plain_end, shade_end, heap_path, shade_path, paths_text};
 
 use crate::bars::Bar;
 use std::alloc::AllocError;
 
 // Puts a bar at the end, as a line.
-#[tactic(auto, unfolding(crate::specs::Paths::bar_text))]
+#[tactic(auto, unfolding(crate::specs::Paths::bar_path))]
 fn push_bar_text(out: &mut String, bar: Bar) -> Result<(), AllocError>
-    ensures { OnOk result (string_bytes out.new ≡ string_bytes out.old ++ bar_text bar) }
+    ensures { OnOk result (string_bytes out.new ≡ string_bytes out.old ++ bar_path bar) }
 {
     let (x, y, width) = (bar.x, bar.y, bar.width);
     write!(out, "M{x} {y}h{width}")
@@ -16,7 +16,7 @@ fn push_bar_text(out: &mut String, bar: Bar) -> Result<(), AllocError>
 
 // Puts the bars of a shade at the end.
 fn push_bars_text(out: &mut String, shade: u128, bars: &[Bar]) -> Result<(), AllocError>
-    ensures { OnOk result (string_bytes out.new ≡ string_bytes out.old ++ bars_text shade bars.now) }
+    ensures { OnOk result (string_bytes out.new ≡ string_bytes out.old ++ shade_bars_text shade bars.now) }
 {
     for bar in bars {
         if bar.shade == shade {
@@ -27,9 +27,9 @@ fn push_bars_text(out: &mut String, shade: u128, bars: &[Bar]) -> Result<(), All
 }
 
 // Puts the front of a path at the end.
-#[tactic(auto, unfolding(crate::specs::Paths::path_front))]
+#[tactic(auto, unfolding(crate::specs::Paths::bars_path_front))]
 fn push_front(out: &mut String, class: &str) -> Result<(), AllocError>
-    ensures { OnOk result (string_bytes out.new ≡ string_bytes out.old ++ path_front class.now) }
+    ensures { OnOk result (string_bytes out.new ≡ string_bytes out.old ++ bars_path_front class.now) }
 {
     write!(out, "<path class=\"{class}\" d=\"")
 }

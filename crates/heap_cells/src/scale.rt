@@ -1,6 +1,6 @@
 // How a run is cut into cells.
 ghost use Rattle.std.specs.Prelude.{◌≡◌, ◌<◌, ◌≤◌};
-ghost use Rattle.heap_cells.specs.Shades.{columns_of};
+ghost use Rattle.heap_cells.specs.Shades.{cell_columns};
 
 /// How a run is cut into cells.
 #[derive(Clone, Copy, PartialEq, Eq, Debug)]
@@ -25,7 +25,7 @@ pub struct Row {
 /// The number of columns.
 pub fn columns_of(scale: Scale) -> u64
     requires { (2 ≤ scale.side) × (scale.side ≤ 8) }
-    ensures value { result ≡ columns_of scale }
+    ensures value { result ≡ cell_columns scale }
     ensures some { (1 ≤ result) × (result ≤ 512) }
 {
     1024 / scale.side

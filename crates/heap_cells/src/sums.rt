@@ -2,8 +2,8 @@
 ghost use Rattle.std.specs.Prelude.{◌≡◌, ◌<◌, ◌≤◌, ◌+◌, ◌^◌, ℕ, nat_eq, if◌then◌else◌, IfOk, slice_index, vec_len};
 ghost use Rattle.std.specs.List.{sum_by};
 ghost use Rattle.heap_cells.specs.Spans.{overlap};
-ghost use Rattle.heap_cells.specs.Shades.{columns_of};
-ghost use Rattle.heap_cells.specs.Changes.{first_column, call_of, changed};
+ghost use Rattle.heap_cells.specs.Shades.{cell_columns};
+ghost use Rattle.heap_cells.specs.Changes.{first_column, change_call, changed_bytes};
 
 use crate::scale::{Row, Scale, columns_of};
 use crate::spans::{Span, overlap};
@@ -18,7 +18,7 @@ pub enum Change {
 
 // The call with which it happens.
 fn call_of(change: Change, span: Span) -> u64
-    ensures { result ≡ call_of change span }
+    ensures { result ≡ change_call change span }
 {
     match change {
         Change::Comes => span.born,
@@ -41,7 +41,7 @@ fn count(sums: &mut Vec<u128>, scale: Scale, change: Change, row: Row, span: Spa
     requires calls { 0 < scale.calls }
     requires side { (2 ≤ scale.side) × (scale.side ≤ 8) }
     requires small { (k : ℕ) → k < vec_len sums.old → slice_index sums.old.items k ≤ 2 ^ 127 }
-    ensures each { (k : ℕ) → k < vec_len sums.old → slice_index sums.new.items k ≡ slice_index sums.old.items k + (if nat_eq k (first_column scale (call_of change span)) then overlap row.low row.high span else 0) }
+    ensures each { (k : ℕ) → k < vec_len sums.old → slice_index sums.new.items k ≡ slice_index sums.old.items k + (if nat_eq k (first_column scale (change_call change span)) then overlap row.low row.high span else 0) }
     ensures length { vec_len sums.new ≡ vec_len sums.old }
     ensures few { overlap row.low row.high span < 2 ^ 64 }
 {
@@ -65,8 +65,8 @@ pub fn changes(
 ) -> Result<Vec<u128>, AllocError>
     requires calls { 0 < scale.calls }
     requires side { (2 ≤ scale.side) × (scale.side ≤ 8) }
-    ensures each { IfOk result (λ sums. (k : ℕ) → k < columns_of scale → slice_index sums.items k ≡ changed scale change row spans.now k) }
-    ensures length { IfOk result (λ sums. vec_len sums ≡ columns_of scale) }
+    ensures each { IfOk result (λ sums. (k : ℕ) → k < cell_columns scale → slice_index sums.items k ≡ changed_bytes scale change row spans.now k) }
+    ensures length { IfOk result (λ sums. vec_len sums ≡ cell_columns scale) }
     ensures few { IfOk result (λ sums. sum_by (overlap row.low row.high) spans.now < 2 ^ 127) }
 {
     let mut sums = vec![in alloc; 0u128; columns_of(scale) as usize]?;

@@ -2,7 +2,7 @@
 use Rattle.std.proofs.Common.{◌≡◌, ◌≤◌, ℕ, zero, suc, ◌+◌, ◌-◌, max, List, [], ◌∷◌, take, drop, refl, sym, ◌∙◌, ap, arith}
 use Rattle.heap_history.specs.declared.history.Moment.{Moment}
 use Rattle.heap_curves.specs.declared.columns.Counted.{Counted}
-use Rattle.heap_curves.specs.Columns.{bytes_of, greatest}
+use Rattle.heap_curves.specs.Columns.{bytes_counted, greatest}
 
 none_taken : (counted : Counted) (n : ℕ) → greatest counted (take n []) ≡ 0
 none_taken counted zero = refl
@@ -26,7 +26,7 @@ split counted moments zero d = ap (λ (n : ℕ). greatest counted (take n moment
 split counted [] (suc s) d = none_taken counted (suc s + d) ∙ sym (ap (λ (n : ℕ). max n 0) (none_taken counted d))
 split counted (m ∷ ms) (suc s) d =
     ap (λ (n : ℕ). greatest counted (take n (m ∷ ms))) (after_one s d)
-    ∙ turned (bytes_of counted m) (greatest counted (take (s + d) ms)) (greatest counted (take d (drop s ms)))
+    ∙ turned (bytes_counted counted m) (greatest counted (take (s + d) ms)) (greatest counted (take d (drop s ms)))
     (greatest counted (take s ms)) (split counted ms s d)
 
 pub greatest_split : (counted : Counted) (moments : List Moment) (s e : ℕ) → s ≤ e →

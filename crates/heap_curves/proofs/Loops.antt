@@ -10,15 +10,15 @@ use Rattle.heap_curves.specs.declared.columns.Counted.{Counted}
 use Rattle.heap_curves.specs.declared.columns.Column.{Column}
 use Rattle.heap_curves.specs.declared.paths.Curve.{Curve}
 use Rattle.heap_curves.specs.declared.paths.Scale.{Scale}
-use Rattle.heap_curves.specs.Columns.{bytes_of, greatest, column_of, first_columns}
+use Rattle.heap_curves.specs.Columns.{bytes_counted, greatest, column_of, first_columns}
 use Rattle.heap_curves.specs.Paths.{height_of, curve_bytes, step_text, steps_text}
 use Rattle.heap_curves.specs.Addresses.{start_from, least_start}
-use Rattle.heap_curves.specs.Lanes.{region_right, region_text, is_drawn, regions_text, lanes_from, lane_text, more_text, lanes_text, lanes_height, height_from}
-use Rattle.heap_curves.specs.Refused.{bar_of, bar_text, bars_from}
-use Rattle.heap_curves.specs.Calls.{line_text, lines_text, most_letters, step_from, step_of, tick_text, ticks_text}
+use Rattle.heap_curves.specs.Lanes.{region_right, region_text, is_drawn, lane_regions_text, lanes_from, lane_text, more_addresses_text, lanes_text, lanes_height, height_from}
+use Rattle.heap_curves.specs.Refused.{refused_column, refused_column_text, refused_columns_from}
+use Rattle.heap_curves.specs.Calls.{call_line_text, call_lines_text, most_letters, step_from, calls_per_tick, call_tick_text, call_ticks_text}
 
 pub greatest_step : (counted : Counted) (moments : List Moment) (i : ℕ) (d : Moment) → i < length moments →
-    greatest counted (drop i moments) ≡ max (bytes_of counted (get_or moments i d)) (greatest counted (drop (i + 1) moments))
+    greatest counted (drop i moments) ≡ max (bytes_counted counted (get_or moments i d)) (greatest counted (drop (i + 1) moments))
 greatest_step counted moments i d within = at_drop_more (greatest counted) moments i d within
 
 pub greatest_last : (counted : Counted) (moments : List Moment) (i : ℕ) → length moments ≤ i → greatest counted (drop i moments) ≡ 0
@@ -39,14 +39,15 @@ pub steps_last : (curve : Curve) (scale : Scale) (number place height : ℕ) (co
 steps_last curve scale number place height columns i all = at_drop_all (steps_text curve scale number place height) columns i all
 
 pub regions_step : (calls y start drawn : ℕ) (users : List Mapping) (i : ℕ) (d : Mapping) → i < length users →
-    regions_text calls y start drawn (drop i users) ≡ (if is_drawn calls start drawn (get_or users i d) then region_text
-    calls y (get_or users i d) ++ regions_text calls y start (region_right calls (get_or users i d))
+    lane_regions_text calls y start drawn (drop i users) ≡ (if is_drawn calls start drawn (get_or users i d)
+    then region_text
+    calls y (get_or users i d) ++ lane_regions_text calls y start (region_right calls (get_or users i d))
     (drop (i + 1) users)
-    else regions_text calls y start drawn (drop (i + 1) users))
-regions_step calls y start drawn users i d within = at_drop_more (regions_text calls y start drawn) users i d within
+    else lane_regions_text calls y start drawn (drop (i + 1) users))
+regions_step calls y start drawn users i d within = at_drop_more (lane_regions_text calls y start drawn) users i d within
 
-pub regions_last : (calls y start drawn : ℕ) (users : List Mapping) (i : ℕ) → length users ≤ i → regions_text calls y start drawn (drop i users) ≡ []
-regions_last calls y start drawn users i all = at_drop_all (regions_text calls y start drawn) users i all
+pub regions_last : (calls y start drawn : ℕ) (users : List Mapping) (i : ℕ) → length users ≤ i → lane_regions_text calls y start drawn (drop i users) ≡ []
+regions_last calls y start drawn users i all = at_drop_all (lane_regions_text calls y start drawn) users i all
 
 pub least_step : (low : ℕ) (users : List Mapping) (i : ℕ) (d : Mapping) → i < length users →
     least_start low (drop i users) ≡ min (start_from low (get_or users i d)) (least_start low (drop (i + 1) users))
@@ -73,7 +74,7 @@ lanes_step lane calls y low users few =
     let left : 6 - lane ≡ suc (6 - (lane + 1)) = omega (arith, few) in
     ap (λ (n : ℕ). lanes_from n calls y low users) left
 
-pub lanes_last : (lane calls y low : ℕ) (users : List Mapping) → 6 ≤ lane → lanes_from (6 - lane) calls y low users ≡ more_text y low users
+pub lanes_last : (lane calls y low : ℕ) (users : List Mapping) → 6 ≤ lane → lanes_from (6 - lane) calls y low users ≡ more_addresses_text y low users
 lanes_last lane calls y low users all =
     let left : 6 - lane ≡ zero = omega (arith, all) in
     ap (λ (n : ℕ). lanes_from n calls y low users) left
@@ -92,21 +93,25 @@ height_last lane low users all =
     ap (λ (n : ℕ). height_from n low users) left
 
 pub bars_step : (calls y : ℕ) (first : RefusedCall) (number : ℕ) (refused : List RefusedCall) (i : ℕ) (d : RefusedCall) → i < length refused →
-    bars_from calls y first number (drop i refused) ≡ (if nat_eq (bar_of calls first.call)
-    (bar_of calls (get_or refused i d).call) then bars_from calls y first (number + 1) (drop (i + 1) refused)
-    else bar_text calls y first number ++ bars_from calls y (get_or refused i d) 1 (drop (i + 1) refused))
-bars_step calls y first number refused i d within = at_drop_more (bars_from calls y first number) refused i d within
+    refused_columns_from calls y first number (drop i refused) ≡ (if nat_eq (refused_column calls first.call)
+    (refused_column calls (get_or refused i d).call) then refused_columns_from calls y first (number + 1)
+    (drop (i + 1) refused)
+    else refused_column_text calls y first number ++ refused_columns_from calls y (get_or refused i d) 1
+    (drop (i + 1) refused))
+bars_step calls y first number refused i d within = at_drop_more (refused_columns_from calls y first number) refused i d
+    within
 
 pub bars_last : (calls y : ℕ) (first : RefusedCall) (number : ℕ) (refused : List RefusedCall) (i : ℕ) → length refused ≤ i →
-    bars_from calls y first number (drop i refused) ≡ bar_text calls y first number
-bars_last calls y first number refused i all = at_drop_all (bars_from calls y first number) refused i all
+    refused_columns_from calls y first number (drop i refused) ≡ refused_column_text calls y first number
+bars_last calls y first number refused i all = at_drop_all (refused_columns_from calls y first number) refused i all
 
 pub lines_step : (top y calls call : ℕ) (lines : List (List ℕ)) (i : ℕ) (d : List ℕ) → i < length lines →
-    lines_text top y calls call (drop i lines) ≡ line_text top y calls call (get_or lines i d) ++ lines_text top y calls (call + 1) (drop (i + 1) lines)
-lines_step top y calls call lines i d within = at_drop_more (lines_text top y calls call) lines i d within
+    call_lines_text top y calls call (drop i lines) ≡ call_line_text top y calls call (get_or lines i d) ++ call_lines_text
+    top y calls (call + 1) (drop (i + 1) lines)
+lines_step top y calls call lines i d within = at_drop_more (call_lines_text top y calls call) lines i d within
 
-pub lines_last : (top y calls call : ℕ) (lines : List (List ℕ)) (i : ℕ) → length lines ≤ i → lines_text top y calls call (drop i lines) ≡ []
-lines_last top y calls call lines i all = at_drop_all (lines_text top y calls call) lines i all
+pub lines_last : (top y calls call : ℕ) (lines : List (List ℕ)) (i : ℕ) → length lines ≤ i → call_lines_text top y calls call (drop i lines) ≡ []
+lines_last top y calls call lines i all = at_drop_all (call_lines_text top y calls call) lines i all
 
 pub letters_step : (lines : List (List ℕ)) (i : ℕ) (d : List ℕ) → i < length lines →
     most_letters (drop i lines) ≡ max (min 28 (length (get_or lines i d))) (most_letters (drop (i + 1) lines))
@@ -115,8 +120,8 @@ letters_step lines i d within = at_drop_more most_letters lines i d within
 pub letters_last : (lines : List (List ℕ)) (i : ℕ) → length lines ≤ i → most_letters (drop i lines) ≡ 0
 letters_last lines i all = at_drop_all most_letters lines i all
 
-pub power_begin : (calls : ℕ) → step_from (20 - 0) 1 calls ≡ step_of calls
-unfolding step_of
+pub power_begin : (calls : ℕ) → step_from (20 - 0) 1 calls ≡ calls_per_tick calls
+unfolding calls_per_tick
 power_begin calls = refl
 
 pub power_step : (times power calls : ℕ) → times < 20 →
@@ -134,6 +139,7 @@ power_last times power calls all =
     let left : 20 - times ≡ zero = omega (arith, all) in
     ap (λ (n : ℕ). step_from n power calls) left
 
-pub ticks_step : (top y calls step ticks : ℕ) → ticks_text top y calls step (ticks + 1) ≡ ticks_text top y calls step
-    ticks ++ tick_text top y calls (step * ticks)
-ticks_step top y calls step ticks = ap (ticks_text top y calls step) (add-one ticks)
+pub ticks_step : (top y calls step ticks : ℕ) → call_ticks_text top y calls step (ticks + 1) ≡ call_ticks_text top y calls
+    step
+    ticks ++ call_tick_text top y calls (step * ticks)
+ticks_step top y calls step ticks = ap (call_ticks_text top y calls step) (add-one ticks)

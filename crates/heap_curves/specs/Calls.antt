@@ -23,17 +23,17 @@ unfoldable pub grid_text : ℕ → ℕ → ℕ → ℕ → List ℕ
 grid_text top y calls call = rect (codes "line") (x_of call calls) top 1 (y - top)
 
 -- the middle of the column of a call, for words downwards
-abbrev pub middle_of : ℕ → ℕ → ℕ
-middle_of calls call = x_of call calls + (1024 / max 1 calls / 2 - 3)
+abbrev pub column_middle : ℕ → ℕ → ℕ
+column_middle calls call = x_of call calls + (1024 / max 1 calls / 2 - 3)
 
 -- a call with its line
-unfoldable pub line_text : ℕ → ℕ → ℕ → ℕ → List ℕ → List ℕ
-line_text top y calls call line = grid_text top y calls call ++ down_text (middle_of calls call) (y + 6) (short_words line)
+unfoldable pub call_line_text : ℕ → ℕ → ℕ → ℕ → List ℕ → List ℕ
+call_line_text top y calls call line = grid_text top y calls call ++ down_text (column_middle calls call) (y + 6) (short_words line)
 
 -- the calls from one on, with their lines
-abbrev pub lines_text : ℕ → ℕ → ℕ → ℕ → List (List ℕ) → List ℕ
-lines_text top y calls call [] = []
-lines_text top y calls call (line ∷ lines) = line_text top y calls call line ++ lines_text top y calls (call + 1) lines
+abbrev pub call_lines_text : ℕ → ℕ → ℕ → ℕ → List (List ℕ) → List ℕ
+call_lines_text top y calls call [] = []
+call_lines_text top y calls call (line ∷ lines) = call_line_text top y calls call line ++ call_lines_text top y calls (call + 1) lines
 
 -- the letters of the longest line, and 28 at most
 abbrev pub most_letters : List (List ℕ) → ℕ
@@ -98,28 +98,28 @@ step_from (suc times) power calls =
     else step_from times (10 * power) calls
 
 -- The calls from one tick to the next: the least of 1, 2 and 5 times a power of ten with which there are ten steps at most.
-unfoldable pub step_of : ℕ → ℕ
-step_of calls = step_from 20 1 calls
+unfoldable pub calls_per_tick : ℕ → ℕ
+calls_per_tick calls = step_from 20 1 calls
 
 -- a tick at a call
-unfoldable pub tick_text : ℕ → ℕ → ℕ → ℕ → List ℕ
-tick_text top y calls call = grid_text top y calls call ++ text_at (codes "m c faint") (x_of call calls) (y + 14) (commas call)
+unfoldable pub call_tick_text : ℕ → ℕ → ℕ → ℕ → List ℕ
+call_tick_text top y calls call = grid_text top y calls call ++ text_at (codes "m c faint") (x_of call calls) (y + 14) (commas call)
 
 -- the ticks up to a number
-abbrev pub ticks_text : ℕ → ℕ → ℕ → ℕ → ℕ → List ℕ
-ticks_text top y calls step zero = []
-ticks_text top y calls step (suc ticks) = ticks_text top y calls step ticks ++ tick_text top y calls (step * ticks)
+abbrev pub call_ticks_text : ℕ → ℕ → ℕ → ℕ → ℕ → List ℕ
+call_ticks_text top y calls step zero = []
+call_ticks_text top y calls step (suc ticks) = call_ticks_text top y calls step ticks ++ call_tick_text top y calls (step * ticks)
 
 -- the numbers of calls
 unfoldable pub numbers_text : ℕ → ℕ → ℕ → List ℕ
-numbers_text top y calls = text_at (codes "q") 24 (y + 14) (codes "calls") ++ ticks_text top y calls (step_of calls) (calls / step_of calls + 1)
+numbers_text top y calls = text_at (codes "q") 24 (y + 14) (codes "calls") ++ call_ticks_text top y calls (calls_per_tick calls) (calls / calls_per_tick calls + 1)
 
 -- the axis, from the top of the grid on, its words below a height
 unfoldable pub calls_text : ℕ → ℕ → ℕ → List (List ℕ) → List ℕ
 calls_text top y calls lines =
     if nat_eq (length lines) 0 then numbers_text top y calls
     else if are_upright calls lines then uprights_text top y calls 0 lines
-    else lines_text top y calls 0 lines
+    else call_lines_text top y calls 0 lines
 
 -- its height below that
 abbrev pub calls_height : ℕ → List (List ℕ) → ℕ

@@ -6,14 +6,14 @@ use Rattle.heap_curves.specs.declared.columns.Counted.TheVariants.{Live, Heap}
 use Rattle.heap_curves.specs.declared.columns.Column.{Column}
 
 -- the bytes of a moment that are live, or the heap's
-abbrev pub bytes_of : Counted → Moment → ℕ
-bytes_of Live moment = moment.live
-bytes_of Heap moment = moment.heap
+abbrev pub bytes_counted : Counted → Moment → ℕ
+bytes_counted Live moment = moment.live
+bytes_counted Heap moment = moment.heap
 
 -- the greatest bytes of moments; 0 if there are none
 abbrev pub greatest : Counted → List Moment → ℕ
 greatest counted [] = 0
-greatest counted (moment ∷ moments) = max (bytes_of counted moment) (greatest counted moments)
+greatest counted (moment ∷ moments) = max (bytes_counted counted moment) (greatest counted moments)
 
 -- the number of columns for a number of calls
 abbrev pub columns_number : ℕ → ℕ

@@ -64,14 +64,14 @@ main_text together scale moments =
     ++ (live_text scale (columns_of moments) ++ ends_text together scale (greatest Of.Live moments) (last_moment moments))))
 
 -- the strip of a heap
-unfoldable pub strip_text : Scale → List Moment → List ℕ
-strip_text scale moments = scale_text (codes "heap") scale (scale.y + 24) ++ heap_text scale (columns_of moments)
+unfoldable pub heap_strip_text : Scale → List Moment → List ℕ
+heap_strip_text scale moments = scale_text (codes "heap") scale (scale.y + 24) ++ heap_text scale (columns_of moments)
 
 -- all curves
 unfoldable pub curves_text : ℕ → List Moment → List ℕ
 curves_text y moments =
     main_text (are_together moments) (live_scale y moments) moments
-    ++ (if are_together moments then [] else strip_text (strip_scale y moments) moments)
+    ++ (if are_together moments then [] else heap_strip_text (strip_scale y moments) moments)
 
 -- their height, with what is left below them
 abbrev pub curves_height : List Moment → ℕ

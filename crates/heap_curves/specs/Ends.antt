@@ -11,12 +11,12 @@ abbrev pub last_moment : List Moment → Moment
 last_moment moments = get_or moments (length moments - 1) (record { live = 0; heap = 0 })
 
 -- the lowest base line of words that have `rest` lines of words below them
-abbrev pub lowest : Scale → ℕ → ℕ
-lowest scale rest = floor_of scale + 4 - 13 * rest
+abbrev pub lowest_line : Scale → ℕ → ℕ
+lowest_line scale rest = floor_of scale + 4 - 13 * rest
 
 -- a base line beside bytes, 13 below the one above at least
 abbrev pub beside : Scale → ℕ → ℕ → ℕ → ℕ
-beside scale above bytes rest = min (lowest scale rest) (max (above + 13) (height_of scale bytes + 4))
+beside scale above bytes rest = min (lowest_line scale rest) (max (above + 13) (height_of scale bytes + 4))
 
 -- bytes with their name
 unfoldable pub end_text : ℕ → List ℕ → ℕ → List ℕ

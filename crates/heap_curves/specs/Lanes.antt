@@ -3,17 +3,17 @@ use Rattle.std.specs.Prelude.{ℕ, zero, suc, ◌+◌, ◌-◌, ◌*◌, ◌^◌
 use Rattle.heap_history.specs.declared.history.Mapping.{Mapping}
 use Rattle.heap_history.specs.Columns.{x_of}
 use Rattle.heap_lines.specs.Written.{rights_word}
-use Rattle.heap_map.specs.Words.{hexadecimal, commas, counted}
+use Rattle.heap_map.specs.Words.{hexadecimal, commas, quantity}
 use Rattle.heap_map.specs.Shapes.{text_at, rect, titled}
 use Rattle.heap_curves.specs.Addresses.{least_start, all_addresses}
 
 -- the number of pages, with their rights
-unfoldable pub pages_words : Mapping → List ℕ
-pages_words user = counted (codes "page") user.region.pages ++ (codes " " ++ rights_word user.region.rights)
+unfoldable pub mapping_words : Mapping → List ℕ
+mapping_words user = quantity (codes "page") user.region.pages ++ (codes " " ++ rights_word user.region.rights)
 
 -- the label of a region
 unfoldable pub label_words : Mapping → List ℕ
-label_words user = pages_words user ++ (if nat_eq user.large 0 then [] else codes ", " ++ (commas user.large ++ codes " large"))
+label_words user = mapping_words user ++ (if nat_eq user.large 0 then [] else codes ", " ++ (commas user.large ++ codes " large"))
 
 -- when a region was there; calls are counted from 1
 unfoldable pub when_words : Mapping → List ℕ
@@ -34,19 +34,19 @@ abbrev pub region_width : ℕ → Mapping → ℕ
 region_width calls user = region_right calls user - region_left calls user
 
 -- the label in a region, if it has room
-unfoldable pub label_text : ℕ → ℕ → Mapping → List ℕ
-label_text calls y user =
+unfoldable pub region_label_text : ℕ → ℕ → Mapping → List ℕ
+region_label_text calls y user =
     if nat_le (8 * length (label_words user) + 8) (region_width calls user) then text_at (codes "m in") (region_left calls user + 5) (y + 13) (label_words user) else []
 
 -- the mark of a region that has large pages
-unfoldable pub large_text : ℕ → ℕ → Mapping → List ℕ
-large_text calls y user = if nat_eq user.large 0 then [] else rect (codes "l") (region_left calls user) y (region_width calls user) 3
+unfoldable pub large_region_mark : ℕ → ℕ → Mapping → List ℕ
+large_region_mark calls y user = if nat_eq user.large 0 then [] else rect (codes "l") (region_left calls user) y (region_width calls user) 3
 
 -- a region in its lane
 unfoldable pub region_text : ℕ → ℕ → Mapping → List ℕ
 region_text calls y user =
     titled (codes "w") (region_left calls user) y (region_width calls user) 16 (region_title user)
-    ++ (large_text calls y user ++ label_text calls y user)
+    ++ (large_region_mark calls y user ++ region_label_text calls y user)
 
 -- Whether a region is drawn in the lane of an address that is drawn up to a pixel: if three of its pixels are not drawn yet. So a lane has
 -- few rectangles, however many short regions it has.
@@ -54,34 +54,34 @@ abbrev pub is_drawn : ℕ → ℕ → ℕ → Mapping → Bool
 is_drawn calls start drawn user = nat_eq user.region.start start && nat_le (drawn + 3) (region_right calls user)
 
 -- the regions of a lane that is drawn up to a pixel
-abbrev pub regions_text : ℕ → ℕ → ℕ → ℕ → List Mapping → List ℕ
-regions_text calls y start drawn [] = []
-regions_text calls y start drawn (user ∷ users) =
-    if is_drawn calls start drawn user then region_text calls y user ++ regions_text calls y start (region_right calls user) users
-    else regions_text calls y start drawn users
+abbrev pub lane_regions_text : ℕ → ℕ → ℕ → ℕ → List Mapping → List ℕ
+lane_regions_text calls y start drawn [] = []
+lane_regions_text calls y start drawn (user ∷ users) =
+    if is_drawn calls start drawn user then region_text calls y user ++ lane_regions_text calls y start (region_right calls user) users
+    else lane_regions_text calls y start drawn users
 
 -- the ground of a lane, with its address
-unfoldable pub ground_text : ℕ → ℕ → List ℕ
-ground_text y start = text_at (codes "m e faint") 134 (y + 12) (hexadecimal start) ++ rect (codes "panel") 144 y 1024 16
+unfoldable pub lane_ground_text : ℕ → ℕ → List ℕ
+lane_ground_text y start = text_at (codes "m e faint") 134 (y + 12) (hexadecimal start) ++ rect (codes "panel") 144 y 1024 16
 
 -- a lane
 unfoldable pub lane_text : ℕ → ℕ → ℕ → List Mapping → List ℕ
-lane_text calls y start users = ground_text y start ++ regions_text calls y start 0 users
+lane_text calls y start users = lane_ground_text y start ++ lane_regions_text calls y start 0 users
 
 -- the addresses that have no lane
 unfoldable pub addresses_word : ℕ → List ℕ
 addresses_word more = if nat_eq more 1 then codes " more address" else codes " more addresses"
 
-unfoldable pub more_words : ℕ → List ℕ
-more_words more = codes "and " ++ (commas more ++ addresses_word more)
+unfoldable pub more_addresses_words : ℕ → List ℕ
+more_addresses_words more = codes "and " ++ (commas more ++ addresses_word more)
 
 -- those from one on, if there are some
-unfoldable pub more_text : ℕ → ℕ → List Mapping → List ℕ
-more_text y low users = if nat_eq (least_start low users) (2 ^ 64) then [] else text_at (codes "faint") 149 (y + 12) (more_words (all_addresses low users))
+unfoldable pub more_addresses_text : ℕ → ℕ → List Mapping → List ℕ
+more_addresses_text y low users = if nat_eq (least_start low users) (2 ^ 64) then [] else text_at (codes "faint") 149 (y + 12) (more_addresses_words (all_addresses low users))
 
 -- lanes up to a limit, one below the other, and then what has none
 abbrev pub lanes_from : ℕ → ℕ → ℕ → ℕ → List Mapping → List ℕ
-lanes_from zero calls y low users = more_text y low users
+lanes_from zero calls y low users = more_addresses_text y low users
 lanes_from (suc lanes) calls y low users =
     if nat_eq (least_start low users) (2 ^ 64) then []
     else lane_text calls y (least_start low users) users ++ lanes_from lanes calls (y + 19) (least_start low users + 1) users

@@ -1,6 +1,6 @@
 // The axis of calls.
 ghost use Rattle.std.specs.Prelude.{◌≡◌, ◌<◌, ◌≤◌, ◌+◌, ◌*◌, ◌/◌, ◌^◌, ◌++◌, map, length, take, OnOk, string_bytes};
-ghost use Rattle.heap_curves.specs.Calls.{plain, short_words, down_text, grid_text, middle_of, line_text, lines_text, most_letters, step_of, tick_text, ticks_text, numbers_text, calls_text, calls_height};
+ghost use Rattle.heap_curves.specs.Calls.{plain, short_words, down_text, grid_text, column_middle, call_line_text, call_lines_text, most_letters, calls_per_tick, call_tick_text, call_ticks_text, numbers_text, calls_text, calls_height};
 
 use crate::upright::{are_upright, most_words, push_uprights};
 use heap_history::x_of;
@@ -91,13 +91,13 @@ pub fn push_grid(
 
 // The middle of the column of a call, for words downwards.
 fn middle_of(calls: u64, call: u64) -> u128
-    ensures { result ≡ middle_of calls call }
+    ensures { result ≡ column_middle calls call }
 {
     x_of(call, calls) + (1024 / u128::from(calls).max(1) / 2).saturating_sub(3)
 }
 
 // Puts a call at the end, with its line.
-#[tactic(auto, unfolding(crate::specs::Calls::line_text))]
+#[tactic(auto, unfolding(crate::specs::Calls::call_line_text))]
 fn push_line(
     alloc: Global,
     out: &mut String,
@@ -108,7 +108,7 @@ fn push_line(
     line: &[u8],
 ) -> Result<(), AllocError>
     requires { y < 2 ^ 100 }
-    ensures { OnOk result (string_bytes out.new ≡ string_bytes out.old ++ line_text top y calls call line.now) }
+    ensures { OnOk result (string_bytes out.new ≡ string_bytes out.old ++ call_line_text top y calls call line.now) }
 {
     push_grid(out, top, y, calls, call)?;
     let mut words = String::new(alloc);
@@ -127,7 +127,7 @@ fn push_lines(
     lines: &[Bytes],
 ) -> Result<(), AllocError>
     requires { y < 2 ^ 100 }
-    ensures { OnOk result (string_bytes out.new ≡ string_bytes out.old ++ lines_text top y calls 0 lines.now) }
+    ensures { OnOk result (string_bytes out.new ≡ string_bytes out.old ++ call_lines_text top y calls 0 lines.now) }
 {
     let mut call = 0;
     for line in lines {
@@ -153,7 +153,7 @@ fn most_letters(lines: &[Bytes]) -> u128
 // The calls from one tick to the next.
 #[tactic(auto, using(crate::proofs::Loops::power_step, crate::proofs::Loops::power_last, crate::proofs::Numbers::ten_more, crate::proofs::Numbers::ten_some, crate::proofs::Numbers::ten_most, std::proofs::lemmas::Grind::common_steps))]
 fn step_of(calls: u64) -> u128
-    ensures value { result ≡ step_of calls }
+    ensures value { result ≡ calls_per_tick calls }
     ensures some { 1 ≤ result }
     ensures few { calls ≤ 10 * result }
 {
@@ -175,7 +175,7 @@ fn step_of(calls: u64) -> u128
 }
 
 // Puts a tick at a call at the end.
-#[tactic(auto, unfolding(crate::specs::Calls::tick_text))]
+#[tactic(auto, unfolding(crate::specs::Calls::call_tick_text))]
 fn push_tick(
     alloc: Global,
     out: &mut String,
@@ -185,7 +185,7 @@ fn push_tick(
     call: u64,
 ) -> Result<(), AllocError>
     requires { y < 2 ^ 100 }
-    ensures { OnOk result (string_bytes out.new ≡ string_bytes out.old ++ tick_text top y calls call) }
+    ensures { OnOk result (string_bytes out.new ≡ string_bytes out.old ++ call_tick_text top y calls call) }
 {
     push_grid(out, top, y, calls, call)?;
     let mut words = String::new(alloc);
@@ -215,7 +215,7 @@ fn push_ticks(
 ) -> Result<(), AllocError>
     requires y { y < 2 ^ 100 }
     requires step { 1 ≤ step }
-    ensures { OnOk result (string_bytes out.new ≡ string_bytes out.old ++ ticks_text top y calls step (calls / step + 1)) }
+    ensures { OnOk result (string_bytes out.new ≡ string_bytes out.old ++ call_ticks_text top y calls step (calls / step + 1)) }
 {
     for tick in 0..u128::from(calls) / step + 1 {
         push_tick(alloc, out, top, y, calls, tick_call(calls, step, tick))?;

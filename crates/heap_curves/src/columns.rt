@@ -1,6 +1,6 @@
 // The columns of the curves: one for each call, and 1024 at most.
 ghost use Rattle.std.specs.Prelude.{◌≡◌, ◌≤◌, ◌+◌, IfOk, length};
-ghost use Rattle.heap_curves.specs.Columns.{bytes_of, greatest, columns_number, column_start, columns_of};
+ghost use Rattle.heap_curves.specs.Columns.{bytes_counted, greatest, columns_number, column_start, columns_of};
 
 use heap_history::Moment;
 use std::alloc::{AllocError, Global};
@@ -27,7 +27,7 @@ pub struct Column {
 
 /// The bytes of a moment that are live, or the heap's.
 pub fn bytes_of(counted: Counted, moment: Moment) -> u128
-    ensures { result ≡ bytes_of counted moment }
+    ensures { result ≡ bytes_counted counted moment }
 {
     match counted {
         Counted::Live => moment.live,

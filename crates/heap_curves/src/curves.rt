@@ -2,7 +2,7 @@
 ghost use Rattle.std.specs.Prelude.{◌≡◌, ◌<◌, ◌≤◌, ◌^◌, ◌++◌, if◌then◌else◌, [], OnOk, string_bytes};
 ghost use Rattle.heap_curves.specs.Columns.{columns_of};
 ghost use Rattle.heap_curves.specs.Paths.{IsScale};
-ghost use Rattle.heap_curves.specs.Curves.{most_live, most_heap, are_together, live_scale, strip_scale, scale_text, heap_text, half, thick, dashes, live_text, main_text, strip_text, curves_text, curves_height};
+ghost use Rattle.heap_curves.specs.Curves.{most_live, most_heap, are_together, live_scale, strip_scale, scale_text, heap_text, half, thick, dashes, live_text, main_text, heap_strip_text, curves_text, curves_height};
 
 use crate::columns::{Column, Counted, columns_of, greatest};
 use crate::ends::{last_moment, push_ends};
@@ -171,7 +171,7 @@ fn push_main(
 }
 
 // Puts the strip of a heap at the end.
-#[tactic(auto, unfolding(crate::specs::Curves::strip_text))]
+#[tactic(auto, unfolding(crate::specs::Curves::heap_strip_text))]
 fn push_strip(
     alloc: Global,
     out: &mut String,
@@ -179,7 +179,7 @@ fn push_strip(
     moments: &[Moment],
 ) -> Result<(), AllocError>
     requires { IsScale scale }
-    ensures { OnOk result (string_bytes out.new ≡ string_bytes out.old ++ strip_text scale moments.now) }
+    ensures { OnOk result (string_bytes out.new ≡ string_bytes out.old ++ heap_strip_text scale moments.now) }
 {
     let columns = columns_of(alloc, moments)?;
     push_scale(alloc, out, "heap", scale, scale.y + 24)?;

@@ -1,7 +1,7 @@
 // What stands at the right of the curves.
 ghost use Rattle.std.specs.Prelude.{◌≡◌, ◌<◌, ◌≤◌, ◌+◌, ◌*◌, ◌^◌, ◌++◌, OnOk, string_bytes};
 ghost use Rattle.heap_curves.specs.Paths.{IsScale};
-ghost use Rattle.heap_curves.specs.Ends.{last_moment, lowest, beside, end_text, two_ends, three_ends, ends_text};
+ghost use Rattle.heap_curves.specs.Ends.{last_moment, lowest_line, beside, end_text, two_ends, three_ends, ends_text};
 
 use crate::paths::{Scale, floor_of, height_of, told};
 use heap_history::Moment;
@@ -25,8 +25,8 @@ fn beside(scale: Scale, above: u128, bytes: u128, rest: u128) -> u128
     requires rest { rest ≤ 2 }
     ensures value { result ≡ beside scale above bytes rest }
     ensures few { result < 2 ^ 101 }
-    ensures room { result ≤ lowest scale rest }
-    ensures apart { above + 13 ≤ lowest scale rest → above + 13 ≤ result }
+    ensures room { result ≤ lowest_line scale rest }
+    ensures apart { above + 13 ≤ lowest_line scale rest → above + 13 ≤ result }
 {
     let lowest = (floor_of(scale) + 4).saturating_sub(13 * rest);
     (height_of(scale, bytes) + 4).max(above + 13).min(lowest)

@@ -1,6 +1,6 @@
 // The user's regions over a run.
 ghost use Rattle.std.specs.Prelude.{◌≡◌, ◌<◌, ◌≤◌, ◌+◌, ◌^◌, ◌++◌, ◌⊎◌, OnOk, string_bytes};
-ghost use Rattle.heap_curves.specs.Lanes.{pages_words, label_words, when_words, region_title, region_left, region_right, region_width, label_text, large_text, region_text, is_drawn, regions_text, ground_text, lane_text, addresses_word, more_words, more_text, lanes_text, lanes_height};
+ghost use Rattle.heap_curves.specs.Lanes.{mapping_words, label_words, when_words, region_title, region_left, region_right, region_width, region_label_text, large_region_mark, region_text, is_drawn, lane_regions_text, lane_ground_text, lane_text, addresses_word, more_addresses_words, more_addresses_text, lanes_text, lanes_height};
 
 use crate::addresses::{NONE, all_addresses, least_start};
 use heap_history::{Mapping, x_of};
@@ -8,9 +8,9 @@ use heap_lines::push_rights;
 use heap_map::{Area, push_address, push_commas, push_counted, push_rect, push_text, push_titled};
 use std::alloc::{AllocError, Global};
 
-#[tactic(auto, unfolding(crate::specs::Lanes::pages_words))]
+#[tactic(auto, unfolding(crate::specs::Lanes::mapping_words))]
 fn push_pages(out: &mut String, user: Mapping) -> Result<(), AllocError>
-    ensures { OnOk result (string_bytes out.new ≡ string_bytes out.old ++ pages_words user) }
+    ensures { OnOk result (string_bytes out.new ≡ string_bytes out.old ++ mapping_words user) }
 {
     push_counted(out, "page", u128::from(user.region.pages))?;
     out.push_str(" ")?;
@@ -74,7 +74,7 @@ fn region_width(calls: u64, user: Mapping) -> u128
 }
 
 // Puts the label in a region at the end, if it has room.
-#[tactic(auto, unfolding(crate::specs::Lanes::label_text))]
+#[tactic(auto, unfolding(crate::specs::Lanes::region_label_text))]
 fn push_label(
     alloc: Global,
     out: &mut String,
@@ -83,7 +83,7 @@ fn push_label(
     user: Mapping,
 ) -> Result<(), AllocError>
     requires { y < 2 ^ 100 }
-    ensures { OnOk result (string_bytes out.new ≡ string_bytes out.old ++ label_text calls y user) }
+    ensures { OnOk result (string_bytes out.new ≡ string_bytes out.old ++ region_label_text calls y user) }
 {
     let mut words = String::new(alloc);
     push_label_words(&mut words, user)?;
@@ -95,9 +95,9 @@ fn push_label(
 }
 
 // Puts the mark of large pages at the end, if there are some.
-#[tactic(auto, unfolding(crate::specs::Lanes::large_text))]
+#[tactic(auto, unfolding(crate::specs::Lanes::large_region_mark))]
 fn push_large(out: &mut String, calls: u64, y: u128, user: Mapping) -> Result<(), AllocError>
-    ensures { OnOk result (string_bytes out.new ≡ string_bytes out.old ++ large_text calls y user) }
+    ensures { OnOk result (string_bytes out.new ≡ string_bytes out.old ++ large_region_mark calls y user) }
 {
     if user.large == 0 {
         return Ok(());
@@ -155,7 +155,7 @@ fn push_regions(
     users: &[Mapping],
 ) -> Result<(), AllocError>
     requires { y < 2 ^ 100 }
-    ensures { OnOk result (string_bytes out.new ≡ string_bytes out.old ++ regions_text calls y start 0 users.now) }
+    ensures { OnOk result (string_bytes out.new ≡ string_bytes out.old ++ lane_regions_text calls y start 0 users.now) }
 {
     let mut drawn = 0;
     for user in users {
@@ -168,11 +168,11 @@ fn push_regions(
 }
 
 // Puts the ground of a lane at the end, with its address.
-#[tactic(auto, unfolding(crate::specs::Lanes::ground_text))]
+#[tactic(auto, unfolding(crate::specs::Lanes::lane_ground_text))]
 fn push_ground(alloc: Global, out: &mut String, y: u128, start: u128) -> Result<(), AllocError>
     requires y { y < 2 ^ 100 }
     requires start { start < 2 ^ 64 }
-    ensures { OnOk result (string_bytes out.new ≡ string_bytes out.old ++ ground_text y start) }
+    ensures { OnOk result (string_bytes out.new ≡ string_bytes out.old ++ lane_ground_text y start) }
 {
     let mut words = String::new(alloc);
     push_address(&mut words, start as u64)?;
@@ -215,9 +215,9 @@ fn addresses_word(more: u64) -> &'static str
     }
 }
 
-#[tactic(auto, unfolding(crate::specs::Lanes::more_words))]
+#[tactic(auto, unfolding(crate::specs::Lanes::more_addresses_words))]
 fn push_more_words(out: &mut String, more: u64) -> Result<(), AllocError>
-    ensures { OnOk result (string_bytes out.new ≡ string_bytes out.old ++ more_words more) }
+    ensures { OnOk result (string_bytes out.new ≡ string_bytes out.old ++ more_addresses_words more) }
 {
     out.push_str("and ")?;
     push_commas(out, u128::from(more))?;
@@ -225,7 +225,7 @@ fn push_more_words(out: &mut String, more: u64) -> Result<(), AllocError>
 }
 
 // Puts how many addresses from one on have no lane at the end, if there are some.
-#[tactic(auto, unfolding(crate::specs::Lanes::more_text))]
+#[tactic(auto, unfolding(crate::specs::Lanes::more_addresses_text))]
 fn push_more(
     alloc: Global,
     out: &mut String,
@@ -234,7 +234,7 @@ fn push_more(
     users: &[Mapping],
 ) -> Result<(), AllocError>
     requires { y < 2 ^ 100 }
-    ensures { OnOk result (string_bytes out.new ≡ string_bytes out.old ++ more_text y low users.now) }
+    ensures { OnOk result (string_bytes out.new ≡ string_bytes out.old ++ more_addresses_text y low users.now) }
 {
     if least_start(low, users) == NONE {
         return Ok(());

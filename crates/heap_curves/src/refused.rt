@@ -1,6 +1,6 @@
 // The calls that were refused, over a run.
 ghost use Rattle.std.specs.Prelude.{◌≡◌, ◌<◌, ◌≤◌, ◌+◌, ◌^◌, ◌++◌, OnOk, string_bytes};
-ghost use Rattle.heap_curves.specs.Refused.{bars_number, bar_of, bar_call, bar_left, bar_width, bar_height, call_title, span_words, refused_of, calls_title, bar_title, bar_text, bars_text, refused_ground, refused_text, refused_height};
+ghost use Rattle.heap_curves.specs.Refused.{refused_columns, refused_column, bar_call, bar_left, refused_bar_width, refused_bar_height, call_title, span_words, refused_of, calls_title, refused_bar_title, refused_column_text, refused_columns_text, refused_ground, refused_text, refused_height};
 
 use heap_history::RefusedCall;
 use heap_lines::refusal_word;
@@ -9,7 +9,7 @@ use std::alloc::{AllocError, Global};
 
 // The number of columns for a number of calls.
 fn bars_number(calls: u64) -> u128
-    ensures value { result ≡ bars_number calls }
+    ensures value { result ≡ refused_columns calls }
     ensures some { 1 ≤ result }
     ensures few { result ≤ 512 }
 {
@@ -18,7 +18,7 @@ fn bars_number(calls: u64) -> u128
 
 // The column of a call.
 fn bar_of(calls: u64, call: u64) -> u128
-    ensures value { result ≡ bar_of calls call }
+    ensures value { result ≡ refused_column calls call }
     ensures few { result < 512 }
 {
     let bars = bars_number(calls);
@@ -49,7 +49,7 @@ fn bar_left(calls: u64, bar: u128) -> u128
 // Its width.
 fn bar_width(calls: u64, bar: u128) -> u128
     requires { bar < 512 }
-    ensures { result ≡ bar_width calls bar }
+    ensures { result ≡ refused_bar_width calls bar }
 {
     bar_left(calls, bar + 1)
         .saturating_sub(bar_left(calls, bar))
@@ -59,7 +59,7 @@ fn bar_width(calls: u64, bar: u128) -> u128
 // The height of a column with this number of refused calls.
 fn bar_height(calls: u64, bar: u128, number: u64) -> u128
     requires { bar < 512 }
-    ensures value { result ≡ bar_height calls bar number }
+    ensures value { result ≡ refused_bar_height calls bar number }
     ensures few { result ≤ 20 }
 {
     let all = bar_call(calls, bar + 1)
@@ -106,14 +106,14 @@ fn push_calls_title(out: &mut String, calls: u64, bar: u128, number: u64) -> Res
 }
 
 // Puts the title of a column at the end: it has this number of refused calls, and this is the first.
-#[tactic(auto, unfolding(crate::specs::Refused::bar_title))]
+#[tactic(auto, unfolding(crate::specs::Refused::refused_bar_title))]
 fn push_title(
     out: &mut String,
     calls: u64,
     first: RefusedCall,
     number: u64,
 ) -> Result<(), AllocError>
-    ensures { OnOk result (string_bytes out.new ≡ string_bytes out.old ++ bar_title calls first number) }
+    ensures { OnOk result (string_bytes out.new ≡ string_bytes out.old ++ refused_bar_title calls first number) }
 {
     if number == 1 {
         return push_call_title(out, first);
@@ -122,7 +122,7 @@ fn push_title(
 }
 
 // Puts a column at the end.
-#[tactic(auto, unfolding(crate::specs::Refused::bar_text))]
+#[tactic(auto, unfolding(crate::specs::Refused::refused_column_text))]
 fn push_bar(
     alloc: Global,
     out: &mut String,
@@ -132,7 +132,7 @@ fn push_bar(
     number: u64,
 ) -> Result<(), AllocError>
     requires { y < 2 ^ 100 }
-    ensures { OnOk result (string_bytes out.new ≡ string_bytes out.old ++ bar_text calls y first number) }
+    ensures { OnOk result (string_bytes out.new ≡ string_bytes out.old ++ refused_column_text calls y first number) }
 {
     let bar = bar_of(calls, first.call);
     let height = bar_height(calls, bar, number);
@@ -157,7 +157,7 @@ fn push_bars(
     refused: &[RefusedCall],
 ) -> Result<(), AllocError>
     requires { y < 2 ^ 100 }
-    ensures { OnOk result (string_bytes out.new ≡ string_bytes out.old ++ bars_text calls y refused.now) }
+    ensures { OnOk result (string_bytes out.new ≡ string_bytes out.old ++ refused_columns_text calls y refused.now) }
 {
     if refused.is_empty() {
         return Ok(());

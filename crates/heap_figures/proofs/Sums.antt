@@ -6,7 +6,7 @@ use Rattle.std.specs.List.{count_by}
 use Rattle.dlmalloc_chunks.specs.declared.extent.Extent.{Extent}
 use Rattle.heap_figures.specs.declared.counting.Part.{Part}
 use Rattle.heap_figures.specs.declared.counting.Part.TheVariants.{Free}
-use Rattle.heap_figures.specs.Figures.{is_part, number_of, bytes_of, greatest_of}
+use Rattle.heap_figures.specs.Figures.{is_part, part_count, part_bytes, greatest_of}
 
 pub count_more : {X : Type 0} (p : X → Bool) (xs : List X) (i : ℕ) (d : X) → i < length xs →
     count_by p (take (i + 1) xs) ≡ count_by p (take i xs) + (if p (get_or xs i d) then 1 else 0)
@@ -18,14 +18,14 @@ count_more p xs i d within = go (p (get_or xs i d)) refl
 
 -- one extent more
 pub number_step : (part : Part) (extents : List Extent) (i : ℕ) (d : Extent) (number n : ℕ) → i < length extents →
-    number ≡ number_of part (take i extents) → n ≡ (if is_part part (get_or extents i d).kind then 1 else 0) →
-    number + n ≡ number_of part (take (i + 1) extents)
+    number ≡ part_count part (take i extents) → n ≡ (if is_part part (get_or extents i d).kind then 1 else 0) →
+    number + n ≡ part_count part (take (i + 1) extents)
 number_step part extents i d number n within so_far one = let more = count_more (λ (e : Extent). is_part part e.kind)
     extents i d within in omega (arith, more, so_far, one)
 
 pub bytes_step : (part : Part) (extents : List Extent) (i : ℕ) (d : Extent) (bytes n : ℕ) → i < length extents →
-    bytes ≡ bytes_of part (take i extents) → n ≡ (if is_part part (get_or extents i d).kind then (get_or extents i d).size
-    else 0) → bytes + n ≡ bytes_of part (take (i + 1) extents)
+    bytes ≡ part_bytes part (take i extents) → n ≡ (if is_part part (get_or extents i d).kind then (get_or extents i d).size
+    else 0) → bytes + n ≡ part_bytes part (take (i + 1) extents)
 bytes_step part extents i d bytes n within so_far one = let more = sum_by_more
     (λ (e : Extent). if is_part part e.kind then e.size else 0) extents i d within in omega (arith, more, so_far, one)
 
@@ -53,7 +53,7 @@ greatest_more extents i d within =
     (greatest_suc extents i d within)
 
 -- the greatest is one of the free ones
-pub greatest_within : (extents : List Extent) → greatest_of extents ≤ bytes_of Free extents
+pub greatest_within : (extents : List Extent) → greatest_of extents ≤ part_bytes Free extents
 greatest_within [] = omega arith
 greatest_within (e ∷ es) =
     let more = greatest_within es in

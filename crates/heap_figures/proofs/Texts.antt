@@ -5,7 +5,7 @@ use Rattle.std.proofs.lemmas.Grind.{flat_map-append}
 use Rattle.std.specs.List.{flat_map, range_with_len}
 use Rattle.dlmalloc_chunks.specs.declared.extent.Extent.{Extent}
 use Rattle.heap_figures.specs.Classes.{small_count, tree_count}
-use Rattle.heap_figures.specs.Text.{class_text, small_texts, tree_texts}
+use Rattle.heap_figures.specs.Text.{bin_class_text, small_texts, tree_texts}
 
 range_suc : (a n : ℕ) → range_with_len a (suc n) ≡ range_with_len a n ++ (a + n) ∷ []
 range_suc a zero = ap (λ (k : ℕ). k ∷ []) (omega arith)
@@ -23,17 +23,18 @@ unfolding small_texts
 small_none before behind extents = refl
 
 pub small_more : (before behind : List ℕ) (extents : List Extent) (n : ℕ) →
-    small_texts before behind extents (n + 1) ≡ small_texts before behind extents n ++ class_text before behind
+    small_texts before behind extents (n + 1) ≡ small_texts before behind extents n ++ bin_class_text before behind
     (codes "small") n (small_count n extents)
 unfolding small_texts
-small_more before behind extents n = each_more (λ (size : ℕ). class_text before behind (codes "small") size (small_count size extents)) n
+small_more before behind extents n = each_more (λ (size : ℕ). bin_class_text before behind (codes "small") size (small_count size extents)) n
 
 pub tree_none : (before behind : List ℕ) (extents : List Extent) → tree_texts before behind extents 0 ≡ []
 unfolding tree_texts
 tree_none before behind extents = refl
 
 pub tree_more : (before behind : List ℕ) (extents : List Extent) (n : ℕ) →
-    tree_texts before behind extents (n + 1) ≡ tree_texts before behind extents n ++ class_text before behind (codes "tree")
+    tree_texts before behind extents (n + 1) ≡ tree_texts before behind extents n ++ bin_class_text before behind
+    (codes "tree")
     n (tree_count n extents)
 unfolding tree_texts
-tree_more before behind extents n = each_more (λ (index : ℕ). class_text before behind (codes "tree") index (tree_count index extents)) n
+tree_more before behind extents n = each_more (λ (index : ℕ). bin_class_text before behind (codes "tree") index (tree_count index extents)) n

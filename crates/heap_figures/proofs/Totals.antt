@@ -2,7 +2,7 @@
 use Rattle.std.proofs.Common.{◌≡◌, ◌<◌, ◌≤◌, ◌+◌, ◌-◌, ◌*◌, ◌^◌, ℕ, zero, suc, List, [], ◌∷◌, ◌++◌, length, map, get_or, set, refl, sym, ap, ◌∙◌, arith}
 use Rattle.std.proofs.lemmas.List.Sums.{sum_by-cons}
 use Rattle.std.specs.Prelude.{sum}
-use Rattle.heap_figures.specs.Totals.{AreKept}
+use Rattle.heap_figures.specs.Totals.{AreTotalled}
 
 sum-cons : (x : ℕ) (xs : List ℕ) → sum (x ∷ xs) ≡ x + sum xs
 sum-cons x xs = sum_by-cons (λ (y : ℕ). y) x xs
@@ -40,7 +40,7 @@ zero_sum (x ∷ xs) = let rest = zero_sum xs in let both = sum-cons 0 (map (λ (
 zero_from : (xs ys : List ℕ) → ys ≡ map (λ (size : ℕ). 0) xs → (k : ℕ) → get_or ys k 0 ≡ 0
 zero_from xs ys is k = ap (λ (l : List ℕ). get_or l k 0) is ∙ zero_at xs k
 
-pub all_ended : (xs ys : List ℕ) (count : ℕ) → ys ≡ map (λ (size : ℕ). 0) xs → count ≡ length ys → AreKept ys 0 count
+pub all_ended : (xs ys : List ℕ) (count : ℕ) → ys ≡ map (λ (size : ℕ). 0) xs → count ≡ length ys → AreTotalled ys 0 count
 all_ended xs ys count is all = record {
   total_is = sym (ap sum is ∙ zero_sum xs);
   small = λ k. (let none = zero_from xs ys is k in omega (arith, none));

@@ -7,17 +7,17 @@ use Rattle.dlmalloc_chunks.specs.declared.extent.Kind.TheVariants.{Used, Free, V
 use Rattle.dlmalloc_chunks.specs.Bins.{least_size}
 
 -- whether extents of a kind are chunks in bins: the victim and the top are in none
-abbrev pub is_binned : Kind → Bool
-is_binned Used = false
-is_binned Free = true
-is_binned Victim = false
-is_binned Top = false
-is_binned Record = false
-is_binned Foot = false
+abbrev pub is_in_bin : Kind → Bool
+is_in_bin Used = false
+is_in_bin Free = true
+is_in_bin Victim = false
+is_in_bin Top = false
+is_in_bin Record = false
+is_in_bin Foot = false
 
 -- a chunk in a bin of this size
 abbrev pub is_small : ℕ → Extent → Bool
-is_small size extent = is_binned extent.kind && extent.size == size
+is_small size extent = is_in_bin extent.kind && extent.size == size
 
 -- whether a size is one of a tree bin: the last whose least size it reaches, of 32
 abbrev pub is_tree_size : ℕ → ℕ → Bool
@@ -25,7 +25,7 @@ is_tree_size index size = nat_le (least_size index) size && (nat_le 31 index || 
 
 -- a chunk in this tree bin
 abbrev pub is_large : ℕ → Extent → Bool
-is_large index extent = is_binned extent.kind && is_tree_size index extent.size
+is_large index extent = is_in_bin extent.kind && is_tree_size index extent.size
 
 -- how many chunks in bins have the size
 abbrev pub small_count : ℕ → List Extent → ℕ

@@ -29,12 +29,12 @@ is_part Overhead Record = true
 is_part Overhead Foot = true
 
 -- how many extents the part has
-abbrev pub number_of : Part → List Extent → ℕ
-number_of part extents = count_by (λ extent. is_part part extent.kind) extents
+abbrev pub part_count : Part → List Extent → ℕ
+part_count part extents = count_by (λ extent. is_part part extent.kind) extents
 
 -- and how many bytes
-abbrev pub bytes_of : Part → List Extent → ℕ
-bytes_of part extents = sum_by (λ extent. if is_part part extent.kind then extent.size else 0) extents
+abbrev pub part_bytes : Part → List Extent → ℕ
+part_bytes part extents = sum_by (λ extent. if is_part part extent.kind then extent.size else 0) extents
 
 -- the greatest free extent's size; 0 where there is none
 abbrev pub greatest_of : List Extent → ℕ

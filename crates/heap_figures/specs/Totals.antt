@@ -6,7 +6,7 @@ abbrev pub AreZeroBefore : ℕ → List ℕ → Type 0
 AreZeroBefore first sizes = (k : ℕ) → k < first → slice_index sizes k ≡ 0
 
 -- the total is the sum of the sizes, each of which fits 64 bits, and those before a number are 0
-pub record AreKept (sizes : List ℕ) (total first : ℕ) : Type 0 where
+pub record AreTotalled (sizes : List ℕ) (total first : ℕ) : Type 0 where
   pub total_is : total ≡ sum sizes
   pub small : (k : ℕ) → slice_index sizes k < 2 ^ 64
   pub within : first ≤ length sizes

@@ -1,6 +1,6 @@
 // How many free chunks in bins there are of each class.
 ghost use Rattle.std.specs.Prelude.{◌≡◌, ◌<◌, ◌+◌, ◌^◌, ℕ, length, slice_index, if◌then◌else◌, ◌&&◌, nat_le};
-ghost use Rattle.heap_figures.specs.Classes.{is_binned, is_small, is_large, small_count, tree_count};
+ghost use Rattle.heap_figures.specs.Classes.{is_in_bin, is_small, is_large, small_count, tree_count};
 
 use dlmalloc_chunks::{Extent, Kind, compute_tree_index};
 
@@ -28,7 +28,7 @@ pub fn small_counts(extents: &[Extent]) -> [u64; 256]
 
 // Whether the extent is a chunk in a tree bin.
 fn is_in_tree(extent: Extent) -> bool
-    ensures { result ≡ (is_binned extent.kind && nat_le 256 extent.size) }
+    ensures { result ≡ (is_in_bin extent.kind && nat_le 256 extent.size) }
 {
     extent.kind == Kind::Free && extent.size >= 256
 }

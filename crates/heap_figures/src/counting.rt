@@ -1,7 +1,7 @@
 // How many extents there are, and how many bytes they have.
 ghost use Rattle.std.specs.Prelude.{◌≡◌, ◌+◌, ◌^◌, ◌<◌, ◌≤◌, if◌then◌else◌};
 ghost use Rattle.dlmalloc_chunks.specs.Tiling.{AreInSegments};
-ghost use Rattle.heap_figures.specs.Figures.{is_part, number_of, bytes_of, greatest_of, permille_of};
+ghost use Rattle.heap_figures.specs.Figures.{is_part, part_count, part_bytes, greatest_of, permille_of};
 
 use dlmalloc_chunks::{Extent, Kind};
 
@@ -56,8 +56,8 @@ fn part_size(part: Part, extent: Extent) -> u64
 /// The extents of a part, counted.
 pub fn count_part(extents: &[Extent], part: Part) -> Tally
     requires { AreInSegments extents.now }
-    ensures number { result.number ≡ number_of part extents.now }
-    ensures bytes { result.bytes ≡ bytes_of part extents.now }
+    ensures number { result.number ≡ part_count part extents.now }
+    ensures bytes { result.bytes ≡ part_bytes part extents.now }
     // The extents lie one behind the other, so they have no more bytes than the end of the last says.
     ensures few { result.bytes < 2 ^ 65 }
 {

@@ -27,13 +27,13 @@ pub struct BlockSizes {
 
 impl Model for BlockSizes {
     ghost use Rattle.std.specs.Prelude.{List, ℕ};
-    ghost use Rattle.heap_figures.specs.Totals.{AreKept};
+    ghost use Rattle.heap_figures.specs.Totals.{AreTotalled};
 
     ghost Value = { List ℕ };
 
     ghost view = { λ all. all.sizes.items };
 
-    ghost invariant = { λ all. AreKept all.sizes.items all.total all.first };
+    ghost invariant = { λ all. AreTotalled all.sizes.items all.total all.first };
 }
 
 impl BlockSizes {

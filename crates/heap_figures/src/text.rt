@@ -2,7 +2,7 @@
 ghost use Rattle.std.specs.Prelude.{◌≡◌, ◌++◌, List, ℕ, OnOk, codes, string_bytes};
 ghost use Rattle.dlmalloc_chunks.specs.declared.extent.Extent.{Extent};
 ghost use Rattle.dlmalloc_chunks.specs.Tiling.{AreInSegments};
-ghost use Rattle.heap_figures.specs.Text.{one_text, two_text, line_text, class_text, small_texts, tree_texts, extent_texts, figures_text};
+ghost use Rattle.heap_figures.specs.Text.{one_text, two_text, line_between, bin_class_text, small_texts, tree_texts, extent_texts, figures_text};
 
 use crate::classes::{small_counts, tree_counts};
 use crate::counting::{Part, count_part, greatest_free, permille};
@@ -17,7 +17,7 @@ fn push_one(
     number: u128,
     behind: &str,
 ) -> Result<(), AllocError>
-    ensures { OnOk result (string_bytes out.new ≡ string_bytes out.old ++ line_text before.now behind.now (one_text word.now number)) }
+    ensures { OnOk result (string_bytes out.new ≡ string_bytes out.old ++ line_between before.now behind.now (one_text word.now number)) }
 {
     write!(out, "{before}{word} {number}{behind}")
 }
@@ -31,7 +31,7 @@ fn push_two(
     second: u128,
     behind: &str,
 ) -> Result<(), AllocError>
-    ensures { OnOk result (string_bytes out.new ≡ string_bytes out.old ++ line_text before.now behind.now (two_text word.now first second)) }
+    ensures { OnOk result (string_bytes out.new ≡ string_bytes out.old ++ line_between before.now behind.now (two_text word.now first second)) }
 {
     write!(out, "{before}{word} {first} {second}{behind}")
 }
@@ -45,7 +45,7 @@ fn push_class(
     count: u64,
     behind: &str,
 ) -> Result<(), AllocError>
-    ensures { OnOk result (string_bytes out.new ≡ string_bytes out.old ++ class_text before.now behind.now word.now class count) }
+    ensures { OnOk result (string_bytes out.new ≡ string_bytes out.old ++ bin_class_text before.now behind.now word.now class count) }
 {
     if count == 0 {
         return Ok(());

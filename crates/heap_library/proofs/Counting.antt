@@ -4,24 +4,25 @@ use Rattle.std.proofs.Common.{◌∙◌, ap, sym, refl, inl, inr, arith}
 use Rattle.std.proofs.lemmas.Bool.{cases_eq}
 use Rattle.dlmalloc.specs.State.{HeapState}
 use Rattle.sound_heap.specs.Heap.{HasBlock}
-use Rattle.heap_library.specs.Counted.{counted, HasBlocks}
+use Rattle.heap_library.specs.Counted.{count_below, HasBlocks}
 
-counted_suc : (test : ℕ → Bool) (n : ℕ) → counted test (suc n) ≡ counted test n + (if test n then 1 else 0)
-unfolding counted
+counted_suc : (test : ℕ → Bool) (n : ℕ) → count_below test (suc n) ≡ count_below test n + (if test n then 1 else 0)
+unfolding count_below
 counted_suc test n = refl
 
-counted_zero : (test : ℕ → Bool) → counted test 0 ≡ 0
-unfolding counted
+counted_zero : (test : ℕ → Bool) → count_below test 0 ≡ 0
+unfolding count_below
 counted_zero test = refl
 
-pub counted_same : (one other : ℕ → Bool) (n : ℕ) → ((k : ℕ) → k < n → other k ≡ one k) → counted other n ≡ counted one n
+pub counted_same : (one other : ℕ → Bool) (n : ℕ) → ((k : ℕ) → k < n → other k ≡ one k) →
+    count_below other n ≡ count_below one n
 counted_same one other zero same = counted_zero other ∙ sym (counted_zero one)
 counted_same one other (suc n) same =
     let rest = counted_same one other n (λ k less. same k (omega arith)) in
     let bit = ap {B = ℕ} (λ (b : Bool). if b then 1 else 0) (same n (omega arith)) in
     omega (arith, counted_suc one n, counted_suc other n, rest, bit)
 
-pub counted_none : (test : ℕ → Bool) (n : ℕ) → ((k : ℕ) → test k ≡ false) → counted test n ≡ 0
+pub counted_none : (test : ℕ → Bool) (n : ℕ) → ((k : ℕ) → test k ≡ false) → count_below test n ≡ 0
 counted_none test zero none = counted_zero test
 counted_none test (suc n) none =
     let rest = counted_none test n none in
@@ -29,11 +30,11 @@ counted_none test (suc n) none =
     omega (arith, counted_suc test n, rest, bit)
 
 pub counted_more : (less more : ℕ → Bool) (n at : ℕ) → at < n → less at ≡ false → more at ≡ true →
-    ((k : ℕ) → k ≢ at → more k ≡ less k) → counted more n ≡ counted less n + 1
+    ((k : ℕ) → k ≢ at → more k ≡ less k) → count_below more n ≡ count_below less n + 1
 counted_more less more zero at below not_yet now same = absurd (omega (arith, below))
 counted_more less more (suc n) at below not_yet now same = go (cases_eq at n) (λ before. counted_more less more n at before not_yet now same)
   where
-    go : (at ≡ n) ⊎ (at ≡ n → ⊥) → (at < n → counted more n ≡ counted less n + 1) → counted more (suc n) ≡ counted less (suc n) + 1
+    go : (at ≡ n) ⊎ (at ≡ n → ⊥) → (at < n → count_below more n ≡ count_below less n + 1) → count_below more (suc n) ≡ count_below less (suc n) + 1
     go (inl last) earlier =
         let rest = counted_same less more n (λ k before. same k (λ is. omega (arith, is, before, last))) in
         let zero_bit = ap {B = ℕ} (λ (b : Bool). if b then 1 else 0) (ap less (sym last) ∙ not_yet) in
@@ -48,16 +49,16 @@ at_most_one : (b : Bool) → (if b then 1 else 0) ≤ 1
 at_most_one true = omega arith
 at_most_one false = omega arith
 
-at_most : (test : ℕ → Bool) (n : ℕ) → counted test n ≤ n
+at_most : (test : ℕ → Bool) (n : ℕ) → count_below test n ≤ n
 at_most test zero = omega (arith, counted_zero test)
 at_most test (suc n) = omega (arith, counted_suc test n, at_most test n, at_most_one (test n))
 
 -- where one does not pass, not all do
-pub counted_below : (test : ℕ → Bool) (n at : ℕ) → at < n → test at ≡ false → counted test n < n
+pub counted_below : (test : ℕ → Bool) (n at : ℕ) → at < n → test at ≡ false → count_below test n < n
 counted_below test zero at below not_so = absurd (omega (arith, below))
 counted_below test (suc n) at below not_so = go (cases_eq at n) (λ before. counted_below test n at before not_so)
   where
-    go : (at ≡ n) ⊎ (at ≡ n → ⊥) → (at < n → counted test n < n) → counted test (suc n) < suc n
+    go : (at ≡ n) ⊎ (at ≡ n → ⊥) → (at < n → count_below test n < n) → count_below test (suc n) < suc n
     go (inl last) earlier =
         let bit = ap {B = ℕ} (λ (b : Bool). if b then 1 else 0) (ap test (sym last) ∙ not_so) in
         omega (arith, counted_suc test n, at_most test n, bit)
@@ -65,7 +66,7 @@ counted_below test (suc n) at below not_so = go (cases_eq at n) (λ before. coun
 
 -- two tests that tell the blocks of a heap count the same
 pub has_blocks : (heap : HeapState) (test : ℕ → Bool) (count : ℕ) → ((a : ℕ) → test a ≡ true → HasBlock heap a) → ((a : ℕ) → HasBlock heap a → test a ≡ true) →
-    count ≡ counted test (2 ^ 64) → HasBlocks heap count
+    count ≡ count_below test (2 ^ 64) → HasBlocks heap count
 has_blocks heap test count to from is other tells = is ∙ sym (counted_same test other (2 ^ 64) (λ k less. go k (test k) (other k) refl refl))
   where
     go : (k : ℕ) (b c : Bool) → test k ≡ b → other k ≡ c → other k ≡ test k

@@ -6,8 +6,8 @@ use Rattle.std.proofs.lemmas.Bool.{cases_eq, cases_lt}
 use Rattle.std.proofs.lemmas.Bool.Decides.{nat_tests}
 use Rattle.std.proofs.lemmas.List.{get_or-set_same, get_or-set_other, get_or_past}
 use Rattle.std.proofs.lemmas.Nat.Bits.{bit_at_clear_same, bit_at_clear_other, bit_at_set_same, bit_at_set_other, bit_at-zero}
-use Rattle.heap_library.specs.Marks.{has_bit, is_marked, HasPlace}
-use Rattle.heap_library.specs.Counted.{counted}
+use Rattle.heap_library.specs.Marks.{has_mark, is_marked, HasBitPlace}
+use Rattle.heap_library.specs.Counted.{count_below}
 use Rattle.heap_library.proofs.Counting.{counted_more, counted_below}
 
 -- a word has one bit of this value, and the bits of another elsewhere
@@ -29,10 +29,10 @@ bit_cleared word place less = record {
 
 -- the other bits stay
 other_bit : (words : List ℕ) (n word k value : ℕ) → ChangesBit (get_or words (n / 64) 0) word (n % 64) value →
-    n / 64 < length words → k ≢ n → has_bit (set words (n / 64) word) k ≡ has_bit words k
+    n / 64 < length words → k ≢ n → has_mark (set words (n / 64) word) k ≡ has_mark words k
 other_bit words n word k value changes within differ = go (cases_eq (k / 64) (n / 64))
   where
-    go : (k / 64 ≡ n / 64) ⊎ (k / 64 ≡ n / 64 → ⊥) → has_bit (set words (n / 64) word) k ≡ has_bit words k
+    go : (k / 64 ≡ n / 64) ⊎ (k / 64 ≡ n / 64 → ⊥) → has_mark (set words (n / 64) word) k ≡ has_mark words k
     go (inl same) =
         let read : get_or (set words (n / 64) word) (n / 64) 0 ≡ word = get_or-set_same words (n / 64) word 0 within in
         let bit : bit_at word (k % 64) ≡ bit_at (get_or words (n / 64) 0) (k % 64) =
@@ -42,7 +42,7 @@ other_bit words n word k value changes within differ = go (cases_eq (k / 64) (n 
         let read : get_or (set words (n / 64) word) (k / 64) 0 ≡ get_or words (k / 64) 0 = get_or-set_other words (n / 64) (k / 64) word 0 apart in
         rw read refl
 
-pub marked_here : (base : ℕ) (words : List ℕ) (address word value : ℕ) → HasPlace base words address →
+pub marked_here : (base : ℕ) (words : List ℕ) (address word value : ℕ) → HasBitPlace base words address →
     ChangesBit (get_or words ((address - base) / 16 / 64) 0) word ((address - base) / 16 % 64) value →
     is_marked base (set words ((address - base) / 16 / 64) word) address ≡ (value == 1)
 marked_here base words address word value place changes =
@@ -52,17 +52,17 @@ marked_here base words address word value place changes =
     go (nat_le base address) ((address - base) % 16 == 0) (let low = place.low in grind (arith, nat_tests))
     (let whole = place.whole in grind (arith, nat_tests)) (rw (read, bit) refl)
   where
-    go : (b c : Bool) → b ≡ true → c ≡ true → has_bit (set words ((address - base) / 16 / 64) word) ((address - base) / 16) ≡ (value == 1) →
-        (b && (c && has_bit (set words ((address - base) / 16 / 64) word) ((address - base) / 16))) ≡ (value == 1)
+    go : (b c : Bool) → b ≡ true → c ≡ true → has_mark (set words ((address - base) / 16 / 64) word) ((address - base) / 16) ≡ (value == 1) →
+        (b && (c && has_mark (set words ((address - base) / 16 / 64) word) ((address - base) / 16))) ≡ (value == 1)
     go b c low whole bit = rw (low, whole) bit
 
-pub marked_other : (base : ℕ) (words : List ℕ) (address word value a : ℕ) → HasPlace base words address →
+pub marked_other : (base : ℕ) (words : List ℕ) (address word value a : ℕ) → HasBitPlace base words address →
     ChangesBit (get_or words ((address - base) / 16 / 64) 0) word ((address - base) / 16 % 64) value → a ≢ address →
     is_marked base (set words ((address - base) / 16 / 64) word) a ≡ is_marked base words a
 marked_other base words address word value a place changes differ = go (nat_le base a) ((a - base) % 16 == 0) refl refl
   where
     go : (b c : Bool) → nat_le base a ≡ b → ((a - base) % 16 == 0) ≡ c →
-        (b && (c && has_bit (set words ((address - base) / 16 / 64) word) ((a - base) / 16))) ≡ (b && (c && has_bit words ((a - base) / 16)))
+        (b && (c && has_mark (set words ((address - base) / 16 / 64) word) ((a - base) / 16))) ≡ (b && (c && has_mark words ((a - base) / 16)))
     go true true low whole =
         let here : base ≤ a = grind (arith, nat_tests, low) in
         let unit : (a - base) % 16 ≡ 0 = grind (arith, nat_tests, whole) in
@@ -72,7 +72,7 @@ marked_other base words address word value a place changes differ = go (nat_le b
     go false c low whole = refl
 
 -- a mark has a place
-pub place_of_mark : (base : ℕ) (words : List ℕ) (address : ℕ) → is_marked base words address ≡ true → HasPlace base words address
+pub place_of_mark : (base : ℕ) (words : List ℕ) (address : ℕ) → is_marked base words address ≡ true → HasBitPlace base words address
 place_of_mark base words address marked = record {
   low = grind (arith, nat_tests, marked);
   whole = grind (arith, nat_tests, marked);
@@ -94,10 +94,10 @@ unmarked_zero base words some = let low : nat_le base 0 ≡ false = grind (arith
 
 -- one mark more is counted, and 0 is none
 pub set_counted : (base : ℕ) (words : List ℕ) (address word : ℕ) → address < 2 ^ 64 → 0 < base →
-    HasPlace base words address → is_marked base words address ≡ false →
+    HasBitPlace base words address → is_marked base words address ≡ false →
     ChangesBit (get_or words ((address - base) / 16 / 64) 0) word ((address - base) / 16 % 64) 1 →
-    (counted (is_marked base (set words ((address - base) / 16 / 64) word)) (2 ^ 64) ≡ counted (is_marked base words) (2 ^ 64) + 1)
-    × (counted (is_marked base (set words ((address - base) / 16 / 64) word)) (2 ^ 64) < 2 ^ 64)
+    (count_below (is_marked base (set words ((address - base) / 16 / 64) word)) (2 ^ 64) ≡ count_below (is_marked base words) (2 ^ 64) + 1)
+    × (count_below (is_marked base (set words ((address - base) / 16 / 64) word)) (2 ^ 64) < 2 ^ 64)
 set_counted base words address word small some place unmarked changes = (
   counted_more (is_marked base words) (is_marked base (set words ((address - base) / 16 / 64) word)) (2 ^ 64) address small
       unmarked (marked_here base words address word 1 place changes)
@@ -107,9 +107,9 @@ set_counted base words address word small some place unmarked changes = (
 )
 
 -- one mark less too
-pub clear_counted : (base : ℕ) (words : List ℕ) (address word : ℕ) → address < 2 ^ 64 → HasPlace base words address → is_marked base words address ≡ true →
+pub clear_counted : (base : ℕ) (words : List ℕ) (address word : ℕ) → address < 2 ^ 64 → HasBitPlace base words address → is_marked base words address ≡ true →
     ChangesBit (get_or words ((address - base) / 16 / 64) 0) word ((address - base) / 16 % 64) 0 →
-    counted (is_marked base words) (2 ^ 64) ≡ counted (is_marked base (set words ((address - base) / 16 / 64) word)) (2 ^ 64) + 1
+    count_below (is_marked base words) (2 ^ 64) ≡ count_below (is_marked base (set words ((address - base) / 16 / 64) word)) (2 ^ 64) + 1
 clear_counted base words address word small place marked changes =
     counted_more (is_marked base (set words ((address - base) / 16 / 64) word)) (is_marked base words) (2 ^ 64) address
     small (marked_here base words address word 0 place changes) marked

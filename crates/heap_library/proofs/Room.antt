@@ -20,13 +20,14 @@ use Rattle.sound_heap.specs.declared.heap_error.HeapError.{HeapError}
 use Rattle.sound_heap.specs.declared.heap_error.HeapError.TheVariants.{BadAlign, NoBlock, Refused}
 use Rattle.heap_library.specs.Library.{IsResizeRefused}
 use Rattle.sound_heap.specs.Heap.{HasBlock, usable, IsRequestRefused}
-use Rattle.heap_library.specs.Checked.{zeros, follows, refuses, denies, heap_state}
+use Rattle.heap_library.specs.Checked.{arena_zeros, arena_follows, arena_refuses, arena_denies, arena_heap_state}
 use Rattle.heap_library.specs.Room.{HasNoRoom, IsRefused, IsRefusedResize}
 
 -- ---- what is refused had to be
 
 pub refused_for : (old new : Dlmalloc Arena) (size align : ℕ) (error : HeapError) →
-    IsRequestRefused regions_of word_of follows refuses denies old size align error new → IsRefused old size align
+    IsRequestRefused regions_of word_of arena_follows arena_refuses arena_denies old size align error new →
+    IsRefused old size align
 refused_for old new size align BadAlign is = inl is.0
 refused_for old new size align NoBlock is = absurd is
 refused_for old new size align (Refused TooLarge) is = inr (inl is.1.refused)
@@ -34,7 +35,8 @@ refused_for old new size align (Refused (System fault)) is =
     let why = is.1.refused.1 in inr (inr (record { none_chosen = why.none_chosen; arena_full = why.denied.1 }))
 
 pub resize_refused_for : (old new : Dlmalloc Arena) (address size : ℕ) (error : HeapError) →
-    IsResizeRefused regions_of word_of follows refuses denies old address size error new → IsRefusedResize old address size
+    IsResizeRefused regions_of word_of arena_follows arena_refuses arena_denies old address size error new →
+    IsRefusedResize old address size
 resize_refused_for old new address size BadAlign is = absurd is
 resize_refused_for old new address size NoBlock is = inl is.0
 resize_refused_for old new address size (Refused TooLarge) is = inr (inl is.1.refused)
@@ -81,7 +83,8 @@ module _ (old new : Arena) (size : ℕ) (grant : Grant) (after : IsArenaAfter ol
 
 -- ---- what is served was not to be refused
 
-served_room : (old new : Dlmalloc Arena) (size address : ℕ) → IsServed regions_of word_of zeros follows old size address new → HasNoRoom old (padded size) → ⊥
+served_room : (old new : Dlmalloc Arena) (size address : ℕ) → IsServed regions_of word_of arena_zeros arena_follows old size
+    address new → HasNoRoom old (padded size) → ⊥
 served_room old new size address served none = elim served.cut [
   | inl found ↦ (let is = found.0.is_chosen.is in let not_so = none.none_chosen in cc)
   | inr fresh ↦
@@ -98,7 +101,8 @@ asked_high : (size align : ℕ) → 16 < align → asked size align ≡ enlarged
 asked_high size align high = let many : nat_le align 16 ≡ false = grind (arith, nat_tests) in rw many refl
 
 served_at_room : (old new : Dlmalloc Arena) (size align address : ℕ) →
-    IsServedAt regions_of word_of zeros follows old size align address new → HasNoRoom old (padded (asked size align)) → ⊥
+    IsServedAt regions_of word_of arena_zeros arena_follows old size align address new →
+    HasNoRoom old (padded (asked size align)) → ⊥
 served_at_room old new size align address served none = elim served [
   | inl low ↦ served_room old new size address low.1 (subst (λ (n : ℕ). HasNoRoom old (padded n)) (asked_low size align low.0) none)
   | inr high ↦ served_room old high.1.middle (enlarged size align) high.1.greater high.1.served
@@ -106,14 +110,15 @@ served_at_room old new size align address served none = elim served [
 ]
 
 pub not_refused : (old middle : Dlmalloc Arena) (size align address : ℕ) → IsPowerOfTwo align → asked size align < limit old.granularity →
-    IsServedAt regions_of word_of zeros follows old size align address middle → IsRefused old size align → ⊥
+    IsServedAt regions_of word_of arena_zeros arena_follows old size align address middle → IsRefused old size align → ⊥
 not_refused old middle size align address power small served refused = elim refused [
   | inl no_power ↦ no_power power
   | inr others ↦ elim others [ inl large ↦ omega (arith, small, large) | inr none ↦ served_at_room old middle size align address served none ]
 ]
 
-pub resize_not_refused : (old new : Dlmalloc Arena) (from held size to : ℕ) → HasBlock (heap_state old) from → size < limit old.granularity →
-    IsResized regions_of word_of zeros follows true true 1 old from held 16 size to new → IsRefusedResize old from size → ⊥
+pub resize_not_refused : (old new : Dlmalloc Arena) (from held size to : ℕ) → HasBlock (arena_heap_state old) from → size < limit old.granularity →
+    IsResized regions_of word_of arena_zeros arena_follows true true 1 old from held 16 size to new →
+    IsRefusedResize old from size → ⊥
 resize_not_refused old new from held size to block small resized refused = elim refused [
   | inl none ↦ none block
   | inr others ↦

@@ -4,11 +4,11 @@ use Rattle.dlmalloc.specs.State.{new_heap}
 use Rattle.dlmalloc.specs.declared.heap.Dlmalloc.{Dlmalloc}
 use Rattle.heap_arena.specs.Arena.{regions_of}
 use Rattle.heap_arena.specs.declared.arena.Arena.{Arena}
-use Rattle.heap_library.specs.Checked.{heap_state, left_for_words, table_of, words_for_blocks, words_for_table}
+use Rattle.heap_library.specs.Checked.{arena_heap_state, left_for_words, table_of, words_for_blocks, words_for_table}
 
 -- A heap of a granularity that has nothing yet, over words that begin at an address. No word was ever in a grant.
 pub record IsNewAt (address granularity : ℕ) (heap : Dlmalloc Arena) : Type 0 where
-  pub state : heap_state heap ≡ record new_heap { granularity = granularity }
+  pub state : arena_heap_state heap ≡ record new_heap { granularity = granularity }
   pub regions : regions_of heap.system ≡ []
   pub base : heap.system.base ≡ address
   pub top : heap.system.top ≡ address

@@ -7,18 +7,18 @@ use Rattle.heap_arena.specs.Arenas.{IsNotAdded}
 use Rattle.heap_arena.specs.declared.add_fault.AddFault.{AddFault}
 use Rattle.heap_arena.specs.declared.arena.Arena.{Arena}
 use Rattle.sound_heap.specs.Heap.{HasBlock, usable, IsBlockHandedOut}
-use Rattle.heap_library.specs.Checked.{zeros, follows, heap_state}
+use Rattle.heap_library.specs.Checked.{arena_zeros, arena_follows, arena_heap_state}
 
 -- The block at the address is new, for a request of `size` bytes at a multiple of `align`; if `cleared`, it was asked to have the
 -- value 0.
 abbrev pub IsBlockGiven : (old : Dlmalloc Arena) → (size align : ℕ) → (cleared : Bool) → (address : ℕ) → (new : Dlmalloc Arena) → Type 0
-IsBlockGiven old size align cleared address new = IsBlockHandedOut regions_of word_of zeros follows old size align cleared address new
+IsBlockGiven old size align cleared address new = IsBlockHandedOut regions_of word_of arena_zeros arena_follows old size align cleared address new
 
 -- The block at `from` has this size, and stands at `to`.
 pub record IsBlockResized (old : Dlmalloc Arena) (from size to : ℕ) (new : Dlmalloc Arena) : Type 0 where
-  pub block : HasBlock (heap_state old) from
-  pub reallocated : IsReallocated regions_of word_of zeros follows true true 1 old from (usable (heap_state old) from) 16 size to new
-  pub enough : size ≤ usable (heap_state new) to
+  pub block : HasBlock (arena_heap_state old) from
+  pub reallocated : IsReallocated regions_of word_of arena_zeros arena_follows true true 1 old from (usable (arena_heap_state old) from) 16 size to new
+  pub enough : size ≤ usable (arena_heap_state new) to
 
 -- An arena is not taken: a fault says why, the arena comes back as it was, and those of the system are as they were.
 pub record IsArenaRefused (old : List Arena) (most : ℕ) (arena : Arena) (fault : AddFault) (back : Arena) (new : List Arena) : Type 0 where

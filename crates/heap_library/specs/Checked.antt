@@ -10,36 +10,36 @@ use Rattle.heap_arena.specs.declared.arena.Arena.{Arena}
 use Rattle.heap_arena.specs.Arena.{word_of, IsArenaAfter, IsDenied}
 use Rattle.sound_heap.specs.Heap.{HasBlock}
 use Rattle.heap_library.specs.Marks.{is_marked}
-use Rattle.heap_library.specs.Counted.{counted}
+use Rattle.heap_library.specs.Counted.{count_below}
 
 -- no grant of an arena is known to be zero
-abbrev pub zeros : Arena → Bool
-zeros arena = false
+abbrev pub arena_zeros : Arena → Bool
+arena_zeros arena = false
 
 -- what a heap over an arena says of the time between two moments: its top and its peak are where what was granted and what came
 -- back left them, and the words after the peak are as they were
-abbrev pub follows : Arena → List Event → Arena → Type 0
-follows old events new = IsArenaAfter old events new
+abbrev pub arena_follows : Arena → List Event → Arena → Type 0
+arena_follows old events new = IsArenaAfter old events new
 
-abbrev pub refuses : Arena → Arena → Type 0
-refuses old new = new ≡ old
+abbrev pub arena_refuses : Arena → Arena → Type 0
+arena_refuses old new = new ≡ old
 
-abbrev pub denies : Arena → ℕ → GrantFault → Type 0
-denies arena size fault = IsDenied arena size fault
+abbrev pub arena_denies : Arena → ℕ → GrantFault → Type 0
+arena_denies arena size fault = IsDenied arena size fault
 
 -- its state
-abbrev pub heap_state : Dlmalloc Arena → HeapState
-heap_state heap = state_of word_of heap
+abbrev pub arena_heap_state : Dlmalloc Arena → HeapState
+arena_heap_state heap = state_of word_of heap
 
 -- Marks stand where blocks begin, and nowhere else, and are counted: a condition of the type. There is a mark for each 16
 -- bytes of the arena.
 pub record IsMarked (base : ℕ) (marks : List ℕ) (count : ℕ) (heap : Dlmalloc Arena) : Type 0 where
   pub some : 0 < base
-  pub count_is : count ≡ counted (is_marked base marks) (2 ^ 64)
+  pub count_is : count ≡ count_below (is_marked base marks) (2 ^ 64)
   pub base_is : heap.system.base ≡ base
   pub room : length heap.system.words.now ≤ 128 * length marks
-  pub blocks : (address : ℕ) → is_marked base marks address ≡ true → HasBlock (heap_state heap) address
-  pub marked : (address : ℕ) → HasBlock (heap_state heap) address → is_marked base marks address ≡ true
+  pub blocks : (address : ℕ) → is_marked base marks address ≡ true → HasBlock (arena_heap_state heap) address
+  pub marked : (address : ℕ) → HasBlock (arena_heap_state heap) address → is_marked base marks address ≡ true
 
 -- Of the words of one memory: those that are left beside a bit for each two of all; of them those for the table, which has a
 -- place of two words beside each granularity of bytes; and the others.

@@ -4,11 +4,11 @@ use Rattle.dlmalloc.specs.State.{HeapState}
 use Rattle.sound_heap.specs.Heap.{HasBlock}
 
 -- how many addresses below a bound pass a test
-unfoldable pub counted : (ℕ → Bool) → ℕ → ℕ
-counted test zero = 0
-counted test (suc bound) = counted test bound + (if test bound then 1 else 0)
+unfoldable pub count_below : (ℕ → Bool) → ℕ → ℕ
+count_below test zero = 0
+count_below test (suc bound) = count_below test bound + (if test bound then 1 else 0)
 
 -- A heap has this many blocks: of the addresses below 2 ^ 64, this many pass each test that is passed where a block begins, and
 -- nowhere else.
 abbrev pub HasBlocks : HeapState → ℕ → Type 0
-HasBlocks heap count = (test : ℕ → Bool) → ((address : ℕ) → (test address ≡ true) ↔ HasBlock heap address) → count ≡ counted test (2 ^ 64)
+HasBlocks heap count = (test : ℕ → Bool) → ((address : ℕ) → (test address ≡ true) ↔ HasBlock heap address) → count ≡ count_below test (2 ^ 64)

@@ -9,12 +9,12 @@ use Rattle.dlmalloc.specs.declared.heap.Dlmalloc.{Dlmalloc}
 use Rattle.heap_arena.specs.Arena.{has_room}
 use Rattle.heap_arena.specs.declared.arena.Arena.{Arena}
 use Rattle.sound_heap.specs.Heap.{HasBlock}
-use Rattle.heap_library.specs.Checked.{heap_state}
+use Rattle.heap_library.specs.Checked.{arena_heap_state}
 
 -- There is no room for a chunk of n bytes: no free extent serves it, and the arena has not n + 96 bytes in whole granularities
 -- after its grants, or no place for another grant.
 pub record HasNoRoom (heap : Dlmalloc Arena) (n : ℕ) : Type 0 where
-  pub none_chosen : chosen (heap_state heap) n ≡ None
+  pub none_chosen : chosen (arena_heap_state heap) n ≡ None
   pub arena_full : has_room heap.system (round_up (n + 96) heap.granularity) ≡ false
 
 -- A request for this many bytes at a multiple of an alignment is refused: the alignment is no power of two, the size is too large, or
@@ -26,4 +26,4 @@ IsRefused heap size align = (IsPowerOfTwo align → ⊥) ⊎ ((limit heap.granul
 -- where it stands, and there is no room elsewhere.
 abbrev pub IsRefusedResize : Dlmalloc Arena → ℕ → ℕ → Type 0
 IsRefusedResize heap address size =
-    (HasBlock (heap_state heap) address → ⊥) ⊎ ((limit heap.granularity ≤ size) ⊎ ((in_place (heap_state heap) (address - 16) (padded size) ≡ None) × HasNoRoom heap (padded size)))
+    (HasBlock (arena_heap_state heap) address → ⊥) ⊎ ((limit heap.granularity ≤ size) ⊎ ((in_place (arena_heap_state heap) (address - 16) (padded size) ≡ None) × HasNoRoom heap (padded size)))

@@ -3,7 +3,7 @@ ghost use Rattle.std.specs.Prelude.{◌≡◌, ◌≢◌, ℕ, ◌*◌, ◌%◌,
 ghost use Rattle.heap_memory.specs.Regions.{is_granted};
 ghost use Rattle.heap_arena.specs.Arena.{regions_of};
 ghost use Rattle.heap_library.specs.Marks.{is_marked};
-ghost use Rattle.heap_library.specs.Counted.{counted};
+ghost use Rattle.heap_library.specs.Counted.{count_below};
 ghost use Rattle.heap_library.specs.Checked.{table_in};
 
 use crate::marks::Marks;
@@ -43,8 +43,8 @@ fn mark<'a>(marks: &mut Marks<'a>, heap: &Heap<Arena<'a>>, address: u64)
     requires room { length heap.now.system.words.now ≤ 128 * length marks.old.words.now }
     requires some { 0 < marks.old.base }
     requires unmarked { is_marked marks.old.base marks.old.words.now address ≡ false }
-    requires counted { marks.old.count ≡ counted (is_marked marks.old.base marks.old.words.now) (2 ^ 64) }
-    ensures counted { marks.new.count ≡ counted (is_marked marks.new.base marks.new.words.now) (2 ^ 64) }
+    requires counted { marks.old.count ≡ count_below (is_marked marks.old.base marks.old.words.now) (2 ^ 64) }
+    ensures counted { marks.new.count ≡ count_below (is_marked marks.new.base marks.new.words.now) (2 ^ 64) }
     ensures here { is_marked marks.new.base marks.new.words.now address ≡ true }
     ensures others { (a : ℕ) → a ≢ address → is_marked marks.new.base marks.new.words.now a ≡ is_marked marks.old.base marks.old.words.now a }
     ensures base { marks.new.base ≡ marks.old.base }
@@ -77,8 +77,8 @@ impl<'a> CheckedHeap<'a> {
     ghost use Rattle.heap_library.specs.Calls.{IsBlockGiven, IsBlockResized};
     ghost use Rattle.heap_library.specs.Library.{HasWord, IsResizeRefused};
     ghost use Rattle.sound_heap.specs.Heap.{HasBlock, usable, IsIntact, IsRequestRefused, StaysInState};
-    ghost use Rattle.heap_library.specs.Counted.{HasBlocks, counted};
-    ghost use Rattle.heap_library.specs.Checked.{follows, refuses, denies, heap_state, table_in, table_of, left_for_words, words_for_blocks, words_for_table, IsCleared};
+    ghost use Rattle.heap_library.specs.Counted.{HasBlocks, count_below};
+    ghost use Rattle.heap_library.specs.Checked.{arena_follows, arena_refuses, arena_denies, arena_heap_state, table_in, table_of, left_for_words, words_for_blocks, words_for_table, IsCleared};
     ghost use Rattle.heap_library.specs.Marks.{is_marked};
     ghost use Rattle.heap_library.specs.Room.{IsRefused, IsRefusedResize};
 
@@ -164,7 +164,7 @@ impl<'a> CheckedHeap<'a> {
         requires high { base + 8 * length front.now < 2 ^ 64 }
         requires marks_base { marks.base ≡ base }
         requires none { (address : ℕ) → is_marked marks.base marks.words.now address ≡ false }
-        requires counted { marks.count ≡ counted (is_marked marks.base marks.words.now) (2 ^ 64) }
+        requires counted { marks.count ≡ count_below (is_marked marks.base marks.words.now) (2 ^ 64) }
         requires room { length front.now ≤ 128 * length marks.words.now }
         ensures new { IsNewAt base 65536 result }
         ensures words { result.system.words.now ≡ take (length front.entry.now - table_in granularity (length front.entry.now)) front.entry.now }
@@ -189,7 +189,7 @@ impl<'a> CheckedHeap<'a> {
         requires high { base + 8 * length words.now < 2 ^ 64 }
         requires marks_base { marks.base ≡ base }
         requires none { (address : ℕ) → is_marked marks.base marks.words.now address ≡ false }
-        requires counted { marks.count ≡ counted (is_marked marks.base marks.words.now) (2 ^ 64) }
+        requires counted { marks.count ≡ count_below (is_marked marks.base marks.words.now) (2 ^ 64) }
         ensures new { IsNewAt base 65536 result }
         ensures words { result.system.words.now ≡ take (min (length words.entry.now) (128 * length marks.entry.words.now)) words.entry.now }
         ensures len { length result.system.words.now ≡ min (length words.entry.now) (128 * length marks.entry.words.now) }
@@ -207,7 +207,7 @@ impl<'a> CheckedHeap<'a> {
     /// other number changes nothing.
     pub fn set_granularity(&mut self, granularity: u64) -> bool
         ensures answer { IsTrue result ↔ IsGranularity granularity }
-        ensures state { heap_state self.new ≡ record (heap_state self.old) { granularity = if result then granularity else self.old.granularity } }
+        ensures state { arena_heap_state self.new ≡ record (arena_heap_state self.old) { granularity = if result then granularity else self.old.granularity } }
         ensures system { self.new.system ≡ self.old.system }
         ensures index { KeepsIndex regions_of word_of self.old self.new }
     {
@@ -217,7 +217,7 @@ impl<'a> CheckedHeap<'a> {
     /// Sets how many large chunks are freed between two release passes, and begins to count them anew. 0 stands for the
     /// greatest number, 2^64 - 1.
     pub fn set_release_rate(&mut self, rate: u64)
-        ensures state { heap_state self.new ≡ record (heap_state self.old) { rate = rate; countdown = countdown_from rate } }
+        ensures state { arena_heap_state self.new ≡ record (arena_heap_state self.old) { rate = rate; countdown = countdown_from rate } }
         ensures system { self.new.system ≡ self.old.system }
         ensures index { KeepsIndex regions_of word_of self.old self.new }
     {
@@ -226,7 +226,7 @@ impl<'a> CheckedHeap<'a> {
 
     /// Whether a block begins at an address, which may be any.
     pub fn has_block(&self, address: u64) -> bool
-        ensures { IsTrue result ↔ HasBlock (heap_state self.now) address }
+        ensures { IsTrue result ↔ HasBlock (arena_heap_state self.now) address }
     {
         self.marks.has(address)
     }
@@ -234,9 +234,9 @@ impl<'a> CheckedHeap<'a> {
     /// The address of a block of `size` bytes, at a multiple of `align` and of 16.
     pub fn malloc(&mut self, size: u64, align: u64) -> Result<u64, HeapError>
         ensures ok { IfOk result (λ address. IsBlockGiven self.old size align false address self.new) }
-        ensures err { IfErr result (λ error. IsRequestRefused regions_of word_of follows refuses denies self.old size align error self.new) }
+        ensures err { IfErr result (λ error. IsRequestRefused regions_of word_of arena_follows arena_refuses arena_denies self.old size align error self.new) }
         ensures refused { IsErr result ↔ IsRefused self.old size align }
-        ensures apart { BlocksAreApart (heap_state self.new) }
+        ensures apart { BlocksAreApart (arena_heap_state self.new) }
     {
         match self.heap.malloc(size, align) {
             Ok(address) => {
@@ -250,9 +250,9 @@ impl<'a> CheckedHeap<'a> {
     /// As `malloc`; the bytes of the block are 0.
     pub fn calloc(&mut self, size: u64, align: u64) -> Result<u64, HeapError>
         ensures ok { IfOk result (λ address. IsBlockGiven self.old size align true address self.new) }
-        ensures err { IfErr result (λ error. IsRequestRefused regions_of word_of follows refuses denies self.old size align error self.new) }
+        ensures err { IfErr result (λ error. IsRequestRefused regions_of word_of arena_follows arena_refuses arena_denies self.old size align error self.new) }
         ensures refused { IsErr result ↔ IsRefused self.old size align }
-        ensures apart { BlocksAreApart (heap_state self.new) }
+        ensures apart { BlocksAreApart (arena_heap_state self.new) }
     {
         match self.heap.calloc(size, align) {
             Ok(address) => {
@@ -267,9 +267,9 @@ impl<'a> CheckedHeap<'a> {
     /// its bytes as both sizes have. `NoBlock` if none begins there; then nothing changes.
     pub fn realloc(&mut self, from: u64, size: u64) -> Result<u64, HeapError>
         ensures ok { IfOk result (λ to. IsBlockResized self.old from size to self.new) }
-        ensures err { IfErr result (λ error. IsResizeRefused regions_of word_of follows refuses denies self.old from size error self.new) }
+        ensures err { IfErr result (λ error. IsResizeRefused regions_of word_of arena_follows arena_refuses arena_denies self.old from size error self.new) }
         ensures refused { IsErr result ↔ IsRefusedResize self.old from size }
-        ensures apart { BlocksAreApart (heap_state self.new) }
+        ensures apart { BlocksAreApart (arena_heap_state self.new) }
     {
         if !self.has_block(from) {
             self.heap.blocks_are_apart();
@@ -287,8 +287,8 @@ impl<'a> CheckedHeap<'a> {
 
     /// Gives the block at an address back. False if none begins there; then nothing changes.
     pub fn free(&mut self, address: u64) -> bool
-        ensures answer { IsTrue result ↔ HasBlock (heap_state self.old) address }
-        ensures freed { result ≡ true → IsFreed regions_of word_of follows true true 1 self.old address self.new }
+        ensures answer { IsTrue result ↔ HasBlock (arena_heap_state self.old) address }
+        ensures freed { result ≡ true → IsFreed regions_of word_of arena_follows true true 1 self.old address self.new }
         ensures same { result ≡ false → self.new ≡ self.old }
     {
         if !self.has_block(address) {
@@ -302,15 +302,15 @@ impl<'a> CheckedHeap<'a> {
     /// Gives memory back to the arena that no block needs: the top keeps more than `pad` bytes. True exactly if bytes
     /// went back.
     pub fn trim(&mut self, pad: u64) -> bool
-        ensures trimmed { IsTrimmed regions_of word_of follows true true 1 self.old pad result self.new }
+        ensures trimmed { IsTrimmed regions_of word_of arena_follows true true 1 self.old pad result self.new }
     {
         self.heap.trim(pad)
     }
 
     /// The bytes of the block at an address, if one begins there: those that were asked for, and at most 71 more.
     pub fn usable_size(&self, address: u64) -> Option<u64>
-        ensures some { IfSome result (λ size. HasBlock (heap_state self.now) address × (size ≡ usable (heap_state self.now) address)) }
-        ensures none { IfNone result (HasBlock (heap_state self.now) address → ⊥) }
+        ensures some { IfSome result (λ size. HasBlock (arena_heap_state self.now) address × (size ≡ usable (arena_heap_state self.now) address)) }
+        ensures none { IfNone result (HasBlock (arena_heap_state self.now) address → ⊥) }
     {
         if self.has_block(address) {
             Some(self.heap.usable_size(address))
@@ -321,7 +321,7 @@ impl<'a> CheckedHeap<'a> {
 
     /// Whether a block begins at an address and has a whole word at an offset, which is a multiple of 8.
     fn has_word(&self, address: u64, offset: u64) -> bool
-        ensures { IsTrue result ↔ HasWord (heap_state self.now) address offset }
+        ensures { IsTrue result ↔ HasWord (arena_heap_state self.now) address offset }
     {
         match self.usable_size(address) {
             Some(size) => offset % 8 == 0 && size >= 8 && offset <= size - 8,
@@ -331,8 +331,8 @@ impl<'a> CheckedHeap<'a> {
 
     /// The word at an offset of the block at an address; None if there is none. The offset is a multiple of 8.
     pub fn load(&self, address: u64, offset: u64) -> Option<u64>
-        ensures some { IfSome result (λ word. HasWord (heap_state self.now) address offset × (word ≡ word_of self.now.system (address + offset))) }
-        ensures none { IfNone result (HasWord (heap_state self.now) address offset → ⊥) }
+        ensures some { IfSome result (λ word. HasWord (arena_heap_state self.now) address offset × (word ≡ word_of self.now.system (address + offset))) }
+        ensures none { IfNone result (HasWord (arena_heap_state self.now) address offset → ⊥) }
     {
         if self.has_word(address, offset) {
             Some(self.heap.load(address, offset))
@@ -344,9 +344,9 @@ impl<'a> CheckedHeap<'a> {
     /// Puts a word at an offset of the block at an address, and changes nothing else. False if there is none; then
     /// nothing changes. The offset is a multiple of 8.
     pub fn store(&mut self, address: u64, offset: u64, value: u64) -> bool
-        ensures answer { IsTrue result ↔ HasWord (heap_state self.old) address offset }
+        ensures answer { IsTrue result ↔ HasWord (arena_heap_state self.old) address offset }
         ensures stored { result ≡ true → IsStored (regions_of self.old.system) (word_of self.old.system) (address + offset) value (word_of self.new.system) }
-        ensures stays { StaysInState regions_of word_of follows self.old self.new }
+        ensures stays { StaysInState regions_of word_of arena_follows self.old self.new }
         ensures same { result ≡ false → self.new ≡ self.old }
     {
         if !self.has_word(address, offset) {
@@ -358,7 +358,7 @@ impl<'a> CheckedHeap<'a> {
 
     /// How many blocks there are.
     pub fn blocks(&self) -> u64
-        ensures { HasBlocks (heap_state self.now) result }
+        ensures { HasBlocks (arena_heap_state self.now) result }
     {
         self.marks.count()
     }
@@ -394,14 +394,14 @@ impl<'a> CheckedHeap<'a> {
 
     /// Each block is at a multiple of 16, and its bytes are granted; if it has none, one is.
     pub fn blocks_are_placed(&self)
-        ensures { ArePlaced (regions_of self.now.system) (heap_state self.now) }
+        ensures { ArePlaced (regions_of self.now.system) (arena_heap_state self.now) }
     {
         self.heap.blocks_are_placed();
     }
 
     /// Two blocks have no byte in common, with one byte for a block that has none.
     pub fn blocks_are_apart(&self)
-        ensures { BlocksAreApart (heap_state self.now) }
+        ensures { BlocksAreApart (arena_heap_state self.now) }
     {
         self.heap.blocks_are_apart();
     }

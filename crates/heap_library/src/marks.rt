@@ -11,14 +11,14 @@ pub(crate) struct Marks<'a> {
 }
 
 impl<'a> Marks<'a> {
-    ghost use Rattle.heap_library.specs.Marks.{is_marked, HasPlace};
-    ghost use Rattle.heap_library.specs.Counted.{counted};
+    ghost use Rattle.heap_library.specs.Marks.{is_marked, HasBitPlace};
+    ghost use Rattle.heap_library.specs.Counted.{count_below};
 
     /// Marks from the address `base` on, of which none is set.
     pub fn new(words: &'a mut [u64], base: u64) -> Marks<'a>
         ensures none { (address : ℕ) → is_marked result.base result.words.now address ≡ false }
         ensures base { result.base ≡ base }
-        ensures counted { result.count ≡ counted (is_marked result.base result.words.now) (2 ^ 64) }
+        ensures counted { result.count ≡ count_below (is_marked result.base result.words.now) (2 ^ 64) }
         ensures len { length result.words.now ≡ length words.entry.now }
     {
         words.fill(0);
@@ -30,7 +30,7 @@ impl<'a> Marks<'a> {
         requires zeros { words.now ≡ replicate (length words.now) 0 }
         ensures none { (address : ℕ) → is_marked result.base result.words.now address ≡ false }
         ensures base { result.base ≡ base }
-        ensures counted { result.count ≡ counted (is_marked result.base result.words.now) (2 ^ 64) }
+        ensures counted { result.count ≡ count_below (is_marked result.base result.words.now) (2 ^ 64) }
         ensures len { length result.words.now ≡ length words.entry.now }
     {
         let marks = Marks {
@@ -53,7 +53,7 @@ impl<'a> Marks<'a> {
     fn none_are_counted(&self)
         requires none { (address : ℕ) → is_marked self.now.base self.now.words.now address ≡ false }
         requires zero { self.now.count ≡ 0 }
-        ensures { self.now.count ≡ counted (is_marked self.now.base self.now.words.now) (2 ^ 64) }
+        ensures { self.now.count ≡ count_below (is_marked self.now.base self.now.words.now) (2 ^ 64) }
     {}
 
     /// Whether an address is marked. It may be any.
@@ -80,10 +80,10 @@ impl<'a> Marks<'a> {
     /// Marks an address that is not marked, and no other.
     pub fn set(&mut self, address: u64)
         requires some { 0 < self.old.base }
-        requires place { HasPlace self.old.base self.old.words.now address }
+        requires place { HasBitPlace self.old.base self.old.words.now address }
         requires unmarked { is_marked self.old.base self.old.words.now address ≡ false }
-        requires counted { self.old.count ≡ counted (is_marked self.old.base self.old.words.now) (2 ^ 64) }
-        ensures counted { self.new.count ≡ counted (is_marked self.new.base self.new.words.now) (2 ^ 64) }
+        requires counted { self.old.count ≡ count_below (is_marked self.old.base self.old.words.now) (2 ^ 64) }
+        ensures counted { self.new.count ≡ count_below (is_marked self.new.base self.new.words.now) (2 ^ 64) }
         ensures here { is_marked self.new.base self.new.words.now address ≡ true }
         ensures others { (a : ℕ) → a ≢ address → is_marked self.new.base self.new.words.now a ≡ is_marked self.old.base self.old.words.now a }
         ensures base { self.new.base ≡ self.old.base }
@@ -97,10 +97,10 @@ impl<'a> Marks<'a> {
 
     /// Takes the mark off an address, and off no other.
     pub fn clear(&mut self, address: u64)
-        requires place { HasPlace self.old.base self.old.words.now address }
+        requires place { HasBitPlace self.old.base self.old.words.now address }
         requires marked { is_marked self.old.base self.old.words.now address ≡ true }
-        requires counted { self.old.count ≡ counted (is_marked self.old.base self.old.words.now) (2 ^ 64) }
-        ensures counted { self.new.count ≡ counted (is_marked self.new.base self.new.words.now) (2 ^ 64) }
+        requires counted { self.old.count ≡ count_below (is_marked self.old.base self.old.words.now) (2 ^ 64) }
+        ensures counted { self.new.count ≡ count_below (is_marked self.new.base self.new.words.now) (2 ^ 64) }
         ensures here { is_marked self.new.base self.new.words.now address ≡ false }
         ensures others { (a : ℕ) → a ≢ address → is_marked self.new.base self.new.words.now a ≡ is_marked self.old.base self.old.words.now a }
         ensures base { self.new.base ≡ self.old.base }

@@ -14,7 +14,7 @@ use Rattle.paging_core.specs.declared.page_table.Rights.{Rights}
 use Rattle.heap_model.specs.declared.call.Access.{Access}
 use Rattle.heap_model.specs.declared.call.Access.TheVariants.{Read as Reading, Write as Writing, Fetch as Fetching}
 use Rattle.heap_lines.specs.CallLine.{access_word}
-use Rattle.heap_lines.specs.Grammar.{access_of, bytes_of, rights_of_letters}
+use Rattle.heap_lines.specs.Grammar.{access_named, bytes_from_digits, rights_of_letters}
 use Rattle.heap_lines.specs.Number.{number_of, numeral_of}
 use Rattle.heap_lines.specs.Written.{hexadecimal, rights_word}
 use Rattle.heap_lines.proofs.Numerals.{left_done}
@@ -127,7 +127,7 @@ bytes_word (byte ∷ bytes) small =
       (digit_word lower_digits (byte % 16) lower_word (omega arith), bytes_word bytes (λ i. small (suc i))),
     )
 
-pub bytes_read : (bytes : List ℕ) → IsBytes bytes → 0 < length bytes → bytes_of (encode_lower bytes) ≡ Some bytes
+pub bytes_read : (bytes : List ℕ) → IsBytes bytes → 0 < length bytes → bytes_from_digits (encode_lower bytes) ≡ Some bytes
 unfolding encode_with
 bytes_read [] small some = absurd (omega (arith, some))
 bytes_read (byte ∷ bytes) small some = ap result_ok (decode_of-encode_lower (byte ∷ bytes) small)
@@ -159,7 +159,7 @@ rights_word_is rights = spelled rights.write rights.user rights.fetch
 pub rights_read : (rights : Rights) → rights_of_letters (rights_word rights) ≡ Some rights
 rights_read rights = rights_spelled rights.write rights.user rights.fetch
 
-pub access_read : (access : Access) → access_of (access_word access) ≡ Some access
+pub access_read : (access : Access) → access_named (access_word access) ≡ Some access
 access_read Reading = refl
 access_read Writing = refl
 access_read Fetching = refl

@@ -16,7 +16,7 @@ use Rattle.heap_model.specs.declared.call.Call.{Call}
 use Rattle.heap_model.specs.declared.call.Call.TheVariants.{Malloc, Calloc, Realloc, CRealloc, Free, Write, Read, Map, Unmap, Probe, Trim, SetRate, SetGranularity, Reset, Extents}
 use Rattle.heap_lines.specs.Asked.{CanBeAsked, AsksForNoOther, IsShort}
 use Rattle.heap_lines.specs.CallLine.{call_line, with_number, with_numbers, request_line, access_word, by_user}
-use Rattle.heap_lines.specs.Grammar.{one_number, both_numbers, two_numbers, request_of, bytes_of, write_call, read_call, map_call, probe_call, malloc_of, calloc_of, realloc_of, c_realloc_of, free_of, write_of, read_of, map_of, unmap_of, probe_of, trim_of, rate_of, granularity_of, rights_of_letters, access_of, user_of, alone, call_of, item_of}
+use Rattle.heap_lines.specs.Grammar.{one_number, both_numbers, two_numbers, request_of, bytes_from_digits, write_call, read_call, map_call, probe_call, malloc_of, calloc_of, realloc_of, c_realloc_of, free_call, write_of, read_of, map_of, unmap_of, probe_of, trim_of, rate_of, granularity_of, rights_of_letters, access_named, user_of, alone, call_of, item_of}
 use Rattle.heap_lines.specs.Number.{numeral_of, number_of}
 use Rattle.heap_lines.specs.Words.{words_of}
 use Rattle.heap_lines.specs.Written.{hexadecimal, rights_word}
@@ -76,7 +76,7 @@ request_fits (size ∷ []) = both_fit (number_of size) (Some 16) (number_fits si
 request_fits (size ∷ align ∷ []) = both_fit (number_of size) (number_of align) (number_fits size) (number_fits align)
 request_fits (size ∷ align ∷ third ∷ words) = tt
 
-bytes_fit : (word : List ℕ) → BytesFit (bytes_of word)
+bytes_fit : (word : List ℕ) → BytesFit (bytes_from_digits word)
 bytes_fit [] = tt
 bytes_fit (digit ∷ digits) = go (decode_of (digit ∷ digits)) refl
   where
@@ -118,7 +118,7 @@ c_realloc_fits words = pair_fits (λ asked. CRealloc asked.0 asked.1) (λ both f
 unmap_fits : (words : List (List ℕ)) → ItemFits (unmap_of words)
 unmap_fits words = pair_fits (λ range. Unmap range.0 range.1) (λ both fits. fits) (two_numbers words) (two_fit words)
 
-free_fits : (words : List (List ℕ)) → ItemFits (free_of words)
+free_fits : (words : List (List ℕ)) → ItemFits (free_call words)
 free_fits words = one_fits Free (λ n fits. fits) words
 
 trim_fits : (words : List (List ℕ)) → ItemFits (trim_of words)
@@ -134,7 +134,8 @@ write_fits : (words : List (List ℕ)) → ItemFits (write_of words)
 write_fits [] = tt
 write_fits (block ∷ []) = tt
 write_fits (block ∷ offset ∷ []) = tt
-write_fits (block ∷ offset ∷ bytes ∷ []) = go (number_of block) (number_of offset) (bytes_of bytes) (number_fits block) (number_fits offset) (bytes_fit bytes)
+write_fits (block ∷ offset ∷ bytes ∷ []) = go (number_of block) (number_of offset) (bytes_from_digits bytes)
+    (number_fits block) (number_fits offset) (bytes_fit bytes)
   where
     go : (block offset : Option ℕ) (bytes : Option (List ℕ)) → NumberFits block → NumberFits offset → BytesFit bytes → ItemFits (write_call block offset bytes)
     go (Some block) (Some offset) (Some bytes) one two three = (one, two, three.0, three.1)
@@ -172,7 +173,7 @@ map_fits (start ∷ pages ∷ rights ∷ fourth ∷ words) = tt
 probe_fits : (words : List (List ℕ)) → ItemFits (probe_of words)
 probe_fits [] = tt
 probe_fits (at ∷ []) = tt
-probe_fits (at ∷ access ∷ words) = go (number_of at) (access_of access) (user_of words) (number_fits at)
+probe_fits (at ∷ access ∷ words) = go (number_of at) (access_named access) (user_of words) (number_fits at)
   where
     go : (at : Option ℕ) (access : Option Access) (user : Option Bool) → NumberFits at → ItemFits (probe_call at access user)
     go (Some at) (Some access) (Some user) fits = fits
@@ -189,7 +190,7 @@ alone_fits call (word ∷ words) is = tt
 named : (words : List (List ℕ)) (b0 b1 b2 b3 b4 b5 b6 b7 b8 b9 b10 b11 b12 b13 b14 : Bool)
     → ItemFits (if b0 then malloc_of words else (if b1 then calloc_of words
     else (if b2 then realloc_of words else (if b3 then c_realloc_of words
-    else (if b4 then free_of words else (if b5 then write_of words else (if b6 then read_of words
+    else (if b4 then free_call words else (if b5 then write_of words else (if b6 then read_of words
     else (if b7 then map_of words else (if b8 then unmap_of words else (if b9 then probe_of words
     else (if b10 then trim_of words else (if b11 then rate_of words else (if b12 then granularity_of words
     else (if b13 then alone Reset words else (if b14 then alone Extents words else None)))))))))))))))

@@ -48,13 +48,13 @@ abbrev pub c_realloc_of : List (List ℕ) → Option Call
 c_realloc_of words = option_map (λ asked. CRealloc asked.0 asked.1) (two_numbers words)
 
 -- `free BLOCK`, with what comes after the name
-abbrev pub free_of : List (List ℕ) → Option Call
-free_of words = option_map Free (one_number words)
+abbrev pub free_call : List (List ℕ) → Option Call
+free_call words = option_map Free (one_number words)
 
 -- bytes as two hexadecimal digits each, of either case; at least one byte
-abbrev pub bytes_of : List ℕ → Option (List ℕ)
-bytes_of [] = None
-bytes_of (digit ∷ digits) = result_ok (decode_of (digit ∷ digits))
+abbrev pub bytes_from_digits : List ℕ → Option (List ℕ)
+bytes_from_digits [] = None
+bytes_from_digits (digit ∷ digits) = result_ok (decode_of (digit ∷ digits))
 
 abbrev pub write_call : Option ℕ → Option ℕ → Option (List ℕ) → Option Call
 write_call (Some block) (Some offset) (Some bytes) = Some (Write block offset bytes)
@@ -62,7 +62,7 @@ write_call block offset bytes = None
 
 -- `write BLOCK OFFSET HEX`, with what comes after the name
 abbrev pub write_of : List (List ℕ) → Option Call
-write_of (block ∷ offset ∷ bytes ∷ []) = write_call (number_of block) (number_of offset) (bytes_of bytes)
+write_of (block ∷ offset ∷ bytes ∷ []) = write_call (number_of block) (number_of offset) (bytes_from_digits bytes)
 write_of words = None
 
 abbrev pub read_call : Option ℕ → Option ℕ → Option ℕ → Option Call
@@ -101,8 +101,8 @@ abbrev pub unmap_of : List (List ℕ) → Option Call
 unmap_of words = option_map (λ range. Unmap range.0 range.1) (two_numbers words)
 
 -- `read`, `write` or `fetch`
-abbrev pub access_of : List ℕ → Option Access
-access_of word =
+abbrev pub access_named : List ℕ → Option Access
+access_named word =
     if bytes_eq word (codes "read") then Some Reading else
     if bytes_eq word (codes "write") then Some Writing else
     if bytes_eq word (codes "fetch") then Some Fetching else None
@@ -119,7 +119,7 @@ user_of words = None
 
 -- `probe ADDR ACCESS` and `probe ADDR ACCESS user`, with what comes after the name
 abbrev pub probe_of : List (List ℕ) → Option Call
-probe_of (at ∷ access ∷ words) = probe_call (number_of at) (access_of access) (user_of words)
+probe_of (at ∷ access ∷ words) = probe_call (number_of at) (access_named access) (user_of words)
 probe_of words = None
 
 -- `trim PAD`, with what comes after the name
@@ -147,7 +147,7 @@ call_of (name ∷ arguments) =
     if bytes_eq name (codes "calloc") then calloc_of arguments else
     if bytes_eq name (codes "realloc") then realloc_of arguments else
     if bytes_eq name (codes "c_realloc") then c_realloc_of arguments else
-    if bytes_eq name (codes "free") then free_of arguments else
+    if bytes_eq name (codes "free") then free_call arguments else
     if bytes_eq name (codes "write") then write_of arguments else
     if bytes_eq name (codes "read") then read_of arguments else
     if bytes_eq name (codes "map") then map_of arguments else

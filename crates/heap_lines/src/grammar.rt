@@ -1,6 +1,6 @@
 // The call that a line asks for.
 ghost use Rattle.std.specs.Prelude.{◌≡◌, IfOk, OnErr, IsSome, MatchOption, Some, None};
-ghost use Rattle.heap_lines.specs.Grammar.{one_number, two_numbers, request_of, malloc_of, calloc_of, realloc_of, c_realloc_of, free_of, bytes_of, write_call, write_of, read_of, right_of, rights_of_letters, map_of, unmap_of, access_of, user_of, probe_of, trim_of, rate_of, granularity_of, alone, call_of, item_of, IsWrite};
+ghost use Rattle.heap_lines.specs.Grammar.{one_number, two_numbers, request_of, malloc_of, calloc_of, realloc_of, c_realloc_of, free_call, bytes_from_digits, write_call, write_of, read_of, right_of, rights_of_letters, map_of, unmap_of, access_named, user_of, probe_of, trim_of, rate_of, granularity_of, alone, call_of, item_of, IsWrite};
 ghost use Rattle.heap_lines.specs.Words.{words_of};
 
 use crate::decode::decode;
@@ -82,7 +82,7 @@ fn c_realloc(words: &mut Words<'_>) -> Option<Call>
 }
 
 fn free(words: &mut Words<'_>) -> Option<Call>
-    ensures { result ≡ free_of words.old }
+    ensures { result ≡ free_call words.old }
 {
     let block = one_number(words)?;
     Some(Call::Free { block })
@@ -106,8 +106,8 @@ fn read(words: &mut Words<'_>) -> Option<Call>
 
 // The bytes that a word writes, two digits each.
 fn bytes(alloc: Global, word: &[u8]) -> Result<Option<Bytes>, AllocError>
-    ensures bytes { IfOk result (λ bytes. bytes ≡ bytes_of word.now) }
-    ensures err { OnErr result (IsSome (bytes_of word.now)) }
+    ensures bytes { IfOk result (λ bytes. bytes ≡ bytes_from_digits word.now) }
+    ensures err { OnErr result (IsSome (bytes_from_digits word.now)) }
 {
     if word.is_empty() {
         return Ok(None);
@@ -117,7 +117,7 @@ fn bytes(alloc: Global, word: &[u8]) -> Result<Option<Bytes>, AllocError>
 
 // The words after `write`, the first two as numbers.
 fn write_words<'a>(words: &mut Words<'a>) -> Option<(u64, u64, &'a [u8])>
-    ensures { MatchOption result (write_of words.old ≡ None) (λ found. write_of words.old ≡ write_call (Some found.0) (Some found.1) (bytes_of found.2.now)) }
+    ensures { MatchOption result (write_of words.old ≡ None) (λ found. write_of words.old ≡ write_call (Some found.0) (Some found.1) (bytes_from_digits found.2.now)) }
 {
     let block = number(words.next_word()?)?;
     let offset = number(words.next_word()?)?;
@@ -200,7 +200,7 @@ fn unmap(words: &mut Words<'_>) -> Option<Call>
 
 // The kind of access that a word names.
 fn access(word: &[u8]) -> Option<Access>
-    ensures { result ≡ access_of word.now }
+    ensures { result ≡ access_named word.now }
 {
     if word == b"read".as_slice() {
         Some(Access::Read)

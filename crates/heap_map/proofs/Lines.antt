@@ -9,7 +9,7 @@ use Rattle.std.proofs.lemmas.List.{take_more, take_all, drop_all, get_or-drop, a
 use Rattle.dlmalloc_chunks.specs.declared.extent.Extent.{Extent}
 use Rattle.dlmalloc_chunks.specs.declared.extent.Kind.TheVariants.{Used}
 use Rattle.heap_map.specs.declared.pieces.Piece.{Piece}
-use Rattle.heap_map.specs.Pieces.{span, row_from, cut, pieces_of, map_lines, row_grown, row_bytes, line_start, lines_from, lines_of, LinesAreTheHeap}
+use Rattle.heap_map.specs.Pieces.{span, row_from, cut_at_rows, pieces_of, map_lines, row_grown, row_bytes, line_start, row_lines_from, piece_lines, LinesAreTheHeap}
 
 -- what is taken for a piece where there is none
 abbrev pub none : Piece
@@ -35,60 +35,61 @@ more_from pieces from i some within =
 
 -- how the lines go on at a piece behind one that has begun
 pub lines_step : (row : ℕ) (pieces : List Piece) (from i : ℕ) → from < i → i < length pieces →
-    lines_from row (take (i - from) (drop from pieces)) (drop i pieces) ≡ (if nat_eq
+    row_lines_from row (take (i - from) (drop from pieces)) (drop i pieces) ≡ (if nat_eq
     (line_start (take (i - from) (drop from pieces)) / row) ((get_or pieces i
     (record { start = 0; end = 0; of = record { at = 0; size = 0; kind = Used } })).start / row)
-    then lines_from row (take (i + 1 - from) (drop from pieces)) (drop (i + 1) pieces)
-    else take (i - from) (drop from pieces) ∷ lines_from row (take (i + 1 - i) (drop i pieces)) (drop (i + 1) pieces))
+    then row_lines_from row (take (i + 1 - from) (drop from pieces)) (drop (i + 1) pieces)
+    else take (i - from) (drop from pieces) ∷ row_lines_from row (take (i + 1 - i) (drop i pieces)) (drop (i + 1) pieces))
 lines_step row pieces from i some within =
     let p = get_or pieces i none in
     let ps = drop (i + 1) pieces in
     let line = take (i - from) (drop from pieces) in
-    let on = λ (one more : List Piece). (if nat_eq (line_start line / row) (p.start / row) then lines_from row more ps else line ∷ lines_from row one ps) in
-    ap (lines_from row line) (rest_at pieces i within)
+    let on = λ (one more : List Piece). (if nat_eq (line_start line / row) (p.start / row) then row_lines_from row more ps
+    else line ∷ row_lines_from row one ps) in
+    ap (row_lines_from row line) (rest_at pieces i within)
     ∙ ap (λ (one : List Piece). on one (line ++ p ∷ [])) (sym (one_from pieces i within))
     ∙ ap (λ (more : List Piece). on (take (i + 1 - i) (drop i pieces)) more) (sym (more_from pieces from i some within))
 
 -- nothing is behind the last line
 pub lines_last : (row : ℕ) (pieces : List Piece) (from i : ℕ) → length pieces ≤ i →
-    lines_from row (take (i - from) (drop from pieces)) (drop i pieces) ≡ take (length pieces - from)
+    row_lines_from row (take (i - from) (drop from pieces)) (drop i pieces) ≡ take (length pieces - from)
     (drop from pieces) ∷ []
 lines_last row pieces from i all =
     let long = length-drop from pieces in
-    ap (lines_from row (take (i - from) (drop from pieces))) (drop_all i pieces all)
+    ap (row_lines_from row (take (i - from) (drop from pieces))) (drop_all i pieces all)
     ∙ ap (λ (line : List Piece). line ∷ []) (take_all (i - from) (drop from pieces) (omega (arith, long, all))
     ∙ sym (take_all (length pieces - from) (drop from pieces) (omega (arith, long))))
 
 -- and the first begins with the first piece
-pub lines_first : (row : ℕ) (pieces : List Piece) → 0 < length pieces → lines_from row (take 1 pieces) (drop 1 pieces) ≡ lines_of row pieces
+pub lines_first : (row : ℕ) (pieces : List Piece) → 0 < length pieces → row_lines_from row (take 1 pieces) (drop 1 pieces) ≡ piece_lines row pieces
 lines_first row [] some = absurd (omega (arith, some))
 lines_first row (p ∷ ps) some = refl
 
-joined_from : (row : ℕ) (line ps : List Piece) → flat_map (λ one. one) (lines_from row line ps) ≡ line ++ ps
+joined_from : (row : ℕ) (line ps : List Piece) → flat_map (λ one. one) (row_lines_from row line ps) ≡ line ++ ps
 joined_from row line [] = refl
 joined_from row line (p ∷ ps) = go (nat_eq (line_start line / row) (p.start / row)) (joined_from row (line ++ p ∷ []) ps) (joined_from row (p ∷ []) ps)
   where
-    go : (b : Bool) → flat_map (λ one. one) (lines_from row (line ++ p ∷ []) ps) ≡ (line ++ p ∷ []) ++ ps →
-        flat_map (λ one. one) (lines_from row (p ∷ []) ps) ≡ p ∷ ps →
-        flat_map (λ one. one) (if b then lines_from row (line ++ p ∷ []) ps else line ∷ lines_from row (p ∷ []) ps) ≡ line ++ p ∷ ps
+    go : (b : Bool) → flat_map (λ one. one) (row_lines_from row (line ++ p ∷ []) ps) ≡ (line ++ p ∷ []) ++ ps →
+        flat_map (λ one. one) (row_lines_from row (p ∷ []) ps) ≡ p ∷ ps →
+        flat_map (λ one. one) (if b then row_lines_from row (line ++ p ∷ []) ps else line ∷ row_lines_from row (p ∷ []) ps) ≡ line ++ p ∷ ps
     go true same other = same ∙ append_assoc line (p ∷ []) ps
     go false same other = ap (λ (rest : List Piece). line ++ rest) other
 
-pub joined : (row : ℕ) (ps : List Piece) → flat_map (λ one. one) (lines_of row ps) ≡ ps
+pub joined : (row : ℕ) (ps : List Piece) → flat_map (λ one. one) (piece_lines row ps) ≡ ps
 joined row [] = refl
 joined row (p ∷ ps) = joined_from row (p ∷ []) ps
 
-some_from : (row : ℕ) (p : Piece) (more ps : List Piece) → AllByRecursion (λ one. 0 < length one) (lines_from row (p ∷ more) ps)
+some_from : (row : ℕ) (p : Piece) (more ps : List Piece) → AllByRecursion (λ one. 0 < length one) (row_lines_from row (p ∷ more) ps)
 some_from row p more [] = (omega arith, tt)
 some_from row p more (x ∷ ps) = go (nat_eq (p.start / row) (x.start / row)) (some_from row p (more ++ x ∷ []) ps) (some_from row x [] ps)
   where
-    go : (b : Bool) → AllByRecursion (λ one. 0 < length one) (lines_from row (p ∷ (more ++ x ∷ [])) ps) →
-        AllByRecursion (λ one. 0 < length one) (lines_from row (x ∷ []) ps) →
-        AllByRecursion (λ one. 0 < length one) (if b then lines_from row (p ∷ (more ++ x ∷ [])) ps else (p ∷ more) ∷ lines_from row (x ∷ []) ps)
+    go : (b : Bool) → AllByRecursion (λ one. 0 < length one) (row_lines_from row (p ∷ (more ++ x ∷ [])) ps) →
+        AllByRecursion (λ one. 0 < length one) (row_lines_from row (x ∷ []) ps) →
+        AllByRecursion (λ one. 0 < length one) (if b then row_lines_from row (p ∷ (more ++ x ∷ [])) ps else (p ∷ more) ∷ row_lines_from row (x ∷ []) ps)
     go true same other = same
     go false same other = (omega arith, other)
 
-pub some : (row : ℕ) (ps : List Piece) → AllByRecursion (λ one. 0 < length one) (lines_of row ps)
+pub some : (row : ℕ) (ps : List Piece) → AllByRecursion (λ one. 0 < length one) (piece_lines row ps)
 some row [] = tt
 some row (p ∷ ps) = some_from row p [] ps
 
@@ -124,7 +125,7 @@ span_size e a b = go (nat_lt a b) refl
 row_from_least : (row a : ℕ) → 0 < row → a ≤ row_from row a
 row_from_least row a some = let rest = mod_below (a + (row - 1)) row some in omega (arith, rest, some)
 
-cut_size : (row : ℕ) (e : Extent) → 0 < row → sum_by piece_size (cut row e) ≡ e.size
+cut_size : (row : ℕ) (e : Extent) → 0 < row → sum_by piece_size (cut_at_rows row e) ≡ e.size
 cut_size row e some =
     let end = e.at + e.size in
     let head = min (row_from row e.at) end in
@@ -137,11 +138,12 @@ cut_size row e some =
     ∙ ap (λ (n : ℕ). sum_by piece_size (span e e.at head) + n) (sum_by-append piece_size (span e head body) (span e body end))
     ∙ omega (arith, one, two, three, low)
 
-all_sizes : (row : ℕ) (es : List Extent) → 0 < row → sum_by piece_size (flat_map (cut row) es) ≡ sum_by (λ e. e.size) es
+all_sizes : (row : ℕ) (es : List Extent) → 0 < row → sum_by piece_size (flat_map (cut_at_rows row) es) ≡ sum_by
+    (λ e. e.size) es
 all_sizes row [] some = refl
 all_sizes row (e ∷ es) some =
-    sum_by-append piece_size (cut row e) (flat_map (cut row) es)
-    ∙ ap (λ (n : ℕ). n + sum_by piece_size (flat_map (cut row) es)) (cut_size row e some)
+    sum_by-append piece_size (cut_at_rows row e) (flat_map (cut_at_rows row) es)
+    ∙ ap (λ (n : ℕ). n + sum_by piece_size (flat_map (cut_at_rows row) es)) (cut_size row e some)
     ∙ ap (λ (n : ℕ). e.size + n) (all_sizes row es some)
     ∙ sym (sum_by-cons (λ (e : Extent). e.size) e es)
 

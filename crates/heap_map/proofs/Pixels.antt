@@ -6,8 +6,8 @@ use Rattle.std.proofs.Math.Nat.{le-div_iff_mul-le}
 use Rattle.heap_map.specs.declared.classes.Class.{Class}
 use Rattle.heap_map.specs.declared.classes.Class.TheVariants.{Block, Binned, Victim, Top, Own}
 use Rattle.heap_map.specs.declared.pieces.Piece.{Piece}
-use Rattle.heap_map.specs.Cells.{held_in, pixels, most_of, cell_at}
-use Rattle.heap_map.specs.Pixels.{IsOfOne, IsWhole, CellsAreTheirBytes}
+use Rattle.heap_map.specs.Cells.{held_in, pixels, most_of, drawn_cell}
+use Rattle.heap_map.specs.Pixels.{IsOfOne, HasOneColour, CellsAreTheirBytes}
 
 pixels_none : (bytes cell : ℕ) → 0 < cell → bytes ≡ 0 → pixels bytes cell ≡ 0
 pixels_none bytes cell some none =
@@ -32,7 +32,7 @@ most_own : (b v t o : ℕ) → 0 < o → b ≡ 0 → v ≡ 0 → t ≡ 0 → mos
 most_own b v t o some no_b no_v no_t = grind (arith, nat_tests, some, no_b, no_v, no_t)
 
 pub cells_are : CellsAreTheirBytes
-unfolding cell_at
+unfolding drawn_cell
 cells_are Block cell low line some one =
     let binned = one.none Binned (λ same. omega (arith, same)) in
     let victim = one.none Victim (λ same. omega (arith, same)) in

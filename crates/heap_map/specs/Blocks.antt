@@ -5,7 +5,7 @@ use Rattle.std.specs.Ordering.{nat_cmp}
 use Rattle.dlmalloc_chunks.specs.declared.extent.Extent.{Extent}
 use Rattle.heap_map.specs.declared.blocks.NamedBlock.{NamedBlock}
 use Rattle.heap_map.specs.declared.classes.Class.TheVariants.{Block}
-use Rattle.heap_map.specs.Classes.{is_in}
+use Rattle.heap_map.specs.Classes.{is_of_class}
 
 -- the block at an address, of a map that has them
 abbrev pub named_at : BTreeMap ℕ NamedBlock → ℕ → Option NamedBlock
@@ -17,4 +17,4 @@ block_address extent = extent.at + 16
 
 -- the block that an extent holds, of those that are at addresses
 abbrev pub block_in : (ℕ → Option NamedBlock) → Extent → Option NamedBlock
-block_in blocks extent = if is_in Block extent.kind then blocks (block_address extent) else None
+block_in blocks extent = if is_of_class Block extent.kind then blocks (block_address extent) else None

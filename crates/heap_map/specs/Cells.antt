@@ -5,12 +5,12 @@ use Rattle.heap_map.specs.declared.classes.Class.{Class}
 use Rattle.heap_map.specs.declared.classes.Class.TheVariants.{Block, Binned, Victim, Top, Own}
 use Rattle.heap_map.specs.declared.pieces.Piece.{Piece}
 use Rattle.heap_map.specs.declared.cells.Cell.{Cell}
-use Rattle.heap_map.specs.Classes.{is_in, class_name, class_place}
+use Rattle.heap_map.specs.Classes.{is_of_class, class_name, class_place}
 use Rattle.heap_map.specs.Shapes.{rect}
 
 -- the bytes from one address to another that a line has of a class
 abbrev pub held_in : Class → ℕ → ℕ → List Piece → ℕ
-held_in class low high line = sum_by (λ piece. if is_in class piece.of.kind then min piece.end high - max piece.start low else 0) line
+held_in class low high line = sum_by (λ piece. if is_of_class class piece.of.kind then min piece.end high - max piece.start low else 0) line
 
 -- the pixels of some bytes of a cell, rounded up; a cell has 18
 abbrev pub pixels : ℕ → ℕ → ℕ
@@ -25,8 +25,8 @@ most_of binned victim top own =
 
 -- A cell from an address on: from the ground up as many pixels as its blocks have bytes, and above them those of all other extents, in
 -- the colour of the class that has most of these.
-unfoldable pub cell_at : ℕ → ℕ → List Piece → Cell
-cell_at cell low line =
+unfoldable pub drawn_cell : ℕ → ℕ → List Piece → Cell
+drawn_cell cell low line =
     let high = low + cell in
     let block = held_in Block low high line in
     let binned = held_in Binned low high line in
@@ -53,9 +53,9 @@ row_cells = 512
 abbrev pub runs_from : ℕ → ℕ → ℕ → List Piece → ℕ → ℕ → Cell → ℕ → List ℕ
 runs_from cell base y line start next same zero = run_text y start next same
 runs_from cell base y line start next same (suc left) =
-    if look_same same (cell_at cell (base + cell * next) line) then runs_from cell base y line start (next + 1) same left
-    else run_text y start next same ++ runs_from cell base y line next (next + 1) (cell_at cell (base + cell * next) line) left
+    if look_same same (drawn_cell cell (base + cell * next) line) then runs_from cell base y line start (next + 1) same left
+    else run_text y start next same ++ runs_from cell base y line next (next + 1) (drawn_cell cell (base + cell * next) line) left
 
 -- the cells of a row that begins at an address
-unfoldable pub cells_text : ℕ → ℕ → ℕ → List Piece → List ℕ
-cells_text cell base y line = runs_from cell base y line 0 1 (cell_at cell base line) (row_cells - 1)
+unfoldable pub row_cells_text : ℕ → ℕ → ℕ → List Piece → List ℕ
+row_cells_text cell base y line = runs_from cell base y line 0 1 (drawn_cell cell base line) (row_cells - 1)

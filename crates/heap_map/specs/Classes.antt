@@ -8,37 +8,37 @@ use Rattle.heap_map.specs.declared.classes.Class.{Class}
 use Rattle.heap_map.specs.declared.classes.Class.TheVariants.{Block, Binned, Victim, Top, Own}
 
 -- whether extents of a kind are of a class
-abbrev pub is_in : Class → Kind → Bool
-is_in Block Used = true
-is_in Block Free = false
-is_in Block Dv = false
-is_in Block End = false
-is_in Block Record = false
-is_in Block Foot = false
-is_in Binned Used = false
-is_in Binned Free = true
-is_in Binned Dv = false
-is_in Binned End = false
-is_in Binned Record = false
-is_in Binned Foot = false
-is_in Victim Used = false
-is_in Victim Free = false
-is_in Victim Dv = true
-is_in Victim End = false
-is_in Victim Record = false
-is_in Victim Foot = false
-is_in Top Used = false
-is_in Top Free = false
-is_in Top Dv = false
-is_in Top End = true
-is_in Top Record = false
-is_in Top Foot = false
-is_in Own Used = false
-is_in Own Free = false
-is_in Own Dv = false
-is_in Own End = false
-is_in Own Record = true
-is_in Own Foot = true
+abbrev pub is_of_class : Class → Kind → Bool
+is_of_class Block Used = true
+is_of_class Block Free = false
+is_of_class Block Dv = false
+is_of_class Block End = false
+is_of_class Block Record = false
+is_of_class Block Foot = false
+is_of_class Binned Used = false
+is_of_class Binned Free = true
+is_of_class Binned Dv = false
+is_of_class Binned End = false
+is_of_class Binned Record = false
+is_of_class Binned Foot = false
+is_of_class Victim Used = false
+is_of_class Victim Free = false
+is_of_class Victim Dv = true
+is_of_class Victim End = false
+is_of_class Victim Record = false
+is_of_class Victim Foot = false
+is_of_class Top Used = false
+is_of_class Top Free = false
+is_of_class Top Dv = false
+is_of_class Top End = true
+is_of_class Top Record = false
+is_of_class Top Foot = false
+is_of_class Own Used = false
+is_of_class Own Free = false
+is_of_class Own Dv = false
+is_of_class Own End = false
+is_of_class Own Record = true
+is_of_class Own Foot = true
 
 -- its colour, as the class of a rectangle
 abbrev pub class_name : Class → List ℕ
@@ -66,11 +66,11 @@ class_words Own = codes "records and foot"
 
 -- how many extents are of a class
 abbrev pub number_in : Class → List Extent → ℕ
-number_in class extents = count_by (λ extent. is_in class extent.kind) extents
+number_in class extents = count_by (λ extent. is_of_class class extent.kind) extents
 
 -- and how many bytes they have
 abbrev pub bytes_in : Class → List Extent → ℕ
-bytes_in class extents = sum_by (λ extent. if is_in class extent.kind then extent.size else 0) extents
+bytes_in class extents = sum_by (λ extent. if is_of_class class extent.kind then extent.size else 0) extents
 
 -- the bytes of all extents
 abbrev pub all_bytes : List Extent → ℕ

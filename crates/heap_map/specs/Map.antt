@@ -36,8 +36,8 @@ unfoldable pub ruler_text : ℕ → List ℕ
 ruler_text row = quarters_text row ++ (text_at (codes "e faint") 134 158 (codes "address") ++ text_at (codes "e faint") 1280 158 (codes "in blocks"))
 
 -- the scale of the rows
-unfoldable pub scale_text : ℕ → List ℕ
-scale_text row = text_at (codes "faint") 24 136 (row_words row) ++ ruler_text row
+unfoldable pub rows_scale_text : ℕ → List ℕ
+rows_scale_text row = text_at (codes "faint") 24 136 (row_words row) ++ ruler_text row
 
 -- the base line of what is below this many lines
 abbrev pub below_lines : ℕ → ℕ
@@ -58,7 +58,7 @@ front_text live peak extents = text_at (codes "h") 24 40 map_words ++ tiles_text
 -- the map with rows of `row` bytes, of the live blocks that are at addresses, of the bytes that are live and were at most, and of
 -- all extents
 unfoldable pub rows_map : (ℕ → Option NamedBlock) → ℕ → ℕ → ℕ → List Extent → List ℕ
-rows_map blocks row live peak extents = front_text live peak extents ++ (scale_text row ++ rows_text blocks row extents)
+rows_map blocks row live peak extents = front_text live peak extents ++ (rows_scale_text row ++ rows_text blocks row extents)
 
 -- what stands below it
 unfoldable pub parts_text : ℕ → ℕ → List Extent → List ℕ

@@ -5,7 +5,7 @@ use Rattle.dlmalloc_chunks.specs.declared.extent.Extent.{Extent}
 use Rattle.heap_map.specs.declared.blocks.NamedBlock.{NamedBlock}
 use Rattle.heap_map.specs.declared.pieces.Piece.{Piece}
 use Rattle.heap_map.specs.declared.classes.Class.TheVariants.{Block}
-use Rattle.heap_map.specs.Words.{hexadecimal, commas, counted}
+use Rattle.heap_map.specs.Words.{hexadecimal, commas, quantity}
 use Rattle.heap_map.specs.Blocks.{block_in}
 use Rattle.heap_map.specs.Classes.{kind_words}
 use Rattle.heap_map.specs.Labels.{label_text}
@@ -54,7 +54,7 @@ marks_text blocks row base y line = flat_map (piece_text blocks row base y) line
 
 -- how many extents have bytes in a row, and how many bytes of it are in blocks
 unfoldable pub counts_text : ℕ → ℕ → ℕ → List ℕ
-counts_text number used row = counted (codes "extent") number ++ (codes ", " ++ (commas used ++ (codes " of " ++ (commas row ++ codes " bytes in blocks"))))
+counts_text number used row = quantity (codes "extent") number ++ (codes ", " ++ (commas used ++ (codes " of " ++ (commas row ++ codes " bytes in blocks"))))
 
 -- the address of a row, and what it has
 unfoldable pub row_title : ℕ → ℕ → List Piece → List ℕ

@@ -14,8 +14,8 @@ row_from row address = address + (row - 1) - (address + (row - 1)) % row
 
 -- An extent, cut where rows that lie wholly in it begin and end: what it has of the row in which it begins, the whole rows, and what
 -- it has of the row in which it ends.
-abbrev pub cut : ℕ → Extent → List Piece
-cut row extent =
+abbrev pub cut_at_rows : ℕ → Extent → List Piece
+cut_at_rows row extent =
     let end = extent.at + extent.size in
     let head = min (row_from row extent.at) end in
     let body = max (end - end % row) head in
@@ -23,7 +23,7 @@ cut row extent =
 
 -- all extents, cut
 abbrev pub pieces_of : ℕ → List Extent → List Piece
-pieces_of row extents = flat_map (cut row) extents
+pieces_of row extents = flat_map (cut_at_rows row) extents
 
 -- the address at which a line begins
 abbrev pub line_start : List Piece → ℕ
@@ -31,20 +31,20 @@ line_start [] = 0
 line_start (piece ∷ pieces) = piece.start
 
 -- The lines that follow when one has begun: a piece that begins in the same row is of it, and each other begins the next one.
-abbrev pub lines_from : ℕ → List Piece → List Piece → List (List Piece)
-lines_from row line [] = line ∷ []
-lines_from row line (piece ∷ pieces) =
-    if nat_eq (line_start line / row) (piece.start / row) then lines_from row (line ++ piece ∷ []) pieces
-    else line ∷ lines_from row (piece ∷ []) pieces
+abbrev pub row_lines_from : ℕ → List Piece → List Piece → List (List Piece)
+row_lines_from row line [] = line ∷ []
+row_lines_from row line (piece ∷ pieces) =
+    if nat_eq (line_start line / row) (piece.start / row) then row_lines_from row (line ++ piece ∷ []) pieces
+    else line ∷ row_lines_from row (piece ∷ []) pieces
 
 -- the lines of all pieces
-abbrev pub lines_of : ℕ → List Piece → List (List Piece)
-lines_of row [] = []
-lines_of row (piece ∷ pieces) = lines_from row (piece ∷ []) pieces
+abbrev pub piece_lines : ℕ → List Piece → List (List Piece)
+piece_lines row [] = []
+piece_lines row (piece ∷ pieces) = row_lines_from row (piece ∷ []) pieces
 
 -- the lines of a map whose rows have `row` bytes
 abbrev pub map_lines : ℕ → List Extent → List (List Piece)
-map_lines row extents = lines_of row (pieces_of row extents)
+map_lines row extents = piece_lines row (pieces_of row extents)
 
 -- the least row
 abbrev pub least_row : ℕ

@@ -10,7 +10,7 @@ use Rattle.heap_map.specs.Words.{hexadecimal, commas, percent}
 use Rattle.heap_map.specs.Shapes.{text_at, titled}
 use Rattle.heap_map.specs.Pieces.{line_start, map_lines}
 use Rattle.heap_map.specs.Blocks.{block_in}
-use Rattle.heap_map.specs.Cells.{held_in, cells_text}
+use Rattle.heap_map.specs.Cells.{held_in, row_cells_text}
 use Rattle.heap_map.specs.Labels.{label_text}
 use Rattle.heap_map.specs.Marks.{extent_title, marks_text, row_title}
 
@@ -44,14 +44,14 @@ unfoldable pub used_words : ℕ → ℕ → List Piece → List ℕ
 used_words row base line = percent (min (held_in Block base (base + row) line) row) row
 
 -- what stands beside a row, and what is said of it
-unfoldable pub beside_text : ℕ → ℕ → ℕ → List Piece → List ℕ
-beside_text row base y line =
+unfoldable pub row_beside_text : ℕ → ℕ → ℕ → List Piece → List ℕ
+row_beside_text row base y line =
     text_at (codes "m e faint") 134 (y + 13) (hexadecimal base)
     ++ (text_at (codes "m e faint") 1280 (y + 13) (used_words row base line) ++ titled (codes "none") 144 y 1024 18 (row_title row base line))
 
 -- a row of several extents, or of a part of one
 unfoldable pub row_text : (ℕ → Option NamedBlock) → ℕ → ℕ → ℕ → List Piece → List ℕ
-row_text blocks row base y line = cells_text (row / 512) base y line ++ (beside_text row base y line ++ marks_text blocks row base y line)
+row_text blocks row base y line = row_cells_text (row / 512) base y line ++ (row_beside_text row base y line ++ marks_text blocks row base y line)
 
 -- the first piece of a line
 abbrev pub first_piece : List Piece → Piece
@@ -59,15 +59,15 @@ first_piece [] = record { start = 0; end = 0; of = record { at = 0; size = 0; ki
 first_piece (piece ∷ pieces) = piece
 
 -- a line at a height: one piece of whole rows, or a row
-abbrev pub line_text : (ℕ → Option NamedBlock) → ℕ → ℕ → List Piece → List ℕ
-line_text blocks row y line =
+abbrev pub map_line_text : (ℕ → Option NamedBlock) → ℕ → ℕ → List Piece → List ℕ
+map_line_text blocks row y line =
     if nat_le row ((first_piece line).end - (first_piece line).start) then whole_text blocks row (row_base row line) y (first_piece line)
     else row_text blocks row (row_base row line) y line
 
 -- the lines, below this many others
 abbrev pub lines_text : (ℕ → Option NamedBlock) → ℕ → ℕ → List (List Piece) → List ℕ
 lines_text blocks row above [] = []
-lines_text blocks row above (line ∷ lines) = line_text blocks row (166 + 23 * above) line ++ lines_text blocks row (above + 1) lines
+lines_text blocks row above (line ∷ lines) = map_line_text blocks row (166 + 23 * above) line ++ lines_text blocks row (above + 1) lines
 
 -- all lines of a map, with the live blocks that are at addresses
 unfoldable pub rows_text : (ℕ → Option NamedBlock) → ℕ → List Extent → List ℕ

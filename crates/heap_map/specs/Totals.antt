@@ -1,13 +1,13 @@
 -- The bytes of a heap.
 use Rattle.std.specs.Prelude.{ℕ, ◌+◌, ◌-◌, List}
 use Rattle.dlmalloc_chunks.specs.declared.extent.Extent.{Extent}
-use Rattle.heap_figures.specs.Figures.{bytes_of, greatest_of}
+use Rattle.heap_figures.specs.Figures.{part_bytes, greatest_of}
 use Rattle.heap_figures.specs.declared.counting.Part.TheVariants.{Used, Free, Overhead}
 
 -- all bytes
 abbrev pub total_of : List Extent → ℕ
-total_of extents = bytes_of Used extents + (bytes_of Free extents + bytes_of Overhead extents)
+total_of extents = part_bytes Used extents + (part_bytes Free extents + part_bytes Overhead extents)
 
 -- the free bytes that are not in the greatest free extent
 abbrev pub scattered : List Extent → ℕ
-scattered extents = bytes_of Free extents - greatest_of extents
+scattered extents = part_bytes Free extents - greatest_of extents

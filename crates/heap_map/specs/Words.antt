@@ -19,8 +19,8 @@ commas n =
     else decimal (n / 1000000000) ++ (group_text (n / 1000000) ++ (group_text (n / 1000) ++ group_text n))
 
 -- a number of things, as `1 page` or `2,000 pages`
-unfoldable pub counted : List ℕ → ℕ → List ℕ
-counted thing n = commas n ++ (codes " " ++ (thing ++ (if nat_eq n 1 then [] else codes "s")))
+unfoldable pub quantity : List ℕ → ℕ → List ℕ
+quantity thing n = commas n ++ (codes " " ++ (thing ++ (if nat_eq n 1 then [] else codes "s")))
 
 -- a number of tenths
 unfoldable pub tenths : ℕ → List ℕ

@@ -1,8 +1,8 @@
 // The cells of a row.
 ghost use Rattle.std.specs.Prelude.{◌≡◌, ◌<◌, ◌≤◌, ◌+◌, ◌-◌, ◌*◌, ◌^◌, ◌++◌, [], codes, min, max, nat_eq, nat_lt, if◌then◌else◌, OnOk, string_bytes};
-ghost use Rattle.heap_map.specs.Classes.{is_in, class_name};
+ghost use Rattle.heap_map.specs.Classes.{is_of_class, class_name};
 ghost use Rattle.heap_map.specs.Shapes.{rect};
-ghost use Rattle.heap_map.specs.Cells.{held_in, pixels, most_of, cell_at, look_same, run_text, cells_text};
+ghost use Rattle.heap_map.specs.Cells.{held_in, pixels, most_of, drawn_cell, look_same, run_text, row_cells_text};
 
 use crate::classes::{Class, class_name, class_place, is_in};
 use crate::pieces::Piece;
@@ -23,7 +23,7 @@ pub struct Cell {
 // The bytes of a piece from one address to another, if it is of the class.
 fn piece_bytes(piece: Piece, class: Class, low: u128, high: u128) -> u128
     requires { high ≤ low + 2 ^ 53 }
-    ensures value { result ≡ (if is_in class piece.of.kind then min piece.end high - max piece.start low else 0) }
+    ensures value { result ≡ (if is_of_class class piece.of.kind then min piece.end high - max piece.start low else 0) }
     ensures few { result ≤ 2 ^ 53 }
 {
     if is_in(class, piece.of.kind) {
@@ -72,11 +72,11 @@ fn most_of(binned: u128, victim: u128, top: u128, own: u128) -> Class
 }
 
 // How a cell looks that begins at an address.
-#[tactic(auto, unfolding(crate::specs::Cells::cell_at))]
+#[tactic(auto, unfolding(crate::specs::Cells::drawn_cell))]
 fn cell_at(line: &[Piece], low: u128, cell: u128) -> Cell
     requires low { low < 2 ^ 100 }
     requires cell { (1 ≤ cell) × (cell ≤ 2 ^ 53) }
-    ensures value { result ≡ cell_at cell low line.now }
+    ensures value { result ≡ drawn_cell cell low line.now }
     ensures few { (result.used ≤ 18) × (result.held ≤ 18) }
 {
     let high = low + cell;
@@ -186,7 +186,7 @@ pub fn push_cells(
     requires cell { (1 ≤ cell) × (cell ≤ 2 ^ 53) }
     requires base { base < 2 ^ 90 }
     requires y { y < 2 ^ 100 }
-    ensures { OnOk result (string_bytes out.new ≡ string_bytes out.old ++ cells_text cell base y line.now) }
+    ensures { OnOk result (string_bytes out.new ≡ string_bytes out.old ++ row_cells_text cell base y line.now) }
 {
     let mut start = 0;
     let mut same = cell_at(line, base, cell);

@@ -1,6 +1,6 @@
 // What a heap's memory consists of.
 ghost use Rattle.std.specs.Prelude.{◌≡◌, ◌<◌, ◌≤◌, ◌^◌, if◌then◌else◌};
-ghost use Rattle.heap_map.specs.Classes.{is_in, class_name, class_place, class_words, number_in, bytes_in, all_bytes, kind_words, letters};
+ghost use Rattle.heap_map.specs.Classes.{is_of_class, class_name, class_place, class_words, number_in, bytes_in, all_bytes, kind_words, letters};
 
 use dlmalloc_chunks::{Extent, Kind};
 
@@ -21,7 +21,7 @@ pub enum Class {
 
 /// Whether extents of a kind are of a class.
 pub fn is_in(class: Class, kind: Kind) -> bool
-    ensures { result ≡ is_in class kind }
+    ensures { result ≡ is_of_class class kind }
 {
     match kind {
         Kind::Used => class == Class::Block,

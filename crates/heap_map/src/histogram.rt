@@ -1,6 +1,6 @@
 // The free chunks in bins by size.
 ghost use Rattle.std.specs.Prelude.{◌≡◌, ◌<◌, ◌≤◌, ◌^◌, ◌++◌, OnOk, string_bytes};
-ghost use Rattle.heap_map.specs.Histogram.{is_between, next_low, chunks_from, most_of_all, bar_height, bars_words, bar_title, bar_text, bars_text, axis_front, axis_back, axis_text, heading_text, histogram_text};
+ghost use Rattle.heap_map.specs.Histogram.{is_between, next_low, chunk_count_from, most_of_all, bar_height, bars_words, bar_title, bar_text, bars_text, axis_front, axis_back, axis_text, histogram_heading, histogram_text};
 
 use crate::classes::{Class, is_in};
 use crate::shapes::{Area, push_rect, push_text, push_titled};
@@ -23,7 +23,7 @@ fn is_between(low: u64, extent: Extent) -> bool
 // How many there are.
 fn chunks_from(low: u64, extents: &[Extent]) -> u64
     requires { low < 2 ^ 40 }
-    ensures { result ≡ chunks_from low extents.now }
+    ensures { result ≡ chunk_count_from low extents.now }
 {
     let mut number = 0;
     for extent in extents {
@@ -177,10 +177,10 @@ fn bars_words() -> &'static str
 }
 
 // Puts the heading of the bars and their floor at the end.
-#[tactic(auto, unfolding(crate::specs::Histogram::heading_text))]
+#[tactic(auto, unfolding(crate::specs::Histogram::histogram_heading))]
 fn push_heading(out: &mut String, y: u128) -> Result<(), AllocError>
     requires { y < 2 ^ 100 }
-    ensures { OnOk result (string_bytes out.new ≡ string_bytes out.old ++ heading_text y) }
+    ensures { OnOk result (string_bytes out.new ≡ string_bytes out.old ++ histogram_heading y) }
 {
     push_text(out, "q", 472, y, bars_words())?;
     let floor = Area {

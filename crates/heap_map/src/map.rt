@@ -2,7 +2,7 @@
 ghost use Rattle.std.specs.Prelude.{◌≡◌, ◌<◌, ◌≤◌, ◌^◌, ◌++◌, IfOk, OnOk, string_bytes};
 ghost use Rattle.dlmalloc_chunks.specs.Tiling.{AreInSegments};
 ghost use Rattle.heap_map.specs.Blocks.{named_at};
-ghost use Rattle.heap_map.specs.Map.{thin_words, row_words, quarter_words, quarter_text, quarters_text, ruler_text, scale_text, below_lines, lines_number, map_words, front_text, rows_map, parts_text, map_text};
+ghost use Rattle.heap_map.specs.Map.{thin_words, row_words, quarter_words, quarter_text, quarters_text, ruler_text, rows_scale_text, below_lines, lines_number, map_words, front_text, rows_map, parts_text, map_text};
 
 use crate::blocks::NamedBlock;
 use crate::composition::push_composition;
@@ -79,10 +79,10 @@ fn push_ruler(alloc: Global, out: &mut String, row: u128) -> Result<(), AllocErr
     push_text(out, "e faint", 1280, 158, "in blocks")
 }
 
-#[tactic(auto, unfolding(crate::specs::Map::scale_text))]
+#[tactic(auto, unfolding(crate::specs::Map::rows_scale_text))]
 fn push_scale(alloc: Global, out: &mut String, row: u128) -> Result<(), AllocError>
     requires { row < 2 ^ 100 }
-    ensures { OnOk result (string_bytes out.new ≡ string_bytes out.old ++ scale_text row) }
+    ensures { OnOk result (string_bytes out.new ≡ string_bytes out.old ++ rows_scale_text row) }
 {
     let mut words = String::new(alloc);
     push_row_words(&mut words, row)?;

@@ -1,6 +1,6 @@
 // The lines of a map.
 ghost use Rattle.std.specs.Prelude.{◌≡◌, ◌<◌, ◌≤◌, ◌*◌, ◌/◌, ◌^◌, ◌++◌, ◌&&◌, nat_eq, nat_lt, OnOk, IfOk, length};
-ghost use Rattle.heap_map.specs.Pieces.{span, row_from, cut, pieces_of, lines_of, map_lines, row_bytes, most_row, most_lines, line_start};
+ghost use Rattle.heap_map.specs.Pieces.{span, row_from, cut_at_rows, pieces_of, piece_lines, map_lines, row_bytes, most_row, most_lines, line_start};
 
 use dlmalloc_chunks::Extent;
 use std::alloc::{AllocError, Global};
@@ -49,7 +49,7 @@ fn row_from(row: u128, address: u128) -> u128
 #[tactic(auto, using(crate::proofs::Numbers::rest_least))]
 fn push_cut(pieces: &mut Vec<Piece>, row: u128, extent: Extent) -> Result<(), AllocError>
     requires row { (512 ≤ row) × (row < 2 ^ 100) }
-    ensures { OnOk result (pieces.new.items ≡ pieces.old.items ++ cut row extent) }
+    ensures { OnOk result (pieces.new.items ≡ pieces.old.items ++ cut_at_rows row extent) }
 {
     let start = u128::from(extent.at);
     let end = start + u128::from(extent.size);
@@ -94,7 +94,7 @@ pub fn is_in_row(row: u128, line: &[Piece], piece: Piece) -> bool
 #[tactic(auto, using(crate::proofs::Lines::lines_step, crate::proofs::Lines::lines_last, crate::proofs::Lines::lines_first, std::proofs::lemmas::Grind::common_steps))]
 pub fn count_lines(row: u128, pieces: &[Piece]) -> u64
     requires { 512 ≤ row }
-    ensures { result ≡ length (lines_of row pieces.now) }
+    ensures { result ≡ length (piece_lines row pieces.now) }
 {
     if pieces.is_empty() {
         return 0;

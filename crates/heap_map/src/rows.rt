@@ -3,8 +3,8 @@ ghost use Rattle.std.specs.Prelude.{◌≡◌, ◌<◌, ◌≤◌, ◌^◌, ◌+
 ghost use Rattle.heap_map.specs.Words.{hexadecimal};
 ghost use Rattle.heap_map.specs.Shapes.{text_at};
 ghost use Rattle.heap_map.specs.Blocks.{named_at};
-ghost use Rattle.heap_map.specs.Pieces.{lines_of};
-ghost use Rattle.heap_map.specs.Rows.{colour, rows_words, whole_text, row_base, used_words, beside_text, row_text, first_piece, line_text, lines_text, rows_text};
+ghost use Rattle.heap_map.specs.Pieces.{piece_lines};
+ghost use Rattle.heap_map.specs.Rows.{colour, rows_words, whole_text, row_base, used_words, row_beside_text, row_text, first_piece, map_line_text, lines_text, rows_text};
 
 use crate::blocks::{NamedBlock, block_in};
 use crate::cells::{held_in, push_cells};
@@ -117,7 +117,7 @@ fn push_used_words(
 }
 
 // Puts what stands beside a row at the end, and what is said of it.
-#[tactic(auto, unfolding(crate::specs::Rows::beside_text))]
+#[tactic(auto, unfolding(crate::specs::Rows::row_beside_text))]
 fn push_beside(
     alloc: Global,
     out: &mut String,
@@ -129,7 +129,7 @@ fn push_beside(
     requires row { (512 ≤ row) × (row ≤ 2 ^ 53) }
     requires base { base < 2 ^ 64 }
     requires y { y < 2 ^ 90 }
-    ensures { OnOk result (string_bytes out.new ≡ string_bytes out.old ++ beside_text row base y line.now) }
+    ensures { OnOk result (string_bytes out.new ≡ string_bytes out.old ++ row_beside_text row base y line.now) }
 {
     push_place(alloc, out, y + 13, base)?;
     let mut words = String::new(alloc);
@@ -196,7 +196,7 @@ fn push_line(
 ) -> Result<(), AllocError>
     requires row { (512 ≤ row) × (row ≤ 2 ^ 53) }
     requires y { y < 2 ^ 90 }
-    ensures { OnOk result (string_bytes out.new ≡ string_bytes out.old ++ line_text (named_at blocks.now) row y line.now) }
+    ensures { OnOk result (string_bytes out.new ≡ string_bytes out.old ++ map_line_text (named_at blocks.now) row y line.now) }
 {
     let base = row_base(row, line);
     let piece = first_piece(line);
@@ -216,7 +216,7 @@ fn push_lines(
     pieces: &[Piece],
 ) -> Result<(), AllocError>
     requires row { (512 ≤ row) × (row ≤ 2 ^ 53) }
-    ensures { OnOk result (string_bytes out.new ≡ string_bytes out.old ++ lines_text (named_at blocks.now) row 0 (lines_of row pieces.now)) }
+    ensures { OnOk result (string_bytes out.new ≡ string_bytes out.old ++ lines_text (named_at blocks.now) row 0 (piece_lines row pieces.now)) }
 {
     if pieces.is_empty() {
         return Ok(());

@@ -1,6 +1,6 @@
 // Numbers as words.
 ghost use Rattle.std.specs.Prelude.{◌≡◌, ◌<◌, ◌^◌, ◌++◌, OnOk, string_bytes};
-ghost use Rattle.heap_map.specs.Words.{hexadecimal, group_text, commas, counted, tenths, permille, percent, about, exactly};
+ghost use Rattle.heap_map.specs.Words.{hexadecimal, group_text, commas, quantity, tenths, permille, percent, about, exactly};
 
 use std::alloc::AllocError;
 
@@ -47,9 +47,9 @@ pub fn push_commas(out: &mut String, number: u128) -> Result<(), AllocError>
 }
 
 /// Puts a number of things at the end, as `1 page` or `2,000 pages`.
-#[tactic(auto, unfolding(crate::specs::Words::counted))]
+#[tactic(auto, unfolding(crate::specs::Words::quantity))]
 pub fn push_counted(out: &mut String, thing: &str, number: u128) -> Result<(), AllocError>
-    ensures { OnOk result (string_bytes out.new ≡ string_bytes out.old ++ counted thing.now number) }
+    ensures { OnOk result (string_bytes out.new ≡ string_bytes out.old ++ quantity thing.now number) }
 {
     push_commas(out, number)?;
     out.push_str(" ")?;

@@ -8,8 +8,8 @@ use native.Mathlib.Decide.{dec_lt}
 use Rattle.paging_core.specs.Address.{is_canonical, IsCanonicalRange}
 use Rattle.paging_core.specs.Memory.{word_at, byte_of}
 use Rattle.paging_core.specs.Prefix.{Prefix, prefix_of, prefixes_of}
-use Rattle.paging_core.specs.Pool.{is_free}
-use Rattle.paging_core.specs.Walk.{Place, reach, large_of, walk_of, reached, top, granted}
+use Rattle.paging_core.specs.Pool.{is_frame_free}
+use Rattle.paging_core.specs.Walk.{Place, reach, large_of, walk_of, reached, top, place_with}
 use Rattle.paging_core.specs.Large.{slot_of}
 use Rattle.paging_core.specs.Tree.{IsTree}
 use Rattle.paging_core.specs.declared.page_table.Rights.{Rights}
@@ -23,7 +23,7 @@ use Rattle.heap_model.specs.State.{State, is_within, total_pages, region_at}
 use Rattle.heap_model.specs.Tables.{has_table, missing, with_tables, free_frames}
 use Rattle.heap_model.specs.Slots.{IsSlot, slot_number, slot_prefix, has_slot, IsSlotOf}
 use Rattle.heap_model.specs.Place.{all_regions}
-use Rattle.heap_model.specs.Machine.{Paged, ArePagesAdded, Seen, Stands, rights_of}
+use Rattle.heap_model.specs.Machine.{Paged, HasGotPages, Seen, Stands, rights_of}
 use Rattle.heap_model.proofs.Booleans.{or_false, or_left, or_right, or_cases}
 use Rattle.heap_model.proofs.Regions.{page_canonical}
 use Rattle.heap_model.proofs.Slots.{same_slot, slot_among, slot_all, has_slot-append, prefix_listed, listed_prefix}
@@ -98,7 +98,7 @@ abbrev pub region_rights : Option Region → Option Rights
 region_rights o = option_map (λ region. region.rights) o
 
 -- the walk of a page beside the added ones stays
-pub walk_beside : (old new : Paged) (address pages page : ℕ) (rights : Rights) → ArePagesAdded old new address pages rights →
+pub walk_beside : (old new : Paged) (address pages page : ℕ) (rights : Rights) → HasGotPages old new address pages rights →
     ((k : ℕ) → k < pages → page % 2 ^ 36 ≡ (address / 4096 + k) % 2 ^ 36 → ⊥) → walk_of new.words new.root page ≡ walk_of old.words old.root page
 unfolding walk_of
 walk_beside old new address pages page rights added apart =
@@ -119,7 +119,7 @@ some_stays None now stays is = absurd (let no : false ≡ true = is in cc)
 some_stays (Some place) now stays is = (let e = stays place refl in rw e refl)
 
 module _ (old new : Paged) (address pages : ℕ) (rights : Rights) (range : IsCanonicalRange (address / 4096) pages) (whole : address % 4096 ≡ 0)
-    (tree : IsTree old.words old.root old.free) (added : ArePagesAdded old new address pages rights) where
+    (tree : IsTree old.words old.root old.free) (added : HasGotPages old new address pages rights) where
   -- a page that was mapped is
   pub walk_stays : (page : ℕ) (place : Place) → walk_of old.words old.root page ≡ Some place → walk_of new.words old.root page ≡ Some place
   walk_stays page place is = walk_reach new.words old.root page ∙ added.added.pages_added.stayed 4 (prefix_of page 4) place
@@ -134,10 +134,10 @@ module _ (old new : Paged) (address pages : ℕ) (rights : Rights) (range : IsCa
       go (Some place) is = absurd (
           let page = added.added.mapped k less in
           let there : walk_of new.words old.root (address / 4096 + k) ≡ Some place = walk_stays (address / 4096 + k) place is in
-          let frame : place.frame ≡ page.frame = (let same : Some place ≡ Some (granted page.frame rights) = sym there ∙ page.found in cc) in
-          let used : is_free old.free place.frame ≡ false = tree.used 4 (prefix_of (address / 4096 + k) 4) place
+          let frame : place.frame ≡ page.frame = (let same : Some place ≡ Some (place_with page.frame rights) = sym there ∙ page.found in cc) in
+          let used : is_frame_free old.free place.frame ≡ false = tree.used 4 (prefix_of (address / 4096 + k) 4) place
           (omega arith) (sym (walk_reach old.words old.root (address / 4096 + k)) ∙ is) in
-          let free : is_free old.free place.frame ≡ true = ap (is_free old.free) frame ∙ page.was_free in
+          let free : is_frame_free old.free place.frame ≡ true = ap (is_frame_free old.free) frame ∙ page.was_free in
           cc)
 
   small_before : (k : ℕ) → k < pages → large_of old.words old.root (prefix_of (address / 4096 + k) 3) ≡ None
@@ -370,7 +370,7 @@ with_added s heap users address pages slots = record s {
 
 module _ (m : Seen) (new : Paged) (s : State) (address pages : ℕ) (rights : Rights) (heap users : List Region) (stands : Stands m s)
     (range : IsCanonicalRange (address / 4096) pages) (whole : address % 4096 ≡ 0)
-    (added : ArePagesAdded m.paged new address pages rights)
+    (added : HasGotPages m.paged new address pages rights)
     (here : (at : ℕ) → address ≤ at → at < address + 4096 * pages → region_rights
     (region_at (with_added s heap users address pages new.slots) at) ≡ Some rights)
     (elsewhere : (at : ℕ) → (at < address) ⊎ (address + 4096 * pages ≤ at) →

@@ -18,7 +18,7 @@ use Rattle.heap_model.specs.Tables.{missing, with_tables, free_frames}
 use Rattle.heap_model.specs.Place.{place, all_regions}
 use Rattle.heap_model.specs.Room.{heap_region}
 use Rattle.heap_model.specs.Extents.{AreRuns, IsTiling}
-use Rattle.heap_model.specs.Probe.{rights_at, is_granted, fault_code}
+use Rattle.heap_model.specs.Probe.{rights_at, is_access_granted, probe_fault_code}
 use Rattle.heap_model.specs.Refusal.{is_too_large, must_refuse}
 use Rattle.heap_model.specs.Answer.{after, IsAllowed}
 
@@ -223,22 +223,22 @@ probed-rights : rights_at one 0x400010 ≡ Some (record { write = true; user = f
 unfolding one config first
 probed-rights = refl
 
-probed-read : is_granted (rights_at one 0x400010) Reading false ≡ true
+probed-read : is_access_granted (rights_at one 0x400010) Reading false ≡ true
 unfolding one config first
 probed-read = refl
 
-probed-fetch : is_granted (rights_at one 0x400010) Fetch false ≡ false
+probed-fetch : is_access_granted (rights_at one 0x400010) Fetch false ≡ false
 unfolding one config first
 probed-fetch = refl
 
-code-fetch : fault_code true Fetch false ≡ 0x11
+code-fetch : probe_fault_code true Fetch false ≡ 0x11
 code-fetch = refl
 
-code-user : fault_code true Reading true ≡ 0x5
+code-user : probe_fault_code true Reading true ≡ 0x5
 code-user = refl
 
 -- no page is mapped there
-code-unmapped : fault_code false Writing true ≡ 0x6
+code-unmapped : probe_fault_code false Writing true ≡ 0x6
 code-unmapped = refl
 
 not-canonical : must_refuse (start config) (Probe 0x800000000000 Reading false) ≡ Some NotCanonical

@@ -11,19 +11,19 @@ use Rattle.paging_core.specs.Walk.{Place, reach, large_of, walk_of, reached}
 use Rattle.paging_core.specs.Tree.{IsTree}
 use Rattle.paging_core.specs.declared.page_table.Rights.{Rights}
 use Rattle.paging_core.proofs.Reached.{some_not_none}
-use Rattle.page_ranges.specs.RangeUnmapping.{is_cut, cut_tables}
+use Rattle.page_ranges.specs.RangeUnmapping.{cuts_large_page, cut_tables}
 use Rattle.heap_model.specs.declared.region.Region.{Region}
 use Rattle.heap_model.specs.declared.call.Call.TheVariants.{Map, Unmap}
 use Rattle.heap_model.specs.declared.answer.Reply.TheVariants.{Done}
-use Rattle.heap_model.specs.State.{State, Known, is_within, end_of, total_pages, region_at, Block, block_at, cell_at, cover}
+use Rattle.heap_model.specs.State.{State, Known, is_within, end_of_region, total_pages, region_at, Block, block_at, cell_at, cover}
 use Rattle.heap_model.specs.Tables.{has_table, missing, with_tables, used_frames, free_frames}
 use Rattle.heap_model.specs.Slots.{listed_slots, IsSlot, slot_number, slot_prefix, has_whole, is_whole_in, is_part_in, has_slot, AreAscending, IsSlotOf}
 use Rattle.heap_model.specs.Place.{meets, meets_any, with_region, is_at, without_region, all_regions}
 use Rattle.heap_model.specs.Room.{user_region}
 use Rattle.heap_model.specs.Refusal.{is_page_range, must_refuse}
 use Rattle.heap_model.specs.Answer.{settled, after}
-use Rattle.heap_model.specs.Run.{IsGood, IsGoodBlock, IsHeapRegion, IsUserRegion, AreInOrder}
-use Rattle.heap_model.specs.Machine.{Paged, ArePagesAdded, ArePagesGone, Seen, Stands, IsStep}
+use Rattle.heap_model.specs.Run.{IsGood, IsGoodBlock, IsHeapRegion, IsUserRegion, AreRegionsInOrder}
+use Rattle.heap_model.specs.Machine.{Paged, HasGotPages, ArePagesGone, Seen, Stands, IsStep}
 use Rattle.heap_model.proofs.Booleans.{or_left, or_right, or_cases, neither_or}
 use Rattle.heap_model.proofs.Regions.{within, not_within, meets_behind, beside, all_with, pages_with, any_with, any_all, in_order_with, none_within, find_only, find_past, find_behind, find_same, find_none, all_without, pages_without, in_order_without, find_left, starts_behind, none_left, any_left, listed, page_canonical, within_canonical}
 use Rattle.heap_model.proofs.Slots.{same_slot, page_slot, page_number, slot_all, has_slot-filter, filter_none, distinct_filter, whole_bounds, whole_meets, any_users_more, slots_more, slots_fewer, slots_join, slots_whole, whole_still, settled_same}
@@ -99,7 +99,7 @@ module _ (m : Seen) (new : Paged) (s : State) (start pages : ℕ) (rights : Righ
     (whole : start % 4096 ≡ 0) (range : IsCanonicalRange (start / 4096) pages)
     (beside_heap : meets_any start pages s.heap ≡ false) (beside_users : meets_any start pages s.users ≡ false)
     (few : pages + missing s.tables start pages ≤ free_frames s)
-    (added : ArePagesAdded m.paged new start pages rights) (regions : new.regions ≡ all_regions (with_user s start pages rights new.slots))
+    (added : HasGotPages m.paged new start pages rights) (regions : new.regions ≡ all_regions (with_user s start pages rights new.slots))
     (zeros : (at : ℕ) → is_within at (user_region start pages rights) ≡ true → reached new.words new.root at ≡ Some 0) where
   here : (at : ℕ) → start ≤ at → at < start + 4096 * pages → region_rights (region_at (with_user s start pages rights new.slots) at) ≡ Some rights
   here at above below =
@@ -158,7 +158,7 @@ abbrev regions_left : State → ℕ → ℕ → List Region
 regions_left s start pages = all_regions (record s { users = without_region start pages s.users })
 
 -- the region that leaves meets no other one
-none_met : (start pages : ℕ) (list : List Region) → AreInOrder list → list_any (is_at start pages) list ≡ true →
+none_met : (start pages : ℕ) (list : List Region) → AreRegionsInOrder list → list_any (is_at start pages) list ≡ true →
     meets_any start pages (without_region start pages list) ≡ false
 none_met start pages [] order there = absurd (let no : false ≡ true = there in cc)
 none_met start pages (region ∷ rest) order there = go (is_at start pages region) refl (none_met start pages rest order.1)
@@ -176,10 +176,10 @@ none_met start pages (region ∷ rest) order there = go (is_at start pages regio
     go true is more =
         let same : region.start ≡ start = grind (arith, nat_tests) in
         let long : region.pages ≡ pages = grind (arith, nat_tests) in
-        rw is (later (end_of region) rest (omega arith) order.0)
+        rw is (later (end_of_region region) rest (omega arith) order.0)
     go false is more =
         let in_rest : list_any (is_at start pages) rest ≡ true = rw is at there in
-        let end : end_of region ≤ start = starts_behind start pages (end_of region) rest order.0 in_rest in
+        let end : end_of_region region ≤ start = starts_behind start pages (end_of_region region) rest order.0 in_rest in
         let here = meets_behind start pages region end in
         rw (is, here) (more in_rest)
 
@@ -296,7 +296,8 @@ good_unmapped s start pages good there =
     }
 
 module _ (m : Seen) (new : Paged) (s : State) (start pages : ℕ) (good : IsGood s) (stands : Stands m s) (there : list_any (is_at start pages) s.users ≡ true)
-    (left : ArePagesGone m.paged new start pages) (uncut : is_cut m.paged.words m.paged.root (start / 4096) ≡ false)
+    (left : ArePagesGone m.paged new start pages) (uncut : cuts_large_page m.paged.words m.paged.root
+    (start / 4096) ≡ false)
     (regions : new.regions ≡ all_regions (without_user s start pages)) where
   -- what is known of the region that leaves
   known_start : (start % 4096 ≡ 0) × (meets_any start pages s.heap ≡ false)

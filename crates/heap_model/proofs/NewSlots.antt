@@ -15,7 +15,7 @@ use Rattle.heap_model.specs.Tables.{has_table}
 use Rattle.heap_model.specs.Slots.{slot_number, slot_prefix, listed_slots, AreAscending, IsSlotOf}
 use Rattle.heap_model.specs.Refusal.{wanted_by}
 use Rattle.heap_model.specs.Answer.{is_new, NewPages, granted_pages, new_pages, slots_of, AreNewSlots}
-use Rattle.heap_model.specs.Machine.{Paged, ArePagesAdded, Seen, Stands}
+use Rattle.heap_model.specs.Machine.{Paged, HasGotPages, Seen, Stands}
 use Rattle.heap_model.proofs.Added.{not_had, slot_was_bare}
 use Rattle.heap_model.proofs.Slots.{all_slots}
 
@@ -35,7 +35,7 @@ allowed_slots s call reply regions new (slot ∷ rest) is ascending within bare 
 -- the slots that a machine maps by one entry had no table in the state for which it stands
 pub slots_bare : (m : Seen) (new : Paged) (s : State) (address pages : ℕ) (rights : Rights) → Stands m s →
     IsCanonicalRange (address / 4096) pages → address % 4096 ≡ 0 →
-    ArePagesAdded m.paged new address pages rights → AllByRecursion (λ slot. IsFalse (has_table s.tables (slot_prefix slot))) new.slots
+    HasGotPages m.paged new address pages rights → AllByRecursion (λ slot. IsFalse (has_table s.tables (slot_prefix slot))) new.slots
 slots_bare m new s address pages rights stands range whole added = all_slots (λ slot. IsFalse (has_table s.tables (slot_prefix slot))) new.slots (λ slot listed.
     not_had (reach m.paged.words m.paged.root 3 (slot_number slot)) (slot_was_bare m.paged new address pages rights range whole stands.tree added slot listed)
     (has_table s.tables (slot_prefix slot)) (stands.tables_met 3 (slot_number slot) (omega arith) (omega arith)))

@@ -2,7 +2,7 @@
 use Rattle.std.proofs.Common.{◌≡◌, ℕ, zero, suc, ◌+◌, ◌<◌, ◌⊎◌, inl, inr, List, [], ◌∷◌, ◌++◌, length, map, get_or, replicate, refl, sym, ap, ◌∙◌, subst, arith, Option, Some, None, option_map}
 use Rattle.heap_model.specs.declared.live.Live.{Live}
 use Rattle.heap_model.specs.State.{State, Cell, Known, Block, block_at, cell_at, cover}
-use Rattle.heap_model.specs.Room.{AreApart}
+use Rattle.heap_model.specs.Room.{AreBytesApart}
 use Rattle.heap_model.specs.Run.{IsGood, IsGoodBlock}
 use Rattle.heap_model.specs.Memory.{HoldsBytes}
 use Rattle.heap_model.specs.Machine.{outline}
@@ -77,7 +77,7 @@ holds_pushed reached blocks new holds here = record {
   ];
 }
 
-pub turned : (a m b n : ℕ) → AreApart a m b n → AreApart b n a m
+pub turned : (a m b n : ℕ) → AreBytesApart a m b n → AreBytesApart b n a m
 turned a m b n apart = elim apart [ inl less ↦ inr less | inr more ↦ inl more ]
 
 -- the state with one block more
@@ -87,7 +87,7 @@ placed s block = record s { blocks = s.blocks ++ Some block ∷ [] }
 -- it is good if the block is good and lies beside all others
 pub good_placed : (s : State) (block : Block) → IsGood s → IsGoodBlock s.heap block
     → ((number : ℕ) (old : Block) → block_at s.blocks number ≡ Some old →
-    AreApart old.address (cover old) block.address (cover block)) → IsGood (placed s block)
+    AreBytesApart old.address (cover old) block.address (cover block)) → IsGood (placed s block)
 good_placed s block good here apart = record {
   each = λ number other is. elim (appended s.blocks (Some block) number other is) [
     | inl old ↦ good.each number other old
@@ -97,11 +97,11 @@ good_placed s block good here apart = record {
   apart = λ i j a b is_a is_b differ. elim (appended s.blocks (Some block) i a is_a) [
     | inl old_a ↦ elim (appended s.blocks (Some block) j b is_b) [
       | inl old_b ↦ good.apart i j a b old_a old_b differ
-      | inr new_b ↦ (let same : block ≡ b = cc in subst (λ x. AreApart a.address (cover a) x.address (cover x)) same (apart i a old_a))
+      | inr new_b ↦ (let same : block ≡ b = cc in subst (λ x. AreBytesApart a.address (cover a) x.address (cover x)) same (apart i a old_a))
     ]
     | inr new_a ↦ elim (appended s.blocks (Some block) j b is_b) [
       | inl old_b ↦ (let same : block ≡ a = cc in
-          subst (λ x. AreApart x.address (cover x) b.address (cover b)) same (turned b.address (cover b) block.address (cover block) (apart j b old_b)))
+          subst (λ x. AreBytesApart x.address (cover x) b.address (cover b)) same (turned b.address (cover b) block.address (cover block) (apart j b old_b)))
       | inr new_b ↦ absurd (differ (new_a.0 ∙ sym new_b.0))
     ]
   ];

@@ -11,7 +11,7 @@ use Rattle.heap_model.specs.declared.call.Call.TheVariants.{Probe}
 use Rattle.heap_model.specs.declared.answer.Reply.TheVariants.{Byte, Fault}
 use Rattle.heap_model.specs.State.{State, Known, Block, block_at, cell_at}
 use Rattle.heap_model.specs.Memory.{HoldsBytes}
-use Rattle.heap_model.specs.Probe.{rights_at, is_granted, fault_code}
+use Rattle.heap_model.specs.Probe.{rights_at, is_access_granted, probe_fault_code}
 use Rattle.heap_model.specs.Answer.{known_block, seen_block}
 use Rattle.heap_model.specs.Run.{IsGood, IsGoodBlock}
 use Rattle.heap_model.specs.Machine.{Seen, Stands, IsStep, outline, rights_of}
@@ -155,7 +155,7 @@ rights_found m s at stands canonical = stands.pages_found (at / 4096) (first_can
 
 -- the access is granted, and the byte is the one reached
 pub step_byte : (m : Seen) (s : State) (at : ℕ) (access : Access) (user : Bool) (byte : ℕ) → IsGood s → Stands m s → IsTrue (is_canonical at) →
-    is_granted (option_map rights_of (walk_of m.paged.words m.paged.root (at / 4096))) access user ≡ true →
+    is_access_granted (option_map rights_of (walk_of m.paged.words m.paged.root (at / 4096))) access user ≡ true →
     reached m.paged.words m.paged.root at ≡ Some byte → byte < 2 ^ 8 →
     IsStep s (Probe at access user) (record { reply = Byte byte; regions = None; large = None }) m
 step_byte m s at access user byte good stands canonical granted here small = record {
@@ -164,7 +164,7 @@ step_byte m s at access user byte good stands canonical granted here small = rec
       rw canonical refl,
       (
         refl,
-        ap (λ rights. is_granted rights access user) (sym (rights_found m s at stands canonical)) ∙ granted,
+        ap (λ rights. is_access_granted rights access user) (sym (rights_found m s at stands canonical)) ∙ granted,
         record {
           small = small;
           known = λ number k other block is place cell. cc (sym here ∙ (ap (reached m.paged.words m.paged.root) (sym place)
@@ -183,8 +183,8 @@ step_byte m s at access user byte good stands canonical granted here small = rec
 -- the access is not granted, and the code says why
 pub step_fault : (m : Seen) (s : State) (at : ℕ) (access : Access) (user : Bool) (code : PageFaultErrorCode) → IsGood s →
     Stands m s → IsTrue (is_canonical at) →
-    is_granted (option_map rights_of (walk_of m.paged.words m.paged.root (at / 4096))) access user ≡ false →
-    page_fault_bits code ≡ fault_code (is_some (option_map rights_of (walk_of m.paged.words m.paged.root (at / 4096)))) access user →
+    is_access_granted (option_map rights_of (walk_of m.paged.words m.paged.root (at / 4096))) access user ≡ false →
+    page_fault_bits code ≡ probe_fault_code (is_some (option_map rights_of (walk_of m.paged.words m.paged.root (at / 4096)))) access user →
     IsStep s (Probe at access user) (record { reply = Fault code; regions = None; large = None }) m
 step_fault m s at access user code good stands canonical denied is = record {
   allowed = record {
@@ -192,8 +192,8 @@ step_fault m s at access user code good stands canonical denied is = record {
       rw canonical refl,
       (
         refl,
-        ap (λ rights. is_granted rights access user) (sym (rights_found m s at stands canonical)) ∙ denied,
-        is ∙ ap (λ rights. fault_code (is_some rights) access user) (rights_found m s at stands canonical),
+        ap (λ rights. is_access_granted rights access user) (sym (rights_found m s at stands canonical)) ∙ denied,
+        is ∙ ap (λ rights. probe_fault_code (is_some rights) access user) (rights_found m s at stands canonical),
       ),
     );
     listed = tt;

@@ -4,31 +4,34 @@ use Rattle.std.proofs.lemmas.Bool.Decides.{nat_tests}
 use Rattle.std.specs.List.{list_any, AllByRecursion}
 use Rattle.paging_core.specs.Address.{is_canonical, IsCanonicalRange}
 use Rattle.heap_model.specs.declared.region.Region.{Region}
-use Rattle.heap_model.specs.State.{end_of, is_within, total_pages}
+use Rattle.heap_model.specs.State.{end_of_region, is_within, total_pages}
 use Rattle.heap_model.specs.Place.{meets, meets_any, with_region, is_at, without_region}
-use Rattle.heap_model.specs.Run.{AreInOrder, IsWhole}
+use Rattle.heap_model.specs.Run.{AreRegionsInOrder, IsWholePages}
 use Rattle.heap_model.proofs.Booleans.{or_false, or_left, or_right, or_cases, or_swap, neither_or}
 
 -- ---- one region
 
-pub within : (address : ℕ) (region : Region) → region.start ≤ address → address < end_of region → is_within address region ≡ true
+pub within : (address : ℕ) (region : Region) → region.start ≤ address → address < end_of_region region → is_within address region ≡ true
 within address region above below = grind (arith, nat_tests)
 
-pub within_bounds : (address : ℕ) (region : Region) → is_within address region ≡ true → (region.start ≤ address) × (address < end_of region)
+pub within_bounds : (address : ℕ) (region : Region) → is_within address region ≡ true → (region.start ≤ address) × (address < end_of_region region)
 within_bounds address region is = grind (arith, nat_tests)
 
-pub not_within : (address : ℕ) (region : Region) → (address < region.start) ⊎ (end_of region ≤ address) → is_within address region ≡ false
+pub not_within : (address : ℕ) (region : Region) → (address < region.start) ⊎ (end_of_region region ≤ address) → is_within address region ≡ false
 not_within address region (inl before) = grind (arith, nat_tests)
 not_within address region (inr behind) = grind (arith, nat_tests)
 
-pub meets_true : (address pages : ℕ) (region : Region) → address < end_of region → region.start < address + 4096 * pages → meets address pages region ≡ true
+pub meets_true : (address pages : ℕ) (region : Region) → address < end_of_region region →
+    region.start < address + 4096 * pages → meets address pages region ≡ true
 meets_true address pages region above below = grind (arith, nat_tests)
 
-pub meets_behind : (address pages : ℕ) (region : Region) → end_of region ≤ address → meets address pages region ≡ false
+pub meets_behind : (address pages : ℕ) (region : Region) → end_of_region region ≤ address →
+    meets address pages region ≡ false
 meets_behind address pages region above = grind (arith, nat_tests)
 
 -- pages that meet no region lie beside it
-pub beside : (address pages : ℕ) (region : Region) → meets address pages region ≡ false → (end_of region ≤ address) ⊎ (address + 4096 * pages ≤ region.start)
+pub beside : (address pages : ℕ) (region : Region) → meets address pages region ≡ false →
+    (end_of_region region ≤ address) ⊎ (address + 4096 * pages ≤ region.start)
 beside address pages region is = grind (arith, nat_tests)
 
 -- ---- a list with one more
@@ -116,24 +119,26 @@ later_starts end later_end [] less all = tt
 later_starts end later_end (first ∷ rest) less all = (omega (arith, all.0), later_starts end later_end rest less all.1)
 
 -- the list stays sorted if the region meets none of it
-pub in_order_with : (region : Region) (list : List Region) → 0 < region.pages → AreInOrder list →
-    meets_any region.start region.pages list ≡ false → AreInOrder (with_region region list)
+pub in_order_with : (region : Region) (list : List Region) → 0 < region.pages → AreRegionsInOrder list →
+    meets_any region.start region.pages list ≡ false → AreRegionsInOrder (with_region region list)
 in_order_with region [] some order none_met = (tt, tt)
 in_order_with region (first ∷ rest) some order none_met = go (nat_lt region.start first.start) refl (in_order_with region rest some order.1 both.1)
   where
     both : (meets region.start region.pages first ≡ false) × (meets_any region.start region.pages rest ≡ false)
     both = neither_or (meets region.start region.pages first) (meets_any region.start region.pages rest) none_met
 
-    go : (b : Bool) → nat_lt region.start first.start ≡ b → AreInOrder (with_region region rest) →
-        AreInOrder (cond b (region ∷ first ∷ rest) (first ∷ with_region region rest))
+    go : (b : Bool) → nat_lt region.start first.start ≡ b → AreRegionsInOrder (with_region region rest) →
+        AreRegionsInOrder (cond b (region ∷ first ∷ rest) (first ∷ with_region region rest))
     go true sooner later =
         let less : region.start < first.start = grind (arith, nat_tests) in
-        let end : end_of region ≤ first.start = elim (beside region.start region.pages first both.0) [ inl behind ↦ omega arith | inr before ↦ before ] in
-        ((end, later_starts (end_of region) (end_of first) rest (omega arith) order.0), order)
+        let end : end_of_region region ≤ first.start = elim (beside region.start region.pages first both.0)
+        [ inl behind ↦ omega arith | inr before ↦ before ] in
+        ((end, later_starts (end_of_region region) (end_of_region first) rest (omega arith) order.0), order)
     go false sooner later =
         let more : first.start ≤ region.start = grind (arith, nat_tests) in
-        let end : end_of first ≤ region.start = elim (beside region.start region.pages first both.0) [ inl behind ↦ behind | inr before ↦ omega arith ] in
-        (all_with (λ later. end_of first ≤ later.start) region rest end order.0, later)
+        let end : end_of_region first ≤ region.start = elim (beside region.start region.pages first both.0)
+        [ inl behind ↦ behind | inr before ↦ omega arith ] in
+        (all_with (λ later. end_of_region first ≤ later.start) region rest end order.0, later)
 
 -- an address of the pages lies in no region that they do not meet
 pub none_within : (address pages at : ℕ) (list : List Region) → address ≤ at → at < address + 4096 * pages →
@@ -205,13 +210,13 @@ pages_without start pages (region ∷ rest) there = go (is_at start pages region
     go false is later = let more = later (rw is at there) in rw is (omega arith)
 
 -- the list stays sorted
-pub in_order_without : (start pages : ℕ) (list : List Region) → AreInOrder list → AreInOrder (without_region start pages list)
+pub in_order_without : (start pages : ℕ) (list : List Region) → AreRegionsInOrder list → AreRegionsInOrder (without_region start pages list)
 in_order_without start pages [] order = tt
 in_order_without start pages (region ∷ rest) order = go (is_at start pages region) (in_order_without start pages rest order.1)
   where
-    go : (b : Bool) → AreInOrder (without_region start pages rest) → AreInOrder (cond b rest (region ∷ without_region start pages rest))
+    go : (b : Bool) → AreRegionsInOrder (without_region start pages rest) → AreRegionsInOrder (cond b rest (region ∷ without_region start pages rest))
     go true later = order.1
-    go false later = (all_without (λ later. end_of region ≤ later.start) start pages rest order.0, later)
+    go false later = (all_without (λ later. end_of_region region ≤ later.start) start pages rest order.0, later)
 
 -- what fails for the one that leaves is found as before
 pub find_left : (test : Region → Bool) (start pages : ℕ) (list : List Region) → ((region : Region) → is_at start pages region ≡ true → test region ≡ false) →
@@ -254,7 +259,8 @@ none_behind at from [] less all = refl
 none_behind at from (region ∷ rest) less all = let here = not_within at region (inl (omega (arith, all.0))) in rw here (none_behind at from rest less all.1)
 
 -- an address of the one that leaves lies in no other
-pub none_left : (start pages at : ℕ) (list : List Region) → AreInOrder list → list_any (is_at start pages) list ≡ true →
+pub none_left : (start pages at : ℕ) (list : List Region) → AreRegionsInOrder list →
+    list_any (is_at start pages) list ≡ true →
     start ≤ at → at < start + 4096 * pages →
     list_any (is_within at) (without_region start pages list) ≡ false
 none_left start pages at [] order there above below = let no : false ≡ true = there in absurd (cc)
@@ -266,10 +272,10 @@ none_left start pages at (region ∷ rest) order there above below = go (is_at s
     go true is later =
         let same : region.start ≡ start = grind (arith, nat_tests) in
         let long : region.pages ≡ pages = grind (arith, nat_tests) in
-        rw is (none_behind at (end_of region) rest (omega arith) order.0)
+        rw is (none_behind at (end_of_region region) rest (omega arith) order.0)
     go false is later =
         let in_rest : list_any (is_at start pages) rest ≡ true = rw is at there in
-        let end : end_of region ≤ start = starts_behind start pages (end_of region) rest order.0 in_rest in
+        let end : end_of_region region ≤ start = starts_behind start pages (end_of_region region) rest order.0 in_rest in
         let here = not_within at region (inr (omega arith)) in
         rw (is, here) (later in_rest)
 
@@ -294,7 +300,7 @@ page_canonical first pages k range less =
     ap (λ q. nat_eq q 0 || nat_eq q (2 ^ 17 - 1)) same ∙ range.canonical
 
 -- the page of an address in whole regions is canonical
-pub within_canonical : (P : Region → Type 0) → ((region : Region) → P region → IsWhole region) → (at : ℕ) (list : List Region) → AllByRecursion P list →
+pub within_canonical : (P : Region → Type 0) → ((region : Region) → P region → IsWholePages region) → (at : ℕ) (list : List Region) → AllByRecursion P list →
     list_any (is_within at) list ≡ true → IsTrue (is_canonical (at / 4096 * 4096))
 within_canonical P whole at [] all there = let no : false ≡ true = there in absurd (cc)
 within_canonical P whole at (region ∷ rest) all there = go (is_within at region) refl (within_canonical P whole at rest all.1)

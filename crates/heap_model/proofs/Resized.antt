@@ -1,7 +1,7 @@
 -- A block gets another size, where it is or elsewhere: the state stays good, and the memory holds what is known of all blocks.
 use Rattle.std.proofs.Common.{◌≡◌, ◌≢◌, ℕ, zero, suc, ◌+◌, ◌<◌, ◌⊎◌, inl, inr, List, [], ◌∷◌, length, map, get_or, slice_set, refl, sym, ap, ◌∙◌, subst, arith, Option, Some, None, option_map}
 use Rattle.heap_model.specs.State.{State, Cell, Known, Block, block_at, cell_at, cover}
-use Rattle.heap_model.specs.Room.{AreApart}
+use Rattle.heap_model.specs.Room.{AreBytesApart}
 use Rattle.heap_model.specs.Memory.{HoldsBytes}
 use Rattle.heap_model.specs.Machine.{outline}
 use Rattle.heap_model.specs.Answer.{with_block, without_block, resized_cells, resized_block}
@@ -68,7 +68,7 @@ pub good_resized : (s : State) (number : ℕ) (change : Block → Block) (block 
     IsGood (record s { blocks = without_block s.blocks number }) → block_at s.blocks number ≡ Some block →
     IsGoodBlock s.heap (change block) →
     ((i : ℕ) (other : Block) → i ≢ number → block_at s.blocks i ≡ Some other →
-    AreApart other.address (cover other) (change block).address (cover (change block))) →
+    AreBytesApart other.address (cover other) (change block).address (cover (change block))) →
     IsGood (record s { blocks = with_block s.blocks number change })
 good_resized s number change block good is here apart = record {
   each = λ i it at. elim (changed_at s.blocks number change i it at) [
@@ -81,12 +81,12 @@ good_resized s number change block good is here apart = record {
     | inl same_a ↦ elim (changed_at s.blocks number change j b is_b) [
       | inl same_b ↦ absurd (differ (same_a.0 ∙ sym same_b.0))
       | inr other_b ↦ (let one : same_a.1.0 ≡ block = cc (same_a.1.1, is) in
-          subst (λ x. AreApart x.address (cover x) b.address (cover b)) (ap change (sym one) ∙ same_a.1.2)
+          subst (λ x. AreBytesApart x.address (cover x) b.address (cover b)) (ap change (sym one) ∙ same_a.1.2)
           (turned b.address (cover b) (change block).address (cover (change block)) (apart j b other_b.0 other_b.1)))
     ]
     | inr other_a ↦ elim (changed_at s.blocks number change j b is_b) [
       | inl same_b ↦ (let one : same_b.1.0 ≡ block = cc (same_b.1.1, is) in
-          subst (λ x. AreApart a.address (cover a) x.address (cover x)) (ap change (sym one) ∙ same_b.1.2) (apart i a other_a.0 other_a.1))
+          subst (λ x. AreBytesApart a.address (cover a) x.address (cover x)) (ap change (sym one) ∙ same_b.1.2) (apart i a other_a.0 other_a.1))
       | inr other_b ↦ good.apart i j a b (replaced_stays s.blocks number i a None other_a.0 other_a.1)
           (replaced_stays s.blocks number j b None other_b.0 other_b.1) differ
     ]

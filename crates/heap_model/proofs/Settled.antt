@@ -9,7 +9,7 @@ use Rattle.paging_core.specs.Prefix.{Prefix}
 use Rattle.paging_core.specs.Walk.{reach, large_of}
 use Rattle.heap_model.specs.declared.region.Region.{Region}
 use Rattle.heap_model.specs.Tables.{is_same, has_table}
-use Rattle.heap_model.specs.Slots.{IsSlot, slot_number, slot_prefix, is_whole_in, is_part_in, has_slot, AreDistinct}
+use Rattle.heap_model.specs.Slots.{IsSlot, slot_number, slot_prefix, is_whole_in, is_part_in, has_slot, AreDistinctSlots}
 use Rattle.heap_model.proofs.Booleans.{or_left, or_right}
 use Rattle.heap_model.proofs.Slots.{slot_all, has_slot-filter, filter_none}
 use Rattle.heap_model.proofs.Tables.{same_refl, same_parts}
@@ -36,7 +36,7 @@ pub record AreSettled (words words' : List ℕ) (root root' : ℕ) (regions : Li
 -- ---- lists
 
 -- if a test passes at only one listed slot, and none is listed twice, the slots that pass are that one
-filter_one : (test : ℕ → Bool) (slots : List ℕ) (slot : ℕ) → AreDistinct slots → has_slot slots slot ≡ true → test slot ≡ true →
+filter_one : (test : ℕ → Bool) (slots : List ℕ) (slot : ℕ) → AreDistinctSlots slots → has_slot slots slot ≡ true → test slot ≡ true →
     ((other : ℕ) → has_slot slots other ≡ true → test other ≡ true → other ≡ slot) → filter test slots ≡ slot ∷ []
 filter_one test [] slot distinct listed passes alone = absurd (let no : false ≡ true = listed in cc)
 filter_one test (first ∷ rest) slot distinct listed passes alone =
@@ -95,7 +95,7 @@ filter_one test (first ∷ rest) slot distinct listed passes alone =
 
 module _ (words words' : List ℕ) (root root' : ℕ) (regions : List Region) (cut : Option ℕ)
     (is : AreSettled words words' root root' regions cut) (large : List ℕ) (tables : List Prefix)
-    (are : AllByRecursion IsSlot large) (distinct : AreDistinct large)
+    (are : AllByRecursion IsSlot large) (distinct : AreDistinctSlots large)
     (larges_met : (slot : ℕ) → IsSlot slot → IsSome (large_of words root (slot_number slot)) ↔ IsTrue (has_slot large slot))
     (tables_met : (level number : ℕ) → 0 < level → level < 4 → IsSome (reach words root level number) ↔ IsTrue
     (has_table tables (record { level = level; number = number }))) where

@@ -5,14 +5,14 @@ use Rattle.std.proofs.ByRecursion.{kept_by_passes}
 use Rattle.std.proofs.lemmas.Bool.Decides.{nat_tests}
 use Rattle.paging_core.specs.Address.{IsCanonicalRange}
 use Rattle.heap_model.specs.declared.region.Region.{Region}
-use Rattle.heap_model.specs.State.{State, Block, block_at, cover, end_of, is_within, total_pages}
+use Rattle.heap_model.specs.State.{State, Block, block_at, cover, end_of_region, is_within, total_pages}
 use Rattle.heap_model.specs.Place.{meets, meets_any, all_regions}
 use Rattle.heap_model.specs.Cut.{IsFrontOf, AreCut}
-use Rattle.heap_model.specs.Room.{AreApart}
+use Rattle.heap_model.specs.Room.{AreBytesApart}
 use Rattle.heap_model.specs.Slots.{IsSlot, is_whole_in}
 use Rattle.heap_model.specs.Tables.{used_frames}
 use Rattle.heap_model.specs.Answer.{is_new, settled}
-use Rattle.heap_model.specs.Run.{IsGood, IsGoodBlock, IsHeapRegion, IsUserRegion, AreInOrder}
+use Rattle.heap_model.specs.Run.{IsGood, IsGoodBlock, IsHeapRegion, IsUserRegion, AreRegionsInOrder}
 use Rattle.heap_model.proofs.Booleans.{neither_or, or_neither, or_cases}
 use Rattle.heap_model.proofs.Regions.{find_none}
 use Rattle.heap_model.proofs.Slots.{slots_fewer, distinct_filter}
@@ -69,11 +69,11 @@ all_cut Was Is each (region ∷ rest) new (inl dropped) all = all_cut Was Is eac
 all_cut Was Is each (region ∷ rest) new (inr kept) all = subst (AllByRecursion Is) (sym kept.3)
     (each region kept.0 kept.2 all.0, all_cut Was Is each rest kept.1 kept.4 all.1)
 
-pub order_cut : (old new : List Region) → AreCut old new → AreInOrder old → AreInOrder new
-order_cut [] new is order = subst AreInOrder (sym is) tt
+pub order_cut : (old new : List Region) → AreCut old new → AreRegionsInOrder old → AreRegionsInOrder new
+order_cut [] new is order = subst AreRegionsInOrder (sym is) tt
 order_cut (region ∷ rest) new (inl dropped) order = order_cut rest new dropped order.1
-order_cut (region ∷ rest) new (inr kept) order = subst AreInOrder (sym kept.3) (
-  all_cut (λ later. end_of region ≤ later.start) (λ later. end_of kept.0 ≤ later.start)
+order_cut (region ∷ rest) new (inr kept) order = subst AreRegionsInOrder (sym kept.3) (
+  all_cut (λ later. end_of_region region ≤ later.start) (λ later. end_of_region kept.0 ≤ later.start)
       (λ later front is behind. (let start = front_start region kept.0 kept.2 in let pages =
       front_pages region kept.0 kept.2 in let from = front_start later front is in
       omega (arith, start, pages, from, behind)))
@@ -124,7 +124,7 @@ good_there old new block was held = record { aligned = was.aligned; aligned_16 =
 pub good_over : (s : State) (blocks : List (Option Block)) → IsGood (record s { blocks = [] }) →
     ((i : ℕ) (it : Block) → block_at blocks i ≡ Some it → IsGoodBlock s.heap it) →
     ((i j : ℕ) (a b : Block) → block_at blocks i ≡ Some a → block_at blocks j ≡ Some b → i ≢ j →
-    AreApart a.address (cover a) b.address (cover b)) → IsGood (record s { blocks = blocks })
+    AreBytesApart a.address (cover a) b.address (cover b)) → IsGood (record s { blocks = blocks })
 good_over s blocks bare each apart = record {
   each = each;
   apart = apart;

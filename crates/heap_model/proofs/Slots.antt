@@ -7,9 +7,9 @@ use Rattle.paging_core.specs.Address.{is_canonical, IsCanonicalRange}
 use Rattle.paging_core.specs.Prefix.{Prefix, prefix_of}
 use Rattle.paging_core.proofs.Ranges.{same_number}
 use Rattle.heap_model.specs.declared.region.Region.{Region}
-use Rattle.heap_model.specs.State.{State, end_of}
+use Rattle.heap_model.specs.State.{State, end_of_region}
 use Rattle.heap_model.specs.Tables.{is_same, has_table}
-use Rattle.heap_model.specs.Slots.{IsSlot, slot_number, slot_prefix, has_whole, is_whole_in, is_part_in, has_slot, AreDistinct, AreAscending, IsSlotOf}
+use Rattle.heap_model.specs.Slots.{IsSlot, slot_number, slot_prefix, has_whole, is_whole_in, is_part_in, has_slot, AreDistinctSlots, AreAscending, IsSlotOf}
 use Rattle.heap_model.specs.Place.{meets, meets_any, with_region, all_regions}
 use Rattle.heap_model.specs.Answer.{settled}
 use Rattle.heap_model.proofs.Booleans.{or_left, or_right, or_cases}
@@ -121,12 +121,12 @@ none_later slot (first ∷ rest) all =
     let other : nat_eq first slot ≡ false = grind (arith, nat_tests) in
     rw other (none_later slot rest all.1)
 
-pub ascending_distinct : (slots : List ℕ) → AreAscending slots → AreDistinct slots
+pub ascending_distinct : (slots : List ℕ) → AreAscending slots → AreDistinctSlots slots
 ascending_distinct [] is = tt
 ascending_distinct (slot ∷ rest) is = (none_later slot rest is.0, ascending_distinct rest is.1)
 
-pub distinct_append : (some more : List ℕ) → AreDistinct some → AreDistinct more →
-    ((slot : ℕ) → has_slot some slot ≡ true → has_slot more slot ≡ false) → AreDistinct (some ++ more)
+pub distinct_append : (some more : List ℕ) → AreDistinctSlots some → AreDistinctSlots more →
+    ((slot : ℕ) → has_slot some slot ≡ true → has_slot more slot ≡ false) → AreDistinctSlots (some ++ more)
 distinct_append [] more first second apart = second
 distinct_append (slot ∷ rest) more first second apart =
     let same : nat_eq slot slot ≡ true = grind (arith, nat_tests) in
@@ -136,11 +136,12 @@ distinct_append (slot ∷ rest) more first second apart =
       distinct_append rest more first.1 second (λ other is. apart other (or_right (nat_eq slot other) (has_slot rest other) is)),
     )
 
-pub distinct_filter : (test : ℕ → Bool) (slots : List ℕ) → AreDistinct slots → AreDistinct (filter test slots)
+pub distinct_filter : (test : ℕ → Bool) (slots : List ℕ) → AreDistinctSlots slots → AreDistinctSlots (filter test slots)
 distinct_filter test [] is = tt
 distinct_filter test (slot ∷ rest) is = go (test slot) (distinct_filter test rest is.1)
   where
-    go : (b : Bool) → AreDistinct (filter test rest) → AreDistinct (cond b (slot ∷ filter test rest) (filter test rest))
+    go : (b : Bool) → AreDistinctSlots (filter test rest) → AreDistinctSlots
+        (cond b (slot ∷ filter test rest) (filter test rest))
     go true later = (let gone = is.0 in has_slot-filter test rest slot ∙ rw gone refl, later)
     go false later = later
 
@@ -167,10 +168,10 @@ listed_prefix (first ∷ rest) p is = elim (or_cases (is_same p (slot_prefix fir
 
 -- ---- slots in regions
 
-pub whole_true : (slot : ℕ) (region : Region) → region.start ≤ slot → slot + 2 ^ 21 ≤ end_of region → has_whole slot region ≡ true
+pub whole_true : (slot : ℕ) (region : Region) → region.start ≤ slot → slot + 2 ^ 21 ≤ end_of_region region → has_whole slot region ≡ true
 whole_true slot region from to = grind (arith, nat_tests)
 
-pub whole_bounds : (slot : ℕ) (region : Region) → has_whole slot region ≡ true → (region.start ≤ slot) × (slot + 2 ^ 21 ≤ end_of region)
+pub whole_bounds : (slot : ℕ) (region : Region) → has_whole slot region ≡ true → (region.start ≤ slot) × (slot + 2 ^ 21 ≤ end_of_region region)
 whole_bounds slot region is = grind (arith, nat_tests)
 
 -- a region that has a slot whole meets pages that have an address of the slot
@@ -214,7 +215,8 @@ any_users_more test region heap users =
 -- Slots of pages that meet no region join those that lie whole in regions: each lies whole in one, and none is twice.
 pub slots_join : (address pages : ℕ) (regions : List Region) (large slots : List ℕ) → AreAscending slots →
     AllByRecursion (IsSlotOf address pages) slots → meets_any address pages regions ≡ false →
-    AllByRecursion (λ slot. IsTrue (is_whole_in regions slot)) large → AreDistinct large → AreDistinct (large ++ slots)
+    AllByRecursion (λ slot. IsTrue (is_whole_in regions slot)) large → AreDistinctSlots large →
+    AreDistinctSlots (large ++ slots)
 slots_join address pages regions large slots ascending within clear whole distinct =
     distinct_append large slots distinct (ascending_distinct slots ascending) (λ slot is. apart slot is (has_slot slots slot) refl)
   where

@@ -18,7 +18,7 @@ use Rattle.heap_model.specs.Cut.{AreCut}
 use Rattle.heap_model.specs.Room.{user_region, IsGrowth, IsGrowthCut}
 use Rattle.heap_model.specs.Extents.{IsTiling}
 use Rattle.x86_flags.specs.PageFaultErrorCode.{page_fault_bits}
-use Rattle.heap_model.specs.Probe.{rights_at, is_granted, fault_code, IsByteAt}
+use Rattle.heap_model.specs.Probe.{rights_at, is_access_granted, probe_fault_code, IsByteAt}
 use Rattle.heap_model.specs.Refusal.{own_align, least_align, must_refuse, MayRefuse, wanted_by}
 
 -- a block of whose bytes the same is known
@@ -135,30 +135,30 @@ pub record IsResizing (s : State) (block : Block) (n address : ℕ) (regions : O
   pub growth : IsGrowthCut s n (heap_after s regions)
 
 -- the replies other than refusals
-abbrev pub IsServed : State → Call → Reply → Option (List Region) → Type 0
-IsServed s (Malloc size align) (Placed number address) regions = (number ≡ length s.blocks) × IsGrowth s (wanted size align) (heap_after s regions)
-IsServed s (Calloc size align) (Placed number address) regions = (number ≡ length s.blocks) × IsGrowth s (wanted size align) (heap_after s regions)
-IsServed s (Realloc number size) (Placed given address) regions = (given ≡ number) × MatchOption (block_at s.blocks number) ⊥ (λ block. IsResizing s block (wanted size (own_align block)) address regions)
-IsServed s (CRealloc number size) (Placed given address) regions = (given ≡ number) × MatchOption (block_at s.blocks number) ⊥ (λ block. IsResizing s block (wanted size (least_align block)) address regions)
-IsServed s (Free number) Done regions = AreCut s.heap (heap_after s regions)
-IsServed s (Write number offset bytes) Done regions = regions ≡ None
-IsServed s (Read number offset count) (Bytes bytes) regions = (regions ≡ None) × (length bytes ≡ count) × AreBytes bytes × ((block : Block) → block_at s.blocks number ≡ Some block → AgreeWith block.cells offset bytes)
-IsServed s (Map start pages rights) Done regions = regions ≡ None
-IsServed s (Unmap start pages) Done regions = regions ≡ None
-IsServed s (Probe at access user) (Byte byte) regions = (regions ≡ None) × IsTrue (is_granted (rights_at s at) access user) × IsByteAt s at byte
-IsServed s (Probe at access user) (Fault code) regions = (regions ≡ None) × IsFalse (is_granted (rights_at s at) access user) × (page_fault_bits code ≡ fault_code (is_some (rights_at s at)) access user)
-IsServed s (Trim pad) (Trimmed released) regions = AreCut s.heap (heap_after s regions) × (released ≡ is_some regions)
-IsServed s (SetRate rate) Done regions = regions ≡ None
-IsServed s (SetGranularity granularity) (Accepted accepted) regions = (regions ≡ None) × (IsTrue accepted ↔ (IsPowerOfTwo granularity × (16 ≤ granularity)))
-IsServed s Reset (Released bytes) regions = (heap_after s regions ≡ []) × (bytes ≡ 4096 * total_pages s.heap) × (bytes < 2 ^ 64)
-IsServed s Extents (Listed extents) regions = (regions ≡ None) × IsTiling s extents
-IsServed s call reply regions = ⊥
+abbrev pub IsCallServed : State → Call → Reply → Option (List Region) → Type 0
+IsCallServed s (Malloc size align) (Placed number address) regions = (number ≡ length s.blocks) × IsGrowth s (wanted size align) (heap_after s regions)
+IsCallServed s (Calloc size align) (Placed number address) regions = (number ≡ length s.blocks) × IsGrowth s (wanted size align) (heap_after s regions)
+IsCallServed s (Realloc number size) (Placed given address) regions = (given ≡ number) × MatchOption (block_at s.blocks number) ⊥ (λ block. IsResizing s block (wanted size (own_align block)) address regions)
+IsCallServed s (CRealloc number size) (Placed given address) regions = (given ≡ number) × MatchOption (block_at s.blocks number) ⊥ (λ block. IsResizing s block (wanted size (least_align block)) address regions)
+IsCallServed s (Free number) Done regions = AreCut s.heap (heap_after s regions)
+IsCallServed s (Write number offset bytes) Done regions = regions ≡ None
+IsCallServed s (Read number offset count) (Bytes bytes) regions = (regions ≡ None) × (length bytes ≡ count) × AreBytes bytes × ((block : Block) → block_at s.blocks number ≡ Some block → AgreeWith block.cells offset bytes)
+IsCallServed s (Map start pages rights) Done regions = regions ≡ None
+IsCallServed s (Unmap start pages) Done regions = regions ≡ None
+IsCallServed s (Probe at access user) (Byte byte) regions = (regions ≡ None) × IsTrue (is_access_granted (rights_at s at) access user) × IsByteAt s at byte
+IsCallServed s (Probe at access user) (Fault code) regions = (regions ≡ None) × IsFalse (is_access_granted (rights_at s at) access user) × (page_fault_bits code ≡ probe_fault_code (is_some (rights_at s at)) access user)
+IsCallServed s (Trim pad) (Trimmed released) regions = AreCut s.heap (heap_after s regions) × (released ≡ is_some regions)
+IsCallServed s (SetRate rate) Done regions = regions ≡ None
+IsCallServed s (SetGranularity granularity) (Accepted accepted) regions = (regions ≡ None) × (IsTrue accepted ↔ (IsPowerOfTwo granularity × (16 ≤ granularity)))
+IsCallServed s Reset (Released bytes) regions = (heap_after s regions ≡ []) × (bytes ≡ 4096 * total_pages s.heap) × (bytes < 2 ^ 64)
+IsCallServed s Extents (Listed extents) regions = (regions ≡ None) × IsTiling s extents
+IsCallServed s call reply regions = ⊥
 
 -- a refusal is the one that must be given, or one that may be given if none must be; any other reply is given only if
 -- no refusal must be
 abbrev pub IsReply : State → Call → Reply → Option (List Region) → Type 0
 IsReply s call (Refused refusal) regions = (regions ≡ None) × ((must_refuse s call ≡ Some refusal) ⊎ ((must_refuse s call ≡ None) × MayRefuse s (wanted_by s call) refusal))
-IsReply s call reply regions = (must_refuse s call ≡ None) × IsServed s call reply regions
+IsReply s call reply regions = (must_refuse s call ≡ None) × IsCallServed s call reply regions
 
 -- Slots that an answer lists lie whole in its new pages and had no table. They ascend, and there is at least one.
 pub record AreNewSlots (s : State) (new : NewPages) (slots : List ℕ) : Type 0 where

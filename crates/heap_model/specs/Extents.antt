@@ -6,7 +6,7 @@ use Rattle.dlmalloc_chunks.specs.declared.extent.Kind.TheVariants.{Used}
 use Rattle.dlmalloc_chunks.specs.Kinds.{ends_segment}
 use Rattle.dlmalloc_chunks.specs.Tiling.{AreExtents, has_byte, extent_at}
 use Rattle.heap_model.specs.declared.region.Region.{Region}
-use Rattle.heap_model.specs.State.{State, Block, block_at, end_of, is_within}
+use Rattle.heap_model.specs.State.{State, Block, block_at, end_of_region, is_within}
 
 -- A block's extent: the block begins 16 bytes after the extent's beginning, and reaches at most into the 8 bytes after
 -- its end. At most 79 of the extent's bytes are not the block's.
@@ -21,7 +21,7 @@ pub record HasExtent (extents : List Extent) (block : Block) : Type 0 where
   pub there : extent_at extent.at extents ≡ Some extent
   pub is : IsExtentOf block extent
 
-pub record HasBlock (s : State) (extent : Extent) : Type 0 where
+pub record IsExtentOfBlock (s : State) (extent : Extent) : Type 0 where
   pub number : ℕ
   pub block : Block
   pub there : block_at s.blocks number ≡ Some block
@@ -32,7 +32,7 @@ abbrev pub begins_at : ℕ → Region → Bool
 begins_at address region = region.start == address
 
 abbrev pub ends_at : ℕ → Region → Bool
-ends_at address region = end_of region == address
+ends_at address region = end_of_region region == address
 
 -- Each segment is a run of whole regions: a region begins with its first extent, and one ends with its last. `begins`
 -- says whether the first of these extents begins a segment.
@@ -50,4 +50,4 @@ pub record IsTiling (s : State) (extents : List Extent) : Type 0 where
   pub bytes : (address : ℕ) → list_any (has_byte address) extents ≡ list_any (is_within address) s.heap
   pub runs : AreRuns s.heap true extents
   pub blocks : (number : ℕ) (block : Block) → block_at s.blocks number ≡ Some block → HasExtent extents block
-  pub used : (extent : Extent) → extent_at extent.at extents ≡ Some extent → extent.kind ≡ Used → HasBlock s extent
+  pub used : (extent : Extent) → extent_at extent.at extents ≡ Some extent → extent.kind ≡ Used → IsExtentOfBlock s extent

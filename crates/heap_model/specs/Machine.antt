@@ -54,7 +54,7 @@ pub record AreLargeSlots (words : List ℕ) (root address pages : ℕ) (slots : 
 
 -- Pages with these rights were added to a system from an address on, each at a new frame, with the tables that they lacked: slots
 -- that lie whole among them by one entry each, as long as a run of frames was free.
-pub record ArePagesAdded (old new : Paged) (address pages : ℕ) (rights : Rights) : Type 0 where
+pub record HasGotPages (old new : Paged) (address pages : ℕ) (rights : Rights) : Type 0 where
   pub base : new.base ≡ old.base
   pub pages_is : new.pages ≡ old.pages
   pub root : new.root ≡ old.root
@@ -82,7 +82,7 @@ pub record ArePagesGone (old new : Paged) (address pages : ℕ) : Type 0 where
 
 -- the same of pages of the heap
 abbrev pub IsPagedGrant : Paged → Paged → ℕ → ℕ → Type 0
-IsPagedGrant old new address pages = ArePagesAdded old new address pages heap_rights
+IsPagedGrant old new address pages = HasGotPages old new address pages heap_rights
 
 -- whether an address lies in a region of the user
 abbrev pub is_of_user : List Region → ℕ → Bool

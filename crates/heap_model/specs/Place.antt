@@ -2,11 +2,11 @@
 use Rattle.std.specs.Prelude.{◌≡◌, ℕ, zero, suc, ◌+◌, ◌-◌, ◌*◌, ◌%◌, ◌<◌, ◌≤◌, Bool, ◌&&◌, ◌==◌, nat_lt, IsFalse, List, [], ◌∷◌, fold, Option, Some, None, if◌then◌else◌}
 use Rattle.std.specs.List.{list_any}
 use Rattle.heap_model.specs.declared.region.Region.{Region}
-use Rattle.heap_model.specs.State.{State, end_of}
+use Rattle.heap_model.specs.State.{State, end_of_region}
 
 -- whether `pages` pages from an address meet the region
 abbrev pub meets : ℕ → ℕ → Region → Bool
-meets address pages region = nat_lt address (end_of region) && nat_lt region.start (address + 4096 * pages)
+meets address pages region = nat_lt address (end_of_region region) && nat_lt region.start (address + 4096 * pages)
 
 -- whether they meet some region
 abbrev pub meets_any : ℕ → ℕ → List Region → Bool

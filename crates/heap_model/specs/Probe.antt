@@ -13,16 +13,16 @@ abbrev pub rights_at : State → ℕ → Option Rights
 rights_at s address = option_map (λ region. region.rights) (region_at s (4096 * (address / 4096)))
 
 -- whether rights grant a kind of access; reading is always granted
-abbrev pub grants : Rights → Access → Bool
-grants rights Read = true
-grants rights Write = rights.write
-grants rights Fetch = rights.fetch
+abbrev pub rights_grant : Rights → Access → Bool
+rights_grant rights Read = true
+rights_grant rights Write = rights.write
+rights_grant rights Fetch = rights.fetch
 
 -- whether an access is granted: its page is mapped, with rights that grant its kind, and the user's access too if it is
 -- the user's
-abbrev pub is_granted : Option Rights → Access → Bool → Bool
-is_granted None access user = false
-is_granted (Some rights) access user = grants rights access && (not user || rights.user)
+abbrev pub is_access_granted : Option Rights → Access → Bool → Bool
+is_access_granted None access user = false
+is_access_granted (Some rights) access user = rights_grant rights access && (not user || rights.user)
 
 -- what a page fault's code says of the kind of access
 abbrev pub access_bit : Access → ℕ
@@ -31,8 +31,8 @@ access_bit Write = 2
 access_bit Fetch = 16
 
 -- the code of a page fault: 1 if the page is mapped, 2 for a write, 4 for the user, 16 for a fetch
-abbrev pub fault_code : Bool → Access → Bool → ℕ
-fault_code mapped access user = (if mapped then 1 else 0) + access_bit access + (if user then 4 else 0)
+abbrev pub probe_fault_code : Bool → Access → Bool → ℕ
+probe_fault_code mapped access user = (if mapped then 1 else 0) + access_bit access + (if user then 4 else 0)
 
 -- a byte that may be seen at an address: the one that is known of a live block there, and 0 in a region of the user
 pub record IsByteAt (s : State) (address byte : ℕ) : Type 0 where

@@ -2,19 +2,19 @@
 use Rattle.std.specs.Prelude.{◌≡◌, ℕ, ◌+◌, ◌≤◌, true, false, ◌⊎◌, List, Contains, Some}
 use Rattle.paging_core.specs.declared.page_table.Rights.{Rights}
 use Rattle.heap_model.specs.declared.region.Region.{Region}
-use Rattle.heap_model.specs.State.{State, Block, block_at, cover, end_of}
+use Rattle.heap_model.specs.State.{State, Block, block_at, cover, end_of_region}
 use Rattle.heap_model.specs.Tables.{missing, free_frames}
 use Rattle.heap_model.specs.Place.{IsPlace, with_region, all_regions}
 use Rattle.heap_model.specs.Request.{pages_for}
 use Rattle.heap_model.specs.Cut.{AreCut}
 
 -- m bytes from a and n bytes from b have no byte in common
-abbrev pub AreApart : ℕ → ℕ → ℕ → ℕ → Type 0
-AreApart a m b n = (a + m ≤ b) ⊎ (b + n ≤ a)
+abbrev pub AreBytesApart : ℕ → ℕ → ℕ → ℕ → Type 0
+AreBytesApart a m b n = (a + m ≤ b) ⊎ (b + n ≤ a)
 
 -- no live block has one of n bytes from an address
 abbrev pub IsClear : State → ℕ → ℕ → Type 0
-IsClear s address n = (number : ℕ) (block : Block) → block_at s.blocks number ≡ Some block → AreApart address n block.address (cover block)
+IsClear s address n = (number : ℕ) (block : Block) → block_at s.blocks number ≡ Some block → AreBytesApart address n block.address (cover block)
 
 -- one heap region has n bytes and 256 more in a row that no live block has; the heap's own words lie between them
 pub record HasRoom (s : State) (n : ℕ) : Type 0 where
@@ -22,7 +22,7 @@ pub record HasRoom (s : State) (n : ℕ) : Type 0 where
   pub address : ℕ
   pub listed : Contains s.heap region
   pub from : region.start ≤ address
-  pub within : address + (n + 256) ≤ end_of region
+  pub within : address + (n + 256) ≤ end_of_region region
   pub clear : IsClear s address (n + 256)
 
 -- the heap may write its pages, and neither the user uses them nor are they fetched from

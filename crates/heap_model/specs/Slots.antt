@@ -5,7 +5,7 @@ use Rattle.std.specs.List.{list_any, AllByRecursion}
 use Rattle.paging_core.specs.Address.{is_canonical}
 use Rattle.paging_core.specs.Prefix.{Prefix, prefix_of}
 use Rattle.heap_model.specs.declared.region.Region.{Region}
-use Rattle.heap_model.specs.State.{end_of}
+use Rattle.heap_model.specs.State.{end_of_region}
 use Rattle.heap_model.specs.Place.{meets_any}
 
 -- a canonical multiple of 2 MiB
@@ -22,7 +22,7 @@ slot_prefix slot = record { level = 3; number = slot_number slot }
 
 -- whether the region has all addresses of the slot
 abbrev pub has_whole : ℕ → Region → Bool
-has_whole slot region = nat_le region.start slot && nat_le (slot + 2 ^ 21) (end_of region)
+has_whole slot region = nat_le region.start slot && nat_le (slot + 2 ^ 21) (end_of_region region)
 
 -- whether one of the regions has
 abbrev pub is_whole_in : List Region → ℕ → Bool
@@ -41,9 +41,9 @@ listed_slots [] = None
 listed_slots (slot ∷ rest) = Some (slot ∷ rest)
 
 -- no slot is listed twice
-abbrev pub AreDistinct : List ℕ → Type 0
-AreDistinct [] = ⊤
-AreDistinct (slot ∷ rest) = IsFalse (has_slot rest slot) × AreDistinct rest
+abbrev pub AreDistinctSlots : List ℕ → Type 0
+AreDistinctSlots [] = ⊤
+AreDistinctSlots (slot ∷ rest) = IsFalse (has_slot rest slot) × AreDistinctSlots rest
 
 -- each is after those before it
 abbrev pub AreAscending : List ℕ → Type 0

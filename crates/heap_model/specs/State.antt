@@ -57,12 +57,12 @@ abbrev pub cover : Block → ℕ
 cover block = max block.size 1
 
 -- the address after a region
-abbrev pub end_of : Region → ℕ
-end_of region = region.start + 4096 * region.pages
+abbrev pub end_of_region : Region → ℕ
+end_of_region region = region.start + 4096 * region.pages
 
 -- whether an address lies in the region
 abbrev pub is_within : ℕ → Region → Bool
-is_within address region = nat_le region.start address && nat_lt address (end_of region)
+is_within address region = nat_le region.start address && nat_lt address (end_of_region region)
 
 -- the region that holds an address
 abbrev pub region_at : State → ℕ → Option Region

@@ -5,8 +5,8 @@ use Rattle.std.specs.List.{list_any}
 use Rattle.std.proofs.lemmas.Bool.Decides.{nat_tests}
 use Rattle.std.proofs.lemmas.List.{drop_all}
 use Rattle.heap_model.specs.declared.region.Region.{Region}
-use Rattle.heap_model.specs.State.{is_within, end_of, total_pages}
-use Rattle.heap_picture.specs.Lines.{same, same_rights, goes_on, with_next, lines_from, region_lines, most_pages, EachIsInOneLine}
+use Rattle.heap_model.specs.State.{is_within, end_of_region, total_pages}
+use Rattle.heap_picture.specs.Lines.{same, same_rights, adjoins, with_adjoining, region_lines_from, region_lines, most_pages, EachIsInOneLine}
 
 -- what is taken for a region where there is none
 abbrev pub none : Region
@@ -17,30 +17,30 @@ rest_at regions i d within = drop-cons regions i d within ∙ ap (λ (n : ℕ). 
 
 -- how the lines go on at a region
 pub lines_step : (line : Region) (regions : List Region) (i : ℕ) → i < length regions →
-    lines_from line (drop i regions) ≡ (if goes_on line (get_or regions i
+    region_lines_from line (drop i regions) ≡ (if adjoins line (get_or regions i
     (record { start = 0; pages = 0; heap = false; rights = record { write = false; user = false; fetch = false } }))
-    then lines_from (with_next line (get_or regions i (record {
+    then region_lines_from (with_adjoining line (get_or regions i (record {
       start = 0;
       pages = 0;
       heap = false;
       rights =
           record { write = false; user = false; fetch = false };
     }))) (drop (i + 1) regions)
-    else line ∷ lines_from (get_or regions i (record {
+    else line ∷ region_lines_from (get_or regions i (record {
       start = 0;
       pages = 0;
       heap = false;
       rights =
           record { write = false; user = false; fetch = false };
     })) (drop (i + 1) regions))
-lines_step line regions i within = ap (lines_from line) (rest_at regions i none within)
+lines_step line regions i within = ap (region_lines_from line) (rest_at regions i none within)
 
 -- none is behind the last
-pub lines_last : (line : Region) (regions : List Region) (i : ℕ) → length regions ≤ i → lines_from line (drop i regions) ≡ line ∷ []
-lines_last line regions i all = ap (lines_from line) (drop_all i regions all)
+pub lines_last : (line : Region) (regions : List Region) (i : ℕ) → length regions ≤ i → region_lines_from line (drop i regions) ≡ line ∷ []
+lines_last line regions i all = ap (region_lines_from line) (drop_all i regions all)
 
 -- and the first begins with the first region
-pub lines_first : (regions : List Region) (d : Region) → 0 < length regions → lines_from (get_or regions 0 d) (drop 1 regions) ≡ region_lines regions
+pub lines_first : (regions : List Region) (d : Region) → 0 < length regions → region_lines_from (get_or regions 0 d) (drop 1 regions) ≡ region_lines regions
 lines_first [] d some = absurd (omega (arith, some))
 lines_first (r ∷ rs) d some = refl
 
@@ -71,13 +71,15 @@ pub most_none : (lines : List Region) (i : ℕ) → length lines ≤ i → most_
 most_none lines i all = ap most_pages (drop_all i lines all)
 
 -- the pages of the lines are those of the regions
-pages_from : (line : Region) (rs : List Region) → total_pages (lines_from line rs) ≡ line.pages + total_pages rs
+pages_from : (line : Region) (rs : List Region) → total_pages (region_lines_from line rs) ≡ line.pages + total_pages rs
 pages_from line [] = refl
-pages_from line (next ∷ rs) = go (goes_on line next) (pages_from (with_next line next) rs) (pages_from next rs)
+pages_from line (next ∷ rs) = go (adjoins line next) (pages_from (with_adjoining line next) rs) (pages_from next rs)
   where
-    go : (b : Bool) → total_pages (lines_from (with_next line next) rs) ≡ (line.pages + next.pages) + total_pages rs →
-        total_pages (lines_from next rs) ≡ next.pages + total_pages rs →
-        total_pages (if b then lines_from (with_next line next) rs else line ∷ lines_from next rs) ≡ line.pages + (next.pages + total_pages rs)
+    go : (b : Bool) → total_pages (region_lines_from (with_adjoining line next)
+        rs) ≡ (line.pages + next.pages) + total_pages rs →
+        total_pages (region_lines_from next rs) ≡ next.pages + total_pages rs →
+        total_pages (if b then region_lines_from (with_adjoining line next) rs else line ∷ region_lines_from next
+        rs) ≡ line.pages + (next.pages + total_pages rs)
     go true joined other = joined ∙ omega arith
     go false joined other = ap (λ (n : ℕ). line.pages + n) other
 
@@ -101,17 +103,19 @@ joined_within : (a s p t q : ℕ) → s + 4096 * p ≡ t → (nat_le s a && nat_
     (s + 4096 * (p + q))) ≡ ((nat_le s a && nat_lt a (s + 4096 * p)) || (nat_le t a && nat_lt a (t + 4096 * q)))
 joined_within a s p t q next = grind (arith, nat_tests, next)
 
-covered_from : (a : ℕ) (line : Region) (rs : List Region) → list_any (is_within a) (lines_from line rs) ≡ (is_within a line || list_any (is_within a) rs)
+covered_from : (a : ℕ) (line : Region) (rs : List Region) → list_any (is_within a) (region_lines_from line rs) ≡ (is_within a line || list_any (is_within a) rs)
 covered_from a line [] = refl
-covered_from a line (next ∷ rs) = go (goes_on line next) refl (covered_from a (with_next line next) rs) (covered_from a next rs)
+covered_from a line (next ∷ rs) = go (adjoins line next) refl (covered_from a (with_adjoining line next) rs) (covered_from a next rs)
   where
-    go : (b : Bool) → goes_on line next ≡ b → list_any (is_within a) (lines_from (with_next line next) rs) ≡ (is_within a
-        (with_next line next) || list_any (is_within a) rs) →
-        list_any (is_within a) (lines_from next rs) ≡ (is_within a next || list_any (is_within a) rs) →
-        list_any (is_within a) (if b then lines_from (with_next line next) rs else line ∷ lines_from next rs) ≡ (is_within a
+    go : (b : Bool) → adjoins line next ≡ b → list_any (is_within a) (region_lines_from (with_adjoining line next)
+        rs) ≡ (is_within a
+        (with_adjoining line next) || list_any (is_within a) rs) →
+        list_any (is_within a) (region_lines_from next rs) ≡ (is_within a next || list_any (is_within a) rs) →
+        list_any (is_within a) (if b then region_lines_from (with_adjoining line next) rs else line ∷ region_lines_from next
+        rs) ≡ (is_within a
         line || (is_within a next || list_any (is_within a) rs))
     go true is joined other =
-        let at_end = same_number (end_of line) next.start (left_true (nat_eq (end_of line) next.start)
+        let at_end = same_number (end_of_region line) next.start (left_true (nat_eq (end_of_region line) next.start)
         (same line.heap next.heap && same_rights line.rights next.rights) is) in
         joined
         ∙ ap (λ (b : Bool). b || list_any (is_within a) rs) (joined_within a line.start line.pages next.start next.pages at_end)

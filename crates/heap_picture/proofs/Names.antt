@@ -14,7 +14,7 @@ use Rattle.heap_model.specs.Answer.{after}
 use Rattle.heap_model.specs.Run.{IsAllowedRun, IsGood, last_state}
 use Rattle.heap_model.specs.State.{State, Block, block_at, start}
 use Rattle.heap_recorder.specs.Run.{Notes, nothing, noted, notes_from, moment, bytes_after, history_of}
-use Rattle.heap_recorder.specs.Shown.{shown, shows, lies, has_block, state_after, EachBlockIsDrawnOnce}
+use Rattle.heap_recorder.specs.Shown.{count_shown, shows_stay, lies, has_block, state_after, EachBlockIsDrawnOnce}
 use Rattle.heap_recorder.specs.Sizes.{sizes_after}
 use Rattle.heap_picture.specs.Blocks.{remains, remains_at, name_of, block_at_end, EachBlockHasItsName}
 
@@ -75,7 +75,7 @@ bit b = if b then 1 else 0
 
 -- a stay that is there shows
 there_shows : (calls : ℕ) (stay : Stay) (address : ℕ) → 0 < calls → remains_at calls address stay ≡ true →
-    shows (calls - 1) stay.block address stay.size stay ≡ true
+    shows_stay (calls - 1) stay.block address stay.size stay ≡ true
 there_shows calls stay address some there =
     let born = left_true (nat_lt stay.born calls) (nat_le calls stay.end) (left_true (remains calls stay) (nat_eq stay.address address) there) in
     let end = right_true (nat_lt stay.born calls) (nat_le calls stay.end) (left_true (remains calls stay) (nat_eq stay.address address) there) in
@@ -84,7 +84,7 @@ there_shows calls stay address some there =
 
 -- and one that shows is there
 shows_there : (calls number address size : ℕ) (stay : Stay) → 0 < calls →
-    shows (calls - 1) number address size stay ≡ true → remains_at calls address stay ≡ true
+    shows_stay (calls - 1) number address size stay ≡ true → remains_at calls address stay ≡ true
 shows_there calls number address size stay some is =
     let born = left_true (nat_le stay.born (calls - 1)) (nat_lt (calls - 1) stay.end &&
     (nat_eq stay.block number && (nat_eq stay.address address && nat_eq stay.size size))) is in
@@ -98,45 +98,47 @@ shows_there calls number address size stay some is =
 
 -- the block at an address is that of a stay which shows
 found_shows : (calls : ℕ) (stays : List Stay) (address : ℕ) (block : NamedBlock) → 0 < calls →
-    block_at_end calls stays address ≡ Some block → 0 < shown (shows (calls - 1) block.number address block.size) stays
+    block_at_end calls stays address ≡ Some block → 0 < count_shown (shows_stay (calls - 1) block.number address block.size)
+    stays
 found_shows calls [] address block some is = absurd (none_some block is)
 found_shows calls (stay ∷ stays) address block some is = go (remains_at calls address stay) refl
     (found_shows calls stays address block some) (sym (block_step calls stay stays address) ∙ is)
   where
     go : (b : Bool) → remains_at calls address stay ≡ b → (block_at_end calls stays address ≡ Some block →
-        0 < shown (shows (calls - 1) block.number address block.size) stays) →
+        0 < count_shown (shows_stay (calls - 1) block.number address block.size) stays) →
         (if b then Some (name_of stay) else block_at_end calls stays address) ≡ Some block →
-        0 < bit (shows (calls - 1) block.number address block.size stay) + shown
-        (shows (calls - 1) block.number address block.size) stays
+        0 < bit (shows_stay (calls - 1) block.number address block.size stay) + count_shown
+        (shows_stay (calls - 1) block.number address block.size) stays
     go true there on is =
         (let same = some_is (name_of stay) block is in
-        let one : shows (calls - 1) block.number address block.size stay ≡ true =
-        ap (λ (b : NamedBlock). shows (calls - 1) b.number address b.size stay) (sym same)
+        let one : shows_stay (calls - 1) block.number address block.size stay ≡ true =
+        ap (λ (b : NamedBlock). shows_stay (calls - 1) b.number address b.size stay) (sym same)
         ∙ there_shows calls stay address some there in
-        let here : bit (shows (calls - 1) block.number address block.size stay) ≡ 1 = ap (λ (v : Bool). bit v) one in
+        let here : bit (shows_stay (calls - 1) block.number address block.size stay) ≡ 1 = ap (λ (v : Bool). bit v) one in
         omega (arith, here))
     go false other on is = (let more = on is in omega (arith, more))
 
 -- and where a stay shows there is a block
 shows_found : (calls : ℕ) (stays : List Stay) (number address size : ℕ) → 0 < calls →
-    0 < shown (shows (calls - 1) number address size) stays → (block : NamedBlock) × (block_at_end calls stays
+    0 < count_shown (shows_stay (calls - 1) number address size) stays → (block : NamedBlock) × (block_at_end calls stays
     address ≡ Some block)
 shows_found calls [] number address size some less = absurd (omega (arith, less))
 shows_found calls (stay ∷ stays) number address size some less =
     let found = go (remains_at calls address stay) refl (shows_found calls stays number address size some) in
     (found.0, block_step calls stay stays address ∙ found.1)
   where
-    rest : (v : Bool) → shows (calls - 1) number address size stay ≡ v → remains_at calls address stay ≡ false →
-        0 < bit v + shown (shows (calls - 1) number address size) stays →
-        0 < shown (shows (calls - 1) number address size) stays
+    rest : (v : Bool) → shows_stay (calls - 1) number address size stay ≡ v → remains_at calls address stay ≡ false →
+        0 < bit v + count_shown (shows_stay (calls - 1) number address size) stays →
+        0 < count_shown (shows_stay (calls - 1) number address size) stays
     rest true is other less = absurd (let wrong : true ≡ false = sym (shows_there calls number address size stay some is) ∙ other in cc)
     rest false is other less = omega (arith, less)
 
-    go : (b : Bool) → remains_at calls address stay ≡ b → (0 < shown (shows (calls - 1) number address size) stays →
+    go : (b : Bool) → remains_at calls address stay ≡ b → (0 < count_shown (shows_stay (calls - 1) number address size)
+        stays →
         (block : NamedBlock) × (block_at_end calls stays address ≡ Some block)) →
         (block : NamedBlock) × ((if b then Some (name_of stay) else block_at_end calls stays address) ≡ Some block)
     go true there on = (name_of stay, refl)
-    go false other on = on (rest (shows (calls - 1) number address size stay) refl other less)
+    go false other on = on (rest (shows_stay (calls - 1) number address size stay) refl other less)
 
 -- ---- the last state
 
@@ -220,7 +222,7 @@ one_name a b number size = (λ i. Some (record { number = number i; size = size 
 
 -- a state, and stays of which after the last call just its live blocks show
 both : (calls : ℕ) (stays : List Stay) (s : State) → 0 < calls → IsGood s →
-    ((number address size : ℕ) → shown (shows (calls - 1) number address size) stays ≡ bit
+    ((number address size : ℕ) → count_shown (shows_stay (calls - 1) number address size) stays ≡ bit
     (has_block s number address size)) →
     (address : ℕ) (block : NamedBlock) → (block_at_end calls stays address ≡ Some block) ↔ IsTrue (has_block s block.number address block.size)
 both calls stays s some good counts address block = (to block, from)
@@ -234,7 +236,7 @@ both calls stays s some good counts address block = (to block, from)
 
     from : has_block s block.number address block.size ≡ true → block_at_end calls stays address ≡ Some block
     from is =
-        (let count : shown (shows (calls - 1) block.number address block.size) stays ≡ 1 =
+        (let count : count_shown (shows_stay (calls - 1) block.number address block.size) stays ≡ 1 =
         counts block.number address block.size ∙ ap (λ (v : Bool). bit v) is in
         let found = shows_found calls stays block.number address block.size some (omega (arith, count)) in
         let same = one_block s address found.0.number block.number found.0.size block.size good (to found.0 found.1) is in

@@ -7,7 +7,7 @@ use Rattle.paging_core.specs.Address.{is_canonical}
 use Rattle.paging_core.specs.declared.page_table.Rights.{Rights}
 use Rattle.paging_core.specs.Walk.{Place, large_of, reach, walk_of}
 use Rattle.heap_model.specs.declared.region.Region.{Region}
-use Rattle.heap_model.specs.State.{is_within, end_of}
+use Rattle.heap_model.specs.State.{is_within, end_of_region}
 use Rattle.heap_model.specs.Slots.{slot_number, has_whole, is_whole_in}
 use Rattle.heap_model.specs.Machine.{Paged, rights_of}
 use Rattle.mapped_regions.specs.Regions.{AreLaid, kind_at}
@@ -16,7 +16,7 @@ use Rattle.heap_tables.specs.declared.lines.Line.{Line}
 use Rattle.heap_tables.specs.declared.owners.Owned.{Owned}
 use Rattle.heap_tables.specs.declared.owners.Owner.{Owner}
 use Rattle.heap_tables.specs.declared.owners.Owner.TheVariants.{Heap, User}
-use Rattle.heap_tables.specs.Owners.{address_of, owner_at, AreAscending}
+use Rattle.heap_tables.specs.Owners.{address_of, owner_at, AreOwnedAscending}
 use Rattle.heap_tables.specs.Walked.{EachPageIsInItsLine, HaveOneOwner, IsOwned, IsWalked, place_in}
 use Rattle.heap_picture.specs.Owners.{owned_by, owned_regions, lines_in, is_heap, IsOfOwner, EachPageHasItsOwner}
 
@@ -28,14 +28,17 @@ begin_after low from to [] before laid = tt
 begin_after low from to (region ∷ regions) before laid =
     let here = laid.0 in (
       omega (arith, before, here),
-      begin_after low (end_of region) to regions (omega (arith, before, here)) laid.3,
+      begin_after low (end_of_region region) to regions (omega (arith, before, here)) laid.3,
     )
 
-pub laid_ascends : (from to : ℕ) (regions : List Region) → AreLaid from regions to → AreAscending (owned_regions regions)
+pub laid_ascends : (from to : ℕ) (regions : List Region) → AreLaid from regions to →
+    AreOwnedAscending (owned_regions regions)
 laid_ascends from to [] laid = tt
 laid_ascends from to (region ∷ regions) laid =
-    let here : end_of region ≤ end_of region = omega arith in
-    (begin_after (end_of region) (end_of region) to regions here laid.3, laid_ascends (end_of region) to regions laid.3)
+    let here : end_of_region region ≤ end_of_region region = omega arith in (
+      begin_after (end_of_region region) (end_of_region region) to regions here laid.3,
+      laid_ascends (end_of_region region) to regions laid.3,
+    )
 
 -- ---- an address in a region has its owner
 
@@ -67,9 +70,9 @@ owner_found (r ∷ rs) at some = go (is_within at r) refl (owner_found rs at)
 
 whole_after : (from to slot : ℕ) (regions : List Region) → AreLaid from regions to → is_whole_in regions slot ≡ true → from ≤ slot
 whole_after from to slot [] laid whole = absurd (let wrong : false ≡ true = whole in cc)
-whole_after from to slot (r ∷ rs) laid whole = go (has_whole slot r) refl (whole_after (end_of r) to slot rs laid.3)
+whole_after from to slot (r ∷ rs) laid whole = go (has_whole slot r) refl (whole_after (end_of_region r) to slot rs laid.3)
   where
-    go : (b : Bool) → has_whole slot r ≡ b → (is_whole_in rs slot ≡ true → end_of r ≤ slot) → from ≤ slot
+    go : (b : Bool) → has_whole slot r ≡ b → (is_whole_in rs slot ≡ true → end_of_region r ≤ slot) → from ≤ slot
     go true is rest = let first = laid.0 in let begins : r.start ≤ slot = grind (arith, nat_tests, is) in omega (arith, first, begins)
     go false is rest =
         let first = laid.0 in
@@ -79,14 +82,15 @@ whole_after from to slot (r ∷ rs) laid whole = go (has_whole slot r) refl (who
 in_whole : (slot k : ℕ) (r : Region) → k < 2 ^ 21 → has_whole slot r ≡ true → is_within (slot + k) r ≡ true
 in_whole slot k r low whole = grind (arith, nat_tests, low, whole)
 
-not_before : (at : ℕ) (r : Region) → end_of r ≤ at → is_within at r ≡ false
+not_before : (at : ℕ) (r : Region) → end_of_region r ≤ at → is_within at r ≡ false
 not_before at r past = grind (arith, nat_tests, past)
 
 one_owner : (from to slot k : ℕ) (regions : List Region) → k < 2 ^ 21 → AreLaid from regions to →
     is_whole_in regions slot ≡ true → owner_at (owned_regions regions) (slot + k) ≡ owner_at (owned_regions regions)
     (slot + 0)
 one_owner from to slot k [] low laid whole = absurd (let wrong : false ≡ true = whole in cc)
-one_owner from to slot k (r ∷ rs) low laid whole = go (has_whole slot r) refl (one_owner (end_of r) to slot k rs low laid.3)
+one_owner from to slot k (r ∷ rs) low laid whole = go (has_whole slot r) refl
+    (one_owner (end_of_region r) to slot k rs low laid.3)
   where
     both : (b : Bool) → is_within (slot + k) r ≡ b → is_within (slot + 0) r ≡ b →
         owner_at (owned_regions rs) (slot + k) ≡ owner_at (owned_regions rs) (slot + 0) →
@@ -107,7 +111,7 @@ one_owner from to slot k (r ∷ rs) low laid whole = go (has_whole slot r) refl 
     go true is rest = in_first (in_whole slot k r low is) (in_whole slot 0 r (omega arith) is)
     go false is rest =
         let whole' = ap (λ (b : Bool). b || is_whole_in rs slot) (sym is) ∙ whole in
-        let later = whole_after (end_of r) to slot rs laid.3 whole' in
+        let later = whole_after (end_of_region r) to slot rs laid.3 whole' in
         both false (not_before (slot + k) r (omega (arith, later))) (not_before (slot + 0) r (omega (arith, later))) (rest whole')
 
 -- ---- addresses of pages

@@ -9,7 +9,7 @@ use Rattle.heap_report.specs.declared.reported.Reported.{Reported}
 use Rattle.heap_report.specs.Reported.{EndText}
 use Rattle.heap_report.specs.Telling.{Tells}
 use Rattle.heap_picture.specs.Picture.{picture_of}
-use Rattle.heap_picture.specs.Tables.{tables_of}
+use Rattle.heap_picture.specs.Tables.{tables_drawing}
 use Rattle.heap_picture.specs.Timing.{run_of}
 
 -- the words of the run: those after `map`, `tables` or `time`, if one of them is the first word
@@ -23,7 +23,7 @@ run_words (word ∷ words) =
 abbrev pub drawing_for : List ℕ → List (List ℕ) → EndText
 drawing_for style [] = picture_of style
 drawing_for style (word ∷ words) =
-    if bytes_eq word (codes "map") then picture_of style else if bytes_eq word (codes "tables") then tables_of style else if bytes_eq word (codes "time") then run_of style else picture_of style
+    if bytes_eq word (codes "map") then picture_of style else if bytes_eq word (codes "tables") then tables_drawing style else if bytes_eq word (codes "time") then run_of style else picture_of style
 
 -- The run that the words name was told of, over a source and a sink, each as it was and as it then is. So ended the command.
 abbrev pub HasDrawn : {S K : Type 0} → (List (List ℕ) → EndText) → Streams S K → List (String Global) → S → S → K → K → ℕ → Type 0

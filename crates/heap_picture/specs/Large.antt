@@ -1,7 +1,7 @@
 -- The slots of a region that are large pages.
 use Rattle.std.specs.Prelude.{ℕ, zero, suc, ◌+◌, ◌-◌, ◌*◌, ◌/◌, List, if◌then◌else◌}
 use Rattle.heap_model.specs.declared.region.Region.{Region}
-use Rattle.heap_model.specs.State.{end_of}
+use Rattle.heap_model.specs.State.{end_of_region}
 use Rattle.heap_model.specs.Slots.{has_slot}
 
 -- how many of this many slots from an address on are large pages
@@ -19,4 +19,4 @@ slots_between start end = (end - start) / 2097152
 
 -- how many slots of a region are large pages
 unfoldable pub larges_in : List ℕ → Region → ℕ
-larges_in large region = larges_from large (first_slot region.start) (slots_between (first_slot region.start) (end_of region))
+larges_in large region = larges_from large (first_slot region.start) (slots_between (first_slot region.start) (end_of_region region))

@@ -2,7 +2,7 @@
 use Rattle.std.specs.Prelude.{◌≡◌, ℕ, ◌+◌, max, Bool, true, false, not, ◌&&◌, nat_eq, List, [], ◌∷◌, if◌then◌else◌}
 use Rattle.std.specs.List.{list_any}
 use Rattle.heap_model.specs.declared.region.Region.{Region}
-use Rattle.heap_model.specs.State.{end_of, is_within, total_pages}
+use Rattle.heap_model.specs.State.{end_of_region, is_within, total_pages}
 use Rattle.paging_core.specs.declared.page_table.Rights.{Rights}
 
 abbrev pub same : Bool → Bool → Bool
@@ -13,22 +13,22 @@ abbrev pub same_rights : Rights → Rights → Bool
 same_rights one other = same one.write other.write && (same one.user other.user && same one.fetch other.fetch)
 
 -- whether a region begins where another ends, and has its owner and its rights
-abbrev pub goes_on : Region → Region → Bool
-goes_on region next = nat_eq (end_of region) next.start && (same region.heap next.heap && same_rights region.rights next.rights)
+abbrev pub adjoins : Region → Region → Bool
+adjoins region next = nat_eq (end_of_region region) next.start && (same region.heap next.heap && same_rights region.rights next.rights)
 
 -- a region with the pages of the next one
-abbrev pub with_next : Region → Region → Region
-with_next region next = record { start = region.start; pages = region.pages + next.pages; heap = region.heap; rights = region.rights }
+abbrev pub with_adjoining : Region → Region → Region
+with_adjoining region next = record { start = region.start; pages = region.pages + next.pages; heap = region.heap; rights = region.rights }
 
 -- the lines from one on that has begun
-abbrev pub lines_from : Region → List Region → List Region
-lines_from line [] = line ∷ []
-lines_from line (next ∷ regions) = if goes_on line next then lines_from (with_next line next) regions else line ∷ lines_from next regions
+abbrev pub region_lines_from : Region → List Region → List Region
+region_lines_from line [] = line ∷ []
+region_lines_from line (next ∷ regions) = if adjoins line next then region_lines_from (with_adjoining line next) regions else line ∷ region_lines_from next regions
 
 -- all lines
 abbrev pub region_lines : List Region → List Region
 region_lines [] = []
-region_lines (region ∷ regions) = lines_from region regions
+region_lines (region ∷ regions) = region_lines_from region regions
 
 -- the pages of the line that has most
 abbrev pub most_pages : List Region → ℕ

@@ -9,7 +9,7 @@ use Rattle.heap_tables.specs.declared.lines.Line.{Line}
 use Rattle.heap_tables.specs.declared.owners.Owned.{Owned}
 use Rattle.heap_tables.specs.declared.owners.Owner.{Owner}
 use Rattle.heap_tables.specs.declared.owners.Owner.TheVariants.{Heap, User}
-use Rattle.heap_tables.specs.Joining.{lines_of}
+use Rattle.heap_tables.specs.Joining.{joined_table_lines}
 use Rattle.heap_tables.specs.Owners.{address_of}
 
 -- the pages of a region, with their owner
@@ -21,7 +21,7 @@ owned_regions regions = map owned_by regions
 
 -- the lines of the page tables of a system
 abbrev pub lines_in : Paged → List Line
-lines_in p = lines_of p.words (owned_regions p.regions) p.root
+lines_in p = joined_table_lines p.words (owned_regions p.regions) p.root
 
 -- whether an owner is the heap
 abbrev pub is_heap : Owner → Bool

@@ -5,32 +5,32 @@ use Rattle.heap_model.specs.State.{State, total_pages}
 use Rattle.heap_model.specs.Place.{all_regions}
 use Rattle.heap_model.specs.Tables.{free_frames}
 use Rattle.heap_program.specs.Text.{pages_text, owner_text}
-use Rattle.heap_map.specs.Words.{hexadecimal, commas, counted}
+use Rattle.heap_map.specs.Words.{hexadecimal, commas, quantity}
 use Rattle.heap_map.specs.Shapes.{text_at, rect, titled}
 use Rattle.heap_picture.specs.Large.{larges_in}
 use Rattle.heap_picture.specs.Lines.{region_lines, most_pages}
 
 -- the address of a line, its pages, and whose they are
-unfoldable pub line_words : ℕ → Region → List ℕ
-line_words y line =
+unfoldable pub region_line_words : ℕ → Region → List ℕ
+region_line_words y line =
     text_at (codes "m") 912 y (hexadecimal line.start)
-    ++ (text_at (codes "m e") 1120 y (counted (codes "page") line.pages) ++ text_at (codes "m e faint") 1280 y (owner_text line))
+    ++ (text_at (codes "m e") 1120 y (quantity (codes "page") line.pages) ++ text_at (codes "m e faint") 1280 y (owner_text line))
 
 -- the pixels of `pages` pages, if a line has at most `most`: 3 at least, and 368 at most
 abbrev pub bar_width : ℕ → ℕ → ℕ
 bar_width pages most = min 368 (max 3 (368 * pages / max 1 most))
 
 -- the colour of a line: blocks and heap regions have one
-abbrev pub line_class : Region → List ℕ
-line_class line = if line.heap then codes "u" else codes "w"
+abbrev pub region_line_class : Region → List ℕ
+region_line_class line = if line.heap then codes "u" else codes "w"
 
 -- what is said of a line
-unfoldable pub line_title : Region → List ℕ
-line_title line = pages_text line ++ (codes " " ++ owner_text line)
+unfoldable pub region_line_title : Region → List ℕ
+region_line_title line = pages_text line ++ (codes " " ++ owner_text line)
 
 -- the bar of a line, below its words
-unfoldable pub bar_text : ℕ → ℕ → Region → List ℕ
-bar_text y most line = rect (codes "line") 912 (y + 5) 368 4 ++ titled (line_class line) 912 (y + 5) (bar_width line.pages most) 4 (line_title line)
+unfoldable pub pages_bar_text : ℕ → ℕ → Region → List ℕ
+pages_bar_text y most line = rect (codes "line") 912 (y + 5) 368 4 ++ titled (region_line_class line) 912 (y + 5) (bar_width line.pages most) 4 (region_line_title line)
 
 -- a number of large pages
 unfoldable pub larges_words : ℕ → List ℕ
@@ -44,30 +44,30 @@ larges_text y most pages larges =
     ++ titled (codes "l") 912 (y + 5) (bar_width (min pages (512 * larges)) most) 4 (larges_words larges)
 
 -- a line at a height
-unfoldable pub line_text : List ℕ → ℕ → ℕ → Region → List ℕ
-line_text large most y line = line_words y line ++ (bar_text y most line ++ larges_text y most line.pages (larges_in large line))
+unfoldable pub region_line_text : List ℕ → ℕ → ℕ → Region → List ℕ
+region_line_text large most y line = region_line_words y line ++ (pages_bar_text y most line ++ larges_text y most line.pages (larges_in large line))
 
 -- lines, one below the other
-abbrev pub lines_text : List ℕ → ℕ → ℕ → List Region → List ℕ
-lines_text large most y [] = []
-lines_text large most y (line ∷ lines) = line_text large most y line ++ lines_text large most (y + 25) lines
+abbrev pub region_lines_text : List ℕ → ℕ → ℕ → List Region → List ℕ
+region_lines_text large most y [] = []
+region_lines_text large most y (line ∷ lines) = region_line_text large most y line ++ region_lines_text large most (y + 25) lines
 
 -- how many of the lines have room: 7, or 6 and how many more there are
 abbrev pub lines_shown : ℕ → ℕ
 lines_shown lines = if nat_le lines 7 then lines else 6
 
 -- how many lines there are more, and their pages
-unfoldable pub more_words : ℕ → ℕ → List ℕ
-more_words lines pages = codes "and " ++ (commas lines ++ (codes " more, of " ++ counted (codes "page") pages))
+unfoldable pub more_regions_words : ℕ → ℕ → List ℕ
+more_regions_words lines pages = codes "and " ++ (commas lines ++ (codes " more, of " ++ quantity (codes "page") pages))
 
-unfoldable pub more_text : ℕ → List Region → List ℕ
-more_text y lines = if nat_eq (length lines) 0 then [] else text_at (codes "faint") 912 y (more_words (length lines) (total_pages lines))
+unfoldable pub more_regions_text : ℕ → List Region → List ℕ
+more_regions_text y lines = if nat_eq (length lines) 0 then [] else text_at (codes "faint") 912 y (more_regions_words (length lines) (total_pages lines))
 
 -- the lines that have room, and the others counted
-unfoldable pub list_text : List ℕ → ℕ → List Region → List ℕ
-list_text large y lines =
-    lines_text large (most_pages lines) y (take (lines_shown (length lines)) lines)
-    ++ more_text (y + 150) (drop (lines_shown (length lines)) lines)
+unfoldable pub regions_list_text : List ℕ → ℕ → List Region → List ℕ
+regions_list_text large y lines =
+    region_lines_text large (most_pages lines) y (take (lines_shown (length lines)) lines)
+    ++ more_regions_text (y + 150) (drop (lines_shown (length lines)) lines)
 
 -- the frames that are free
 unfoldable pub free_front : List ℕ
@@ -77,13 +77,13 @@ unfoldable pub free_words : ℕ → List ℕ
 free_words frames = free_front ++ commas frames
 
 -- and the tables
-unfoldable pub frames_words : ℕ → ℕ → List ℕ
-frames_words frames tables = free_words frames ++ (codes ", tables: " ++ commas tables)
+unfoldable pub free_frames_words : ℕ → ℕ → List ℕ
+free_frames_words frames tables = free_words frames ++ (codes ", tables: " ++ commas tables)
 
 -- the heading
-unfoldable pub heading_text : ℕ → ℕ → ℕ → List ℕ
-heading_text y frames tables = text_at (codes "q") 912 y (codes "Regions") ++ text_at (codes "e faint") 1280 y (frames_words frames tables)
+unfoldable pub regions_heading : ℕ → ℕ → ℕ → List ℕ
+regions_heading y frames tables = text_at (codes "q") 912 y (codes "Regions") ++ text_at (codes "e faint") 1280 y (free_frames_words frames tables)
 
 -- the regions of a state, from a base line on
 unfoldable pub regions_text : ℕ → State → List ℕ
-regions_text y s = heading_text y (free_frames s) (1 + length s.tables) ++ list_text s.large (y + 26) (region_lines (all_regions s))
+regions_text y s = regions_heading y (free_frames s) (1 + length s.tables) ++ regions_list_text s.large (y + 26) (region_lines (all_regions s))

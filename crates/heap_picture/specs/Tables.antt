@@ -20,5 +20,5 @@ drawing_of style p =
     ++ (tables_text (lines_in p) (frame_count p.words) ++ codes "</svg>\n")
 
 -- The drawing of the last machine of a run: of its memory, from the root on that its processor has.
-abbrev pub tables_of : List ℕ → Machine → State → ℕ → ℕ → List Extent → List Call → List Answer → List ℕ
-tables_of style machine s live peak extents calls answers = drawing_of style (paged (system_of machine.heap))
+abbrev pub tables_drawing : List ℕ → Machine → State → ℕ → ℕ → List Extent → List Call → List Answer → List ℕ
+tables_drawing style machine s live peak extents calls answers = drawing_of style (paged (system_of machine.heap))

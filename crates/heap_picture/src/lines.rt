@@ -1,7 +1,7 @@
 // The regions as a picture lists them.
 ghost use Rattle.std.specs.Prelude.{◌≡◌, ◌≤◌, ◌<◌, ◌+◌, ◌^◌, IfOk};
 ghost use Rattle.heap_model.specs.State.{total_pages};
-ghost use Rattle.heap_picture.specs.Lines.{same, same_rights, goes_on, with_next, region_lines, most_pages};
+ghost use Rattle.heap_picture.specs.Lines.{same, same_rights, adjoins, with_adjoining, region_lines, most_pages};
 
 use kernel_heap::{Region, Rights};
 use std::alloc::{AllocError, Global};
@@ -20,7 +20,7 @@ fn same_rights(one: Rights, other: Rights) -> bool
 
 // Whether a region begins where another ends, and has its owner and its rights.
 fn goes_on(region: Region, next: Region) -> bool
-    ensures { result ≡ goes_on region next }
+    ensures { result ≡ adjoins region next }
 {
     let end = u128::from(region.start) + 4096 * u128::from(region.pages);
     end == u128::from(next.start)
@@ -30,7 +30,7 @@ fn goes_on(region: Region, next: Region) -> bool
 // A region with the pages of the next one.
 fn with_next(region: Region, next: Region) -> Region
     requires { region.pages + next.pages < 2 ^ 64 }
-    ensures { result ≡ with_next region next }
+    ensures { result ≡ with_adjoining region next }
 {
     Region {
         start: region.start,

@@ -2,7 +2,7 @@
 ghost use Rattle.std.specs.Prelude.{◌≡◌, ◌≤◌, ◌<◌, ◌^◌, ◌++◌, length, OnOk, string_bytes};
 ghost use Rattle.heap_model.specs.State.{State, total_pages};
 ghost use Rattle.heap_program.specs.Progress.{IsAt};
-ghost use Rattle.heap_picture.specs.Regions.{line_words, bar_width, line_class, line_title, bar_text, larges_words, larges_text, line_text, lines_text, lines_shown, more_words, more_text, list_text, free_front, free_words, frames_words, heading_text, regions_text};
+ghost use Rattle.heap_picture.specs.Regions.{region_line_words, bar_width, region_line_class, region_line_title, pages_bar_text, larges_words, larges_text, region_line_text, region_lines_text, lines_shown, more_regions_words, more_regions_text, regions_list_text, free_front, free_words, free_frames_words, regions_heading, regions_text};
 
 use crate::large::larges_in;
 use crate::lines::{most_pages, region_lines, total_pages};
@@ -12,9 +12,9 @@ use kernel_heap::{Machine, Region};
 use std::alloc::{AllocError, Global};
 
 // Puts the address of a line at the end, its pages, and whose they are.
-#[tactic(auto, unfolding(crate::specs::Regions::line_words))]
+#[tactic(auto, unfolding(crate::specs::Regions::region_line_words))]
 fn push_line_words(alloc: Global, out: &mut String, y: u128, line: Region) -> Result<(), AllocError>
-    ensures { OnOk result (string_bytes out.new ≡ string_bytes out.old ++ line_words y line) }
+    ensures { OnOk result (string_bytes out.new ≡ string_bytes out.old ++ region_line_words y line) }
 {
     let mut address = String::new(alloc);
     push_address(&mut address, line.start)?;
@@ -37,14 +37,14 @@ fn bar_width(pages: u128, most: u64) -> u128
 
 // The colour of a line.
 fn line_class(line: Region) -> &'static str
-    ensures { result.now ≡ line_class line }
+    ensures { result.now ≡ region_line_class line }
 {
     if line.heap { "u" } else { "w" }
 }
 
-#[tactic(auto, unfolding(crate::specs::Regions::line_title))]
+#[tactic(auto, unfolding(crate::specs::Regions::region_line_title))]
 fn push_line_title(out: &mut String, line: Region) -> Result<(), AllocError>
-    ensures { OnOk result (string_bytes out.new ≡ string_bytes out.old ++ line_title line) }
+    ensures { OnOk result (string_bytes out.new ≡ string_bytes out.old ++ region_line_title line) }
 {
     push_pages(out, line)?;
     out.push_str(" ")?;
@@ -52,7 +52,7 @@ fn push_line_title(out: &mut String, line: Region) -> Result<(), AllocError>
 }
 
 // Puts the bar of a line at the end.
-#[tactic(auto, unfolding(crate::specs::Regions::bar_text))]
+#[tactic(auto, unfolding(crate::specs::Regions::pages_bar_text))]
 fn push_bar(
     alloc: Global,
     out: &mut String,
@@ -61,7 +61,7 @@ fn push_bar(
     line: Region,
 ) -> Result<(), AllocError>
     requires { y < 2 ^ 100 }
-    ensures { OnOk result (string_bytes out.new ≡ string_bytes out.old ++ bar_text y most line) }
+    ensures { OnOk result (string_bytes out.new ≡ string_bytes out.old ++ pages_bar_text y most line) }
 {
     let y = y + 5;
     let ground = Area {
@@ -129,7 +129,7 @@ fn push_line(
     machine: &Machine,
 ) -> Result<(), AllocError>
     requires { y < 2 ^ 100 }
-    ensures { OnOk result ((s : State) → IsAt machine.now s → string_bytes out.new ≡ string_bytes out.old ++ line_text s.large most y line) }
+    ensures { OnOk result ((s : State) → IsAt machine.now s → string_bytes out.new ≡ string_bytes out.old ++ region_line_text s.large most y line) }
 {
     push_line_words(alloc, out, y, line)?;
     push_bar(alloc, out, y, most, line)?;
@@ -146,7 +146,7 @@ fn push_lines(
     machine: &Machine,
 ) -> Result<(), AllocError>
     requires { y < 2 ^ 90 }
-    ensures { OnOk result ((s : State) → IsAt machine.now s → string_bytes out.new ≡ string_bytes out.old ++ lines_text s.large most y lines.now) }
+    ensures { OnOk result ((s : State) → IsAt machine.now s → string_bytes out.new ≡ string_bytes out.old ++ region_lines_text s.large most y lines.now) }
 {
     let mut below = y;
     for line in lines {
@@ -164,9 +164,9 @@ fn lines_shown(lines: usize) -> usize
     if lines <= 7 { lines } else { 6 }
 }
 
-#[tactic(auto, unfolding(crate::specs::Regions::more_words))]
+#[tactic(auto, unfolding(crate::specs::Regions::more_regions_words))]
 fn push_more_words(out: &mut String, lines: u128, pages: u128) -> Result<(), AllocError>
-    ensures { OnOk result (string_bytes out.new ≡ string_bytes out.old ++ more_words lines pages) }
+    ensures { OnOk result (string_bytes out.new ≡ string_bytes out.old ++ more_regions_words lines pages) }
 {
     out.push_str("and ")?;
     push_commas(out, lines)?;
@@ -175,9 +175,9 @@ fn push_more_words(out: &mut String, lines: u128, pages: u128) -> Result<(), All
 }
 
 // Puts how many lines there are more at the end, if there are any.
-#[tactic(auto, unfolding(crate::specs::Regions::more_text))]
+#[tactic(auto, unfolding(crate::specs::Regions::more_regions_text))]
 fn push_more(alloc: Global, out: &mut String, y: u128, lines: &[Region]) -> Result<(), AllocError>
-    ensures { OnOk result (string_bytes out.new ≡ string_bytes out.old ++ more_text y lines.now) }
+    ensures { OnOk result (string_bytes out.new ≡ string_bytes out.old ++ more_regions_text y lines.now) }
 {
     if lines.len() == 0 {
         return Ok(());
@@ -196,7 +196,7 @@ fn push_list(
     machine: &Machine,
 ) -> Result<(), AllocError>
     requires { y < 2 ^ 90 }
-    ensures { OnOk result ((s : State) → IsAt machine.now s → string_bytes out.new ≡ string_bytes out.old ++ list_text s.large y lines.now) }
+    ensures { OnOk result ((s : State) → IsAt machine.now s → string_bytes out.new ≡ string_bytes out.old ++ regions_list_text s.large y lines.now) }
 {
     let shown = lines_shown(lines.len());
     push_lines(alloc, out, y, most_pages(lines), &lines[..shown], machine)?;
@@ -218,9 +218,9 @@ fn push_free_words(out: &mut String, frames: u128) -> Result<(), AllocError>
     push_commas(out, frames)
 }
 
-#[tactic(auto, unfolding(crate::specs::Regions::frames_words))]
+#[tactic(auto, unfolding(crate::specs::Regions::free_frames_words))]
 fn push_frames_words(out: &mut String, frames: u128, tables: u128) -> Result<(), AllocError>
-    ensures { OnOk result (string_bytes out.new ≡ string_bytes out.old ++ frames_words frames tables) }
+    ensures { OnOk result (string_bytes out.new ≡ string_bytes out.old ++ free_frames_words frames tables) }
 {
     push_free_words(out, frames)?;
     out.push_str(", tables: ")?;
@@ -228,7 +228,7 @@ fn push_frames_words(out: &mut String, frames: u128, tables: u128) -> Result<(),
 }
 
 // Puts the heading at the end.
-#[tactic(auto, unfolding(crate::specs::Regions::heading_text))]
+#[tactic(auto, unfolding(crate::specs::Regions::regions_heading))]
 fn push_heading(
     alloc: Global,
     out: &mut String,
@@ -236,7 +236,7 @@ fn push_heading(
     frames: u64,
     tables: u64,
 ) -> Result<(), AllocError>
-    ensures { OnOk result (string_bytes out.new ≡ string_bytes out.old ++ heading_text y frames tables) }
+    ensures { OnOk result (string_bytes out.new ≡ string_bytes out.old ++ regions_heading y frames tables) }
 {
     push_text(out, "q", 912, y, "Regions")?;
     let mut words = String::new(alloc);

@@ -3,7 +3,7 @@ ghost use Rattle.std.specs.Prelude.{◌≡◌, ◌++◌, ⊤, OnOk, string_bytes
 ghost use Rattle.kernel_heap.specs.System.{paged};
 ghost use Rattle.heap_model.specs.State.{State};
 ghost use Rattle.heap_picture.specs.Style.{style};
-ghost use Rattle.heap_picture.specs.Tables.{drawing_of, tables_of};
+ghost use Rattle.heap_picture.specs.Tables.{drawing_of, tables_drawing};
 
 use crate::owners::lines_in;
 use crate::picture::push_head;
@@ -30,7 +30,7 @@ pub struct Tables;
 impl Tell for Tables {
     ghost keeps = { λ tables calls answers. ⊤ };
 
-    ghost text = { tables_of style };
+    ghost text = { tables_drawing style };
 
     fn new(_alloc: Global) -> Tables {
         Tables

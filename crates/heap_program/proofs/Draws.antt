@@ -11,7 +11,7 @@ use Rattle.kernel_heap.specs.declared.machine.Machine.{Machine}
 use Rattle.kernel_heap.specs.Steps.{StepsTo}
 use Rattle.kernel_heap.proofs.Steps.{calls_steps_on}
 use Rattle.heap_program.specs.declared.generate.Drawing.{Drawing}
-use Rattle.heap_program.specs.Drawing.{HasDrawnOne, HasDrawn}
+use Rattle.heap_program.specs.Drawing.{HasDrawnOne, HasDrawnCalls}
 use Rattle.heap_program.specs.Flushed.{IsAllFlushed}
 use Rattle.heap_program.specs.Generated.{AreDrawn, generated_text, IsGenerationStopped}
 use Rattle.heap_program.specs.Generator.{first_state, drawn_call, refusals, drawn_calls, blocks_given, refused_count}
@@ -25,7 +25,7 @@ refused-append [] y = omega arith
 refused-append (x ∷ xs) y = let more = refused-append xs y in omega (arith, more)
 
 -- no call
-pub drawn_none : (s : State) (drawing : Drawing) → IsAt drawing.machine s → HasDrawn s drawing drawing 0
+pub drawn_none : (s : State) (drawing : Drawing) → IsAt drawing.machine s → HasDrawnCalls s drawing drawing 0
 drawn_none s drawing at = record {
   answers = [];
   counted = refl;
@@ -39,7 +39,8 @@ drawn_none s drawing at = record {
 }
 
 -- some calls, and one more
-pub drawn_more : (s : State) (old mid new : Drawing) (count : ℕ) (h : HasDrawn s old mid count) → HasDrawnOne h.state mid new → HasDrawn s old new (count + 1)
+pub drawn_more : (s : State) (old mid new : Drawing) (count : ℕ) (h : HasDrawnCalls s old mid count) →
+    HasDrawnOne h.state mid new → HasDrawnCalls s old new (count + 1)
 drawn_more s old mid new count h k =
     let call = drawn_call mid.state mid.given in
     let before = drawn_calls old.state old.given h.answers in
@@ -79,7 +80,7 @@ pub record IsWhole (s : State) (first : Machine) (seed count : ℕ) (drawing : D
   pub at : IsAt drawing.machine state
 
 pub all_drawn : (s : State) (seed count : ℕ) (old new : Drawing) → old.state ≡ first_state seed → old.given ≡ 0 →
-    old.refused ≡ 0 → HasDrawn s old new count → IsWhole s old.machine seed count new
+    old.refused ≡ 0 → HasDrawnCalls s old new count → IsWhole s old.machine seed count new
 all_drawn s seed count old new first zero unrefused h =
     let calls : drawn_calls old.state old.given h.answers ≡ drawn_calls (first_state seed) 0 h.answers = (λ i. drawn_calls (first i) (zero i) h.answers) in
     let given : new.given ≡ blocks_given (first_state seed) 0 h.answers = sym (h.given []) ∙ (λ i. blocks_given (first i) (zero i) (append-nil h.answers i)) in

@@ -13,7 +13,7 @@ use Rattle.heap_lines.specs.Grammar.{item_of}
 use Rattle.heap_program.specs.declared.arguments.Command.TheVariants.{Run, Generate}
 use Rattle.kernel_heap.specs.Config.{IsGoodConfig}
 use Rattle.heap_program.specs.Command.{default_config, config_of, named_command}
-use Rattle.heap_program.specs.Generator.{drawn, first_state, pick, call_of_draws, drawn_call, state_after, numbers_given}
+use Rattle.heap_program.specs.Generator.{drawn, first_state, pick, call_of_draws, drawn_call, drawn_thrice, numbers_given}
 use Rattle.heap_program.specs.Lines.{items_of, lines_of}
 use Rattle.heap_program.specs.Status.{status_text_of}
 use Rattle.heap_program.specs.Text.{text_of, region_line, tally_line, end_text_of}
@@ -235,8 +235,8 @@ drawn-first : drawn_call 1 0 ≡ Malloc 1089 512
 unfolding drawn_call call_of_draws drawn
 drawn-first = refl
 
-drawn-state : state_after 1 ≡ 0x9b1e842f6e862629
-unfolding state_after drawn
+drawn-state : drawn_thrice 1 ≡ 0x9b1e842f6e862629
+unfolding drawn_thrice drawn
 drawn-state = refl
 
 drawn-kinds : map (λ (a : ℕ). call_of_draws 100 a 5000 0x509) (8 ∷ 1 ∷ 2 ∷ 3 ∷ 4 ∷ 5 ∷ 6 ∷ 15 ∷ []) ≡ Malloc 904 16 ∷ Malloc

@@ -22,7 +22,7 @@ use Rattle.heap_model.specs.declared.call.Call.TheVariants.{Malloc, Calloc, Real
 use Rattle.heap_model.specs.declared.region.Region.{Region}
 use Rattle.heap_model.specs.State.{State, Block, Cell, Fresh, Known, block_at, is_within}
 use Rattle.heap_model.specs.Extents.{IsTiling}
-use Rattle.heap_model.specs.Probe.{rights_at, fault_code}
+use Rattle.heap_model.specs.Probe.{rights_at, probe_fault_code}
 use Rattle.heap_model.specs.Answer.{AreBytes, all_ended, seen_block, IsReply, IsResizing, changed, new_block, with_block, resized_block, NewPages, new_pages, with_regions, slots_of, AreNewSlots, after}
 use Rattle.heap_model.specs.Refusal.{own_align, least_align}
 use Rattle.heap_model.specs.Slots.{IsSlotOf}
@@ -203,7 +203,7 @@ tiling_fits s extents good tiling =
     extents_fit extents tiling.extents_are.sizes (λ address is. heap_half s s.heap address good.heap (sym (tiling.bytes address) ∙ is))
 
 -- the code of a fault is small
-code_small : (mapped : Bool) (access : Access) (user : Bool) → fault_code mapped access user < 2 ^ 64
+code_small : (mapped : Bool) (access : Access) (user : Bool) → probe_fault_code mapped access user < 2 ^ 64
 code_small true Reading true = lit< tt
 code_small true Reading false = lit< tt
 code_small true Writing true = lit< tt

@@ -13,20 +13,20 @@ use Rattle.heap_model.specs.declared.config.Config.{Config}
 use Rattle.heap_model.specs.declared.region.Region.{Region}
 use Rattle.heap_model.specs.State.{State, Block, is_within, block_at, cell_at, cover, start}
 use Rattle.heap_model.specs.Room.{heap_rights}
-use Rattle.heap_model.specs.Run.{IsGood, IsWhole, IsHeapRegion}
+use Rattle.heap_model.specs.Run.{IsGood, IsWholePages, IsHeapRegion}
 use Rattle.heap_model.specs.Machine.{Seen, Stands, rights_of}
 use Rattle.heap_model.proofs.Regions.{within_canonical}
 use Rattle.kernel_heap.specs.declared.machine.Machine.{Machine}
 use Rattle.kernel_heap.specs.Machine.{seen}
 use Rattle.heap_program.specs.Generated.{IsGenerated}
 use Rattle.heap_program.specs.Stepped.{IsGeneratedByNew}
-use Rattle.heap_program.specs.LiveBlocks.{IsHeld, HoldsBlocks, HoldsEachBlock}
+use Rattle.heap_program.specs.LiveBlocks.{IsByteHeld, HoldsBlocks, HoldsEachBlock}
 
 abbrev region_rights : Option Region → Option Rights
 region_rights found = option_map (λ region. region.rights) found
 
 -- a whole region has a page exactly where it has an address of it
-with_page : (at : ℕ) (region : Region) → IsWhole region → (b : Bool) → is_within at region ≡ b → is_within (4096 * (at / 4096)) region ≡ b
+with_page : (at : ℕ) (region : Region) → IsWholePages region → (b : Bool) → is_within at region ≡ b → is_within (4096 * (at / 4096)) region ≡ b
 with_page at region whole b is = let start : region.start % 4096 ≡ 0 = whole.0 in grind (arith, nat_tests)
 
 -- the page of an address in a heap region has the rights of the heap
@@ -83,7 +83,7 @@ byte_in words root address value page found is =
 -- a known byte of a block is held
 held_at : (m : Seen) (s : State) (width i k : ℕ) (a : Block) → IsGood s → Stands m s →
     4096 * frame_count m.paged.words ≤ 2 ^ width → block_at s.blocks i ≡ Some a →
-    k < cover a → IsHeld width m.paged.words m.top (a.address + k) (cell_at a.cells k)
+    k < cover a → IsByteHeld width m.paged.words m.top (a.address + k) (cell_at a.cells k)
 held_at m s width i k a good stands reaches is less =
     let found = walked m s (a.address + k) good stands ((good.each i a is).granted k less) in
     let plain : ArePlain m.paged.words m.top = subst (ArePlain m.paged.words) stands.root stands.tree.plain in

@@ -25,7 +25,7 @@ use Rattle.heap_model.specs.State.{State}
 use Rattle.heap_program.specs.Progress.{texts_of}
 use Rattle.heap_program.specs.Spelling.{ExtentFits, ReplyFits, RegionFits, RegionsFit, SlotsFit, AnswerFits, SpellsOne}
 use Rattle.heap_lines.specs.Written.{hexadecimal}
-use Rattle.heap_program.specs.Text.{span_text, kind_word, spaced, extent_text, reply_text, pages_text, regions_text, region_line, heap_line, large_line, text_of, line_text, counts_line, end_text_of}
+use Rattle.heap_program.specs.Text.{span_text, kind_word, spaced, extent_text, reply_text, pages_text, heap_regions_text, region_line, heap_line, large_line, text_of, line_text, counts_line, end_text_of}
 use Rattle.heap_program.proofs.Endings.{head_of, tail_of, told_end, digits_end, decimal_end, hex_end, span_end, Ends, items_end}
 
 -- the two numbers of a block, and what follows
@@ -272,8 +272,8 @@ NoHeap r = (t : List ℕ) → r ≡ 104 ∷ t → ⊥
 heap_end : (p q : Option (List Region)) (r s : List ℕ) → RegionsFit p → RegionsFit q → NoHeap r → NoHeap s →
     heap_line p ++ r ≡ heap_line q ++ s → (p ≡ q) × (r ≡ s)
 heap_end None None r s fp fq nr ns h = (refl, h)
-heap_end None (Some ys) r s fp fq nr ns h = absurd (nr (codes "eap" ++ ((regions_text ys ++ 10 ∷ []) ++ s)) h)
-heap_end (Some xs) None r s fp fq nr ns h = absurd (ns (codes "eap" ++ ((regions_text xs ++ 10 ∷ []) ++ r)) (sym h))
+heap_end None (Some ys) r s fp fq nr ns h = absurd (nr (codes "eap" ++ ((heap_regions_text ys ++ 10 ∷ []) ++ s)) h)
+heap_end (Some xs) None r s fp fq nr ns h = absurd (ns (codes "eap" ++ ((heap_regions_text xs ++ 10 ∷ []) ++ r)) (sym h))
 heap_end (Some xs) (Some ys) r s fp fq nr ns h = let k = some_end xs ys r s fp fq h in ((λ i. Some (k.0 i)), k.1)
 
 -- a slot, before a byte that is no digit of base 16

@@ -5,9 +5,9 @@ use Rattle.heap_model.specs.declared.region.Region.{Region}
 use Rattle.heap_model.specs.State.{State}
 use Rattle.heap_model.specs.Machine.{Seen, Stands}
 use Rattle.paging_core.specs.Pool.{free_count}
-use Rattle.heap_program.specs.Text.{spaced, pages_text, regions_text, region_line, counts_line, end_text_of}
+use Rattle.heap_program.specs.Text.{spaced, pages_text, heap_regions_text, region_line, counts_line, end_text_of}
 
-pub regions_some : (rs : List Region) → 0 < length rs → regions_text rs ≡ spaced pages_text rs
+pub regions_some : (rs : List Region) → 0 < length rs → heap_regions_text rs ≡ spaced pages_text rs
 regions_some [] some = absurd (omega (arith, some))
 regions_some (r ∷ rs) some = refl
 

@@ -19,7 +19,7 @@ use Rattle.heap_lines.specs.Grammar.{item_of}
 use Rattle.heap_program.specs.Lines.{items_of, IsOneLine}
 use Rattle.heap_model.specs.Run.{RunsTo}
 use Rattle.heap_program.specs.Progress.{texts_of, IsAt, IsEnd}
-use Rattle.heap_program.specs.Responses.{Responded, IsFrontOf, HasCaughtUp, HasHeld}
+use Rattle.heap_program.specs.Responses.{Responded, IsResponseFront, HasCaughtUp, HasHeld}
 use Rattle.heap_program.specs.Stepped.{IsAnsweredBy}
 use Rattle.heap_program.specs.Stop.{IsFreshSession, HasRead, HasClosed, HasPart, HasStopped}
 use Rattle.heap_program.specs.Text.{line_text, end_text_of}
@@ -33,12 +33,13 @@ use Rattle.heap_program.proofs.Runs.{responded_more}
 
 module _ {R : Type 0} (responds : R → List (Option Call) → List ℕ → R → Type 0) where
   -- nothing went out
-  pub front_of_none : (x : R) (bytes : List ℕ) → responds x [] [] x → IsFrontOf responds x bytes []
+  pub front_of_none : (x : R) (bytes : List ℕ) → responds x [] [] x → IsResponseFront responds x bytes []
   front_of_none x bytes none = record { items = []; others = items_of bytes; split = refl; whole = []; new = x; responses = none; more = []; front = refl }
 
   -- a front of a response to some bytes
   pub front_of_part : (x y : R) (before bytes told after front more : List ℕ) →
-      Responded responds x before bytes told after y → front ++ more ≡ told → IsFrontOf responds x (before ++ bytes) front
+      Responded responds x before bytes told after y → front ++ more ≡ told →
+      IsResponseFront responds x (before ++ bytes) front
   front_of_part x y before bytes told after front more a split = record {
     items = a.items;
     others = items_of (after ++ []);
@@ -225,7 +226,8 @@ front_end s bytes whole old machine front more k split = record {
 }
 
 -- a front of the answers of a machine
-pub front_of_answers : (s : State) (machine : Machine) (bytes text : List ℕ) → IsAt machine s → IsFrontOf IsAnswering machine bytes text → IsFront s bytes text
+pub front_of_answers : (s : State) (machine : Machine) (bytes text : List ℕ) → IsAt machine s →
+    IsResponseFront IsAnswering machine bytes text → IsFront s bytes text
 front_of_answers s machine bytes text at k =
     let a = k.responses s at in
     let ending = ending_of k.others a.state in

@@ -13,8 +13,8 @@ abbrev pub default_config : Config
 default_config = record { base = 0x400000; pages = 1024; granularity = 65536; frames = 1024; rate = 4095 }
 
 -- a number of frames: there are fewer than 2 ^ 32
-abbrev pub frames_of : List ℕ → Option ℕ
-frames_of word = option_and_then (λ frames. if nat_lt frames (2 ^ 32) then Some frames else None) (number_of word)
+abbrev pub frames_argument : List ℕ → Option ℕ
+frames_argument word = option_and_then (λ frames. if nat_lt frames (2 ^ 32) then Some frames else None) (number_of word)
 
 -- a configuration of these numbers, if each word is one
 abbrev pub config_from : Option ℕ → Option ℕ → Option ℕ → Option ℕ → Option ℕ → Option Config
@@ -24,7 +24,7 @@ config_from base pages granularity frames rate = None
 -- `BASE PAGES GRANULARITY FRAMES RATE`, or no word
 abbrev pub config_of : List (List ℕ) → Option Config
 config_of [] = Some default_config
-config_of (base ∷ pages ∷ granularity ∷ frames ∷ rate ∷ []) = config_from (number_of base) (number_of pages) (number_of granularity) (frames_of frames) (number_of rate)
+config_of (base ∷ pages ∷ granularity ∷ frames ∷ rate ∷ []) = config_from (number_of base) (number_of pages) (number_of granularity) (frames_argument frames) (number_of rate)
 config_of words = None
 
 -- a drawing of these numbers, if each word is one; there are at most 1000000 calls

@@ -10,7 +10,7 @@ use Rattle.heap_program.specs.Command.{machine_config}
 use Rattle.heap_program.specs.Faults.{HasRisen}
 use Rattle.heap_program.specs.Flushed.{IsUpToDate}
 use Rattle.heap_program.specs.Generated.{IsGenerated, IsGenerationStopped}
-use Rattle.heap_program.specs.Headline.{IsAnswered, IsInterrupted, IsStopped}
+use Rattle.heap_program.specs.Headline.{IsRunAnswered, IsInterrupted, IsStopped}
 use Rattle.heap_program.specs.LiveBlocks.{HoldsBlocks}
 use Rattle.heap_program.specs.Status.{TellsRefusal}
 use Rattle.heap_program.specs.Streams.{Streams}
@@ -22,7 +22,7 @@ pub record IsRunDone {S K : Type 0} (streams : Streams S K) (config : Config) (s
   -- the others.
   pub answered :
       IfSome ended.machine (λ machine.
-      (run : IsAnswered (start config) (streams.left source) (streams.left source') (streams.taken sink) (streams.taken sink') (streams.flushed sink') machine)
+      (run : IsRunAnswered (start config) (streams.left source) (streams.left source') (streams.taken sink) (streams.taken sink') (streams.flushed sink') machine)
       × HoldsBlocks (seen machine) run.state.blocks)
   -- From status 5 on, a part of that was done.
   pub stopped : 5 ≤ ended.status → IsStopped (start config) (streams.left source) (streams.left source') (streams.taken sink) (streams.taken sink')

@@ -6,5 +6,5 @@ abbrev pub HasRisen : ℕ → ℕ → Type 0
 HasRisen before now = before < 2 ^ 64 - 1 → before < now
 
 -- a call counted one fault if it failed, and none if it did not
-abbrev pub IsCounted : {T E : Type 0} → Result T E → ℕ → ℕ → Type 0
-IsCounted result before now = now ≡ (if is_ok result then before else min (before + 1) (2 ^ 64 - 1))
+abbrev pub IsFaultCounted : {T E : Type 0} → Result T E → ℕ → ℕ → Type 0
+IsFaultCounted result before now = now ≡ (if is_ok result then before else min (before + 1) (2 ^ 64 - 1))

@@ -22,23 +22,23 @@ abbrev pub pick : ℕ → ℕ → ℕ
 pick given c = given - 1 - c / 2 ^ 8 % min given 64
 
 -- which call it is; if no number is given there is no block to name
-abbrev pub kind_of : ℕ → ℕ → ℕ
-kind_of given a = if given == 0 && nat_le 3 (a % 8) then 0 else a % 8
+abbrev pub call_kind : ℕ → ℕ → ℕ
+call_kind given a = if given == 0 && nat_le 3 (a % 8) then 0 else a % 8
 
 -- the call of three numbers drawn, if this many numbers were given
 unfoldable pub call_of_draws : ℕ → ℕ → ℕ → ℕ → Call
 call_of_draws given a b c =
     let size = b % 4096 in
     let block = pick given c in
-    slice_index_or (Malloc size 16 ∷ Malloc size (2 ^ (c % 16)) ∷ Calloc size 16 ∷ Realloc block size ∷ Write block 0 (b % 256 ∷ []) ∷ []) (kind_of given a) (Free block)
+    slice_index_or (Malloc size 16 ∷ Malloc size (2 ^ (c % 16)) ∷ Calloc size 16 ∷ Realloc block size ∷ Write block 0 (b % 256 ∷ []) ∷ []) (call_kind given a) (Free block)
 
 -- the call that comes next from a state of the generator
 unfoldable pub drawn_call : ℕ → ℕ → Call
 drawn_call state given = let a = drawn state in let b = drawn a in call_of_draws given a b (drawn b)
 
 -- the state after its three draws
-unfoldable pub state_after : ℕ → ℕ
-state_after state = drawn (drawn (drawn state))
+unfoldable pub drawn_thrice : ℕ → ℕ
+drawn_thrice state = drawn (drawn (drawn state))
 
 -- how many numbers the reply to a call gives
 abbrev pub numbers_given : Call → Reply → ℕ
@@ -51,12 +51,12 @@ numbers_given call reply = 0
 abbrev pub drawn_calls : ℕ → ℕ → List Answer → List Call
 drawn_calls state given [] = []
 drawn_calls state given (answer ∷ answers) =
-    let call = drawn_call state given in call ∷ drawn_calls (state_after state) (given + numbers_given call answer.reply) answers
+    let call = drawn_call state given in call ∷ drawn_calls (drawn_thrice state) (given + numbers_given call answer.reply) answers
 
 -- how many numbers were given by these answers
 abbrev pub blocks_given : ℕ → ℕ → List Answer → ℕ
 blocks_given state given [] = given
-blocks_given state given (answer ∷ answers) = blocks_given (state_after state) (given + numbers_given (drawn_call state given) answer.reply) answers
+blocks_given state given (answer ∷ answers) = blocks_given (drawn_thrice state) (given + numbers_given (drawn_call state given) answer.reply) answers
 
 -- how many refusals a reply is
 abbrev pub refusals : Reply → ℕ

@@ -22,7 +22,7 @@ IsReadWhole None left input = ⊤
 
 -- A run that ended well. The source had the input and, after it, has `left`; the sink had taken `before`, and then
 -- `after`, of which `flushed` is flushed.
-pub record IsAnswered (s : State) (had left before after : Option (List ℕ)) (flushed : Option ℕ) (machine : Machine) : Type 0 where
+pub record IsRunAnswered (s : State) (had left before after : Option (List ℕ)) (flushed : Option ℕ) (machine : Machine) : Type 0 where
   -- the source is read to its end
   pub input : List ℕ
   pub read : IsReadWhole had left input

@@ -9,7 +9,7 @@ use Rattle.heap_model.specs.Machine.{Seen, Stands, outline}
 
 -- A processor's walk ends at a present page at the address, which may be written and lies in the memory; and if the byte that
 -- was last written there is known, it is the one in the page. `width` is how many bits a physical address has.
-pub record IsHeld (width : ℕ) (words : List ℕ) (root address : ℕ) (cell : Cell) : Type 0 where
+pub record IsByteHeld (width : ℕ) (words : List ℕ) (root address : ℕ) (cell : Cell) : Type 0 where
   pub page : Place
   pub found : processor_walk width words root (address / 4096) ≡ AtPage page
   pub writable : IsTrue page.write
@@ -23,7 +23,7 @@ pub record HoldsBlocks (m : Seen) (blocks : List (Option Block)) : Type 0 where
   pub aligned : (i : ℕ) (a : Block) → block_at blocks i ≡ Some a → a.address % a.align ≡ 0
   pub held :
       (width i k : ℕ) (a : Block) → 4096 * frame_count m.paged.words ≤ 2 ^ width → block_at blocks i ≡ Some a → k < cover a →
-      IsHeld width m.paged.words m.top (a.address + k) (cell_at a.cells k)
+      IsByteHeld width m.paged.words m.top (a.address + k) (cell_at a.cells k)
   pub apart :
       (i j k l : ℕ) (a b : Block) → block_at blocks i ≡ Some a → block_at blocks j ≡ Some b → i ≢ j → k < cover a → l < cover b →
       a.address + k ≢ b.address + l

@@ -1,4 +1,4 @@
--- What calls that write, that read and that run leave, whether they succeed or fail.
+-- What holds after a call that writes, reads or runs, whether it succeeds or fails.
 use Rattle.std.specs.Prelude.{◌≡◌, ◌≤◌, ◌⊎◌, ◌^◌, ℕ, List, [], Option, Result, IfOk, IfErr, OnOk, OnErr, IsErrOf}
 use Rattle.std.specs.Io.KnownBytes.{IsAtEnd}
 use Rattle.heap_model.specs.State.{State}
@@ -18,12 +18,12 @@ pub record TellsSinkFaults {T K : Type 0} (needs_memory : K → Type 0) (result 
   pub later : before ≤ now
   -- the sink failed only if the count rose
   pub cause : IsErrOf result Failed → HasRisen before now
-  -- a sink whose calls want no memory has enough
+  -- a sink that wants no memory never fails for want of it
   pub memory : ((k : K) → needs_memory k → ⊥) → IsErrOf result OutOfMemory → ⊥
 
 -- What a call that writes, and reads nothing, tells of why it stopped. The sink's count of faults is `before`, and then `now`.
 pub record TellsSinkStop {T : Type 0} (result : Result T Stop) (before now : ℕ) : Type 0 where
-  -- it was for want of memory, or since the sink failed
+  -- it was for want of memory, or because the sink failed
   pub which : IfErr result (λ stop. (stop ≡ Memory) ⊎ (stop ≡ WriteFault))
   -- the count does not go down
   pub later : before ≤ now
@@ -39,12 +39,12 @@ pub record TellsRunFaults {T : Type 0} (result : Result T Stop) (reads reads' wr
   pub read_cause : IsErrOf result ReadFault → HasRisen reads reads'
   pub write_cause : IsErrOf result WriteFault → HasRisen writes writes'
 
--- A run that stopped since the source failed, or since the input is too long, has flushed all that it has written.
+-- A run that stopped because the source failed, or because the input is too long, has flushed all that it has written.
 pub record HasFlushed {T K : Type 0} (taken : K → Option (List ℕ)) (flushed : K → Option ℕ) (result : Result T Stop) (sink sink' : K) : Type 0 where
   pub flushed_fault : IsErrOf result ReadFault → IsUpToDate taken flushed sink sink'
   pub flushed_long : IsErrOf result TooLong → IsUpToDate taken flushed sink sink'
 
--- A reading that ends well gives how many bytes came: 2 ^ 30 at most. The source is at its end, and no text waits in the output.
+-- If a reading ends well, at most 2 ^ 30 bytes came, the source is at its end, and no text waits in the output.
 pub record IsReadToEnd (result : Result ℕ Stop) (left : Option (List ℕ)) (output : List ℕ) : Type 0 where
   pub short : IfOk result (λ count. count ≤ 2 ^ 30)
   pub end : OnOk result (IsAtEnd left)

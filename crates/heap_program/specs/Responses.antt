@@ -18,7 +18,7 @@ pub record Responded {R : Type 0} (responds : R → List (Option Call) → List 
   pub responses : responds old items told new
 
 -- The text is a front of a response to the first lines of the bytes.
-pub record IsFrontOf {R : Type 0} (responds : R → List (Option Call) → List ℕ → R → Type 0) (old : R) (bytes text : List ℕ) : Type 0 where
+pub record IsResponseFront {R : Type 0} (responds : R → List (Option Call) → List ℕ → R → Type 0) (old : R) (bytes text : List ℕ) : Type 0 where
   pub items : List (Option Call)
   pub others : List (Option Call)
   pub split : items_of bytes ≡ items ++ others

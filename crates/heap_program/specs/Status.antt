@@ -20,13 +20,13 @@ pub record TellsRefusal (config : Config) (status : ℕ) : Type 0 where
   pub frames : status ≡ 4 ↔ IsConfigRefused config TooFewFrames
   pub good : (status ≡ 0) ⊎ (5 ≤ status) → IsGoodConfig config
 
--- Calls were drawn for a new machine of a configuration, and that ended with a status. The sink's count of faults is `writes`, and then
--- `writes'`.
+-- Calls were to be drawn for a new machine of a configuration, and the command ended with a status. The sink's count of
+-- faults is `writes` before, and `writes'` after.
 pub record IsGenerationStatus {K : Type 0} (config : Config) (sink sink' : K) (writes writes' status : ℕ) : Type 0 where
   -- there was a command, and no input that could fail or be too long
   pub statuses : (status ≢ 1) × (status ≢ 6) × (status ≤ 7)
   pub refused : TellsRefusal config status
-  -- where no machine was made, nothing is written
+  -- at statuses 1 to 4 nothing is written
   pub untouched : 1 ≤ status → status ≤ 4 → sink' ≡ sink
   -- the sink failed only if its count rose
   pub write_fault : status ≡ 7 → HasRisen writes writes'

@@ -8,13 +8,13 @@ use Rattle.heap_program.specs.declared.arguments.Command.{Command}
 use Rattle.heap_program.specs.declared.arguments.Command.TheVariants.{Run, Generate}
 use Rattle.heap_program.specs.Generated.{IsGenerated}
 use Rattle.heap_program.specs.Generator.{first_state, drawn_calls}
-use Rattle.heap_program.specs.Headline.{IsAnswered}
+use Rattle.heap_program.specs.Headline.{IsRunAnswered}
 use Rattle.heap_program.specs.Lines.{items_of}
 use Rattle.heap_program.specs.Streams.{Streams}
 
 -- A run that ended well: from one machine to another each answer is the one that the machine's step gave.
 pub record IsAnsweredBy (first : Machine) (s : State) (had left before after : Option (List ℕ)) (flushed : Option ℕ) (last : Machine) : Type 0 where
-  pub run : IsAnswered s had left before after flushed last
+  pub run : IsRunAnswered s had left before after flushed last
   pub steps : StepsTo first (items_of run.input) run.answers last
 
 -- so for calls that were drawn

@@ -11,7 +11,7 @@ use Rattle.heap_program.specs.declared.sink.SinkFault.{SinkFault}
 use Rattle.heap_program.specs.declared.sink.SinkFault.TheVariants.{Failed, OutOfMemory}
 use Rattle.heap_program.specs.Headline.{IsFront}
 use Rattle.heap_program.specs.Progress.{IsEnd}
-use Rattle.heap_program.specs.Responses.{Responded, IsFrontOf, HasHeld}
+use Rattle.heap_program.specs.Responses.{Responded, IsResponseFront, HasHeld}
 
 -- what a fault of the sink stops a run for
 abbrev pub stop_of : SinkFault → Stop
@@ -58,7 +58,7 @@ pub record HasStopped {R : Type 0} (responds : R → List (Option Call) → List
   pub consumed : Consumes had left bytes
   pub short : length bytes ≤ 2 ^ 30 + 4096
   pub appended : Appends before after told
-  pub front : IsFrontOf responds old bytes told
+  pub front : IsResponseFront responds old bytes told
   pub too_long : stop ≡ TooLong ↔ 2 ^ 30 < length bytes
   pub at_fault : stop ≡ ReadFault → HasHeld responds old 0 had left before after
   pub at_length : stop ≡ TooLong → HasHeld responds old 4096 had left before after

@@ -62,14 +62,14 @@ abbrev pub pages_text : Region → List ℕ
 pages_text region = span_text region.start region.pages
 
 -- the heap regions after the word `heap`
-abbrev pub regions_text : List Region → List ℕ
-regions_text [] = codes " none"
-regions_text (region ∷ rest) = spaced pages_text (region ∷ rest)
+abbrev pub heap_regions_text : List Region → List ℕ
+heap_regions_text [] = codes " none"
+heap_regions_text (region ∷ rest) = spaced pages_text (region ∷ rest)
 
 -- the line after a reply, if the answer lists the heap regions
 abbrev pub heap_line : Option (List Region) → List ℕ
 heap_line None = []
-heap_line (Some regions) = codes "heap" ++ (regions_text regions ++ codes "\n")
+heap_line (Some regions) = codes "heap" ++ (heap_regions_text regions ++ codes "\n")
 
 -- and the line after it, if it lists the slots that were mapped by one entry each
 abbrev pub large_line : Option (List ℕ) → List ℕ

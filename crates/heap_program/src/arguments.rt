@@ -1,6 +1,6 @@
 // What the words of the program ask for.
 ghost use Rattle.std.specs.Prelude.{◌≡◌, map, string_bytes, IfSome};
-ghost use Rattle.heap_program.specs.Command.{frames_of, config_from, config_of, generate_from, generate_of, command_of, HasFewCalls};
+ghost use Rattle.heap_program.specs.Command.{frames_argument, config_from, config_of, generate_from, generate_of, command_of, HasFewCalls};
 ghost use Rattle.heap_lines.specs.Number.{number_of};
 
 use heap_lines::number;
@@ -34,7 +34,7 @@ pub enum Command {
 }
 
 fn frames_of(word: &str) -> Option<u32>
-    ensures { result ≡ frames_of word.now }
+    ensures { result ≡ frames_argument word.now }
 {
     u32::try_from(number(word.as_bytes())?).ok()
 }
@@ -46,7 +46,7 @@ fn config_from(
     frames: &str,
     rate: &str,
 ) -> Option<Config>
-    ensures { result ≡ config_from (number_of base.now) (number_of pages.now) (number_of granularity.now) (frames_of frames.now) (number_of rate.now) }
+    ensures { result ≡ config_from (number_of base.now) (number_of pages.now) (number_of granularity.now) (frames_argument frames.now) (number_of rate.now) }
 {
     Some(Config {
         base: number(base.as_bytes())?,

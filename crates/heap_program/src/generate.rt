@@ -1,7 +1,7 @@
 // A run over calls that are drawn.
 ghost use Rattle.std.specs.Prelude.{◌≡◌, ◌≤◌, ◌<◌, ◌+◌, ◌^◌, IfOk, OnOk, OnErr, ◌↔◌, IsSome, IfSome};
 ghost use Rattle.heap_model.specs.State.{State, start};
-ghost use Rattle.heap_program.specs.Drawing.{HasDrawnOne, HasDrawn};
+ghost use Rattle.heap_program.specs.Drawing.{HasDrawnOne, HasDrawnCalls};
 ghost use Rattle.heap_program.specs.Generated.{IsGenerationStopped};
 ghost use Rattle.heap_program.specs.Generator.{first_state, numbers_given, refusals};
 ghost use Rattle.heap_program.specs.Outcomes.{TellsSinkStop};
@@ -87,7 +87,7 @@ impl Drawing {
         requires few { count ≤ 1000000 }
         requires given { self.old.given ≡ 0 }
         requires refused { self.old.refused ≡ 0 }
-        ensures { OnOk result ((s : State) → IsAt self.old.machine s → HasDrawn s self.old self.new count) }
+        ensures { OnOk result ((s : State) → IsAt self.old.machine s → HasDrawnCalls s self.old self.new count) }
     {
         'calls: for _made in 0..count {
             self.draw_call()?;

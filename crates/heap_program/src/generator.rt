@@ -1,6 +1,6 @@
 // Calls that are drawn from a seed.
 ghost use Rattle.std.specs.Prelude.{◌≡◌, ◌<◌, ◌%◌, ◌^◌, IfOk};
-ghost use Rattle.heap_program.specs.Generator.{drawn, first_state, pick, kind_of, call_of_draws, drawn_call, state_after};
+ghost use Rattle.heap_program.specs.Generator.{drawn, first_state, pick, call_kind, call_of_draws, drawn_call, drawn_thrice};
 
 use kernel_heap::{Bytes, Call};
 use std::alloc::{AllocError, Global};
@@ -46,7 +46,7 @@ fn alignment(draw: u64) -> u64
 
 // Which call it is. Where no number is given there is no block to name.
 fn kind_of(given: u64, draw: u64) -> u64
-    ensures { result ≡ kind_of given draw }
+    ensures { result ≡ call_kind given draw }
 {
     let kind = draw % 8;
     if given == 0 && kind >= 3 { 0 } else { kind }
@@ -89,9 +89,9 @@ fn call_of_draws(alloc: Global, given: u64, a: u64, b: u64, c: u64) -> Result<Ca
 
 /// The call that comes next, if `given` numbers were given, and the state that its three draws leave. An `Err` says
 /// that the host had too little memory for the byte of a write.
-#[tactic(auto, unfolding(crate::specs::Generator::drawn_call, crate::specs::Generator::state_after))]
+#[tactic(auto, unfolding(crate::specs::Generator::drawn_call, crate::specs::Generator::drawn_thrice))]
 pub fn next_call(alloc: Global, state: u64, given: u64) -> Result<(Call, u64), AllocError>
-    ensures { IfOk result (λ next. (next.0 ≡ drawn_call state given) × (next.1 ≡ state_after state)) }
+    ensures { IfOk result (λ next. (next.0 ≡ drawn_call state given) × (next.1 ≡ drawn_thrice state)) }
 {
     let a = draw(state);
     let b = draw(a);

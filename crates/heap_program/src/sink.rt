@@ -1,7 +1,7 @@
 // Where the output goes.
 ghost use Rattle.std.specs.Prelude.{◌≡◌, ◌≤◌, ◌<◌, ⊤, List, [], ℕ, Option, Some, None, length, take, ◌++◌, IfOk, IfErr, IsOk, OnOk, OnErr, IsErrOf};
 ghost use Rattle.std.specs.Io.KnownBytes.{Appends, Keeps};
-ghost use Rattle.heap_program.specs.Faults.{HasRisen, IsCounted};
+ghost use Rattle.heap_program.specs.Faults.{HasRisen, IsFaultCounted};
 ghost use Rattle.heap_program.specs.Flushed.{IsAllFlushed};
 
 use std::alloc::{AllocError, Global};
@@ -148,7 +148,7 @@ impl<W: Write> Sink for WriterSink<W> {
         ensures told { IfOk result (λ n. Appends (W.contents self.old.writer) (W.contents self.new.writer) (take n bytes.now)) }
         ensures err { OnErr result (Keeps (W.contents self.old.writer) (W.contents self.new.writer)) }
         ensures which { IfErr result (λ fault. fault ≡ SinkFault.Failed) }
-        ensures counted { IsCounted result self.old.faults self.new.faults }
+        ensures counted { IsFaultCounted result self.old.faults self.new.faults }
         ensures later { self.old.faults ≤ self.new.faults }
         ensures cause { IsErrOf result SinkFault.Failed → HasRisen self.old.faults self.new.faults }
     {
@@ -169,7 +169,7 @@ impl<W: Write> Sink for WriterSink<W> {
     fn flush(&mut self) -> Result<(), SinkFault>
         ensures told { Keeps (W.contents self.old.writer) (W.contents self.new.writer) }
         ensures which { IfErr result (λ fault. fault ≡ SinkFault.Failed) }
-        ensures counted { IsCounted result self.old.faults self.new.faults }
+        ensures counted { IsFaultCounted result self.old.faults self.new.faults }
         ensures later { self.old.faults ≤ self.new.faults }
         ensures cause { IsErrOf result SinkFault.Failed → HasRisen self.old.faults self.new.faults }
     {

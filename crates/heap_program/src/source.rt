@@ -1,7 +1,7 @@
 // Where the input comes from.
 ghost use Rattle.std.specs.Prelude.{◌≡◌, ◌≤◌, ◌<◌, ◌++◌, List, ℕ, Option, Some, length, min, take, drop, IfOk, IsOkAnd, OnErr, IsErr};
 ghost use Rattle.std.specs.Io.KnownBytes.{Consumes, Keeps, IsAtEnd};
-ghost use Rattle.heap_program.specs.Faults.{HasRisen, IsCounted};
+ghost use Rattle.heap_program.specs.Faults.{HasRisen, IsFaultCounted};
 
 use std::io::{ErrorKind, Read};
 use std::marker::Model;
@@ -111,7 +111,7 @@ impl<R: Read> Source for ReaderSource<R> {
         ensures told { IfOk result (λ n. Consumes (R.remaining self.old.reader) (R.remaining self.new.reader) (take n buf.new)) }
         ensures end { IfOk result (λ n. n ≡ 0 → 0 < length buf.old → IsAtEnd (R.remaining self.new.reader)) }
         ensures err { OnErr result (Keeps (R.remaining self.old.reader) (R.remaining self.new.reader)) }
-        ensures counted { IsCounted result self.old.faults self.new.faults }
+        ensures counted { IsFaultCounted result self.old.faults self.new.faults }
         ensures later { self.old.faults ≤ self.new.faults }
         ensures cause { IsErr result → HasRisen self.old.faults self.new.faults }
     {

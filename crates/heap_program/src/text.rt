@@ -5,7 +5,7 @@ ghost use Rattle.heap_model.specs.State.{State};
 ghost use Rattle.heap_model.specs.Machine.{Stands};
 ghost use Rattle.kernel_heap.specs.Machine.{seen};
 ghost use Rattle.heap_lines.specs.Written.{hexadecimal};
-ghost use Rattle.heap_program.specs.Text.{text_of, reply_text, bytes_text, truth_word, span_text, spaced, kind_word, extent_text, pages_text, regions_text, heap_line, large_line, owner_text, region_line, counts_line, tally_line, end_text_of};
+ghost use Rattle.heap_program.specs.Text.{text_of, reply_text, bytes_text, truth_word, span_text, spaced, kind_word, extent_text, pages_text, heap_regions_text, heap_line, large_line, owner_text, region_line, counts_line, tally_line, end_text_of};
 
 use crate::digits::{push_block, push_digits};
 use bitflags::Flags;
@@ -122,7 +122,7 @@ pub fn push_pages(out: &mut String, region: Region) -> Result<(), AllocError>
 }
 
 fn push_regions(out: &mut String, regions: &[Region]) -> Result<(), AllocError>
-    ensures { OnOk result (string_bytes out.new ≡ string_bytes out.old ++ regions_text regions.now) }
+    ensures { OnOk result (string_bytes out.new ≡ string_bytes out.old ++ heap_regions_text regions.now) }
 {
     if regions.is_empty() {
         return out.push_str(" none");

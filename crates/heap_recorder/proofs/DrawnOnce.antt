@@ -7,7 +7,7 @@ use Rattle.heap_model.specs.Answer.{after}
 use Rattle.heap_model.specs.Run.{IsAllowedRun}
 use Rattle.heap_model.specs.State.{State, start}
 use Rattle.heap_recorder.specs.Run.{Notes, nothing, noted, notes_from, moment, bytes_after}
-use Rattle.heap_recorder.specs.Shown.{shown, shows, has_block, state_after, EachBlockIsDrawnOnce}
+use Rattle.heap_recorder.specs.Shown.{count_shown, shows_stay, has_block, state_after, EachBlockIsDrawnOnce}
 use Rattle.heap_recorder.specs.Sizes.{sizes_after}
 use Rattle.heap_recorder.specs.Stays.{stays_after}
 use Rattle.heap_recorder.proofs.Later.{ArePast, showing, later, past_later, showing_later, showing_last, shows_all}
@@ -46,7 +46,7 @@ moments_all s notes (call ∷ calls) [] run = absurd run
 -- what showed shows still
 showed : (s : State) (notes : Notes) (calls : List Call) (answers : List Answer) (k number address size : ℕ) →
     IsAllowedRun s (map Some calls) (map Some answers) → k < length notes.moments →
-    shown (showing k number address size) (notes_from notes calls answers).stays.stays ≡ shown (showing k number address size) notes.stays.stays
+    count_shown (showing k number address size) (notes_from notes calls answers).stays.stays ≡ count_shown (showing k number address size) notes.stays.stays
 showed s notes [] [] k number address size run less = refl
 showed s notes (call ∷ calls) (answer ∷ answers) k number address size run less =
     showed (after s call answer) (noted notes call answer) calls answers k number address size run.1
@@ -60,14 +60,14 @@ showed s notes (call ∷ calls) [] k number address size run less = absurd run
 -- and after each call the live blocks do
 shown_then : (s : State) (notes : Notes) (calls : List Call) (answers : List Answer) (k number address size : ℕ) →
     IsAllowedRun s (map Some calls) (map Some answers) → IsKept s notes → k < length calls →
-    shown (showing (length notes.moments + k) number address size) (notes_from notes calls answers).stays.stays ≡ bit
+    count_shown (showing (length notes.moments + k) number address size) (notes_from notes calls answers).stays.stays ≡ bit
     (has_block (state_after s calls answers (suc k)) number address size)
 shown_then s notes [] [] k number address size run is less = absurd (omega (arith, less))
 shown_then s notes (call ∷ calls) (answer ∷ answers) zero number address size run is less =
     let next = kept s notes call answer calls answers run is in
     let n = length notes.moments in
     let here : n + zero ≡ n = omega arith in
-    ap (λ (m : ℕ). shown (showing m number address size) (notes_from (noted notes call answer) calls answers).stays.stays) here
+    ap (λ (m : ℕ). count_shown (showing m number address size) (notes_from (noted notes call answer) calls answers).stays.stays) here
     ∙ showed (after s call answer) (noted notes call answer) calls answers n number address size run.1
     (let one = one_more notes call answer in omega (arith, one))
     ∙ showing_last n number address size (noted notes call answer).stays.stays
@@ -76,7 +76,7 @@ shown_then s notes (call ∷ calls) (answer ∷ answers) zero number address siz
 shown_then s notes (call ∷ calls) (answer ∷ answers) (suc k) number address size run is less =
     let next = kept s notes call answer calls answers run is in
     let there : length notes.moments + suc k ≡ length (noted notes call answer).moments + k = (let one = one_more notes call answer in omega (arith, one)) in
-    ap (λ (m : ℕ). shown (showing m number address size) (notes_from (noted notes call answer) calls answers).stays.stays) there
+    ap (λ (m : ℕ). count_shown (showing m number address size) (notes_from (noted notes call answer) calls answers).stays.stays) there
     ∙ shown_then (after s call answer) (noted notes call answer) calls answers k number address size run.1 next (omega (arith, less))
 shown_then s notes [] (answer ∷ answers) k number address size run is less = absurd run
 shown_then s notes (call ∷ calls) [] k number address size run is less = absurd run
@@ -90,5 +90,5 @@ drawn_once config calls answers run k number address size less =
     let count : length notes.moments ≡ length calls = (let all = moments_all (start config) nothing calls answers run in omega (arith, all)) in
     let here : k ≡ 0 + k = omega arith in
     shows_all (length notes.moments) k number address size notes.stays.stays (omega (arith, count, less))
-    ∙ ap (λ (m : ℕ). shown (showing m number address size) notes.stays.stays) here
+    ∙ ap (λ (m : ℕ). count_shown (showing m number address size) notes.stays.stays) here
     ∙ shown_then (start config) nothing calls answers k number address size run (kept_start config) less

@@ -10,11 +10,11 @@ use Rattle.heap_model.specs.declared.call.Call.{Call}
 use Rattle.heap_model.specs.declared.call.Call.TheVariants.{Malloc, Calloc, Realloc, CRealloc, Free, Write, Read, Map, Unmap, Probe, SetGranularity, Reset}
 use Rattle.heap_model.specs.declared.region.Region.{Region}
 use Rattle.heap_model.specs.Answer.{NewPages, after, changed, new_pages, slots_of, with_regions}
-use Rattle.heap_model.specs.Run.{AreInOrder, IsAllowedRun, IsHeapRegion, IsGood}
-use Rattle.heap_model.specs.State.{State, end_of, start}
-use Rattle.heap_recorder.specs.Regions.{RegionNotes, is_same, new_held, ended, held_from, regions_from, going, now_after, stays_on, gone_after, regions_after, regions_at_end}
+use Rattle.heap_model.specs.Run.{AreRegionsInOrder, IsAllowedRun, IsHeapRegion, IsGood}
+use Rattle.heap_model.specs.State.{State, end_of_region, start}
+use Rattle.heap_recorder.specs.Regions.{RegionNotes, has_same_pages, new_held, ended, held_from, regions_from, going, now_after, stays_on, gone_after, regions_noted, regions_at_end}
 use Rattle.heap_recorder.specs.Run.{Notes, nothing, noted, notes_from, heap_noted}
-use Rattle.heap_recorder.specs.Shown.{shown, is_part, shows_part, is_region, state_after, EachRegionIsDrawnOnce}
+use Rattle.heap_recorder.specs.Shown.{count_shown, is_heap_part, shows_part, is_region, state_after, EachRegionIsDrawnOnce}
 use Rattle.heap_recorder.proofs.DrawnOnce.{one_more, moments_all}
 use Rattle.heap_recorder.proofs.Later.{less_true, less_false, least_true}
 use Rattle.heap_recorder.proofs.Merged.{shows_now, IsAfter, AreRising, IsHeldAfter, AreHeldRising, shows_all}
@@ -23,11 +23,11 @@ use Rattle.heap_recorder.proofs.Tracked.{bit, left_true, right_true, same_number
 -- ---- regions in their order
 
 rising_one : (s : State) (region : Region) (rest : List Region) → IsHeapRegion s region →
-    AllByRecursion (λ later. end_of region ≤ later.start) rest → IsAfter region.start rest
+    AllByRecursion (λ later. end_of_region region ≤ later.start) rest → IsAfter region.start rest
 rising_one s region [] is order = tt
 rising_one s region (next ∷ rest) is order = let some = is.0.1.some in let past = order.0 in omega (arith, some, past)
 
-rising : (s : State) (heap : List Region) → AllByRecursion (IsHeapRegion s) heap → AreInOrder heap → AreRising heap
+rising : (s : State) (heap : List Region) → AllByRecursion (IsHeapRegion s) heap → AreRegionsInOrder heap → AreRising heap
 rising s [] are order = tt
 rising s (region ∷ rest) are order = (rising_one s region rest are.0 order.0, rising s rest are.1 order.1)
 
@@ -53,9 +53,10 @@ held_rising (held ∷ now) (region ∷ heap) same are = (held_after held now reg
 
 going_same : (n : ℕ) (region : Region) (held : List Held) → ((going n region held).start ≡ region.start) × ((going n region held).pages ≡ region.pages)
 going_same n region [] = (refl, refl)
-going_same n region (h ∷ held) = go (is_same h region) refl
+going_same n region (h ∷ held) = go (has_same_pages h region) refl
   where
-    go : (b : Bool) → is_same h region ≡ b → ((if b then h else new_held n region).start ≡ region.start) × ((if b then h
+    go : (b : Bool) → has_same_pages h region ≡ b → ((if b then h else new_held n region).start ≡ region.start) × ((if b
+        then h
         else new_held n region).pages ≡ region.pages)
     go true is = (
       same_number h.start region.start (left_true (nat_eq h.start region.start) (nat_eq h.pages region.pages)
@@ -101,7 +102,7 @@ begun_from n start (held ∷ now) are = go (nat_lt held.start start) (begun_from
 
 going_begun : (n : ℕ) (region : Region) (now : List Held) → AreBegun n now → (going n region now).born < suc n
 going_begun n region [] are = omega arith
-going_begun n region (held ∷ now) are = go (is_same held region)
+going_begun n region (held ∷ now) are = go (has_same_pages held region)
   where
     go : (b : Bool) → (if b then held else new_held n region).born < suc n
     go true = let less = are.0 in omega (arith, less)
@@ -124,16 +125,17 @@ gone_over n (held ∷ now) list = go (stays_on held (regions_from held.start lis
 
 -- ---- what shows of a call
 
-shown_both : (test : Held → Bool) (gone more : List Held) → shown test (gone ++ more) ≡ shown test gone + shown test more
+shown_both : (test : Held → Bool) (gone more : List Held) → count_shown test (gone ++ more) ≡ count_shown test
+    gone + count_shown test more
 shown_both test [] more = omega arith
 shown_both test (held ∷ gone) more = let rest = shown_both test gone more in omega (arith, rest)
 
 abbrev pub all_shown : ℕ → ℕ → ℕ → RegionNotes → ℕ
-all_shown call start pages notes = shown (shows_now call start pages) notes.now + shown (shows_part call start pages) notes.gone
+all_shown call start pages notes = count_shown (shows_now call start pages) notes.now + count_shown (shows_part call start pages) notes.gone
 
 -- of an earlier call the same shows after one that lists regions
 shown_after : (n k start pages : ℕ) (list : List Region) (notes : RegionNotes) → k < n → AreHeldRising notes.now →
-    AreRising list → all_shown k start pages (regions_after n list notes) ≡ all_shown k start pages notes
+    AreRising list → all_shown k start pages (regions_noted n list notes) ≡ all_shown k start pages notes
 shown_after n k start pages list notes less held are =
     let all = shows_all n k start pages notes.now list less held are in
     let both = shown_both (shows_part k start pages) notes.gone (gone_after n notes.now list) in
@@ -141,7 +143,7 @@ shown_after n k start pages list notes less held are =
 
 -- of the last call those show that the heap has
 now_shown : (n start pages : ℕ) (now : List Held) (heap : List Region) → AreBegun (suc n) now → AreSame now heap →
-    shown (shows_now n start pages) now ≡ shown (is_region start pages) heap
+    count_shown (shows_now n start pages) now ≡ count_shown (is_region start pages) heap
 now_shown n start pages [] [] are same = refl
 now_shown n start pages [] (region ∷ heap) are same = absurd same
 now_shown n start pages (held ∷ now) [] are same = absurd same
@@ -149,13 +151,14 @@ now_shown n start pages (held ∷ now) (region ∷ heap) are same =
     (λ i. bit (least_true held.born n (let less = are.0 in omega (arith, less)) i &&
     (nat_eq (same.0 i) start && nat_eq (same.1 i) pages)) + now_shown n start pages now heap are.1 same.2 i)
 
-none_shown : (n start pages : ℕ) (gone : List Held) → AreOver (suc n) gone → shown (shows_part n start pages) gone ≡ 0
+none_shown : (n start pages : ℕ) (gone : List Held) → AreOver (suc n) gone → count_shown (shows_part n start pages) gone ≡ 0
 none_shown n start pages [] are = refl
 none_shown n start pages (held ∷ gone) are =
     let rest = none_shown n start pages gone are.1 in
     let over : shows_part n start pages held ≡ false =
-    (λ i. nat_le held.born n && (less_false n held.end (let less = are.0 in omega (arith, less)) i && is_part start pages held)) ∙ never (nat_le held.born n) in
-    let one = ap (λ (b : Bool). bit b + shown (shows_part n start pages) gone) over in
+    (λ i. nat_le held.born n && (less_false n held.end (let less = are.0 in omega (arith, less)) i && is_heap_part start
+    pages held)) ∙ never (nat_le held.born n) in
+    let one = ap (λ (b : Bool). bit b + count_shown (shows_part n start pages) gone) over in
     omega (arith, one, rest)
   where
     never : (b : Bool) → (b && false) ≡ false
@@ -198,7 +201,7 @@ listed_heap s list (Some new) slots = refl
 kept_unlisted : (n : ℕ) (heap : List Region) (notes : RegionNotes) → IsKept n heap notes → IsKept (suc n) heap notes
 kept_unlisted n heap notes is = record { same = is.same; rising = is.rising; begun = begun_later n notes.now is.begun; over = over_later n notes.gone is.over }
 
-kept_listed : (n : ℕ) (heap list : List Region) (notes : RegionNotes) → AreRising list → IsKept n heap notes → IsKept (suc n) list (regions_after n list notes)
+kept_listed : (n : ℕ) (heap list : List Region) (notes : RegionNotes) → AreRising list → IsKept n heap notes → IsKept (suc n) list (regions_noted n list notes)
 kept_listed n heap list notes listed is = record {
   same = after_same n notes.now list;
   rising = listed;
@@ -215,7 +218,7 @@ kept_after s n call reply None new slots notes listed is =
     ∙ changed_heap s call reply)) (kept_unlisted n s.heap notes is)
 kept_after s n call reply (Some list) new slots notes listed is =
     let heap = listed_heap (changed s call reply) list new slots in
-    subst (λ (regions : List Region). IsKept (suc n) regions (regions_after n list notes)) (sym heap)
+    subst (λ (regions : List Region). IsKept (suc n) regions (regions_noted n list notes)) (sym heap)
     (kept_listed n s.heap list notes (subst (λ (regions : List Region). AreRising regions) heap listed) is)
 
 -- and shows what showed of earlier calls
@@ -255,7 +258,7 @@ showed s notes [] (answer ∷ answers) k start pages run is less = absurd run
 showed s notes (call ∷ calls) [] k start pages run is less = absurd run
 
 last_shown : (n m start pages : ℕ) (heap : List Region) (notes : RegionNotes) → m ≡ suc n → IsKept m heap notes →
-    all_shown n start pages notes ≡ shown (is_region start pages) heap
+    all_shown n start pages notes ≡ count_shown (is_region start pages) heap
 last_shown n m start pages heap notes next is =
     let one = now_shown n start pages notes.now heap (subst (λ (k : ℕ). AreBegun k notes.now) next is.begun) is.same in
     let none = none_shown n start pages notes.gone (subst (λ (k : ℕ). AreOver k notes.gone) next is.over) in
@@ -264,7 +267,7 @@ last_shown n m start pages heap notes next is =
 shown_then : (s : State) (notes : Notes) (calls : List Call) (answers : List Answer) (k start pages : ℕ) →
     IsAllowedRun s (map Some calls) (map Some answers) → IsKept (length notes.moments) s.heap notes.regions →
     k < length calls →
-    all_shown (length notes.moments + k) start pages (notes_from notes calls answers).regions ≡ shown
+    all_shown (length notes.moments + k) start pages (notes_from notes calls answers).regions ≡ count_shown
     (is_region start pages) (state_after s calls answers (suc k)).heap
 shown_then s notes [] [] k start pages run is less = absurd (omega (arith, less))
 shown_then s notes (call ∷ calls) (answer ∷ answers) zero start pages run is less =
@@ -285,13 +288,13 @@ shown_then s notes (call ∷ calls) [] k start pages run is less = absurd run
 
 -- at the end of the run each that goes on ends
 ended_shown : (calls k start pages : ℕ) (now : List Held) → k < calls →
-    shown (shows_part k start pages) (map (ended calls) now) ≡ shown (shows_now k start pages) now
+    count_shown (shows_part k start pages) (map (ended calls) now) ≡ count_shown (shows_now k start pages) now
 ended_shown calls k start pages [] less = refl
 ended_shown calls k start pages (held ∷ now) less = (λ i. bit (nat_le held.born k &&
-    (less_true k calls less i && is_part start pages held)) + ended_shown calls k start pages now less i)
+    (less_true k calls less i && is_heap_part start pages held)) + ended_shown calls k start pages now less i)
 
 end_shown : (calls k start pages : ℕ) (notes : RegionNotes) → k < calls →
-    shown (shows_part k start pages) (regions_at_end calls notes) ≡ all_shown k start pages notes
+    count_shown (shows_part k start pages) (regions_at_end calls notes) ≡ all_shown k start pages notes
 end_shown calls k start pages notes less =
     let both = shown_both (shows_part k start pages) notes.gone (map (ended calls) notes.now) in
     let now = ended_shown calls k start pages notes.now less in

@@ -6,7 +6,7 @@ use Rattle.std.proofs.lemmas.List.{map-append, append-nil}
 use Rattle.heap_model.specs.declared.answer.Answer.{Answer}
 use Rattle.heap_model.specs.declared.call.Call.{Call}
 use Rattle.heap_lines.specs.CallLine.{call_line}
-use Rattle.heap_recorder.specs.Lines.{lines_after, lines_of}
+use Rattle.heap_recorder.specs.Lines.{lines_after, kept_call_lines}
 use Rattle.heap_recorder.specs.Run.{Notes, nothing, noted, notes_from, moment, bytes_after, LinesAreTheCalls}
 use Rattle.heap_recorder.specs.Sizes.{sizes_after}
 
@@ -14,10 +14,10 @@ more_calls : (calls : List Call) (call : Call) → length (calls ++ call ∷ [])
 more_calls calls call = let more = length-append calls (call ∷ []) in omega (arith, more)
 
 -- of one more call
-line_more : (calls : List Call) (call : Call) → lines_after (length calls) call (lines_of calls) ≡ lines_of (calls ++ call ∷ [])
+line_more : (calls : List Call) (call : Call) → lines_after (length calls) call (kept_call_lines calls) ≡ kept_call_lines (calls ++ call ∷ [])
 line_more calls call = go (nat_lt (length calls) 64) refl
   where
-    go : (b : Bool) → nat_lt (length calls) 64 ≡ b → (if b then lines_of calls ++ call_line call ∷ [] else []) ≡ lines_of (calls ++ call ∷ [])
+    go : (b : Bool) → nat_lt (length calls) 64 ≡ b → (if b then kept_call_lines calls ++ call_line call ∷ [] else []) ≡ kept_call_lines (calls ++ call ∷ [])
     go true is =
         let now : nat_le (length calls) 64 ≡ true = grind (arith, nat_tests, is) in
         let later : nat_le (length (calls ++ call ∷ [])) 64 ≡ true = (let more = more_calls calls call in grind (arith, nat_tests, is, more)) in
@@ -35,17 +35,17 @@ moments_more notes call answer = let more = length-append notes.moments
 
 -- and of all that come
 lines_from : (earlier : List Call) (notes : Notes) (calls : List Call) (answers : List Answer) →
-    length calls ≡ length answers → length earlier ≡ length notes.moments → notes.lines ≡ lines_of earlier →
-    (notes_from notes calls answers).lines ≡ lines_of (earlier ++ calls)
-lines_from earlier notes [] answers same count are = are ∙ sym (ap lines_of (append-nil earlier))
+    length calls ≡ length answers → length earlier ≡ length notes.moments → notes.lines ≡ kept_call_lines earlier →
+    (notes_from notes calls answers).lines ≡ kept_call_lines (earlier ++ calls)
+lines_from earlier notes [] answers same count are = are ∙ sym (ap kept_call_lines (append-nil earlier))
 lines_from earlier notes (call ∷ calls) [] same count are = absurd (omega (arith, same))
 lines_from earlier notes (call ∷ calls) (answer ∷ answers) same count are =
-    let now : (noted notes call answer).lines ≡ lines_of (earlier ++ call ∷ []) =
+    let now : (noted notes call answer).lines ≡ kept_call_lines (earlier ++ call ∷ []) =
     ap (λ (n : ℕ). lines_after n call notes.lines) (sym count) ∙ ap (lines_after (length earlier) call) are ∙ line_more earlier call in
     let counts : length (earlier ++ call ∷ []) ≡ length (noted notes call answer).moments =
     (let one = more_calls earlier call in let other = moments_more notes call answer in omega (arith, one, other, count)) in
     lines_from (earlier ++ call ∷ []) (noted notes call answer) calls answers (omega (arith, same)) counts now
-    ∙ ap lines_of (append_assoc earlier (call ∷ []) calls)
+    ∙ ap kept_call_lines (append_assoc earlier (call ∷ []) calls)
 
 pub lines_are_calls : LinesAreTheCalls
 lines_are_calls calls answers same = lines_from [] nothing calls answers same refl refl

@@ -9,8 +9,8 @@ use Rattle.heap_model.specs.declared.answer.Reply.{Reply}
 use Rattle.heap_model.specs.declared.answer.Reply.TheVariants.{Block as Placed, Done, Released}
 use Rattle.heap_model.specs.declared.call.Call.{Call}
 use Rattle.heap_model.specs.declared.call.Call.TheVariants.{Malloc, Calloc, Realloc, CRealloc, Free, Reset}
-use Rattle.heap_recorder.specs.Shown.{is_spot, shown, shows}
-use Rattle.heap_recorder.specs.Stays.{StayNotes, is_live, goes_on, is_of, is_at, why, new_stay, ended, ended_of, ended_now, resized_from, stays_after, closed}
+use Rattle.heap_recorder.specs.Shown.{is_spot, count_shown, shows_stay}
+use Rattle.heap_recorder.specs.Stays.{StayNotes, is_live, has_not_ended, is_stay_of, is_stay_at, why, new_stay, ended, ended_of, ended_now, resized_from, stays_after, closed_stay}
 use Rattle.heap_recorder.proofs.Tracked.{alive, bit, left_true, why_over}
 
 pub less_true : (m n : ℕ) → m < n → nat_lt m n ≡ true
@@ -27,16 +27,16 @@ least_false m n less = grind (arith, nat_tests, less)
 
 -- whether a stay shows after a call, if it ends later or not at all
 abbrev pub showing : ℕ → ℕ → ℕ → ℕ → Stay → Bool
-showing call number address size stay = nat_le stay.born call && ((goes_on stay || nat_lt call stay.end) && is_spot number address size stay)
+showing call number address size stay = nat_le stay.born call && ((has_not_ended stay || nat_lt call stay.end) && is_spot number address size stay)
 
 -- a stay after a call: the same, or one that went on and ends with it
 abbrev pub Turned : ℕ → Stay → Stay → Type 0
-Turned call old new = (new ≡ old) ⊎ ((ending : Ending) × (goes_on old ≡ true) × (is_live ending ≡ false) × (new ≡ ended call ending old))
+Turned call old new = (new ≡ old) ⊎ ((ending : Ending) × (has_not_ended old ≡ true) × (is_live ending ≡ false) × (new ≡ ended call ending old))
 
 -- a stay that began with it
 pub record IsNew (call : ℕ) (stay : Stay) : Type 0 where
   pub born : stay.born ≡ call
-  pub on : goes_on stay ≡ true
+  pub on : has_not_ended stay ≡ true
 
 abbrev pub AreNew : ℕ → List Stay → Type 0
 AreNew call [] = ⊤
@@ -67,16 +67,16 @@ later_none call [] = tt
 later_none call (x ∷ xs) = (inl refl, later_none call xs)
 
 turned_of : (call number : ℕ) (ending : Ending) → is_live ending ≡ false → (stay : Stay) → Turned call stay (ended_of number call ending stay)
-turned_of call number ending over stay = go (is_of number stay) refl
+turned_of call number ending over stay = go (is_stay_of number stay) refl
   where
-    go : (b : Bool) → is_of number stay ≡ b → Turned call stay (if b then ended call ending stay else stay)
-    go true is = inr (ending, left_true (goes_on stay) (nat_eq stay.block number) is, over, refl)
+    go : (b : Bool) → is_stay_of number stay ≡ b → Turned call stay (if b then ended call ending stay else stay)
+    go true is = inr (ending, left_true (has_not_ended stay) (nat_eq stay.block number) is, over, refl)
     go false is = inl refl
 
 turned_now : (call : ℕ) (stay : Stay) → Turned call stay (ended_now call stay)
-turned_now call stay = go (goes_on stay) refl
+turned_now call stay = go (has_not_ended stay) refl
   where
-    go : (b : Bool) → goes_on stay ≡ b → Turned call stay (if b then ended call AllEnded stay else stay)
+    go : (b : Bool) → has_not_ended stay ≡ b → Turned call stay (if b then ended call AllEnded stay else stay)
     go true is = inr (AllEnded, is, refl, refl)
     go false is = inl refl
 
@@ -86,7 +86,7 @@ new_one call number address size = (record { born = refl; on = refl }, tt)
 later_resized : (call number address size : ℕ) (notes : StayNotes) (found : Option Stay) →
     Later call notes.stays (resized_from call number address size found notes).stays
 later_resized call number address size notes None = later_none call notes.stays
-later_resized call number address size notes (Some stay) = go (is_at address size stay)
+later_resized call number address size notes (Some stay) = go (is_stay_at address size stay)
   where
     go : (b : Bool) → Later call notes.stays (if b then notes else record {
       begun = notes.begun;
@@ -103,8 +103,8 @@ later call (Malloc size align) (Placed number address) notes = later_same call n
     (new_stay call notes.begun address size ∷ []) (new_one call notes.begun address size)
 later call (Calloc size align) (Placed number address) notes = later_same call notes.stays
     (new_stay call notes.begun address size ∷ []) (new_one call notes.begun address size)
-later call (Realloc number size) (Placed given address) notes = later_resized call number address size notes (find (is_of number) notes.stays)
-later call (CRealloc number size) (Placed given address) notes = later_resized call number address size notes (find (is_of number) notes.stays)
+later call (Realloc number size) (Placed given address) notes = later_resized call number address size notes (find (is_stay_of number) notes.stays)
+later call (CRealloc number size) (Placed given address) notes = later_resized call number address size notes (find (is_stay_of number) notes.stays)
 later call (Free number) Done notes = later_map_none call (ended_of number call Freed) (turned_of call number Freed refl) notes.stays
 later call Reset (Released bytes) notes = later_map_none call (ended_now call) (turned_now call) notes.stays
 later call made reply notes = later_none call notes.stays
@@ -112,7 +112,7 @@ later call made reply notes = later_none call notes.stays
 -- a stay of so many calls: it began before, and ended before if it ended
 pub record IsPast (calls : ℕ) (stay : Stay) : Type 0 where
   pub born : stay.born < calls
-  pub end : goes_on stay ≡ false → stay.end < calls
+  pub end : has_not_ended stay ≡ false → stay.end < calls
 
 abbrev pub ArePast : ℕ → List Stay → Type 0
 ArePast calls [] = ⊤
@@ -153,15 +153,15 @@ showing_turned call k number address size old new less (inr ends) =
     ∙ (λ i. nat_le old.born k && (less_true k call less i && is_spot number address size old))
     ∙ sym (λ i. nat_le old.born k && ((ends.1 i || nat_lt k old.end) && is_spot number address size old))
 
-showing_new : (call k number address size : ℕ) (new : List Stay) → k < call → AreNew call new → shown (showing k number address size) new ≡ 0
+showing_new : (call k number address size : ℕ) (new : List Stay) → k < call → AreNew call new → count_shown (showing k number address size) new ≡ 0
 showing_new call k number address size [] less are = refl
 showing_new call k number address size (x ∷ xs) less are =
     let not_yet : nat_le x.born k ≡ false = least_false x.born k (let is = are.0.born in omega (arith, is, less)) in
-    (λ i. bit (not_yet i && ((goes_on x || nat_lt k x.end) && is_spot number address size x)) + showing_new call k number address size xs less are.1 i)
+    (λ i. bit (not_yet i && ((has_not_ended x || nat_lt k x.end) && is_spot number address size x)) + showing_new call k number address size xs less are.1 i)
 
 -- of a call before it shows what showed
 pub showing_later : (call k number address size : ℕ) (old new : List Stay) → k < call → Later call old new →
-    shown (showing k number address size) new ≡ shown (showing k number address size) old
+    count_shown (showing k number address size) new ≡ count_shown (showing k number address size) old
 showing_later call k number address size [] new less later = showing_new call k number address size new less later
 showing_later call k number address size (x ∷ xs) [] less later = absurd later
 showing_later call k number address size (x ∷ xs) (y ∷ ys) less later =
@@ -170,31 +170,34 @@ showing_later call k number address size (x ∷ xs) (y ∷ ys) less later =
 showing_one : (call number address size : ℕ) (stay : Stay) → IsPast (suc call) stay → showing call number address size stay ≡ alive number address size stay
 showing_one call number address size stay past =
     (λ i. least_true stay.born call (let less = past.born in omega (arith, less)) i &&
-    ((goes_on stay || nat_lt call stay.end) && is_spot number address size stay))
-    ∙ go (goes_on stay) refl
+    ((has_not_ended stay || nat_lt call stay.end) && is_spot number address size stay))
+    ∙ go (has_not_ended stay) refl
   where
-    go : (b : Bool) → goes_on stay ≡ b → ((b || nat_lt call stay.end) && is_spot number address size stay) ≡ (b && is_spot number address size stay)
+    go : (b : Bool) → has_not_ended stay ≡ b → ((b || nat_lt call stay.end) && is_spot number address size stay) ≡ (b && is_spot number address size stay)
     go true is = refl
     go false is = (λ i. less_false call stay.end (let less = past.end is in omega (arith, less)) i && is_spot number address size stay)
 
 -- of the last call those show that go on
 pub showing_last : (call number address size : ℕ) (stays : List Stay) → ArePast (suc call) stays →
-    shown (showing call number address size) stays ≡ shown (alive number address size) stays
+    count_shown (showing call number address size) stays ≡ count_shown (alive number address size) stays
 showing_last call number address size [] past = refl
 showing_last call number address size (x ∷ xs) past = (λ i. bit (showing_one call number address size x past.0
     i) + showing_last call number address size xs past.1 i)
 
-shows_one : (calls k number address size : ℕ) (stay : Stay) → k < calls → shows k number address size (closed calls stay) ≡ showing k number address size stay
-shows_one calls k number address size stay less = go (goes_on stay) refl
+shows_one : (calls k number address size : ℕ) (stay : Stay) → k < calls →
+    shows_stay k number address size (closed_stay calls stay) ≡ showing k number address size stay
+shows_one calls k number address size stay less = go (has_not_ended stay) refl
   where
-    go : (b : Bool) → goes_on stay ≡ b → shows k number address size (if b then ended calls Live stay else stay) ≡ (nat_le
+    go : (b : Bool) → has_not_ended stay ≡ b → shows_stay k number address size
+        (if b then ended calls Live stay else stay) ≡ (nat_le
         stay.born k && ((b || nat_lt k stay.end) && is_spot number address size stay))
     go true is = (λ i. nat_le stay.born k && (less_true k calls less i && is_spot number address size stay))
     go false is = refl
 
 -- at the end of the run too
 pub shows_all : (calls k number address size : ℕ) (stays : List Stay) → k < calls →
-    shown (shows k number address size) (map (closed calls) stays) ≡ shown (showing k number address size) stays
+    count_shown (shows_stay k number address size) (map (closed_stay calls) stays) ≡ count_shown
+    (showing k number address size) stays
 shows_all calls k number address size [] less = refl
 shows_all calls k number address size (x ∷ xs) less = (λ i. bit (shows_one calls k number address size x less i) + shows_all
     calls k number address size xs less i)

@@ -5,14 +5,14 @@ use Rattle.std.specs.Prelude.{if◌then◌else◌, ⊤}
 use Rattle.std.proofs.lemmas.Bool.Decides.{nat_tests}
 use Rattle.heap_history.specs.declared.history.Held.{Held}
 use Rattle.heap_model.specs.declared.region.Region.{Region}
-use Rattle.heap_recorder.specs.Regions.{is_same, new_held, ended, held_from, regions_from, going, now_after, stays_on, gone_after}
-use Rattle.heap_recorder.specs.Shown.{shown, is_part, shows_part}
+use Rattle.heap_recorder.specs.Regions.{has_same_pages, new_held, ended, held_from, regions_from, going, now_after, stays_on, gone_after}
+use Rattle.heap_recorder.specs.Shown.{count_shown, is_heap_part, shows_part}
 use Rattle.heap_recorder.proofs.Tracked.{bit, left_false}
 use Rattle.heap_recorder.proofs.Later.{less_true, less_false, least_false}
 
 -- whether a region that goes on shows after a call
 abbrev pub shows_now : ℕ → ℕ → ℕ → Held → Bool
-shows_now call start pages held = nat_le held.born call && is_part start pages held
+shows_now call start pages held = nat_le held.born call && is_heap_part start pages held
 
 -- the first of these begins after an address
 abbrev pub IsAfter : ℕ → List Region → Type 0
@@ -47,7 +47,7 @@ now_here n h now r list is =
     ap (λ (hs : List Held). going n r hs ∷ now_after n hs list) from
 
 gone_here : (n : ℕ) (h : Held) (now : List Held) (r : Region) (list : List Region) → nat_lt r.start h.start ≡ false →
-    gone_after n (h ∷ now) (r ∷ list) ≡ (if is_same h r then gone_after n now (r ∷ list) else ended n h ∷ gone_after n now (r ∷ list))
+    gone_after n (h ∷ now) (r ∷ list) ≡ (if has_same_pages h r then gone_after n now (r ∷ list) else ended n h ∷ gone_after n now (r ∷ list))
 gone_here n h now r list is =
     let from : regions_from h.start (r ∷ list) ≡ r ∷ list = ap (λ (b : Bool). if b then regions_from h.start list else r ∷ list) is in
     ap (λ (rs : List Region). if stays_on h rs then gone_after n now rs else ended n h ∷ gone_after n now rs) from
@@ -68,101 +68,106 @@ gone_past n (h ∷ now) r list less = gone_later n h now r list (less_true r.sta
 
 -- ---- what shows
 
-no_sameness : (h : Held) (r : Region) → nat_eq h.start r.start ≡ false → is_same h r ≡ false
+no_sameness : (h : Held) (r : Region) → nat_eq h.start r.start ≡ false → has_same_pages h r ≡ false
 no_sameness h r is = left_false (nat_eq h.start r.start) (nat_eq h.pages r.pages) is
 
 not_new : (n k start pages : ℕ) (r : Region) → k < n → shows_now k start pages (new_held n r) ≡ false
-not_new n k start pages r less = left_false (nat_le n k) (is_part start pages (new_held n r)) (least_false n k less)
+not_new n k start pages r less = left_false (nat_le n k) (is_heap_part start pages (new_held n r)) (least_false n k less)
 
 still : (n k start pages : ℕ) (h : Held) → k < n → shows_part k start pages (ended n h) ≡ shows_now k start pages h
-still n k start pages h less = (λ i. nat_le h.born k && (less_true k n less i && is_part start pages h))
+still n k start pages h less = (λ i. nat_le h.born k && (less_true k n less i && is_heap_part start pages h))
 
 -- of a region that begins, nothing shows of earlier calls
-new_shows : (n k start pages : ℕ) (h : Held) (now : List Held) (r : Region) → k < n → is_same h r ≡ false →
+new_shows : (n k start pages : ℕ) (h : Held) (now : List Held) (r : Region) → k < n → has_same_pages h r ≡ false →
     bit (shows_now k start pages (going n r (h ∷ now))) ≡ 0
 new_shows n k start pages h now r less is =
     ap (λ (b : Bool). bit (shows_now k start pages (if b then h else new_held n r))) is
     ∙ ap bit (not_new n k start pages r less)
 
-same_shows : (n k start pages : ℕ) (h : Held) (now : List Held) (r : Region) → is_same h r ≡ true →
+same_shows : (n k start pages : ℕ) (h : Held) (now : List Held) (r : Region) → has_same_pages h r ≡ true →
     bit (shows_now k start pages (going n r (h ∷ now))) ≡ bit (shows_now k start pages h)
 same_shows n k start pages h now r is = ap (λ (b : Bool). bit (shows_now k start pages (if b then h else new_held n r))) is
 
-all_new : (n k start pages : ℕ) (list : List Region) → k < n → shown (shows_now k start pages) (now_after n [] list) ≡ 0
+all_new : (n k start pages : ℕ) (list : List Region) → k < n → count_shown (shows_now k start pages)
+    (now_after n [] list) ≡ 0
 all_new n k start pages [] less = refl
 all_new n k start pages (r ∷ list) less = (λ i. bit (not_new n k start pages r less i) + all_new n k start pages list less i)
 
-all_gone : (n k start pages : ℕ) (now : List Held) → k < n → shown (shows_part k start pages) (gone_after n now []) ≡ shown (shows_now k start pages) now
+all_gone : (n k start pages : ℕ) (now : List Held) → k < n → count_shown (shows_part k start pages)
+    (gone_after n now []) ≡ count_shown (shows_now k start pages) now
 all_gone n k start pages [] less = refl
 all_gone n k start pages (h ∷ now) less = (λ i. bit (still n k start pages h less i) + all_gone n k start pages now less i)
 
 -- of an earlier call, those that go on and those that end show what showed
 abbrev pub ShowsAll : ℕ → ℕ → ℕ → ℕ → List Held → List Region → Type 0
-ShowsAll n k start pages now list = shown (shows_now k start pages) (now_after n now list) + shown
-    (shows_part k start pages) (gone_after n now list) ≡ shown (shows_now k start pages) now
+ShowsAll n k start pages now list = count_shown (shows_now k start pages) (now_after n now list) + count_shown
+    (shows_part k start pages) (gone_after n now list) ≡ count_shown (shows_now k start pages) now
 
 -- the first that the heap had begins before all that are listed: it ends
 before : (n k start pages : ℕ) (h : Held) (now : List Held) (r : Region) (list : List Region) → k < n → h.start < r.start →
     ShowsAll n k start pages now (r ∷ list) → ShowsAll n k start pages (h ∷ now) (r ∷ list)
 before n k start pages h now r list less first rest =
-    let other : is_same h r ≡ false = no_sameness h r (grind (arith, nat_tests, first)) in
-    let on = ap (shown (shows_now k start pages)) (now_later n h now r list (less_true h.start r.start first)) in
-    let off : shown (shows_part k start pages) (gone_after n (h ∷ now) (r ∷ list)) ≡ bit (shows_now k start pages h) + shown
+    let other : has_same_pages h r ≡ false = no_sameness h r (grind (arith, nat_tests, first)) in
+    let on = ap (count_shown (shows_now k start pages)) (now_later n h now r list (less_true h.start r.start first)) in
+    let off : count_shown (shows_part k start pages) (gone_after n (h ∷ now) (r ∷ list)) ≡ bit
+    (shows_now k start pages h) + count_shown
     (shows_part k start pages) (gone_after n now (r ∷ list)) =
-    ap (shown (shows_part k start pages)) (gone_here n h now r list (less_false r.start h.start (omega (arith, first)))
+    ap (count_shown (shows_part k start pages)) (gone_here n h now r list
+    (less_false r.start h.start (omega (arith, first)))
     ∙ ap (λ (b : Bool). if b then gone_after n now (r ∷ list) else ended n h ∷ gone_after n now (r ∷ list)) other)
-    ∙ ap (λ (b : Bool). bit b + shown (shows_part k start pages) (gone_after n now (r ∷ list))) (still n k start pages h less) in
+    ∙ ap (λ (b : Bool). bit b + count_shown (shows_part k start pages) (gone_after n now (r ∷ list))) (still n k start pages h less) in
     omega (arith, on, off, rest)
 
 -- the first that is listed begins before all that the heap had: it is new
 behind : (n k start pages : ℕ) (h : Held) (now : List Held) (r : Region) (list : List Region) → k < n → r.start < h.start →
     ShowsAll n k start pages (h ∷ now) list → ShowsAll n k start pages (h ∷ now) (r ∷ list)
 behind n k start pages h now r list less first rest =
-    let other : is_same h r ≡ false = no_sameness h r (grind (arith, nat_tests, first)) in
-    let on : shown (shows_now k start pages) (now_after n (h ∷ now) (r ∷ list)) ≡ bit
-    (shows_now k start pages (going n r (h ∷ now))) + shown (shows_now k start pages) (now_after n (h ∷ now) list) =
-    ap (shown (shows_now k start pages)) (now_here n h now r list (less_false h.start r.start (omega (arith, first)))) in
+    let other : has_same_pages h r ≡ false = no_sameness h r (grind (arith, nat_tests, first)) in
+    let on : count_shown (shows_now k start pages) (now_after n (h ∷ now) (r ∷ list)) ≡ bit
+    (shows_now k start pages (going n r (h ∷ now))) + count_shown (shows_now k start pages) (now_after n (h ∷ now) list) =
+    ap (count_shown (shows_now k start pages)) (now_here n h now r list (less_false h.start r.start (omega (arith, first)))) in
     let none = new_shows n k start pages h now r less other in
-    let off = ap (shown (shows_part k start pages)) (gone_later n h now r list (less_true r.start h.start first)) in
+    let off = ap (count_shown (shows_part k start pages)) (gone_later n h now r list (less_true r.start h.start first)) in
     omega (arith, on, none, off, rest)
 
 -- both begin at one address: what goes on
 on_there : (n k start pages : ℕ) (h : Held) (now : List Held) (r : Region) (list : List Region) → h.start ≡ r.start → IsAfter r.start list →
-    shown (shows_now k start pages) (now_after n (h ∷ now) (r ∷ list)) ≡ bit
-    (shows_now k start pages (going n r (h ∷ now))) + shown (shows_now k start pages) (now_after n now list)
+    count_shown (shows_now k start pages) (now_after n (h ∷ now) (r ∷ list)) ≡ bit
+    (shows_now k start pages (going n r (h ∷ now))) + count_shown (shows_now k start pages) (now_after n now list)
 on_there n k start pages h now r list at above =
     let past = now_past n h now list (subst (λ (s : ℕ). IsAfter s list) (sym at) above) in
-    ap (shown (shows_now k start pages)) (now_here n h now r list (less_false h.start r.start (omega (arith, at)))
+    ap (count_shown (shows_now k start pages)) (now_here n h now r list (less_false h.start r.start (omega (arith, at)))
     ∙ ap (λ (hs : List Held). going n r (h ∷ now) ∷ hs) past)
 
 -- and what ends
 off_there : (n : ℕ) (h : Held) (now : List Held) (r : Region) (list : List Region) → h.start ≡ r.start → IsHeldAfter h.start now →
-    gone_after n (h ∷ now) (r ∷ list) ≡ (if is_same h r then gone_after n now list else ended n h ∷ gone_after n now list)
+    gone_after n (h ∷ now) (r ∷ list) ≡ (if has_same_pages h r then gone_after n now list else ended n h ∷ gone_after n now
+    list)
 off_there n h now r list at above =
     let over = gone_past n now r list (subst (λ (s : ℕ). IsHeldAfter s now) at above) in
-    gone_here n h now r list (less_false r.start h.start (omega (arith, at))) ∙ ap (λ (hs : List Held). if is_same h r then hs else ended n h ∷ hs) over
+    gone_here n h now r list (less_false r.start h.start (omega (arith, at))) ∙ ap (λ (hs : List Held). if has_same_pages h r then hs else ended n h ∷ hs) over
 
 -- it goes on if it is the same, and else ends, and another one begins
 beside : (n k start pages : ℕ) (h : Held) (now : List Held) (r : Region) (list : List Region) → k < n → h.start ≡ r.start →
     IsHeldAfter h.start now → IsAfter r.start list →
     ShowsAll n k start pages now list → ShowsAll n k start pages (h ∷ now) (r ∷ list)
-beside n k start pages h now r list less at held_above above rest = go (is_same h r) refl
+beside n k start pages h now r list less at held_above above rest = go (has_same_pages h r) refl
   where
-    go : (b : Bool) → is_same h r ≡ b → ShowsAll n k start pages (h ∷ now) (r ∷ list)
+    go : (b : Bool) → has_same_pages h r ≡ b → ShowsAll n k start pages (h ∷ now) (r ∷ list)
     go true is =
         let on = on_there n k start pages h now r list at above in
         let same = same_shows n k start pages h now r is in
-        let off = ap (shown (shows_part k start pages)) (off_there n h now r list at held_above
+        let off = ap (count_shown (shows_part k start pages)) (off_there n h now r list at held_above
         ∙ ap (λ (b : Bool). if b then gone_after n now list else ended n h ∷ gone_after n now list) is) in
         omega (arith, on, same, off, rest)
     go false is =
         let on = on_there n k start pages h now r list at above in
         let none = new_shows n k start pages h now r less is in
-        let off : shown (shows_part k start pages) (gone_after n (h ∷ now) (r ∷ list)) ≡ bit
-        (shows_now k start pages h) + shown (shows_part k start pages) (gone_after n now list) =
-        ap (shown (shows_part k start pages)) (off_there n h now r list at held_above
+        let off : count_shown (shows_part k start pages) (gone_after n (h ∷ now) (r ∷ list)) ≡ bit
+        (shows_now k start pages h) + count_shown (shows_part k start pages) (gone_after n now list) =
+        ap (count_shown (shows_part k start pages)) (off_there n h now r list at held_above
         ∙ ap (λ (b : Bool). if b then gone_after n now list else ended n h ∷ gone_after n now list) is)
-        ∙ ap (λ (b : Bool). bit b + shown (shows_part k start pages) (gone_after n now list)) (still n k start pages h less) in
+        ∙ ap (λ (b : Bool). bit b + count_shown (shows_part k start pages) (gone_after n now list)) (still n k start pages h less) in
         omega (arith, on, none, off, rest)
 
 pub shows_all : (n k start pages : ℕ) (now : List Held) (list : List Region) → k < n → AreHeldRising now → AreRising list → ShowsAll n k start pages now list

@@ -14,8 +14,8 @@ use Rattle.heap_model.specs.declared.region.Region.{Region}
 use Rattle.heap_model.specs.State.{State, Block, Cell, Fresh, Known, block_at}
 use Rattle.heap_model.specs.Refusal.{own_align, least_align}
 use Rattle.heap_model.specs.Answer.{IsReply, IsAllowed, NewPages, after, all_ended, changed, known_block, new_block, new_pages, resized_block, seen_block, slots_of, with_block, with_regions}
-use Rattle.heap_recorder.specs.Shown.{is_spot, shown, lies}
-use Rattle.heap_recorder.specs.Stays.{StayNotes, is_live, goes_on, is_of, is_at, why, new_stay, ended, ended_of, ended_now, begun, freed, resized, resized_from, stays_after}
+use Rattle.heap_recorder.specs.Shown.{is_spot, count_shown, lies}
+use Rattle.heap_recorder.specs.Stays.{StayNotes, is_live, has_not_ended, is_stay_of, is_stay_at, why, new_stay, ended, ended_of, ended_now, begun, with_block_freed, resized, resized_from, stays_after}
 use Rattle.heap_recorder.proofs.Places.{some_is, none_some, not_true, not_both}
 
 abbrev pub bit : Bool → ℕ
@@ -27,7 +27,7 @@ has blocks number address size = lies address size (block_at blocks number)
 
 -- whether a stay goes on, and is at the address with the size
 abbrev pub alive : ℕ → ℕ → ℕ → Stay → Bool
-alive number address size stay = goes_on stay && is_spot number address size stay
+alive number address size stay = has_not_ended stay && is_spot number address size stay
 
 pub same_number : (m n : ℕ) → nat_eq m n ≡ true → m ≡ n
 same_number m n same = grind (arith, nat_tests, same)
@@ -142,99 +142,101 @@ length_all f (x ∷ xs) = ap suc (length_all f xs)
 
 -- ---- counts
 
-pub shown_push : (test : Stay → Bool) (stays : List Stay) (stay : Stay) → shown test (stays ++ stay ∷ []) ≡ shown test stays + bit (test stay)
+pub shown_push : (test : Stay → Bool) (stays : List Stay) (stay : Stay) → count_shown test (stays ++ stay ∷ []) ≡ count_shown test stays + bit (test stay)
 shown_push test [] stay = omega arith
 shown_push test (x ∷ xs) stay = let rest = shown_push test xs stay in omega (arith, rest)
 
 shown_map : (test : Stay → Bool) (change : Stay → Stay) → ((stay : Stay) → test (change stay) ≡ test stay) →
-    (stays : List Stay) → shown test (map change stays) ≡ shown test stays
+    (stays : List Stay) → count_shown test (map change stays) ≡ count_shown test stays
 shown_map test change same [] = refl
 shown_map test change same (x ∷ xs) = (λ i. bit (same x i) + shown_map test change same xs i)
 
 shown_none : (test : Stay → Bool) (change : Stay → Stay) → ((stay : Stay) → test (change stay) ≡ false) →
-    (stays : List Stay) → shown test (map change stays) ≡ 0
+    (stays : List Stay) → count_shown test (map change stays) ≡ 0
 shown_none test change none [] = refl
 shown_none test change none (x ∷ xs) = (λ i. bit (none x i) + shown_none test change none xs i)
 
 -- ---- one block's stay ends
 
-alive_of : (number address size : ℕ) (stay : Stay) → is_of number stay ≡ false → alive number address size stay ≡ false
-alive_of number address size stay fails = go (goes_on stay) refl
+alive_of : (number address size : ℕ) (stay : Stay) → is_stay_of number stay ≡ false → alive number address size stay ≡ false
+alive_of number address size stay fails = go (has_not_ended stay) refl
   where
-    go : (b : Bool) → goes_on stay ≡ b → (b && is_spot number address size stay) ≡ false
+    go : (b : Bool) → has_not_ended stay ≡ b → (b && is_spot number address size stay) ≡ false
     go true is = left_false (nat_eq stay.block number) (nat_eq stay.address address && nat_eq stay.size size)
         (ap (λ (v : Bool). v && nat_eq stay.block number) (sym is) ∙ fails)
     go false is = refl
 
 alive_ended : (call m : ℕ) (ending : Ending) (number address size : ℕ) → is_live ending ≡ false → m ≡ number →
     (stay : Stay) → alive number address size (ended_of m call ending stay) ≡ false
-alive_ended call m ending number address size over same stay = go (is_of m stay) refl
+alive_ended call m ending number address size over same stay = go (is_stay_of m stay) refl
   where
-    go : (b : Bool) → is_of m stay ≡ b → alive number address size (if b then ended call ending stay else stay) ≡ false
+    go : (b : Bool) → is_stay_of m stay ≡ b → alive number address size (if b then ended call ending stay else stay) ≡ false
     go true is = left_false (is_live ending) (is_spot number address size stay) over
-    go false is = alive_of number address size stay (ap (λ (n : ℕ). is_of n stay) (sym same) ∙ is)
+    go false is = alive_of number address size stay (ap (λ (n : ℕ). is_stay_of n stay) (sym same) ∙ is)
 
 alive_other : (call m : ℕ) (ending : Ending) (number address size : ℕ) → is_live ending ≡ false → nat_eq m number ≡ false →
     (stay : Stay) → alive number address size (ended_of m call ending stay) ≡ alive number address size stay
-alive_other call m ending number address size over other stay = go (is_of m stay) refl
+alive_other call m ending number address size over other stay = go (is_stay_of m stay) refl
   where
-    go : (b : Bool) → is_of m stay ≡ b → alive number address size (if b then ended call ending stay else stay) ≡ alive number address size stay
+    go : (b : Bool) → is_stay_of m stay ≡ b → alive number address size (if b then ended call ending stay else stay) ≡ alive number address size stay
     go true is =
-        (let block : stay.block ≡ m = same_number stay.block m (right_true (goes_on stay) (nat_eq stay.block m) is) in
+        (let block : stay.block ≡ m = same_number stay.block m (right_true (has_not_ended stay) (nat_eq stay.block m) is) in
         left_false (is_live ending) (is_spot number address size stay) over
-        ∙ sym (right_false (goes_on stay) (is_spot number address size stay)
+        ∙ sym (right_false (has_not_ended stay) (is_spot number address size stay)
         (left_false (nat_eq stay.block number) (nat_eq stay.address address && nat_eq stay.size size)
         (ap (λ (n : ℕ). nat_eq n number) block ∙ other))))
     go false is = refl
 
 alive_reset : (call number address size : ℕ) (stay : Stay) → alive number address size (ended_now call stay) ≡ false
-alive_reset call number address size stay = go (goes_on stay) refl
+alive_reset call number address size stay = go (has_not_ended stay) refl
   where
-    go : (b : Bool) → goes_on stay ≡ b → alive number address size (if b then ended call AllEnded stay else stay) ≡ false
+    go : (b : Bool) → has_not_ended stay ≡ b → alive number address size
+        (if b then ended call AllEnded stay else stay) ≡ false
     go true is = refl
-    go false is = left_false (goes_on stay) (is_spot number address size stay) is
+    go false is = left_false (has_not_ended stay) (is_spot number address size stay) is
 
 -- ---- the block's stay is found
 
-alive_self : (number : ℕ) (stay : Stay) → is_of number stay ≡ true → alive number stay.address stay.size stay ≡ true
+alive_self : (number : ℕ) (stay : Stay) → is_stay_of number stay ≡ true → alive number stay.address stay.size stay ≡ true
 alive_self number stay is =
-    both_true (goes_on stay) (is_spot number stay.address stay.size stay) (left_true (goes_on stay) (nat_eq stay.block number) is)
+    both_true (has_not_ended stay) (is_spot number stay.address stay.size stay) (left_true (has_not_ended stay) (nat_eq stay.block number) is)
     (both_true (nat_eq stay.block number) (nat_eq stay.address stay.address && nat_eq stay.size stay.size)
-    (right_true (goes_on stay) (nat_eq stay.block number) is)
+    (right_true (has_not_ended stay) (nat_eq stay.block number) is)
     (both_true (nat_eq stay.address stay.address) (nat_eq stay.size stay.size) (equal stay.address) (equal stay.size)))
 
 -- what is found is the block's, and counts
 record IsFound (number : ℕ) (stays : List Stay) (found : Stay) : Type 0 where
-  of : is_of number found ≡ true
-  counts : 1 ≤ shown (alive number found.address found.size) stays
+  of : is_stay_of number found ≡ true
+  counts : 1 ≤ count_shown (alive number found.address found.size) stays
 
-found_step : (number : ℕ) (x : Stay) (xs : List Stay) (found : Stay) → find (is_of number) (x ∷ xs) ≡ Some found →
-    (find (is_of number) xs ≡ Some found → IsFound number xs found) → IsFound number (x ∷ xs) found
-found_step number x xs found is rest = go (is_of number x) refl is
+found_step : (number : ℕ) (x : Stay) (xs : List Stay) (found : Stay) → find (is_stay_of number) (x ∷ xs) ≡ Some found →
+    (find (is_stay_of number) xs ≡ Some found → IsFound number xs found) → IsFound number (x ∷ xs) found
+found_step number x xs found is rest = go (is_stay_of number x) refl is
   where
-    go : (b : Bool) → is_of number x ≡ b → cond {A = Option Stay} b (Some x) (find (is_of number) xs) ≡ Some found → IsFound number (x ∷ xs) found
+    go : (b : Bool) → is_stay_of number x ≡ b → cond {A = Option Stay} b (Some x) (find (is_stay_of number) xs) ≡ Some found → IsFound number (x ∷ xs) found
     go true of here =
         (let same : x ≡ found = some_is x found here in
-        let is_found : is_of number found ≡ true = ap (is_of number) (sym same) ∙ of in
+        let is_found : is_stay_of number found ≡ true = ap (is_stay_of number) (sym same) ∙ of in
         let one : bit (alive number found.address found.size x) ≡ 1 = ap bit
         (ap (alive number found.address found.size) same ∙ alive_self number found is_found) in
         record { of = is_found; counts = omega (arith, one) })
     go false of later = (let more = rest later in let least = more.counts in record { of = more.of; counts = omega (arith, least) })
 
-found_counts : (number : ℕ) (stays : List Stay) (found : Stay) → find (is_of number) stays ≡ Some found → IsFound number stays found
+found_counts : (number : ℕ) (stays : List Stay) (found : Stay) → find (is_stay_of number) stays ≡ Some found → IsFound number stays found
 found_counts number [] found is = absurd (none_some found is)
 found_counts number (x ∷ xs) found is = found_step number x xs found is (found_counts number xs found)
 
-none_step : (number address size : ℕ) (x : Stay) (xs : List Stay) → find (is_of number) (x ∷ xs) ≡ None →
-    (find (is_of number) xs ≡ None → shown (alive number address size) xs ≡ 0) →
-    shown (alive number address size) (x ∷ xs) ≡ 0
-none_step number address size x xs is rest = go (is_of number x) refl is
+none_step : (number address size : ℕ) (x : Stay) (xs : List Stay) → find (is_stay_of number) (x ∷ xs) ≡ None →
+    (find (is_stay_of number) xs ≡ None → count_shown (alive number address size) xs ≡ 0) →
+    count_shown (alive number address size) (x ∷ xs) ≡ 0
+none_step number address size x xs is rest = go (is_stay_of number x) refl is
   where
-    go : (b : Bool) → is_of number x ≡ b → cond {A = Option Stay} b (Some x) (find (is_of number) xs) ≡ None → shown (alive number address size) (x ∷ xs) ≡ 0
+    go : (b : Bool) → is_stay_of number x ≡ b → cond {A = Option Stay} b (Some x) (find (is_stay_of number) xs) ≡ None →
+        count_shown (alive number address size) (x ∷ xs) ≡ 0
     go true of here = absurd (none_some x (sym here))
     go false of later = (λ i. bit (alive_of number address size x of i) + rest later i)
 
-none_counts : (number address size : ℕ) (stays : List Stay) → find (is_of number) stays ≡ None → shown (alive number address size) stays ≡ 0
+none_counts : (number address size : ℕ) (stays : List Stay) → find (is_stay_of number) stays ≡ None → count_shown (alive number address size) stays ≡ 0
 none_counts number address size [] is = refl
 none_counts number address size (x ∷ xs) is = none_step number address size x xs is (none_counts number address size xs)
 
@@ -242,11 +244,11 @@ none_counts number address size (x ∷ xs) is = none_step number address size x 
 
 -- the stays that go on are the live blocks, and as many blocks began
 pub record Tracks (blocks : List (Option Block)) (notes : StayNotes) : Type 0 where
-  pub counts : (number address size : ℕ) → shown (alive number address size) notes.stays ≡ bit (has blocks number address size)
+  pub counts : (number address size : ℕ) → count_shown (alive number address size) notes.stays ≡ bit (has blocks number address size)
   pub begun : notes.begun ≡ length blocks
 
 begun_counts : (call address size align : ℕ) (cell : Cell) (blocks : List (Option Block)) (notes : StayNotes) → Tracks blocks notes → (number a n : ℕ) →
-    shown (alive number a n) (notes.stays ++ new_stay call notes.begun address size ∷ []) ≡ bit
+    count_shown (alive number a n) (notes.stays ++ new_stay call notes.begun address size ∷ []) ≡ bit
     (has (blocks ++ new_block address size align cell ∷ []) number a n)
 begun_counts call address size align cell blocks notes tracks number a n =
     shown_push (alive number a n) notes.stays (new_stay call notes.begun address size) ∙ go (nat_eq notes.begun number) refl
@@ -257,12 +259,12 @@ begun_counts call address size align cell blocks notes tracks number a n =
     put : Option Block
     put = new_block address size align cell
 
-    go : (v : Bool) → nat_eq notes.begun number ≡ v → shown (alive number a n) notes.stays + bit
+    go : (v : Bool) → nat_eq notes.begun number ≡ v → count_shown (alive number a n) notes.stays + bit
         (nat_eq notes.begun number && here) ≡ bit (has (blocks ++ put ∷ []) number a n)
     go true is =
         (let same : notes.begun ≡ number = same_number notes.begun number is in
         let last : number ≡ length blocks = sym same ∙ tracks.begun in
-        let none : shown (alive number a n) notes.stays ≡ 0 = tracks.counts number a n
+        let none : count_shown (alive number a n) notes.stays ≡ 0 = tracks.counts number a n
         ∙ ap (λ (o : Option Block). bit (lies a n o)) (at_end blocks number (omega (arith, last))) in
         let found : nat_eq number (length blocks) ≡ true = ap (λ (k : ℕ). nat_eq number k) (sym last) ∙ equal number in
         (λ i. none i + bit (is i && here))
@@ -282,10 +284,12 @@ tracked_begun call address size align cell blocks notes tracks = record {
 }
 
 freed_counts : (call m : ℕ) (blocks : List (Option Block)) (notes : StayNotes) → Tracks blocks notes → (number a n : ℕ) →
-    shown (alive number a n) (map (ended_of m call Freed) notes.stays) ≡ bit (has (slice_set blocks m None) number a n)
+    count_shown (alive number a n) (map (ended_of m call Freed) notes.stays) ≡ bit
+    (has (slice_set blocks m None) number a n)
 freed_counts call m blocks notes tracks number a n = go (nat_eq m number) refl
   where
-    go : (v : Bool) → nat_eq m number ≡ v → shown (alive number a n) (map (ended_of m call Freed) notes.stays) ≡ bit (has (slice_set blocks m None) number a n)
+    go : (v : Bool) → nat_eq m number ≡ v → count_shown (alive number a n) (map (ended_of m call Freed) notes.stays) ≡ bit
+        (has (slice_set blocks m None) number a n)
     go true is =
         shown_none (alive number a n) (ended_of m call Freed) (alive_ended call m Freed number a n refl (same_number m number is)) notes.stays
         ∙ sym (ap (λ (o : Option Block). bit (lies a n o)) (at_set blocks m None number (λ none. refl)
@@ -296,7 +300,8 @@ freed_counts call m blocks notes tracks number a n = go (nat_eq m number) refl
         ∙ sym (ap (λ (o : Option Block). bit (lies a n o)) (at_set blocks m None number (λ none. refl)
         ∙ ap (λ (v : Bool). if v then None else block_at blocks number) (turned m number false is)))
 
-tracked_freed : (call m : ℕ) (blocks : List (Option Block)) (notes : StayNotes) → Tracks blocks notes → Tracks (slice_set blocks m None) (freed call m notes)
+tracked_freed : (call m : ℕ) (blocks : List (Option Block)) (notes : StayNotes) → Tracks blocks notes →
+    Tracks (slice_set blocks m None) (with_block_freed call m notes)
 tracked_freed call m blocks notes tracks = record { counts = freed_counts call m blocks notes tracks; begun = tracks.begun ∙ sym (length_set blocks m None) }
 
 -- what is at a number after a block has another place or size
@@ -324,10 +329,11 @@ record IsWhere (block : Block) (found : Stay) : Type 0 where
   size : block.size ≡ found.size
 
 where_found : (m : ℕ) (block : Block) (blocks : List (Option Block)) (notes : StayNotes) (found : Stay) →
-    Tracks blocks notes → block_at blocks m ≡ Some block → find (is_of m) notes.stays ≡ Some found → IsWhere block found
+    Tracks blocks notes → block_at blocks m ≡ Some block → find (is_stay_of m) notes.stays ≡ Some found →
+    IsWhere block found
 where_found m block blocks notes found tracks at is =
     let counts = (found_counts m notes.stays found is).counts in
-    let count : shown (alive m found.address found.size) notes.stays ≡ bit
+    let count : count_shown (alive m found.address found.size) notes.stays ≡ bit
     (nat_eq block.address found.address && nat_eq block.size found.size) = tracks.counts m found.address found.size
     ∙ ap (λ (o : Option Block). bit (lies found.address found.size o)) at in
     let both = bit_one (nat_eq block.address found.address && nat_eq block.size found.size) (subst (λ (k : ℕ). 1 ≤ k) count counts) in
@@ -337,9 +343,9 @@ where_found m block blocks notes found tracks at is =
     }
 
 never_none : (m : ℕ) (block : Block) (blocks : List (Option Block)) (notes : StayNotes) → Tracks blocks notes →
-    block_at blocks m ≡ Some block → find (is_of m) notes.stays ≡ None → ⊥
+    block_at blocks m ≡ Some block → find (is_stay_of m) notes.stays ≡ None → ⊥
 never_none m block blocks notes tracks at none =
-    let count : shown (alive m block.address block.size) notes.stays ≡ bit
+    let count : count_shown (alive m block.address block.size) notes.stays ≡ bit
     (nat_eq block.address block.address && nat_eq block.size block.size) = tracks.counts m block.address block.size
     ∙ ap (λ (o : Option Block). bit (lies block.address block.size o)) at in
     let one : bit (nat_eq block.address block.address && nat_eq block.size block.size) ≡ 1 =
@@ -353,7 +359,8 @@ never_none m block blocks notes tracks at none =
 stayed_counts : (address size : ℕ) (align : Block → ℕ) (m : ℕ) (block : Block) (blocks : List (Option Block))
     (notes : StayNotes) → Tracks blocks notes → block_at blocks m ≡ Some block → block.address ≡ address →
     block.size ≡ size → (number a n : ℕ) →
-    shown (alive number a n) notes.stays ≡ bit (has (with_block blocks m (resized_block address size align)) number a n)
+    count_shown (alive number a n) notes.stays ≡ bit (has (with_block blocks m (resized_block address size align)) number a
+    n)
 stayed_counts address size align m block blocks notes tracks at here long number a n = tracks.counts number a n
     ∙ sym (ap bit (has_resized address size align m block blocks at number a n ∙ go (nat_eq number m) refl))
   where
@@ -365,25 +372,25 @@ stayed_counts address size align m block blocks notes tracks at here long number
 moved_counts : (call address size : ℕ) (align : Block → ℕ) (m : ℕ) (ending : Ending) (block : Block)
     (blocks : List (Option Block)) (notes : StayNotes) → is_live ending ≡ false → Tracks blocks notes →
     block_at blocks m ≡ Some block → (number a n : ℕ) →
-    shown (alive number a n) (map (ended_of m call ending) notes.stays ++ new_stay call m address size ∷ []) ≡ bit
+    count_shown (alive number a n) (map (ended_of m call ending) notes.stays ++ new_stay call m address size ∷ []) ≡ bit
     (has (with_block blocks m (resized_block address size align)) number a n)
 moved_counts call address size align m ending block blocks notes over tracks at number a n =
     shown_push (alive number a n) (map (ended_of m call ending) notes.stays) (new_stay call m address size)
     ∙ go (nat_eq m number) refl ∙ sym (ap bit (has_resized address size align m block blocks at number a n))
   where
     go : (v : Bool) → nat_eq m number ≡ v →
-        shown (alive number a n) (map (ended_of m call ending) notes.stays) + bit
+        count_shown (alive number a n) (map (ended_of m call ending) notes.stays) + bit
         (nat_eq m number && (nat_eq address a && nat_eq size n)) ≡ bit
         (if nat_eq number m then (nat_eq address a && nat_eq size n) else has blocks number a n)
     go true is =
-        (let none : shown (alive number a n) (map (ended_of m call ending) notes.stays) ≡ 0 =
+        (let none : count_shown (alive number a n) (map (ended_of m call ending) notes.stays) ≡ 0 =
         shown_none (alive number a n) (ended_of m call ending) (alive_ended call m ending number a n over
         (same_number m number is)) notes.stays in
         (λ i. none i + bit (is i && (nat_eq address a && nat_eq size n)))
         ∙ zero_plus (bit (nat_eq address a && nat_eq size n))
         ∙ sym (ap (λ (v : Bool). bit (if v then (nat_eq address a && nat_eq size n) else has blocks number a n)) (turned m number true is)))
     go false is =
-        (let same : shown (alive number a n) (map (ended_of m call ending) notes.stays) ≡ bit (has blocks number a n) =
+        (let same : count_shown (alive number a n) (map (ended_of m call ending) notes.stays) ≡ bit (has blocks number a n) =
         shown_map (alive number a n) (ended_of m call ending) (alive_other call m ending number a n over is) notes.stays ∙ tracks.counts number a n in
         (λ i. same i + bit (is i && (nat_eq address a && nat_eq size n)))
         ∙ plus_zero (bit (has blocks number a n))
@@ -399,12 +406,12 @@ why_over address stay = go (nat_eq stay.address address)
 tracked_resized : (call address size : ℕ) (align : Block → ℕ) (m : ℕ) (block : Block) (blocks : List (Option Block))
     (notes : StayNotes) → Tracks blocks notes → block_at blocks m ≡ Some block →
     Tracks (with_block blocks m (resized_block address size align)) (resized call m address size notes)
-tracked_resized call address size align m block blocks notes tracks at = go (find (is_of m) notes.stays) refl
+tracked_resized call address size align m block blocks notes tracks at = go (find (is_stay_of m) notes.stays) refl
   where
     long : notes.begun ≡ length (with_block blocks m (resized_block address size align))
     long = tracks.begun ∙ sym (length_set blocks m (option_map (resized_block address size align) (block_at blocks m)))
 
-    go_at : (found : Stay) → IsWhere block found → (v : Bool) → is_at address size found ≡ v →
+    go_at : (found : Stay) → IsWhere block found → (v : Bool) → is_stay_at address size found ≡ v →
         Tracks (with_block blocks m (resized_block address size align)) (if v then notes
         else record {
           begun = notes.begun;
@@ -423,10 +430,11 @@ tracked_resized call address size align m block blocks notes tracks at = go (fin
       begun = long;
     }
 
-    go : (o : Option Stay) → find (is_of m) notes.stays ≡ o → Tracks (with_block blocks m
+    go : (o : Option Stay) → find (is_stay_of m) notes.stays ≡ o → Tracks (with_block blocks m
         (resized_block address size align)) (resized_from call m address size o notes)
     go None none = absurd (never_none m block blocks notes tracks at none)
-    go (Some found) is = go_at found (where_found m block blocks notes found tracks at is) (is_at address size found) refl
+    go (Some found) is = go_at found (where_found m block blocks notes found tracks at is) (is_stay_at address size found)
+        refl
 
 tracked_found : (Q : Block → Type 0) (call address size : ℕ) (align : Block → ℕ) (m : ℕ) (blocks : List (Option Block))
     (notes : StayNotes) (found : Option Block) → Tracks blocks notes → block_at blocks m ≡ found → MatchOption found ⊥ Q →
@@ -435,7 +443,7 @@ tracked_found Q call address size align m blocks notes None tracks is live = abs
 tracked_found Q call address size align m blocks notes (Some block) tracks is live = tracked_resized call address size align m block blocks notes tracks is
 
 reset_counts : (call : ℕ) (blocks : List (Option Block)) (notes : StayNotes) (number a n : ℕ) →
-    shown (alive number a n) (map (ended_now call) notes.stays) ≡ bit (has (all_ended blocks) number a n)
+    count_shown (alive number a n) (map (ended_now call) notes.stays) ≡ bit (has (all_ended blocks) number a n)
 reset_counts call blocks notes number a n = shown_none (alive number a n) (ended_now call) (alive_reset call number a n)
     notes.stays ∙ sym (ap (λ (o : Option Block). bit (lies a n o)) (at_ended blocks number))
 

@@ -8,5 +8,5 @@ abbrev pub lines_after : ℕ → Call → List (List ℕ) → List (List ℕ)
 lines_after number call lines = if nat_lt number 64 then lines ++ call_line call ∷ [] else []
 
 -- The lines of a run's calls, if there are at most 64, and else none.
-abbrev pub lines_of : List Call → List (List ℕ)
-lines_of calls = if nat_le (length calls) 64 then map call_line calls else []
+abbrev pub kept_call_lines : List Call → List (List ℕ)
+kept_call_lines calls = if nat_le (length calls) 64 then map call_line calls else []

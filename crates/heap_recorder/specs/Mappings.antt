@@ -10,8 +10,8 @@ abbrev pub is_mapped : Mapping → Bool
 is_mapped mapping = nat_eq mapping.end 0
 
 -- whether it is mapped from an address on
-abbrev pub begins_at : ℕ → Mapping → Bool
-begins_at start mapping = is_mapped mapping && nat_eq mapping.region.start start
+abbrev pub is_mapped_from : ℕ → Mapping → Bool
+is_mapped_from start mapping = is_mapped mapping && nat_eq mapping.region.start start
 
 -- a region that a call maps, with its number of large pages
 abbrev pub new_mapping : ℕ → Region → ℕ → Mapping
@@ -26,23 +26,23 @@ abbrev pub mapped_from : ℕ → Region → ℕ → Option Mapping → List Mapp
 mapped_from call region large None mappings = mappings ++ new_mapping call region large ∷ []
 mapped_from call region large (Some mapping) mappings = mappings
 
-abbrev pub mapped : ℕ → Region → ℕ → List Mapping → List Mapping
-mapped call region large mappings = mapped_from call region large (find (begins_at region.start) mappings) mappings
+abbrev pub with_mapping : ℕ → Region → ℕ → List Mapping → List Mapping
+with_mapping call region large mappings = mapped_from call region large (find (is_mapped_from region.start) mappings) mappings
 
 -- the region that has just these pages ends
 abbrev pub unmapped_if : ℕ → ℕ → ℕ → Mapping → Mapping
-unmapped_if call start pages mapping = if begins_at start mapping && nat_eq mapping.region.pages pages then ended call mapping else mapping
+unmapped_if call start pages mapping = if is_mapped_from start mapping && nat_eq mapping.region.pages pages then ended call mapping else mapping
 
-abbrev pub unmapped : ℕ → ℕ → ℕ → List Mapping → List Mapping
-unmapped call start pages mappings = map (unmapped_if call start pages) mappings
+abbrev pub with_mapping_ended : ℕ → ℕ → ℕ → List Mapping → List Mapping
+with_mapping_ended call start pages mappings = map (unmapped_if call start pages) mappings
 
 -- a region of a run of `calls` calls: one that is still mapped ends with them
-abbrev pub closed : ℕ → Mapping → Mapping
-closed calls mapping = if is_mapped mapping then ended calls mapping else mapping
+abbrev pub closed_mapping : ℕ → Mapping → Mapping
+closed_mapping calls mapping = if is_mapped mapping then ended calls mapping else mapping
 
 -- the regions of a run of `calls` calls
 abbrev pub mappings_at_end : ℕ → List Mapping → List Mapping
-mappings_at_end calls mappings = map (closed calls) mappings
+mappings_at_end calls mappings = map (closed_mapping calls) mappings
 
 -- by the start of each region that is still mapped its place is found
 abbrev pub ArePlacesByStart : List Mapping → BTreeMap ℕ ℕ → Type 0

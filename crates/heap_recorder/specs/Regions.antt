@@ -9,8 +9,8 @@ pub record RegionNotes : Type 0 where
   pub gone : List Held
 
 -- whether the heap has just these pages
-abbrev pub is_same : Held → Region → Bool
-is_same held region = nat_eq held.start region.start && nat_eq held.pages region.pages
+abbrev pub has_same_pages : Held → Region → Bool
+has_same_pages held region = nat_eq held.start region.start && nat_eq held.pages region.pages
 
 -- a region that the heap has from a call on
 abbrev pub new_held : ℕ → Region → Held
@@ -32,7 +32,7 @@ regions_from start (region ∷ more) = if nat_lt region.start start then regions
 -- a region goes on if the first of those that the heap had is the same one; else it begins
 abbrev pub going : ℕ → Region → List Held → Held
 going call region [] = new_held call region
-going call region (held ∷ more) = if is_same held region then held else new_held call region
+going call region (held ∷ more) = if has_same_pages held region then held else new_held call region
 
 -- the regions after a call that lists them, by address
 abbrev pub now_after : ℕ → List Held → List Region → List Held
@@ -42,7 +42,7 @@ now_after call held (region ∷ list) = going call region (held_from region.star
 -- whether one goes on
 abbrev pub stays_on : Held → List Region → Bool
 stays_on held [] = false
-stays_on held (region ∷ more) = is_same held region
+stays_on held (region ∷ more) = has_same_pages held region
 
 -- the regions that end at that call
 abbrev pub gone_after : ℕ → List Held → List Region → List Held
@@ -52,8 +52,8 @@ gone_after call (held ∷ more) list =
     else ended call held ∷ gone_after call more (regions_from held.start list)
 
 -- the regions, after a call that lists those that the heap has then
-abbrev pub regions_after : ℕ → List Region → RegionNotes → RegionNotes
-regions_after call list notes = record { now = now_after call notes.now list; gone = notes.gone ++ gone_after call notes.now list }
+abbrev pub regions_noted : ℕ → List Region → RegionNotes → RegionNotes
+regions_noted call list notes = record { now = now_after call notes.now list; gone = notes.gone ++ gone_after call notes.now list }
 
 -- all regions of a run of `calls` calls: those that ended, and those that the heap has at the end
 abbrev pub regions_at_end : ℕ → RegionNotes → List Held

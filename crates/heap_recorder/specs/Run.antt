@@ -15,9 +15,9 @@ use Rattle.heap_model.specs.Answer.{slots_of}
 use Rattle.heap_model.specs.Room.{user_region}
 use Rattle.heap_model.specs.State.{total_pages}
 use Rattle.heap_recorder.specs.Sizes.{sizes_after}
-use Rattle.heap_recorder.specs.Lines.{lines_after, lines_of}
-use Rattle.heap_recorder.specs.Mappings.{mapped, unmapped, mappings_at_end}
-use Rattle.heap_recorder.specs.Regions.{RegionNotes, regions_after, regions_at_end}
+use Rattle.heap_recorder.specs.Lines.{lines_after, kept_call_lines}
+use Rattle.heap_recorder.specs.Mappings.{with_mapping, with_mapping_ended, mappings_at_end}
+use Rattle.heap_recorder.specs.Regions.{RegionNotes, regions_noted, regions_at_end}
 use Rattle.heap_recorder.specs.Stays.{StayNotes, stays_after, stays_at_end}
 
 -- what is noted of the calls so far
@@ -53,12 +53,12 @@ nothing = record {
 -- the regions of the heap, if the answer lists them
 abbrev pub heap_noted : ℕ → Option (List Region) → RegionNotes → RegionNotes
 heap_noted call None notes = notes
-heap_noted call (Some list) notes = regions_after call list notes
+heap_noted call (Some list) notes = regions_noted call list notes
 
 -- the regions of the user, after the answer to a call
 abbrev pub mappings_after : ℕ → Call → Reply → List ℕ → List Mapping → List Mapping
-mappings_after call (Map start pages rights) Done slots mappings = mapped call (user_region start pages rights) (length slots) mappings
-mappings_after call (Unmap start pages) Done slots mappings = unmapped call start pages mappings
+mappings_after call (Map start pages rights) Done slots mappings = with_mapping call (user_region start pages rights) (length slots) mappings
+mappings_after call (Unmap start pages) Done slots mappings = with_mapping_ended call start pages mappings
 mappings_after call made reply slots mappings = mappings
 
 -- whether a call maps pages of the user
@@ -129,7 +129,7 @@ history_of calls answers = history_in (notes_of calls answers)
 
 -- The lines of a history are those of the calls.
 abbrev pub LinesAreTheCalls : Type 0
-LinesAreTheCalls = (calls : List Call) (answers : List Answer) → length calls ≡ length answers → (history_of calls answers).lines ≡ lines_of calls
+LinesAreTheCalls = (calls : List Call) (answers : List Answer) → length calls ≡ length answers → (history_of calls answers).lines ≡ kept_call_lines calls
 
 -- The notes are those of a run with these calls, an answer to each.
 pub record IsRecordOf (notes : Notes) (calls : List Call) (answers : List Answer) : Type 0 where

@@ -16,13 +16,13 @@ abbrev pub is_spot : ℕ → ℕ → ℕ → Stay → Bool
 is_spot number address size stay = nat_eq stay.block number && (nat_eq stay.address address && nat_eq stay.size size)
 
 -- whether it is so after a call: the stay began with it or before, and ends later
-abbrev pub shows : ℕ → ℕ → ℕ → ℕ → Stay → Bool
-shows call number address size stay = nat_le stay.born call && (nat_lt call stay.end && is_spot number address size stay)
+abbrev pub shows_stay : ℕ → ℕ → ℕ → ℕ → Stay → Bool
+shows_stay call number address size stay = nat_le stay.born call && (nat_lt call stay.end && is_spot number address size stay)
 
 -- how many of a list show so
-abbrev pub shown : {A : Type 0} → (A → Bool) → List A → ℕ
-shown test [] = 0
-shown test (one ∷ more) = (if test one then 1 else 0) + shown test more
+abbrev pub count_shown : {A : Type 0} → (A → Bool) → List A → ℕ
+count_shown test [] = 0
+count_shown test (one ∷ more) = (if test one then 1 else 0) + count_shown test more
 
 -- whether a block is live, and at the address with the size
 abbrev pub lies : ℕ → ℕ → Option Block → Bool
@@ -43,7 +43,7 @@ state_after s (call ∷ calls) (answer ∷ answers) (suc count) = state_after (a
 abbrev pub AreStays : State → List Call → List Answer → List Stay → Type 0
 AreStays s calls answers stays =
     (call number address size : ℕ) → call < length calls →
-    shown (shows call number address size) stays ≡ (if has_block (state_after s calls answers (suc call)) number address size then 1 else 0)
+    count_shown (shows_stay call number address size) stays ≡ (if has_block (state_after s calls answers (suc call)) number address size then 1 else 0)
 
 -- So are the stays of each run from the start.
 abbrev pub EachBlockIsDrawnOnce : Type 0
@@ -51,12 +51,12 @@ EachBlockIsDrawnOnce =
     (config : Config) (calls : List Call) (answers : List Answer) → IsAllowedRun (start config) (map Some calls) (map Some answers) → AreStays (start config) calls answers (history_of calls answers).stays
 
 -- whether a region of the heap begins at the address and has this number of pages
-abbrev pub is_part : ℕ → ℕ → Held → Bool
-is_part start pages held = nat_eq held.start start && nat_eq held.pages pages
+abbrev pub is_heap_part : ℕ → ℕ → Held → Bool
+is_heap_part start pages held = nat_eq held.start start && nat_eq held.pages pages
 
 -- whether the heap has it so after a call: it came with that call or before, and goes later
 abbrev pub shows_part : ℕ → ℕ → ℕ → Held → Bool
-shows_part call start pages held = nat_le held.born call && (nat_lt call held.end && is_part start pages held)
+shows_part call start pages held = nat_le held.born call && (nat_lt call held.end && is_heap_part start pages held)
 
 -- whether a region of a state is so
 abbrev pub is_region : ℕ → ℕ → Region → Bool
@@ -66,7 +66,7 @@ is_region start pages region = nat_eq region.start start && nat_eq region.pages 
 abbrev pub AreParts : State → List Call → List Answer → List Held → Type 0
 AreParts s calls answers heap =
     (call start pages : ℕ) → call < length calls →
-    shown (shows_part call start pages) heap ≡ shown (is_region start pages) (state_after s calls answers (suc call)).heap
+    count_shown (shows_part call start pages) heap ≡ count_shown (is_region start pages) (state_after s calls answers (suc call)).heap
 
 -- So are the regions of each run from the start.
 abbrev pub EachRegionIsDrawnOnce : Type 0

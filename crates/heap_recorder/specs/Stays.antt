@@ -18,12 +18,12 @@ abbrev pub is_live : Ending → Bool
 is_live Live = true
 is_live ending = false
 
-abbrev pub goes_on : Stay → Bool
-goes_on stay = is_live stay.ending
+abbrev pub has_not_ended : Stay → Bool
+has_not_ended stay = is_live stay.ending
 
 -- whether a stay goes on and is the block's
-abbrev pub is_of : ℕ → Stay → Bool
-is_of number stay = goes_on stay && nat_eq stay.block number
+abbrev pub is_stay_of : ℕ → Stay → Bool
+is_stay_of number stay = has_not_ended stay && nat_eq stay.block number
 
 -- a stay that a call begins
 abbrev pub new_stay : ℕ → ℕ → ℕ → ℕ → Stay
@@ -35,27 +35,27 @@ ended call ending stay = record { block = stay.block; address = stay.address; si
 
 -- so it is with the block's stay alone
 abbrev pub ended_of : ℕ → ℕ → Ending → Stay → Stay
-ended_of number call ending stay = if is_of number stay then ended call ending stay else stay
+ended_of number call ending stay = if is_stay_of number stay then ended call ending stay else stay
 
 -- and so with each that goes on
 abbrev pub ended_now : ℕ → Stay → Stay
-ended_now call stay = if goes_on stay then ended call AllEnded stay else stay
+ended_now call stay = if has_not_ended stay then ended call AllEnded stay else stay
 
 -- a new block has the next number
 abbrev pub begun : ℕ → ℕ → ℕ → StayNotes → StayNotes
 begun call address size notes = record { begun = notes.begun + 1; stays = notes.stays ++ new_stay call notes.begun address size ∷ [] }
 
 -- the block ends
-abbrev pub freed : ℕ → ℕ → StayNotes → StayNotes
-freed call number notes = record { begun = notes.begun; stays = map (ended_of number call Freed) notes.stays }
+abbrev pub with_block_freed : ℕ → ℕ → StayNotes → StayNotes
+with_block_freed call number notes = record { begun = notes.begun; stays = map (ended_of number call Freed) notes.stays }
 
 -- all blocks end
-abbrev pub all_ended : ℕ → StayNotes → StayNotes
-all_ended call notes = record { begun = notes.begun; stays = map (ended_now call) notes.stays }
+abbrev pub all_stays_ended : ℕ → StayNotes → StayNotes
+all_stays_ended call notes = record { begun = notes.begun; stays = map (ended_now call) notes.stays }
 
 -- whether a stay is at the address and has the size
-abbrev pub is_at : ℕ → ℕ → Stay → Bool
-is_at address size stay = nat_eq stay.address address && nat_eq stay.size size
+abbrev pub is_stay_at : ℕ → ℕ → Stay → Bool
+is_stay_at address size stay = nat_eq stay.address address && nat_eq stay.size size
 
 -- why a stay ends if the block has another place or size: it moved, if its address is another one
 abbrev pub why : ℕ → Stay → Ending
@@ -65,11 +65,11 @@ why address stay = if nat_eq stay.address address then Resized else Moved
 abbrev pub resized_from : ℕ → ℕ → ℕ → ℕ → Option Stay → StayNotes → StayNotes
 resized_from call number address size None notes = notes
 resized_from call number address size (Some stay) notes =
-    if is_at address size stay then notes
+    if is_stay_at address size stay then notes
     else record { begun = notes.begun; stays = map (ended_of number call (why address stay)) notes.stays ++ new_stay call number address size ∷ [] }
 
 abbrev pub resized : ℕ → ℕ → ℕ → ℕ → StayNotes → StayNotes
-resized call number address size notes = resized_from call number address size (find (is_of number) notes.stays) notes
+resized call number address size notes = resized_from call number address size (find (is_stay_of number) notes.stays) notes
 
 -- the stays after the answer to a call, whose number comes first
 abbrev pub stays_after : ℕ → Call → Reply → StayNotes → StayNotes
@@ -77,14 +77,14 @@ stays_after call (Malloc size align) (Block number address) notes = begun call a
 stays_after call (Calloc size align) (Block number address) notes = begun call address size notes
 stays_after call (Realloc number size) (Block given address) notes = resized call number address size notes
 stays_after call (CRealloc number size) (Block given address) notes = resized call number address size notes
-stays_after call (Free number) Done notes = freed call number notes
-stays_after call Reset (Released bytes) notes = all_ended call notes
+stays_after call (Free number) Done notes = with_block_freed call number notes
+stays_after call Reset (Released bytes) notes = all_stays_ended call notes
 stays_after call made reply notes = notes
 
 -- a stay of a run of `calls` calls: one that no call ended ends with them
-abbrev pub closed : ℕ → Stay → Stay
-closed calls stay = if goes_on stay then ended calls Live stay else stay
+abbrev pub closed_stay : ℕ → Stay → Stay
+closed_stay calls stay = if has_not_ended stay then ended calls Live stay else stay
 
 -- the stays of a run of `calls` calls
 abbrev pub stays_at_end : ℕ → StayNotes → List Stay
-stays_at_end calls notes = map (closed calls) notes.stays
+stays_at_end calls notes = map (closed_stay calls) notes.stays

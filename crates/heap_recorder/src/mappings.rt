@@ -2,7 +2,7 @@
 ghost use Rattle.std.specs.Prelude.{◌≡◌, map, slice_get};
 ghost use Rattle.std.specs.BTreeMap.{get};
 ghost use Rattle.std.specs.Ordering.{nat_cmp};
-ghost use Rattle.heap_recorder.specs.Mappings.{is_mapped, begins_at, ended, unmapped_if, closed};
+ghost use Rattle.heap_recorder.specs.Mappings.{is_mapped, is_mapped_from, ended, unmapped_if, closed_mapping};
 
 use heap_history::{Mapping, MappingList};
 use heap_model::{Call, Region, Reply};
@@ -19,7 +19,7 @@ fn is_mapped(mapping: Mapping) -> bool
 
 // Whether a region is mapped from the address on.
 fn begins_at(start: u64, mapping: Mapping) -> bool
-    ensures { result ≡ begins_at start mapping }
+    ensures { result ≡ is_mapped_from start mapping }
 {
     is_mapped(mapping) && mapping.region.start == start
 }
@@ -47,7 +47,7 @@ fn unmapped_if(call: u64, start: u64, pages: u64, mapping: Mapping) -> Mapping
 }
 
 fn closed(calls: u64, mapping: Mapping) -> Mapping
-    ensures { result ≡ closed calls mapping }
+    ensures { result ≡ closed_mapping calls mapping }
 {
     if is_mapped(mapping) {
         ended(calls, mapping)
@@ -71,7 +71,7 @@ fn mapping_at(mappings: &[Mapping], place: u64) -> Option<Mapping>
 
 // A region that is still mapped ends with the run.
 fn close(mappings: &mut Vec<Mapping>, calls: u64)
-    ensures { mappings.new.items ≡ map (closed calls) mappings.old.items }
+    ensures { mappings.new.items ≡ map (closed_mapping calls) mappings.old.items }
 {
     for place in 0..mappings.len() {
         mappings[place] = closed(calls, mappings[place]);
@@ -100,7 +100,7 @@ impl Model for Mappings {
 
 impl Mappings {
     ghost use Rattle.std.specs.Prelude.{◌≡◌, [], OnOk, find, is_some};
-    ghost use Rattle.heap_recorder.specs.Mappings.{begins_at, mapped, unmapped, mappings_at_end};
+    ghost use Rattle.heap_recorder.specs.Mappings.{is_mapped_from, with_mapping, with_mapping_ended, mappings_at_end};
 
     /// No region was mapped yet.
     pub fn new(alloc: Global) -> Mappings
@@ -114,7 +114,7 @@ impl Mappings {
 
     // Whether a region is mapped from the address on.
     fn has(&self, start: u64) -> bool
-        ensures { result ≡ is_some (find (begins_at start) self.now) }
+        ensures { result ≡ is_some (find (is_mapped_from start) self.now) }
     {
         let Some(place) = place_of(&self.places, start) else {
             return false;
@@ -127,7 +127,7 @@ impl Mappings {
 
     /// Notes that a call mapped a region, with this number of large pages.
     pub fn map(&mut self, call: u64, region: Region, large: u64) -> Result<(), AllocError>
-        ensures { OnOk result (self.new ≡ mapped call region large self.old) }
+        ensures { OnOk result (self.new ≡ with_mapping call region large self.old) }
     {
         if self.has(region.start) {
             return Ok(());
@@ -145,7 +145,7 @@ impl Mappings {
 
     /// Notes that a call unmapped the region with these pages.
     pub fn unmap(&mut self, call: u64, start: u64, pages: u64)
-        ensures { self.new ≡ unmapped call start pages self.old }
+        ensures { self.new ≡ with_mapping_ended call start pages self.old }
     {
         let Some(place) = place_of(&self.places, start) else {
             return;

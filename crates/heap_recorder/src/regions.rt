@@ -1,7 +1,7 @@
 // The regions of the heap, as calls change them.
 ghost use Rattle.std.specs.Prelude.{◌≡◌, ◌≤◌, ◌<◌, ◌+◌, ◌*◌, ◌%◌, ◌^◌, ◌++◌, drop, length, map, OnOk, IfOk};
 ghost use Rattle.heap_model.specs.State.{total_pages};
-ghost use Rattle.heap_recorder.specs.Regions.{is_same, new_held, ended, held_from, regions_from, going, now_after, stays_on, gone_after};
+ghost use Rattle.heap_recorder.specs.Regions.{has_same_pages, new_held, ended, held_from, regions_from, going, now_after, stays_on, gone_after};
 
 use heap_history::{Held, HeldList};
 use heap_model::Region;
@@ -10,7 +10,7 @@ use std::marker::Model;
 
 // Whether the heap has just these pages.
 fn is_same(held: Held, region: Region) -> bool
-    ensures { result ≡ is_same held region }
+    ensures { result ≡ has_same_pages held region }
 {
     held.start == region.start && held.pages == region.pages
 }
@@ -163,7 +163,7 @@ impl Model for Regions {
 
 impl Regions {
     ghost use Rattle.std.specs.Prelude.{◌≡◌, [], OnOk, IfOk};
-    ghost use Rattle.heap_recorder.specs.Regions.{regions_after, regions_at_end};
+    ghost use Rattle.heap_recorder.specs.Regions.{regions_noted, regions_at_end};
 
     /// The heap had no region yet.
     pub fn new(alloc: Global) -> Regions
@@ -177,7 +177,7 @@ impl Regions {
 
     /// Notes the regions that the heap has after a call.
     pub fn note(&mut self, alloc: Global, call: u64, list: &[Region]) -> Result<(), AllocError>
-        ensures { OnOk result (self.new ≡ regions_after call list.now self.old) }
+        ensures { OnOk result (self.new ≡ regions_noted call list.now self.old) }
     {
         push_gone(&mut self.gone, call, &self.now, list)?;
         self.now = now_after(alloc, call, &self.now, list)?;

@@ -1,7 +1,7 @@
 // The stays of blocks, as calls are answered.
 ghost use Rattle.std.specs.Prelude.{◌≡◌, ◌≤◌, ◌<◌, ℕ, false, length, map, slice_get};
 ghost use Rattle.heap_history.specs.declared.history.Stay.{Stay};
-ghost use Rattle.heap_recorder.specs.Stays.{is_live, goes_on, is_of, is_at, why, new_stay, ended, ended_of, ended_now, closed};
+ghost use Rattle.heap_recorder.specs.Stays.{is_live, has_not_ended, is_stay_of, is_stay_at, why, new_stay, ended, ended_of, ended_now, closed_stay};
 
 use heap_history::{Ending, Stay, StayList};
 use heap_model::{Call, Reply};
@@ -20,14 +20,14 @@ fn is_live(ending: Ending) -> bool
 
 // Whether a stay goes on and is the block's.
 fn is_of(number: u64, stay: Stay) -> bool
-    ensures { result ≡ is_of number stay }
+    ensures { result ≡ is_stay_of number stay }
 {
     is_live(stay.ending) && stay.block == number
 }
 
 // Whether a stay is at the address and has the size.
 fn is_at(address: u64, size: u64, stay: Stay) -> bool
-    ensures { result ≡ is_at address size stay }
+    ensures { result ≡ is_stay_at address size stay }
 {
     stay.address == address && stay.size == size
 }
@@ -91,7 +91,7 @@ fn ended_now(call: u64, stay: Stay) -> Stay
 }
 
 fn closed(calls: u64, stay: Stay) -> Stay
-    ensures { result ≡ closed calls stay }
+    ensures { result ≡ closed_stay calls stay }
 {
     if is_live(stay.ending) {
         ended(calls, Ending::Live, stay)
@@ -119,7 +119,7 @@ fn stay_at(stays: &[Stay], place: usize) -> Option<Stay>
 // Ends each stay that goes on. None does before the place.
 fn end_from(stays: &mut Vec<Stay>, first: u64, call: u64)
     requires within { first ≤ length stays.old.items }
-    requires over { (k : ℕ) (stay : Stay) → slice_get stays.old.items k ≡ Some stay → k < first → goes_on stay ≡ false }
+    requires over { (k : ℕ) (stay : Stay) → slice_get stays.old.items k ≡ Some stay → k < first → has_not_ended stay ≡ false }
     ensures { stays.new.items ≡ map (ended_now call) stays.old.items }
 {
     for place in first as usize..stays.len() {
@@ -129,7 +129,7 @@ fn end_from(stays: &mut Vec<Stay>, first: u64, call: u64)
 
 // A stay that no call ended ends with the run.
 fn close(stays: &mut Vec<Stay>, calls: u64)
-    ensures { stays.new.items ≡ map (closed calls) stays.old.items }
+    ensures { stays.new.items ≡ map (closed_stay calls) stays.old.items }
 {
     for place in 0..stays.len() {
         stays[place] = closed(calls, stays[place]);
@@ -160,7 +160,7 @@ impl Model for Stays {
 
 impl Stays {
     ghost use Rattle.std.specs.Prelude.{◌≡◌, [], OnOk};
-    ghost use Rattle.heap_recorder.specs.Stays.{begun, freed, all_ended, resized, stays_after, stays_at_end};
+    ghost use Rattle.heap_recorder.specs.Stays.{begun, with_block_freed, all_stays_ended, resized, stays_after, stays_at_end};
 
     /// No block began yet.
     pub fn new(alloc: Global) -> Stays
@@ -206,7 +206,7 @@ impl Stays {
     }
 
     fn free(&mut self, call: u64, number: u64)
-        ensures { self.new ≡ freed call number self.old }
+        ensures { self.new ≡ with_block_freed call number self.old }
     {
         let Some(place) = place_of(&self.places, number) else {
             return;
@@ -218,7 +218,7 @@ impl Stays {
     }
 
     fn end_all(&mut self, call: u64)
-        ensures { self.new ≡ all_ended call self.old }
+        ensures { self.new ≡ all_stays_ended call self.old }
     {
         end_from(&mut self.stays, self.first, call);
         self.first = self.stays.len() as u64;

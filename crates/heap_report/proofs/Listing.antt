@@ -21,8 +21,8 @@ use Rattle.heap_program.specs.Progress.{IsAt}
 use Rattle.heap_report.specs.declared.listed.Listed.{Listed}
 use Rattle.heap_report.specs.declared.replay.Replay.{Replay}
 use Rattle.heap_report.specs.Extents.{AreTheHeapsExtents}
-use Rattle.heap_report.specs.Listed.{IsListed}
-use Rattle.heap_report.specs.Replaying.{IsAnswered}
+use Rattle.heap_report.specs.Listed.{IsListedByReplay}
+use Rattle.heap_report.specs.Replaying.{IsCallAnswered}
 use Rattle.heap_report.proofs.Serving.{answered_one}
 
 -- a reply with extents, which tile the heap; no region is new
@@ -71,9 +71,11 @@ pub extents_same : (xs ys : List Extent) → Listing xs ≡ Listing ys → xs �
 extents_same xs ys same = cc
 
 -- what a run is whose last call asked for the extents
-pub listed_from : (replay served : Replay) (answer : Answer) (listed : Listed) → IsAnswered replay Extents answer served →
+pub listed_from : (replay served : Replay) (answer : Answer) (listed : Listed) →
+    IsCallAnswered replay Extents answer served →
     ((extents : List Extent) → answer.reply ≡ Listing extents → listed.extents ≡ extents)
-    → listed.machine ≡ served.machine → listed.live ≡ sum served.sizes → listed.peak ≡ served.peak → IsListed replay listed
+    → listed.machine ≡ served.machine → listed.live ≡ sum served.sizes → listed.peak ≡ served.peak →
+    IsListedByReplay replay listed
 listed_from replay served answer listed is found machine sums top = λ s follows least.
     let one = answered_one s replay served served Extents answer follows least is refl refl refl in
     let list = lists_extents s answer (is.stepped.allowed s follows.at.good follows.at.stands).allowed in

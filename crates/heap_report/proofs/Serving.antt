@@ -17,7 +17,7 @@ use Rattle.heap_report.specs.Live.{block_size, live, peak, sizes_of}
 use Rattle.heap_recorder.specs.Sizes.{sizes_after}
 use Rattle.heap_report.specs.declared.noted.Noted.{Noted}
 use Rattle.heap_report.specs.Noting.{IsNoted}
-use Rattle.heap_report.specs.Replaying.{Follows, IsAnswered, IsBegun}
+use Rattle.heap_report.specs.Replaying.{IsReplayAt, IsCallAnswered, IsReplayBegun}
 use Rattle.heap_report.proofs.KeptSizes.{kept_sizes}
 
 -- the greatest of two sums, the first of which was not above the greatest before
@@ -28,11 +28,11 @@ highest before first last sum_now now least top same = omega (arith, least, top,
 pub record IsOne (s : State) (old : Replay) (call : Call) (answer : Answer) (new : Replay) : Type 0 where
   pub run : RunsTo s (Some call ∷ []) (Some answer ∷ []) (after s call answer)
   pub steps : StepsTo old.machine (Some call ∷ []) (Some answer ∷ []) new.machine
-  pub follows : Follows (after s call answer) new
+  pub follows : IsReplayAt (after s call answer) new
   pub peak_is : new.peak ≡ max old.peak (peak s (call ∷ []) (answer ∷ []))
 
-pub answered_one : (s : State) (old middle new : Replay) (call : Call) (answer : Answer) → Follows s old →
-    live s ≤ old.peak → IsAnswered old call answer middle → new.machine ≡ middle.machine → new.sizes ≡ middle.sizes →
+pub answered_one : (s : State) (old middle new : Replay) (call : Call) (answer : Answer) → IsReplayAt s old →
+    live s ≤ old.peak → IsCallAnswered old call answer middle → new.machine ≡ middle.machine → new.sizes ≡ middle.sizes →
     new.peak ≡ middle.peak → IsOne s old call answer new
 answered_one s old middle new call answer follows least is machine same top =
     let step : IsStep s call answer (seen new.machine) = subst (λ (m : Machine). IsStep s call answer (seen m))
@@ -51,7 +51,7 @@ answered_one s old middle new call answer follows least is machine same top =
 
 -- with what is kept for the text
 pub noted_one : {T : Type 0} (keeps : T → List Call → List Answer → Type 0) (old new : Noted T) (middle : Replay)
-    (call : Call) (answer : Answer) → IsAnswered old.replay call answer middle → new.replay.machine ≡ middle.machine →
+    (call : Call) (answer : Answer) → IsCallAnswered old.replay call answer middle → new.replay.machine ≡ middle.machine →
     new.replay.sizes ≡ middle.sizes → new.replay.peak ≡ middle.peak →
     ((calls : List Call) (answers : List Answer) → keeps old.kept calls answers →
     keeps new.kept (calls ++ call ∷ []) (answers ++ answer ∷ [])) → IsNoted keeps old (call ∷ []) new
@@ -77,7 +77,7 @@ pub none_live : (s : State) → s.blocks ≡ [] → live s ≡ 0
 none_live s none = ap sum (none_sizes s none)
 
 -- no call came yet
-pub begun_follows : (s : State) (machine : Machine) (replay : Replay) → IsBegun machine replay → IsAt machine s → s.blocks ≡ [] → Follows s replay
+pub begun_follows : (s : State) (machine : Machine) (replay : Replay) → IsReplayBegun machine replay → IsAt machine s → s.blocks ≡ [] → IsReplayAt s replay
 begun_follows s machine replay begun at none = record {
   at = subst (λ (m : Machine). IsAt m s) (sym begun.machine_is) at;
   sizes = begun.sizes ∙ sym (none_sizes s none);

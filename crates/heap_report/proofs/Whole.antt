@@ -24,7 +24,7 @@ use Rattle.heap_report.specs.declared.listed.Listed.{Listed}
 use Rattle.heap_report.specs.declared.noted.Noted.{Noted}
 use Rattle.heap_report.specs.Calls.{calls_in, calls_of}
 use Rattle.heap_report.specs.Extents.{AreTheHeapsExtents}
-use Rattle.heap_report.specs.Listed.{IsListed}
+use Rattle.heap_report.specs.Listed.{IsListedByReplay}
 use Rattle.heap_report.specs.Live.{live, peak}
 use Rattle.heap_report.specs.Noting.{IsBegunWith, IsNoted, IsReplaying}
 use Rattle.heap_report.specs.NotingLaws.{replaying_on}
@@ -66,7 +66,8 @@ joined_peak before first last both middle now top up none joined = omega (arith,
 
 pub whole : {T : Type 0} (keeps : T → List Call → List Answer → Type 0) (s : State) (machine : Machine)
     (first end : Noted T) (listed : Listed) (input : List ℕ) → IsAt machine s → s.blocks ≡ [] →
-    IsBegunWith keeps machine first → IsNoted keeps first (calls_in (items_of input)) end → IsListed end.replay listed →
+    IsBegunWith keeps machine first → IsNoted keeps first (calls_in (items_of input)) end →
+    IsListedByReplay end.replay listed →
     IsWhole keeps s machine input end.kept listed
 whole keeps s machine first end listed input at none begins served lists =
     let begun = begins.begun in

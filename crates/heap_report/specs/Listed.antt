@@ -13,7 +13,7 @@ use Rattle.heap_report.specs.declared.listed.Listed.{Listed}
 use Rattle.heap_report.specs.declared.replay.Replay.{Replay}
 use Rattle.heap_report.specs.Extents.{AreTheHeapsExtents}
 use Rattle.heap_report.specs.Live.{live, peak}
-use Rattle.heap_report.specs.Replaying.{Follows}
+use Rattle.heap_report.specs.Replaying.{IsReplayAt}
 
 -- the last answer is the list of these extents
 pub record EndsWith (answers : List Answer) (extents : List Extent) : Type 0 where
@@ -36,5 +36,5 @@ pub record IsListedFrom (s : State) (replay : Replay) (listed : Listed) : Type 0
   pub live_is : listed.live ≡ live state
   pub peak_is : listed.peak ≡ max replay.peak (peak s (Extents ∷ []) (answer ∷ []))
 
-abbrev pub IsListed : Replay → Listed → Type 0
-IsListed replay listed = (s : State) → Follows s replay → live s ≤ replay.peak → IsListedFrom s replay listed
+abbrev pub IsListedByReplay : Replay → Listed → Type 0
+IsListedByReplay replay listed = (s : State) → IsReplayAt s replay → live s ≤ replay.peak → IsListedFrom s replay listed

@@ -9,8 +9,8 @@ use Rattle.heap_report.specs.Reported.{EndText}
 use Rattle.heap_report.specs.Telling.{Tells}
 
 -- A run was told of, over a source and a sink, each as it was and as it then is. So ended the command.
-abbrev pub HasRun : {S K : Type 0} → EndText → Streams S K → List (String Global) → S → S → K → K → ℕ → Type 0
-HasRun text streams words source source' sink sink' status =
+abbrev pub HasReported : {S K : Type 0} → EndText → Streams S K → List (String Global) → S → S → K → K → ℕ → Type 0
+HasReported text streams words source source' sink sink' status =
     (reported : Reported)
     × (status ≡ reported.status)
     × Tells text (map string_bytes words) (streams.left source) (streams.left source') (streams.taken sink) (streams.taken sink') (streams.flushed sink') (streams.reads source) (streams.reads source') (streams.writes sink) (streams.writes sink') reported

@@ -12,7 +12,7 @@ use Rattle.heap_report.specs.declared.replay.Replay.{Replay}
 use Rattle.heap_report.specs.Live.{sizes_of, peak}
 
 -- the replay's machine stands for the state, and its sizes are those of the live blocks
-pub record Follows (s : State) (replay : Replay) : Type 0 where
+pub record IsReplayAt (s : State) (replay : Replay) : Type 0 where
   pub at : IsAt replay.machine s
   pub sizes : replay.sizes ≡ sizes_of s
 
@@ -23,17 +23,17 @@ pub record IsServedFrom (s : State) (old : Replay) (calls : List Call) (new : Re
   pub state : State
   pub run : RunsTo s (map Some calls) (map Some answers) state
   pub steps : StepsTo old.machine (map Some calls) (map Some answers) new.machine
-  pub follows : Follows state new
+  pub follows : IsReplayAt state new
   pub peak_is : new.peak ≡ max old.peak (peak s calls answers)
 
 -- The replay answered a call: its machine took the step, and the sizes and the peak are kept.
-pub record IsAnswered (old : Replay) (call : Call) (answer : Answer) (new : Replay) : Type 0 where
+pub record IsCallAnswered (old : Replay) (call : Call) (answer : Answer) (new : Replay) : Type 0 where
   pub stepped : HasStepped old.machine call answer new.machine
   pub sizes : new.sizes ≡ sizes_after old.sizes call answer.reply
   pub peak_is : new.peak ≡ max old.peak (sum new.sizes)
 
 -- no call came yet
-pub record IsBegun (machine : Machine) (replay : Replay) : Type 0 where
+pub record IsReplayBegun (machine : Machine) (replay : Replay) : Type 0 where
   pub machine_is : replay.machine ≡ machine
   pub sizes : replay.sizes ≡ []
   pub peak_is : replay.peak ≡ 0

@@ -2,7 +2,7 @@
 ghost use Rattle.std.specs.Prelude.{◌≡◌, List, IfOk};
 ghost use Rattle.dlmalloc_chunks.specs.declared.extent.Extent.{Extent};
 ghost use Rattle.heap_model.specs.declared.answer.Reply.TheVariants.{Extents};
-ghost use Rattle.heap_report.specs.Listed.{IsListed};
+ghost use Rattle.heap_report.specs.Listed.{IsListedByReplay};
 
 use crate::replay::Replay;
 use kernel_heap::{Answer, Call, ExtentList, Machine, Reply};
@@ -33,7 +33,7 @@ fn extents_of(alloc: Global, answer: &Answer) -> Result<ExtentList, AllocError>
 
 /// Ends a replay by the call for the extents.
 pub fn list_extents(alloc: Global, mut replay: Replay) -> Result<Listed, AllocError>
-    ensures { IfOk result (λ listed. IsListed replay listed) }
+    ensures { IfOk result (λ listed. IsListedByReplay replay listed) }
 {
     let answer = replay.answer(&Call::Extents)?;
     let extents = extents_of(alloc, &answer)?;

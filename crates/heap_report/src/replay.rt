@@ -1,6 +1,6 @@
 // A run that is replayed.
 ghost use Rattle.std.specs.Prelude.{IfOk};
-ghost use Rattle.heap_report.specs.Replaying.{IsAnswered, IsBegun};
+ghost use Rattle.heap_report.specs.Replaying.{IsCallAnswered, IsReplayBegun};
 
 use heap_figures::BlockSizes;
 use heap_recorder::note_answer;
@@ -19,7 +19,7 @@ pub struct Replay {
 impl Replay {
     /// A replay to which no call came yet.
     pub fn new(alloc: Global, machine: Machine) -> Replay
-        ensures { IsBegun machine result }
+        ensures { IsReplayBegun machine result }
     {
         Replay {
             machine,
@@ -30,7 +30,7 @@ impl Replay {
 
     /// Answers a call.
     pub fn answer(&mut self, call: &Call) -> Result<Answer, AllocError>
-        ensures { IfOk result (λ answer. IsAnswered self.old call.now answer self.new) }
+        ensures { IfOk result (λ answer. IsCallAnswered self.old call.now answer self.new) }
     {
         let answer = self.machine.step(call)?;
         note_answer(&mut self.sizes, call, &answer.reply)?;

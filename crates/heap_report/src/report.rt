@@ -1,6 +1,6 @@
 // The report: the figures of a run.
 ghost use Rattle.std.specs.Prelude.{◌≡◌, ◌≤◌, ⊤, map, string_bytes};
-ghost use Rattle.heap_report.specs.Ran.{HasRun};
+ghost use Rattle.heap_report.specs.Ran.{HasReported};
 ghost use Rattle.heap_report.specs.Report.{report_of};
 ghost use Rattle.heap_report.specs.Telling.{Tells};
 
@@ -58,7 +58,7 @@ pub fn report_main<S: Source, K: Sink>(
 }
 
 impl Command for Figures {
-    ghost comes = { λ S K. HasRun report_of };
+    ghost comes = { λ S K. HasReported report_of };
 
     fn run<S: Source, K: Sink>(
         alloc: Global,

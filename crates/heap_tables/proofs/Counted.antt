@@ -5,15 +5,15 @@ use Rattle.std.proofs.lemmas.List.Sums.{sum_by-append}
 use Rattle.heap_tables.specs.declared.lines.Line.{Line}
 use Rattle.heap_tables.specs.declared.uses.Use.{Use}
 use Rattle.heap_tables.specs.declared.uses.Use.TheVariants.{Table, Large, HeapPage, UserPage, Free}
-use Rattle.heap_tables.specs.Uses.{use_of, uses_of, same_use, number_of, EachFrameIsCountedOnce}
+use Rattle.heap_tables.specs.Uses.{use_of, uses_of, same_use, use_count, EachFrameIsCountedOnce}
 
 -- one frame more
-more : (kind : Use) (uses : List Use) (one : Use) → number_of kind (uses ++ one ∷ []) ≡ number_of kind uses + number_of kind (one ∷ [])
+more : (kind : Use) (uses : List Use) (one : Use) → use_count kind (uses ++ one ∷ []) ≡ use_count kind uses + use_count kind (one ∷ [])
 more kind uses one = sum_by-append (λ x. cond (same_use kind x) 1 0) uses (one ∷ [])
 
 -- is counted for one use
-one_use : (one : Use) → number_of Table (one ∷ []) + number_of Large (one ∷ []) + number_of HeapPage (one ∷ []) + number_of
-    UserPage (one ∷ []) + number_of Free (one ∷ []) ≡ 1
+one_use : (one : Use) → use_count Table (one ∷ []) + use_count Large (one ∷ []) + use_count HeapPage (one ∷ []) + use_count
+    UserPage (one ∷ []) + use_count Free (one ∷ []) ≡ 1
 one_use Table = refl
 one_use Large = refl
 one_use HeapPage = refl

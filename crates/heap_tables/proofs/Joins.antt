@@ -10,8 +10,8 @@ use Rattle.heap_tables.specs.declared.owners.Owned.{Owned}
 use Rattle.heap_tables.specs.declared.owners.Owner.{Owner}
 use Rattle.heap_tables.specs.declared.owners.Owner.TheVariants.{Heap, User}
 use Rattle.heap_tables.specs.Owners.{owner_of, same_owner}
-use Rattle.heap_tables.specs.Joining.{same, same_rights, goes_on, with_next, lines_from, joined}
-use Rattle.heap_tables.specs.Walked.{place_in, IsWalked, IsOwned, has_page, AreGreatest}
+use Rattle.heap_tables.specs.Joining.{same, same_rights, goes_on, with_next, lines_from, joined_lines}
+use Rattle.heap_tables.specs.Walked.{place_in, IsWalked, IsOwned, line_has_page, AreGreatest}
 
 -- what is taken for a line if there is none
 abbrev pub none : Line
@@ -57,7 +57,7 @@ pub lines_last : (line : Line) (lines : List Line) (i : ℕ) → length lines �
 lines_last line lines i all = ap (lines_from line) (drop_all i lines all)
 
 -- and the first begins with the first
-pub lines_first : (lines : List Line) (d : Line) → 0 < length lines → lines_from (get_or lines 0 d) (drop 1 lines) ≡ joined lines
+pub lines_first : (lines : List Line) (d : Line) → 0 < length lines → lines_from (get_or lines 0 d) (drop 1 lines) ≡ joined_lines lines
 lines_first [] d some = absurd (omega (arith, some))
 lines_first (r ∷ rs) d some = refl
 
@@ -193,15 +193,15 @@ all_from P line (next ∷ lines) both first rest =
     go false is joined other = (first, other)
 
 all_joined : (P : Line → Type 0) (lines : List Line) → ((a b : Line) → GoesOn a b → P a → P b → P (with_next a b)) →
-    AllByRecursion P lines → AllByRecursion P (joined lines)
+    AllByRecursion P lines → AllByRecursion P (joined_lines lines)
 all_joined P [] both all = tt
 all_joined P (line ∷ lines) both all = all_from P line lines both all.0 all.1
 
 pub walked_joined : (words : List ℕ) (root : ℕ) (lines : List Line) → AllByRecursion (IsWalked words root) lines →
-    AllByRecursion (IsWalked words root) (joined lines)
+    AllByRecursion (IsWalked words root) (joined_lines lines)
 walked_joined words root lines all = all_joined (IsWalked words root) lines (joined_walked words root) all
 
-pub owned_joined : (regions : List Owned) (lines : List Line) → AllByRecursion (IsOwned regions) lines → AllByRecursion (IsOwned regions) (joined lines)
+pub owned_joined : (regions : List Owned) (lines : List Line) → AllByRecursion (IsOwned regions) lines → AllByRecursion (IsOwned regions) (joined_lines lines)
 owned_joined regions lines all = all_joined (IsOwned regions) lines (joined_owned regions) all
 
 -- what lies in a line and the next lies in both as one
@@ -209,24 +209,27 @@ joined_has : (page a b c d : ℕ) → a < b → b ≡ c → c < d → (nat_le a 
     d) ≡ ((nat_le a page && nat_lt page b) || (nat_le c page && nat_lt page d))
 joined_has page a b c d some next more = grind (arith, nat_tests, some, next, more)
 
-has_from : (page : ℕ) (line : Line) (lines : List Line) → list_any (has_page page)
-    (lines_from line lines) ≡ (has_page page line || list_any (has_page page) lines)
+has_from : (page : ℕ) (line : Line) (lines : List Line) → list_any (line_has_page page)
+    (lines_from line lines) ≡ (line_has_page page line || list_any (line_has_page page) lines)
 has_from page line [] = refl
 has_from page line (next ∷ lines) = go (goes_on line next) refl (has_from page (with_next line next) lines) (has_from page next lines)
   where
-    go : (b : Bool) → goes_on line next ≡ b → list_any (has_page page)
-        (lines_from (with_next line next) lines) ≡ (has_page page (with_next line next) || list_any (has_page page) lines) →
-        list_any (has_page page) (lines_from next lines) ≡ (has_page page next || list_any (has_page page) lines) →
-        list_any (has_page page) (if b then lines_from (with_next line next) lines else line ∷ lines_from next
-        lines) ≡ (has_page page line || (has_page page next || list_any (has_page page) lines))
+    go : (b : Bool) → goes_on line next ≡ b → list_any (line_has_page page)
+        (lines_from (with_next line next) lines) ≡ (line_has_page page (with_next line next) || list_any
+        (line_has_page page) lines) →
+        list_any (line_has_page page) (lines_from next lines) ≡ (line_has_page page next || list_any (line_has_page page)
+        lines) →
+        list_any (line_has_page page) (if b then lines_from (with_next line next) lines else line ∷ lines_from next
+        lines) ≡ (line_has_page page line || (line_has_page page next || list_any (line_has_page page) lines))
     go true is joined other =
         let on = goes line next is in
         joined
-        ∙ ap (λ (b : Bool). b || list_any (has_page page) lines) (joined_has page line.page line.end next.page next.end on.some on.behind on.more)
-        ∙ one_of_three (has_page page line) (has_page page next) (list_any (has_page page) lines)
-    go false is joined other = ap (λ (b : Bool). has_page page line || b) other
+        ∙ ap (λ (b : Bool). b || list_any (line_has_page page) lines) (joined_has page line.page line.end next.page next.end on.some on.behind on.more)
+        ∙ one_of_three (line_has_page page line) (line_has_page page next) (list_any (line_has_page page) lines)
+    go false is joined other = ap (λ (b : Bool). line_has_page page line || b) other
 
-pub has_joined : (page : ℕ) (lines : List Line) → list_any (has_page page) (joined lines) ≡ list_any (has_page page) lines
+pub has_joined : (page : ℕ) (lines : List Line) → list_any (line_has_page page) (joined_lines lines) ≡ list_any
+    (line_has_page page) lines
 has_joined page [] = refl
 has_joined page (line ∷ lines) = has_from page line lines
 
@@ -258,6 +261,6 @@ ended line (next ∷ lines) =
     go true is joined other = (joined.all, λ x no. joined.behind x (begins_alike x line next (goes line next is) ∙ no))
     go false is joined other = (other.behind line is, λ x no. (no, other.behind line is))
 
-pub greatest_joined : (lines : List Line) → AreGreatest (joined lines)
+pub greatest_joined : (lines : List Line) → AreGreatest (joined_lines lines)
 greatest_joined [] = tt
 greatest_joined (line ∷ lines) = (ended line lines).all

@@ -10,8 +10,8 @@ use Rattle.paging_core.proofs.Reach.{reach_none}
 use Rattle.paging_core.proofs.Prefixes.{prefix_parent, prefix_more, walk_reach, walk_stops, none_more, reach_root}
 use Rattle.heap_tables.specs.declared.lines.Line.{Line}
 use Rattle.heap_tables.specs.declared.owners.Owned.{Owned}
-use Rattle.heap_tables.specs.Lines.{line_of, large_lines, lines_below, large_entry_of, entry_lines, entries_lines, first_page, lines_under, entry_lines_of}
-use Rattle.heap_tables.specs.Walked.{has_page}
+use Rattle.heap_tables.specs.Lines.{line_of, large_lines, lines_below, large_entry_of, entry_lines, entries_lines, lowest_page_below, lines_under, entry_lines_of}
+use Rattle.heap_tables.specs.Walked.{line_has_page}
 use Rattle.heap_tables.proofs.Walks.{step_met, large_met}
 
 left_false : (a b : Bool) → (a || b) ≡ false → a ≡ false
@@ -82,7 +82,7 @@ not_both false is none = absurd (let wrong : false ≡ true = is in cc)
 
 -- a page that is in no large page of a list is in none
 larges_none : (regions : List Owned) (page number : ℕ) (o : Option Place) → page / 512 ≡ number →
-    list_any (has_page page) (large_lines regions number o) ≡ false → o ≡ None
+    list_any (line_has_page page) (large_lines regions number o) ≡ false → o ≡ None
 larges_none regions page number None here none = refl
 larges_none regions page number (Some large) here none = not_both (nat_le (512 * number) page && nat_lt page
     (512 * number + 512)) (in_slot number page here) none
@@ -91,7 +91,7 @@ larges_none regions page number (Some large) here none = not_both (nat_le (512 *
 entry_none : (words : List ℕ) (regions : List Owned) (root page l number index : ℕ) (table : Place) → l ≤ 3 →
     page < 2 ^ 36 → index < 512 → 512 * number + index ≡ prefix_of page (4 - l) →
     reach words root (3 - l) number ≡ Some table →
-    list_any (has_page page) (large_lines regions (512 * number + index)
+    list_any (line_has_page page) (large_lines regions (512 * number + index)
     (large_entry_of words (3 - l) table index)) ≡ false → l ≡ 1 → large_of words root (prefix_of page 3) ≡ None
 entry_none words regions root page zero number index table low few within whole met none one = absurd (omega (arith, one))
 entry_none words regions root page (suc zero) number index table low few within whole met none one =
@@ -105,27 +105,27 @@ entry_none words regions root page (suc (suc l)) number index table low few with
 under_entry : (words : List ℕ) (regions : List Owned) (root left page number index : ℕ) (place : Place) → left ≤ 3 →
     page < 2 ^ 36 → index < 512 → 512 * number + index ≡ prefix_of page (4 - left) →
     reach words root (3 - left) number ≡ Some place →
-    list_any (has_page page) (entry_lines words regions (lines_under words regions left) (3 - left) number place index) ≡ false →
+    list_any (line_has_page page) (entry_lines words regions (lines_under words regions left) (3 - left) number place index) ≡ false →
     ((next : Place) → reach words root (4 - left) (512 * number + index) ≡ Some next →
-    list_any (has_page page) (lines_under words regions left (512 * number + index) next) ≡ false →
+    list_any (line_has_page page) (lines_under words regions left (512 * number + index) next) ≡ false →
     walk_of words root page ≡ None) →
     walk_of words root page ≡ None
 under_entry words regions root left page number index place low few within whole met entry more =
     let larges = large_lines regions (512 * number + index) (large_entry_of words (3 - left) place index) in
     let below = lines_below (lines_under words regions left) (512 * number + index) (step words (3 - left) place index) in
     go (step words (3 - left) place index) (step_met words root left number index place low within met)
-    (entry_none words regions root page left number index place low few within whole met (none_left (has_page page) larges below entry))
-    (none_right (has_page page) larges below entry)
+    (entry_none words regions root page left number index place low few within whole met (none_left (line_has_page page) larges below entry))
+    (none_right (line_has_page page) larges below entry)
   where
     go : (o : Option Place) → reach words root (4 - left) (512 * number + index) ≡ o → (left ≡ 1 → large_of words root (prefix_of page 3) ≡ None) →
-        list_any (has_page page) (lines_below (lines_under words regions left) (512 * number + index) o) ≡ false → walk_of words root page ≡ None
+        list_any (line_has_page page) (lines_below (lines_under words regions left) (512 * number + index) o) ≡ false → walk_of words root page ≡ None
     go None stops small none = none_walk words root page left low (ap (reach words root (4 - left)) (sym whole) ∙ stops) small
     go (Some next) leads small none = more next leads none
 
 -- A page that is in nothing below a place that its walk meets is not mapped.
 pub under_none : (words : List ℕ) (regions : List Owned) (root left page number : ℕ) (place : Place) → left ≤ 4 →
     page < 2 ^ 36 → number ≡ prefix_of page (4 - left) → reach words root (4 - left) number ≡ Some place →
-    list_any (has_page page) (lines_under words regions left number place) ≡ false → walk_of words root page ≡ None
+    list_any (line_has_page page) (lines_under words regions left number place) ≡ false → walk_of words root page ≡ None
 unfolding lines_under
 under_none words regions root zero page number place low few is met none =
     let here : page ≡ number = omega (arith, few, is) in
@@ -139,7 +139,8 @@ under_none words regions root (suc left) page number place low few is met none =
     ap (λ (n : ℕ). 512 * n + prefix_of page (4 - left) % 512) is' ∙ prefix_next page left low' in
     let within : prefix_of page (4 - left) % 512 < 512 = mod_below (prefix_of page (4 - left)) 512 (omega arith) in
     under_entry words regions root left page number (prefix_of page (4 - left) % 512) place low' few within whole met'
-    (entries_none (has_page page) words regions (lines_under words regions left) (3 - left) number place 512 (prefix_of page (4 - left) % 512) within
-    (right_false (has_page page (line_of regions (3 - left) (number % 512) (first_page (suc left) number) (first_page (suc left) number) place))
-    (list_any (has_page page) (entries_lines words regions (lines_under words regions left) (3 - left) number place 512)) none))
+    (entries_none (line_has_page page) words regions (lines_under words regions left) (3 - left) number place 512 (prefix_of page (4 - left) % 512) within
+    (right_false (line_has_page page (line_of regions (3 - left) (number % 512) (lowest_page_below (suc left) number)
+    (lowest_page_below (suc left) number) place))
+    (list_any (line_has_page page) (entries_lines words regions (lines_under words regions left) (3 - left) number place 512)) none))
     (λ next. under_none words regions root left page (512 * number + prefix_of page (4 - left) % 512) next (omega (arith, low)) few whole)

@@ -9,8 +9,8 @@ use Rattle.paging_core.proofs.Reach.{reach_suc, reach_last, reach_in, reach_none
 use Rattle.paging_core.proofs.Prefixes.{prefix_parent, prefix_more, walk_reach, walk_stops, none_more, reach_root}
 use Rattle.heap_tables.specs.declared.lines.Line.{Line}
 use Rattle.heap_tables.specs.declared.owners.Owned.{Owned}
-use Rattle.heap_tables.specs.Lines.{line_of, large_lines, lines_below, large_entry_of, entry_lines, entries_lines, first_page, lines_under, entry_lines_of}
-use Rattle.heap_tables.specs.Walked.{place_in, IsWalked, has_page}
+use Rattle.heap_tables.specs.Lines.{line_of, large_lines, lines_below, large_entry_of, entry_lines, entries_lines, lowest_page_below, lines_under, entry_lines_of}
+use Rattle.heap_tables.specs.Walked.{place_in, IsWalked, line_has_page}
 
 -- an entry of a table that is met leads where the walk goes on
 pub step_met : (words : List ℕ) (root l number index : ℕ) (table : Place) → l ≤ 3 → index < 512 → reach words root (3 - l) number ≡ Some table →
@@ -111,7 +111,7 @@ under_hold P words regions root (suc left) number place holds low few met =
     let e : 4 - suc left ≡ 3 - left = omega arith in
     let few' = subst (λ (n : ℕ). number < 512 ^ n) e few in
     let met' = subst (λ (n : ℕ). reach words root n number ≡ Some place) e met in (
-      holds.tables (3 - left) (number % 512) (first_page (suc left) number) place,
+      holds.tables (3 - left) (number % 512) (lowest_page_below (suc left) number) place,
       entries_all P words regions (lines_under words regions left) (3 - left) number place 512 (λ index within.
           all_both P (large_lines regions (512 * number + index) (large_entry_of words (3 - left) place index))
           (lines_below (lines_under words regions left) (512 * number + index) (step words (3 - left) place index))

@@ -31,10 +31,10 @@ lines_from line [] = line ∷ []
 lines_from line (next ∷ lines) = if goes_on line next then lines_from (with_next line next) lines else line ∷ lines_from next lines
 
 -- all lines, joined
-abbrev pub joined : List Line → List Line
-joined [] = []
-joined (line ∷ lines) = lines_from line lines
+abbrev pub joined_lines : List Line → List Line
+joined_lines [] = []
+joined_lines (line ∷ lines) = lines_from line lines
 
 -- The lines of page tables. Those of a table stand between its own and that of the next table, so what is joined is of one table.
-abbrev pub lines_of : List ℕ → List Owned → ℕ → List Line
-lines_of words regions root = joined (entry_lines_of words regions root)
+abbrev pub joined_table_lines : List ℕ → List Owned → ℕ → List Line
+joined_table_lines words regions root = joined_lines (entry_lines_of words regions root)

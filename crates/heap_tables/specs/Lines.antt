@@ -37,14 +37,14 @@ entries_lines words regions below level number table (suc count) =
     entries_lines words regions below level number table count ++ entry_lines words regions below level number table count
 
 -- the first page below a place from which `left` more entries lead to a page
-abbrev pub first_page : ℕ → ℕ → ℕ
-first_page left number = number * 512 ^ left
+abbrev pub lowest_page_below : ℕ → ℕ → ℕ
+lowest_page_below left number = number * 512 ^ left
 
 -- A place from which `left` more entries lead to a page, and what is below it: a page, or a table and what its 512 entries lead to.
 unfoldable pub lines_under : List ℕ → List Owned → ℕ → ℕ → Place → List Line
 lines_under words regions zero number place = line_of regions 4 (number % 512) number (number + 1) place ∷ []
 lines_under words regions (suc left) number place =
-    line_of regions (3 - left) (number % 512) (first_page (suc left) number) (first_page (suc left) number) place
+    line_of regions (3 - left) (number % 512) (lowest_page_below (suc left) number) (lowest_page_below (suc left) number) place
     ∷ entries_lines words regions (lines_under words regions left) (3 - left) number place 512
 
 -- the lines of all entries of page tables with this root

@@ -10,12 +10,12 @@ abbrev pub address_of : ℕ → ℕ
 address_of page = if nat_lt (page % 2 ^ 36) (2 ^ 35) then page % 2 ^ 36 * 4096 else page % 2 ^ 36 * 4096 + (2 ^ 64 - 2 ^ 48)
 
 -- the address after a region
-abbrev pub end_of : Owned → ℕ
-end_of region = region.start + 4096 * region.pages
+abbrev pub owned_end : Owned → ℕ
+owned_end region = region.start + 4096 * region.pages
 
 -- whether an address lies in a region
 abbrev pub has_address : ℕ → Owned → Bool
-has_address address region = nat_le region.start address && nat_lt address (end_of region)
+has_address address region = nat_le region.start address && nat_lt address (owned_end region)
 
 -- whose an address is: of the owner of the first region in which it lies, or the user's if it lies in none
 abbrev pub owner_at : List Owned → ℕ → Owner
@@ -27,9 +27,9 @@ abbrev pub owner_of : List Owned → ℕ → Owner
 owner_of regions page = owner_at regions (address_of page)
 
 -- each region begins where those before it have ended, or after that
-abbrev pub AreAscending : List Owned → Type 0
-AreAscending [] = ⊤
-AreAscending (region ∷ rest) = AllByRecursion (λ next. end_of region ≤ next.start) rest × AreAscending rest
+abbrev pub AreOwnedAscending : List Owned → Type 0
+AreOwnedAscending [] = ⊤
+AreOwnedAscending (region ∷ rest) = AllByRecursion (λ next. owned_end region ≤ next.start) rest × AreOwnedAscending rest
 
 -- whether two owners are the same
 abbrev pub same_owner : Owner → Owner → Bool

@@ -1,18 +1,18 @@
 -- The drawing of page tables: a row for each line, and below them the frames of the memory by their use.
 use Rattle.std.specs.Prelude.{ℕ, zero, suc, ◌+◌, ◌-◌, ◌*◌, ◌/◌, ◌%◌, ◌^◌, min, max, nat_eq, nat_lt, nat_le, List, [], ◌∷◌, ◌++◌, length, take, drop, codes, if◌then◌else◌}
 use Rattle.std.specs.List.{list_any, sum_by}
-use Rattle.heap_map.specs.Words.{commas, counted}
+use Rattle.heap_map.specs.Words.{commas, quantity}
 use Rattle.heap_map.specs.Shapes.{text_at, rect, titled}
 use Rattle.heap_tables.specs.declared.lines.Line.{Line}
 use Rattle.heap_tables.specs.declared.uses.Use.{Use}
 use Rattle.heap_tables.specs.declared.uses.Use.TheVariants.{Table, Large, HeapPage, UserPage, Free}
-use Rattle.heap_tables.specs.Rows.{pages_of, row_text}
-use Rattle.heap_tables.specs.Uses.{uses_of, same_use, number_of}
+use Rattle.heap_tables.specs.Rows.{line_pages, table_row_text}
+use Rattle.heap_tables.specs.Uses.{uses_of, same_use, use_count}
 
 -- rows, one below the other
-abbrev pub rows_text : ℕ → List Line → List ℕ
-rows_text y [] = []
-rows_text y (line ∷ lines) = row_text y line ++ rows_text (y + 22) lines
+abbrev pub table_rows_text : ℕ → List Line → List ℕ
+table_rows_text y [] = []
+table_rows_text y (line ∷ lines) = table_row_text y line ++ table_rows_text (y + 22) lines
 
 -- how many of the lines have room: 200, or 199 and how many more there are
 abbrev pub rows_shown : ℕ → ℕ
@@ -24,15 +24,15 @@ rows_number lines = min lines 200
 
 -- how many lines there are more, at least two, and their pages
 unfoldable pub more_words : ℕ → ℕ → List ℕ
-more_words lines pages = codes "and " ++ (commas lines ++ (codes " lines more, of " ++ counted (codes "page") pages))
+more_words lines pages = codes "and " ++ (commas lines ++ (codes " lines more, of " ++ quantity (codes "page") pages))
 
 unfoldable pub more_text : ℕ → List Line → List ℕ
-more_text y lines = if nat_eq (length lines) 0 then [] else text_at (codes "faint") 24 (y + 15) (more_words (length lines) (sum_by pages_of lines))
+more_text y lines = if nat_eq (length lines) 0 then [] else text_at (codes "faint") 24 (y + 15) (more_words (length lines) (sum_by line_pages lines))
 
 -- the lines that have room, and the others counted
 unfoldable pub list_text : List Line → List ℕ
 list_text lines =
-    rows_text 96 (take (rows_shown (length lines)) lines)
+    table_rows_text 96 (take (rows_shown (length lines)) lines)
     ++ more_text (96 + 22 * rows_shown (length lines)) (drop (rows_shown (length lines)) lines)
 
 -- what stands above the lines, and above their entries
@@ -46,8 +46,8 @@ unfoldable pub title_words : List ℕ
 title_words = codes "The page tables after a run"
 
 -- what the columns are
-unfoldable pub columns_text : List ℕ
-columns_text =
+unfoldable pub columns_heading : List ℕ
+columns_heading =
     text_at (codes "q") 24 76 lines_heading
     ++ (text_at (codes "q") 362 76 (codes "owner")
     ++ (text_at (codes "q") 416 76 (codes "rights")
@@ -55,7 +55,7 @@ columns_text =
 
 -- what stands above the rows
 unfoldable pub heading_text : List ℕ
-heading_text = text_at (codes "h") 24 40 title_words ++ columns_text
+heading_text = text_at (codes "h") 24 40 title_words ++ columns_heading
 
 -- the colour of a use, as the class of a rectangle
 abbrev pub use_class : Use → List ℕ
@@ -86,10 +86,10 @@ count_words kind number = commas number ++ (codes " " ++ (if nat_eq number 1 the
 
 -- a use in the legend, at a place, with its frames
 unfoldable pub count_text : ℕ → ℕ → Use → List Use → List ℕ
-count_text x y kind uses = rect (use_class kind) x (y - 10) 12 12 ++ text_at (codes "p") (x + 18) y (count_words kind (number_of kind uses))
+count_text x y kind uses = rect (use_class kind) x (y - 10) 12 12 ++ text_at (codes "p") (x + 18) y (count_words kind (use_count kind uses))
 
-unfoldable pub legend_text : ℕ → List Use → List ℕ
-legend_text y uses =
+unfoldable pub frames_legend_text : ℕ → List Use → List ℕ
+frames_legend_text y uses =
     text_at (codes "q") 24 y (codes "Frames")
     ++ (count_text 104 y Table uses
     ++ (count_text 272 y HeapPage uses ++ (count_text 506 y UserPage uses ++ (count_text 740 y Large uses ++ count_text 952 y Free uses))))
@@ -139,7 +139,7 @@ scale_words of = codes "frames in each square: " ++ commas of
 -- the frames, from a base line on
 unfoldable pub frames_text : ℕ → List Use → List ℕ
 frames_text y uses =
-    legend_text y uses
+    frames_legend_text y uses
     ++ (text_at (codes "e faint") 1280 y (scale_words (square_frames (length uses)))
     ++ squares_text (y + 12) (square_frames (length uses)) uses (squares_number (square_frames (length uses)) (length uses)))
 

@@ -5,16 +5,16 @@ use Rattle.heap_tables.specs.declared.owners.Owner.{Owner}
 use Rattle.heap_tables.specs.declared.owners.Owner.TheVariants.{Heap, User}
 use Rattle.heap_tables.specs.declared.uses.Use.{Use}
 use Rattle.heap_tables.specs.declared.uses.Use.TheVariants.{Table, Large, HeapPage, UserPage, Free}
-use Rattle.heap_tables.specs.Rows.{frames_of, is_table, is_large}
+use Rattle.heap_tables.specs.Rows.{frames_of, is_table, has_large_pages}
 
 -- a page of an owner
-abbrev pub page_of : Owner → Use
-page_of Heap = HeapPage
-page_of User = UserPage
+abbrev pub use_of_owner : Owner → Use
+use_of_owner Heap = HeapPage
+use_of_owner User = UserPage
 
 -- what a line uses its frames for
 abbrev pub use_in : Line → Use
-use_in line = if is_table line then Table else if is_large line then Large else page_of line.owner
+use_in line = if is_table line then Table else if has_large_pages line then Large else use_of_owner line.owner
 
 -- whether a frame is one of a line
 abbrev pub has_frame : ℕ → Line → Bool
@@ -40,11 +40,11 @@ same_use Free Free = true
 same_use one other = false
 
 -- how many frames are used so
-abbrev pub number_of : Use → List Use → ℕ
-number_of kind uses = count_by (same_use kind) uses
+abbrev pub use_count : Use → List Use → ℕ
+use_count kind uses = count_by (same_use kind) uses
 
 -- each frame is counted once
 abbrev pub EachFrameIsCountedOnce : Type 0
 EachFrameIsCountedOnce = (lines : List Line) (frames : ℕ) →
-    number_of Table (uses_of lines frames) + number_of Large (uses_of lines frames) + number_of HeapPage (uses_of lines frames) + number_of UserPage (uses_of lines frames)
-    + number_of Free (uses_of lines frames) ≡ frames
+    use_count Table (uses_of lines frames) + use_count Large (uses_of lines frames) + use_count HeapPage (uses_of lines frames) + use_count UserPage (uses_of lines frames)
+    + use_count Free (uses_of lines frames) ≡ frames

@@ -4,7 +4,7 @@ use Rattle.std.specs.List.{list_any, AllByRecursion}
 use Rattle.paging_core.specs.Walk.{Place, large_of, walk_of}
 use Rattle.heap_tables.specs.declared.lines.Line.{Line}
 use Rattle.heap_tables.specs.declared.owners.Owned.{Owned}
-use Rattle.heap_tables.specs.Joining.{goes_on, lines_of}
+use Rattle.heap_tables.specs.Joining.{goes_on, joined_table_lines}
 use Rattle.heap_tables.specs.Owners.{owner_of}
 
 -- where a line says that a page is
@@ -16,13 +16,13 @@ abbrev pub IsWalked : List ℕ → ℕ → Line → Type 0
 IsWalked words root line = (page : ℕ) → line.page ≤ page → page < line.end → walk_of words root page ≡ Some (place_in line page)
 
 -- whether a page is one of a line
-abbrev pub has_page : ℕ → Line → Bool
-has_page page line = nat_le line.page page && nat_lt page line.end
+abbrev pub line_has_page : ℕ → Line → Bool
+line_has_page page line = nat_le line.page page && nat_lt page line.end
 
 -- Each page is in its line: what a line says of its pages the walk finds, and a page that is in no line is not mapped.
 pub record AreWalked (words : List ℕ) (root : ℕ) (lines : List Line) : Type 0 where
   pub said : AllByRecursion (IsWalked words root) lines
-  pub unsaid : (page : ℕ) → page < 2 ^ 36 → list_any (has_page page) lines ≡ false → walk_of words root page ≡ None
+  pub unsaid : (page : ℕ) → page < 2 ^ 36 → list_any (line_has_page page) lines ≡ false → walk_of words root page ≡ None
 
 -- the owner that a line says is that of each of its pages
 abbrev pub IsOwned : List Owned → Line → Type 0
@@ -43,10 +43,10 @@ AreGreatest (line ∷ []) = ⊤
 AreGreatest (line ∷ next ∷ lines) = (goes_on line next ≡ false) × AreGreatest (next ∷ lines)
 
 -- so are the lines of page tables, whatever words they have, and whosever their pages are
-pub record AreLines (words : List ℕ) (regions : List Owned) (root : ℕ) : Type 0 where
-  pub walked : AreWalked words root (lines_of words regions root)
-  pub owned : AreOwned words regions root (lines_of words regions root)
-  pub greatest : AreGreatest (lines_of words regions root)
+pub record AreTableLines (words : List ℕ) (regions : List Owned) (root : ℕ) : Type 0 where
+  pub walked : AreWalked words root (joined_table_lines words regions root)
+  pub owned : AreOwned words regions root (joined_table_lines words regions root)
+  pub greatest : AreGreatest (joined_table_lines words regions root)
 
 abbrev pub EachPageIsInItsLine : Type 0
-EachPageIsInItsLine = (words : List ℕ) (regions : List Owned) (root : ℕ) → AreLines words regions root
+EachPageIsInItsLine = (words : List ℕ) (regions : List Owned) (root : ℕ) → AreTableLines words regions root

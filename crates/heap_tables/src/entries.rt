@@ -3,7 +3,7 @@ ghost use Rattle.std.specs.Prelude.{◌≡◌, ◌<◌, ◌^◌, IfSome, Some, N
 ghost use Rattle.std.specs.Option.{option_map};
 ghost use Rattle.paging_core.specs.Memory.{frame_count};
 ghost use Rattle.paging_core.specs.Entry.{has_bit};
-ghost use Rattle.paging_core.specs.Walk.{is_present, is_run, named, step, large_step, place_of};
+ghost use Rattle.paging_core.specs.Walk.{is_present, is_run, named, step, large_step, mapped_place};
 ghost use Rattle.heap_tables.specs.Lines.{large_entry_of};
 
 use paging_core::{Frames, Mapped, PageTableEntry, PhysFrame, get_bits};
@@ -18,7 +18,7 @@ fn has_bit(word: u64, bit: u32) -> bool
 
 // What an entry names, from a place, be it present and its frame there or not.
 fn named(from: Mapped, entry: u64) -> Mapped
-    ensures { place_of result ≡ named (place_of from) entry }
+    ensures { mapped_place result ≡ named (mapped_place from) entry }
 {
     Mapped {
         frame: PageTableEntry::from_bits(entry).frame(),
@@ -30,7 +30,7 @@ fn named(from: Mapped, entry: u64) -> Mapped
 
 // Where an entry leads, from a place.
 fn follow(frames: &Frames, from: Mapped, entry: u64) -> Option<Mapped>
-    ensures led { option_map place_of result ≡ (if is_present frames.now entry then Some (named (place_of from) entry) else None) }
+    ensures led { option_map mapped_place result ≡ (if is_present frames.now entry then Some (named (mapped_place from) entry) else None) }
     ensures below { IfSome result (λ to. to.frame < frame_count frames.now) }
 {
     if !has_bit(entry, 0) {
@@ -49,7 +49,7 @@ fn follow(frames: &Frames, from: Mapped, entry: u64) -> Option<Mapped>
 pub fn next(frames: &Frames, level: u32, table: &Mapped, index: u16) -> Option<Mapped>
     requires table { table.now.frame < frame_count frames.now }
     requires index { index < 512 }
-    ensures step { option_map place_of result ≡ step frames.now level (place_of table.now) index }
+    ensures step { option_map mapped_place result ≡ step frames.now level (mapped_place table.now) index }
     ensures below { IfSome result (λ to. to.frame < frame_count frames.now) }
 {
     let entry = frames.word(table.frame, index);
@@ -72,7 +72,7 @@ fn is_run(frames: &Frames, first: PhysFrame) -> bool
 fn large_at(frames: &Frames, table: &Mapped, index: u16) -> Option<Mapped>
     requires table { table.now.frame < frame_count frames.now }
     requires index { index < 512 }
-    ensures { option_map place_of result ≡ large_step frames.now (place_of table.now) index }
+    ensures { option_map mapped_place result ≡ large_step frames.now (mapped_place table.now) index }
 {
     let entry = frames.word(table.frame, index);
     let to = follow(frames, *table, entry)?;
@@ -87,7 +87,7 @@ fn large_at(frames: &Frames, table: &Mapped, index: u16) -> Option<Mapped>
 pub fn large_entry_of(frames: &Frames, level: u32, table: &Mapped, index: u16) -> Option<Mapped>
     requires table { table.now.frame < frame_count frames.now }
     requires index { index < 512 }
-    ensures { option_map place_of result ≡ large_entry_of frames.now level (place_of table.now) index }
+    ensures { option_map mapped_place result ≡ large_entry_of frames.now level (mapped_place table.now) index }
 {
     if level == 2 {
         large_at(frames, table, index)

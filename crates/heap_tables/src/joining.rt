@@ -1,6 +1,6 @@
 // Lines that go on, as one.
 ghost use Rattle.std.specs.Prelude.{◌≡◌, IfOk};
-ghost use Rattle.heap_tables.specs.Joining.{same, same_rights, goes_on, with_next, joined};
+ghost use Rattle.heap_tables.specs.Joining.{same, same_rights, goes_on, with_next, joined_lines};
 
 use crate::lines::Line;
 use crate::owners::same_owner;
@@ -52,7 +52,7 @@ fn with_next(line: Line, next: Line) -> Line
 /// The lines, in which those that go on are one.
 #[tactic(auto, using(crate::proofs::Joins::lines_step, crate::proofs::Joins::lines_last, crate::proofs::Joins::lines_first, std::proofs::lemmas::Grind::common_steps))]
 pub fn joined(alloc: Global, lines: &[Line]) -> Result<Vec<Line>, AllocError>
-    ensures { IfOk result (λ all. all.items ≡ joined lines.now) }
+    ensures { IfOk result (λ all. all.items ≡ joined_lines lines.now) }
 {
     let mut all = Vec::new(alloc);
     if lines.is_empty() {

@@ -1,6 +1,6 @@
 // Whose pages are.
 ghost use Rattle.std.specs.Prelude.{◌≡◌};
-ghost use Rattle.heap_tables.specs.Owners.{address_of, end_of, owner_at, owner_of, same_owner, AreAscending};
+ghost use Rattle.heap_tables.specs.Owners.{address_of, owned_end, owner_at, owner_of, same_owner, AreOwnedAscending};
 
 /// Who has pages.
 #[derive(Clone, Copy, PartialEq, Eq, Debug)]
@@ -46,7 +46,7 @@ pub fn address_of(page: u64) -> u64
 
 // The address after a region.
 fn end_of(region: Owned) -> u128
-    ensures { result ≡ end_of region }
+    ensures { result ≡ owned_end region }
 {
     u128::from(region.start) + 4096 * u128::from(region.pages)
 }
@@ -54,7 +54,7 @@ fn end_of(region: Owned) -> u128
 // Whose an address is. Regions ascend, so that each step leaves out half of them: a search takes as many steps as their
 // number has bits.
 fn owner_at(regions: &[Owned], address: u64) -> Owner
-    requires { AreAscending regions.now }
+    requires { AreOwnedAscending regions.now }
     ensures { result ≡ owner_at regions.now address }
 {
     if regions.is_empty() {
@@ -73,7 +73,7 @@ fn owner_at(regions: &[Owned], address: u64) -> Owner
 
 /// Whose a page is, by the low 36 bits of its number.
 pub fn owner_of(regions: &[Owned], page: u64) -> Owner
-    requires { AreAscending regions.now }
+    requires { AreOwnedAscending regions.now }
     ensures { result ≡ owner_of regions.now page }
 {
     owner_at(regions, address_of(page))

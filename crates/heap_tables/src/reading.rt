@@ -2,11 +2,11 @@
 ghost use Rattle.std.specs.Prelude.{◌≡◌, ◌+◌, ◌-◌, ◌*◌, ◌<◌, ◌≤◌, ◌^◌, ◌++◌, ◌∷◌, [], IfOk, OnOk};
 ghost use Rattle.std.specs.Option.{option_map};
 ghost use Rattle.paging_core.specs.Memory.{frame_count};
-ghost use Rattle.paging_core.specs.Walk.{place_of, step, top};
-ghost use Rattle.heap_tables.specs.Lines.{line_of, large_lines, large_entry_of, first_page, entry_lines, entries_lines, lines_under, entry_lines_of};
-ghost use Rattle.heap_tables.specs.Joining.{lines_of};
-ghost use Rattle.heap_tables.specs.Owners.{AreAscending};
-ghost use Rattle.heap_tables.specs.Walked.{AreWalked, AreOwned, AreLines};
+ghost use Rattle.paging_core.specs.Walk.{mapped_place, step, top};
+ghost use Rattle.heap_tables.specs.Lines.{line_of, large_lines, large_entry_of, lowest_page_below, entry_lines, entries_lines, lines_under, entry_lines_of};
+ghost use Rattle.heap_tables.specs.Joining.{joined_table_lines};
+ghost use Rattle.heap_tables.specs.Owners.{AreOwnedAscending};
+ghost use Rattle.heap_tables.specs.Walked.{AreWalked, AreOwned, AreTableLines};
 
 use crate::entries::{large_entry_of, next};
 use crate::joining::joined;
@@ -17,7 +17,7 @@ use std::alloc::{AllocError, Global};
 
 // A frame with all rights, as each table is met.
 fn top(frame: PhysFrame) -> Mapped
-    ensures { place_of result ≡ top frame }
+    ensures { mapped_place result ≡ top frame }
 {
     Mapped {
         frame,
@@ -29,8 +29,8 @@ fn top(frame: PhysFrame) -> Mapped
 
 // The line of a place at which a walk arrives.
 fn line_of(regions: &[Owned], steps: u32, index: u64, page: u64, end: u64, place: &Mapped) -> Line
-    requires { AreAscending regions.now }
-    ensures { result ≡ line_of regions.now steps index page end (place_of place.now) }
+    requires { AreOwnedAscending regions.now }
+    ensures { result ≡ line_of regions.now steps index page end (mapped_place place.now) }
 {
     Line {
         steps,
@@ -51,7 +51,7 @@ fn line_of(regions: &[Owned], steps: u32, index: u64, page: u64, end: u64, place
 fn first_page(left: u32, number: u64) -> u64
     requires left { left ≤ 4 }
     requires number { number < 512 ^ (4 - left) }
-    ensures { result ≡ first_page left number }
+    ensures { result ≡ lowest_page_below left number }
 {
     match left {
         0 => number,
@@ -69,9 +69,9 @@ fn push_large(
     number: u64,
     large: Option<Mapped>,
 ) -> Result<(), AllocError>
-    requires ascending { AreAscending regions.now }
+    requires ascending { AreOwnedAscending regions.now }
     requires number { number < 2 ^ 36 }
-    ensures { OnOk result (lines.new.items ≡ lines.old.items ++ large_lines regions.now number (option_map place_of large)) }
+    ensures { OnOk result (lines.new.items ≡ lines.old.items ++ large_lines regions.now number (option_map mapped_place large)) }
 {
     match large {
         Some(place) => {
@@ -108,12 +108,12 @@ fn push_entry(
     table: &Mapped,
     index: u64,
 ) -> Result<(), AllocError>
-    requires ascending { AreAscending regions.now }
+    requires ascending { AreOwnedAscending regions.now }
     requires left { (1 ≤ left) × (left ≤ 4) }
     requires number { number < 512 ^ (4 - left) }
     requires table { table.now.frame < frame_count frames.now }
     requires index { index < 512 }
-    ensures { OnOk result (lines.new.items ≡ lines.old.items ++ entry_lines frames.now regions.now (lines_under frames.now regions.now (left - 1)) (4 - left) number (place_of table.now) index) }
+    ensures { OnOk result (lines.new.items ≡ lines.old.items ++ entry_lines frames.now regions.now (lines_under frames.now regions.now (left - 1)) (4 - left) number (mapped_place table.now) index) }
 {
     let level = 4 - left;
     let below = below_of(left, number, index);
@@ -136,11 +136,11 @@ fn push_under(
     number: u64,
     place: &Mapped,
 ) -> Result<(), AllocError>
-    requires ascending { AreAscending regions.now }
+    requires ascending { AreOwnedAscending regions.now }
     requires left { left ≤ 4 }
     requires number { number < 512 ^ (4 - left) }
     requires place { place.now.frame < frame_count frames.now }
-    ensures { OnOk result (lines.new.items ≡ lines.old.items ++ lines_under frames.now regions.now left number (place_of place.now)) }
+    ensures { OnOk result (lines.new.items ≡ lines.old.items ++ lines_under frames.now regions.now left number (mapped_place place.now)) }
 {
     if left == 0 {
         lines.push(line_of(regions, 4, number % 512, number, number + 1, place))?;
@@ -164,8 +164,8 @@ pub fn table_lines(
     root: PhysFrame,
 ) -> Result<Vec<Line>, AllocError>
     requires root { root < frame_count frames.now }
-    requires ascending { AreAscending regions.now }
-    ensures lines { IfOk result (λ lines. lines.items ≡ lines_of frames.now regions.now root) }
+    requires ascending { AreOwnedAscending regions.now }
+    ensures lines { IfOk result (λ lines. lines.items ≡ joined_table_lines frames.now regions.now root) }
     ensures walked { IfOk result (λ lines. AreWalked frames.now root lines.items) }
     ensures owned { IfOk result (λ lines. AreOwned frames.now regions.now root lines.items) }
 {

@@ -1,6 +1,6 @@
 // Lines of page tables as rows of a drawing.
 ghost use Rattle.std.specs.Prelude.{◌≡◌, ◌<◌, ◌+◌, ◌-◌, ◌^◌, ◌++◌, OnOk, string_bytes};
-ghost use Rattle.heap_tables.specs.Rows.{pages_of, is_table, is_large, entries_of, frames_of, owner_words, owner_class, line_class, pages_words, line_words, frames_range, frames_words, entries_words, whose_words, line_title, mark_text, guides_text, left_of, owner_text, said_text, words_text, strip_text, row_text};
+ghost use Rattle.heap_tables.specs.Rows.{line_pages, is_table, has_large_pages, entries_of, frames_of, owner_words, owner_class, line_class, pages_words, line_words, frames_range, frames_words, entries_words, whose_words, line_title, line_mark_text, guides_text, line_left, owner_in_row, said_text, row_words_text, strip_text, table_row_text};
 
 use crate::lines::Line;
 use crate::owners::{Owner, address_of};
@@ -10,7 +10,7 @@ use std::alloc::{AllocError, Global};
 
 /// How many pages a line maps.
 pub fn pages_of(line: Line) -> u64
-    ensures { result ≡ pages_of line }
+    ensures { result ≡ line_pages line }
 {
     line.end.saturating_sub(line.page)
 }
@@ -24,7 +24,7 @@ pub fn is_table(line: Line) -> bool
 
 /// Whether a line of pages is one of large pages.
 pub fn is_large(line: Line) -> bool
-    ensures { result ≡ is_large line }
+    ensures { result ≡ has_large_pages line }
 {
     line.steps == 3
 }
@@ -176,11 +176,11 @@ fn push_title(out: &mut String, line: Line) -> Result<(), AllocError>
 }
 
 // Puts a mark of a line at the end. Its lower half shows large pages.
-#[tactic(auto, unfolding(crate::specs::Rows::mark_text))]
+#[tactic(auto, unfolding(crate::specs::Rows::line_mark_text))]
 fn push_mark(out: &mut String, area: Area, line: Line, title: &str) -> Result<(), AllocError>
     requires y { area.y < 2 ^ 110 }
     requires height { area.height < 2 ^ 100 }
-    ensures { OnOk result (string_bytes out.new ≡ string_bytes out.old ++ mark_text area.x area.y area.width area.height line title.now) }
+    ensures { OnOk result (string_bytes out.new ≡ string_bytes out.old ++ line_mark_text area.x area.y area.width area.height line title.now) }
 {
     push_titled(out, line_class(line), area, title)?;
     if is_table(line) {
@@ -218,17 +218,17 @@ fn push_guides(out: &mut String, y: u128, steps: u32) -> Result<(), AllocError>
 
 // The place of a line.
 fn left_of(line: Line) -> u128
-    ensures value { result ≡ left_of line }
+    ensures value { result ≡ line_left line }
     ensures few { result < 2 ^ 40 }
 {
     24 + 24 * u128::from(line.steps)
 }
 
 // Puts whose the pages are at the end.
-#[tactic(auto, unfolding(crate::specs::Rows::owner_text))]
+#[tactic(auto, unfolding(crate::specs::Rows::owner_in_row))]
 fn push_owner(out: &mut String, y: u128, line: Line) -> Result<(), AllocError>
     requires { y < 2 ^ 100 }
-    ensures { OnOk result (string_bytes out.new ≡ string_bytes out.old ++ owner_text y line) }
+    ensures { OnOk result (string_bytes out.new ≡ string_bytes out.old ++ owner_in_row y line) }
 {
     if is_table(line) {
         return Ok(());
@@ -255,10 +255,10 @@ fn push_said(alloc: Global, out: &mut String, y: u128, line: Line) -> Result<(),
 }
 
 // Puts what stands in a row at the end.
-#[tactic(auto, unfolding(crate::specs::Rows::words_text))]
+#[tactic(auto, unfolding(crate::specs::Rows::row_words_text))]
 fn push_words(alloc: Global, out: &mut String, y: u128, line: Line) -> Result<(), AllocError>
     requires { y < 2 ^ 100 }
-    ensures { OnOk result (string_bytes out.new ≡ string_bytes out.old ++ words_text y line) }
+    ensures { OnOk result (string_bytes out.new ≡ string_bytes out.old ++ row_words_text y line) }
 {
     let area = Area {
         x: left_of(line),
@@ -301,10 +301,10 @@ fn push_strip(alloc: Global, out: &mut String, y: u128, line: Line) -> Result<()
 }
 
 /// Puts a row at the end.
-#[tactic(auto, unfolding(crate::specs::Rows::row_text))]
+#[tactic(auto, unfolding(crate::specs::Rows::table_row_text))]
 pub fn push_row(alloc: Global, out: &mut String, y: u128, line: Line) -> Result<(), AllocError>
     requires { y < 2 ^ 100 }
-    ensures { OnOk result (string_bytes out.new ≡ string_bytes out.old ++ row_text y line) }
+    ensures { OnOk result (string_bytes out.new ≡ string_bytes out.old ++ table_row_text y line) }
 {
     push_guides(out, y, line.steps)?;
     push_words(alloc, out, y, line)?;

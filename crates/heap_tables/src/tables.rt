@@ -1,9 +1,9 @@
 // The drawing of page tables.
 ghost use Rattle.std.specs.Prelude.{◌≡◌, ◌<◌, ◌≤◌, ◌+◌, ◌^◌, ◌++◌, ◌*◌, nat_lt, if◌then◌else◌, length, drop, take, OnOk, string_bytes};
 ghost use Rattle.std.specs.List.{sum_by, list_any};
-ghost use Rattle.heap_tables.specs.Rows.{pages_of};
-ghost use Rattle.heap_tables.specs.Uses.{number_of, same_use, uses_of};
-ghost use Rattle.heap_tables.specs.Tables.{rows_text, rows_shown, rows_number, more_words, more_text, list_text, lines_heading, entries_heading, title_words, columns_text, heading_text, use_class, use_words, one_words, count_words, count_text, legend_text, main_use, square_grown, square_frames, square_title, square_text, squares_text, squares_number, scale_words, frames_text, below_rows, tables_height, tables_text};
+ghost use Rattle.heap_tables.specs.Rows.{line_pages};
+ghost use Rattle.heap_tables.specs.Uses.{use_count, same_use, uses_of};
+ghost use Rattle.heap_tables.specs.Tables.{table_rows_text, rows_shown, rows_number, more_words, more_text, list_text, lines_heading, entries_heading, title_words, columns_heading, heading_text, use_class, use_words, one_words, count_words, count_text, frames_legend_text, main_use, square_grown, square_frames, square_title, square_text, squares_text, squares_number, scale_words, frames_text, below_rows, tables_height, tables_text};
 
 use crate::lines::Line;
 use crate::rows::{pages_of, push_row};
@@ -14,7 +14,7 @@ use std::alloc::{AllocError, Global};
 // Puts rows at the end, one below the other.
 fn push_rows(alloc: Global, out: &mut String, y: u128, lines: &[Line]) -> Result<(), AllocError>
     requires { y < 2 ^ 90 }
-    ensures { OnOk result (string_bytes out.new ≡ string_bytes out.old ++ rows_text y lines.now) }
+    ensures { OnOk result (string_bytes out.new ≡ string_bytes out.old ++ table_rows_text y lines.now) }
 {
     let mut below = y;
     for line in lines {
@@ -35,7 +35,7 @@ fn rows_shown(lines: usize) -> usize
 
 // The pages of all lines.
 fn all_pages(lines: &[Line]) -> u128
-    ensures { result ≡ sum_by pages_of lines.now }
+    ensures { result ≡ sum_by line_pages lines.now }
 {
     let mut pages = 0;
     for line in lines {
@@ -100,9 +100,9 @@ fn title_words() -> &'static str
 }
 
 // Puts what the columns are at the end.
-#[tactic(auto, unfolding(crate::specs::Tables::columns_text))]
+#[tactic(auto, unfolding(crate::specs::Tables::columns_heading))]
 fn push_columns(out: &mut String) -> Result<(), AllocError>
-    ensures { OnOk result (string_bytes out.new ≡ string_bytes out.old ++ columns_text) }
+    ensures { OnOk result (string_bytes out.new ≡ string_bytes out.old ++ columns_heading) }
 {
     push_text(out, "q", 24, 76, lines_heading())?;
     push_text(out, "q", 362, 76, "owner")?;
@@ -199,10 +199,10 @@ fn push_count(
 }
 
 // Puts the uses at the end, each with its frames.
-#[tactic(auto, unfolding(crate::specs::Tables::legend_text))]
+#[tactic(auto, unfolding(crate::specs::Tables::frames_legend_text))]
 fn push_legend(alloc: Global, out: &mut String, y: u128, uses: &[Use]) -> Result<(), AllocError>
     requires { (10 ≤ y) × (y < 2 ^ 100) }
-    ensures { OnOk result (string_bytes out.new ≡ string_bytes out.old ++ legend_text y uses.now) }
+    ensures { OnOk result (string_bytes out.new ≡ string_bytes out.old ++ frames_legend_text y uses.now) }
 {
     push_text(out, "q", 24, y, "Frames")?;
     push_count(alloc, out, 104, y, Use::Table, uses)?;

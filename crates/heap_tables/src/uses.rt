@@ -1,7 +1,7 @@
 // The frames of a memory, by their use.
 ghost use Rattle.std.specs.Prelude.{◌≡◌, ◌≤◌, List, ◌∷◌, length, IfOk};
 ghost use Rattle.heap_tables.specs.declared.lines.Line.{Line};
-ghost use Rattle.heap_tables.specs.Uses.{page_of, use_in, uses_of, same_use, number_of};
+ghost use Rattle.heap_tables.specs.Uses.{use_of_owner, use_in, uses_of, same_use, use_count};
 
 use crate::lines::Line;
 use crate::owners::Owner;
@@ -25,7 +25,7 @@ pub enum Use {
 
 // A page of an owner.
 fn page_of(owner: Owner) -> Use
-    ensures { result ≡ page_of owner }
+    ensures { result ≡ use_of_owner owner }
 {
     match owner {
         Owner::Heap => Use::HeapPage,
@@ -84,7 +84,7 @@ pub fn same_use(one: Use, other: Use) -> bool
 
 /// How many frames are used so.
 pub fn number_of(uses: &[Use], of: Use) -> u64
-    ensures value { result ≡ number_of of uses.now }
+    ensures value { result ≡ use_count of uses.now }
 {
     let mut number = 0;
     for one in uses {

@@ -6,10 +6,10 @@ use Rattle.heap_history.specs.declared.band.Band.{Band}
 use Rattle.heap_history.specs.declared.history.Stay.{Stay}
 use Rattle.heap_time.specs.declared.folding.Range.{Range}
 use Rattle.heap_time.specs.declared.folding.Folds.{Folds}
-use Rattle.heap_time.specs.Axis.{size_of, greatest, scaled_bytes, is_too_great, folded_to, folds_from, no_folds, folds_of, ranges_from, ranges_of}
-use Rattle.heap_time.specs.Bands.{place_of}
-use Rattle.heap_time.specs.Moves.{is_within, height_at}
-use Rattle.heap_time.specs.Labels.{label_in, has_room, label_text}
+use Rattle.heap_time.specs.Axis.{range_size, greatest_range, scaled_bytes, is_too_great, folded_to, folds_from, no_folds, folds_of, ranges_from, ranges_of}
+use Rattle.heap_time.specs.Bands.{address_height}
+use Rattle.heap_time.specs.Moves.{is_in_band, height_at}
+use Rattle.heap_time.specs.Labels.{label_in, has_label_room, stay_label_text}
 use Rattle.heap_time.specs.Addresses.{step_grown, step_of}
 
 -- how a step grows
@@ -30,8 +30,9 @@ grown_begin bytes = refl
 
 -- how folds go on
 pub folds_step : (times : ℕ) (folds : Folds) (ranges : List Range) → times < 10 →
-    folds_from (10 - times) folds ranges ≡ (if is_too_great (scaled_bytes folds ranges) (size_of (greatest folds ranges))
-    then folds_from (10 - (times + 1)) (folded_to (greatest folds ranges)) ranges else folds)
+    folds_from (10 - times) folds ranges ≡ (if is_too_great (scaled_bytes folds ranges)
+    (range_size (greatest_range folds ranges))
+    then folds_from (10 - (times + 1)) (folded_to (greatest_range folds ranges)) ranges else folds)
 folds_step times folds ranges few =
     let left : 10 - times ≡ suc (10 - (times + 1)) = omega (arith, few) in
     ap (λ (n : ℕ). folds_from n folds ranges) left
@@ -58,21 +59,22 @@ ranges_begin (edge ∷ edges) some = refl
 
 -- the label of a stay, by the bands from one on
 pub label_step : (calls : ℕ) (bands : List Band) (i : ℕ) (stay : Stay) → i < length bands →
-    label_text calls (drop i bands) stay ≡ (if has_room stay (get_or bands i (record { low = 0; high = 0; folded = false; y = 0; height = 0 }))
-    then label_in calls stay (get_or bands i (record { low = 0; high = 0; folded = false; y = 0; height = 0 })) else label_text calls (drop (i + 1) bands) stay)
+    stay_label_text calls (drop i bands) stay ≡ (if has_label_room stay (get_or bands i (record { low = 0; high = 0; folded = false; y = 0; height = 0 }))
+    then label_in calls stay (get_or bands i (record { low = 0; high = 0; folded = false; y = 0; height = 0 }))
+    else stay_label_text calls (drop (i + 1) bands) stay)
 label_step calls bands i stay within =
-    ap (λ (bs : List Band). label_text calls bs stay) (drop-cons bands i
+    ap (λ (bs : List Band). stay_label_text calls bs stay) (drop-cons bands i
     (record { low = 0; high = 0; folded = false; y = 0; height = 0 }) within
     ∙ ap (λ (n : ℕ). get_or bands i (record { low = 0; high = 0; folded = false; y = 0; height = 0 }) ∷ drop n bands)
     (sym (add-one i)))
 
-pub label_last : (calls : ℕ) (bands : List Band) (i : ℕ) (stay : Stay) → length bands ≤ i → label_text calls (drop i bands) stay ≡ []
-label_last calls bands i stay all = ap (λ (bs : List Band). label_text calls bs stay) (drop_all i bands all)
+pub label_last : (calls : ℕ) (bands : List Band) (i : ℕ) (stay : Stay) → length bands ≤ i → stay_label_text calls (drop i bands) stay ≡ []
+label_last calls bands i stay all = ap (λ (bs : List Band). stay_label_text calls bs stay) (drop_all i bands all)
 
 -- where an address is, by the bands from one on
 pub height_step : (address : ℕ) (bands : List Band) (i : ℕ) → i < length bands →
-    height_at address (drop i bands) ≡ (if is_within address (get_or bands i (record { low = 0; high = 0; folded = false; y = 0; height = 0 }))
-    then place_of (get_or bands i (record { low = 0; high = 0; folded = false; y = 0; height = 0 })) address else height_at address (drop (i + 1) bands))
+    height_at address (drop i bands) ≡ (if is_in_band address (get_or bands i (record { low = 0; high = 0; folded = false; y = 0; height = 0 }))
+    then address_height (get_or bands i (record { low = 0; high = 0; folded = false; y = 0; height = 0 })) address else height_at address (drop (i + 1) bands))
 height_step address bands i within =
     ap (λ (bs : List Band). height_at address bs) (drop-cons bands i (record {
       low = 0;

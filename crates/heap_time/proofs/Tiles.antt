@@ -7,7 +7,7 @@ use Rattle.std.proofs.lemmas.List.{reverse-append}
 use Rattle.heap_time.specs.declared.folding.Range.{Range}
 use Rattle.heap_time.specs.declared.folding.Folds.{Folds}
 use Rattle.heap_time.specs.declared.axis.Span.{Span}
-use Rattle.heap_time.specs.Axis.{all_ends, ascending, edges_of, first_edge, ranges_from, ranges_of, is_folded, scaled_bytes, folds_of, scaled, spans_from, spans_of, height_of, placed, bands_over, bands_of}
+use Rattle.heap_time.specs.Axis.{all_ends, ascending, edges_of, first_edge, ranges_from, ranges_of, is_folded, scaled_bytes, folds_of, scaled, spans_from, spans_of, span_height, placed, bands_over, bands_of}
 use Rattle.heap_time.specs.Tiling.{TileDown, last_edge, FoldsHaveNoEdge, BandsTileTheAxis}
 use Rattle.heap_time.proofs.Ascending.{Rises, ascending_rises}
 
@@ -82,7 +82,7 @@ down_reversed low high (span ∷ spans) tiles =
 
 placed_tile : (left y high low : ℕ) (spans : List Span) → SpansDown high spans low → TileDown high (placed left y spans) low
 placed_tile left y high low [] down = down
-placed_tile left y high low (span ∷ spans) down = (down.0, placed_tile left (y + height_of left span + 3) span.low low spans down.1)
+placed_tile left y high low (span ∷ spans) down = (down.0, placed_tile left (y + span_height left span + 3) span.low low spans down.1)
 
 -- an edge is outside of a range, or at one of its ends
 abbrev Outside : List ℕ → ℕ → ℕ → Type 0
@@ -165,7 +165,7 @@ all_reversed edges (span ∷ spans) all =
 
 placed_none : (edges : List ℕ) (left y : ℕ) (spans : List Span) → AllByRecursion (HasNone edges) spans → FoldsHaveNoEdge edges (placed left y spans)
 placed_none edges left y [] all = tt
-placed_none edges left y (span ∷ spans) all = (all.0, placed_none edges left (y + height_of left span + 3) spans all.1)
+placed_none edges left y (span ∷ spans) all = (all.0, placed_none edges left (y + span_height left span + 3) spans all.1)
 
 -- the bands over ascending edges
 over_tile : (edges : List ℕ) → Rises 0 edges → TileDown (last_edge edges) (bands_over (first_edge edges) (ranges_of edges))

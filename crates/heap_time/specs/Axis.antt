@@ -19,14 +19,14 @@ unfoldable pub all_ends : List Stay → List Held → List ℕ
 all_ends stays heap = flat_map (λ stay. ends_of (stay_cover stay)) stays ++ flat_map (λ held. ends_of (held_cover held)) heap
 
 -- a number among ascending ones
-abbrev pub with_number : ℕ → List ℕ → List ℕ
-with_number number [] = number ∷ []
-with_number number (least ∷ others) = if nat_le number least then number ∷ (least ∷ others) else least ∷ with_number number others
+abbrev pub with_sorted_number : ℕ → List ℕ → List ℕ
+with_sorted_number number [] = number ∷ []
+with_sorted_number number (least ∷ others) = if nat_le number least then number ∷ (least ∷ others) else least ∷ with_sorted_number number others
 
 -- numbers in ascending order
 abbrev pub ascending : List ℕ → List ℕ
 ascending [] = []
-ascending (number ∷ numbers) = with_number number (ascending numbers)
+ascending (number ∷ numbers) = with_sorted_number number (ascending numbers)
 
 -- the edges of a run: each address at which a stay or a region of the heap ever began or ended, ascending
 unfoldable pub edges_of : List Stay → List Held → List ℕ
@@ -48,24 +48,24 @@ ranges_of [] = []
 ranges_of (edge ∷ edges) = ranges_from edge edges
 
 -- how many bytes a range has
-abbrev pub size_of : Range → ℕ
-size_of range = range.high - range.low
+abbrev pub range_size : Range → ℕ
+range_size range = range.high - range.low
 
 -- whether a range is folded: it is greater than the last one that was folded, or as great, and not above it
 abbrev pub is_folded : Folds → Range → Bool
-is_folded folds range = nat_lt folds.size (size_of range) || (nat_eq folds.size (size_of range) && nat_le range.low folds.start)
+is_folded folds range = nat_lt folds.size (range_size range) || (nat_eq folds.size (range_size range) && nat_le range.low folds.start)
 
 -- of two ranges that are not folded the greater, and of equals the first
 abbrev pub greater : Folds → Range → Range → Range
-greater folds best range = if is_folded folds range then best else if nat_lt (size_of best) (size_of range) then range else best
+greater folds best range = if is_folded folds range then best else if nat_lt (range_size best) (range_size range) then range else best
 
 -- the greatest range that is not folded, and of equals the lowest; one of no bytes if there is none
-unfoldable pub greatest : Folds → List Range → Range
-greatest folds ranges = fold (greater folds) (record { low = 0; high = 0 }) ranges
+unfoldable pub greatest_range : Folds → List Range → Range
+greatest_range folds ranges = fold (greater folds) (record { low = 0; high = 0 }) ranges
 
 -- the bytes of all ranges that are not folded
 abbrev pub scaled_bytes : Folds → List Range → ℕ
-scaled_bytes folds ranges = sum_by (λ range. if is_folded folds range then 0 else size_of range) ranges
+scaled_bytes folds ranges = sum_by (λ range. if is_folded folds range then 0 else range_size range) ranges
 
 -- whether a range of this size is folded: four bytes to each of 336 pixels are fine enough, and so is a range that is not more than a
 -- fifth of what is not folded
@@ -74,13 +74,13 @@ is_too_great left size = nat_lt 1344 left && nat_lt left (5 * size)
 
 -- with this range too, and each that is as great and below it
 abbrev pub folded_to : Range → Folds
-folded_to range = record { size = size_of range; start = range.low }
+folded_to range = record { size = range_size range; start = range.low }
 
 -- more ranges are folded, up to a number of them, the greatest first, as long as it is too great
 abbrev pub folds_from : ℕ → Folds → List Range → Folds
 folds_from zero folds ranges = folds
 folds_from (suc times) folds ranges =
-    if is_too_great (scaled_bytes folds ranges) (size_of (greatest folds ranges)) then folds_from times (folded_to (greatest folds ranges)) ranges else folds
+    if is_too_great (scaled_bytes folds ranges) (range_size (greatest_range folds ranges)) then folds_from times (folded_to (greatest_range folds ranges)) ranges else folds
 
 -- no range is folded: none has 2 ^ 64 bytes
 abbrev pub no_folds : Folds
@@ -106,17 +106,17 @@ unfoldable pub spans_of : Folds → ℕ → List Range → List Span
 spans_of folds first ranges = spans_from folds first first ranges
 
 -- the height of a span, if `left` bytes are to scale, in 336 pixels together
-unfoldable pub height_of : ℕ → Span → ℕ
-height_of left span = if span.folded then 16 else max 16 (min 336 ((span.high - span.low) * 336 / max 1 left / 8 * 8))
+unfoldable pub span_height : ℕ → Span → ℕ
+span_height left span = if span.folded then 16 else max 16 (min 336 ((span.high - span.low) * 336 / max 1 left / 8 * 8))
 
 -- a span from a place on
 abbrev pub band_at : ℕ → ℕ → Span → Band
-band_at left y span = record { low = span.low; high = span.high; folded = span.folded; y = y; height = height_of left span }
+band_at left y span = record { low = span.low; high = span.high; folded = span.folded; y = y; height = span_height left span }
 
 -- spans below one another
 abbrev pub placed : ℕ → ℕ → List Span → List Band
 placed left y [] = []
-placed left y (span ∷ spans) = band_at left y span ∷ placed left (y + height_of left span + 3) spans
+placed left y (span ∷ spans) = band_at left y span ∷ placed left (y + span_height left span + 3) spans
 
 -- the bands of these ranges, which begin at the least edge
 unfoldable pub bands_over : ℕ → List Range → List Band

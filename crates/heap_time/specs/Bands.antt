@@ -13,8 +13,8 @@ unfoldable pub pixels_of : Band → ℕ → ℕ
 pixels_of band bytes = bytes * band.height / max 1 (band.high - band.low)
 
 -- the height of an address of a band, upwards from its ground
-unfoldable pub place_of : Band → ℕ → ℕ
-place_of band address = band.y + band.height - pixels_of band (address - band.low)
+unfoldable pub address_height : Band → ℕ → ℕ
+address_height band address = band.y + band.height - pixels_of band (address - band.low)
 
 -- how high what is covered of a band is
 abbrev pub tallness : Band → Cover → ℕ

@@ -6,10 +6,10 @@ use Rattle.heap_history.specs.declared.history.Stay.{Stay}
 use Rattle.heap_history.specs.declared.history.Held.{Held}
 use Rattle.heap_history.specs.declared.history.Ending.{Ending}
 use Rattle.heap_history.specs.declared.history.Ending.TheVariants.{Live, Freed, Reset, Moved, Resized}
-use Rattle.heap_map.specs.Words.{hexadecimal, commas, counted}
+use Rattle.heap_map.specs.Words.{hexadecimal, commas, quantity}
 use Rattle.heap_map.specs.Shapes.{titled}
 use Rattle.heap_time.specs.declared.covers.Cover.{Cover}
-use Rattle.heap_time.specs.Covers.{stay_cover, held_cover, bottom_in, top_in, meets}
+use Rattle.heap_time.specs.Covers.{stay_cover, held_cover, bottom_in, top_in, band_meets}
 use Rattle.heap_time.specs.Shapes.{region_words, view_text}
 
 -- the colour of a stay: of a block that is live at the end, and of one that is not, or not there
@@ -41,7 +41,7 @@ until_words end Resized = end_words end Resized
 
 -- the block of a stay, and its bytes
 unfoldable pub block_words : Stay → List ℕ
-block_words stay = codes "block " ++ (decimal stay.block ++ (codes ": " ++ (counted (codes "byte") stay.size ++ codes " at ")))
+block_words stay = codes "block " ++ (decimal stay.block ++ (codes ": " ++ (quantity (codes "byte") stay.size ++ codes " at ")))
 
 -- its address, and its calls
 unfoldable pub calls_words : Stay → List ℕ
@@ -52,12 +52,12 @@ unfoldable pub stay_title : Stay → List ℕ
 stay_title stay = block_words stay ++ calls_words stay
 
 -- the address of a region, and its pages
-unfoldable pub pages_words : Held → List ℕ
-pages_words held = hexadecimal held.start ++ (codes " + " ++ counted (codes "page") held.pages)
+unfoldable pub held_region_words : Held → List ℕ
+held_region_words held = hexadecimal held.start ++ (codes " + " ++ quantity (codes "page") held.pages)
 
 -- what is said of a region of the heap
 unfoldable pub held_title : Held → List ℕ
-held_title held = region_words ++ (codes " " ++ pages_words held)
+held_title held = region_words ++ (codes " " ++ held_region_words held)
 
 -- What a band has of a cover, in the units of a run: from its first call on for its calls, and from its top down for its bytes.
 unfoldable pub cover_text : Band → Cover → List ℕ → List ℕ → List ℕ
@@ -66,11 +66,11 @@ cover_text band cover class title =
 
 -- a stay in a band, if it has an address of it
 unfoldable pub stay_text : Band → Stay → List ℕ
-stay_text band stay = if meets band (stay_cover stay) then cover_text band (stay_cover stay) (stay_class stay.ending) (stay_title stay) else []
+stay_text band stay = if band_meets band (stay_cover stay) then cover_text band (stay_cover stay) (stay_class stay.ending) (stay_title stay) else []
 
 -- likewise a region
 unfoldable pub held_text : Band → Held → List ℕ
-held_text band held = if meets band (held_cover held) then cover_text band (held_cover held) (codes "heap") (held_title held) else []
+held_text band held = if band_meets band (held_cover held) then cover_text band (held_cover held) (codes "heap") (held_title held) else []
 
 -- a band: the regions, and over them the stays
 unfoldable pub band_text : ℕ → List Stay → List Held → Band → List ℕ

@@ -1,7 +1,7 @@
 -- What is said of 64 columns of the run.
 use Rattle.std.specs.Prelude.{ℕ, zero, suc, ◌+◌, ◌-◌, ◌*◌, ◌/◌, List, [], ◌++◌, codes, Option, Some, None, slice_get, length}
 use Rattle.heap_history.specs.declared.history.Moment.{Moment}
-use Rattle.heap_map.specs.Words.{commas, counted}
+use Rattle.heap_map.specs.Words.{commas, quantity}
 use Rattle.heap_map.specs.Shapes.{titled}
 
 -- the last call of a column
@@ -10,7 +10,7 @@ last_call calls column = (column + 1) * calls / 64 - 1
 
 -- the bytes that are live at a moment
 unfoldable pub live_words : Moment → List ℕ
-live_words moment = counted (codes "byte") moment.live ++ codes " live, "
+live_words moment = quantity (codes "byte") moment.live ++ codes " live, "
 
 -- and those in heap regions
 unfoldable pub moment_words : Moment → List ℕ

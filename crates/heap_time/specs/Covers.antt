@@ -32,12 +32,12 @@ abbrev pub top_in : Band → Cover → ℕ
 top_in band cover = min band.high cover.high
 
 -- whether an address of a band is covered, at some call
-abbrev pub meets : Band → Cover → Bool
-meets band cover = nat_lt (bottom_in band cover) (top_in band cover) && nat_lt cover.born cover.end
+abbrev pub band_meets : Band → Cover → Bool
+band_meets band cover = nat_lt (bottom_in band cover) (top_in band cover) && nat_lt cover.born cover.end
 
 -- how many stays and regions of the heap a band has
 unfoldable pub parts_in : List Stay → List Held → Band → ℕ
-parts_in stays heap band = count_by (λ stay. meets band (stay_cover stay)) stays + count_by (λ held. meets band (held_cover held)) heap
+parts_in stays heap band = count_by (λ stay. band_meets band (stay_cover stay)) stays + count_by (λ held. band_meets band (held_cover held)) heap
 
 -- and how many all bands have
 abbrev pub parts_number : List Band → List Stay → List Held → ℕ

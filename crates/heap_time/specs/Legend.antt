@@ -31,8 +31,8 @@ abbrev pub users_text : Bool → List ℕ
 users_text users = if users then colour_text 690 (codes "w") (codes "user region") else []
 
 -- of large pages, if there are some
-abbrev pub large_text : Bool → List ℕ
-large_text large = if large then colour_text 810 (codes "l") (codes "large page") else []
+abbrev pub large_legend_text : Bool → List ℕ
+large_legend_text large = if large then colour_text 810 (codes "l") (codes "large page") else []
 
 -- of blocks
 abbrev pub blocks_text : Bool → List ℕ
@@ -40,7 +40,7 @@ blocks_text single = if single then single_text else shades_text
 
 -- of what else is on the axis
 unfoldable pub others_text : Bool → Bool → List ℕ
-others_text users large = colour_text 560 (codes "heap") region_words ++ (users_text users ++ large_text large)
+others_text users large = colour_text 560 (codes "heap") region_words ++ (users_text users ++ large_legend_text large)
 
 -- what is said of folds, if there are some
 unfoldable pub folds_words : List ℕ

@@ -6,7 +6,7 @@ use Rattle.heap_history.specs.declared.history.Stay.{Stay}
 use Rattle.heap_history.specs.declared.history.Ending.{Ending}
 use Rattle.heap_history.specs.declared.history.Ending.TheVariants.{Live, Freed, Reset, Moved, Resized}
 use Rattle.heap_history.specs.Columns.{x_of}
-use Rattle.heap_time.specs.Bands.{place_of}
+use Rattle.heap_time.specs.Bands.{address_height}
 
 -- whether a stay ended since its block was moved
 abbrev pub is_moved : Ending → Bool
@@ -25,24 +25,24 @@ abbrev pub middle_of : Stay → ℕ
 middle_of stay = stay.address + stay.size / 2
 
 -- whether an address is in a band, or at its end
-unfoldable pub is_within : ℕ → Band → Bool
-is_within address band = nat_le band.low address && nat_le address band.high
+unfoldable pub is_in_band : ℕ → Band → Bool
+is_in_band address band = nat_le band.low address && nat_le address band.high
 
 -- the height of an address, in the highest band that has it
 abbrev pub height_at : ℕ → List Band → ℕ
 height_at address [] = 84
-height_at address (band ∷ bands) = if is_within address band then place_of band address else height_at address bands
+height_at address (band ∷ bands) = if is_in_band address band then address_height band address else height_at address bands
 
 -- the head of an arrow upwards, or downwards
 unfoldable pub head_words : ℕ → ℕ → List ℕ
 head_words y to = if nat_lt to y then codes "m-4 5l4 -5l4 5" else codes "m-4 -5l4 5l4 -5"
 
 -- the line of an arrow from one height to another
-unfoldable pub line_words : ℕ → ℕ → ℕ → List ℕ
-line_words x y to = codes "<path class=\"mark\" d=\"M" ++ (decimal x ++ (codes " " ++ (decimal y ++ (codes "V" ++ decimal to))))
+unfoldable pub arrow_line : ℕ → ℕ → ℕ → List ℕ
+arrow_line x y to = codes "<path class=\"mark\" d=\"M" ++ (decimal x ++ (codes " " ++ (decimal y ++ (codes "V" ++ decimal to))))
 
 unfoldable pub arrow_text : ℕ → ℕ → ℕ → List ℕ
-arrow_text x y to = line_words x y to ++ (head_words y to ++ codes "\" stroke-width=\"1.5\"/>\n")
+arrow_text x y to = arrow_line x y to ++ (head_words y to ++ codes "\" stroke-width=\"1.5\"/>\n")
 
 -- an arrow from a stay to the next one of its block, if it is that
 unfoldable pub arrow_to : ℕ → List Band → Stay → Stay → List ℕ

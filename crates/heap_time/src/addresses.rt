@@ -3,7 +3,7 @@ ghost use Rattle.std.specs.Prelude.{◌≡◌, ◌<◌, ◌≤◌, ◌^◌, ◌+
 ghost use Rattle.std.specs.List.{All};
 ghost use Rattle.heap_map.specs.Words.{hexadecimal};
 ghost use Rattle.heap_time.specs.Bands.{IsBand};
-ghost use Rattle.heap_time.specs.Addresses.{beside_text, folded_words, step_grown, step_of, tick_text, ticks_text, top_text, steps_text, scale_text, address_text, addresses_text};
+ghost use Rattle.heap_time.specs.Addresses.{beside_text, folded_words, step_grown, step_of, tick_text, ticks_text, top_text, band_ticks_text, band_scale_text, address_text, addresses_text};
 
 use crate::bands::place_of;
 use heap_history::Band;
@@ -122,10 +122,10 @@ fn push_top(alloc: Global, out: &mut String, band: Band) -> Result<(), AllocErro
 }
 
 // Puts the ticks of a band at the end, if it is high enough.
-#[tactic(auto, unfolding(crate::specs::Addresses::steps_text))]
+#[tactic(auto, unfolding(crate::specs::Addresses::band_ticks_text))]
 fn push_steps(alloc: Global, out: &mut String, band: Band) -> Result<(), AllocError>
     requires { IsBand band }
-    ensures { OnOk result (string_bytes out.new ≡ string_bytes out.old ++ steps_text band) }
+    ensures { OnOk result (string_bytes out.new ≡ string_bytes out.old ++ band_ticks_text band) }
 {
     if band.height >= 120 {
         let bytes = band.high.saturating_sub(band.low);
@@ -135,10 +135,10 @@ fn push_steps(alloc: Global, out: &mut String, band: Band) -> Result<(), AllocEr
 }
 
 // Puts the addresses of a band that is to scale at the end.
-#[tactic(auto, unfolding(crate::specs::Addresses::scale_text))]
+#[tactic(auto, unfolding(crate::specs::Addresses::band_scale_text))]
 fn push_scale(alloc: Global, out: &mut String, band: Band) -> Result<(), AllocError>
     requires { IsBand band }
-    ensures { OnOk result (string_bytes out.new ≡ string_bytes out.old ++ scale_text band) }
+    ensures { OnOk result (string_bytes out.new ≡ string_bytes out.old ++ band_scale_text band) }
 {
     push_address(alloc, out, band.y + band.height, band.low)?;
     push_top(alloc, out, band)?;

@@ -1,6 +1,6 @@
 // Where addresses are in a band.
 ghost use Rattle.std.specs.Prelude.{◌≡◌, ◌<◌, ◌≤◌, ◌^◌};
-ghost use Rattle.heap_time.specs.Bands.{IsBand, pixels_of, place_of, tallness};
+ghost use Rattle.heap_time.specs.Bands.{IsBand, pixels_of, address_height, tallness};
 
 use crate::covers::{Cover, bottom_in, top_in};
 use heap_history::Band;
@@ -16,11 +16,11 @@ pub fn pixels_of(band: Band, bytes: u128) -> u128
 }
 
 /// Where an address of a band is.
-#[tactic(auto, unfolding(crate::specs::Bands::place_of))]
+#[tactic(auto, unfolding(crate::specs::Bands::address_height))]
 pub fn place_of(band: Band, address: u128) -> u128
     requires band { IsBand band }
     requires address { address ≤ 2 ^ 64 }
-    ensures value { result ≡ place_of band address }
+    ensures value { result ≡ address_height band address }
     ensures few { result < 2 ^ 81 }
 {
     (band.y + band.height).saturating_sub(pixels_of(band, address.saturating_sub(band.low)))

@@ -1,7 +1,7 @@
 // The blocks of a run one by one, over the regions of the heap.
 ghost use Rattle.std.specs.Prelude.{◌≡◌, ◌++◌, OnOk, string_bytes};
 ghost use Rattle.std.specs.List.{flat_map};
-ghost use Rattle.heap_time.specs.Blocks.{stay_class, ending_words, end_words, until_words, block_words, calls_words, stay_title, pages_words, held_title, cover_text, stay_text, held_text, band_text, blocks_text};
+ghost use Rattle.heap_time.specs.Blocks.{stay_class, ending_words, end_words, until_words, block_words, calls_words, stay_title, held_region_words, held_title, cover_text, stay_text, held_text, band_text, blocks_text};
 
 use crate::covers::{Cover, bottom_in, held_cover, meets, stay_cover, top_in};
 use crate::shapes::{push_view, region_words};
@@ -87,9 +87,9 @@ fn push_stay_title(out: &mut String, stay: Stay) -> Result<(), AllocError>
     push_calls(out, stay)
 }
 
-#[tactic(auto, unfolding(crate::specs::Blocks::pages_words))]
+#[tactic(auto, unfolding(crate::specs::Blocks::held_region_words))]
 fn push_pages(out: &mut String, held: Held) -> Result<(), AllocError>
-    ensures { OnOk result (string_bytes out.new ≡ string_bytes out.old ++ pages_words held) }
+    ensures { OnOk result (string_bytes out.new ≡ string_bytes out.old ++ held_region_words held) }
 {
     push_address(out, held.start)?;
     out.push_str(" + ")?;

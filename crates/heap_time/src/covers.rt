@@ -1,7 +1,7 @@
 // What a stay, a region or a large page covers.
 ghost use Rattle.std.specs.Prelude.{◌≡◌, ◌+◌, ◌<◌, ◌≤◌, ◌^◌, length};
 ghost use Rattle.std.specs.List.{count_by};
-ghost use Rattle.heap_time.specs.Covers.{as_address, stay_cover, held_cover, large_cover, bottom_in, top_in, meets, parts_in, parts_number};
+ghost use Rattle.heap_time.specs.Covers.{as_address, stay_cover, held_cover, large_cover, bottom_in, top_in, band_meets, parts_in, parts_number};
 
 use heap_history::{Band, Held, LargePage, Stay};
 
@@ -78,13 +78,13 @@ pub fn top_in(band: Band, cover: Cover) -> u128
 
 /// Whether an address of the band is covered, at some call.
 pub fn meets(band: Band, cover: Cover) -> bool
-    ensures { result ≡ meets band cover }
+    ensures { result ≡ band_meets band cover }
 {
     bottom_in(band, cover) < top_in(band, cover) && cover.born < cover.end
 }
 
 fn stays_in(band: Band, stays: &[Stay]) -> u128
-    ensures value { result ≡ count_by (λ stay. meets band (stay_cover stay)) stays.now }
+    ensures value { result ≡ count_by (λ stay. band_meets band (stay_cover stay)) stays.now }
     ensures few { result ≤ length stays.now }
 {
     let mut number = 0;
@@ -97,7 +97,7 @@ fn stays_in(band: Band, stays: &[Stay]) -> u128
 }
 
 fn held_in(band: Band, heap: &[Held]) -> u128
-    ensures value { result ≡ count_by (λ held. meets band (held_cover held)) heap.now }
+    ensures value { result ≡ count_by (λ held. band_meets band (held_cover held)) heap.now }
     ensures few { result ≤ length heap.now }
 {
     let mut number = 0;

@@ -1,6 +1,6 @@
 // Ranges between neighbouring edges, and which of them are folded.
 ghost use Rattle.std.specs.Prelude.{◌≡◌, ◌<◌, ◌≤◌, ◌^◌, length, IfOk, if◌then◌else◌};
-ghost use Rattle.heap_time.specs.Axis.{ranges_of, size_of, is_folded, greater, greatest, scaled_bytes, is_too_great, folded_to, folds_from, folds_of};
+ghost use Rattle.heap_time.specs.Axis.{ranges_of, range_size, is_folded, greater, greatest_range, scaled_bytes, is_too_great, folded_to, folds_from, folds_of};
 
 use std::alloc::{AllocError, Global};
 
@@ -42,7 +42,7 @@ pub fn ranges_of(alloc: Global, edges: &[u64]) -> Result<Vec<Range>, AllocError>
 
 /// How many bytes a range has.
 pub fn size_of(range: Range) -> u64
-    ensures { result ≡ size_of range }
+    ensures { result ≡ range_size range }
 {
     range.high.saturating_sub(range.low)
 }
@@ -69,9 +69,9 @@ fn greater(folds: Folds, best: Range, range: Range) -> Range
 }
 
 // The greatest range that is not folded, and of equals the lowest.
-#[tactic(auto, unfolding(crate::specs::Axis::greatest), using(std::proofs::lemmas::List::Sums::fold_more))]
+#[tactic(auto, unfolding(crate::specs::Axis::greatest_range), using(std::proofs::lemmas::List::Sums::fold_more))]
 fn greatest(folds: Folds, ranges: &[Range]) -> Range
-    ensures { result ≡ greatest folds ranges.now }
+    ensures { result ≡ greatest_range folds ranges.now }
 {
     let mut best = Range { low: 0, high: 0 };
     for range in ranges {
@@ -82,7 +82,7 @@ fn greatest(folds: Folds, ranges: &[Range]) -> Range
 
 // The bytes of a range, if it is not folded.
 fn scaled_size(folds: Folds, range: Range) -> u64
-    ensures { result ≡ (if is_folded folds range then 0 else size_of range) }
+    ensures { result ≡ (if is_folded folds range then 0 else range_size range) }
 {
     if is_folded(folds, range) {
         0

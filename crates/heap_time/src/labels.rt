@@ -2,7 +2,7 @@
 ghost use Rattle.std.specs.Prelude.{◌≡◌, ◌++◌, OnOk, string_bytes};
 ghost use Rattle.std.specs.List.{All, flat_map};
 ghost use Rattle.heap_time.specs.Bands.{IsBand};
-ghost use Rattle.heap_time.specs.Labels.{letters, short_label, long_label, label_at, label_in, has_room, label_text, labels_text};
+ghost use Rattle.heap_time.specs.Labels.{stay_letters, short_label, long_label, label_at, label_in, has_label_room, stay_label_text, labels_text};
 
 use crate::bands::{place_of, tallness};
 use crate::covers::{bottom_in, meets, stay_cover, top_in};
@@ -12,7 +12,7 @@ use std::alloc::{AllocError, Global};
 
 // The letters on a stay.
 fn letters(ending: Ending) -> &'static str
-    ensures { result.now ≡ letters ending }
+    ensures { result.now ≡ stay_letters ending }
 {
     match ending {
         Ending::Live => "m in",
@@ -92,10 +92,10 @@ fn push_label_in(
 }
 
 // Whether there is room for the label of a stay in a band.
-#[tactic(auto, unfolding(crate::specs::Labels::has_room))]
+#[tactic(auto, unfolding(crate::specs::Labels::has_label_room))]
 fn has_room(band: Band, stay: Stay) -> bool
     requires { IsBand band }
-    ensures { result ≡ has_room stay band }
+    ensures { result ≡ has_label_room stay band }
 {
     let cover = stay_cover(stay);
     meets(band, cover) && 12 <= tallness(band, cover)
@@ -111,7 +111,7 @@ fn push_label_of(
     stay: Stay,
 ) -> Result<(), AllocError>
     requires { All IsBand bands.now }
-    ensures { OnOk result (string_bytes out.new ≡ string_bytes out.old ++ label_text calls bands.now stay) }
+    ensures { OnOk result (string_bytes out.new ≡ string_bytes out.old ++ stay_label_text calls bands.now stay) }
 {
     for band in bands {
         if has_room(*band, stay) {

@@ -2,7 +2,7 @@
 ghost use Rattle.std.specs.Prelude.{◌≡◌, ◌++◌, OnOk, string_bytes};
 ghost use Rattle.std.specs.List.{All};
 ghost use Rattle.heap_time.specs.Bands.{IsBand};
-ghost use Rattle.heap_time.specs.Large.{large_title, bar_text, mark_text, marks_text, large_text};
+ghost use Rattle.heap_time.specs.Large.{large_title, large_bar_text, large_mark_text, large_marks_text, large_text};
 
 use crate::bands::place_of;
 use crate::covers::{Cover, bottom_in, large_cover, meets, top_in};
@@ -22,7 +22,7 @@ fn push_title(out: &mut String, large: LargePage) -> Result<(), AllocError>
 }
 
 // Puts a bar at the end, as high as what a band has of a cover.
-#[tactic(auto, unfolding(crate::specs::Large::bar_text))]
+#[tactic(auto, unfolding(crate::specs::Large::large_bar_text))]
 fn push_bar(
     out: &mut String,
     calls: u64,
@@ -31,7 +31,7 @@ fn push_bar(
     title: &str,
 ) -> Result<(), AllocError>
     requires { IsBand band }
-    ensures { OnOk result (string_bytes out.new ≡ string_bytes out.old ++ bar_text calls band cover title.now) }
+    ensures { OnOk result (string_bytes out.new ≡ string_bytes out.old ++ large_bar_text calls band cover title.now) }
 {
     let top = place_of(band, top_in(band, cover));
     let ground = place_of(band, bottom_in(band, cover));
@@ -45,7 +45,7 @@ fn push_bar(
 }
 
 // Puts the bar of a large page at the end, if a band has an address of it.
-#[tactic(auto, unfolding(crate::specs::Large::mark_text))]
+#[tactic(auto, unfolding(crate::specs::Large::large_mark_text))]
 fn push_mark(
     alloc: Global,
     out: &mut String,
@@ -54,7 +54,7 @@ fn push_mark(
     band: Band,
 ) -> Result<(), AllocError>
     requires { IsBand band }
-    ensures { OnOk result (string_bytes out.new ≡ string_bytes out.old ++ mark_text calls large band) }
+    ensures { OnOk result (string_bytes out.new ≡ string_bytes out.old ++ large_mark_text calls large band) }
 {
     let cover = large_cover(calls, large);
     if !meets(band, cover) {
@@ -65,7 +65,7 @@ fn push_mark(
     push_bar(out, calls, band, cover, title.as_str())
 }
 
-#[tactic(auto, unfolding(crate::specs::Large::marks_text))]
+#[tactic(auto, unfolding(crate::specs::Large::large_marks_text))]
 fn push_marks(
     alloc: Global,
     out: &mut String,
@@ -74,7 +74,7 @@ fn push_marks(
     large: LargePage,
 ) -> Result<(), AllocError>
     requires { All IsBand bands.now }
-    ensures { OnOk result (string_bytes out.new ≡ string_bytes out.old ++ marks_text calls bands.now large) }
+    ensures { OnOk result (string_bytes out.new ≡ string_bytes out.old ++ large_marks_text calls bands.now large) }
 {
     for band in bands {
         push_mark(alloc, out, calls, large, *band)?;

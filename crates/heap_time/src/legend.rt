@@ -2,7 +2,7 @@
 ghost use Rattle.std.specs.Prelude.{◌≡◌, ◌<◌, ◌++◌, OnOk, string_bytes};
 ghost use Rattle.std.specs.List.{list_any};
 ghost use Rattle.heap_history.specs.declared.band.Band.{Band as BandValue};
-ghost use Rattle.heap_time.specs.Legend.{colour_text, single_text, shade_text, four_text, shades_text, users_text, large_text, blocks_text, others_text, folds_words, folds_text, legend_text};
+ghost use Rattle.heap_time.specs.Legend.{colour_text, single_text, shade_text, four_text, shades_text, users_text, large_legend_text, blocks_text, others_text, folds_words, folds_text, legend_text};
 
 use crate::shapes::region_words;
 use heap_history::Band;
@@ -76,7 +76,7 @@ fn push_users(out: &mut String, users: bool) -> Result<(), AllocError>
 }
 
 fn push_large(out: &mut String, large: bool) -> Result<(), AllocError>
-    ensures { OnOk result (string_bytes out.new ≡ string_bytes out.old ++ large_text large) }
+    ensures { OnOk result (string_bytes out.new ≡ string_bytes out.old ++ large_legend_text large) }
 {
     if large {
         return push_colour(out, 810, "l", "large page");

@@ -3,7 +3,7 @@ ghost use Rattle.std.specs.Prelude.{◌≡◌, ◌<◌, ◌^◌, ◌++◌, OnOk,
 ghost use Rattle.std.specs.Bool.{OnTrue};
 ghost use Rattle.std.specs.List.{All, flat_map};
 ghost use Rattle.heap_time.specs.Bands.{IsBand};
-ghost use Rattle.heap_time.specs.Moves.{is_moved, is_next, middle_of, is_within, height_at, head_words, line_words, arrow_text, arrow_to, move_text, moves_text};
+ghost use Rattle.heap_time.specs.Moves.{is_moved, is_next, middle_of, is_in_band, height_at, head_words, arrow_line, arrow_text, arrow_to, move_text, moves_text};
 
 use crate::bands::place_of;
 use heap_history::{Band, Ending, Stay, x_of};
@@ -38,10 +38,10 @@ fn middle_of(stay: Stay) -> u128
 }
 
 // Whether an address is in a band, or at its end.
-#[tactic(auto, unfolding(crate::specs::Moves::is_within))]
+#[tactic(auto, unfolding(crate::specs::Moves::is_in_band))]
 fn is_within(address: u128, band: Band) -> bool
     requires { IsBand band }
-    ensures value { result ≡ is_within address band }
+    ensures value { result ≡ is_in_band address band }
     ensures few { OnTrue result (address < 2 ^ 64) }
 {
     band.low <= address && address <= band.high
@@ -73,9 +73,9 @@ fn head_words(y: u128, to: u128) -> &'static str
     }
 }
 
-#[tactic(auto, unfolding(crate::specs::Moves::line_words))]
+#[tactic(auto, unfolding(crate::specs::Moves::arrow_line))]
 fn push_line(out: &mut String, x: u128, y: u128, to: u128) -> Result<(), AllocError>
-    ensures { OnOk result (string_bytes out.new ≡ string_bytes out.old ++ line_words x y to) }
+    ensures { OnOk result (string_bytes out.new ≡ string_bytes out.old ++ arrow_line x y to) }
 {
     write!(out, "<path class=\"mark\" d=\"M{x} {y}V{to}")
 }

@@ -3,7 +3,7 @@ ghost use Rattle.std.specs.Prelude.{◌≡◌, ◌<◌, ◌≤◌, ◌+◌, ◌^
 ghost use Rattle.std.specs.List.{All};
 ghost use Rattle.heap_time.specs.Axis.{bands_of};
 ghost use Rattle.heap_time.specs.Bands.{IsBand};
-ghost use Rattle.heap_time.specs.Time.{calls_of, over_words, call_word, title_words, title_text, is_single, single_text, many_text, stays_text, lanes_top, curves_top, refused_top, calls_top, ground_text, over_text, below_text, drawing_text, time_text, time_height};
+ghost use Rattle.heap_time.specs.Time.{call_count, over_words, call_word, calls_title_words, title_text, is_single, single_text, many_text, stays_text, lanes_top, curves_top, refused_top, calls_top, ground_text, over_text, below_text, drawing_text, time_text, time_height};
 
 use crate::addresses::push_addresses;
 use crate::axis::below_bands;
@@ -25,7 +25,7 @@ use std::alloc::{AllocError, Global};
 
 // How many calls a run had.
 fn calls_of(history: &History) -> u64
-    ensures { result ≡ calls_of history.now }
+    ensures { result ≡ call_count history.now }
 {
     history.moments.len()
 }
@@ -43,9 +43,9 @@ fn call_word(calls: u64) -> &'static str
     if calls == 1 { " call" } else { " calls" }
 }
 
-#[tactic(auto, unfolding(crate::specs::Time::title_words))]
+#[tactic(auto, unfolding(crate::specs::Time::calls_title_words))]
 fn push_title_words(out: &mut String, calls: u64) -> Result<(), AllocError>
-    ensures { OnOk result (string_bytes out.new ≡ string_bytes out.old ++ title_words calls) }
+    ensures { OnOk result (string_bytes out.new ≡ string_bytes out.old ++ calls_title_words calls) }
 {
     out.push_str(over_words())?;
     push_commas(out, u128::from(calls))?;

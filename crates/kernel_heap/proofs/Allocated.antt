@@ -1,7 +1,7 @@
 -- A request was granted, or refused: what a heap over the system sees of it.
 use Rattle.std.proofs.Common.{◌≡◌, ℕ, ◌+◌, ◌-◌, ◌/◌, ◌%◌, ◌^◌, ◌<◌, ◌≤◌, [], ◌∷◌, Result, Ok, Err, IfErr, OnErr, map, refl, sym, ap, ◌∙◌, subst, arith, Some}
 use Rattle.std.specs.List.{AllByRecursion}
-use Rattle.paging_core.specs.Walk.{walk_of, granted as granted_place}
+use Rattle.paging_core.specs.Walk.{walk_of, place_with as granted_place}
 use Rattle.heap_memory.specs.declared.grant.Grant.{Grant}
 use Rattle.heap_memory.specs.declared.grant.GrantFault.{GrantFault}
 use Rattle.heap_memory.specs.Events.{Refused}

@@ -27,7 +27,7 @@ use Rattle.kernel_heap.specs.Heap.{regions, word, heap_state}
 use Rattle.kernel_heap.specs.Machine.{seen_of}
 use Rattle.kernel_heap.specs.Numbered.{live_at, refuse_live, HasBytes}
 use Rattle.kernel_heap.specs.LaidOut.{IsLaidOut}
-use Rattle.kernel_heap.specs.Written.{AreInside, AreRead, IsWritten}
+use Rattle.kernel_heap.specs.Written.{AreHeapBytes, AreRead, AreBytesWritten}
 use Rattle.kernel_heap.specs.declared.paged_system.PagedSystem.{PagedSystem}
 use Rattle.kernel_heap.proofs.BlockPlaces.{bytes_within}
 use Rattle.kernel_heap.proofs.Full.{behind}
@@ -77,7 +77,7 @@ read_bytes p address count bytes read =
 module _ (heap : Dlmalloc PagedSystem) (placed : ArePlaced (regions heap.system) (heap_state heap)) (address count : ℕ)
     (inside : AreInBlock (heap_state heap) address count) where
   -- they lie in the regions
-  pub block_inside : AreInside (paged heap.system) address count
+  pub block_inside : AreHeapBytes (paged heap.system) address count
   block_inside =
       let low = inside.low in
       let within = inside.within in
@@ -85,7 +85,8 @@ module _ (heap : Dlmalloc PagedSystem) (placed : ArePlaced (regions heap.system)
       (omega (arith, below, within)) k (omega arith) (omega arith)
 
   -- where they are put, words of blocks alone change
-  pub only_blocks : (system : PagedSystem) (bytes : List ℕ) → length bytes ≡ count → IsWritten (paged heap.system) (paged system) address bytes (length bytes) →
+  pub only_blocks : (system : PagedSystem) (bytes : List ℕ) → length bytes ≡ count →
+      AreBytesWritten (paged heap.system) (paged system) address bytes (length bytes) →
       OnlyBlocksChange (regions heap.system) (heap_state heap) (word heap.system) (word system)
   only_blocks system bytes many written k granted there beside =
       let b = inside.is in
@@ -130,7 +131,7 @@ module _ (heap : Dlmalloc PagedSystem) (blocks : List (Option Live)) (number off
         rw small refl))
 
     -- bytes of the state's heap are bytes of the regions
-    in_regions : (other : ℕ) → list_any (is_within other) s.heap ≡ true → AreInside (paged heap.system) other 1
+    in_regions : (other : ℕ) → list_any (is_within other) s.heap ≡ true → AreHeapBytes (paged heap.system) other 1
     in_regions other is =
         let same : s.heap ≡ heap_regions (paged heap.system).regions = regions_are heap.system m refl s good stands in
         λ k above below.
@@ -138,7 +139,7 @@ module _ (heap : Dlmalloc PagedSystem) (blocks : List (Option Live)) (number off
         granted_same (heap_regions (paged heap.system).regions) k ∙ (ap (list_any (is_within k)) (sym same)
         ∙ subst (λ a. list_any (is_within a) s.heap ≡ true) one is)
 
-    pub step_written : (new : Paged) (bytes : List ℕ) → length bytes ≡ count → IsWritten (paged heap.system) new address bytes (length bytes) →
+    pub step_written : (new : Paged) (bytes : List ℕ) → length bytes ≡ count → AreBytesWritten (paged heap.system) new address bytes (length bytes) →
         IsStep s (Write number offset bytes) (record { reply = Done; regions = None; large = None }) (record m { paged = new })
     step_written new bytes many written = record {
       allowed = record { reply = (ap (refuse_bytes (block_at s.blocks number) offset) many ∙ reachable, refl); listed = tt; large = tt };

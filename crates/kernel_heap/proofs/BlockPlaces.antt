@@ -11,7 +11,7 @@ use Rattle.dlmalloc.specs.declared.heap.Dlmalloc.{Dlmalloc}
 use Rattle.mapped_regions.specs.Mapped.{word_reached}
 use Rattle.kernel_heap.specs.System.{paged}
 use Rattle.kernel_heap.specs.Heap.{regions, word, heap_state}
-use Rattle.kernel_heap.specs.Written.{AreInside}
+use Rattle.kernel_heap.specs.Written.{AreHeapBytes}
 use Rattle.kernel_heap.specs.declared.paged_system.PagedSystem.{PagedSystem}
 use Rattle.kernel_heap.proofs.Bytes.{reached_byte}
 use Rattle.kernel_heap.proofs.Laid.{block_place}
@@ -19,7 +19,7 @@ use Rattle.kernel_heap.proofs.Laid.{block_place}
 -- each byte of a block lies in the regions
 pub bytes_within : (heap : Dlmalloc PagedSystem) → ArePlaced (regions heap.system) (heap_state heap) → (address size : ℕ) →
     IsBlock (heap_state heap) address size →
-    (a : ℕ) → address ≤ a → a < address + max size 1 → AreInside (paged heap.system) a 1
+    (a : ℕ) → address ≤ a → a < address + max size 1 → AreHeapBytes (paged heap.system) a 1
 bytes_within heap placed address size block a from to =
     λ k above below. subst (λ (at : ℕ). IsTrue (is_granted (regions heap.system) at))
     (let same : a ≡ k = omega arith in same) ((placed address size block).granted a from to)

@@ -10,18 +10,18 @@ use Rattle.heap_model.specs.Machine.{Paged, OnlyHeapBytesChange}
 use Rattle.kernel_heap.specs.Layout.{IsPagedKept}
 use Rattle.kernel_heap.specs.Words.{grants_of}
 use Rattle.mapped_regions.specs.Mapped.{word_reached}
-use Rattle.kernel_heap.specs.Written.{AreInside, AreRead, IsWritten}
+use Rattle.kernel_heap.specs.Written.{AreHeapBytes, AreRead, AreBytesWritten}
 use Rattle.kernel_heap.specs.Follows.{still_none, still_on}
 use Rattle.kernel_heap.proofs.Numbers.{lt_or_le}
 use Rattle.kernel_heap.proofs.Still.{kept_still}
 use Rattle.kernel_heap.proofs.Bytes.{inside_part, word_of, reached_byte}
 
-pub still_inside : (old new : Paged) (address count : ℕ) → OnlyHeapBytesChange old new → AreInside old address count → AreInside new address count
+pub still_inside : (old new : Paged) (address count : ℕ) → OnlyHeapBytesChange old new → AreHeapBytes old address count → AreHeapBytes new address count
 still_inside old new address count still there =
-    subst (λ q. AreInside q address count) (sym still.others) there
+    subst (λ q. AreHeapBytes q address count) (sym still.others) there
 
 -- a word stands at a multiple of 8 that lies inside
-pub word_there : (p : Paged) (at : ℕ) → IsPagedKept p → AreInside p at 1 → at % 8 ≡ 0 → IsWordOf (grants_of p) at
+pub word_there : (p : Paged) (at : ℕ) → IsPagedKept p → AreHeapBytes p at 1 → at % 8 ≡ 0 → IsWordOf (grants_of p) at
 word_there p at kept there whole = let same : at - at % 8 ≡ at = omega arith in subst (IsWordOf (grants_of p)) same (word_of p at kept there)
 
 -- the bytes of the word of eight bytes
@@ -41,7 +41,7 @@ word_bytes bytes run result place small len fits is value k less = ap (λ xs. ge
 
 -- ---- what is written
 
-pub written_none : (p : Paged) (address : ℕ) (bytes : List ℕ) → IsWritten p p address bytes 0
+pub written_none : (p : Paged) (address : ℕ) (bytes : List ℕ) → AreBytesWritten p p address bytes 0
 written_none p address bytes = record {
   still = still_none p;
   here = λ k less. absurd (omega arith);
@@ -50,9 +50,9 @@ written_none p address bytes = record {
 }
 
 -- behind n bytes a part was written
-pub written_on : (old mid new : Paged) (address n m : ℕ) (bytes part : List ℕ) → AreInside old address (n + m) →
-    IsWritten old mid address bytes n → IsWritten mid new (address + n) part m →
-    ((k : ℕ) → k < m → slice_index part k ≡ slice_index bytes (n + k)) → IsWritten old new address bytes (n + m)
+pub written_on : (old mid new : Paged) (address n m : ℕ) (bytes part : List ℕ) → AreHeapBytes old address (n + m) →
+    AreBytesWritten old mid address bytes n → AreBytesWritten mid new (address + n) part m →
+    ((k : ℕ) → k < m → slice_index part k ≡ slice_index bytes (n + k)) → AreBytesWritten old new address bytes (n + m)
 written_on old mid new address n m bytes part there before after same = record {
   still = still_on old mid new before.still after.still;
   here = λ k less. elim (lt_or_le k n) [
@@ -71,7 +71,7 @@ written_on old mid new address n m bytes part there before after same = record {
       ∙ before.words k word (elim beside [ inl below ↦ inl below | inr above ↦ inr (omega arith) ]);
 }
   where
-    mid_in : (a count : ℕ) → AreInside old a count → AreInside mid a count
+    mid_in : (a count : ℕ) → AreHeapBytes old a count → AreHeapBytes mid a count
     mid_in a count is = still_inside old mid a count before.still is
 
     later_here : (j : ℕ) → j < m → reached new.words new.root (address + (n + j)) ≡ Some (slice_index bytes (n + j))
@@ -80,8 +80,8 @@ written_on old mid new address n m bytes part there before after same = record {
         ap (reached new.words new.root) (sym at) ∙ (after.here j less ∙ ap Some (same j less))
 
 -- a part at the front was written
-written_front : (old new : Paged) (address n : ℕ) (bytes part : List ℕ) → IsWritten old new address part n →
-    ((k : ℕ) → k < n → slice_index part k ≡ slice_index bytes k) → IsWritten old new address bytes n
+written_front : (old new : Paged) (address n : ℕ) (bytes part : List ℕ) → AreBytesWritten old new address part n →
+    ((k : ℕ) → k < n → slice_index part k ≡ slice_index bytes k) → AreBytesWritten old new address bytes n
 written_front old new address n bytes part w same = record {
   still = w.still;
   here = λ k less. w.here k less ∙ ap Some (same k less);
@@ -91,23 +91,24 @@ written_front old new address n bytes part w same = record {
 
 -- two parts were written, one behind the other
 pub written_parts : (old mid new : Paged) (address n : ℕ) (bytes first last : List ℕ) →
-    AreInside old address (length bytes) → first ≡ take n bytes → last ≡ drop n bytes →
-    length first ≡ n → length last + n ≡ length bytes → IsWritten old mid address first (length first) →
-    IsWritten mid new (address + length first) last (length last) → IsWritten old new address bytes (length bytes)
+    AreHeapBytes old address (length bytes) → first ≡ take n bytes → last ≡ drop n bytes →
+    length first ≡ n → length last + n ≡ length bytes → AreBytesWritten old mid address first (length first) →
+    AreBytesWritten mid new (address + length first) last (length last) →
+    AreBytesWritten old new address bytes (length bytes)
 written_parts old mid new address n bytes first last there is_first is_last front back before after =
     let all : n + length last ≡ length bytes = omega arith in
-    subst (IsWritten old new address bytes) all
+    subst (AreBytesWritten old new address bytes) all
     (written_on old mid new address n (length last) bytes last (inside_part old address (length bytes) address
     (n + length last) there (omega arith) (omega arith))
-    (written_front old mid address n bytes first (subst (IsWritten old mid address first) front before)
+    (written_front old mid address n bytes first (subst (AreBytesWritten old mid address first) front before)
     (λ k less. ap (λ xs. get_or xs k 0) is_first ∙ get_or-take n bytes k 0 less))
-    (subst (λ j. IsWritten mid new (address + j) last (length last)) front after)
+    (subst (λ j. AreBytesWritten mid new (address + j) last (length last)) front after)
     (λ k less. ap (λ xs. get_or xs k 0) is_last ∙ get_or-drop n bytes k 0))
 
 -- a stored word is its eight bytes
-pub word_written : (p new : Paged) (at value : ℕ) → IsPagedKept p → AreInside p at 8 → at % 8 ≡ 0 →
+pub word_written : (p new : Paged) (at value : ℕ) → IsPagedKept p → AreHeapBytes p at 8 → at % 8 ≡ 0 →
     OnlyHeapBytesChange p new → IsStored (grants_of p) (word_reached p) at value (word_reached new) →
-    IsWritten p new at (to_le_bytes w64 value) 8
+    AreBytesWritten p new at (to_le_bytes w64 value) 8
 word_written p new at value kept there whole still stored = record {
   still = still;
   here = λ k less.
@@ -128,7 +129,7 @@ word_written p new at value kept there whole still stored = record {
 -- ---- what is read
 
 -- a whole word was read
-pub word_read : (p : Paged) (address n : ℕ) (bytes : List ℕ) (word : ℕ) → IsPagedKept p → AreInside p address (n + 8) →
+pub word_read : (p : Paged) (address n : ℕ) (bytes : List ℕ) (word : ℕ) → IsPagedKept p → AreHeapBytes p address (n + 8) →
     (address + n) % 8 ≡ 0 → AreRead p address n bytes →
     word ≡ word_reached p (address + n) → AreRead p address (n + 8) (bytes ++ to_le_bytes w64 word)
 word_read p address n bytes word kept there whole before is = record {

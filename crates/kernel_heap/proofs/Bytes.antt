@@ -16,7 +16,7 @@ use Rattle.kernel_heap.specs.Layout.{IsPagedKept}
 use Rattle.kernel_heap.specs.Words.{heap_regions, grants_of}
 use Rattle.mapped_regions.specs.Mapped.{word_reached}
 use Rattle.mapped_regions.proofs.Looked.{le_byte}
-use Rattle.kernel_heap.specs.Written.{AreInside, AreRead, IsWritten}
+use Rattle.kernel_heap.specs.Written.{AreHeapBytes, AreRead, AreBytesWritten}
 use Rattle.kernel_heap.specs.Follows.{still_on}
 use Rattle.kernel_heap.proofs.Numbers.{lt_or_le, same_or_other}
 use Rattle.kernel_heap.proofs.HeapRegions.{granted_same, same_page}
@@ -57,15 +57,15 @@ bytes_with word b byte less small = le_bytes_8 (slice_set (to_le_bytes w64 word)
 -- ---- bytes of a system
 
 -- a part of bytes of the regions
-pub inside_part : (p : Paged) (address count at n : ℕ) → AreInside p address count → address ≤ at → at + n ≤ address + count → AreInside p at n
+pub inside_part : (p : Paged) (address count at n : ℕ) → AreHeapBytes p address count → address ≤ at → at + n ≤ address + count → AreHeapBytes p at n
 inside_part p address count at n there from to k above below = there k (omega arith) (omega arith)
 
 -- the first of them is granted
-first_granted : (p : Paged) (address : ℕ) → AreInside p address 1 → IsTrue (is_granted (grants_of p) address)
+first_granted : (p : Paged) (address : ℕ) → AreHeapBytes p address 1 → IsTrue (is_granted (grants_of p) address)
 first_granted p address there = there address (omega arith) (omega arith)
 
 -- its address is a u64
-pub inside_below : (p : Paged) (address : ℕ) → IsPagedKept p → AreInside p address 1 → address < 2 ^ 64
+pub inside_below : (p : Paged) (address : ℕ) → IsPagedKept p → AreHeapBytes p address 1 → address < 2 ^ 64
 inside_below p address kept there =
     elim (or_cases (nat_eq (address / 2 ^ 47) 0) (nat_eq (address / 2 ^ 47) (2 ^ 17 - 1)) (granted_canonical p address kept (first_granted p address there))) [
       | inl low ↦ (let half : address / 2 ^ 47 ≡ 0 = grind (arith, nat_tests) in omega arith)
@@ -73,7 +73,7 @@ inside_below p address kept there =
     ]
 
 -- the word of a byte of the regions is granted
-pub word_of : (p : Paged) (address : ℕ) → IsPagedKept p → AreInside p address 1 → IsWordOf (grants_of p) (address - address % 8)
+pub word_of : (p : Paged) (address : ℕ) → IsPagedKept p → AreHeapBytes p address 1 → IsWordOf (grants_of p) (address - address % 8)
 word_of p address kept there = record {
   granted = granted_same (heap_regions p.regions) (address - address % 8)
       ∙ same_page 0 (2 ^ 64) address (address - address % 8) p.regions kept.laid (omega arith) (granted_within p address (first_granted p address there));
@@ -81,7 +81,7 @@ word_of p address kept there = record {
 }
 
 -- the byte that the walk reaches is a byte of its word
-pub reached_byte : (p : Paged) (address : ℕ) → IsPagedKept p → AreInside p address 1 →
+pub reached_byte : (p : Paged) (address : ℕ) → IsPagedKept p → AreHeapBytes p address 1 →
     reached p.words p.root address ≡ Some (slice_index (to_le_bytes w64 (word_reached p (address - address % 8))) (address % 8))
 reached_byte p address kept there =
     let place = place_at p address (granted_mapped p address address kept (first_granted p address there) refl) in
@@ -94,17 +94,17 @@ reached_byte p address kept there =
     ∙ ap (λ w. slice_index (to_le_bytes w64 w) (address % 8)) (sym word))
 
 -- it is 0 where its word is
-pub zero_reached : (p : Paged) (address : ℕ) → IsPagedKept p → AreInside p address 1 →
+pub zero_reached : (p : Paged) (address : ℕ) → IsPagedKept p → AreHeapBytes p address 1 →
     word_reached p (address - address % 8) ≡ 0 → reached p.words p.root address ≡ Some 0
 zero_reached p address kept there is =
     let none : byte_of 0 (address % 8) ≡ 0 = omega arith in
     reached_byte p address kept there ∙ ap Some (ap (λ w. slice_index (to_le_bytes w64 w) (address % 8)) is ∙ (le_byte 0 (address % 8) (omega arith) ∙ none))
 
 -- what a store of a byte does to the bytes
-module _ (p new : Paged) (at byte : ℕ) (kept : IsPagedKept p) (still : OnlyHeapBytesChange p new) (here : AreInside p at 1) (small : byte < 256)
+module _ (p new : Paged) (at byte : ℕ) (kept : IsPagedKept p) (still : OnlyHeapBytesChange p new) (here : AreHeapBytes p at 1) (small : byte < 256)
     (stored : IsStored (grants_of p) (word_reached p) (at - at % 8) (with_byte (word_reached p (at - at % 8)) (at % 8) byte) (word_reached new)) where
-  moved : (other : ℕ) → AreInside p other 1 → AreInside new other 1
-  moved other there = subst (λ q. AreInside q other 1) (sym still.others) there
+  moved : (other : ℕ) → AreHeapBytes p other 1 → AreHeapBytes new other 1
+  moved other there = subst (λ q. AreHeapBytes q other 1) (sym still.others) there
 
   pub byte_put : reached new.words new.root at ≡ Some byte
   byte_put =
@@ -113,7 +113,7 @@ module _ (p new : Paged) (at byte : ℕ) (kept : IsPagedKept p) (still : OnlyHea
       ∙ (ap (λ bs. slice_index bs (at % 8)) (bytes_with (word_reached p (at - at % 8)) (at % 8) byte (omega arith) small)
       ∙ get_or-set_same (to_le_bytes w64 (word_reached p (at - at % 8))) (at % 8) byte 0 (omega arith)))
 
-  same_bytes : (other : ℕ) → other ≢ at → ((other - other % 8) ≡ (at - at % 8)) ⊎ ((other - other % 8) ≢ (at - at % 8)) → AreInside p other 1 →
+  same_bytes : (other : ℕ) → other ≢ at → ((other - other % 8) ≡ (at - at % 8)) ⊎ ((other - other % 8) ≢ (at - at % 8)) → AreHeapBytes p other 1 →
       slice_index (to_le_bytes w64 (word_reached new (other - other % 8))) (other % 8) ≡ slice_index
       (to_le_bytes w64 (word_reached p (other - other % 8))) (other % 8)
   same_bytes other apart (inl same) there =
@@ -125,19 +125,19 @@ module _ (p new : Paged) (at byte : ℕ) (kept : IsPagedKept p) (still : OnlyHea
   same_bytes other apart (inr differ) there =
       ap (λ w. slice_index (to_le_bytes w64 w) (other % 8)) (stored.elsewhere (other - other % 8) (word_of p other kept there) differ)
 
-  pub bytes_stay : (other : ℕ) → AreInside p other 1 → other ≢ at → reached new.words new.root other ≡ reached p.words p.root other
+  pub bytes_stay : (other : ℕ) → AreHeapBytes p other 1 → other ≢ at → reached new.words new.root other ≡ reached p.words p.root other
   bytes_stay other there apart =
       reached_byte new other (kept_still p new kept still) (moved other there)
       ∙ (ap Some (same_bytes other apart (same_or_other (other - other % 8) (at - at % 8)) there) ∙ sym (reached_byte p other kept there))
 
 -- one more byte was put
 pub written_more : (old mid new : Paged) (address : ℕ) (bytes : List ℕ) (n : ℕ) → IsPagedKept old →
-    AreInside old address (n + 1) → IsWritten old mid address bytes n →
+    AreHeapBytes old address (n + 1) → AreBytesWritten old mid address bytes n →
     slice_index bytes n < 256 → OnlyHeapBytesChange mid new →
     IsStored (grants_of mid) (word_reached mid) (address + n - (address + n) % 8)
     (with_byte (word_reached mid (address + n - (address + n) % 8)) ((address + n) % 8) (slice_index bytes n))
     (word_reached new) →
-    IsWritten old new address bytes (n + 1)
+    AreBytesWritten old new address bytes (n + 1)
 written_more old mid new address bytes n kept there before small still stored = record {
   still = still_on old mid new before.still still;
   here = λ k less. (elim (lt_or_le k n) [
@@ -161,10 +161,10 @@ written_more old mid new address bytes n kept there before small still stored = 
     kept_mid : IsPagedKept mid
     kept_mid = kept_still old mid kept before.still
 
-    mid_in : (a : ℕ) → AreInside old a 1 → AreInside mid a 1
-    mid_in a is = subst (λ q. AreInside q a 1) (sym before.still.others) is
+    mid_in : (a : ℕ) → AreHeapBytes old a 1 → AreHeapBytes mid a 1
+    mid_in a is = subst (λ q. AreHeapBytes q a 1) (sym before.still.others) is
 
-    last_in : AreInside mid (address + n) 1
+    last_in : AreHeapBytes mid (address + n) 1
     last_in = mid_in (address + n) (inside_part old address (n + 1) (address + n) 1 there (omega arith) (omega arith))
 
     differs : (other : ℕ) → (other < address) ⊎ (address + (n + 1) ≤ other) → other ≢ address + n
@@ -172,7 +172,7 @@ written_more old mid new address bytes n kept there before small still stored = 
     differs other (inr above) e = absurd (omega arith)
 
 -- one more byte was read
-pub read_more : (p : Paged) (address n : ℕ) (bytes : List ℕ) (byte : ℕ) → IsPagedKept p → AreInside p address (n + 1) → AreRead p address n bytes →
+pub read_more : (p : Paged) (address n : ℕ) (bytes : List ℕ) (byte : ℕ) → IsPagedKept p → AreHeapBytes p address (n + 1) → AreRead p address n bytes →
     byte ≡ slice_index (to_le_bytes w64 (word_reached p (address + n - (address + n) % 8))) ((address + n) % 8) → AreRead p address (n + 1) (bytes ++ byte ∷ [])
 read_more p address n bytes byte kept there before is = record {
   many = length-append bytes (byte ∷ []) ∙ (let m = before.many in omega arith);

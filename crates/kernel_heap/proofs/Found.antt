@@ -26,7 +26,7 @@ use Rattle.heap_model.specs.Room.{heap_rights, heap_region, IsGrowth}
 use Rattle.heap_model.specs.Cut.{AreCut}
 use Rattle.heap_model.specs.Memory.{HoldsBytes}
 use Rattle.heap_model.specs.Refusal.{must_refuse, wanted_by}
-use Rattle.heap_model.specs.Answer.{changed, with_regions, is_new, NewPages, granted_pages, new_pages, slots_of, heap_after, IsServed}
+use Rattle.heap_model.specs.Answer.{changed, with_regions, is_new, NewPages, granted_pages, new_pages, slots_of, heap_after, IsCallServed}
 use Rattle.heap_model.specs.Run.{IsGood, IsHeapRegion}
 use Rattle.heap_model.specs.Machine.{Paged, Seen, Stands, IsStep, OnlyHeapBytesChange, outline}
 use Rattle.heap_model.proofs.Added.{missing_same}
@@ -102,7 +102,7 @@ module _ {top : ℕ} (heap middle new : Dlmalloc PagedSystem) (blocks blocks' : 
     (serves : (list : Option (List Region)) (grown : List Region) → IsGrowth s n grown → AreCut grown (heap_after s list) →
     (paged new.system ≡ paged middle.system → heap_after s list ≡ grown) →
     (OnlyHeapBytesChange (paged heap.system) (paged new.system) → list ≡ None) →
-    IsServed s call (Placed number address) list)
+    IsCallServed s call (Placed number address) list)
     (lives_same : blocks' ≡ map (option_map outline) after_it) (holds : HoldsBytes (reached (paged new.system).words (paged new.system).root) after_it)
     (good_blocks : (list : List Region) (tables : List Prefix) (large : List ℕ) →
     list ≡ heap_regions (paged new.system).regions → IsGood (record s {

@@ -7,7 +7,7 @@ use Rattle.mapped_regions.specs.Regions.{AreLaid}
 use Rattle.mapped_regions.specs.Mapped.{IsMapped, IsRegion, CanMap, IsRegionJoined, IsLeft}
 use Rattle.mapped_regions.proofs.Laying.{laid_with, laid_without}
 use Rattle.mapped_regions.proofs.Mapped.{range_ends_at}
-use Rattle.kernel_heap.specs.Config.{IsGoodWindow}
+use Rattle.kernel_heap.specs.Config.{IsHeapWindow}
 use Rattle.kernel_heap.specs.Layout.{IsPagedKept, CanGrant, IsGranted}
 use Rattle.kernel_heap.proofs.Places.{range_within}
 
@@ -16,7 +16,7 @@ pub kept_joined : {A B : Type 0} (answer : Result A B) (old new : Paged) (region
     OnOk answer (IsRegionJoined old new region) → OnOk answer (CanMap old region.start region.pages) →
     OnErr answer (new ≡ old) → IsPagedKept old → IsMapped new → IsPagedKept new
 kept_joined (Ok a) old new region ok can err kept mapped = record {
-  window = subst (λ b. IsGoodWindow b new.pages) (sym ok.added.base) (subst (IsGoodWindow old.base) (sym ok.added.pages_is) kept.window);
+  window = subst (λ b. IsHeapWindow b new.pages) (sym ok.added.base) (subst (IsHeapWindow old.base) (sym ok.added.pages_is) kept.window);
   mapped = mapped;
   laid = subst (λ regions. AreLaid 0 regions (2 ^ 64)) (sym ok.regions)
       (laid_with region 0 (2 ^ 64) old.regions can.range.0 can.range.1.some (omega arith)
@@ -28,7 +28,7 @@ kept_joined (Err e) old new region ok can err kept mapped = subst IsPagedKept (s
 pub kept_left : {A B : Type 0} (answer : Result A B) (old new : Paged) (start pages : ℕ) →
     OnOk answer (IsLeft old new start pages) → OnErr answer (new ≡ old) → IsPagedKept old → IsMapped new → IsPagedKept new
 kept_left (Ok a) old new start pages ok err kept mapped = record {
-  window = subst (λ b. IsGoodWindow b new.pages) (sym ok.gone.base) (subst (IsGoodWindow old.base) (sym ok.gone.pages_is) kept.window);
+  window = subst (λ b. IsHeapWindow b new.pages) (sym ok.gone.base) (subst (IsHeapWindow old.base) (sym ok.gone.pages_is) kept.window);
   mapped = mapped;
   laid = subst (λ regions. AreLaid 0 regions (2 ^ 64)) (sym ok.regions) (laid_without start pages 0 (2 ^ 64) old.regions kept.laid);
 }

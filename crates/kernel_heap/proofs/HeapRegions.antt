@@ -6,7 +6,7 @@ use Rattle.paging_core.specs.Address.{is_canonical}
 use Rattle.heap_memory.specs.declared.grant.Grant.{Grant}
 use Rattle.heap_memory.specs.Regions.{is_granted, IsApart, with_grant}
 use Rattle.heap_model.specs.declared.region.Region.{Region}
-use Rattle.heap_model.specs.State.{State, end_of, is_within}
+use Rattle.heap_model.specs.State.{State, end_of_region, is_within}
 use Rattle.heap_model.specs.Place.{meets, meets_any, with_region, all_regions}
 use Rattle.heap_model.specs.Room.{heap_region}
 use Rattle.heap_model.specs.Run.{IsGood, IsHeapRegion, IsUserRegion}
@@ -81,7 +81,8 @@ within_canonical base window address (first ∷ rest) all is = elim (or_cases (i
 pub same_page : (from to a b : ℕ) (list : List Region) → AreLaid from list to → a / 4096 ≡ b / 4096 →
     list_any (is_within a) (heap_regions list) ≡ true → list_any (is_within b) (heap_regions list) ≡ true
 same_page from to a b [] laid same is = is
-same_page from to a b (first ∷ rest) laid same is = go first.heap is (same_page (end_of first) to a b rest laid.3 same)
+same_page from to a b (first ∷ rest) laid same is = go first.heap is (same_page (end_of_region first) to a b rest laid.3
+    same)
   where
     here : is_within a first ≡ true → is_within b first ≡ true
     here is =
@@ -103,19 +104,19 @@ any_from : (from to address : ℕ) (list : List Region) → AreLaid from list to
 any_from from to address [] laid is = absurd (cc)
 any_from from to address (first ∷ rest) laid is = elim (or_cases (is_within address first) (list_any (is_within address) rest) is) [
   | inl here ↦ (let bounds = within_bounds address first here in omega (arith, laid.0, bounds.0))
-  | inr later ↦ (let more = any_from (end_of first) to address rest laid.3 later in omega (arith, laid.0, more))
+  | inr later ↦ (let more = any_from (end_of_region first) to address rest laid.3 later in omega (arith, laid.0, more))
 ]
 
 pub not_of_user : (from to a b : ℕ) (list : List Region) → AreLaid from list to → a / 4096 ≡ b / 4096 →
     list_any (is_within a) (heap_regions list) ≡ true → is_of_user list b ≡ true → ⊥
 not_of_user from to a b [] laid same is user = absurd (cc)
-not_of_user from to a b (first ∷ rest) laid same is user = go first.heap is user (not_of_user (end_of first) to a b rest laid.3 same)
+not_of_user from to a b (first ∷ rest) laid same is user = go first.heap is user (not_of_user (end_of_region first) to a b rest laid.3 same)
   where
     -- the one in the first region, the other behind it
     apart : (x y : ℕ) → x / 4096 ≡ y / 4096 → is_within x first ≡ true → list_any (is_within y) rest ≡ true → ⊥
     apart x y page here behind =
         let bounds = within_bounds x first here in
-        let more = any_from (end_of first) to y rest laid.3 behind in
+        let more = any_from (end_of_region first) to y rest laid.3 behind in
         let whole = laid.1 in
         absurd (omega (arith, bounds.1, more))
 
@@ -170,7 +171,7 @@ first_of : (region : Region) (from to : ℕ) (list : List Region) → AreLaid fr
 first_of region from to [] laid less = refl
 first_of region from to (first ∷ rest) laid less =
     let sooner : nat_lt region.start first.start ≡ true = grind (arith, nat_tests, less, laid.0) in
-    go first.heap sooner (first_of region (end_of first) to rest laid.3 (omega (arith, less, laid.0)))
+    go first.heap sooner (first_of region (end_of_region first) to rest laid.3 (omega (arith, less, laid.0)))
   where
     go : (b : Bool) → nat_lt region.start first.start ≡ true → with_region region (heap_regions rest) ≡ region ∷ heap_regions rest →
         with_region region (cond b (first ∷ heap_regions rest) (heap_regions rest)) ≡ region ∷ cond b (first ∷ heap_regions rest) (heap_regions rest)
@@ -180,7 +181,7 @@ first_of region from to (first ∷ rest) laid less =
 pub heap_joined : (region : Region) (from to : ℕ) (list : List Region) → AreLaid from list to → region.heap ≡ true →
     heap_regions (with_region region list) ≡ with_region region (heap_regions list)
 heap_joined region from to [] laid heap = heap_first region [] heap
-heap_joined region from to (first ∷ rest) laid heap = go (nat_lt region.start first.start) refl (heap_joined region (end_of first) to rest laid.3 heap)
+heap_joined region from to (first ∷ rest) laid heap = go (nat_lt region.start first.start) refl (heap_joined region (end_of_region first) to rest laid.3 heap)
   where
     behind : (b : Bool) → nat_lt region.start first.start ≡ false → heap_regions (with_region region rest) ≡ with_region region (heap_regions rest) →
         cond b (first ∷ heap_regions (with_region region rest)) (heap_regions (with_region region rest)) ≡ with_region
@@ -197,7 +198,7 @@ heap_joined region from to (first ∷ rest) laid heap = go (nat_lt region.start 
         heap_regions (cond b (region ∷ first ∷ rest) (first ∷ with_region region rest)) ≡ with_region region (heap_regions (first ∷ rest))
     go true test later =
         let less : region.start < first.start = grind (arith, nat_tests) in
-        heap_first region (first ∷ rest) heap ∙ (before first.heap test (first_of region (end_of first) to rest laid.3 (omega (arith, less))))
+        heap_first region (first ∷ rest) heap ∙ (before first.heap test (first_of region (end_of_region first) to rest laid.3 (omega (arith, less))))
     go false test later = behind first.heap test later
 
 -- as grants too
@@ -221,7 +222,8 @@ user_from start pages from to [] laid there = absurd (cc)
 user_from start pages from to (first ∷ rest) laid there = elim (or_cases (not first.heap && is_at start pages first)
     (list_any (λ region. not region.heap && is_at start pages region) rest) there) [
       | inl here ↦ (let begins = at_start first.heap here in omega (arith, laid.0, begins))
-      | inr later ↦ (let more = user_from start pages (end_of first) to rest laid.3 later in omega (arith, laid.0, more))
+      | inr later ↦ (let more = user_from start pages (end_of_region first) to rest laid.3 later in
+          omega (arith, laid.0, more))
     ]
   where
     at_start : (h : Bool) → (not h && is_at start pages first) ≡ true → first.start ≡ start
@@ -234,7 +236,7 @@ pub heap_left : (start pages from to : ℕ) (list : List Region) → AreLaid fro
     heap_regions (without_region start pages list) ≡ heap_regions list
 heap_left start pages from to [] laid there = absurd (cc)
 heap_left start pages from to (first ∷ rest) laid there = go (is_at start pages first) refl first.heap refl
-    (heap_left start pages (end_of first) to rest laid.3)
+    (heap_left start pages (end_of_region first) to rest laid.3)
   where
     later_there : (not first.heap && is_at start pages first) ≡ false → list_any (λ region. not region.heap && is_at start pages region) rest ≡ true
     later_there none = elim (or_cases (not first.heap && is_at start pages first)
@@ -253,7 +255,7 @@ heap_left start pages from to (first ∷ rest) laid there = go (is_at start page
     go true is false user rest_left = sym (user_first first rest user)
     go true is true heap rest_left =
         let later = later_there (ap (λ b. not b && is_at start pages first) heap) in
-        let behind = user_from start pages (end_of first) to rest laid.3 later in
+        let behind = user_from start pages (end_of_region first) to rest laid.3 later in
         let same : first.start ≡ start = grind (arith, nat_tests) in
         absurd (omega (arith, behind, same, laid.2))
     go false is h heap rest_left =

@@ -17,7 +17,7 @@ use Rattle.heap_model.specs.declared.live.Live.{Live}
 use Rattle.heap_model.proofs.Placed.{appended, stays, last_at}
 use Rattle.heap_model.proofs.Ended.{left_at}
 use Rattle.heap_model.proofs.Resized.{replaced_at, replaced_stays, replaced_here}
-use Rattle.kernel_heap.specs.Beside.{IsBeside}
+use Rattle.kernel_heap.specs.Beside.{KeepsHeapWords}
 use Rattle.kernel_heap.specs.Words.{heap_regions, grant_of, grants_of}
 use Rattle.kernel_heap.specs.System.{paged}
 use Rattle.kernel_heap.specs.Heap.{follows, refuses, denies, regions, word, heap_state}
@@ -28,7 +28,7 @@ use Rattle.dlmalloc.specs.Served.{IsRefusedWith, regions_in, KeepsRegions, OnlyB
 use Rattle.kernel_heap.specs.Machine.{seen_of}
 use Rattle.kernel_heap.specs.Numbered.{live_at}
 use Rattle.kernel_heap.specs.LaidOut.{HaveRegions, IsLive, IsLaidOut}
-use Rattle.kernel_heap.specs.Moves.{IsStill, IsKeptBeside}
+use Rattle.kernel_heap.specs.Moves.{KeepsStateAndBins, IsKeptBeside}
 use Rattle.kernel_heap.specs.declared.paged_system.PagedSystem.{PagedSystem}
 use Rattle.kernel_heap.proofs.Numbers.{same_or_other}
 use Rattle.kernel_heap.proofs.SegmentRegions.{have_found}
@@ -325,7 +325,7 @@ module _ (heap : Dlmalloc PagedSystem) (intact : IsIntact regions word heap) (sy
 
 -- so it is if something was done beside it
 module _ (heap : Dlmalloc PagedSystem) (intact : IsIntact regions word heap) (system : PagedSystem)
-    (beside : IsBeside (paged heap.system) (paged system)) (rests : RestsOutside regions word heap) where
+    (beside : KeepsHeapWords (paged heap.system) (paged system)) (rests : RestsOutside regions word heap) where
   pub intact_beside : IsIntact regions word (record heap { system = system })
   intact_beside = intact_outside heap intact system beside.regions (λ k granted there outside. beside.words k granted) rests
 
@@ -343,15 +343,17 @@ pub seen_refused : (top : ℕ) (heap new : Dlmalloc PagedSystem) (blocks : List 
 seen_refused top heap new blocks kept same = seen_beside top heap new blocks kept ∙ ap (λ p. record (seen_of top heap blocks) { paged = p }) same
 
 -- one stay behind another
-pub still_none : (heap : Dlmalloc PagedSystem) → IsStill heap heap
+pub still_none : (heap : Dlmalloc PagedSystem) → KeepsStateAndBins heap heap
 still_none heap = (refl, λ before. (before, λ n. refl))
 
 -- also where a call ends for want of memory
-pub still_err : {T E : Type 0} (result : Result T E) (heap : Dlmalloc PagedSystem) → OnErr result (IsStill heap heap)
+pub still_err : {T E : Type 0} (result : Result T E) (heap : Dlmalloc PagedSystem) →
+    OnErr result (KeepsStateAndBins heap heap)
 still_err (Ok value) heap = tt
 still_err (Err error) heap = still_none heap
 
-pub still_on : (old middle new : Dlmalloc PagedSystem) → IsStill old middle → IsStill middle new → IsStill old new
+pub still_on : (old middle new : Dlmalloc PagedSystem) → KeepsStateAndBins old middle → KeepsStateAndBins middle new →
+    KeepsStateAndBins old new
 still_on old middle new first second = (
   second.0 ∙ first.0,
   λ before. (let one = first.1 before in let two = second.1 one.0 in (two.0, λ n. two.1 n ∙ one.1 n)),

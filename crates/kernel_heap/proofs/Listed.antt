@@ -12,7 +12,7 @@ use Rattle.heap_model.specs.declared.region.Region.{Region}
 use Rattle.heap_model.specs.declared.call.Call.TheVariants.{Extents}
 use Rattle.heap_model.specs.declared.answer.Reply.TheVariants.{Extents as Listed}
 use Rattle.heap_model.specs.State.{State, Block, block_at, is_within}
-use Rattle.heap_model.specs.Extents.{AreRuns, HasExtent, HasBlock, IsTiling}
+use Rattle.heap_model.specs.Extents.{AreRuns, HasExtent, IsExtentOfBlock, IsTiling}
 use Rattle.heap_model.specs.Run.{IsGood}
 use Rattle.heap_model.specs.Machine.{Seen, Stands, IsStep, outline}
 use Rattle.heap_model.proofs.Placed.{outline_of}
@@ -57,7 +57,7 @@ module _ {top : ℕ} (heap : Dlmalloc PagedSystem) (sound : IsSound regions word
         is = record { used = b.used; place = block_place (heap_state heap) block.address block.size b; holds = b.holds; little = b.little };
       }
 
-  extent_has : (extent : Extent) → extent_at extent.at list ≡ Some extent → extent.kind ≡ Used → HasBlock s extent
+  extent_has : (extent : Extent) → extent_at extent.at list ≡ Some extent → extent.kind ≡ Used → IsExtentOfBlock s extent
   extent_has extent there used =
       let found = used_shown (heap_state heap) (extent_at extent.at (extents_in (heap_state heap))) extent (sym (listed.found extent.at) ∙ there) used in
       let hit = laid.used extent used found in

@@ -7,15 +7,15 @@ use Rattle.heap_model.specs.Slots.{slot_number}
 use Rattle.heap_model.specs.Machine.{Paged, Seen, Stands, rights_of}
 use Rattle.heap_model.specs.Run.{IsGood}
 use Rattle.mapped_regions.specs.Mapped.{IsMapped, IsEmpty}
-use Rattle.kernel_heap.specs.Config.{IsGoodWindow, IsGoodConfig}
+use Rattle.kernel_heap.specs.Config.{IsHeapWindow, IsGoodConfig}
 use Rattle.mapped_regions.specs.Regions.{AreLaid}
 use Rattle.kernel_heap.specs.Layout.{IsNew}
 
 -- where nothing is mapped, the system is new
-pub new_is : (p : Paged) (base pages frames : ℕ) → IsGoodWindow base pages → IsMapped p → IsEmpty p base pages frames → IsNew p base pages frames
+pub new_is : (p : Paged) (base pages frames : ℕ) → IsHeapWindow base pages → IsMapped p → IsEmpty p base pages frames → IsNew p base pages frames
 new_is p base pages frames window m e = record {
   kept = record {
-    window = subst (λ b. IsGoodWindow b p.pages) (sym e.base_is) (subst (IsGoodWindow base) (sym e.pages_is) window);
+    window = subst (λ b. IsHeapWindow b p.pages) (sym e.base_is) (subst (IsHeapWindow base) (sym e.pages_is) window);
     mapped = m;
     laid = subst (λ regions. AreLaid 0 regions (2 ^ 64)) (sym e.regions_is) (omega arith);
   };

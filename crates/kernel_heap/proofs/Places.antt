@@ -3,10 +3,10 @@ use Rattle.std.proofs.Common.{◌≡◌, ℕ, ◌+◌, ◌*◌, ◌/◌, ◌%◌
 use Rattle.paging_core.specs.Address.{IsCanonicalRange}
 use Rattle.heap_model.specs.Machine.{Paged}
 use Rattle.heap_model.specs.Place.{IsFit}
-use Rattle.kernel_heap.specs.Config.{IsGoodWindow}
+use Rattle.kernel_heap.specs.Config.{IsHeapWindow}
 
 -- pages that lie in the window are canonical
-pub range_within : (p : Paged) (pages address : ℕ) → IsGoodWindow p.base p.pages → 0 < pages →
+pub range_within : (p : Paged) (pages address : ℕ) → IsHeapWindow p.base p.pages → 0 < pages →
     IsFit p.base p.pages p.regions pages address → IsCanonicalRange (address / 4096) pages
 range_within p pages address window some fit =
     let base_whole : p.base % 4096 ≡ 0 = window.whole in

@@ -9,13 +9,13 @@ use Rattle.paging_core.specs.PageChanges.{among}
 use Rattle.paging_core.specs.Prefix.{prefix_of}
 use Rattle.paging_core.specs.Walk.{Place, reach, large_of, walk_of, reached, top}
 use Rattle.paging_core.proofs.Ranges.{page_in}
-use Rattle.page_ranges.specs.RangeUnmapping.{AreUnmapped, is_cut}
+use Rattle.page_ranges.specs.RangeUnmapping.{AreUnmapped, cuts_large_page}
 use Rattle.page_ranges.proofs.Unmapped.{among_is, slot_in, cut_or_not, cut_one, cut_none, cut_is as cut_page_is}
 use Rattle.heap_memory.specs.Events.{Event, Granted, Refused, Released}
 use Rattle.heap_memory.specs.Regions.{IsApart}
 use Rattle.heap_memory.specs.Runs.{IsRun, IsWithin}
 use Rattle.heap_model.specs.declared.region.Region.{Region}
-use Rattle.heap_model.specs.State.{end_of, is_within}
+use Rattle.heap_model.specs.State.{end_of_region, is_within}
 use Rattle.heap_model.specs.Place.{meets}
 use Rattle.heap_model.specs.Slots.{IsSlot, slot_number, has_whole, is_whole_in}
 use Rattle.heap_model.specs.Cut.{AreCut}
@@ -24,7 +24,7 @@ use Rattle.heap_model.proofs.Booleans.{or_cases}
 use Rattle.heap_model.proofs.Cut.{none_cut, cut_on}
 use Rattle.heap_model.proofs.Settled.{cut_slots}
 use Rattle.heap_model.proofs.Slots.{page_slot, page_number, whole_bounds}
-use Rattle.mapped_regions.specs.Regions.{AreLaid, cut_of}
+use Rattle.mapped_regions.specs.Regions.{AreLaid, cut_regions}
 use Rattle.mapped_regions.proofs.Laying.{laid_cut}
 use Rattle.mapped_regions.specs.Mapped.{AreGone}
 use Rattle.mapped_regions.proofs.Looked.{first_canonical}
@@ -43,20 +43,23 @@ abbrev pub user_regions : List Region → List Region
 user_regions regions = filter (λ region. not region.heap) regions
 
 module _ (low pages : ℕ) (aligned : low % 4096 ≡ 0) where
-  cut_are : (from to : ℕ) (regions : List Region) → AreLaid from regions to → AreCut regions (cut_of low pages regions)
+  cut_are : (from to : ℕ) (regions : List Region) → AreLaid from regions to → AreCut regions (cut_regions low pages regions)
   cut_are from to [] laid = refl
-  cut_are from to (region ∷ rest) laid = go (meets low pages region) (nat_lt region.start low) refl refl (cut_are (end_of region) to rest laid.3)
+  cut_are from to (region ∷ rest) laid = go (meets low pages region) (nat_lt region.start low) refl refl (cut_are (end_of_region region) to rest laid.3)
     where
-      go : (met before : Bool) → meets low pages region ≡ met → nat_lt region.start low ≡ before → AreCut rest (cut_of low pages rest) →
-          AreCut (region ∷ rest) (if met then (if before then record region { pages = (low - region.start) / 4096 } ∷ cut_of
-          low pages rest else cut_of low pages rest) else region ∷ cut_of low pages rest)
-      go false before met test later = inr (region, cut_of low pages rest, inl refl, refl, later)
+      go : (met before : Bool) → meets low pages region ≡ met → nat_lt region.start low ≡ before → AreCut rest (cut_regions low pages rest) →
+          AreCut (region ∷ rest) (if met then (if before then record region {
+            pages =
+                (low - region.start) / 4096;
+          } ∷ cut_regions
+          low pages rest else cut_regions low pages rest) else region ∷ cut_regions low pages rest)
+      go false before met test later = inr (region, cut_regions low pages rest, inl refl, refl, later)
       go true false met test later = inl later
       go true true met test later =
           let less : region.start < low = grind (arith, nat_tests) in
-          let inside : low < end_of region = grind (arith, nat_tests) in
+          let inside : low < end_of_region region = grind (arith, nat_tests) in
           let at_page = laid.1 in
-          inr (record region { pages = (low - region.start) / 4096 }, cut_of low pages rest, inr (omega arith, omega arith, refl), refl, later)
+          inr (record region { pages = (low - region.start) / 4096 }, cut_regions low pages rest, inr (omega arith, omega arith, refl), refl, later)
 
 -- pages of which no address is the user's meet none of the user's regions
 users_apart : (low pages from to : ℕ) (regions : List Region) → AreLaid from regions to → 0 < pages →
@@ -65,21 +68,22 @@ users_apart : (low pages from to : ℕ) (regions : List Region) → AreLaid from
 users_apart low pages from to [] laid more none = tt
 users_apart low pages from to (region ∷ rest) laid more none = (
   λ user. apart user (meets low pages region) refl,
-  users_apart low pages (end_of region) to rest laid.3 more (λ address low_is high_is. (none address low_is high_is).1),
+  users_apart low pages (end_of_region region) to rest laid.3 more (λ address low_is high_is.
+      (none address low_is high_is).1),
 )
   where
     apart : region.heap ≡ false → (met : Bool) → meets low pages region ≡ met → meets low pages region ≡ false
     apart user false is = is
     apart user true is = absurd (elim (cases_lt region.start low) [
       | inl before ↦ (
-          let high : low < end_of region = grind (arith, nat_tests) in
+          let high : low < end_of_region region = grind (arith, nat_tests) in
           let some : region.start < low + 4096 * pages = grind (arith, nat_tests) in
           let out : is_within low region ≡ false = (none low (omega arith) (omega arith)).0 user in
           let in_it : is_within low region ≡ true = grind (arith, nat_tests) in
           cc)
       | inr behind ↦ (
           let some : region.start < low + 4096 * pages = grind (arith, nat_tests) in
-          let high : low < end_of region = grind (arith, nat_tests) in
+          let high : low < end_of_region region = grind (arith, nat_tests) in
           let out : is_within region.start region ≡ false = (none region.start (omega arith) some).0 user in
           let pages_are = laid.2 in
           let in_it : is_within region.start region ≡ true = grind (arith, nat_tests) in
@@ -91,29 +95,31 @@ not_not false is = refl
 not_not true is = absurd (cc)
 
 users_stay : (low pages : ℕ) (regions : List Region) → AllByRecursion (λ region. region.heap ≡ false → meets low pages region ≡ false) regions →
-    user_regions (cut_of low pages regions) ≡ user_regions regions
+    user_regions (cut_regions low pages regions) ≡ user_regions regions
 users_stay low pages [] apart = refl
 users_stay low pages (region ∷ rest) apart = go (not region.heap) refl (users_stay low pages rest apart.1)
   where
     -- what a cut makes of a region of the heap is no region of the user
     own : (met before : Bool) → not region.heap ≡ false →
-        user_regions (if met then (if before then record region { pages = (low - region.start) / 4096 } ∷ cut_of low pages
-        rest else cut_of low pages rest) else region ∷ cut_of low pages rest)
-        ≡ user_regions (cut_of low pages rest)
+        user_regions (if met then (if before then record region { pages = (low - region.start) / 4096 } ∷ cut_regions low
+        pages
+        rest else cut_regions low pages rest) else region ∷ cut_regions low pages rest)
+        ≡ user_regions (cut_regions low pages rest)
     own true true heap = ap (λ (b : Bool). cond b (record region { pages = (low - region.start) / 4096 } ∷ user_regions
-        (cut_of low pages rest)) (user_regions (cut_of low pages rest))) heap
+        (cut_regions low pages rest)) (user_regions (cut_regions low pages rest))) heap
     own true false heap = refl
-    own false before heap = ap (λ (b : Bool). cond b (region ∷ user_regions (cut_of low pages rest)) (user_regions (cut_of low pages rest))) heap
+    own false before heap = ap (λ (b : Bool). cond b (region ∷ user_regions (cut_regions low pages rest)) (user_regions (cut_regions low pages rest))) heap
 
-    go : (user : Bool) → not region.heap ≡ user → user_regions (cut_of low pages rest) ≡ user_regions rest →
-        user_regions (cut_of low pages (region ∷ rest)) ≡ user_regions (region ∷ rest)
+    go : (user : Bool) → not region.heap ≡ user → user_regions (cut_regions low pages rest) ≡ user_regions rest →
+        user_regions (cut_regions low pages (region ∷ rest)) ≡ user_regions (region ∷ rest)
     go false heap later = own (meets low pages region) (nat_lt region.start low) heap
         ∙ (later ∙ sym (ap (λ (b : Bool). cond b (region ∷ user_regions rest) (user_regions rest)) heap))
     go true user later =
         let out : meets low pages region ≡ false = apart.0 (not_not region.heap user) in
         ap (λ (met : Bool). user_regions (if met then (if nat_lt region.start low
-        then record region { pages = (low - region.start) / 4096 } ∷ cut_of low pages rest else cut_of low pages rest)
-        else region ∷ cut_of low pages rest)) out
+        then record region { pages = (low - region.start) / 4096 } ∷ cut_regions low pages rest else cut_regions low pages
+        rest)
+        else region ∷ cut_regions low pages rest)) out
         ∙ ap (λ (rs : List Region). cond (not region.heap) (region ∷ rs) rs) later
 
 -- a byte is the user's where a region of the user has it
@@ -275,7 +281,7 @@ shortened_on x y z (Some one) first second = shortened_before x y z one first se
 
 -- the slot that a range cuts which leaves from a page on
 abbrev pub slot_cut : Paged → ℕ → Option ℕ
-slot_cut p page = if is_cut p.words p.root page then Some (page / 512 * 2 ^ 21) else None
+slot_cut p page = if cuts_large_page p.words p.root page then Some (page / 512 * 2 ^ 21) else None
 
 module _ (old new : Paged) (at size left : ℕ) (kept : IsPagedKept old) (is : IsReleasedFor old new at size left) (less : left < size) where
   laid : AreLaid 0 old.regions (2 ^ 64)
@@ -367,14 +373,14 @@ module _ (old new : Paged) (at size left : ℕ) (kept : IsPagedKept old) (is : I
   begun_number : slot_number begun ≡ prefix_of first 3
   begun_number = page_number first
 
-  walks_by : (cut : Bool) → is_cut old.words old.root first ≡ cut → (level number : ℕ) → level < 4 →
+  walks_by : (cut : Bool) → cuts_large_page old.words old.root first ≡ cut → (level number : ℕ) → level < 4 →
       ((one : ℕ) → (if cut then Some begun else None) ≡ Some one → level ≡ 3 → number ≡ slot_number one → ⊥) →
       reach new.words new.root level number ≡ reach old.words old.root level number
   walks_by true cut level number low other = to_root new.words level number
       ∙ un.tables_stay level number low (λ three at. absurd (other begun refl three (at ∙ sym begun_number)))
   walks_by false none level number low other = to_root new.words level number ∙ un.tables_stay level number low (λ three at. none)
 
-  table_by : (cut : Bool) → is_cut old.words old.root first ≡ cut → (one : ℕ) →
+  table_by : (cut : Bool) → cuts_large_page old.words old.root first ≡ cut → (one : ℕ) →
       (if cut then Some begun else None) ≡ Some one → IsSome (reach new.words new.root 3 (slot_number one))
   table_by false none one is = absurd (cc)
   table_by true cut one is = elim (cut_or_not old.words old.root first) [
@@ -388,7 +394,7 @@ module _ (old new : Paged) (at size left : ℕ) (kept : IsPagedKept old) (is : I
     | inr none ↦ absurd (cc)
   ]
 
-  large_by : (cut : Bool) → is_cut old.words old.root first ≡ cut → (one : ℕ) →
+  large_by : (cut : Bool) → cuts_large_page old.words old.root first ≡ cut → (one : ℕ) →
       (if cut then Some begun else None) ≡ Some one → IsSlot one × IsSome (large_of old.words old.root (slot_number one))
   large_by false none one is = absurd (cc)
   large_by true cut one is = elim (cut_or_not old.words old.root first) [
@@ -401,7 +407,7 @@ module _ (old new : Paged) (at size left : ℕ) (kept : IsPagedKept old) (is : I
     | inr none ↦ absurd (cc)
   ]
 
-  tables_by : (cut : Bool) → is_cut old.words old.root first ≡ cut → new.tables ≡ old.tables + length (cut_slots (if cut then Some begun else None))
+  tables_by : (cut : Bool) → cuts_large_page old.words old.root first ≡ cut → new.tables ≡ old.tables + length (cut_slots (if cut then Some begun else None))
   tables_by true cut = gone.gone.tables ∙ ap (λ n. old.tables + n) (cut_one old.words old.root first cut)
   tables_by false none = gone.gone.tables ∙ ap (λ n. old.tables + n) (cut_none old.words old.root first none)
 
@@ -412,7 +418,7 @@ module _ (old new : Paged) (at size left : ℕ) (kept : IsPagedKept old) (is : I
         base = g.gone.base;
         pages_is = g.gone.pages_is;
         root = g.gone.root;
-        tables = tables_by (is_cut old.words old.root first) refl;
+        tables = tables_by (cuts_large_page old.words old.root first) refl;
         joins = g.gone.joins;
         slots = g.gone.slots;
         laid = subst (λ rs. AreLaid 0 rs (2 ^ 64)) (sym g.regions) (laid_cut (at + left) ((size - left) / 4096) 0 (2 ^ 64) old.regions low_page laid);
@@ -423,9 +429,9 @@ module _ (old new : Paged) (at size left : ℕ) (kept : IsPagedKept old) (is : I
             (run_own 0 (2 ^ 64) at size left old.regions laid is.run less is.in_pages address (omega (arith, from))
             (let h = high_is in omega (arith, before, h)))));
         size = un.size;
-        walks = walks_by (is_cut old.words old.root first) refl;
-        table = table_by (is_cut old.words old.root first) refl;
-        was_large = large_by (is_cut old.words old.root first) refl;
+        walks = walks_by (cuts_large_page old.words old.root first) refl;
+        table = table_by (cuts_large_page old.words old.root first) refl;
+        was_large = large_by (cuts_large_page old.words old.root first) refl;
         larges = no_larger;
         large_gone = page_gone;
         pages_go = none_comes;
@@ -440,14 +446,14 @@ own_from : (from to address : ℕ) (regions : List Region) → AreLaid from regi
 own_from from to address [] laid is = absurd (let no : false ≡ true = is in cc)
 own_from from to address (region ∷ rest) laid is = elim (or_cases (is_own address region) (list_any (is_own address) rest) is) [
   | inl here ↦ (let low = laid.0 in grind (arith, nat_tests))
-  | inr later ↦ (let low = laid.0 in let behind = own_from (end_of region) to address rest laid.3 later in omega (arith, low, behind))
+  | inr later ↦ (let low = laid.0 in let behind = own_from (end_of_region region) to address rest laid.3 later in omega (arith, low, behind))
 ]
 
 whole_from : (from to slot : ℕ) (regions : List Region) → AreLaid from regions to → is_whole_in regions slot ≡ true → from ≤ slot
 whole_from from to slot [] laid is = absurd (let no : false ≡ true = is in cc)
 whole_from from to slot (region ∷ rest) laid is = elim (or_cases (has_whole slot region) (is_whole_in rest slot) is) [
   | inl here ↦ (let low = laid.0 in let bounds = whole_bounds slot region here in omega (arith, low, bounds.0))
-  | inr later ↦ (let low = laid.0 in let behind = whole_from (end_of region) to slot rest laid.3 later in omega (arith, low, behind))
+  | inr later ↦ (let low = laid.0 in let behind = whole_from (end_of_region region) to slot rest laid.3 later in omega (arith, low, behind))
 ]
 
 -- No region has all of a slot in which a run begins behind the first byte: the run is made of whole regions.
@@ -457,7 +463,7 @@ none_whole : (low high slot from to : ℕ) (regions : List Region) → AreLaid f
 none_whole low high slot from to [] laid some after before beside own whole = let no : false ≡ true = own in cc
 none_whole low high slot from to (region ∷ rest) laid some after before beside own whole =
     go region.heap refl (or_cases (is_own low region) (list_any (is_own low) rest) own) (or_cases (has_whole slot region) (is_whole_in rest slot) whole)
-    (λ all. none_whole low high slot (end_of region) to rest laid.3 some after before all)
+    (λ all. none_whole low high slot (end_of_region region) to rest laid.3 some after before all)
   where
     go : (heap : Bool) → region.heap ≡ heap → (is_own low region ≡ true) ⊎ (list_any (is_own low) rest ≡ true) →
         (has_whole slot region ≡ true) ⊎ (is_whole_in rest slot ≡ true) →
@@ -474,8 +480,8 @@ none_whole low high slot from to (region ∷ rest) laid some after before beside
         ]
     go false user (inl here) all later = grind (arith, nat_tests)
     go false user (inr at) (inl all) later = (let bounds = whole_bounds slot region all in let behind =
-        own_from (end_of region) to low rest laid.3 at in omega (arith, bounds.1, behind))
-    go true heap (inl here) (inr all) later = (let behind = whole_from (end_of region) to slot rest laid.3 all in grind (arith, nat_tests))
+        own_from (end_of_region region) to low rest laid.3 at in omega (arith, bounds.1, behind))
+    go true heap (inl here) (inr all) later = (let behind = whole_from (end_of_region region) to slot rest laid.3 all in grind (arith, nat_tests))
     go true heap (inr at) (inr all) later =
         later (subst (λ (b : Bool). AllByRecursion (λ grant. IsApart low high grant ⊎ IsWithin low high grant)
         (map grant_of (cond b (region ∷ heap_regions rest) (heap_regions rest)))) heap beside).1 at all

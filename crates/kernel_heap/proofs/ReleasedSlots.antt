@@ -10,7 +10,7 @@ use Rattle.paging_core.specs.Walk.{Place, reach, large_of, walk_of}
 use Rattle.paging_core.proofs.Prefixes.{walk_reach}
 use Rattle.paging_core.proofs.Reach.{large_none, table_none, either_way}
 use Rattle.heap_model.specs.declared.region.Region.{Region}
-use Rattle.heap_model.specs.State.{end_of, is_within}
+use Rattle.heap_model.specs.State.{end_of_region, is_within}
 use Rattle.heap_model.specs.Place.{meets, meets_any}
 use Rattle.heap_model.specs.Slots.{IsSlot, slot_number, has_whole, is_whole_in, is_part_in}
 use Rattle.heap_model.specs.Machine.{Paged}
@@ -42,7 +42,7 @@ part_page base window slot (region ∷ rest) all aligned met = elim (or_cases (m
   | inl here ↦ (
       let whole = all.0.range.0 in
       let some = all.0.range.1.some in
-      let below : slot < end_of region = grind (arith, nat_tests) in
+      let below : slot < end_of_region region = grind (arith, nat_tests) in
       let above : region.start < slot + 4096 * 512 = grind (arith, nat_tests) in
       elim (cases_lt slot region.start) [
         | inl before ↦ (

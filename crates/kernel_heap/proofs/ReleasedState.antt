@@ -9,14 +9,14 @@ use Rattle.paging_core.specs.Walk.{reached}
 use Rattle.paging_core.specs.declared.page_table.Rights.{Rights}
 use Rattle.heap_model.specs.declared.live.Live.{Live}
 use Rattle.heap_model.specs.declared.region.Region.{Region}
-use Rattle.heap_model.specs.State.{State, Block, end_of, is_within, total_pages, region_at}
+use Rattle.heap_model.specs.State.{State, Block, end_of_region, is_within, total_pages, region_at}
 use Rattle.heap_model.specs.Tables.{used_frames}
 use Rattle.heap_model.specs.Slots.{slot_prefix, is_whole_in, is_part_in}
 use Rattle.heap_model.specs.Place.{meets_any, with_region, all_regions}
 use Rattle.heap_model.specs.Answer.{settled}
 use Rattle.heap_model.specs.Cut.{AreCut}
 use Rattle.heap_model.specs.Memory.{HoldsBytes}
-use Rattle.heap_model.specs.Run.{IsGood, AreInOrder}
+use Rattle.heap_model.specs.Run.{IsGood, AreRegionsInOrder}
 use Rattle.heap_model.specs.Machine.{Paged, Seen, Stands, outline}
 use Rattle.heap_model.proofs.Booleans.{or_neither}
 use Rattle.heap_model.proofs.Cut.{cut_heap}
@@ -55,9 +55,9 @@ starts_behind : (from to : ℕ) (list : List Region) → AreLaid from list to �
 starts_behind from to [] laid = tt
 starts_behind from to (first ∷ rest) laid = (
   laid.0,
-  all_more (λ region. end_of first ≤ region.start) (λ region. from ≤ region.start)
+  all_more (λ region. end_of_region first ≤ region.start) (λ region. from ≤ region.start)
       (λ region behind. (let low = laid.0 in omega (arith, low, behind))) rest
-      (starts_behind (end_of first) to rest laid.3),
+      (starts_behind (end_of_region first) to rest laid.3),
 )
 
 -- ---- regions of both, by address
@@ -77,18 +77,18 @@ stays_first first list (user ∷ users) all = ap (λ (regions : List Region). jo
 -- a list by address is that of its regions of the heap, which those of the user joined
 pub parts_joined : (from to : ℕ) (list : List Region) → AreLaid from list to → joined (heap_regions list) (user_regions list) ≡ list
 parts_joined from to [] laid = refl
-parts_joined from to (first ∷ rest) laid = go first.heap refl (parts_joined (end_of first) to rest laid.3)
+parts_joined from to (first ∷ rest) laid = go first.heap refl (parts_joined (end_of_region first) to rest laid.3)
   where
-    behind : AllByRecursion (λ region. end_of first ≤ region.start) rest
-    behind = starts_behind (end_of first) to rest laid.3
+    behind : AllByRecursion (λ region. end_of_region first ≤ region.start) rest
+    behind = starts_behind (end_of_region first) to rest laid.3
 
     users_behind : AllByRecursion (λ user. first.start ≤ user.start) (user_regions rest)
     users_behind = all_some (λ region. not region.heap) (λ region. first.start ≤ region.start) rest
-        (all_more (λ region. end_of first ≤ region.start) (λ region. first.start ≤ region.start) (λ region low. omega (arith, low)) rest behind)
+        (all_more (λ region. end_of_region first ≤ region.start) (λ region. first.start ≤ region.start) (λ region low. omega (arith, low)) rest behind)
 
     heap_behind : AllByRecursion (λ region. first.start < region.start) (heap_regions rest)
     heap_behind = all_some (λ region. region.heap) (λ region. first.start < region.start) rest
-        (all_more (λ region. end_of first ≤ region.start) (λ region. first.start < region.start)
+        (all_more (λ region. end_of_region first ≤ region.start) (λ region. first.start < region.start)
         (λ region low. (let some = laid.2 in omega (arith, low, some))) rest behind)
 
     whole : joined (heap_regions rest) (user_regions rest) ≡ rest → joined (first ∷ heap_regions rest) (user_regions rest) ≡ first ∷ rest
@@ -126,9 +126,9 @@ users_joined list [] order all = refl
 users_joined list (user ∷ users) order all = users_joined (with_region user list) users (sorted_with user list order) all.1
     ∙ ap (λ (regions : List Region). joined regions users) (user_with user list all.0 order)
 
-alone : (users : List Region) → AreInOrder users → joined [] users ≡ users
+alone : (users : List Region) → AreRegionsInOrder users → joined [] users ≡ users
 alone [] order = refl
-alone (user ∷ users) order = stays_first user [] users (all_more (λ later. end_of user ≤ later.start)
+alone (user ∷ users) order = stays_first user [] users (all_more (λ later. end_of_region user ≤ later.start)
     (λ later. user.start ≤ later.start) (λ later behind. omega (arith, behind)) users order.0)
     ∙ ap (λ (regions : List Region). user ∷ regions) (alone users order.1)
 
@@ -149,7 +149,7 @@ none_ahead at (first ∷ rest) all = or_neither (is_within at first) (list_any (
 pub found_in_parts : (at from to : ℕ) (list : List Region) → AreLaid from list to →
     find (is_within at) (heap_regions list ++ user_regions list) ≡ find (is_within at) list
 found_in_parts at from to [] laid = refl
-found_in_parts at from to (first ∷ rest) laid = go (is_within at first) refl first.heap refl (found_in_parts at (end_of first) to rest laid.3)
+found_in_parts at from to (first ∷ rest) laid = go (is_within at first) refl first.heap refl (found_in_parts at (end_of_region first) to rest laid.3)
   where
     go : (here : Bool) → is_within at first ≡ here → (heap : Bool) → first.heap ≡ heap →
         find (is_within at) (heap_regions rest ++ user_regions rest) ≡ find (is_within at) rest →
@@ -161,9 +161,9 @@ found_in_parts at from to (first ∷ rest) laid = go (is_within at first) refl f
     go true here false is later =
         let bounds = within_bounds at first here in
         let ahead = all_some (λ region. region.heap) (λ region. at < region.start) rest
-        (all_more (λ region. end_of first ≤ region.start) (λ region. at < region.start)
+        (all_more (λ region. end_of_region first ≤ region.start) (λ region. at < region.start)
         (λ region behind. (let high = bounds.1 in omega (arith, high, behind))) rest
-        (starts_behind (end_of first) to rest laid.3)) in
+        (starts_behind (end_of_region first) to rest laid.3)) in
         let one : find (is_within at) (first ∷ user_regions rest) ≡ Some first = rw here refl in
         let other : find (is_within at) (first ∷ rest) ≡ Some first = rw here refl in
         (λ i. find (is_within at) (user_first first rest is i ++ user_kept first rest is i))

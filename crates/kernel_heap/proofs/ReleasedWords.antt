@@ -14,11 +14,11 @@ use Rattle.paging_core.specs.Tree.{IsTree}
 use Rattle.page_ranges.specs.RangeUnmapping.{AreUnmapped}
 use Rattle.page_ranges.proofs.Unmapped.{unmapped_words}
 use Rattle.heap_model.specs.Machine.{Paged}
-use Rattle.mapped_regions.specs.Regions.{AreLaid, AreHeld, IsBoundary}
+use Rattle.mapped_regions.specs.Regions.{AreLaid, AreHeld, IsRegionBoundary}
 use Rattle.mapped_regions.proofs.Laying.{laid_cut}
-use Rattle.mapped_regions.specs.Mapped.{IsPageRange, IsMapped, AreGone, word_in, word_reached}
+use Rattle.mapped_regions.specs.Mapped.{IsPageRange, IsMapped, AreGone, walked_word, word_reached}
 use Rattle.mapped_regions.proofs.Looked.{first_canonical}
-use Rattle.kernel_heap.specs.Config.{IsGoodWindow}
+use Rattle.kernel_heap.specs.Config.{IsHeapWindow}
 use Rattle.kernel_heap.specs.Layout.{IsPagedKept}
 use Rattle.kernel_heap.specs.Words.{grants_of}
 use Rattle.kernel_heap.proofs.Numbers.{is_outside}
@@ -67,8 +67,8 @@ module _ (p : Paged) (at size left : ℕ) (kept : IsPagedKept p) (run : IsRun (g
   pub cut_held : AreHeld (at + left) (at + left + 4096 * ((size - left) / 4096)) p.regions
   cut_held = subst (λ (high : ℕ). AreHeld (at + left) high p.regions) (sym end_is) (held 0 (2 ^ 64) at size left p.regions kept.laid run less in_pages)
 
-  pub cut_ends : IsBoundary (at + left + 4096 * ((size - left) / 4096)) p.regions
-  cut_ends = subst (λ (high : ℕ). IsBoundary high p.regions) (sym end_is) (boundary 0 (2 ^ 64) at size left p.regions kept.laid run less in_pages)
+  pub cut_ends : IsRegionBoundary (at + left + 4096 * ((size - left) / 4096)) p.regions
+  cut_ends = subst (λ (high : ℕ). IsRegionBoundary high p.regions) (sym end_is) (boundary 0 (2 ^ 64) at size left p.regions kept.laid run less in_pages)
 
 -- where nothing is behind them, all stays
 pub none_behind : (start high : ℕ) (regions : List Grant) → start ≤ high →
@@ -128,16 +128,16 @@ module _ (old new : Paged) (at size left : ℕ) (kept : IsPagedKept old) (run : 
       place_of None found some same = cc
       place_of (Some place) found some same =
           let there : walk_of new.words new.root (k / 4096) ≡ Some place = ap (λ (r : ℕ). walk_of new.words r (k / 4096)) gone.gone.root ∙ (same ∙ found) in
-          ap (word_in new.words k) there
+          ap (walked_word new.words k) there
           ∙ (word_stays old.words new.words old.free new.free old.root ((at + left) / 4096) ((size - left) / 4096)
           (omega (arith, less, in_pages, low_page, high_is)) kept.mapped.tree gone.gone.gone (k / 4096) (k % 4096 / 8)
           place (omega arith) (same ∙ found)
-          ∙ sym (ap (word_in old.words k) found))
+          ∙ sym (ap (walked_word old.words k) found))
 
 -- what a system keeps, it keeps then
 pub kept_cut : (old new : Paged) (start pages : ℕ) → start % 4096 ≡ 0 → AreGone old new start pages → IsPagedKept old → IsMapped new → IsPagedKept new
 kept_cut old new start pages whole gone kept mapped = record {
-  window = subst (λ b. IsGoodWindow b new.pages) (sym gone.gone.base) (subst (IsGoodWindow old.base) (sym gone.gone.pages_is) kept.window);
+  window = subst (λ b. IsHeapWindow b new.pages) (sym gone.gone.base) (subst (IsHeapWindow old.base) (sym gone.gone.pages_is) kept.window);
   mapped = mapped;
   laid = subst (λ regions. AreLaid 0 regions (2 ^ 64)) (sym gone.regions) (laid_cut start pages 0 (2 ^ 64) old.regions whole kept.laid);
 }

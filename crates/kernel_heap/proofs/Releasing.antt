@@ -8,9 +8,9 @@ use Rattle.heap_memory.specs.declared.grant.Grant.{Grant}
 use Rattle.heap_memory.specs.Regions.{IsApart}
 use Rattle.heap_memory.specs.Runs.{IsWithin, begins_in, up_to, without_run}
 use Rattle.heap_model.specs.declared.region.Region.{Region}
-use Rattle.heap_model.specs.State.{end_of}
+use Rattle.heap_model.specs.State.{end_of_region}
 use Rattle.heap_model.specs.Place.{meets}
-use Rattle.mapped_regions.specs.Regions.{AreLaid, cut_of}
+use Rattle.mapped_regions.specs.Regions.{AreLaid, cut_regions}
 use Rattle.kernel_heap.specs.Words.{heap_regions, grant_of}
 
 abbrev pub heap_grants : List Region → List Grant
@@ -64,23 +64,24 @@ module _ (start low pages : ℕ) (aligned : low % 4096 ≡ 0) (some : 0 < pages)
   -- what a heap sees of the regions after a cut
   pub cut_grants : (from to : ℕ) (regions : List Region) → AreLaid from regions to →
       AllByRecursion (λ grant. IsApart start (low + 4096 * pages) grant ⊎ IsWithin start (low + 4096 * pages) grant) (heap_grants regions) →
-      heap_grants (cut_of low pages regions) ≡ without_run low (low + 4096 * pages) (heap_grants regions)
+      heap_grants (cut_regions low pages regions) ≡ without_run low (low + 4096 * pages) (heap_grants regions)
   cut_grants from to [] laid whole = refl
-  cut_grants from to (region ∷ rest) laid whole = go region.heap refl (cut_grants (end_of region) to rest laid.3)
+  cut_grants from to (region ∷ rest) laid whole = go region.heap refl (cut_grants (end_of_region region) to rest laid.3)
     where
       -- a region of the user is not seen, whatever the cut does to it
       unseen : (b met before : Bool) → region.heap ≡ false → b ≡ met →
-          heap_grants (if met then (if before then record region { pages = (low - region.start) / 4096 } ∷ cut_of low pages
-          rest else cut_of low pages rest) else region ∷ cut_of low pages rest)
-          ≡ heap_grants (cut_of low pages rest)
+          heap_grants (if met then (if before then record region { pages = (low - region.start) / 4096 } ∷ cut_regions low
+          pages
+          rest else cut_regions low pages rest) else region ∷ cut_regions low pages rest)
+          ≡ heap_grants (cut_regions low pages rest)
       unseen b true true user is = rw user refl
       unseen b true false user is = refl
       unseen b false before user is = rw user refl
 
       go : (heap : Bool) → region.heap ≡ heap → (AllByRecursion (λ grant.
           IsApart start (low + 4096 * pages) grant ⊎ IsWithin start (low + 4096 * pages) grant) (heap_grants rest) →
-          heap_grants (cut_of low pages rest) ≡ without_run low (low + 4096 * pages) (heap_grants rest)) →
-          heap_grants (cut_of low pages (region ∷ rest)) ≡ without_run low (low + 4096 * pages) (heap_grants (region ∷ rest))
+          heap_grants (cut_regions low pages rest) ≡ without_run low (low + 4096 * pages) (heap_grants rest)) →
+          heap_grants (cut_regions low pages (region ∷ rest)) ≡ without_run low (low + 4096 * pages) (heap_grants (region ∷ rest))
       go false user others =
           let rest_whole : AllByRecursion (λ grant. IsApart start (low + 4096 * pages) grant ⊎ IsWithin start (low + 4096 * pages) grant) (heap_grants rest) =
           subst (λ (b : Bool). AllByRecursion (λ grant. IsApart start (low + 4096 * pages) grant ⊎ IsWithin start

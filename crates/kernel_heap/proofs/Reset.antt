@@ -32,7 +32,7 @@ use Rattle.heap_model.proofs.Placed.{length_outline}
 use Rattle.heap_model.proofs.Ended.{none_live, good_none, holds_ended_all}
 use Rattle.heap_model.proofs.Shortened.{pages_cut, none_gone, good_cut}
 use Rattle.heap_model.proofs.Slots.{settled_same}
-use Rattle.kernel_heap.specs.Config.{IsGoodWindow}
+use Rattle.kernel_heap.specs.Config.{IsHeapWindow}
 use Rattle.kernel_heap.specs.System.{paged}
 use Rattle.kernel_heap.specs.Words.{heap_regions, grant_of}
 use Rattle.kernel_heap.specs.Heap.{regions, word, follows, heap_state}
@@ -243,5 +243,5 @@ module _ (heap new : Dlmalloc PagedSystem) (sound : IsSound regions word heap) (
         empty same = was_empty (let g = gained in omega (arith, is, same, g))
 
 -- the window of a system that stands in another's place meanwhile: one page
-pub spare_window : IsGoodWindow 4096 1
+pub spare_window : IsHeapWindow 4096 1
 spare_window = record { whole = refl; canonical = record { some = lit< tt; canonical = refl; one_half = refl }; after_first = lit≤ tt; before_last = lit≤ tt }

@@ -31,7 +31,7 @@ use Rattle.heap_model.specs.Place.{meets_any}
 use Rattle.heap_model.specs.Memory.{HoldsBytes}
 use Rattle.heap_model.specs.Room.{IsGrowth}
 use Rattle.heap_model.specs.Refusal.{own_align, least_align, refuse_resizing, must_refuse, wanted_by}
-use Rattle.heap_model.specs.Answer.{with_block, resized_block, IsResizing, IsServed, changed, without_block}
+use Rattle.heap_model.specs.Answer.{with_block, resized_block, IsResizing, IsCallServed, changed, without_block}
 use Rattle.heap_model.specs.Run.{IsGood}
 use Rattle.heap_model.specs.Machine.{Paged, Stands, IsStep, outline}
 use Rattle.heap_model.proofs.Ended.{left_at}
@@ -105,7 +105,7 @@ wanted_resizing false s number size = refl
 
 serves_resizing : (keeps : Bool) (s : State) (number size address : ℕ) (block : Block) (list : Option (List Region)) →
     block_at s.blocks number ≡ Some block → IsResizing s block (wanted size (align_then keeps block)) address list →
-    IsServed s (resizing keeps number size) (Placed number address) list
+    IsCallServed s (resizing keeps number size) (Placed number address) list
 serves_resizing true s number size address block list is h = rw is (refl, h)
 serves_resizing false s number size address block list is h = rw is (refl, h)
 

@@ -6,9 +6,9 @@ use Rattle.std.proofs.lemmas.Bool.Decides.{nat_tests}
 use Rattle.heap_memory.specs.Regions.{is_granted, IsApart}
 use Rattle.heap_memory.specs.Runs.{IsRun, IsWithin, without_run}
 use Rattle.heap_model.specs.declared.region.Region.{Region}
-use Rattle.heap_model.specs.State.{end_of, is_within}
+use Rattle.heap_model.specs.State.{end_of_region, is_within}
 use Rattle.heap_model.proofs.Booleans.{or_cases}
-use Rattle.mapped_regions.specs.Regions.{AreLaid, AreHeld, IsBoundary, cut_of}
+use Rattle.mapped_regions.specs.Regions.{AreLaid, AreHeld, IsRegionBoundary, cut_regions}
 use Rattle.mapped_regions.specs.Mapped.{IsRegion}
 use Rattle.mapped_regions.proofs.CutPages.{at_or_behind}
 use Rattle.kernel_heap.proofs.Releasing.{heap_grants, cut_grants}
@@ -24,7 +24,7 @@ none_before : (from to address : ℕ) (regions : List Region) → AreLaid from r
 none_before from to address [] laid before = tt
 none_before from to address (region ∷ rest) laid before = (
   λ user. (let low = laid.0 in grind (arith, nat_tests)),
-  none_before (end_of region) to address rest laid.3 (let low = laid.0 in omega arith),
+  none_before (end_of_region region) to address rest laid.3 (let low = laid.0 in omega arith),
 )
 
 pub own_within : (address : ℕ) (regions : List Region) → list_any (is_own address) regions ≡ true → list_any (is_within address) regions ≡ true
@@ -37,11 +37,11 @@ pub none_of_user : (from to address : ℕ) (regions : List Region) → AreLaid f
 none_of_user from to address [] laid is = cc
 none_of_user from to address (region ∷ rest) laid is = elim (or_cases (is_own address region) (list_any (is_own address) rest) is) [
   | inl here ↦ (
-      let inside : address < end_of region = grind (arith, nat_tests) in
-      (λ user. absurd (let own : region.heap ≡ true = grind (arith, nat_tests) in cc), none_before (end_of region) to address rest laid.3 inside))
+      let inside : address < end_of_region region = grind (arith, nat_tests) in
+      (λ user. absurd (let own : region.heap ≡ true = grind (arith, nat_tests) in cc), none_before (end_of_region region) to address rest laid.3 inside))
   | inr later ↦ (
-      let behind : end_of region ≤ address = at_or_behind (end_of region) to address rest laid.3 (own_within address rest later) in
-      (λ user. grind (arith, nat_tests), none_of_user (end_of region) to address rest laid.3 later))
+      let behind : end_of_region region ≤ address = at_or_behind (end_of_region region) to address rest laid.3 (own_within address rest later) in
+      (λ user. grind (arith, nat_tests), none_of_user (end_of_region region) to address rest laid.3 later))
 ]
 
 -- a heap sees the addresses of its regions as granted
@@ -70,13 +70,13 @@ own_bounds base pages address (region ∷ rest) all is = elim (or_cases (is_own 
 -- no region reaches over the end of a run
 pub run_boundary : (start high last : ℕ) (regions : List Region) → start < high → last + 1 ≡ high →
     AllByRecursion (λ grant. IsApart start high grant ⊎ IsWithin start high grant) (heap_grants regions) →
-    AllByRecursion (λ region. region.heap ≡ false → is_within last region ≡ false) regions → IsBoundary high regions
+    AllByRecursion (λ region. region.heap ≡ false → is_within last region ≡ false) regions → IsRegionBoundary high regions
 run_boundary start high last [] some is whole users = tt
 run_boundary start high last (region ∷ rest) some is whole users = go region.heap refl (λ all. run_boundary start high last rest some is all users.1)
   where
     go : (heap : Bool) → region.heap ≡ heap → (AllByRecursion (λ grant.
-        IsApart start high grant ⊎ IsWithin start high grant) (heap_grants rest) → IsBoundary high rest) →
-        IsBoundary high (region ∷ rest)
+        IsApart start high grant ⊎ IsWithin start high grant) (heap_grants rest) → IsRegionBoundary high rest) →
+        IsRegionBoundary high (region ∷ rest)
     go true own others =
         let all = subst (λ (b : Bool). AllByRecursion (λ grant. IsApart start high grant ⊎ IsWithin start high grant)
         (map grant_of (cond b (region ∷ heap_regions rest) (heap_regions rest)))) own whole in (
@@ -93,7 +93,7 @@ run_boundary start high last (region ∷ rest) some is whole users = go region.h
         let out : is_within last region ≡ false = users.0 user in (
           elim (cases_lt region.start high) [
             | inr behind ↦ inr behind
-            | inl before ↦ elim (cases_lt high (end_of region)) [
+            | inl before ↦ elim (cases_lt high (end_of_region region)) [
               | inl over ↦ absurd (let in_it : is_within last region ≡ true = grind (arith, nat_tests) in cc)
               | inr ends ↦ inl ends
             ]
@@ -109,7 +109,7 @@ AreBeside low high regions = AllByRecursion (λ grant. IsApart low high grant �
 run_from : (low high from to : ℕ) (regions : List Region) → AreLaid from regions to → low < high →
     AreBeside low high regions → list_any (is_own low) regions ≡ true → low % 4096 ≡ 0
 run_from low high from to [] laid some whole is = cc
-run_from low high from to (region ∷ rest) laid some whole is = go region.heap refl (run_from low high (end_of region) to rest laid.3 some)
+run_from low high from to (region ∷ rest) laid some whole is = go region.heap refl (run_from low high (end_of_region region) to rest laid.3 some)
   where
     go : (heap : Bool) → region.heap ≡ heap → (AreBeside low high rest → list_any (is_own low) rest ≡ true → low % 4096 ≡ 0) → low % 4096 ≡ 0
     go true own others =
@@ -131,7 +131,8 @@ run_from low high from to (region ∷ rest) laid some whole is = go region.heap 
 run_to : (low high last from to : ℕ) (regions : List Region) → AreLaid from regions to → low ≤ last → last + 1 ≡ high →
     AreBeside low high regions → list_any (is_own last) regions ≡ true → high % 4096 ≡ 0
 run_to low high last from to [] laid some next whole is = cc
-run_to low high last from to (region ∷ rest) laid some next whole is = go region.heap refl (run_to low high last (end_of region) to rest laid.3 some next)
+run_to low high last from to (region ∷ rest) laid some next whole is =
+    go region.heap refl (run_to low high last (end_of_region region) to rest laid.3 some next)
   where
     go : (heap : Bool) → region.heap ≡ heap → (AreBeside low high rest → list_any (is_own last) rest ≡ true → high % 4096 ≡ 0) → high % 4096 ≡ 0
     go true own others =
@@ -170,14 +171,14 @@ module _ (from to at size left : ℕ) (regions : List Region) (laid : AreLaid fr
   pub count_is : at + left + 4096 * ((size - left) / 4096) ≡ at + size
   count_is = let b = begins in let e = ends in omega arith
 
-  pub boundary : IsBoundary (at + size) regions
+  pub boundary : IsRegionBoundary (at + size) regions
   boundary = let some : at < at + size = run.some in run_boundary at (at + size) (at + size - 1) regions some (omega arith) run.whole
       (none_of_user from to (at + size - 1) regions laid (run_own (at + size - 1) (omega arith) (omega arith)))
 
   pub held : AreHeld (at + left) (at + size) regions
   held address low high = own_within address regions (run_own address (omega arith) high)
 
-  pub grants_left : heap_grants (cut_of (at + left) ((size - left) / 4096) regions) ≡ without_run (at + left) (at + size) (heap_grants regions)
+  pub grants_left : heap_grants (cut_regions (at + left) ((size - left) / 4096) regions) ≡ without_run (at + left) (at + size) (heap_grants regions)
   grants_left =
       let b = begins in let e = ends in
       let all : AreBeside at (at + left + 4096 * ((size - left) / 4096)) regions = subst (λ (high : ℕ). AreBeside at high regions) (sym count_is) run.whole in

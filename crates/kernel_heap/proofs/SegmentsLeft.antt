@@ -12,7 +12,7 @@ use Rattle.dlmalloc.specs.Trimmed.{shortened, cut_of, cut_top, is_cut, after_cut
 use Rattle.dlmalloc.specs.AfterFree.{is_above_check, after_free, regions_after}
 use Rattle.dlmalloc.proofs.Segments.RegionsLess.{all_without}
 use Rattle.heap_model.specs.declared.region.Region.{Region}
-use Rattle.heap_model.specs.State.{end_of}
+use Rattle.heap_model.specs.State.{end_of_region}
 use Rattle.heap_model.proofs.Booleans.{or_left, or_right, or_cases}
 use Rattle.mapped_regions.specs.Regions.{AreLaid}
 use Rattle.kernel_heap.specs.Words.{heap_regions, grant_of}
@@ -33,7 +33,8 @@ HaveAll segments regions = AllByRecursion (Has segments) regions
 pub have_all : (from to : ℕ) (list : List Region) → AreLaid from list to → (segments : List Segment) →
     HaveRegions segments (heap_grants list) → HaveAll segments (heap_grants list)
 have_all from to [] laid segments have = tt
-have_all from to (first ∷ rest) laid segments have = go first.heap have (have_all (end_of first) to rest laid.3 segments)
+have_all from to (first ∷ rest) laid segments have = go first.heap have
+    (have_all (end_of_region first) to rest laid.3 segments)
   where
     go : (heap : Bool) → HaveRegions segments (map grant_of (cond heap (first ∷ heap_regions rest) (heap_regions rest))) →
         (HaveRegions segments (heap_grants rest) → HaveAll segments (heap_grants rest)) →

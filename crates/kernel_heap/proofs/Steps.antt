@@ -14,7 +14,7 @@ use Rattle.sound_heap.specs.Heap.{IsIntact}
 use Rattle.kernel_heap.specs.Heap.{regions, word}
 use Rattle.kernel_heap.specs.Kept.{lasting_pages, AreRunsUsedFor, IsSeenAsBefore, IsReachedByte}
 use Rattle.kernel_heap.specs.Machine.{seen_with, system_of}
-use Rattle.kernel_heap.specs.Moves.{HeapMoves, IsStill}
+use Rattle.kernel_heap.specs.Moves.{HeapMoves, KeepsStateAndBins}
 use Rattle.kernel_heap.specs.Parts.{Parts}
 use Rattle.kernel_heap.specs.Registers.{cpu_after}
 use Rattle.kernel_heap.specs.Steps.{HasStepped, HasNotStepped, StepsTo}
@@ -48,7 +48,7 @@ module _ (old new : Parts) (call : Call) where
   -- and one that could not
   pub not_stepped : (result : Result Answer AllocError) → new.cpu ≡ old.cpu →
       ((top : ℕ) → OnErr result (seen_with top new.heap ≡ seen_with top old.heap)) →
-      OnErr result (IsStill old.heap.heap new.heap.heap) →
+      OnErr result (KeepsStateAndBins old.heap.heap new.heap.heap) →
       OnErr result (HasNotStepped old new)
   not_stepped (Ok answer) registers same still = tt
   not_stepped (Err error) registers same still = record {

@@ -13,7 +13,7 @@ use Rattle.heap_model.specs.State.{is_within}
 use Rattle.heap_model.specs.Machine.{Paged, OnlyHeapBytesChange, is_of_user}
 use Rattle.kernel_heap.specs.Layout.{IsPagedKept}
 use Rattle.kernel_heap.specs.Words.{heap_regions, grants_of}
-use Rattle.mapped_regions.specs.Mapped.{IsMappedWord, word_in, word_reached}
+use Rattle.mapped_regions.specs.Mapped.{IsMappedWord, walked_word, word_reached}
 use Rattle.mapped_regions.proofs.Looked.{mapped_at}
 use Rattle.mapped_regions.proofs.Mapped.{stored_mapped}
 use Rattle.kernel_heap.proofs.HeapRegions.{granted_same, heap_any, user_any, kind_some, within_canonical, not_of_user}
@@ -52,7 +52,7 @@ kept_still old new kept still = subst IsPagedKept (sym still.others) (record {
 -- the word at an address whose page is mapped
 pub word_at_place : (p : Paged) (at : ℕ) (place : Place) → walk_of p.words p.root (at / 4096) ≡ Some place →
     word_reached p at ≡ word_at p.words place.frame (at % 4096 / 8)
-word_at_place p at place is = ap (word_in p.words at) is
+word_at_place p at place is = ap (walked_word p.words at) is
 
 -- the place of a page that is mapped
 pub place_at : (p : Paged) (at : ℕ) → IsSome (walk_of p.words p.root (at / 4096)) → (place : Place) × (walk_of p.words p.root (at / 4096) ≡ Some place)

@@ -9,12 +9,12 @@ use Rattle.heap_model.specs.declared.call.Call.TheVariants.{Map, Unmap}
 use Rattle.heap_model.specs.declared.answer.Answer.{Answer}
 use Rattle.heap_model.specs.declared.answer.Refusal.{Refusal}
 use Rattle.heap_model.specs.declared.answer.Reply.TheVariants.{Done}
-use Rattle.heap_model.specs.State.{State, end_of}
+use Rattle.heap_model.specs.State.{State, end_of_region}
 use Rattle.heap_model.specs.Tables.{missing, free_frames}
 use Rattle.heap_model.specs.Place.{meets, meets_any, is_at, without_region, with_region, all_regions}
 use Rattle.heap_model.specs.Room.{user_region}
 use Rattle.heap_model.specs.Refusal.{is_page_range, must_refuse}
-use Rattle.heap_model.specs.Run.{IsGood, IsHeapRegion, IsUserRegion, AreInOrder}
+use Rattle.heap_model.specs.Run.{IsGood, IsHeapRegion, IsUserRegion, AreRegionsInOrder}
 use Rattle.heap_model.specs.Slots.{listed_slots}
 use Rattle.heap_model.specs.Machine.{Paged, Seen, Stands, IsStep}
 use Rattle.heap_model.proofs.Booleans.{or_neither, neither_or}
@@ -66,9 +66,9 @@ none_just start pages (region ∷ rest) some clear =
     other : (region : Region) → 0 < pages → meets start pages region ≡ false → is_at start pages region ≡ false
     other region some clear = grind (arith, nat_tests)
 
-pub sorted : (list : List Region) → AreInOrder list → Sorted list
+pub sorted : (list : List Region) → AreRegionsInOrder list → Sorted list
 sorted [] order = tt
-sorted (region ∷ rest) order = (starts region.start (end_of region) rest (omega arith) order.0, sorted rest order.1)
+sorted (region ∷ rest) order = (starts region.start (end_of_region region) rest (omega arith) order.0, sorted rest order.1)
   where
     starts : (low high : ℕ) (list : List Region) → low ≤ high → AllByRecursion (λ later. high ≤ later.start) list →
         AllByRecursion (λ later. low ≤ later.start) list

@@ -20,7 +20,7 @@ use Rattle.kernel_heap.specs.Numbered.{live_at}
 use Rattle.kernel_heap.specs.Refusing.{refusal_of, error_of, is_for_room, HasNoneFor, HasNoneBeside}
 use Rattle.kernel_heap.specs.Blocks.{request, resizing, align_kept}
 use Rattle.kernel_heap.specs.Kept.{leaves_all, IsSeenAsBefore}
-use Rattle.kernel_heap.specs.Moves.{IsLeft, HeapMoves}
+use Rattle.kernel_heap.specs.Moves.{IsLeftByRefusal, HeapMoves}
 use Rattle.kernel_heap.specs.declared.paged_system.PagedSystem.{PagedSystem}
 use Rattle.kernel_heap.specs.declared.numbered_heap.NumberedHeap.{NumberedHeap}
 
@@ -56,12 +56,12 @@ tells (System NoFrames) refusal is = (let one : HasNoFrames ≡ refusal = cc in 
 tells (System OutOfMemory) refusal is = absurd (cc)
 
 pub left_refused : (old new : Dlmalloc PagedSystem) (size : ℕ) (error : MallocError) (refusal : Refusal) → refusal_of error ≡ Some refusal →
-    IsRefusedWith regions word follows refuses denies old size error new → IsLeft old size refusal new
+    IsRefusedWith regions word follows refuses denies old size error new → IsLeftByRefusal old size refusal new
 left_refused old new size error refusal is out = rw (tells error refusal is) out
 
 -- a request that is refused moves nothing
 pub request_refused_moves : (cleared : Bool) (old : NumberedHeap) (size align : ℕ) (refusal : Refusal)
-    (large : Option (List ℕ)) (new : NumberedHeap) → IsLeft old.heap (asked size align) refusal new.heap →
+    (large : Option (List ℕ)) (new : NumberedHeap) → IsLeftByRefusal old.heap (asked size align) refusal new.heap →
     HasNoneFor (heap_of old) size align refusal →
     HeapMoves old (request cleared size align) (Refused refusal) large new
 request_refused_moves false old size align refusal large new same none = (same, none)
@@ -70,7 +70,7 @@ request_refused_moves true old size align refusal large new same none = (same, n
 -- and so does another size that is refused, of a block or of none
 pub resizing_refused_moves : (keeps : Bool) (old : NumberedHeap) (number size : ℕ) (refusal : Refusal)
     (large : Option (List ℕ)) (new : NumberedHeap) (live : Live) → live_at old.blocks.items number ≡ Some live →
-    IsLeft old.heap (asked size (align_kept keeps live)) refusal new.heap →
+    IsLeftByRefusal old.heap (asked size (align_kept keeps live)) refusal new.heap →
     HasNoneBeside (heap_of old) live.address size (align_kept keeps live) refusal → HeapMoves old (resizing keeps number size) (Refused refusal) large new
 resizing_refused_moves true old number size refusal large new live is same none = rw is (same, none)
 resizing_refused_moves false old number size refusal large new live is same none = rw is (same, none)

@@ -11,7 +11,7 @@ use Rattle.dlmalloc.specs.Segments.{IsWithin, AreSegments, has_byte_in}
 use Rattle.dlmalloc.specs.declared.heap.Dlmalloc.{Dlmalloc}
 use Rattle.dlmalloc.specs.Served.{AreSpans}
 use Rattle.heap_model.specs.declared.region.Region.{Region}
-use Rattle.heap_model.specs.State.{end_of, is_within}
+use Rattle.heap_model.specs.State.{end_of_region, is_within}
 use Rattle.heap_model.specs.Extents.{begins_at, ends_at, AreRuns}
 use Rattle.heap_model.proofs.Booleans.{or_left, or_right, or_cases}
 use Rattle.heap_model.proofs.Regions.{within_bounds}
@@ -35,7 +35,8 @@ begins_first low high flags (first ∷ rest) some all has = elim (or_cases (is_w
   | inr later ↦ or_right (begins_at low first) (list_any (begins_at low) rest) (begins_first low high flags rest some all.1 later)
 ]
   where
-    begins : IsApart low high (grant_of first) ⊎ IsWithin low high flags (grant_of first) → first.start ≤ low → low < end_of first → begins_at low first ≡ true
+    begins : IsApart low high (grant_of first) ⊎ IsWithin low high flags (grant_of first) → first.start ≤ low →
+        low < end_of_region first → begins_at low first ≡ true
     begins (inl (inl before)) from to = absurd (omega (arith, before, to))
     begins (inl (inr behind)) from to = absurd (omega (arith, behind, from, some))
     begins (inr within) from to = let same : first.start ≡ low = omega (arith, within.0, from) in grind (arith, nat_tests)
@@ -52,10 +53,10 @@ ends_last low high flags (first ∷ rest) some all has = elim (or_cases (is_with
 ]
   where
     ends : IsApart low high (grant_of first) ⊎ IsWithin low high flags (grant_of first) → first.start ≤ high - 1 →
-        high - 1 < end_of first → ends_at high first ≡ true
+        high - 1 < end_of_region first → ends_at high first ≡ true
     ends (inl (inl before)) from to = absurd (omega (arith, before, to, some))
     ends (inl (inr behind)) from to = absurd (omega (arith, behind, from, some))
-    ends (inr within) from to = let same : end_of first ≡ high = omega (arith, within.1, to, some) in grind (arith, nat_tests)
+    ends (inr within) from to = let same : end_of_region first ≡ high = omega (arith, within.1, to, some) in grind (arith, nat_tests)
 
 -- ---- the segments of a heap over these regions
 
@@ -113,8 +114,8 @@ has_byte address region (segment ∷ segments) within is = elim (or_cases (has_r
       | inr later ↦ or_right (has_byte_in address segment) (list_any (has_byte_in address) segments) (has_byte address region segments within later)
     ]
   where
-    one : segment.base ≤ region.start → end_of region ≤ segment.base + segment.size → region.start ≤ address →
-        address < end_of region → has_byte_in address segment ≡ true
+    one : segment.base ≤ region.start → end_of_region region ≤ segment.base + segment.size → region.start ≤ address →
+        address < end_of_region region → has_byte_in address segment ≡ true
     one low high from to = grind (arith, nat_tests)
 
 bytes_had : (address : ℕ) (segments : List Segment) (list : List Region) → HaveRegions segments (map grant_of list) →

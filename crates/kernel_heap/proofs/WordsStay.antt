@@ -5,18 +5,18 @@ use Rattle.page_ranges.proofs.Unmapped.{unmapped_words}
 use Rattle.paging_core.specs.PageChanges.{among}
 use Rattle.paging_core.specs.declared.page_table.Rights.{Rights}
 use Rattle.heap_memory.specs.Regions.{is_granted, IsWordOf}
-use Rattle.heap_model.specs.Machine.{Paged, ArePagesAdded}
+use Rattle.heap_model.specs.Machine.{Paged, HasGotPages}
 use Rattle.mapped_regions.specs.Mapped.{IsRegionJoined, IsLeft, word_reached}
 use Rattle.mapped_regions.specs.UserRegions.{user_region, CanUnmap}
 use Rattle.kernel_heap.specs.Layout.{IsPagedKept}
 use Rattle.kernel_heap.specs.Words.{heap_regions, grant_of, grants_of}
-use Rattle.kernel_heap.specs.Beside.{IsBeside}
+use Rattle.kernel_heap.specs.Beside.{KeepsHeapWords}
 use Rattle.kernel_heap.proofs.HeapRegions.{heap_beside, heap_left}
 use Rattle.kernel_heap.proofs.Still.{granted_mapped, place_at, word_at_place}
 
 -- ---- pages were added
 
-pub words_added : (old new : Paged) (start pages : ℕ) (rights : Rights) → IsPagedKept old → ArePagesAdded old new start pages rights →
+pub words_added : (old new : Paged) (start pages : ℕ) (rights : Rights) → IsPagedKept old → HasGotPages old new start pages rights →
     (at : ℕ) → IsWordOf (grants_of old) at → word_reached new at ≡ word_reached old at
 unfolding walk_of
 words_added old new start pages rights kept added at word =
@@ -58,7 +58,7 @@ words_left old new start pages some_pages kept kept' same left at word =
 
 pub beside_joined : {A B : Type 0} (answer : Result A B) (old new : Paged) (start pages : ℕ) (rights : Rights) →
     OnOk answer (IsRegionJoined old new (user_region start pages rights)) → OnErr answer (new ≡ old) → IsPagedKept old →
-    IsBeside old new
+    KeepsHeapWords old new
 beside_joined (Ok a) old new start pages rights ok err kept = record {
   regions = ap (λ regions. map grant_of (heap_regions regions)) ok.regions ∙ ap (map grant_of) (heap_beside (user_region start pages rights) old.regions refl);
   words = words_added old new start pages rights kept ok.added;
@@ -67,7 +67,7 @@ beside_joined (Err e) old new start pages rights ok err kept = record { regions 
 
 pub beside_left : {A B : Type 0} (answer : Result A B) (old new : Paged) (start pages : ℕ) →
     OnOk answer (IsLeft old new start pages) → OnOk answer (CanUnmap old start pages) → OnErr answer (new ≡ old) →
-    IsPagedKept old → IsPagedKept new → IsBeside old new
+    IsPagedKept old → IsPagedKept new → KeepsHeapWords old new
 beside_left (Ok a) old new start pages ok can err kept kept' =
     let same : grants_of new ≡ grants_of old =
     ap (λ regions. map grant_of (heap_regions regions)) ok.regions ∙ ap (map grant_of) (heap_left start pages 0 (2 ^ 64) old.regions kept.laid can.there) in

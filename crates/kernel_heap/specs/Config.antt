@@ -7,7 +7,7 @@ use Rattle.kernel_heap.specs.declared.run_error.RunError.{RunError}
 use Rattle.kernel_heap.specs.declared.run_error.RunError.TheVariants.{BadWindow, BadGranularity, TooFewFrames, OutOfMemory}
 
 -- a window of whole pages in one canonical half, without the first and the last page of the address space
-pub record IsGoodWindow (base pages : ℕ) : Type 0 where
+pub record IsHeapWindow (base pages : ℕ) : Type 0 where
   pub whole : base % 4096 ≡ 0
   pub canonical : IsCanonicalRange (base / 4096) pages
   pub after_first : 4096 ≤ base
@@ -15,14 +15,14 @@ pub record IsGoodWindow (base pages : ℕ) : Type 0 where
 
 -- a good window, an accepted granularity, and a frame for the root table
 pub record IsGoodConfig (config : Config) : Type 0 where
-  pub window : IsGoodWindow config.base config.pages
+  pub window : IsHeapWindow config.base config.pages
   pub granularity : IsGranularity config.granularity
   pub frames : 0 < config.frames
 
 -- Why no machine is made from a configuration, the causes in their order; memory may be wanting where there is none
 -- of them.
 abbrev pub IsConfigRefused : Config → RunError → Type 0
-IsConfigRefused config BadWindow = ¬ (IsGoodWindow config.base config.pages)
-IsConfigRefused config BadGranularity = IsGoodWindow config.base config.pages × ¬ (IsGranularity config.granularity)
-IsConfigRefused config TooFewFrames = IsGoodWindow config.base config.pages × IsGranularity config.granularity × (config.frames ≡ 0)
+IsConfigRefused config BadWindow = ¬ (IsHeapWindow config.base config.pages)
+IsConfigRefused config BadGranularity = IsHeapWindow config.base config.pages × ¬ (IsGranularity config.granularity)
+IsConfigRefused config TooFewFrames = IsHeapWindow config.base config.pages × IsGranularity config.granularity × (config.frames ≡ 0)
 IsConfigRefused config OutOfMemory = IsGoodConfig config

@@ -43,5 +43,5 @@ pub record IsLaidOut (heap : Dlmalloc PagedSystem) (blocks : List (Option Live))
   pub distinct : (i j : ℕ) (a b : Live) → live_at blocks i ≡ Some a → live_at blocks j ≡ Some b → i ≢ j → a.address ≢ b.address
 
 -- what a machine keeps, as a condition of its type; that its heap is sound is one of the heap's
-abbrev pub IsSound : NumberedHeap → Type 0
-IsSound numbered = IsLaidOut numbered.heap numbered.blocks.items
+abbrev pub IsNumberedSound : NumberedHeap → Type 0
+IsNumberedSound numbered = IsLaidOut numbered.heap numbered.blocks.items

@@ -9,18 +9,18 @@ use Rattle.heap_memory.specs.declared.grant.GrantFault.{GrantFault}
 use Rattle.heap_memory.specs.declared.grant.GrantFault.TheVariants.{NoSpace, NoFrames, OutOfMemory}
 use Rattle.heap_model.specs.declared.region.Region.{Region}
 use Rattle.heap_model.specs.Request.{pages_in}
-use Rattle.heap_model.specs.State.{end_of}
+use Rattle.heap_model.specs.State.{end_of_region}
 use Rattle.heap_model.specs.Place.{with_region, IsPlace, HasNoPlace}
 use Rattle.heap_model.specs.Room.{heap_region}
 use Rattle.heap_model.specs.Machine.{Paged, IsPagedGrant}
 use Rattle.mapped_regions.specs.Regions.{AreLaid}
 use Rattle.mapped_regions.specs.Mapped.{IsMapped, IsMapped-prop, AreRunsUsed}
 use Rattle.std.proofs.Props.{props}
-use Rattle.kernel_heap.specs.Config.{IsGoodWindow}
+use Rattle.kernel_heap.specs.Config.{IsHeapWindow}
 
 -- The window is good; the walk finds the pages of the regions, and no others; and the regions lie by ascending address.
 pub record IsPagedKept (p : Paged) : Type 0 where
-  pub window : IsGoodWindow p.base p.pages
+  pub window : IsHeapWindow p.base p.pages
   pub mapped : IsMapped p
   pub laid : AreLaid 0 p.regions (2 ^ 64)
 
@@ -73,7 +73,7 @@ pub record IsGrantedFor (old new : Paged) (asked : ℕ) (grant : Grant) : Type 0
 
 AreLaid-prop : (from : ℕ) (list : List Region) (to : ℕ) → IsProp (AreLaid from list to)
 AreLaid-prop from [] to = hlevel props
-AreLaid-prop from (region ∷ rest) to = hlevel (props, AreLaid-prop (end_of region) rest to)
+AreLaid-prop from (region ∷ rest) to = hlevel (props, AreLaid-prop (end_of_region region) rest to)
 
 pub IsPagedKept-prop : (p : Paged) → IsProp (IsPagedKept p)
 IsPagedKept-prop p = hlevel (props, IsMapped-prop p, AreLaid-prop 0 p.regions (2 ^ 64))

@@ -43,18 +43,18 @@ pub record AreMapSlotsTold (p : Paged) (start pages : ℕ) (large : Option (List
   pub listed : large ≡ listed_slots slots
 
 -- A heap stays in its state, and each size of its bins keeps its chunks, in their order.
-abbrev pub IsStill : Dlmalloc PagedSystem → Dlmalloc PagedSystem → Type 0
-IsStill old new = (heap_state new ≡ heap_state old) × KeepsIndex regions word old new
+abbrev pub KeepsStateAndBins : Dlmalloc PagedSystem → Dlmalloc PagedSystem → Type 0
+KeepsStateAndBins old new = (heap_state new ≡ heap_state old) × KeepsIndex regions word old new
 
 -- Something was done to the system of a heap, beside it: the heap's regions stay, and so it stays in its state.
 pub record IsKeptBeside (old new : Dlmalloc PagedSystem) : Type 0 where
   pub rest : new ≡ record old { system = new.system }
   pub regions_same : regions new.system ≡ regions old.system
-  pub still : IsStill old new
+  pub still : KeepsStateAndBins old new
 
 -- A refused call leaves the heap: the heap refused it `size` bytes, or was not asked.
-abbrev pub IsLeft : Dlmalloc PagedSystem → ℕ → Refusal → Dlmalloc PagedSystem → Type 0
-IsLeft old size why new = MatchOption (error_of why) (new ≡ old) (λ error. IsRefusedWith regions word follows refuses denies old size error new)
+abbrev pub IsLeftByRefusal : Dlmalloc PagedSystem → ℕ → Refusal → Dlmalloc PagedSystem → Type 0
+IsLeftByRefusal old size why new = MatchOption (error_of why) (new ≡ old) (λ error. IsRefusedWith regions word follows refuses denies old size error new)
 
 -- How the heap moves in a step, as the heap itself tells it: a block is handed out, gets another size or is freed, memory that
 -- none needs goes back, a setting is another, the heap is a new one with the settings in force, and nothing else changes its state.
@@ -71,19 +71,19 @@ HeapMoves old (Realloc number size) (Placed given address) large new =
 HeapMoves old (CRealloc number size) (Placed given address) large new =
     MatchOption (live_at old.blocks.items number) ⊥ (λ live. (heap : Dlmalloc PagedSystem) × IsResizedTo false old.heap live size address heap × IsToldFrom heap new.heap × AreSlotsTold old.heap heap large
     × (address ≢ live.address → IsMemberServed regions word old.heap size 16 address))
-HeapMoves old (Malloc size align) (Refused why) large new = IsLeft old.heap (asked size align) why new.heap × HasNoneFor (heap_of old) size align why
-HeapMoves old (Calloc size align) (Refused why) large new = IsLeft old.heap (asked size align) why new.heap × HasNoneFor (heap_of old) size align why
+HeapMoves old (Malloc size align) (Refused why) large new = IsLeftByRefusal old.heap (asked size align) why new.heap × HasNoneFor (heap_of old) size align why
+HeapMoves old (Calloc size align) (Refused why) large new = IsLeftByRefusal old.heap (asked size align) why new.heap × HasNoneFor (heap_of old) size align why
 HeapMoves old (Realloc number size) (Refused why) large new =
-    MatchOption (live_at old.blocks.items number) (new.heap ≡ old.heap) (λ live. IsLeft old.heap (asked size live.align) why new.heap × HasNoneBeside (heap_of old) live.address size live.align why)
+    MatchOption (live_at old.blocks.items number) (new.heap ≡ old.heap) (λ live. IsLeftByRefusal old.heap (asked size live.align) why new.heap × HasNoneBeside (heap_of old) live.address size live.align why)
 HeapMoves old (CRealloc number size) (Refused why) large new =
-    MatchOption (live_at old.blocks.items number) (new.heap ≡ old.heap) (λ live. IsLeft old.heap size why new.heap × HasNoneBeside (heap_of old) live.address size 16 why)
+    MatchOption (live_at old.blocks.items number) (new.heap ≡ old.heap) (λ live. IsLeftByRefusal old.heap size why new.heap × HasNoneBeside (heap_of old) live.address size 16 why)
 HeapMoves old (Free number) Done large new = MatchOption (live_at old.blocks.items number) ⊥ (λ live. IsFreed regions word follows true true 4096 old.heap live.address new.heap)
 HeapMoves old (Free number) (Refused why) large new = new.heap ≡ old.heap
-HeapMoves old (Map start pages rights) Done large new = IsStill old.heap new.heap × AreMapSlotsTold (paged new.heap.system) start pages large
+HeapMoves old (Map start pages rights) Done large new = KeepsStateAndBins old.heap new.heap × AreMapSlotsTold (paged new.heap.system) start pages large
 HeapMoves old (Trim pad) (Trimmed released) large new = (gave : Bool) × IsTrimmed regions word follows true true 4096 old.heap pad gave new.heap
 HeapMoves old (SetRate rate) Done large new = (heap_of new ≡ record (heap_of old) { rate = rate; countdown = countdown_from rate }) × KeepsIndex regions word old.heap new.heap
 HeapMoves old (SetGranularity granularity) (Accepted accepted) large new =
     (heap_of new ≡ record (heap_of old) { granularity = if accepted then granularity else (heap_of old).granularity }) × KeepsIndex regions word old.heap new.heap
 HeapMoves old Reset (Released bytes) large new = heap_of new ≡ fresh_heap (heap_of old).granularity (heap_of old).rate
 HeapMoves old Extents (Listed list) large new = (new.heap ≡ old.heap) × IsListed word old.heap list
-HeapMoves old call reply large new = IsStill old.heap new.heap
+HeapMoves old call reply large new = KeepsStateAndBins old.heap new.heap

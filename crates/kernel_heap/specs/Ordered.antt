@@ -6,7 +6,7 @@ use Rattle.std.proofs.lemmas.Bool.Decides.{nat_tests}
 use Rattle.heap_memory.specs.declared.grant.Grant.{Grant}
 use Rattle.heap_memory.specs.Regions.{are_ordered, is_whole, are_whole}
 use Rattle.heap_model.specs.declared.region.Region.{Region}
-use Rattle.heap_model.specs.State.{end_of}
+use Rattle.heap_model.specs.State.{end_of_region}
 use Rattle.heap_model.specs.Machine.{Paged}
 use Rattle.mapped_regions.specs.Regions.{AreLaid}
 use Rattle.mapped_regions.specs.Mapped.{IsRegion}
@@ -17,7 +17,7 @@ all_behind : (end from to : ℕ) (list : List Region) → end ≤ from → AreLa
 all_behind end from to [] low all = refl
 all_behind end from to (first ∷ rest) low all =
     let here : nat_le end first.start ≡ true = grind (arith, nat_tests, low, all.0) in
-    go first.heap here (all_behind end (end_of first) to rest (omega (arith, low, all.0)) all.3)
+    go first.heap here (all_behind end (end_of_region first) to rest (omega (arith, low, all.0)) all.3)
   where
     go : (b : Bool) → nat_le end first.start ≡ true → list_all (λ (later : Grant). nat_le end later.base) (map grant_of (heap_regions rest)) ≡ true →
         list_all (λ (later : Grant). nat_le end later.base) (map grant_of (cond b (first ∷ heap_regions rest) (heap_regions rest))) ≡ true
@@ -26,9 +26,9 @@ all_behind end from to (first ∷ rest) low all =
 
 ordered : (from to : ℕ) (list : List Region) → AreLaid from list to → are_ordered (map grant_of (heap_regions list)) ≡ true
 ordered from to [] all = refl
-ordered from to (first ∷ rest) all = go first.heap (all_behind (end_of first) (end_of first) to rest (omega arith) all.3) (ordered (end_of first) to rest all.3)
+ordered from to (first ∷ rest) all = go first.heap (all_behind (end_of_region first) (end_of_region first) to rest (omega arith) all.3) (ordered (end_of_region first) to rest all.3)
   where
-    go : (b : Bool) → list_all (λ (later : Grant). nat_le (end_of first) later.base) (map grant_of (heap_regions rest)) ≡ true → are_ordered (map grant_of (heap_regions rest)) ≡ true →
+    go : (b : Bool) → list_all (λ (later : Grant). nat_le (end_of_region first) later.base) (map grant_of (heap_regions rest)) ≡ true → are_ordered (map grant_of (heap_regions rest)) ≡ true →
         are_ordered (map grant_of (cond b (first ∷ heap_regions rest) (heap_regions rest))) ≡ true
     go true behind later = rw behind later
     go false behind later = later

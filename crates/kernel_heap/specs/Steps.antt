@@ -10,7 +10,7 @@ use Rattle.sound_heap.specs.Heap.{fresh_heap, IsIntact}
 use Rattle.kernel_heap.specs.Heap.{regions, word}
 use Rattle.kernel_heap.specs.Kept.{lasting_pages, leaves_all, AreRunsUsedFor, IsReachedByte}
 use Rattle.kernel_heap.specs.Machine.{seen, system_of, heap_of}
-use Rattle.kernel_heap.specs.Moves.{HeapMoves, IsStill}
+use Rattle.kernel_heap.specs.Moves.{HeapMoves, KeepsStateAndBins}
 use Rattle.kernel_heap.specs.Parts.{Parts}
 use Rattle.kernel_heap.specs.Registers.{machine_cpu, cpu_after}
 use Rattle.kernel_heap.specs.System.{paged}
@@ -47,7 +47,7 @@ pub record HasStepped (old : Parts) (call : Call) (answer : Answer) (new : Parts
 -- Memory was wanting for an answer: each byte, block, region and register is as it was, and so is the order of the free chunks.
 pub record HasNotStepped (old new : Parts) : Type 0 where
   pub same : seen new ≡ seen old
-  pub still : IsStill old.heap.heap new.heap.heap
+  pub still : KeepsStateAndBins old.heap.heap new.heap.heap
   pub registers : new.cpu ≡ old.cpu
 
 -- one item of a run: a call that the machine answered, or a bad line (None), which leaves the machine as it is

@@ -9,15 +9,15 @@ use Rattle.kernel_heap.specs.Words.{grants_of}
 use Rattle.mapped_regions.specs.Mapped.{word_reached}
 
 -- `count` bytes from an address on lie in regions of the heap
-abbrev pub AreInside : Paged → ℕ → ℕ → Type 0
-AreInside p address count = (k : ℕ) → address ≤ k → k < address + count → IsTrue (is_granted (grants_of p) k)
+abbrev pub AreHeapBytes : Paged → ℕ → ℕ → Type 0
+AreHeapBytes p address count = (k : ℕ) → address ≤ k → k < address + count → IsTrue (is_granted (grants_of p) k)
 
 -- the first `count` of these bytes were put at an address, and every other byte of the regions stays, and every word
 -- that has none of them
-pub record IsWritten (old new : Paged) (address : ℕ) (bytes : List ℕ) (count : ℕ) : Type 0 where
+pub record AreBytesWritten (old new : Paged) (address : ℕ) (bytes : List ℕ) (count : ℕ) : Type 0 where
   pub still : OnlyHeapBytesChange old new
   pub here : (k : ℕ) → k < count → reached new.words new.root (address + k) ≡ Some (slice_index bytes k)
-  pub elsewhere : (other : ℕ) → AreInside old other 1 → (other < address) ⊎ (address + count ≤ other) → reached new.words new.root other ≡ reached old.words old.root other
+  pub elsewhere : (other : ℕ) → AreHeapBytes old other 1 → (other < address) ⊎ (address + count ≤ other) → reached new.words new.root other ≡ reached old.words old.root other
   pub words : (k : ℕ) → IsWordOf (grants_of old) k → (k + 8 ≤ address) ⊎ (address + count ≤ k) → word_reached new k ≡ word_reached old k
 
 -- these bytes are the ones from an address on

@@ -7,7 +7,7 @@ ghost use Rattle.sound_heap.specs.Heap.{AreInBlock};
 ghost use Rattle.kernel_heap.specs.Heap.{heap_state};
 ghost use Rattle.kernel_heap.specs.Moves.{IsKeptBeside};
 ghost use Rattle.kernel_heap.specs.System.{paged};
-ghost use Rattle.kernel_heap.specs.Written.{IsWritten};
+ghost use Rattle.kernel_heap.specs.Written.{AreBytesWritten};
 
 use crate::paged_system::PagedSystem;
 use heap_model::{Rights, SlotList};
@@ -59,7 +59,7 @@ pub(crate) fn take_slots(heap: &mut Heap<PagedSystem>) -> Option<SlotList>
 /// Puts bytes at an address of a block, and changes nothing else.
 pub(crate) fn write_bytes(heap: &mut Heap<PagedSystem>, address: u64, bytes: &[u8])
     requires inside { AreInBlock (heap_state heap.old) address (length bytes.now) }
-    ensures written { IsWritten (paged heap.old.system) (paged heap.new.system) address bytes.now (length bytes.now) }
+    ensures written { AreBytesWritten (paged heap.old.system) (paged heap.new.system) address bytes.now (length bytes.now) }
     ensures kept { IsKeptBeside heap.old heap.new }
 {
     heap.heap.blocks_are_placed();

@@ -7,9 +7,9 @@ ghost use Rattle.heap_model.specs.Machine.{Stands, IsStep};
 ghost use Rattle.kernel_heap.specs.Heap.{regions};
 ghost use Rattle.kernel_heap.specs.Machine.{seen_with, system_of, heap_of};
 ghost use Rattle.kernel_heap.specs.Numbered.{live_at, refuse_live, HasBytes};
-ghost use Rattle.kernel_heap.specs.LaidOut.{IsSound};
+ghost use Rattle.kernel_heap.specs.LaidOut.{IsNumberedSound};
 ghost use Rattle.kernel_heap.specs.Kept.{IsSeenAsBefore};
-ghost use Rattle.kernel_heap.specs.Moves.{IsStill};
+ghost use Rattle.kernel_heap.specs.Moves.{KeepsStateAndBins};
 
 use crate::beside;
 use crate::numbered_heap::{NumberedHeap, refused};
@@ -19,7 +19,7 @@ use std::alloc::AllocError;
 impl NumberedHeap {
     /// The address of the byte at an offset of a live block, where `count` bytes from there lie in the block.
     fn find_bytes(&self, number: u64, offset: u64, count: u64) -> Result<u64, Refusal>
-        requires sound { IsSound self.now }
+        requires sound { IsNumberedSound self.now }
         ensures ok { IfOk result (λ address. HasBytes self.now.blocks.items number offset count address) }
         ensures err { IfErr result (λ refusal. refuse_live (live_at self.now.blocks.items number) offset count ≡ Some refusal) }
         ensures placed { ArePlaced (regions (system_of self.now)) (heap_of self.now) }
@@ -36,10 +36,10 @@ impl NumberedHeap {
 
     /// Puts bytes into a block. It takes no memory.
     pub(crate) fn write(&mut self, number: u64, offset: u64, bytes: &[u8]) -> Answer
-        requires sound { IsSound self.old }
-        ensures sound { IsSound self.new }
+        requires sound { IsNumberedSound self.old }
+        ensures sound { IsNumberedSound self.new }
         ensures ok { (top : ℕ) (s : State) → IsGood s → Stands (seen_with top self.old) s → IsStep s (Call.Write number offset bytes.now) result (seen_with top self.new) }
-        ensures heap { IsStill self.old.heap self.new.heap }
+        ensures heap { KeepsStateAndBins self.old.heap self.new.heap }
         ensures kept { IsSeenAsBefore result.reply self.old self.new }
     {
         match self.find_bytes(number, offset, bytes.len() as u64) {
@@ -57,7 +57,7 @@ impl NumberedHeap {
 
     /// Reads bytes of a block.
     pub(crate) fn read(&self, number: u64, offset: u64, count: u64) -> Result<Answer, AllocError>
-        requires sound { IsSound self.now }
+        requires sound { IsNumberedSound self.now }
         ensures ok { (top : ℕ) (s : State) → IsGood s → Stands (seen_with top self.now) s → IfOk result (λ answer. IsStep s (Call.Read number offset count) answer (seen_with top self.now)) }
     {
         match self.find_bytes(number, offset, count) {

@@ -1,6 +1,6 @@
 // Whether a machine can be made from a configuration.
 ghost use Rattle.std.specs.Prelude.{◌≡◌, ◌↔◌, IsTrue, IfErr, OnOk};
-ghost use Rattle.kernel_heap.specs.Config.{IsGoodWindow, IsGoodConfig, IsConfigRefused};
+ghost use Rattle.kernel_heap.specs.Config.{IsHeapWindow, IsGoodConfig, IsConfigRefused};
 
 use crate::run_error::RunError;
 use dlmalloc::is_granularity;
@@ -17,7 +17,7 @@ const UPPER_START: u64 = 0xffff_8000_0000_0000;
 
 /// Whether a window of `pages` pages from an address may be used.
 fn is_good_window(base: u64, pages: u64) -> bool
-    ensures { IsTrue result ↔ IsGoodWindow base pages }
+    ensures { IsTrue result ↔ IsHeapWindow base pages }
 {
     let Some(bytes) = pages.checked_mul(PAGE) else {
         return false;

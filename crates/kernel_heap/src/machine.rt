@@ -67,11 +67,11 @@ impl Model for Machine {
 
     ghost coded = { coded_parts numbered_heap.the_row.coded registers.the_row.coded };
 
-    ghost use Rattle.kernel_heap.specs.LaidOut.{IsSound};
+    ghost use Rattle.kernel_heap.specs.LaidOut.{IsNumberedSound};
 
     ghost view = { λ machine. record { heap = machine.heap; cpu = machine.cpu } };
 
-    ghost invariant = { λ machine. IsSound machine.heap };
+    ghost invariant = { λ machine. IsNumberedSound machine.heap };
 }
 
 impl Machine {

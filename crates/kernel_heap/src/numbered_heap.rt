@@ -104,10 +104,10 @@ impl NumberedHeap {
     ghost use Rattle.kernel_heap.specs.System.{paged, pageless_frames};
     ghost use Rattle.kernel_heap.specs.Machine.{seen_with, system_of};
     ghost use Rattle.kernel_heap.specs.Numbered.{live_at};
-    ghost use Rattle.kernel_heap.specs.LaidOut.{IsSound};
+    ghost use Rattle.kernel_heap.specs.LaidOut.{IsNumberedSound};
     ghost use Rattle.kernel_heap.specs.Blocks.{request, resizing};
     ghost use Rattle.kernel_heap.specs.Kept.{lasting_pages, AreRunsUsedFor, IsSeenAsBefore};
-    ghost use Rattle.kernel_heap.specs.Moves.{HeapMoves, IsStill};
+    ghost use Rattle.kernel_heap.specs.Moves.{HeapMoves, KeepsStateAndBins};
 
     /// Hands out a block of `size` bytes at a multiple of `align`, of value 0 where that is asked for. The answer and the
     /// block have their places before anything changes.
@@ -118,14 +118,14 @@ impl NumberedHeap {
         align: u64,
         cleared: bool,
     ) -> Result<Answer, AllocError>
-        requires sound { IsSound self.old }
-        ensures sound { IsSound self.new }
+        requires sound { IsNumberedSound self.old }
+        ensures sound { IsNumberedSound self.new }
         ensures ok { (top : ℕ) (s : State) → IsGood s → Stands (seen_with top self.old) s → IfOk result (λ answer. IsStep s (request cleared size align) answer (seen_with top self.new)) }
         ensures err { (top : ℕ) → OnErr result (seen_with top self.new ≡ seen_with top self.old) }
         ensures runs { (top : ℕ) (s : State) → IsGood s → Stands (seen_with top self.old) s → IfOk result (λ answer. AreRunsUsedFor (paged (system_of self.old)) (paged (system_of self.new)) (lasting_pages s (request cleared size align) answer)) }
         ensures heap { IfOk result (λ answer. HeapMoves self.old (request cleared size align) answer.reply answer.large self.new) }
         ensures kept { IfOk result (λ answer. IsSeenAsBefore answer.reply self.old self.new) }
-        ensures heap_err { OnErr result (IsStill self.old.heap self.new.heap) }
+        ensures heap_err { OnErr result (KeepsStateAndBins self.old.heap self.new.heap) }
     {
         if !align.is_power_of_two() {
             return Ok(refused(Refusal::BadAlign));
@@ -159,13 +159,13 @@ impl NumberedHeap {
         size: u64,
         keeps_alignment: bool,
     ) -> Result<Answer, AllocError>
-        requires sound { IsSound self.old }
-        ensures sound { IsSound self.new }
+        requires sound { IsNumberedSound self.old }
+        ensures sound { IsNumberedSound self.new }
         ensures ok { (top : ℕ) (s : State) → IsGood s → Stands (seen_with top self.old) s → IfOk result (λ answer. IsStep s (resizing keeps_alignment number size) answer (seen_with top self.new)) }
         ensures err { (top : ℕ) → OnErr result (seen_with top self.new ≡ seen_with top self.old) }
         ensures heap { IfOk result (λ answer. HeapMoves self.old (resizing keeps_alignment number size) answer.reply answer.large self.new) }
         ensures kept { IfOk result (λ answer. IsSeenAsBefore answer.reply self.old self.new) }
-        ensures heap_err { OnErr result (IsStill self.old.heap self.new.heap) }
+        ensures heap_err { OnErr result (KeepsStateAndBins self.old.heap self.new.heap) }
     {
         let Some(live) = self.live(number) else {
             return Ok(refused(Refusal::UnknownBlock));
@@ -252,12 +252,12 @@ impl NumberedHeap {
     /// The slots that the region which joined since a moment has in large pages, if one joined and has any. They are
     /// told once.
     pub(crate) fn new_slots(&mut self, before: Marks) -> Option<SlotList>
-        requires sound { IsSound self.old }
+        requires sound { IsNumberedSound self.old }
         ensures none { (paged (system_of self.old)).joins ≡ before.joins → result ≡ None × self.new ≡ self.old }
         ensures slots { ((paged (system_of self.old)).joins ≡ before.joins → ⊥) → result ≡ listed_slots (paged (system_of self.old)).slots }
         ensures paged { ((paged (system_of self.old)).joins ≡ before.joins → ⊥) → paged (system_of self.new) ≡ record (paged (system_of self.old)) { slots = [] } }
-        ensures sound { IsSound self.new }
-        ensures heap { IsStill self.old.heap self.new.heap }
+        ensures sound { IsNumberedSound self.new }
+        ensures heap { KeepsStateAndBins self.old.heap self.new.heap }
         ensures rest { self.new.heap ≡ record self.old.heap { system = self.new.heap.system } }
         ensures blocks { self.new.blocks ≡ self.old.blocks }
     {
@@ -282,13 +282,13 @@ impl NumberedHeap {
     /// Ends a block. The answer has its places before anything changes: regions may go back to the system by it.
     #[inline(always)]
     pub(crate) fn free(&mut self, number: u64) -> Result<Answer, AllocError>
-        requires sound { IsSound self.old }
-        ensures sound { IsSound self.new }
+        requires sound { IsNumberedSound self.old }
+        ensures sound { IsNumberedSound self.new }
         ensures ok { (top : ℕ) (s : State) → IsGood s → Stands (seen_with top self.old) s → IfOk result (λ answer. IsStep s (Call.Free number) answer (seen_with top self.new)) }
         ensures err { (top : ℕ) → OnErr result (seen_with top self.new ≡ seen_with top self.old) }
         ensures heap { IfOk result (λ answer. HeapMoves self.old (Call.Free number) answer.reply answer.large self.new) }
         ensures kept { IfOk result (λ answer. IsSeenAsBefore answer.reply self.old self.new) }
-        ensures heap_err { OnErr result (IsStill self.old.heap self.new.heap) }
+        ensures heap_err { OnErr result (KeepsStateAndBins self.old.heap self.new.heap) }
     {
         let Some(live) = self.live(number) else {
             return Ok(refused(Refusal::UnknownBlock));
@@ -310,7 +310,7 @@ impl NumberedHeap {
 
     /// Lists the extents of the heap.
     pub(crate) fn extents(&self) -> Result<Answer, AllocError>
-        requires sound { IsSound self.now }
+        requires sound { IsNumberedSound self.now }
         ensures ok { (top : ℕ) (s : State) → IsGood s → Stands (seen_with top self.now) s → IfOk result (λ answer. IsStep s Call.Extents answer (seen_with top self.now)) }
         ensures heap { IfOk result (λ answer. HeapMoves self.now Call.Extents answer.reply answer.large self.now) }
     {

@@ -3,7 +3,7 @@
 ghost use Rattle.std.specs.Prelude.{◌≡◌, ℕ, ◌+◌, ◌*◌, ◌%◌, ◌<◌, ◌≤◌, IfOk, OnOk, length, slice_index};
 ghost use Rattle.std.specs.Int.{w64, to_le_bytes};
 ghost use Rattle.kernel_heap.specs.System.{paged};
-ghost use Rattle.kernel_heap.specs.Written.{AreInside, AreRead, IsWritten};
+ghost use Rattle.kernel_heap.specs.Written.{AreHeapBytes, AreRead, AreBytesWritten};
 
 use crate::paged_system::PagedSystem;
 use heap_memory::Memory;
@@ -41,7 +41,7 @@ impl PagedSystem {
         count: u64,
         bytes: &mut Vec<u8>,
     ) -> Result<(), AllocError>
-        requires inside { AreInside (paged self.now) address count }
+        requires inside { AreHeapBytes (paged self.now) address count }
         requires few { done ≤ count }
         requires read { AreRead (paged self.now) address done bytes.old.items }
         ensures { OnOk result (AreRead (paged self.now) address count bytes.new.items) }
@@ -60,7 +60,7 @@ impl PagedSystem {
         words: u64,
         bytes: &mut Vec<u8>,
     ) -> Result<(), AllocError>
-        requires inside { AreInside (paged self.now) address (done + 8 * words) }
+        requires inside { AreHeapBytes (paged self.now) address (done + 8 * words) }
         requires aligned { 0 < words → (address + done) % 8 ≡ 0 }
         requires read { AreRead (paged self.now) address done bytes.old.items }
         ensures { OnOk result (AreRead (paged self.now) address (done + 8 * words) bytes.new.items) }
@@ -79,7 +79,7 @@ impl PagedSystem {
         address: u64,
         count: u64,
     ) -> Result<Bytes, AllocError>
-        requires { AreInside (paged self.now) address count }
+        requires { AreHeapBytes (paged self.now) address count }
         ensures { IfOk result (λ bytes. AreRead (paged self.now) address count bytes) }
     {
         let mut bytes = Vec::with_capacity(alloc, count as usize)?;
@@ -93,8 +93,8 @@ impl PagedSystem {
 
     /// Puts the bytes at an address one by one, and changes nothing else.
     fn write_each(&mut self, address: u64, bytes: &[u8])
-        requires { AreInside (paged self.old) address (length bytes.now) }
-        ensures { IsWritten (paged self.old) (paged self.new) address bytes.now (length bytes.now) }
+        requires { AreHeapBytes (paged self.old) address (length bytes.now) }
+        ensures { AreBytesWritten (paged self.old) (paged self.new) address bytes.now (length bytes.now) }
     {
         for k in 0..bytes.len() {
             self.store_byte(address + k as u64, bytes[k]);
@@ -103,10 +103,10 @@ impl PagedSystem {
 
     /// Puts the bytes of whole words at an address, each word by one walk, and changes nothing else.
     fn write_words(&mut self, address: u64, bytes: &[u8])
-        requires inside { AreInside (paged self.old) address (length bytes.now) }
+        requires inside { AreHeapBytes (paged self.old) address (length bytes.now) }
         requires aligned { 0 < length bytes.now → address % 8 ≡ 0 }
         requires whole { length bytes.now % 8 ≡ 0 }
-        ensures { IsWritten (paged self.old) (paged self.new) address bytes.now (length bytes.now) }
+        ensures { AreBytesWritten (paged self.old) (paged self.new) address bytes.now (length bytes.now) }
     {
         for k in 0..bytes.len() / 8 {
             self.set_word(address + 8 * k as u64, word_of_bytes(bytes, 8 * k));
@@ -115,9 +115,9 @@ impl PagedSystem {
 
     /// Puts bytes at a multiple of 8, whole words first, and changes nothing else.
     fn write_from_word(&mut self, address: u64, bytes: &[u8])
-        requires inside { AreInside (paged self.old) address (length bytes.now) }
+        requires inside { AreHeapBytes (paged self.old) address (length bytes.now) }
         requires aligned { 0 < length bytes.now → address % 8 ≡ 0 }
-        ensures { IsWritten (paged self.old) (paged self.new) address bytes.now (length bytes.now) }
+        ensures { AreBytesWritten (paged self.old) (paged self.new) address bytes.now (length bytes.now) }
     {
         let (words, last) = bytes.split_at(bytes.len() / 8 * 8);
         self.write_words(address, words);
@@ -128,8 +128,8 @@ impl PagedSystem {
 
     /// Puts the bytes at an address, and changes nothing else.
     pub(crate) fn write_bytes(&mut self, address: u64, bytes: &[u8])
-        requires { AreInside (paged self.old) address (length bytes.now) }
-        ensures { IsWritten (paged self.old) (paged self.new) address bytes.now (length bytes.now) }
+        requires { AreHeapBytes (paged self.old) address (length bytes.now) }
+        ensures { AreBytesWritten (paged self.old) (paged self.new) address bytes.now (length bytes.now) }
     {
         let head = bytes_before_words(address, bytes.len() as u64);
         let (first, rest) = bytes.split_at(head as usize);

@@ -6,10 +6,10 @@ ghost use Rattle.paging_core.specs.Walk.{walk_of, reached};
 ghost use Rattle.mapped_regions.specs.Regions.{kind_at};
 ghost use Rattle.heap_model.specs.Machine.{rights_of};
 ghost use Rattle.heap_model.specs.Room.{heap_region as granted_region, heap_rights as granted_rights};
-ghost use Rattle.kernel_heap.specs.Config.{IsGoodWindow};
+ghost use Rattle.kernel_heap.specs.Config.{IsHeapWindow};
 ghost use Rattle.heap_model.specs.Request.{pages_in};
 ghost use Rattle.kernel_heap.specs.Layout.{IsPagedKept, IsPagedKept-prop};
-ghost use Rattle.mapped_regions.specs.Shown.{shown};
+ghost use Rattle.mapped_regions.specs.Shown.{paged_view};
 
 use heap_memory::{Grant, GrantFault};
 use heap_model::{Region, RegionList, Rights};
@@ -52,7 +52,7 @@ fn heap_region(start: u64, pages: u64) -> Region
 #[derive(Drop)]
 pub struct PagedSystem {
     pub(crate) regions: MappedRegions,
-    ghost kept: { IsPagedKept (shown regions) } by { IsPagedKept-prop (shown regions) },
+    ghost kept: { IsPagedKept (paged_view regions) } by { IsPagedKept-prop (paged_view regions) },
 }
 
 impl PagedSystem {
@@ -70,7 +70,7 @@ impl PagedSystem {
     /// A system with a window of `pages` pages from the address `base` on, and with `frames` frames, of which one
     /// holds the root table. Nothing is mapped.
     pub fn new(alloc: Global, base: u64, pages: u64, frames: u32) -> Result<Self, AllocError>
-        requires window { IsGoodWindow base pages }
+        requires window { IsHeapWindow base pages }
         requires frames { 0 < frames }
         ensures { IfOk result (λ system. IsNew (paged system) base pages frames) }
     {

@@ -1,7 +1,7 @@
 // The byte at an address, as an access sees it.
 ghost use Rattle.std.specs.Prelude.{◌≡◌, ℕ, is_some, Some};
 ghost use Rattle.heap_model.specs.State.{State};
-ghost use Rattle.heap_model.specs.Probe.{grants, is_granted, fault_code, access_bit};
+ghost use Rattle.heap_model.specs.Probe.{rights_grant, is_access_granted, probe_fault_code, access_bit};
 ghost use Rattle.heap_model.specs.Run.{IsGood};
 ghost use Rattle.heap_model.specs.Machine.{Stands, IsStep};
 ghost use Rattle.kernel_heap.specs.System.{paged};
@@ -16,7 +16,7 @@ use paging_core::VirtAddr;
 
 /// Whether rights grant a kind of access.
 fn grants(rights: Rights, access: Access) -> bool
-    ensures { result ≡ grants rights access }
+    ensures { result ≡ rights_grant rights access }
 {
     match access {
         Access::Read => true,
@@ -28,7 +28,7 @@ fn grants(rights: Rights, access: Access) -> bool
 /// Whether an access to a byte is granted, by the rights of its page, or none where it is not mapped: the rights grant its
 /// kind, and one by the user needs the user's right too (AMD64 manual, volume 2, section 5.6).
 pub fn is_granted(rights: Option<Rights>, access: Access, user: bool) -> bool
-    ensures { result ≡ is_granted rights access user }
+    ensures { result ≡ is_access_granted rights access user }
 {
     match rights {
         None => false,
@@ -50,7 +50,7 @@ fn access_bit(access: Access) -> u64
 /// The code of the page fault of an access to a page that is mapped or not: bit 0 says that it is mapped, bit 1 that the
 /// access is a write, bit 2 that it is by the user, and bit 4 that it is a fetch (AMD64 manual, volume 2, section 8.4.2).
 pub fn fault_code(mapped: bool, access: Access, user: bool) -> PageFaultErrorCode
-    ensures { page_fault_bits result ≡ fault_code mapped access user }
+    ensures { page_fault_bits result ≡ probe_fault_code mapped access user }
 {
     let present = if mapped { 1 } else { 0 };
     let from_user = if user { 4 } else { 0 };

@@ -5,9 +5,9 @@ ghost use Rattle.heap_model.specs.Run.{IsGood};
 ghost use Rattle.heap_model.specs.Machine.{Stands, IsStep};
 ghost use Rattle.kernel_heap.specs.System.{paged};
 ghost use Rattle.kernel_heap.specs.Machine.{seen_with, system_of};
-ghost use Rattle.kernel_heap.specs.LaidOut.{IsSound};
+ghost use Rattle.kernel_heap.specs.LaidOut.{IsNumberedSound};
 ghost use Rattle.kernel_heap.specs.Kept.{is_always_answered, lasting_pages, AreRunsUsedFor, IsSeenAsBefore, IsReachedByte};
-ghost use Rattle.kernel_heap.specs.Moves.{HeapMoves, IsStill};
+ghost use Rattle.kernel_heap.specs.Moves.{HeapMoves, KeepsStateAndBins};
 
 use crate::numbered_heap::NumberedHeap;
 use heap_model::{Answer, Call};
@@ -17,14 +17,14 @@ impl NumberedHeap {
     /// Serves a call. A write, an unmap, a probe and a setting take no memory, and are always answered.
     #[inline(always)]
     pub(crate) fn serve(&mut self, call: &Call) -> Result<Answer, AllocError>
-        requires sound { IsSound self.old }
-        ensures sound { IsSound self.new }
+        requires sound { IsNumberedSound self.old }
+        ensures sound { IsNumberedSound self.new }
         ensures ok { (top : ℕ) (s : State) → IsGood s → Stands (seen_with top self.old) s → IfOk result (λ answer. IsStep s call.now answer (seen_with top self.new)) }
         ensures err { (top : ℕ) → OnErr result (seen_with top self.new ≡ seen_with top self.old) }
         ensures runs { (top : ℕ) (s : State) → IsGood s → Stands (seen_with top self.old) s → IfOk result (λ answer. AreRunsUsedFor (paged (system_of self.old)) (paged (system_of self.new)) (lasting_pages s call.now answer)) }
         ensures heap { IfOk result (λ answer. HeapMoves self.old call.now answer.reply answer.large self.new) }
         ensures kept { IfOk result (λ answer. IsSeenAsBefore answer.reply self.old self.new) }
-        ensures heap_err { OnErr result (IsStill self.old.heap self.new.heap) }
+        ensures heap_err { OnErr result (KeepsStateAndBins self.old.heap self.new.heap) }
         ensures reached { IfOk result (λ answer. IsReachedByte (paged (system_of self.new)) call.now answer.reply) }
         ensures answered { IsTrue (is_always_answered call.now) → IsOk result }
     {

@@ -4,7 +4,7 @@ ghost use Rattle.heap_model.specs.State.{State};
 ghost use Rattle.heap_model.specs.Run.{IsGood};
 ghost use Rattle.heap_model.specs.Machine.{Stands, IsStep};
 ghost use Rattle.kernel_heap.specs.Machine.{seen_with};
-ghost use Rattle.kernel_heap.specs.LaidOut.{IsSound};
+ghost use Rattle.kernel_heap.specs.LaidOut.{IsNumberedSound};
 ghost use Rattle.kernel_heap.specs.Kept.{IsSeenAsBefore};
 ghost use Rattle.kernel_heap.specs.Moves.{HeapMoves};
 
@@ -14,8 +14,8 @@ use heap_model::{Answer, Call, Reply};
 impl NumberedHeap {
     /// Sets how many large chunks are freed between two release passes. It takes no memory.
     pub(crate) fn set_rate(&mut self, rate: u64) -> Answer
-        requires sound { IsSound self.old }
-        ensures sound { IsSound self.new }
+        requires sound { IsNumberedSound self.old }
+        ensures sound { IsNumberedSound self.new }
         ensures ok { (top : ℕ) (s : State) → IsGood s → Stands (seen_with top self.old) s → IsStep s (Call.SetRate rate) result (seen_with top self.new) }
         ensures heap { HeapMoves self.old (Call.SetRate rate) result.reply result.large self.new }
         ensures kept { IsSeenAsBefore result.reply self.old self.new }
@@ -30,8 +30,8 @@ impl NumberedHeap {
 
     /// Sets the granularity, where it is a power of two of at least 16. It takes no memory.
     pub(crate) fn set_granularity(&mut self, granularity: u64) -> Answer
-        requires sound { IsSound self.old }
-        ensures sound { IsSound self.new }
+        requires sound { IsNumberedSound self.old }
+        ensures sound { IsNumberedSound self.new }
         ensures ok { (top : ℕ) (s : State) → IsGood s → Stands (seen_with top self.old) s → IsStep s (Call.SetGranularity granularity) result (seen_with top self.new) }
         ensures heap { HeapMoves self.old (Call.SetGranularity granularity) result.reply result.large self.new }
         ensures kept { IsSeenAsBefore result.reply self.old self.new }

@@ -4,9 +4,9 @@ ghost use Rattle.heap_model.specs.State.{State};
 ghost use Rattle.heap_model.specs.Run.{IsGood};
 ghost use Rattle.heap_model.specs.Machine.{Stands, IsStep};
 ghost use Rattle.kernel_heap.specs.Machine.{seen_with};
-ghost use Rattle.kernel_heap.specs.LaidOut.{IsSound};
+ghost use Rattle.kernel_heap.specs.LaidOut.{IsNumberedSound};
 ghost use Rattle.kernel_heap.specs.Kept.{IsSeenAsBefore};
-ghost use Rattle.kernel_heap.specs.Moves.{HeapMoves, IsStill};
+ghost use Rattle.kernel_heap.specs.Moves.{HeapMoves, KeepsStateAndBins};
 
 use crate::numbered_heap::NumberedHeap;
 use crate::paged_system::PagedSystem;
@@ -17,13 +17,13 @@ use std::alloc::AllocError;
 impl NumberedHeap {
     /// Gives memory back that no block needs. The answer has its places before anything changes.
     pub(crate) fn trim(&mut self, pad: u64) -> Result<Answer, AllocError>
-        requires sound { IsSound self.old }
-        ensures sound { IsSound self.new }
+        requires sound { IsNumberedSound self.old }
+        ensures sound { IsNumberedSound self.new }
         ensures ok { (top : ℕ) (s : State) → IsGood s → Stands (seen_with top self.old) s → IfOk result (λ answer. IsStep s (Call.Trim pad) answer (seen_with top self.new)) }
         ensures err { (top : ℕ) → OnErr result (seen_with top self.new ≡ seen_with top self.old) }
         ensures heap { IfOk result (λ answer. HeapMoves self.old (Call.Trim pad) answer.reply answer.large self.new) }
         ensures kept { IfOk result (λ answer. IsSeenAsBefore answer.reply self.old self.new) }
-        ensures heap_err { OnErr result (IsStill self.old.heap self.new.heap) }
+        ensures heap_err { OnErr result (KeepsStateAndBins self.old.heap self.new.heap) }
     {
         let count = self.heap.system().region_count();
         self.list.clear();
@@ -43,13 +43,13 @@ impl NumberedHeap {
     /// Ends all blocks and gives all memory of the heap back. A new heap begins over the system, with the granularity and
     /// the rate in force.
     pub(crate) fn reset(&mut self) -> Result<Answer, AllocError>
-        requires sound { IsSound self.old }
-        ensures sound { IsSound self.new }
+        requires sound { IsNumberedSound self.old }
+        ensures sound { IsNumberedSound self.new }
         ensures ok { (top : ℕ) (s : State) → IsGood s → Stands (seen_with top self.old) s → IfOk result (λ answer. IsStep s Call.Reset answer (seen_with top self.new)) }
         ensures err { (top : ℕ) → OnErr result (seen_with top self.new ≡ seen_with top self.old) }
         ensures heap { IfOk result (λ answer. HeapMoves self.old Call.Reset answer.reply answer.large self.new) }
         ensures kept { IfOk result (λ answer. IsSeenAsBefore answer.reply self.old self.new) }
-        ensures heap_err { OnErr result (IsStill self.old.heap self.new.heap) }
+        ensures heap_err { OnErr result (KeepsStateAndBins self.old.heap self.new.heap) }
     {
         let other = PagedSystem::new(self.alloc, Size4KiB::SIZE, 1, 1)?;
         let free = self.heap.system().free_frames();

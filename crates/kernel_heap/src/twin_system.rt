@@ -2,7 +2,7 @@
 ghost use Rattle.std.specs.Prelude.{◌≡◌, ℕ, ◌+◌, ◌*◌, ◌%◌, ◌<◌, ◌≤◌, ◌⊎◌, [], ◌∷◌, true, refl, IsTrue, IfSome, IfNone, IfOk, IfErr, OnErr};
 ghost use Rattle.std.specs.List.{AllByRecursion};
 ghost use Rattle.std.specs.Int.{is_power_of_two};
-ghost use Rattle.kernel_heap.specs.Config.{IsGoodWindow};
+ghost use Rattle.kernel_heap.specs.Config.{IsHeapWindow};
 ghost use Rattle.kernel_heap.specs.System.{paged};
 ghost use Rattle.kernel_heap.specs.Twin.{IsTwin, IsTwin-prop};
 
@@ -39,7 +39,7 @@ impl TwinSystem {
     /// A system with a window of `pages` pages from the address `base` on, and with `frames` frames, of which one
     /// holds the root table. Nothing is granted.
     pub fn new(alloc: Global, base: u64, pages: u64, frames: u32) -> Result<Self, AllocError>
-        requires window { IsGoodWindow base pages }
+        requires window { IsHeapWindow base pages }
         requires frames { 0 < frames }
         ensures { IfOk result (λ system. IsNew (paged_of system) base pages frames) }
     {

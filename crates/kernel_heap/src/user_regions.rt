@@ -4,7 +4,7 @@ ghost use Rattle.heap_model.specs.Slots.{listed_slots};
 ghost use Rattle.mapped_regions.specs.Mapped.{CanMap, IsRegionJoined, IsLeft};
 ghost use Rattle.mapped_regions.specs.UserRegions.{user_region, IsMapRefused, IsUnmapRefused, CanUnmap};
 ghost use Rattle.kernel_heap.specs.System.{paged};
-ghost use Rattle.kernel_heap.specs.Beside.{IsBeside};
+ghost use Rattle.kernel_heap.specs.Beside.{KeepsHeapWords};
 
 use crate::paged_system::PagedSystem;
 use heap_model::{Rights, SlotList};
@@ -16,7 +16,7 @@ impl PagedSystem {
     pub fn take_slots(&mut self) -> Option<SlotList>
         ensures slots { result ≡ listed_slots (paged self.old).slots }
         ensures others { paged self.new ≡ record (paged self.old) { slots = [] } }
-        ensures beside { IsBeside (paged self.old) (paged self.new) }
+        ensures beside { KeepsHeapWords (paged self.old) (paged self.new) }
     {
         self.regions.take_slots()
     }
@@ -29,7 +29,7 @@ impl PagedSystem {
         ensures can { OnOk result (CanMap (paged self.old) start pages) }
         ensures err { OnErr result (paged self.new ≡ paged self.old) }
         ensures refused { IfErr result (λ fault. IsMapRefused (paged self.old) start pages fault) }
-        ensures beside { IsBeside (paged self.old) (paged self.new) }
+        ensures beside { KeepsHeapWords (paged self.old) (paged self.new) }
     {
         self.regions.map(start, pages, rights)
     }
@@ -42,7 +42,7 @@ impl PagedSystem {
         ensures can { OnOk result (CanUnmap (paged self.old) start pages) }
         ensures err { OnErr result (paged self.new ≡ paged self.old) }
         ensures refused { IfErr result (λ fault. IsUnmapRefused (paged self.old) start pages fault) }
-        ensures beside { IsBeside (paged self.old) (paged self.new) }
+        ensures beside { KeepsHeapWords (paged self.old) (paged self.new) }
     {
         self.regions.unmap(start, pages)
     }

@@ -8,7 +8,7 @@ use Rattle.paging_core.specs.Pool.{free_count}
 use Rattle.paging_core.specs.Prefix.{prefix_of}
 use Rattle.paging_core.specs.Tree.{IsTreeIn}
 use Rattle.paging_core.specs.Large.{slot_of}
-use Rattle.paging_core.specs.Walk.{Place, place_of, large_of}
+use Rattle.paging_core.specs.Walk.{Place, mapped_place, large_of}
 use Rattle.paging_core.specs.WalkEnd.{IsEntryOf, IsWalkEnd}
 use Rattle.paging_core.specs.declared.walk_end.WalkEnd.{WalkEnd}
 use Rattle.paging_core.specs.declared.walk_end.WalkEnd.TheVariants.{Entry, Large, Missing}
@@ -23,8 +23,8 @@ use Rattle.kernel_tables.specs.declared.faults.MapFault.TheVariants.{IsMapped}
 -- where a page leads if its walk ends like this
 abbrev pub place_at : WalkEnd → Option Place
 place_at (Entry entry None) = None
-place_at (Entry entry (Some met)) = Some (place_of met)
-place_at (Large met) = Some (place_of met)
+place_at (Entry entry (Some met)) = Some (mapped_place met)
+place_at (Large met) = Some (mapped_place met)
 place_at (Missing tables) = None
 
 pub leads_at : (state : TableState) (page : ℕ) (end : WalkEnd) → IsWalkEnd state.words state.root page end → leads state page ≡ place_at end

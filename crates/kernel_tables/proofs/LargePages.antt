@@ -6,11 +6,11 @@ use Rattle.std.specs.Prelude.{is_some, IsSome, IsTrue}
 use Rattle.paging_core.specs.Area.{Area, Whole, Part, in_area, area_meets}
 use Rattle.paging_core.specs.Large.{slot_of, missing_above, IsSlotEmpty, IsLargeAdded, IsLargeRemoved}
 use Rattle.paging_core.specs.Missing.{missing_of}
-use Rattle.paging_core.specs.Pool.{is_free, free_count, FreeIn}
+use Rattle.paging_core.specs.Pool.{is_frame_free, free_count, FreeIn}
 use Rattle.paging_core.specs.Prefix.{prefix_of}
 use Rattle.paging_core.specs.Tables.{missing_at}
 use Rattle.paging_core.specs.Tree.{IsTreeIn, IsRunUnmet}
-use Rattle.paging_core.specs.Walk.{Place, reach, large_of, granted}
+use Rattle.paging_core.specs.Walk.{Place, reach, large_of, place_with}
 use Rattle.paging_core.specs.declared.page_table.Rights.{Rights}
 use Rattle.paging_core.proofs.Counts.{missing_one}
 use Rattle.paging_core.proofs.Prefixes.{walk_reach}
@@ -26,7 +26,7 @@ row_outside Whole from count out k lt = absurd (let m : ltb 0 count ≡ true = g
 row_outside (Part first end) from count out k lt = grind (arith, nat_tests)
 
 pub row_used : (area : Area) (free : List Bool) (count from : ℕ) → FreeIn area free count →
-    area_meets area from 512 ≡ false → (k : ℕ) → k < 512 → is_free free (from + k) ≡ false
+    area_meets area from 512 ≡ false → (k : ℕ) → k < 512 → is_frame_free free (from + k) ≡ false
 row_used area free count from known out k lt = outside_used area free count (from + k) known (row_outside area from 512 out k lt)
 
 pub row_unmet : (area : Area) (words : List ℕ) (root from : ℕ) (free : List Bool) → IsTreeIn area words root free →
@@ -69,9 +69,9 @@ large_outside area old new free free' root page frame rights added out before ot
     go : (other / 512 % 2 ^ 27 ≡ slot_of page) ⊎ (other / 512 % 2 ^ 27 ≡ slot_of page → ⊥) → in_area area place.frame ≡ false
     go (inl e) =
         let t = added.there (other % 512) (omega arith) in
-        let p : Some (granted (512 * frame + other % 512) rights) ≡ Some place =
+        let p : Some (place_with (512 * frame + other % 512) rights) ≡ Some place =
         sym t ∙ (same_page new root (512 * page + other % 512) other (in_slot page other e) ∙ is) in
-        let q : granted (512 * frame + other % 512) rights ≡ place = cc in
+        let q : place_with (512 * frame + other % 512) rights ≡ place = cc in
         ap (in_area area) (sym (ap (λ r. r.frame) q)) ∙ row_outside area (512 * frame) 512 out (other % 512) (omega arith)
     go (inr ne) = before other place (sym (added.pages other ne) ∙ is)
 

@@ -10,7 +10,7 @@ use Rattle.paging_core.specs.Large.{slot_of}
 use Rattle.paging_core.specs.LargeChanges.{IsLargeSplit, AreLargeGranted}
 use Rattle.paging_core.specs.Pool.{free_count}
 use Rattle.paging_core.specs.Prefix.{prefix_of}
-use Rattle.paging_core.specs.Walk.{Place, reach, large_of, walk_of, granted, page_in}
+use Rattle.paging_core.specs.Walk.{Place, reach, large_of, walk_of, place_with, page_in}
 use Rattle.paging_core.specs.declared.page_table.Rights.{Rights}
 use Rattle.paging_core.proofs.LastEntry.{some_or_none}
 use Rattle.paging_core.proofs.Prefixes.{walk_reach}
@@ -243,12 +243,12 @@ gone_all old now page pages mapped all k lk = go (some_or_none (leads old (page 
     go (inr none) = absurd (is_hole (leads old (page + k)) none (mapped k lk))
 
 pub granted_all : (old now : TableState) (page pages : ℕ) (rights : Rights) → ((k : ℕ) → k < pages → IsSome (leads old (page + k))) →
-    IsChangedTo old now page pages pages (λ was. Some (granted was.frame rights)) →
-    (k : ℕ) → k < pages → IfSome (leads old (page + k)) (λ was. leads now (page + k) ≡ Some (granted was.frame rights))
+    IsChangedTo old now page pages pages (λ was. Some (place_with was.frame rights)) →
+    (k : ℕ) → k < pages → IfSome (leads old (page + k)) (λ was. leads now (page + k) ≡ Some (place_with was.frame rights))
 granted_all old now page pages rights mapped all k lk = go (some_or_none (leads old (page + k)))
   where
     go : ((x : Place) × (leads old (page + k) ≡ Some x)) ⊎ (leads old (page + k) ≡ None) →
-        IfSome (leads old (page + k)) (λ was. leads now (page + k) ≡ Some (granted was.frame rights))
+        IfSome (leads old (page + k)) (λ was. leads now (page + k) ≡ Some (place_with was.frame rights))
     go (inl x) = rw x.1 (all.changed k x.0 lk x.1)
     go (inr none) = absurd (is_hole (leads old (page + k)) none (mapped k lk))
 
@@ -293,7 +293,8 @@ large_there words root page some none = go (some_or_none (large_of words root (s
 
 -- each page of a large page that got rights has them
 pub slot_granted : (old new : List ℕ) (root page : ℕ) (rights : Rights) → AreLargeGranted old new root page rights → (k : ℕ) → k < 512 →
-    IfSome (walk_of old root (512 * page + k)) (λ was. walk_of new root (512 * page + k) ≡ Some (granted was.frame rights))
+    IfSome (walk_of old root (512 * page + k)) (λ was. walk_of new root (512 * page + k) ≡ Some
+    (place_with was.frame rights))
 slot_granted old new root page rights all k lt = rw (slot_led old root page all.large k lt all.was) (all.there k lt)
 
 pub slot_outside : (area : Area) (old new : List ℕ) (root page : ℕ) (rights : Rights) →
@@ -304,9 +305,9 @@ slot_outside area old new root page rights all before = λ other place is. go ot
         (other / 512 % 2 ^ 27 ≡ slot_of page) ⊎ (other / 512 % 2 ^ 27 ≡ slot_of page → ⊥) → in_area area place.frame ≡ false
     go other place is (inl e) =
         let same : (512 * page + other % 512) % 2 ^ 36 ≡ other % 2 ^ 36 = omega arith in
-        let p : Some (granted (all.large.frame + other % 512) rights) ≡ Some place =
+        let p : Some (place_with (all.large.frame + other % 512) rights) ≡ Some place =
         sym (all.there (other % 512) (omega arith)) ∙ (same_page new root (512 * page + other % 512) other same ∙ is) in
-        let q : granted (all.large.frame + other % 512) rights ≡ place = cc in
+        let q : place_with (all.large.frame + other % 512) rights ≡ place = cc in
         ap (in_area area) (sym (ap (λ r. r.frame) q))
         ∙ before (512 * page + other % 512) (page_in (other % 512) all.large) (slot_led old root page all.large (other % 512) (omega arith) all.was)
     go other place is (inr ne) =

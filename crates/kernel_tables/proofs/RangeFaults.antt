@@ -10,7 +10,7 @@ use Rattle.paging_core.specs.Pool.{free_count}
 use Rattle.paging_core.specs.Walk.{Place}
 use Rattle.paging_core.specs.declared.page_table.Rights.{Rights}
 use Rattle.paging_core.proofs.Ranges.{missing_none}
-use Rattle.kernel_tables.specs.Changes.{IsRangeMapped}
+use Rattle.kernel_tables.specs.Changes.{IsMappedInARow}
 use Rattle.kernel_tables.specs.Ranges.{lies_in_half, lowest, lowest_mapped, tables_wanted, map_range_fault, becomes_large, AreSlotsLarge}
 use Rattle.kernel_tables.specs.TableState.{TableState, leads, limit_of}
 use Rattle.kernel_tables.specs.declared.range_fault.RangeFault.TheVariants.{NotCanonical, IsMapped, PastLimit, InArea, NoFrames}
@@ -88,7 +88,7 @@ none_large state page frame rights = λ slot canonical. let e = not_large slot (
     not_large slot (inr x) = x
 
 -- a range of no pages is mapped by nothing
-pub none_mapped : (state : TableState) (page frame : ℕ) (rights : Rights) → IsRangeMapped state state page 0 frame rights
+pub none_mapped : (state : TableState) (page frame : ℕ) (rights : Rights) → IsMappedInARow state state page 0 frame rights
 none_mapped state page frame rights = record {
   mapped = λ k lt. absurd (omega arith);
   free = (let z = none_wanted state page frame in omega arith);

@@ -9,14 +9,14 @@ use Rattle.paging_core.specs.Mapping.{IsPageAdded}
 use Rattle.paging_core.specs.Missing.{missing_of}
 use Rattle.paging_core.specs.Pool.{free_count}
 use Rattle.paging_core.specs.Prefix.{prefix_of}
-use Rattle.paging_core.specs.Walk.{Place, reach, large_of, walk_of, granted}
+use Rattle.paging_core.specs.Walk.{Place, reach, large_of, walk_of, place_with}
 use Rattle.paging_core.specs.declared.page_table.Rights.{Rights}
 use Rattle.paging_core.proofs.Counts.{absent}
 use Rattle.paging_core.proofs.LastEntry.{some_or_none}
 use Rattle.paging_core.proofs.Prefixes.{walk_reach, walk_stops, none_more, small_page}
 use Rattle.paging_core.proofs.Ranges.{page_canonical, same_number}
 use Rattle.paging_core.proofs.Reach.{reach_none}
-use Rattle.kernel_tables.specs.Changes.{ChangesOnly, IsRangeMapped}
+use Rattle.kernel_tables.specs.Changes.{ChangesOnly, IsMappedInARow}
 use Rattle.kernel_tables.specs.Flush.{page_alone, pages_of_slot, pages_of_range}
 use Rattle.kernel_tables.specs.Ranges.{becomes_large, tables_wanted, AreSlotsLarge}
 use Rattle.kernel_tables.specs.TableState.{TableState, leads, IsSamePlace}
@@ -69,7 +69,7 @@ becomes_is state page pages frame slot b =
 pub record IsMappedTo (old now : TableState) (page pages frame done : ℕ) (rights : Rights) : Type 0 where
   pub place : IsSamePlace old now
   pub within : done ≤ pages
-  pub mapped : (k : ℕ) → k < done → leads now (page + k) ≡ Some (granted (frame + k) rights)
+  pub mapped : (k : ℕ) → k < done → leads now (page + k) ≡ Some (place_with (frame + k) rights)
   pub elsewhere : (other : ℕ) → IsTrue (is_canonical (other * 4096)) → ((k : ℕ) → k < done → other ≡ page + k → ⊥) → leads now other ≡ leads old other
   -- a slot that becomes large has no table still, and no table is gone
   pub no_table : (slot : ℕ) → Becomes old page pages frame slot → reach now.words old.root 3 (slot_of slot) ≡ None
@@ -77,7 +77,7 @@ pub record IsMappedTo (old now : TableState) (page pages frame done : ℕ) (righ
   -- such a slot is mapped as a whole
   pub whole : (slot : ℕ) → Becomes old page pages frame slot → 512 * slot < page + done → 512 * slot + 512 ≤ page + done
   pub large : (slot : ℕ) → Becomes old page pages frame slot → 512 * slot + 512 ≤ page + done →
-      large_of now.words old.root (slot_of slot) ≡ Some (granted (frame + (512 * slot - page)) rights)
+      large_of now.words old.root (slot_of slot) ≡ Some (place_with (frame + (512 * slot - page)) rights)
   pub small : (n : ℕ) → ((slot : ℕ) → Becomes old page pages frame slot → 512 * slot + 512 ≤ page + done → n ≡ slot_of slot → ⊥) →
       large_of now.words old.root n ≡ large_of old.words old.root n
   pub count : free_count now.free + missing_of old.words old.root page pages ≡ free_count old.free + missing_of now.words old.root page pages
@@ -300,7 +300,8 @@ module _ (old now : TableState) (page pages frame done : ℕ) (rights : Rights)
               omega arith;
         }
       where
-        mapped : (k : ℕ) → k < done + 1 → (k < done) ⊎ (done ≤ k) → leads new (page + k) ≡ Some (granted (frame + k) rights)
+        mapped : (k : ℕ) → k < done + 1 → (k < done) ⊎ (done ≤ k) → leads new (page + k) ≡ Some
+            (place_with (frame + k) rights)
         mapped k lt (inl x) = page_others only (page + k) (page_canonical page pages k range (omega arith)) (λ e. omega arith) ∙ before.mapped k x
         mapped k lt (inr x) =
             let e : k ≡ done = omega arith in
@@ -348,7 +349,7 @@ module _ (old now : TableState) (page pages frame done : ℕ) (rights : Rights)
               omega arith;
         }
       where
-        mapped : (k : ℕ) → k < done + 512 → (k < done) ⊎ (done ≤ k) → leads new (page + k) ≡ Some (granted (frame + k) rights)
+        mapped : (k : ℕ) → k < done + 512 → (k < done) ⊎ (done ≤ k) → leads new (page + k) ≡ Some (place_with (frame + k) rights)
         mapped k lt (inl x) =
             let t = mine.to in
             slot_others only (page + k) (page_canonical page pages k range (omega arith)) (λ e. omega arith) ∙ before.mapped k x
@@ -365,7 +366,7 @@ module _ (old now : TableState) (page pages frame done : ℕ) (rights : Rights)
 
         large : IsLargeAdded now.words new.words now.free new.free old.root ((page + done) / 512) run rights → (slot : ℕ) → Becomes old page pages frame slot →
             (slot ≡ (page + done) / 512) ⊎ (slot ≡ (page + done) / 512 → ⊥) → 512 * slot + 512 ≤ page + (done + 512) →
-            large_of new.words old.root (slot_of slot) ≡ Some (granted (frame + (512 * slot - page)) rights)
+            large_of new.words old.root (slot_of slot) ≡ Some (place_with (frame + (512 * slot - page)) rights)
         large added slot b (inl e) le =
             let f : frame + (512 * slot - page) ≡ 512 * run = let o = mine.from in omega arith in
             rw f (ap (λ s. large_of new.words old.root (slot_of s)) e ∙ added.large)
@@ -412,11 +413,11 @@ mapped_free old now page pages frame rights range unmapped all =
         let b : Becomes old page pages frame q.0 = record { from = q.2; to = q.3; aligned = q.4; no_table = ap (reach old.words old.root 3) q.1 ∙ none } in
         rw (sym (ap (reach now.words old.root 3) q.1) ∙ all.no_table q.0 b, none) refl
 
-    is_mapped : (k : ℕ) → k < pages → walk_of now.words old.root (page + k) ≡ Some (granted (frame + k) rights)
+    is_mapped : (k : ℕ) → k < pages → walk_of now.words old.root (page + k) ≡ Some (place_with (frame + k) rights)
     is_mapped k lk = sym (ap (λ r. walk_of now.words r (page + k)) all.place.root) ∙ all.mapped k lk
 
     unmapped_at : (k : ℕ) → k < pages → walk_of now.words old.root (page + k) ≡ None → ⊥
-    unmapped_at k lk none = some_not_none (walk_of now.words old.root (page + k)) (granted (frame + k) rights) (is_mapped k lk) none
+    unmapped_at k lk none = some_not_none (walk_of now.words old.root (page + k)) (place_with (frame + k) rights) (is_mapped k lk) none
 
     two : (k : ℕ) → k < pages → reach now.words old.root 2 (prefix_of (page + k) 2) ≡ None → ⊥
     two k lk none = unmapped_at k lk (walk_stops now.words old.root (page + k) none)
@@ -445,7 +446,7 @@ mapped_large old now page pages frame rights range all = λ slot canonical.
     go : (slot : ℕ) → IsTrue (is_canonical (512 * slot * 4096)) → (becomes_large old page pages frame
         slot ≡ true) ⊎ (becomes_large old page pages frame slot ≡ false) →
         large_of now.words old.root (slot_of slot)
-        ≡ cond (becomes_large old page pages frame slot) (Some (granted (frame + (512 * slot - page)) rights)) (large_of old.words old.root (slot_of slot))
+        ≡ cond (becomes_large old page pages frame slot) (Some (place_with (frame + (512 * slot - page)) rights)) (large_of old.words old.root (slot_of slot))
     go slot canonical (inl e) = let b = becomes old page pages frame slot e in rw e (all.large slot b b.to)
     go slot canonical (inr e) =
         rw e
@@ -468,7 +469,7 @@ mapped_only old now page pages frame rights all = range_only page pages all.plac
 
 pub mapped_range : (old now : TableState) (page pages frame : ℕ) (rights : Rights) → IsCanonicalRange page pages →
     ((k : ℕ) → k < pages → leads old (page + k) ≡ None) →
-    IsMappedTo old now page pages frame pages rights → IsRangeMapped old now page pages frame rights
+    IsMappedTo old now page pages frame pages rights → IsMappedInARow old now page pages frame rights
 mapped_range old now page pages frame rights range unmapped all = record {
   mapped = all.mapped;
   free = mapped_free old now page pages frame rights range unmapped all;

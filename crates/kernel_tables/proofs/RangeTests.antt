@@ -7,7 +7,7 @@ use Rattle.paging_core.specs.Large.{slot_of}
 use Rattle.paging_core.specs.Missing.{missing_of}
 use Rattle.paging_core.specs.Prefix.{prefix_of}
 use Rattle.paging_core.specs.Tables.{missing_at}
-use Rattle.paging_core.specs.Walk.{Place, place_of, page_in, reach, large_of, walk_of}
+use Rattle.paging_core.specs.Walk.{Place, mapped_place, page_in, reach, large_of, walk_of}
 use Rattle.paging_core.specs.declared.page_walk.Mapped.{Mapped}
 use Rattle.paging_core.proofs.Counts.{missing_one}
 use Rattle.paging_core.proofs.LastEntry.{some_or_none}
@@ -49,17 +49,18 @@ lowest_at test from (suc count) (suc k) lt h is =
     ∙ ap (λ n. Some n) s)
 
 -- what a walk finds is a place exactly if there is one
-pub found_some : (o : Option Mapped) (p : Option Place) → option_map place_of o ≡ p → is_some o ≡ true → is_some p ≡ true
+pub found_some : (o : Option Mapped) (p : Option Place) → option_map mapped_place o ≡ p → is_some o ≡ true →
+    is_some p ≡ true
 found_some None p e t = absurd (cc)
 found_some (Some x) p e t = rw (← e) refl
 
-pub found_none : (o : Option Mapped) (p : Option Place) → option_map place_of o ≡ p → is_some o ≡ false → p ≡ None
+pub found_none : (o : Option Mapped) (p : Option Place) → option_map mapped_place o ≡ p → is_some o ≡ false → p ≡ None
 found_none None p e t = sym e
 found_none (Some x) p e t = absurd (cc)
 
-pub found_there : (o : Option Mapped) (p : Option Place) → option_map place_of o ≡ p → is_some o ≡ true → IsSome p
+pub found_there : (o : Option Mapped) (p : Option Place) → option_map mapped_place o ≡ p → is_some o ≡ true → IsSome p
 found_there None p e t = absurd (cc)
-found_there (Some x) p e t = rw (← e) (let h : IsSome (Some (place_of x)) = refl in h)
+found_there (Some x) p e t = rw (← e) (let h : IsSome (Some (mapped_place x)) = refl in h)
 
 pub is_there : {A : Type 0} (o : Option A) → is_some o ≡ true → IsSome o
 is_there None e = absurd (cc)

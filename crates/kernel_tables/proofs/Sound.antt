@@ -4,14 +4,14 @@ use Rattle.std.proofs.lemmas.Bool.{cases_Bool, cases_eq, cases_lt}
 use Rattle.std.proofs.lemmas.Bool.Decides.{nat_tests}
 use Rattle.std.specs.Prelude.{is_some}
 use Rattle.paging_core.specs.Ahead.{ahead}
-use Rattle.paging_core.specs.Area.{Area, Whole, Part, in_area, padded}
+use Rattle.paging_core.specs.Area.{Area, Whole, Part, in_area, with_zeros_around}
 use Rattle.paging_core.specs.Memory.{frame_count}
 use Rattle.paging_core.specs.Missing.{missing_of}
 use Rattle.paging_core.specs.Mapping.{IsPageAdded}
 use Rattle.paging_core.specs.PageChanges.{removal, regrant, ArePagesChanged, only}
-use Rattle.paging_core.specs.Pool.{is_free, free_count, FreeIn}
+use Rattle.paging_core.specs.Pool.{is_frame_free, free_count, FreeIn}
 use Rattle.paging_core.specs.Tree.{IsTreeIn, IsUnmet}
-use Rattle.paging_core.specs.Walk.{Place, reach, walk_of, granted}
+use Rattle.paging_core.specs.Walk.{Place, reach, walk_of, place_with}
 use Rattle.paging_core.specs.declared.page_table.Rights.{Rights}
 use Rattle.paging_core.proofs.Ahead.{ahead_in, ahead_here}
 use Rattle.paging_core.proofs.AreaWalk.{area_walks}
@@ -23,10 +23,10 @@ use Rattle.kernel_tables.specs.TableState.{TableState, leads, limit_of, AreSound
 use Rattle.kernel_tables.specs.declared.faults.MapFault.TheVariants.{IsMapped, PastLimit, InArea, NoFrames}
 
 -- a frame outside the area is not free, and no table's
-pub outside_used : (area : Area) (free : List Bool) (count frame : ℕ) → FreeIn area free count → in_area area frame ≡ false → is_free free frame ≡ false
-outside_used area free count frame known out = go (cases_Bool (is_free free frame))
+pub outside_used : (area : Area) (free : List Bool) (count frame : ℕ) → FreeIn area free count → in_area area frame ≡ false → is_frame_free free frame ≡ false
+outside_used area free count frame known out = go (cases_Bool (is_frame_free free frame))
   where
-    go : (is_free free frame ≡ true) ⊎ (is_free free frame ≡ false) → is_free free frame ≡ false
+    go : (is_frame_free free frame ≡ true) ⊎ (is_frame_free free frame ≡ false) → is_frame_free free frame ≡ false
     go (inr x) = x
     go (inl x) = let y = free_inside area free count known frame x in absurd (cc)
 
@@ -53,8 +53,9 @@ added_outside area old new free free' root page frame rights added out before ot
   where
     go : (other % 2 ^ 36 ≡ page % 2 ^ 36) ⊎ (other % 2 ^ 36 ≡ page % 2 ^ 36 → ⊥) → in_area area place.frame ≡ false
     go (inl e) =
-        let p : Some (granted frame rights) ≡ Some place = sym added.there ∙ (same_page new root page other (sym e) ∙ is) in
-        let q : granted frame rights ≡ place = cc in
+        let p : Some (place_with frame rights) ≡ Some place = sym added.there
+        ∙ (same_page new root page other (sym e) ∙ is) in
+        let q : place_with frame rights ≡ place = cc in
         ap (in_area area) (sym (ap (λ r. r.frame) q)) ∙ out
     go (inr ne) = before other place (sym (added.pages other ne) ∙ is)
 
@@ -94,7 +95,7 @@ no_fault state page frame none =
 -- ---- the area at the start: each frame is free
 
 pub start_known : (area : Area) (ws words : List ℕ) (free : List Bool) (first limit end : ℕ) → area ≡ Part first end →
-    ws ≡ padded words first limit → free ≡ ahead first end →
+    ws ≡ with_zeros_around words first limit → free ≡ ahead first end →
     512 * first + length words ≡ 512 * end → end ≤ limit → FreeIn area free (frame_count ws)
 start_known area ws words free first limit end e f g size le =
     rw (e, f, g) (λ frame is.
@@ -102,22 +103,23 @@ start_known area ws words free first limit end e f g size le =
     let c = count_padded words first limit (omega arith) in
     (grind (arith, nat_tests), omega arith))
 
-pub start_some : (free : List Bool) (first end : ℕ) → free ≡ ahead first end → first < end → ((f : ℕ) → is_free free f ≡ false) → ⊥
+pub start_some : (free : List Bool) (first end : ℕ) → free ≡ ahead first end → first < end → ((f : ℕ) → is_frame_free free f ≡ false) → ⊥
 start_some free first end e lt none =
-    let h : is_free free first ≡ true = ap (λ flags. is_free flags first) e ∙ ahead_here first end lt in
+    let h : is_frame_free free first ≡ true = ap (λ flags. is_frame_free flags first) e ∙ ahead_here first end lt in
     let n = none first in
     let z : true ≡ false = sym h ∙ n in absurd (cc)
 
-pub start_root : (free : List Bool) (first end root : ℕ) → free ≡ ahead first end → first < end → is_free free root ≡ true →
-    ((lower : ℕ) → lower < root → is_free free lower ≡ false) → root ≡ first
+pub start_root : (free : List Bool) (first end root : ℕ) → free ≡ ahead first end → first < end →
+    is_frame_free free root ≡ true →
+    ((lower : ℕ) → lower < root → is_frame_free free lower ≡ false) → root ≡ first
 start_root free first end root e lt is lowest = go (cases_lt first root)
   where
     go : (first < root) ⊎ (root ≤ first) → root ≡ first
     go (inl more) =
-        let h : is_free free first ≡ true = ap (λ flags. is_free flags first) e ∙ ahead_here first end lt in
+        let h : is_frame_free free first ≡ true = ap (λ flags. is_frame_free flags first) e ∙ ahead_here first end lt in
         let n = lowest first more in
         let z : true ≡ false = sym h ∙ n in absurd (cc)
-    go (inr le) = let a = ahead_in first end root (sym (ap (λ flags. is_free flags root) e) ∙ is) in omega arith
+    go (inr le) = let a = ahead_in first end root (sym (ap (λ flags. is_frame_free flags root) e) ∙ is) in omega arith
 
 -- whatever else the memory holds, a processor finds the pages of sound tables
 pub walked_alike : (state : TableState) → AreSound state → IsWalkedAlike state

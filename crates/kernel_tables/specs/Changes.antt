@@ -5,7 +5,7 @@ use Rattle.paging_core.specs.Large.{slot_of, IsLargeAdded, IsLargeCleared}
 use Rattle.paging_core.specs.Mapping.{IsPageAdded}
 use Rattle.paging_core.specs.PageChanges.{removal, regrant, IsPageChanged}
 use Rattle.paging_core.specs.Pool.{free_count}
-use Rattle.paging_core.specs.Walk.{large_of, granted}
+use Rattle.paging_core.specs.Walk.{large_of, place_with}
 use Rattle.paging_core.specs.declared.page_table.Rights.{Rights}
 use Rattle.kernel_tables.specs.Faults.{split_of}
 use Rattle.kernel_tables.specs.Ranges.{tables_wanted, splits, AreSlotsLarge}
@@ -26,7 +26,7 @@ pub record ChangesNone (old new : TableState) : Type 0 where
 
 -- The page leads to the frame with the rights; of the words only the entries that this takes are changed.
 pub record IsPageMapped (old new : TableState) (page frame : ℕ) (rights : Rights) : Type 0 where
-  pub mapped : leads new page ≡ Some (granted frame rights)
+  pub mapped : leads new page ≡ Some (place_with frame rights)
   pub added : IsPageAdded old.words new.words old.free new.free old.root page frame rights
 
 -- The page led to the frame, and leads nowhere. A frame was taken if it was part of a large page; otherwise one entry is changed.
@@ -38,13 +38,13 @@ pub record IsPageUnmapped (old new : TableState) (page frame : ℕ) : Type 0 whe
 
 -- The page leads where it led, with these rights. A frame was taken if it was part of a large page; otherwise one entry is changed.
 pub record IsPageGranted (old new : TableState) (page : ℕ) (rights : Rights) : Type 0 where
-  pub granted : IfSome (leads old page) (λ place. leads new page ≡ Some (granted place.frame rights))
+  pub granted : IfSome (leads old page) (λ place. leads new page ≡ Some (place_with place.frame rights))
   pub free : free_count new.free + split_of old page ≡ free_count old.free
   pub changed : split_of old page ≡ 0 → IsPageChanged old.words new.words old.root page (regrant rights)
 
 -- The pages of the large page lead to 512 frames in a row, of which this is the first by its number as a large one.
 pub record IsLargeMapped (old new : TableState) (page frame : ℕ) (rights : Rights) : Type 0 where
-  pub mapped : (k : ℕ) → k < 512 → leads new (512 * page + k) ≡ Some (granted (512 * frame + k) rights)
+  pub mapped : (k : ℕ) → k < 512 → leads new (512 * page + k) ≡ Some (place_with (512 * frame + k) rights)
   pub added : IsLargeAdded old.words new.words old.free new.free old.root page frame rights
 
 -- The pages of the large page led to frames in a row from this one on, and lead nowhere.
@@ -55,8 +55,8 @@ pub record IsLargeUnmapped (old new : TableState) (page frame : ℕ) : Type 0 wh
 
 -- The pages lead to frames in a row with the rights. As many frames were taken as tables were wanted. Exactly the slots
 -- that became large are large, besides those that were before.
-pub record IsRangeMapped (old new : TableState) (page pages frame : ℕ) (rights : Rights) : Type 0 where
-  pub mapped : (k : ℕ) → k < pages → leads new (page + k) ≡ Some (granted (frame + k) rights)
+pub record IsMappedInARow (old new : TableState) (page pages frame : ℕ) (rights : Rights) : Type 0 where
+  pub mapped : (k : ℕ) → k < pages → leads new (page + k) ≡ Some (place_with (frame + k) rights)
   pub free : free_count new.free + tables_wanted old page pages frame ≡ free_count old.free
   pub large : AreSlotsLarge old new page pages frame rights
 
@@ -67,5 +67,5 @@ pub record IsRangeUnmapped (old new : TableState) (page pages : ℕ) : Type 0 wh
 
 -- Each of the pages leads where it led, with these rights. A frame was taken for each large page that was split.
 pub record IsRangeGranted (old new : TableState) (page pages : ℕ) (rights : Rights) : Type 0 where
-  pub granted : (k : ℕ) → k < pages → IfSome (leads old (page + k)) (λ was. leads new (page + k) ≡ Some (granted was.frame rights))
+  pub granted : (k : ℕ) → k < pages → IfSome (leads old (page + k)) (λ was. leads new (page + k) ≡ Some (place_with was.frame rights))
   pub free : free_count new.free + splits old page pages ≡ free_count old.free

@@ -7,7 +7,7 @@ use Rattle.paging_core.specs.Large.{slot_of}
 use Rattle.paging_core.specs.Missing.{is_missing, missing_of}
 use Rattle.paging_core.specs.Pool.{free_count}
 use Rattle.paging_core.specs.Prefix.{prefixes_from}
-use Rattle.paging_core.specs.Walk.{large_of, reach, granted}
+use Rattle.paging_core.specs.Walk.{large_of, reach, place_with}
 use Rattle.paging_core.specs.declared.page_table.Rights.{Rights}
 use Rattle.kernel_tables.specs.TableState.{TableState, leads, limit_of}
 use Rattle.kernel_tables.specs.declared.range_fault.RangeFault.{RangeFault}
@@ -58,7 +58,7 @@ abbrev pub AreSlotsLarge : TableState → TableState → ℕ → ℕ → ℕ →
 AreSlotsLarge old new page pages frame rights =
     (slot : ℕ) → IsTrue (is_canonical (512 * slot * 4096)) →
     large_of new.words new.root (slot_of slot)
-    ≡ (if becomes_large old page pages frame slot then Some (granted (frame + (512 * slot - page)) rights) else large_of old.words old.root (slot_of slot))
+    ≡ (if becomes_large old page pages frame slot then Some (place_with (frame + (512 * slot - page)) rights) else large_of old.words old.root (slot_of slot))
 
 -- the lowest page of the range that is not mapped
 abbrev pub lowest_unmapped : TableState → ℕ → ℕ → Option ℕ

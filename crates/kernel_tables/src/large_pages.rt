@@ -3,7 +3,7 @@ ghost use Rattle.std.specs.Prelude.{◌≡◌, ◌+◌, ◌*◌, ◌<◌, ◌≤
 ghost use Rattle.std.specs.Option.{option_map};
 ghost use Rattle.std.specs.Result.{result_err};
 ghost use Rattle.paging_core.specs.Large.{slot_of, missing_above};
-ghost use Rattle.paging_core.specs.Walk.{reach, large_of, place_of};
+ghost use Rattle.paging_core.specs.Walk.{reach, large_of, mapped_place};
 ghost use Rattle.kernel_tables.specs.Changes.{ChangesOnly, IsLargeMapped, IsLargeUnmapped};
 ghost use Rattle.kernel_tables.specs.Faults.{map_large_fault};
 ghost use Rattle.kernel_tables.specs.Flush.{no_page, pages_of_slot, IsFlushEnough};
@@ -18,7 +18,7 @@ use paging_core::{
 impl<'a> Tables<'a> {
     /// The large page, by its first frame, and its rights. None exactly if it is not mapped by one entry.
     pub fn large_page(&self, page: Page<Size2MiB>) -> Option<Mapped>
-        ensures { option_map place_of result ≡ large_of self.now.words self.now.root (slot_of page) }
+        ensures { option_map mapped_place result ≡ large_of self.now.words self.now.root (slot_of page) }
     {
         large_page(&self.memory, self.root, page)
     }

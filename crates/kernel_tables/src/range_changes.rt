@@ -7,7 +7,7 @@ ghost use Rattle.paging_core.specs.LargeChanges.{IsLargeSplit};
 ghost use Rattle.paging_core.specs.PageChanges.{removal, regrant, IsPageChanged};
 ghost use Rattle.paging_core.specs.Pool.{free_count};
 ghost use Rattle.paging_core.specs.Prefix.{prefix_of};
-ghost use Rattle.paging_core.specs.Walk.{reach, large_of, granted};
+ghost use Rattle.paging_core.specs.Walk.{reach, large_of, place_with};
 ghost use Rattle.kernel_tables.specs.Changes.{ChangesOnly, ChangesNone, IsRangeUnmapped, IsRangeGranted};
 ghost use Rattle.kernel_tables.specs.Faults.{entry_fault, split_of};
 ghost use Rattle.kernel_tables.specs.Flush.{page_alone, pages_of_slot, pages_of_range, IsFlushEnough};
@@ -127,7 +127,7 @@ impl<'a> Tables<'a> {
         ensures same { IsFalse result → self.new ≡ self.old }
         ensures only { ChangesOnly (page_alone page) self.old self.new }
         ensures free { self.new.free ≡ self.old.free }
-        ensures granted { IsTrue result → IfSome (leads self.old page) (λ was. leads self.new page ≡ Some (granted was.frame rights)) }
+        ensures granted { IsTrue result → IfSome (leads self.old page) (λ was. leads self.new page ≡ Some (place_with was.frame rights)) }
         ensures changed { IsTrue result → IsPageChanged self.old.words self.new.words self.old.root page (regrant rights) }
         ensures larges { (n : ℕ) → large_of self.new.words self.new.root n ≡ large_of self.old.words self.old.root n }
     {
@@ -169,7 +169,7 @@ impl<'a> Tables<'a> {
         requires small { IsSome (reach self.old.words self.old.root 3 (prefix_of page 3)) }
         ensures only { ChangesOnly (page_alone page) self.old self.new }
         ensures free { self.new.free ≡ self.old.free }
-        ensures granted { IfSome (leads self.old page) (λ was. leads self.new page ≡ Some (granted was.frame rights)) }
+        ensures granted { IfSome (leads self.old page) (λ was. leads self.new page ≡ Some (place_with was.frame rights)) }
         ensures changed { IsPageChanged self.old.words self.new.words self.old.root page (regrant rights) }
         ensures larges { (n : ℕ) → large_of self.new.words self.new.root n ≡ large_of self.old.words self.old.root n }
     {
@@ -181,7 +181,7 @@ impl<'a> Tables<'a> {
         requires { IsSome (large_of self.old.words self.old.root (slot_of slot)) }
         ensures only { ChangesOnly (pages_of_slot slot) self.old self.new }
         ensures free { self.new.free ≡ self.old.free }
-        ensures granted { (k : ℕ) → k < 512 → IfSome (leads self.old (512 * slot + k)) (λ was. leads self.new (512 * slot + k) ≡ Some (granted was.frame rights)) }
+        ensures granted { (k : ℕ) → k < 512 → IfSome (leads self.old (512 * slot + k)) (λ was. leads self.new (512 * slot + k) ≡ Some (place_with was.frame rights)) }
         ensures larges { (n : ℕ) → (n ≡ slot_of slot → ⊥) → large_of self.new.words self.new.root n ≡ large_of self.old.words self.old.root n }
     {
         protect_large(&mut self.memory, self.root, slot, rights);
@@ -215,7 +215,7 @@ impl<'a> Tables<'a> {
         requires within { AreWithin self.old page pages }
         ensures only { ChangesOnly (pages_of_range page pages) self.old self.new }
         ensures free { self.new.free ≡ self.old.free }
-        ensures granted { (k : ℕ) → k < pages → IfSome (leads self.old (page + k)) (λ was. leads self.new (page + k) ≡ Some (granted was.frame rights)) }
+        ensures granted { (k : ℕ) → k < pages → IfSome (leads self.old (page + k)) (λ was. leads self.new (page + k) ≡ Some (place_with was.frame rights)) }
     {
         let mut done = 0;
         while done < pages {

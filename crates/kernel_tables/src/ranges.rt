@@ -8,7 +8,7 @@ ghost use Rattle.paging_core.specs.Mapping.{IsPageAdded};
 ghost use Rattle.paging_core.specs.Missing.{missing_of};
 ghost use Rattle.paging_core.specs.Pool.{free_count};
 ghost use Rattle.paging_core.specs.Walk.{reach};
-ghost use Rattle.kernel_tables.specs.Changes.{ChangesOnly, IsRangeMapped};
+ghost use Rattle.kernel_tables.specs.Changes.{ChangesOnly, IsMappedInARow};
 ghost use Rattle.kernel_tables.specs.Flush.{no_page, page_alone, pages_of_slot, pages_of_range, IsFlushEnough};
 ghost use Rattle.kernel_tables.specs.Ranges.{tables_wanted, map_range_fault};
 ghost use Rattle.kernel_tables.specs.TableState.{leads, limit_of};
@@ -98,7 +98,7 @@ impl<'a> Tables<'a> {
         requires outside { area_meets self.old.area frame pages ≡ false }
         requires room { tables_wanted self.old page pages frame ≤ free_count self.old.free }
         ensures only { ChangesOnly (pages_of_range page pages) self.old self.new }
-        ensures mapped { IsRangeMapped self.old self.new page pages frame rights }
+        ensures mapped { IsMappedInARow self.old self.new page pages frame rights }
     {
         let mut done = 0;
         while done < pages {
@@ -129,7 +129,7 @@ impl<'a> Tables<'a> {
         ensures same { OnErr result (self.new ≡ self.old) }
         ensures only { ChangesOnly (pages_of_range page pages) self.old self.new }
         ensures flush { IsFlushEnough self.old self.new no_page }
-        ensures mapped { OnOk result (IsRangeMapped self.old self.new page pages frame rights) }
+        ensures mapped { OnOk result (IsMappedInARow self.old self.new page pages frame rights) }
     {
         if pages == 0 {
             return Ok(());

@@ -5,7 +5,7 @@ ghost use Rattle.paging_core.specs.Address.{is_canonical};
 ghost use Rattle.paging_core.specs.Area.{Part};
 ghost use Rattle.paging_core.specs.Missing.{missing_of};
 ghost use Rattle.paging_core.specs.Pool.{free_count};
-ghost use Rattle.paging_core.specs.Walk.{place_of};
+ghost use Rattle.paging_core.specs.Walk.{mapped_place};
 ghost use Rattle.kernel_tables.specs.Changes.{ChangesOnly, IsPageMapped, IsPageUnmapped, IsPageGranted};
 ghost use Rattle.kernel_tables.specs.Faults.{map_fault, entry_fault, split_of};
 ghost use Rattle.kernel_tables.specs.Flush.{no_page, page_alone, IsFlushEnough};
@@ -79,7 +79,7 @@ impl<'a> Tables<'a> {
 
     /// Where the page leads, and with which rights.
     pub fn walk(&self, page: Page) -> Option<Mapped>
-        ensures { option_map place_of result ≡ leads self.now page }
+        ensures { option_map mapped_place result ≡ leads self.now page }
     {
         walk(&self.memory, self.root, page)
     }

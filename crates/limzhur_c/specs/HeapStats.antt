@@ -3,7 +3,7 @@ use Rattle.std.specs.Prelude.{◌≡◌, ◌+◌}
 use Rattle.dlmalloc.specs.declared.heap.Dlmalloc.{Dlmalloc}
 use Rattle.heap_arena.specs.Arena.{IsAbove}
 use Rattle.heap_arena.specs.declared.arena.Arena.{Arena}
-use Rattle.heap_library.specs.Checked.{heap_state}
+use Rattle.heap_library.specs.Checked.{arena_heap_state}
 use Rattle.heap_library.specs.Counted.{HasBlocks}
 use Rattle.limzhur_c.specs.declared.exports.Stats.{Stats}
 
@@ -12,4 +12,4 @@ pub record HoldsStats (heap : Dlmalloc Arena) (stats : Stats) : Type 0 where
   pub top : heap.system.base + stats.used ≡ heap.system.top
   -- each granted byte is among them
   pub above : IsAbove heap.system (heap.system.base + stats.used)
-  pub blocks : HasBlocks (heap_state heap) stats.blocks
+  pub blocks : HasBlocks (arena_heap_state heap) stats.blocks

@@ -62,14 +62,14 @@ range_code (Some (range.NoFrames wanting)) = 5
 range_code (Some (range.NotMapped page)) = 6
 
 -- what C is told of a refused range, in place of what was there: the address of a page, or how many frames are wanting
-abbrev pub told_of : Option RangeFault → ℕ → ℕ
-told_of None was = was
-told_of (Some range.NotCanonical) was = was
-told_of (Some (range.IsMapped page)) was = page * 4096
-told_of (Some range.PastLimit) was = was
-told_of (Some range.InArea) was = was
-told_of (Some (range.NoFrames wanting)) was = wanting
-told_of (Some (range.NotMapped page)) was = page * 4096
+abbrev pub fault_detail : Option RangeFault → ℕ → ℕ
+fault_detail None was = was
+fault_detail (Some range.NotCanonical) was = was
+fault_detail (Some (range.IsMapped page)) was = page * 4096
+fault_detail (Some range.PastLimit) was = was
+fault_detail (Some range.InArea) was = was
+fault_detail (Some (range.NoFrames wanting)) was = wanting
+fault_detail (Some (range.NotMapped page)) was = page * 4096
 
 -- the cause for which the pages from that of an address on are not mapped to the frames from `frame` on
 abbrev pub map_range_cause : TableState → ℕ → ℕ → ℕ → Option RangeFault

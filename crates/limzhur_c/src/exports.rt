@@ -11,7 +11,7 @@ ghost use Rattle.sound_heap.specs.declared.heap_error.HeapError.{HeapError};
 ghost use Rattle.heap_library.specs.Calls.{IsBlockGiven, IsBlockResized};
 ghost use Rattle.heap_library.specs.Library.{IsResizeRefused};
 ghost use Rattle.sound_heap.specs.Heap.{HasBlock, usable, IsIntact, IsRequestRefused};
-ghost use Rattle.heap_library.specs.Checked.{follows, refuses, denies, heap_state};
+ghost use Rattle.heap_library.specs.Checked.{arena_follows, arena_refuses, arena_denies, arena_heap_state};
 ghost use Rattle.heap_library.specs.Room.{IsRefused, IsRefusedResize};
 ghost use Rattle.limzhur_c.specs.HeapStats.{HoldsStats};
 
@@ -21,9 +21,9 @@ use crate::handle::Handle;
 #[unsafe(no_mangle)]
 pub extern "C" fn limzhur_malloc(handle: &mut Handle, size: u64, align: u64) -> u64
     ensures ok { result ≢ 0 → IsBlockGiven handle.old.heap size align false result handle.new.heap }
-    ensures err { result ≡ 0 → (error : HeapError) × IsRequestRefused regions_of word_of follows refuses denies handle.old.heap size align error handle.new.heap }
+    ensures err { result ≡ 0 → (error : HeapError) × IsRequestRefused regions_of word_of arena_follows arena_refuses arena_denies handle.old.heap size align error handle.new.heap }
     ensures refused { (result ≡ 0) ↔ IsRefused handle.old.heap size align }
-    ensures apart { BlocksAreApart (heap_state handle.new.heap) }
+    ensures apart { BlocksAreApart (arena_heap_state handle.new.heap) }
 {
     match handle.open().malloc(size, align) {
         Ok(address) => address,
@@ -35,9 +35,9 @@ pub extern "C" fn limzhur_malloc(handle: &mut Handle, size: u64, align: u64) -> 
 #[unsafe(no_mangle)]
 pub extern "C" fn limzhur_calloc(handle: &mut Handle, size: u64, align: u64) -> u64
     ensures ok { result ≢ 0 → IsBlockGiven handle.old.heap size align true result handle.new.heap }
-    ensures err { result ≡ 0 → (error : HeapError) × IsRequestRefused regions_of word_of follows refuses denies handle.old.heap size align error handle.new.heap }
+    ensures err { result ≡ 0 → (error : HeapError) × IsRequestRefused regions_of word_of arena_follows arena_refuses arena_denies handle.old.heap size align error handle.new.heap }
     ensures refused { (result ≡ 0) ↔ IsRefused handle.old.heap size align }
-    ensures apart { BlocksAreApart (heap_state handle.new.heap) }
+    ensures apart { BlocksAreApart (arena_heap_state handle.new.heap) }
 {
     match handle.open().calloc(size, align) {
         Ok(address) => address,
@@ -50,9 +50,9 @@ pub extern "C" fn limzhur_calloc(handle: &mut Handle, size: u64, align: u64) -> 
 #[unsafe(no_mangle)]
 pub extern "C" fn limzhur_realloc(handle: &mut Handle, address: u64, size: u64) -> u64
     ensures ok { result ≢ 0 → IsBlockResized handle.old.heap address size result handle.new.heap }
-    ensures err { result ≡ 0 → (error : HeapError) × IsResizeRefused regions_of word_of follows refuses denies handle.old.heap address size error handle.new.heap }
+    ensures err { result ≡ 0 → (error : HeapError) × IsResizeRefused regions_of word_of arena_follows arena_refuses arena_denies handle.old.heap address size error handle.new.heap }
     ensures refused { (result ≡ 0) ↔ IsRefusedResize handle.old.heap address size }
-    ensures apart { BlocksAreApart (heap_state handle.new.heap) }
+    ensures apart { BlocksAreApart (arena_heap_state handle.new.heap) }
 {
     match handle.open().realloc(address, size) {
         Ok(to) => to,
@@ -63,8 +63,8 @@ pub extern "C" fn limzhur_realloc(handle: &mut Handle, address: u64, size: u64) 
 /// Gives a block back. False if none begins at the address; nothing then changes.
 #[unsafe(no_mangle)]
 pub extern "C" fn limzhur_free(handle: &mut Handle, address: u64) -> bool
-    ensures answer { IsTrue result ↔ HasBlock (heap_state handle.old.heap) address }
-    ensures freed { result ≡ true → IsFreed regions_of word_of follows true true 1 handle.old.heap address handle.new.heap }
+    ensures answer { IsTrue result ↔ HasBlock (arena_heap_state handle.old.heap) address }
+    ensures freed { result ≡ true → IsFreed regions_of word_of arena_follows true true 1 handle.old.heap address handle.new.heap }
     ensures same { result ≡ false → handle.new.heap ≡ handle.old.heap }
 {
     handle.open().free(address)
@@ -74,7 +74,7 @@ pub extern "C" fn limzhur_free(handle: &mut Handle, address: u64) -> bool
 /// back.
 #[unsafe(no_mangle)]
 pub extern "C" fn limzhur_trim(handle: &mut Handle, pad: u64) -> bool
-    ensures { IsTrimmed regions_of word_of follows true true 1 handle.old.heap pad result handle.new.heap }
+    ensures { IsTrimmed regions_of word_of arena_follows true true 1 handle.old.heap pad result handle.new.heap }
 {
     handle.open().trim(pad)
 }
@@ -83,7 +83,7 @@ pub extern "C" fn limzhur_trim(handle: &mut Handle, pad: u64) -> bool
 #[unsafe(no_mangle)]
 pub extern "C" fn limzhur_set_granularity(handle: &mut Handle, bytes: u64) -> bool
     ensures answer { IsTrue result ↔ IsGranularity bytes }
-    ensures state { heap_state handle.new.heap ≡ record (heap_state handle.old.heap) { granularity = if result then bytes else handle.old.heap.granularity } }
+    ensures state { arena_heap_state handle.new.heap ≡ record (arena_heap_state handle.old.heap) { granularity = if result then bytes else handle.old.heap.granularity } }
     ensures system { handle.new.heap.system ≡ handle.old.heap.system }
     ensures index { KeepsIndex regions_of word_of handle.old.heap handle.new.heap }
 {
@@ -94,7 +94,7 @@ pub extern "C" fn limzhur_set_granularity(handle: &mut Handle, bytes: u64) -> bo
 /// greatest number.
 #[unsafe(no_mangle)]
 pub extern "C" fn limzhur_set_release_rate(handle: &mut Handle, rate: u64)
-    ensures state { heap_state handle.new.heap ≡ record (heap_state handle.old.heap) { rate = rate; countdown = countdown_from rate } }
+    ensures state { arena_heap_state handle.new.heap ≡ record (arena_heap_state handle.old.heap) { rate = rate; countdown = countdown_from rate } }
     ensures system { handle.new.heap.system ≡ handle.old.heap.system }
     ensures index { KeepsIndex regions_of word_of handle.old.heap handle.new.heap }
 {
@@ -104,8 +104,8 @@ pub extern "C" fn limzhur_set_release_rate(handle: &mut Handle, rate: u64)
 /// The bytes of the block at an address; 0 if none begins there.
 #[unsafe(no_mangle)]
 pub extern "C" fn limzhur_usable_size(handle: &mut Handle, address: u64) -> u64
-    ensures some { HasBlock (heap_state handle.old.heap) address → result ≡ usable (heap_state handle.old.heap) address }
-    ensures none { (HasBlock (heap_state handle.old.heap) address → ⊥) → result ≡ 0 }
+    ensures some { HasBlock (arena_heap_state handle.old.heap) address → result ≡ usable (arena_heap_state handle.old.heap) address }
+    ensures none { (HasBlock (arena_heap_state handle.old.heap) address → ⊥) → result ≡ 0 }
     ensures same { handle.new.heap ≡ handle.old.heap }
 {
     match handle.open().usable_size(address) {
@@ -129,7 +129,7 @@ pub struct Stats {
 pub extern "C" fn limzhur_stats(handle: &mut Handle, stats: &mut Stats)
     ensures holds { HoldsStats handle.old.heap stats.new }
     ensures intact { IsIntact regions_of word_of handle.old.heap }
-    ensures placed { ArePlaced (regions_of handle.old.heap.system) (heap_state handle.old.heap) }
+    ensures placed { ArePlaced (regions_of handle.old.heap.system) (arena_heap_state handle.old.heap) }
     ensures same { handle.new.heap ≡ handle.old.heap }
 {
     let heap = handle.open();

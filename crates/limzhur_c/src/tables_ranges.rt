@@ -1,8 +1,8 @@
 // What a C program or kernel calls of ranges of pages.
 ghost use Rattle.std.specs.Prelude.{◌≡◌, ◌≢◌, ◌/◌, Some};
-ghost use Rattle.kernel_tables.specs.Changes.{ChangesOnly, IsRangeMapped, IsRangeUnmapped, IsRangeGranted};
+ghost use Rattle.kernel_tables.specs.Changes.{ChangesOnly, IsMappedInARow, IsRangeUnmapped, IsRangeGranted};
 ghost use Rattle.kernel_tables.specs.Flush.{pages_of_range};
-ghost use Rattle.limzhur_c.specs.TablesCodes.{range_code, told_of, map_range_cause, change_range_cause};
+ghost use Rattle.limzhur_c.specs.TablesCodes.{range_code, fault_detail, map_range_cause, change_range_cause};
 
 use crate::tables_handle::TablesHandle;
 use kernel_tables::RangeFault;
@@ -11,7 +11,7 @@ use paging_core::{Page, PhysAddr, PhysFrame, Rights, VirtAddr};
 /// The number of a refusal, and in `told` its page or how many frames are wanting, if it has either.
 fn refuse(fault: RangeFault, told: &mut u64) -> u32
     ensures code { result ≡ range_code (Some fault) }
-    ensures told { told.new ≡ told_of (Some fault) told.old }
+    ensures told { told.new ≡ fault_detail (Some fault) told.old }
 {
     match fault {
         RangeFault::NotCanonical => 1,
@@ -46,8 +46,8 @@ pub extern "C" fn limzhur_map_range(
     told: &mut u64,
 ) -> u32
     ensures answer { result ≡ range_code (map_range_cause handle.old.tables address pages frame) }
-    ensures told { told.new ≡ told_of (map_range_cause handle.old.tables address pages frame) told.old }
-    ensures mapped { result ≡ 0 → IsRangeMapped handle.old.tables handle.new.tables (address / 4096) pages frame (record { write = write; user = user; fetch = fetch }) }
+    ensures told { told.new ≡ fault_detail (map_range_cause handle.old.tables address pages frame) told.old }
+    ensures mapped { result ≡ 0 → IsMappedInARow handle.old.tables handle.new.tables (address / 4096) pages frame (record { write = write; user = user; fetch = fetch }) }
     ensures only { ChangesOnly (pages_of_range (address / 4096) pages) handle.old.tables handle.new.tables }
     ensures same { result ≢ 0 → handle.new.tables ≡ handle.old.tables }
 {
@@ -78,7 +78,7 @@ pub extern "C" fn limzhur_unmap_range(
     told: &mut u64,
 ) -> u32
     ensures answer { result ≡ range_code (change_range_cause handle.old.tables address pages) }
-    ensures told { told.new ≡ told_of (change_range_cause handle.old.tables address pages) told.old }
+    ensures told { told.new ≡ fault_detail (change_range_cause handle.old.tables address pages) told.old }
     ensures unmapped { result ≡ 0 → IsRangeUnmapped handle.old.tables handle.new.tables (address / 4096) pages }
     ensures only { ChangesOnly (pages_of_range (address / 4096) pages) handle.old.tables handle.new.tables }
     ensures same { result ≢ 0 → handle.new.tables ≡ handle.old.tables }
@@ -108,7 +108,7 @@ pub extern "C" fn limzhur_protect_range(
     told: &mut u64,
 ) -> u32
     ensures answer { result ≡ range_code (change_range_cause handle.old.tables address pages) }
-    ensures told { told.new ≡ told_of (change_range_cause handle.old.tables address pages) told.old }
+    ensures told { told.new ≡ fault_detail (change_range_cause handle.old.tables address pages) told.old }
     ensures granted { result ≡ 0 → IsRangeGranted handle.old.tables handle.new.tables (address / 4096) pages (record { write = write; user = user; fetch = fetch }) }
     ensures only { ChangesOnly (pages_of_range (address / 4096) pages) handle.old.tables handle.new.tables }
     ensures same { result ≢ 0 → handle.new.tables ≡ handle.old.tables }

@@ -4,9 +4,9 @@ use Rattle.std.proofs.lemmas.Bool.{cases_lt}
 use Rattle.std.proofs.lemmas.Bool.Decides.{nat_tests}
 use Rattle.std.specs.List.{AllByRecursion, list_any}
 use Rattle.heap_model.specs.declared.region.Region.{Region}
-use Rattle.heap_model.specs.State.{State, end_of}
+use Rattle.heap_model.specs.State.{State, end_of_region}
 use Rattle.heap_model.specs.Place.{with_region, meets, meets_any, all_regions}
-use Rattle.heap_model.specs.Run.{AreInOrder}
+use Rattle.heap_model.specs.Run.{AreRegionsInOrder}
 use Rattle.heap_model.proofs.Booleans.{or_neither, neither_or}
 use Rattle.heap_model.proofs.Regions.{any_all, any_with, all_with}
 use Rattle.mapped_regions.specs.Regions.{meets_heap, is_at, without_region}
@@ -158,7 +158,7 @@ put_back start pages r (x ∷ xs) is none = go (nat_lt r.start x.start) (put_bac
 
 -- a region of the user leaves all regions as it leaves the user's, if those stand apart and none of the heap is just
 -- there
-pub left_users : (start pages : ℕ) (heap users : List Region) → 0 < pages → Sorted heap → list_any (is_at start pages) heap ≡ false → AreInOrder users →
+pub left_users : (start pages : ℕ) (heap users : List Region) → 0 < pages → Sorted heap → list_any (is_at start pages) heap ≡ false → AreRegionsInOrder users →
     fold (λ list r. with_region r list) heap (without_region start pages users) ≡ without_region start pages (fold (λ list r. with_region r list) heap users)
 left_users start pages heap [] some sorted none order = sym (absent start pages heap none)
   where
@@ -180,7 +180,7 @@ left_users start pages heap (user ∷ users) some sorted none order = go (is_at 
         other x less above = grind (arith, nat_tests)
 
     go : (b : Bool) → is_at start pages user ≡ b →
-        (list_any (is_at start pages) (with_region user heap) ≡ false → AreInOrder users →
+        (list_any (is_at start pages) (with_region user heap) ≡ false → AreRegionsInOrder users →
         fold (λ list r. with_region r list) (with_region user heap) (without_region start pages users) ≡ without_region
         start pages (fold (λ list r. with_region r list) (with_region user heap) users)) →
         fold (λ list r. with_region r list) heap (without_region start pages (user ∷ users)) ≡ without_region start pages
@@ -189,7 +189,7 @@ left_users start pages heap (user ∷ users) some sorted none order = go (is_at 
         let same : user.start ≡ start = grind (arith, nat_tests) in
         let long : user.pages ≡ pages = grind (arith, nat_tests) in
         rw is (ap (λ list. fold (λ list r. with_region r list) list users) (sym (put_back start pages user heap is none))
-        ∙ left_all start pages (with_region user heap) users (sorted_with user heap sorted) (behind (end_of user) users (omega arith) order.0))
+        ∙ left_all start pages (with_region user heap) users (sorted_with user heap sorted) (behind (end_of_region user) users (omega arith) order.0))
     go false is later =
         let none_now : list_any (is_at start pages) (with_region user heap) ≡ false = any_with (is_at start pages) user heap
         ∙ or_neither (is_at start pages user) (list_any (is_at start pages) heap) is none in

@@ -11,8 +11,8 @@ use Rattle.meminterval.specs.declared.interval.Interval.{Interval}
 use Rattle.meminterval.specs.Entries.{AllItems, with_entry, without_key}
 use Rattle.meminterval.specs.Interval.{by_ends, with_end, HasOwnStart}
 use Rattle.mapped_regions.specs.declared.region_tree.Kind.{Kind}
-use Rattle.mapped_regions.specs.Pairs.{region_of, regions_of, Follow}
-use Rattle.mapped_regions.specs.Regions.{is_at, without_region, with_pages}
+use Rattle.mapped_regions.specs.Pairs.{region_of, pair_regions, Follow}
+use Rattle.mapped_regions.specs.Regions.{is_at, without_region, with_page_count}
 
 pub follow_length : (from : ℕ) (es : List (Interval ℕ × Kind)) (to : ℕ) → Follow from es to → length es + from ≤ to
 follow_length from [] to f = omega (arith, f)
@@ -39,15 +39,16 @@ greater x e h = let c : nat_cmp x.0.start e.0.start ≡ Greater = sym (nat_cmp_i
 
 pub record IsAdded (x : Interval ℕ × Kind) (from : ℕ) (es : List (Interval ℕ × Kind)) (to : ℕ) : Type 0 where
   pub follow : Follow from (with_entry (by_ends nat_cmp) x es) to
-  pub regions : regions_of (with_entry (by_ends nat_cmp) x es) ≡ with_region (region_of x) (regions_of es)
+  pub regions : pair_regions (with_entry (by_ends nat_cmp) x es) ≡ with_region (region_of x) (pair_regions es)
 
 pub added : (x : Interval ℕ × Kind) (from : ℕ) (es : List (Interval ℕ × Kind)) (to : ℕ) → Follow from es to →
     x.0.start < x.0.end → from ≤ x.0.start → x.0.end ≤ to → meets_any (4096 * x.0.start) (x.0.end - x.0.start)
-    (regions_of es) ≡ false → IsAdded x from es to
+    (pair_regions es) ≡ false → IsAdded x from es to
 added x from [] to f some above below h = record { follow = (above, some, below); regions = refl }
 added x from (e ∷ es) to f some above below h = by_side (beside x e some f.1 apart.0) (λ over. added x e.0.end es to f.2 some over below apart.1) where
-  apart : (meets (4096 * x.0.start) (x.0.end - x.0.start) (region_of e) ≡ false) × (meets_any (4096 * x.0.start) (x.0.end - x.0.start) (regions_of es) ≡ false)
-  apart = neither (meets (4096 * x.0.start) (x.0.end - x.0.start) (region_of e)) (meets_any (4096 * x.0.start) (x.0.end - x.0.start) (regions_of es)) h
+  apart : (meets (4096 * x.0.start) (x.0.end - x.0.start) (region_of e) ≡ false) × (meets_any (4096 * x.0.start)
+      (x.0.end - x.0.start) (pair_regions es) ≡ false)
+  apart = neither (meets (4096 * x.0.start) (x.0.end - x.0.start) (region_of e)) (meets_any (4096 * x.0.start) (x.0.end - x.0.start) (pair_regions es)) h
 
   by_side : (x.0.end ≤ e.0.start) ⊎ (e.0.end ≤ x.0.start) → (e.0.end ≤ x.0.start → IsAdded x e.0.end es to) → IsAdded x from (e ∷ es) to
   by_side (inl before) rest =
@@ -69,7 +70,7 @@ same_pages i e h s = grind (arith, nat_tests)
 
 pub record IsRemoved (i : Interval ℕ) (from : ℕ) (es : List (Interval ℕ × Kind)) (to : ℕ) : Type 0 where
   pub follow : Follow from (without_key (by_ends nat_cmp) i es) to
-  pub regions : regions_of (without_key (by_ends nat_cmp) i es) ≡ without_region (4096 * i.start) (i.end - i.start) (regions_of es)
+  pub regions : pair_regions (without_key (by_ends nat_cmp) i es) ≡ without_region (4096 * i.start) (i.end - i.start) (pair_regions es)
 
 pub removed : (i : Interval ℕ) (from : ℕ) (es : List (Interval ℕ × Kind)) (to : ℕ) → Follow from es to → i.start ≤ i.end → IsRemoved i from es to
 removed i from [] to f h = record { follow = f; regions = refl }
@@ -91,7 +92,7 @@ is_equal Greater h = let no : false ≡ true = h in absurd (cc)
 
 pub record IsCut (i : Interval ℕ) (end from : ℕ) (es : List (Interval ℕ × Kind)) (to : ℕ) : Type 0 where
   pub follow : Follow from (map (with_end nat_cmp i end) es) to
-  pub regions : regions_of (map (with_end nat_cmp i end) es) ≡ map (with_pages (4096 * i.start) (i.end - i.start) (end - i.start)) (regions_of es)
+  pub regions : pair_regions (map (with_end nat_cmp i end) es) ≡ map (with_page_count (4096 * i.start) (i.end - i.start) (end - i.start)) (pair_regions es)
 
 equal_ends : (i j : Interval ℕ) → is_eq (by_ends nat_cmp i j) ≡ true → (i.start ≡ j.start) × (i.end ≡ j.end)
 equal_ends i j h = (grind (arith, nat_tests), grind (arith, nat_tests))
@@ -115,7 +116,7 @@ cut i end from (e ∷ es) to f some shorter = by_test (is_eq (by_ends nat_cmp i 
           pages = end - n;
           heap = e.1.heap;
           rights = e.1.rights;
-        } ∷ regions_of (map (with_end nat_cmp i end) es)) (sym ends.0)
+        } ∷ pair_regions (map (with_end nat_cmp i end) es)) (sym ends.0)
             ∙ ap (λ rs. record {
               start = 4096 * e.0.start;
               pages = end - i.start;
@@ -141,26 +142,26 @@ own_behind i from (e ∷ es) to f h = (
 
 -- if a pair's region is listed, its interval's start is its own
 listed_from : (i : Interval ℕ) (from : ℕ) (es : List (Interval ℕ × Kind)) (to : ℕ) → Follow from es to →
-    list_any (is_at (4096 * i.start) (i.end - i.start)) (regions_of es) ≡ true → from ≤ i.start
+    list_any (is_at (4096 * i.start) (i.end - i.start)) (pair_regions es) ≡ true → from ≤ i.start
 listed_from i from [] to f h = let no : false ≡ true = h in absurd (cc)
 listed_from i from (e ∷ es) to f h = by_test (is_at (4096 * i.start) (i.end - i.start) (region_of e)) refl (listed_from i e.0.end es to f.2) where
   by_test : (t : Bool) → is_at (4096 * i.start) (i.end - i.start) (region_of e) ≡ t →
-      (list_any (is_at (4096 * i.start) (i.end - i.start)) (regions_of es) ≡ true → e.0.end ≤ i.start) → from ≤ i.start
+      (list_any (is_at (4096 * i.start) (i.end - i.start)) (pair_regions es) ≡ true → e.0.end ≤ i.start) → from ≤ i.start
   by_test true is rest = grind (arith, nat_tests, f.0)
   by_test false is rest = let r = rest (rw is at h) in omega (arith, r, f.0, f.1)
 
 pub own_start : (i : Interval ℕ) (from : ℕ) (es : List (Interval ℕ × Kind)) (to : ℕ) → Follow from es to → i.start ≤ i.end →
-    list_any (is_at (4096 * i.start) (i.end - i.start)) (regions_of es) ≡ true → AllItems (HasOwnStart nat_cmp i) es
+    list_any (is_at (4096 * i.start) (i.end - i.start)) (pair_regions es) ≡ true → AllItems (HasOwnStart nat_cmp i) es
 own_start i from [] to f s h = tt
 own_start i from (e ∷ es) to f s h = by_test (is_at (4096 * i.start) (i.end - i.start) (region_of e)) refl (own_start i e.0.end es to f.2 s) where
   by_test : (t : Bool) → is_at (4096 * i.start) (i.end - i.start) (region_of e) ≡ t →
-      (list_any (is_at (4096 * i.start) (i.end - i.start)) (regions_of es) ≡ true → AllItems (HasOwnStart nat_cmp i) es) →
+      (list_any (is_at (4096 * i.start) (i.end - i.start)) (pair_regions es) ≡ true → AllItems (HasOwnStart nat_cmp i) es) →
       AllItems (HasOwnStart nat_cmp i) (e ∷ es)
   by_test true is rest =
       let same : is_eq (by_ends nat_cmp i e.0) ≡ true = same_pages i e s f.1 ∙ is in
       let ends = equal_ends i e.0 same in
       ((λ q. is_equal (by_ends nat_cmp i e.0) same), own_behind i e.0.end es to f.2 (omega (arith, ends.0, f.1)))
   by_test false is rest =
-      let there : list_any (is_at (4096 * i.start) (i.end - i.start)) (regions_of es) ≡ true = rw is at h in
+      let there : list_any (is_at (4096 * i.start) (i.end - i.start)) (pair_regions es) ≡ true = rw is at h in
       let behind = listed_from i e.0.end es to f.2 there in
       ((λ q. (let t = equal_start i e.0 q in absurd (omega (arith, t, behind, f.1)))), rest there)

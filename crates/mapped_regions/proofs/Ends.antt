@@ -5,62 +5,64 @@ use Rattle.std.specs.List.{list_any, AllByRecursion}
 use Rattle.std.proofs.lemmas.Bool.Decides.{nat_tests}
 use Rattle.paging_core.specs.Prefix.{prefix_of}
 use Rattle.paging_core.specs.Walk.{large_of}
-use Rattle.page_ranges.specs.RangeUnmapping.{NoLargePageReachesOver, is_cut}
+use Rattle.page_ranges.specs.RangeUnmapping.{NoLargePageReachesOver, cuts_large_page}
 use Rattle.page_ranges.proofs.Unmapped.{cut_or_not}
 use Rattle.heap_model.specs.declared.region.Region.{Region}
-use Rattle.heap_model.specs.State.{end_of}
+use Rattle.heap_model.specs.State.{end_of_region}
 use Rattle.heap_model.specs.Place.{meets}
 use Rattle.heap_model.specs.Slots.{has_whole, is_whole_in}
 use Rattle.heap_model.specs.Machine.{Paged}
 use Rattle.heap_model.proofs.Booleans.{or_cases, or_left, or_right}
 use Rattle.heap_model.proofs.Regions.{page_canonical}
 use Rattle.heap_model.proofs.Slots.{page_slot, page_number, whole_true, whole_bounds}
-use Rattle.mapped_regions.specs.Regions.{AreLaid, IsBoundary, is_at, without_region, cut_of}
+use Rattle.mapped_regions.specs.Regions.{AreLaid, IsRegionBoundary, is_at, without_region, cut_regions}
 use Rattle.mapped_regions.specs.Mapped.{IsPageRange, IsRegion, IsMapped}
 
 -- ---- regions that are laid end where one begins, and where one ends
 
-behind : (address from to : ℕ) (list : List Region) → AreLaid from list to → address ≤ from → IsBoundary address list
+behind : (address from to : ℕ) (list : List Region) → AreLaid from list to → address ≤ from → IsRegionBoundary address list
 behind address from to [] laid less = tt
 behind address from to (first ∷ rest) laid less = (
   inr (omega (arith, less, laid.0)),
-  behind address (end_of first) to rest laid.3 (omega (arith, less, laid.0)),
+  behind address (end_of_region first) to rest laid.3 (omega (arith, less, laid.0)),
 )
 
 listed_from : (start pages from to : ℕ) (list : List Region) → AreLaid from list to → list_any (is_at start pages) list ≡ true → from ≤ start
 listed_from start pages from to [] laid there = cc
 listed_from start pages from to (first ∷ rest) laid there = elim (or_cases (is_at start pages first) (list_any (is_at start pages) rest) there) [
   | inl here ↦ (let low = laid.0 in grind (arith, nat_tests))
-  | inr later ↦ (let more = listed_from start pages (end_of first) to rest laid.3 later in omega (arith, laid.0, more))
+  | inr later ↦ (let more = listed_from start pages (end_of_region first) to rest laid.3 later in
+      omega (arith, laid.0, more))
 ]
 
 pub listed_ends : (start pages from to : ℕ) (list : List Region) → AreLaid from list to →
-    list_any (is_at start pages) list ≡ true → IsBoundary (start + 4096 * pages) list
+    list_any (is_at start pages) list ≡ true → IsRegionBoundary (start + 4096 * pages) list
 listed_ends start pages from to [] laid there = tt
 listed_ends start pages from to (first ∷ rest) laid there = elim (or_cases (is_at start pages first) (list_any (is_at start pages) rest) there) [
   | inl here ↦ (
-      let end : end_of first ≡ start + 4096 * pages = grind (arith, nat_tests) in
-      (inl (omega (arith, end)), behind (start + 4096 * pages) (end_of first) to rest laid.3 (omega (arith, end))))
+      let end : end_of_region first ≡ start + 4096 * pages = grind (arith, nat_tests) in
+      (inl (omega (arith, end)), behind (start + 4096 * pages) (end_of_region first) to rest laid.3 (omega (arith, end))))
   | inr later ↦ (
-      let more = listed_from start pages (end_of first) to rest laid.3 later in
-      (inl (omega (arith, more)), listed_ends start pages (end_of first) to rest laid.3 later))
+      let more = listed_from start pages (end_of_region first) to rest laid.3 later in
+      (inl (omega (arith, more)), listed_ends start pages (end_of_region first) to rest laid.3 later))
 ]
 
-pub listed_starts : (start pages from to : ℕ) (list : List Region) → AreLaid from list to → list_any (is_at start pages) list ≡ true → IsBoundary start list
+pub listed_starts : (start pages from to : ℕ) (list : List Region) → AreLaid from list to →
+    list_any (is_at start pages) list ≡ true → IsRegionBoundary start list
 listed_starts start pages from to [] laid there = tt
 listed_starts start pages from to (first ∷ rest) laid there = elim (or_cases (is_at start pages first) (list_any (is_at start pages) rest) there) [
   | inl here ↦ (
       let at : first.start ≡ start = grind (arith, nat_tests) in
-      (inr (omega (arith, at)), behind start (end_of first) to rest laid.3 (omega (arith, at))))
+      (inr (omega (arith, at)), behind start (end_of_region first) to rest laid.3 (omega (arith, at))))
   | inr later ↦ (
-      let more = listed_from start pages (end_of first) to rest laid.3 later in
-      (inl more, listed_starts start pages (end_of first) to rest laid.3 later))
+      let more = listed_from start pages (end_of_region first) to rest laid.3 later in
+      (inl more, listed_starts start pages (end_of_region first) to rest laid.3 later))
 ]
 
 -- ---- slots that lie whole in a region
 
 -- if no region reaches over an address, neither does a slot
-whole_ends : (slot address : ℕ) (list : List Region) → IsBoundary address list → is_whole_in list slot ≡ true → slot < address → slot + 2 ^ 21 ≤ address
+whole_ends : (slot address : ℕ) (list : List Region) → IsRegionBoundary address list → is_whole_in list slot ≡ true → slot < address → slot + 2 ^ 21 ≤ address
 whole_ends slot address [] ends whole less = absurd (let no : false ≡ true = whole in cc)
 whole_ends slot address (first ∷ rest) ends whole less = elim (or_cases (has_whole slot first) (is_whole_in rest slot) whole) [
   | inl here ↦ (
@@ -71,7 +73,7 @@ whole_ends slot address (first ∷ rest) ends whole less = elim (or_cases (has_w
 
 -- so no large page does
 pub none_over : (p : Paged) (start pages : ℕ) → IsMapped p → IsPageRange start pages →
-    IsBoundary (start + 4096 * pages) p.regions → NoLargePageReachesOver p.words p.root (start / 4096) pages
+    IsRegionBoundary (start + 4096 * pages) p.regions → NoLargePageReachesOver p.words p.root (start / 4096) pages
 none_over p start pages m range ends = λ k less some.
     let aligned = range.0 in
     let canonical = page_canonical (start / 4096) pages k range.1 less in
@@ -80,7 +82,8 @@ none_over p start pages m range ends = λ k less some.
     let to = whole_ends ((start / 4096 + k) / 512 * 2 ^ 21) (start + 4096 * pages) p.regions ends whole (omega arith) in
     omega arith
 
-pub no_cut : (p : Paged) (start pages : ℕ) → IsMapped p → IsPageRange start pages → IsBoundary start p.regions → is_cut p.words p.root (start / 4096) ≡ false
+pub no_cut : (p : Paged) (start pages : ℕ) → IsMapped p → IsPageRange start pages → IsRegionBoundary start p.regions →
+    cuts_large_page p.words p.root (start / 4096) ≡ false
 no_cut p start pages m range ends = elim (cut_or_not p.words p.root (start / 4096)) [
   | inr none ↦ none
   | inl cut ↦ absurd (
@@ -115,33 +118,35 @@ whole_without start pages slot (first ∷ rest) beside whole =
     go more false at (inr later) = or_right (has_whole slot first) (is_whole_in (without_region start pages rest) slot) (more later)
 
 pub whole_cut : (base window start pages slot : ℕ) (list : List Region) → AllByRecursion (IsRegion base window) list →
-    start % 4096 ≡ 0 → slot % 2 ^ 21 ≡ 0 → IsBoundary (start + 4096 * pages) list →
-    (slot + 2 ^ 21 ≤ start) ⊎ (start + 4096 * pages ≤ slot) → is_whole_in list slot ≡ true → is_whole_in (cut_of start pages list) slot ≡ true
+    start % 4096 ≡ 0 → slot % 2 ^ 21 ≡ 0 → IsRegionBoundary (start + 4096 * pages) list →
+    (slot + 2 ^ 21 ≤ start) ⊎ (start + 4096 * pages ≤ slot) → is_whole_in list slot ≡ true → is_whole_in (cut_regions start pages list) slot ≡ true
 whole_cut base window start pages slot [] all aligned whole_slot ends beside whole = whole
 whole_cut base window start pages slot (first ∷ rest) all aligned whole_slot ends beside whole =
     go (λ later. whole_cut base window start pages slot rest all.1 aligned whole_slot ends.1 beside later)
     (meets start pages first) refl (nat_lt first.start start) refl (or_cases (has_whole slot first)
     (is_whole_in rest slot) whole)
   where
-    go : (is_whole_in rest slot ≡ true → is_whole_in (cut_of start pages rest) slot ≡ true) → (met : Bool) →
+    go : (is_whole_in rest slot ≡ true → is_whole_in (cut_regions start pages rest) slot ≡ true) → (met : Bool) →
         meets start pages first ≡ met → (before : Bool) → nat_lt first.start start ≡ before →
         (has_whole slot first ≡ true) ⊎ (is_whole_in rest slot ≡ true) →
-        is_whole_in (if met then (if before then record first { pages = (start - first.start) / 4096 } ∷ cut_of start pages
-        rest else cut_of start pages rest) else first ∷ cut_of start pages rest) slot ≡ true
-    go more false meet b is (inl here) = or_left (has_whole slot first) (is_whole_in (cut_of start pages rest) slot) here
-    go more false meet b is (inr later) = or_right (has_whole slot first) (is_whole_in (cut_of start pages rest) slot) (more later)
+        is_whole_in (if met then (if before then record first { pages = (start - first.start) / 4096 } ∷ cut_regions start
+        pages
+        rest else cut_regions start pages rest) else first ∷ cut_regions start pages rest) slot ≡ true
+    go more false meet b is (inl here) = or_left (has_whole slot first) (is_whole_in (cut_regions start pages rest) slot)
+        here
+    go more false meet b is (inr later) = or_right (has_whole slot first) (is_whole_in (cut_regions start pages rest) slot) (more later)
     go more true meet true is (inr later) = or_right (has_whole slot (record
-        first { pages = (start - first.start) / 4096 })) (is_whole_in (cut_of start pages rest) slot) (more later)
+        first { pages = (start - first.start) / 4096 })) (is_whole_in (cut_regions start pages rest) slot) (more later)
     go more true meet false is (inr later) = more later
     go more true meet true is (inl here) =
         or_left (has_whole slot (record first { pages = (start - first.start) / 4096 }))
-        (is_whole_in (cut_of start pages rest) slot) (shorter (whole_bounds slot first here))
+        (is_whole_in (cut_regions start pages rest) slot) (shorter (whole_bounds slot first here))
       where
-        shorter : (first.start ≤ slot) × (slot + 2 ^ 21 ≤ end_of first) → has_whole slot (record first { pages = (start - first.start) / 4096 }) ≡ true
+        shorter : (first.start ≤ slot) × (slot + 2 ^ 21 ≤ end_of_region first) → has_whole slot (record first { pages = (start - first.start) / 4096 }) ≡ true
         shorter bounds =
             let starts = all.0.range.0 in
             let low : first.start < start = grind (arith, nat_tests) in
-            let reaches : start < end_of first = grind (arith, nat_tests) in
+            let reaches : start < end_of_region first = grind (arith, nat_tests) in
             let to : slot + 2 ^ 21 ≤ start = elim beside [
               | inl b ↦ b
               | inr a ↦ absurd (elim ends.0 [ inl before ↦ omega (arith, a, before, bounds.1) | inr after ↦ omega (arith, after, low) ])
@@ -149,7 +154,7 @@ whole_cut base window start pages slot (first ∷ rest) all aligned whole_slot e
             whole_true slot (record first { pages = (start - first.start) / 4096 }) bounds.0 (omega (arith, bounds.0, to, aligned, starts))
     go more true meet false is (inl here) = absurd (over (whole_bounds slot first here))
       where
-        over : (first.start ≤ slot) × (slot + 2 ^ 21 ≤ end_of first) → ⊥
+        over : (first.start ≤ slot) × (slot + 2 ^ 21 ≤ end_of_region first) → ⊥
         over bounds =
             let from : start ≤ first.start = grind (arith, nat_tests) in
             let low : first.start < start + 4096 * pages = grind (arith, nat_tests) in

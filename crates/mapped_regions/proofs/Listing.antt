@@ -9,14 +9,14 @@ use Rattle.meminterval.specs.Entries.{AllItems, first}
 use Rattle.meminterval.specs.Interval.{starts_below, starts_from}
 use Rattle.mapped_regions.specs.declared.region_tree.Kind.{Kind}
 use Rattle.mapped_regions.specs.Regions.{AreLaid}
-use Rattle.mapped_regions.specs.Pairs.{region_of, regions_of, Follow}
+use Rattle.mapped_regions.specs.Pairs.{region_of, pair_regions, Follow}
 
 -- the regions are laid as their pages are
-pub laid : (from : ℕ) (es : List (Interval ℕ × Kind)) (to : ℕ) → Follow from es to → AreLaid (4096 * from) (regions_of es) (4096 * to)
+pub laid : (from : ℕ) (es : List (Interval ℕ × Kind)) (to : ℕ) → Follow from es to → AreLaid (4096 * from) (pair_regions es) (4096 * to)
 laid from [] to f = omega (arith, f)
 laid from (e ∷ es) to f =
     let ends : 4096 * e.0.end ≡ 4096 * e.0.start + 4096 * (e.0.end - e.0.start) = omega (arith, f.1) in
-    (omega (arith, f.0), omega arith, omega (arith, f.1), subst (λ (a : ℕ). AreLaid a (regions_of es) (4096 * to)) ends (laid e.0.end es to f.2))
+    (omega (arith, f.0), omega arith, omega (arith, f.1), subst (λ (a : ℕ). AreLaid a (pair_regions es) (4096 * to)) ends (laid e.0.end es to f.2))
 
 -- the pairs before a page were listed
 pub record Listed (at : ℕ) (es : List (Interval ℕ × Kind)) (items : List Region) (to : ℕ) : Type 0 where
@@ -25,7 +25,7 @@ pub record Listed (at : ℕ) (es : List (Interval ℕ × Kind)) (items : List Re
   pub whole : es ≡ front ++ back
   pub before : AllItems (λ e. e.0.start < at) front
   pub follow : Follow at back to
-  pub items_are : items ≡ regions_of front
+  pub items_are : items ≡ pair_regions front
 
 lt_test : (at : ℕ) (e : Interval ℕ × Kind) → e.0.start < at → starts_below nat_cmp at e ≡ true
 lt_test at e h = grind (arith, nat_tests)
@@ -57,7 +57,7 @@ all_later : (at later : ℕ) (front : List (Interval ℕ × Kind)) (e : Interval
 all_later at later [] e h k a = (k, tt)
 all_later at later (x ∷ front) e h k a = (omega (arith, h, a.0), all_later at later front e h k a.1)
 
-regions_more : (front : List (Interval ℕ × Kind)) (e : Interval ℕ × Kind) → regions_of (front ++ e ∷ []) ≡ regions_of front ++ region_of e ∷ []
+regions_more : (front : List (Interval ℕ × Kind)) (e : Interval ℕ × Kind) → pair_regions (front ++ e ∷ []) ≡ pair_regions front ++ region_of e ∷ []
 regions_more [] e = refl
 regions_more (x ∷ front) e = ap (λ rs. region_of x ∷ rs) (regions_more front e)
 
@@ -65,16 +65,16 @@ pub listed_none : (es : List (Interval ℕ × Kind)) (items : List Region) (to :
 listed_none es items to f h = record { front = []; back = es; whole = refl; before = tt; follow = f; items_are = h }
 
 pub listed_all : (at : ℕ) (es : List (Interval ℕ × Kind)) (items : List Region) (to : ℕ) → Listed at es items to →
-    first (starts_from nat_cmp at) es ≡ None → items ≡ regions_of es
+    first (starts_from nat_cmp at) es ≡ None → items ≡ pair_regions es
 listed_all at es items to l h =
     let gone = none_is at l.back to l.follow (sym (past_front at l.front l.back l.before) ∙ (sym (ap (first (starts_from nat_cmp at)) l.whole) ∙ h)) in
-    l.items_are ∙ ap regions_of (sym (append-nil l.front) ∙ (ap (λ b. l.front ++ b) (sym gone) ∙ sym l.whole))
+    l.items_are ∙ ap pair_regions (sym (append-nil l.front) ∙ (ap (λ b. l.front ++ b) (sym gone) ∙ sym l.whole))
 
 pub record IsListedOn (at : ℕ) (es : List (Interval ℕ × Kind)) (items : List Region) (to : ℕ) (next : Interval ℕ × Kind) : Type 0 where
   pub more : Listed next.0.end es (items ++ region_of next ∷ []) to
-  pub fewer : length items < length (regions_of es)
+  pub fewer : length items < length (pair_regions es)
 
-length_front : (front rest : List (Interval ℕ × Kind)) (e : Interval ℕ × Kind) → length (regions_of front) < length (regions_of (front ++ e ∷ rest))
+length_front : (front rest : List (Interval ℕ × Kind)) (e : Interval ℕ × Kind) → length (pair_regions front) < length (pair_regions (front ++ e ∷ rest))
 length_front [] rest e = omega arith
 length_front (x ∷ front) rest e = let i = length_front front rest e in omega (arith, i)
 
@@ -94,8 +94,8 @@ listed_on at es items to next l h =
         follow = f.2;
         items_are = ap (λ rs. rs ++ region_of next ∷ []) l.items_are ∙ sym (regions_more l.front next);
       };
-      fewer = subst (λ (rs : List Region). length rs < length (regions_of es)) (sym l.items_are)
-          (subst (λ (fs : List (Interval ℕ × Kind)). length (regions_of l.front) < length (regions_of fs)) (sym whole)
+      fewer = subst (λ (rs : List Region). length rs < length (pair_regions es)) (sym l.items_are)
+          (subst (λ (fs : List (Interval ℕ × Kind)). length (pair_regions l.front) < length (pair_regions fs)) (sym whole)
           (length_front l.front rest next));
     }
 
@@ -111,7 +111,7 @@ fewer_of_heap (r ∷ rs) = go r.heap (fewer_of_heap rs) where
 -- the list has a place for one more
 pub heap_place : (at : ℕ) (es : List (Interval ℕ × Kind)) (all items : List Region) (to capacity : ℕ)
     (next : Interval ℕ × Kind) → IsListedOn at es all to next → items ≡ filter (λ r. r.heap) all →
-    length (regions_of es) ≤ capacity → length items < capacity
+    length (pair_regions es) ≤ capacity → length items < capacity
 heap_place at es all items to capacity next on is places =
     let few = fewer_of_heap all in
     let same : length items ≡ length (filter (λ r. r.heap) all) = ap length is in

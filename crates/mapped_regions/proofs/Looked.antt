@@ -4,7 +4,7 @@ use Rattle.std.specs.Int.{w64, to_le_bytes}
 use Rattle.std.specs.List.{AllByRecursion}
 use Rattle.paging_core.specs.Address.{is_canonical}
 use Rattle.paging_core.specs.Memory.{byte_of}
-use Rattle.paging_core.specs.Walk.{Place, walk_of, place_of}
+use Rattle.paging_core.specs.Walk.{Place, walk_of, mapped_place}
 use Rattle.paging_core.specs.declared.page_table.Rights.{Rights}
 use Rattle.paging_core.specs.declared.page_walk.Mapped.{Mapped}
 use Rattle.heap_model.specs.declared.region.Region.{Region}
@@ -51,13 +51,14 @@ pub mapped_at : (p : Paged) (at : ℕ) → IsMapped p → IsTrue (is_canonical a
 mapped_at p at m canonical there = some_mapped (walk_of p.words p.root (at / 4096)) (kind_at p.regions at) (found_at p at m canonical) there
 
 -- the rights of what was walked to
-pub walked_none : (o : Option Mapped) (w : Option Place) (k : Option Rights) → option_map place_of o ≡ w → option_map rights_of w ≡ k → o ≡ None → None ≡ k
-walked_none o w k walked found is = ap (option_map rights_of) (ap (option_map place_of) (sym is)) ∙ (ap (option_map rights_of) walked ∙ found)
+pub walked_none : (o : Option Mapped) (w : Option Place) (k : Option Rights) → option_map mapped_place o ≡ w → option_map rights_of w ≡ k → o ≡ None → None ≡ k
+walked_none o w k walked found is = ap (option_map rights_of) (ap (option_map mapped_place) (sym is)) ∙ (ap (option_map rights_of) walked ∙ found)
 
-pub walked_some : (o : Option Mapped) (mapped : Mapped) (w : Option Place) (k : Option Rights) → option_map place_of o ≡ w →
+pub walked_some : (o : Option Mapped) (mapped : Mapped) (w : Option Place) (k : Option Rights) →
+    option_map mapped_place o ≡ w →
     option_map rights_of w ≡ k → o ≡ Some mapped →
     Some (record { write = mapped.write; user = mapped.user; fetch = mapped.fetch }) ≡ k
-walked_some o mapped w k walked found is = ap (option_map rights_of) (ap (option_map place_of) (sym is)) ∙ (ap (option_map rights_of) walked ∙ found)
+walked_some o mapped w k walked found is = ap (option_map rights_of) (ap (option_map mapped_place) (sym is)) ∙ (ap (option_map rights_of) walked ∙ found)
 
 -- byte b of a word is the one that its bytes have there
 pub le_byte : (word b : ℕ) → b < 8 → slice_index (to_le_bytes w64 word) b ≡ byte_of word b

@@ -6,8 +6,8 @@ use Rattle.std.proofs.lemmas.Bool.Decides.{nat_tests}
 use Rattle.paging_core.specs.Address.{is_canonical}
 use Rattle.paging_core.specs.Memory.{frame_count}
 use Rattle.paging_core.specs.Prefix.{prefix_of}
-use Rattle.paging_core.specs.Pool.{is_free, FreeBelow}
-use Rattle.paging_core.specs.Walk.{Place, reach, large_of, walk_of, reached, granted}
+use Rattle.paging_core.specs.Pool.{is_frame_free, FreeBelow}
+use Rattle.paging_core.specs.Walk.{Place, reach, large_of, walk_of, reached, place_with}
 use Rattle.paging_core.specs.Tree.{IsTree}
 use Rattle.paging_core.proofs.Reached.{some_not_none}
 use Rattle.paging_core.specs.declared.page_table.Rights.{Rights}
@@ -129,7 +129,7 @@ joined_mapped old new region m kind can j put elsewhere = record {
 }
   where
     known : FreeBelow new.free (frame_count new.words)
-    known f free = elim (is_free old.free f) as (λ b. is_free old.free f ≡ b → f < frame_count new.words) [
+    known f free = elim (is_frame_free old.free f) as (λ b. is_frame_free old.free f ≡ b → f < frame_count new.words) [
       | true ↦ λ was. (let h = m.known f was in let s = j.added.added.pages_added.size in omega arith)
       | false ↦ λ was. (let h = j.added.added.pages_added.fewer f was in absurd (cc))
     ] refl
@@ -158,8 +158,8 @@ joined_mapped old new region m kind can j put elsewhere = record {
         let bounds = within_bounds (4096 * page) region is in
         let n = j.added.added.mapped (page - region.start / 4096) (omega (arith, bounds.0, bounds.1)) in
         let same : region.start / 4096 + (page - region.start / 4096) ≡ page = omega (arith, bounds.0) in
-        let at : walk_of new.words old.root page ≡ Some (granted n.frame region.rights) =
-        subst (λ q. walk_of new.words old.root q ≡ Some (granted n.frame region.rights)) same n.found in
+        let at : walk_of new.words old.root page ≡ Some (place_with n.frame region.rights) =
+        subst (λ q. walk_of new.words old.root q ≡ Some (place_with n.frame region.rights)) same n.found in
         let here : kind_at new.regions (4096 * page) ≡ Some (region.heap, region.rights) = put (4096 * page) ∙ rw is refl in
         ap (option_map rights_of) at ∙ sym (ap (option_map (λ (kind : Bool × Rights). kind.1)) here)
     found page canonical false is =

@@ -2,7 +2,7 @@
 use Rattle.std.proofs.Common.{◌≡◌, ◌∙◌, ap, refl, ℕ, ◌-◌, ◌*◌, ◌<◌, ◌≤◌, ◌&&◌, Bool, true, false, cond, List, [], ◌∷◌, arith, Option, Some, None, find}
 use Rattle.std.proofs.lemmas.Bool.Decides.{nat_tests}
 use Rattle.heap_model.specs.declared.region.Region.{Region}
-use Rattle.heap_model.specs.State.{end_of}
+use Rattle.heap_model.specs.State.{end_of_region}
 use Rattle.heap_model.specs.Place.{meets}
 use Rattle.mapped_regions.specs.Regions.{AreLaid, meets_heap}
 use Rattle.mapped_regions.proofs.Cutting.{found}
@@ -43,16 +43,16 @@ alike at next end from [] to l h a b = refl
 alike at next end from (x ∷ rs) to l h a b =
     let same : meets (4096 * at) (end - at) x ≡ meets (4096 * next) (end - next) x = grind (arith, nat_tests, l.0, l.2) in
     rw same (ap (λ (o : Option Region). cond (meets_heap (4096 * next) (end - next) x) (Some x) o)
-    (alike at next end (end_of x) rs to l.3 (omega (arith, h, l.0)) a b))
+    (alike at next end (end_of_region x) rs to l.3 (omega (arith, h, l.0)) a b))
 
 -- past a region of the user
 pub goes_past :
     (at next end from : ℕ) (rs : List Region) (to : ℕ) (r : Region) → AreLaid from rs to → at ≤ end → find (meets (4096 * at) (end - at)) rs ≡ Some r →
-    r.heap ≡ false → end_of r ≡ 4096 * next → next < end →
+    r.heap ≡ false → end_of_region r ≡ 4096 * next → next < end →
     find (meets_heap (4096 * at) (end - at)) rs ≡ find (meets_heap (4096 * next) (end - next)) rs
 goes_past at next end from [] to r l s h k e n = absurd (cc)
 goes_past at next end from (x ∷ rs) to r l s h k e n = by_test (meets (4096 * at) (end - at) x) refl
-    (λ i. goes_past at next end (end_of x) rs to r l.3 s i k e n) where
+    (λ i. goes_past at next end (end_of_region x) rs to r l.3 s i k e n) where
       by_test :
           (t : Bool) → meets (4096 * at) (end - at) x ≡ t →
           (find (meets (4096 * at) (end - at)) rs ≡ Some r → find (meets_heap (4096 * at) (end - at)) rs ≡ find (meets_heap (4096 * next) (end - next)) rs) →
@@ -61,39 +61,40 @@ goes_past at next end from (x ∷ rs) to r l s h k e n = by_test (meets (4096 * 
           let same : Some x ≡ Some r = rw is at h in
           let is_it : x ≡ r = cc in
           let heap : x.heap ≡ false = ap (λ (y : Region). y.heap) is_it ∙ k in
-          let ends : end_of x ≡ 4096 * next = ap end_of is_it ∙ e in
-          let before : 4096 * at < end_of x = grind (arith, nat_tests, is) in
-          rw heap (alike at next end (end_of x) rs to l.3 (omega (arith, ends)) (omega (arith, ends, before)) (omega (arith, n)))
+          let ends : end_of_region x ≡ 4096 * next = ap end_of_region is_it ∙ e in
+          let before : 4096 * at < end_of_region x = grind (arith, nat_tests, is) in
+          rw heap (alike at next end (end_of_region x) rs to l.3 (omega (arith, ends)) (omega (arith, ends, before)) (omega (arith, n)))
       by_test false is rest =
           let later = rw is at h in
-          let f = found (4096 * at) (end - at) (end_of x) rs to r l.3 later in
+          let f = found (4096 * at) (end - at) (end_of_region x) rs to r l.3 later in
           let no : meets (4096 * next) (end - next) x ≡ false = before x (omega (arith, f.after, f.some, e)) in
           let m = missed (4096 * at) (end - at) x is in
           let m' = missed (4096 * next) (end - next) x no in
           rw m (rw m' (rest later)) where
-            before : (x : Region) → end_of x ≤ 4096 * next → meets (4096 * next) (end - next) x ≡ false
+            before : (x : Region) → end_of_region x ≤ 4096 * next → meets (4096 * next) (end - next) x ≡ false
             before x h = grind (arith, nat_tests)
 
 -- if a region of the user reaches to the end of the pages
 pub last_of_user :
     (at end from : ℕ) (rs : List Region) (to : ℕ) (r : Region) → AreLaid from rs to → at ≤ end → find (meets (4096 * at) (end - at)) rs ≡ Some r →
-    r.heap ≡ false → 4096 * end ≤ end_of r → find (meets_heap (4096 * at) (end - at)) rs ≡ None
+    r.heap ≡ false → 4096 * end ≤ end_of_region r → find (meets_heap (4096 * at) (end - at)) rs ≡ None
 last_of_user at end from [] to r l s h k e = absurd (cc)
-last_of_user at end from (x ∷ rs) to r l s h k e = by_test (meets (4096 * at) (end - at) x) refl (λ i. last_of_user at end (end_of x) rs to r l.3 s i k e) where
-  all_past : (from : ℕ) (rs : List Region) → AreLaid from rs to → 4096 * end ≤ from → find (meets_heap (4096 * at) (end - at)) rs ≡ None
-  all_past from [] l h = refl
-  all_past from (y ∷ rs) l h =
-      let no : meets (4096 * at) (end - at) y ≡ false = grind (arith, nat_tests, l.0, h, s) in
-      let m = missed (4096 * at) (end - at) y no in
-      rw m (all_past (end_of y) rs l.3 (omega (arith, h, l.0)))
+last_of_user at end from (x ∷ rs) to r l s h k e = by_test (meets (4096 * at) (end - at) x) refl
+    (λ i. last_of_user at end (end_of_region x) rs to r l.3 s i k e) where
+      all_past : (from : ℕ) (rs : List Region) → AreLaid from rs to → 4096 * end ≤ from → find (meets_heap (4096 * at) (end - at)) rs ≡ None
+      all_past from [] l h = refl
+      all_past from (y ∷ rs) l h =
+          let no : meets (4096 * at) (end - at) y ≡ false = grind (arith, nat_tests, l.0, h, s) in
+          let m = missed (4096 * at) (end - at) y no in
+          rw m (all_past (end_of_region y) rs l.3 (omega (arith, h, l.0)))
 
-  by_test :
-      (t : Bool) → meets (4096 * at) (end - at) x ≡ t →
-      (find (meets (4096 * at) (end - at)) rs ≡ Some r → find (meets_heap (4096 * at) (end - at)) rs ≡ None) →
-      find (meets_heap (4096 * at) (end - at)) (x ∷ rs) ≡ None
-  by_test true is rest =
-      let same : Some x ≡ Some r = rw is at h in
-      let is_it : x ≡ r = cc in
-      let heap : x.heap ≡ false = ap (λ (y : Region). y.heap) is_it ∙ k in
-      rw heap (all_past (end_of x) rs l.3 (omega (arith, e, ap end_of is_it)))
-  by_test false is rest = let m = missed (4096 * at) (end - at) x is in rw m (rest (rw is at h))
+      by_test :
+          (t : Bool) → meets (4096 * at) (end - at) x ≡ t →
+          (find (meets (4096 * at) (end - at)) rs ≡ Some r → find (meets_heap (4096 * at) (end - at)) rs ≡ None) →
+          find (meets_heap (4096 * at) (end - at)) (x ∷ rs) ≡ None
+      by_test true is rest =
+          let same : Some x ≡ Some r = rw is at h in
+          let is_it : x ≡ r = cc in
+          let heap : x.heap ≡ false = ap (λ (y : Region). y.heap) is_it ∙ k in
+          rw heap (all_past (end_of_region x) rs l.3 (omega (arith, e, ap end_of_region is_it)))
+      by_test false is rest = let m = missed (4096 * at) (end - at) x is in rw m (rest (rw is at h))

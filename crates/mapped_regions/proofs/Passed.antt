@@ -10,7 +10,7 @@ use Rattle.meminterval.specs.Entries.{AllItems, first, last, or_else}
 use Rattle.meminterval.specs.Interval.{starts_below, starts_from}
 use Rattle.mapped_regions.specs.declared.region_tree.Kind.{Kind}
 use Rattle.heap_model.specs.Place.{IsFit, IsPlace, HasNoPlace}
-use Rattle.mapped_regions.specs.Pairs.{region_of, regions_of, Follow}
+use Rattle.mapped_regions.specs.Pairs.{region_of, pair_regions, Follow}
 
 pub below : (a b : ℕ) → is_lt (nat_cmp a b) ≡ nat_lt a b
 below a b = grind (arith, nat_tests)
@@ -31,7 +31,7 @@ EndBefore at es = AllItems (λ e. e.0.start < at → e.0.end ≤ at) es
 
 -- pairs after some pages miss them
 all_behind : (page n from : ℕ) (es : List (Interval ℕ × Kind)) (to : ℕ) → Follow from es to → page + n ≤ from →
-    meets_any (4096 * page) n (regions_of es) ≡ false
+    meets_any (4096 * page) n (pair_regions es) ≡ false
 all_behind page n from [] to f h = refl
 all_behind page n from (e ∷ es) to f h = grind (arith, misses_behind page n e, all_behind page n e.0.end es to f.2, f.0, f.1)
 
@@ -43,39 +43,39 @@ start_ge page e h = let k : nat_lt e.0.start page ≡ false = sym (below e.0.sta
 
 -- n pages miss the first pair and the others
 misses_both : (page n : ℕ) (e : Interval ℕ × Kind) (es : List (Interval ℕ × Kind)) →
-    meets (4096 * page) n (region_of e) ≡ false → meets_any (4096 * page) n (regions_of es) ≡ false →
-    meets_any (4096 * page) n (regions_of (e ∷ es)) ≡ false
+    meets (4096 * page) n (region_of e) ≡ false → meets_any (4096 * page) n (pair_regions es) ≡ false →
+    meets_any (4096 * page) n (pair_regions (e ∷ es)) ≡ false
 misses_both page n e es h k = rw h k
 
 meets_first : (page n : ℕ) (e : Interval ℕ × Kind) (es : List (Interval ℕ × Kind)) →
-    meets (4096 * page) n (region_of e) ≡ true → meets_any (4096 * page) n (regions_of (e ∷ es)) ≡ true
+    meets (4096 * page) n (region_of e) ≡ true → meets_any (4096 * page) n (pair_regions (e ∷ es)) ≡ true
 meets_first page n e es h = rw h refl
 
 meets_later : (page n : ℕ) (e : Interval ℕ × Kind) (es : List (Interval ℕ × Kind)) →
-    meets_any (4096 * page) n (regions_of es) ≡ true → meets_any (4096 * page) n (regions_of (e ∷ es)) ≡ true
+    meets_any (4096 * page) n (pair_regions es) ≡ true → meets_any (4096 * page) n (pair_regions (e ∷ es)) ≡ true
 meets_later page n e es h = by_test (meets (4096 * page) n (region_of e)) where
-  by_test : (t : Bool) → (t || meets_any (4096 * page) n (regions_of es)) ≡ true
+  by_test : (t : Bool) → (t || meets_any (4096 * page) n (pair_regions es)) ≡ true
   by_test true = refl
   by_test false = h
 
 -- if no pair starts at the page or after it, all are before it
 pub clear_end : (page n from : ℕ) (es : List (Interval ℕ × Kind)) (to : ℕ) → Follow from es to → EndBefore page es →
-    first (starts_from nat_cmp page) es ≡ None → meets_any (4096 * page) n (regions_of es) ≡ false
+    first (starts_from nat_cmp page) es ≡ None → meets_any (4096 * page) n (pair_regions es) ≡ false
 clear_end page n from [] to f b h = refl
 clear_end page n from (e ∷ es) to f b h = by_start (starts_below nat_cmp page e) refl (clear_end page n e.0.end es to f.2 b.1) where
   by_start : (t : Bool) → starts_below nat_cmp page e ≡ t → (first (starts_from nat_cmp page) es ≡ None →
-      meets_any (4096 * page) n (regions_of es) ≡ false) → meets_any (4096 * page) n (regions_of (e ∷ es)) ≡ false
+      meets_any (4096 * page) n (pair_regions es) ≡ false) → meets_any (4096 * page) n (pair_regions (e ∷ es)) ≡ false
   by_start true is rest = misses_both page n e es (misses_before page n e f.1 (b.0 (start_lt page e is))) (rest (rw is at h))
   by_start false is rest = let no : Some e ≡ None = rw is at h in absurd (cc)
 
 -- if the first pair that starts there or after it starts after the pages
 pub clear_gap : (page n from : ℕ) (es : List (Interval ℕ × Kind)) (to : ℕ) (next : Interval ℕ × Kind) → Follow from es to →
     EndBefore page es → first (starts_from nat_cmp page) es ≡ Some next → page + n ≤ next.0.start →
-    meets_any (4096 * page) n (regions_of es) ≡ false
+    meets_any (4096 * page) n (pair_regions es) ≡ false
 clear_gap page n from [] to next f b h k = refl
 clear_gap page n from (e ∷ es) to next f b h k = by_start (starts_below nat_cmp page e) refl (λ i. clear_gap page n e.0.end es to next f.2 b.1 i k) where
   by_start : (t : Bool) → starts_below nat_cmp page e ≡ t → (first (starts_from nat_cmp page) es ≡ Some next →
-      meets_any (4096 * page) n (regions_of es) ≡ false) → meets_any (4096 * page) n (regions_of (e ∷ es)) ≡ false
+      meets_any (4096 * page) n (pair_regions es) ≡ false) → meets_any (4096 * page) n (pair_regions (e ∷ es)) ≡ false
   by_start true is rest = misses_both page n e es (misses_before page n e f.1 (b.0 (start_lt page e is))) (rest (rw is at h))
   by_start false is rest =
       let same : Some e ≡ Some next = rw is at h in
@@ -86,11 +86,11 @@ clear_gap page n from (e ∷ es) to next f b h k = by_start (starts_below nat_cm
 -- a pair that was found is met by pages that reach over its start and begin before its end
 pub found_first : (page at n from : ℕ) (es : List (Interval ℕ × Kind)) (to : ℕ) (next : Interval ℕ × Kind) →
     Follow from es to → first (starts_from nat_cmp at) es ≡ Some next → page < next.0.end → next.0.start < page + n →
-    meets_any (4096 * page) n (regions_of es) ≡ true
+    meets_any (4096 * page) n (pair_regions es) ≡ true
 found_first page at n from [] to next f h l k = absurd (cc)
 found_first page at n from (e ∷ es) to next f h l k = by_start (starts_below nat_cmp at e) refl (λ i. found_first page at n e.0.end es to next f.2 i l k) where
   by_start : (t : Bool) → starts_below nat_cmp at e ≡ t → (first (starts_from nat_cmp at) es ≡ Some next →
-      meets_any (4096 * page) n (regions_of es) ≡ true) → meets_any (4096 * page) n (regions_of (e ∷ es)) ≡ true
+      meets_any (4096 * page) n (pair_regions es) ≡ true) → meets_any (4096 * page) n (pair_regions (e ∷ es)) ≡ true
   by_start true is rest = meets_later page n e es (rest (rw is at h))
   by_start false is rest =
       let same : Some e ≡ Some next = rw is at h in
@@ -162,7 +162,7 @@ pub record IsLast (base from : ℕ) (es : List (Interval ℕ × Kind)) (to : ℕ
   pub within : e.0.end ≤ to
   pub before_base : (at : ℕ) → e.0.end ≤ at → at ≤ base → EndBefore at es
   pub before_end : EndBefore e.0.end es
-  pub met : (page n : ℕ) → base ≤ page → page < e.0.end → meets_any (4096 * page) n (regions_of es) ≡ true
+  pub met : (page n : ℕ) → base ≤ page → page < e.0.end → meets_any (4096 * page) n (pair_regions es) ≡ true
 
 pub last_is : (base from : ℕ) (es : List (Interval ℕ × Kind)) (to : ℕ) (e : Interval ℕ × Kind) → Follow from es to →
     last (starts_below nat_cmp base) es ≡ Some e → IsLast base from es to e
@@ -205,7 +205,7 @@ pub record Passed (base n at : ℕ) (es : List (Interval ℕ × Kind)) (to : ℕ
   pub from : base ≤ at
   pub within : at ≤ to
   pub before : EndBefore at es
-  pub met : (page : ℕ) → base ≤ page → page < at → meets_any (4096 * page) n (regions_of es) ≡ true
+  pub met : (page : ℕ) → base ≤ page → page < at → meets_any (4096 * page) n (pair_regions es) ≡ true
 
 -- after the last pair that starts before the window
 pub starts_across : (base n : ℕ) (es : List (Interval ℕ × Kind)) (to at : ℕ) (e : Interval ℕ × Kind) → Follow 0 es to →
@@ -240,25 +240,25 @@ goes_on base n at es to next f p h k =
       before = i.before;
       met = λ page b l. by_page page b l (cases_lt page at);
     } where
-      by_page : (page : ℕ) → base ≤ page → page < next.0.end → (page < at) ⊎ (at ≤ page) → meets_any (4096 * page) n (regions_of es) ≡ true
+      by_page : (page : ℕ) → base ≤ page → page < next.0.end → (page < at) ⊎ (at ≤ page) → meets_any (4096 * page) n (pair_regions es) ≡ true
       by_page page b l (inl before) = p.met page b before
       by_page page b l (inr behind) = found_first page at n 0 es to next f h l (omega (arith, k, behind))
 
 -- no page before these is a place
 none_before :
     (base pages n at : ℕ) (es : List (Interval ℕ × Kind)) (to : ℕ) → Passed base n at es to →
-    (address : ℕ) → address < 4096 * at → IsFit (4096 * base) pages (regions_of es) n address → ⊥
+    (address : ℕ) → address < 4096 * at → IsFit (4096 * base) pages (pair_regions es) n address → ⊥
 none_before base pages n at es to p address lower fit =
     let page = address / 4096 in
     let same : address ≡ 4096 * page = omega (arith, fit.aligned) in
     let yes = p.met page (omega (arith, fit.from, same)) (omega (arith, lower, same)) in
-    let met : meets_any address n (regions_of es) ≡ true = ap (λ (a : ℕ). meets_any a n (regions_of es)) same ∙ yes in
+    let met : meets_any address n (pair_regions es) ≡ true = ap (λ (a : ℕ). meets_any a n (pair_regions es)) same ∙ yes in
     let no = fit.clear in
     absurd (cc)
 
 pub is_place :
     (base pages n at : ℕ) (es : List (Interval ℕ × Kind)) (to : ℕ) → Passed base n at es to →
-    meets_any (4096 * at) n (regions_of es) ≡ false → at + n ≤ base + pages → IsPlace (4096 * base) pages (regions_of es) n (4096 * at)
+    meets_any (4096 * at) n (pair_regions es) ≡ false → at + n ≤ base + pages → IsPlace (4096 * base) pages (pair_regions es) n (4096 * at)
 is_place base pages n at es to p clear within = record {
   fit = record { aligned = omega arith; from = omega (arith, p.from); within = omega (arith, within); clear = clear };
   least = none_before base pages n at es to p;
@@ -266,7 +266,7 @@ is_place base pages n at es to p clear within = record {
 
 pub no_place :
     (base pages n at : ℕ) (es : List (Interval ℕ × Kind)) (to : ℕ) → Passed base n at es to → base + pages < at + n →
-    HasNoPlace (4096 * base) pages (regions_of es) n
+    HasNoPlace (4096 * base) pages (pair_regions es) n
 no_place base pages n at es to p over address fit = by_address (cases_lt address (4096 * at)) where
   by_address : (address < 4096 * at) ⊎ (4096 * at ≤ address) → ⊥
   by_address (inl before) = none_before base pages n at es to p address before fit

@@ -4,9 +4,9 @@ use Rattle.std.proofs.lemmas.Bool.{cases_lt}
 use Rattle.std.proofs.lemmas.Bool.Decides.{nat_tests}
 use Rattle.std.specs.List.{list_any}
 use Rattle.heap_model.specs.declared.region.Region.{Region}
-use Rattle.heap_model.specs.State.{end_of, is_within}
+use Rattle.heap_model.specs.State.{end_of_region, is_within}
 use Rattle.heap_model.specs.Place.{meets, meets_any, with_region}
-use Rattle.mapped_regions.specs.Regions.{AreLaid, IsBoundary, AreTakenOut, IsPutIn, is_at, without_region, cut_of, kind_at}
+use Rattle.mapped_regions.specs.Regions.{AreLaid, IsRegionBoundary, AreTakenOut, IsPutIn, is_at, without_region, cut_regions, kind_at}
 
 -- a region that the pages miss holds no address of theirs
 outside :
@@ -16,7 +16,8 @@ outside low n address x m h = grind (arith, nat_tests)
 
 -- Of a region that does not reach over their end, the addresses from their start on are theirs.
 inside :
-    (low n address : ℕ) (x : Region) → meets low n x ≡ true → (end_of x ≤ low + 4096 * n) ⊎ (low + 4096 * n ≤ x.start) →
+    (low n address : ℕ) (x : Region) → meets low n x ≡ true → (end_of_region
+    x ≤ low + 4096 * n) ⊎ (low + 4096 * n ≤ x.start) →
     is_within address x ≡ true → low ≤ address → (nat_le low address && nat_lt address (low + 4096 * n)) ≡ true
 inside low n address x m (inl before) h a = grind (arith, nat_tests)
 inside low n address x m (inr behind) h a = absurd (grind (arith, nat_tests, m))
@@ -40,8 +41,9 @@ holds_no_more :
 holds_no_more low n left address x e m w = grind (arith, nat_tests)
 
 pub taken_out :
-    (low n from : ℕ) (rs : List Region) (to : ℕ) → low % 4096 ≡ 0 → AreLaid from rs to → IsBoundary (low + 4096 * n) rs →
-    AreTakenOut low (low + 4096 * n) rs (cut_of low n rs)
+    (low n from : ℕ) (rs : List Region) (to : ℕ) → low % 4096 ≡ 0 → AreLaid from rs to →
+    IsRegionBoundary (low + 4096 * n) rs →
+    AreTakenOut low (low + 4096 * n) rs (cut_regions low n rs)
 taken_out low n from [] to p l b address = go (nat_le low address && nat_lt address (low + 4096 * n)) where
   go : (t : Bool) → kind_at [] address ≡ cond t None (kind_at [] address)
   go true = refl
@@ -49,15 +51,15 @@ taken_out low n from [] to p l b address = go (nat_le low address && nat_lt addr
 taken_out low n from (x ∷ rs) to p l b address =
     by_tests (meets low n x) (nat_lt x.start low) (is_within address x)
     (nat_le low address && nat_lt address (low + 4096 * n)) refl refl refl refl
-    (taken_out low n (end_of x) rs to p l.3 b.1 address) where
+    (taken_out low n (end_of_region x) rs to p l.3 b.1 address) where
       meet_end : nat_lt x.start low ≡ true → x.start + 4096 * ((low - x.start) / 4096) ≡ low
       meet_end c = let before : x.start < low = grind (arith, nat_tests, c) in omega (arith, before, p, l.1)
 
       by_tests :
           (t u v r : Bool) → meets low n x ≡ t → nat_lt x.start low ≡ u → is_within address x ≡ v →
           (nat_le low address && nat_lt address (low + 4096 * n)) ≡ r →
-          kind_at (cut_of low n rs) address ≡ cond (nat_le low address && nat_lt address (low + 4096 * n)) None (kind_at rs address) →
-          kind_at (cut_of low n (x ∷ rs)) address ≡ cond (nat_le low address && nat_lt address (low + 4096 * n)) None (kind_at (x ∷ rs) address)
+          kind_at (cut_regions low n rs) address ≡ cond (nat_le low address && nat_lt address (low + 4096 * n)) None (kind_at rs address) →
+          kind_at (cut_regions low n (x ∷ rs)) address ≡ cond (nat_le low address && nat_lt address (low + 4096 * n)) None (kind_at (x ∷ rs) address)
       by_tests false u true r is c w q i = let o = outside low n address x is w in rw is (rw w (rw o refl))
       by_tests false u false r is c w q i = rw is (rw w i)
       by_tests true true true true is c w q i =
@@ -86,12 +88,13 @@ none_behind : (address from : ℕ) (rs : List Region) (to : ℕ) → AreLaid fro
 none_behind address from [] to l h = refl
 none_behind address from (x ∷ rs) to l h =
     let w : is_within address x ≡ false = grind (arith, nat_tests, l.0, h) in
-    rw w (none_behind address (end_of x) rs to l.3 (omega (arith, h, l.0)))
+    rw w (none_behind address (end_of_region x) rs to l.3 (omega (arith, h, l.0)))
 
 listed_from : (start pages from : ℕ) (rs : List Region) (to : ℕ) → AreLaid from rs to → list_any (is_at start pages) rs ≡ true → from ≤ start
 listed_from start pages from [] to l h = let no : false ≡ true = h in absurd (cc)
-listed_from start pages from (x ∷ rs) to l h = go (is_at start pages x) refl (listed_from start pages (end_of x) rs to l.3) where
-  go : (t : Bool) → is_at start pages x ≡ t → (list_any (is_at start pages) rs ≡ true → end_of x ≤ start) → from ≤ start
+listed_from start pages from (x ∷ rs) to l h = go (is_at start pages x) refl (listed_from start pages (end_of_region x) rs to l.3) where
+  go : (t : Bool) → is_at start pages x ≡ t → (list_any (is_at start pages) rs ≡ true → end_of_region x ≤ start) →
+      from ≤ start
   go true is rest = grind (arith, nat_tests, l.0)
   go false is rest = let r = rest (rw is at h) in omega (arith, r, l.0)
 
@@ -107,7 +110,7 @@ pub taken_without :
     AreTakenOut start (start + 4096 * pages) rs (without_region start pages rs)
 taken_without start pages from [] to l h address = let no : false ≡ true = h in absurd (cc)
 taken_without start pages from (x ∷ rs) to l h address = go (is_at start pages x) (is_within address x) refl refl
-    (λ k. taken_without start pages (end_of x) rs to l.3 k address) where
+    (λ k. taken_without start pages (end_of_region x) rs to l.3 k address) where
       go :
           (t v : Bool) → is_at start pages x ≡ t → is_within address x ≡ v →
           (list_any (is_at start pages) rs ≡ true → kind_at (without_region start pages rs) address ≡ cond
@@ -116,12 +119,12 @@ taken_without start pages from (x ∷ rs) to l h address = go (is_at start pages
           (start + 4096 * pages)) None (kind_at (x ∷ rs) address)
       go true true is w rest =
           let r = same_range start pages address x is ∙ w in
-          let before : address < end_of x = grind (arith, nat_tests, w) in
-          rw is (rw r (none_behind address (end_of x) rs to l.3 before))
+          let before : address < end_of_region x = grind (arith, nat_tests, w) in
+          rw is (rw r (none_behind address (end_of_region x) rs to l.3 before))
       go true false is w rest = let r = same_range start pages address x is ∙ w in rw is (rw r (rw w refl))
       go false true is w rest =
-          let behind = listed_from start pages (end_of x) rs to l.3 (rw is at h) in
-          let before : address < end_of x = grind (arith, nat_tests, w) in
+          let behind = listed_from start pages (end_of_region x) rs to l.3 (rw is at h) in
+          let before : address < end_of_region x = grind (arith, nat_tests, w) in
           let r = before_range start pages address (omega (arith, before, behind)) in
           rw is (rw w (rw r refl))
       go false false is w rest = rw is (rw w (rest (rw is at h)))

@@ -3,7 +3,7 @@ use Rattle.std.proofs.Common.{◌≡◌, ℕ, ◌*◌, ◌/◌, ◌%◌, ◌^◌
 use Rattle.std.specs.List.{list_any}
 use Rattle.std.proofs.lemmas.Bool.Decides.{nat_tests}
 use Rattle.heap_model.specs.declared.region.Region.{Region}
-use Rattle.heap_model.specs.State.{end_of}
+use Rattle.heap_model.specs.State.{end_of_region}
 use Rattle.heap_model.specs.Place.{meets, meets_any}
 use Rattle.heap_model.specs.Machine.{Paged}
 use Rattle.mapped_regions.specs.Regions.{is_at, meets_heap, AreLaid}
@@ -85,7 +85,7 @@ alone : (start pages from : ℕ) (list : List Region) (to : ℕ) → 0 < pages �
     (r : Region) × (find (meets start pages) list ≡ Some r) × (r.start ≡ start) × (r.pages ≡ pages)
 alone start pages from [] to some laid there = let no : false ≡ true = there in absurd (cc)
 alone start pages from (x ∷ xs) to some laid there = go (not x.heap && is_at start pages x) (meets start pages x) refl refl
-    (alone start pages (end_of x) xs to some laid.3) where
+    (alone start pages (end_of_region x) xs to some laid.3) where
       is : (not x.heap && is_at start pages x) ≡ true → is_at start pages x ≡ true
       is h = grind arith
 
@@ -98,13 +98,13 @@ alone start pages from (x ∷ xs) to some laid there = go (not x.heap && is_at s
       go false false t w rest = let r = rest (rw t at there) in (r.0, rw w r.1, r.2, r.3)
       go false true t w rest =
           let r = rest (rw t at there) in
-          let behind : end_of x ≤ start = low (end_of x) xs laid.3 r.0 r.1 r.2 in
+          let behind : end_of_region x ≤ start = low (end_of_region x) xs laid.3 r.0 r.1 r.2 in
           let no : meets start pages x ≡ false = grind (arith, nat_tests) in absurd (cc)
         where
           low : (at : ℕ) (list : List Region) → AreLaid at list to → (r : Region) → find (meets start pages) list ≡ Some r → r.start ≡ start → at ≤ start
           low at [] l r found s = absurd (cc)
-          low at (y ∷ ys) l r found s = by (meets start pages y) refl (low (end_of y) ys l.3 r) where
-            by : (m : Bool) → meets start pages y ≡ m → (find (meets start pages) ys ≡ Some r → r.start ≡ start → end_of y ≤ start) → at ≤ start
+          low at (y ∷ ys) l r found s = by (meets start pages y) refl (low (end_of_region y) ys l.3 r) where
+            by : (m : Bool) → meets start pages y ≡ m → (find (meets start pages) ys ≡ Some r → r.start ≡ start → end_of_region y ≤ start) → at ≤ start
             by true w rest =
                 let same : Some y ≡ Some r = rw w at found in
                 let e : y ≡ r = cc in

@@ -11,13 +11,13 @@ use Rattle.paging_core.specs.Walk.{reach, large_of, walk_of, reached, Place}
 use Rattle.paging_core.specs.Tree.{IsTree}
 use Rattle.paging_core.specs.Missing.{missing_of}
 use Rattle.heap_model.specs.declared.region.Region.{Region}
-use Rattle.heap_model.specs.State.{end_of, is_within, total_pages}
+use Rattle.heap_model.specs.State.{end_of_region, is_within, total_pages}
 use Rattle.heap_model.specs.Place.{meets_any, with_region}
 use Rattle.heap_model.specs.Room.{heap_rights}
-use Rattle.page_ranges.specs.RangeUnmapping.{is_cut}
+use Rattle.page_ranges.specs.RangeUnmapping.{cuts_large_page}
 use Rattle.heap_model.specs.Slots.{IsSlot, IsSlotOf, slot_number, is_whole_in}
-use Rattle.heap_model.specs.Machine.{Paged, ArePagesAdded, ArePagesGone, rights_of}
-use Rattle.mapped_regions.specs.Regions.{kind_at, without_region, cut_of}
+use Rattle.heap_model.specs.Machine.{Paged, HasGotPages, ArePagesGone, rights_of}
+use Rattle.mapped_regions.specs.Regions.{kind_at, without_region, cut_regions}
 
 -- whole pages from an address on: at least one, and all in one canonical half
 abbrev pub IsPageRange : ℕ → ℕ → Type 0
@@ -28,7 +28,7 @@ IsPageRange start pages = (start % 4096 ≡ 0) × IsCanonicalRange (start / 4096
 pub record IsRegion (base window : ℕ) (region : Region) : Type 0 where
   pub range : IsPageRange region.start region.pages
   pub from : region.heap ≡ true → base ≤ region.start
-  pub within : region.heap ≡ true → end_of region ≤ base + 4096 * window
+  pub within : region.heap ≡ true → end_of_region region ≤ base + 4096 * window
   pub rights : region.heap ≡ true → region.rights ≡ heap_rights
 
 -- The tables form a tree; the walk finds a page exactly where a region has it, with the region's rights; each slot that one
@@ -83,7 +83,7 @@ AreRunsUsed old new start pages =
 pub record IsRegionJoined (old new : Paged) (region : Region) : Type 0 where
   pub regions : new.regions ≡ with_region region old.regions
   pub joins : new.joins ≡ (old.joins + 1) % 2 ^ 64
-  pub added : ArePagesAdded old new region.start region.pages region.rights
+  pub added : HasGotPages old new region.start region.pages region.rights
   pub runs : AreRunsUsed old new region.start region.pages
   pub zeros : (address : ℕ) → IsTrue (is_within address region) → reached new.words old.root address ≡ Some 0
   pub bytes : (address : ℕ) → IsSome (walk_of old.words old.root (address / 4096)) → reached new.words old.root address ≡ reached old.words old.root address
@@ -93,14 +93,14 @@ pub record IsRegionJoined (old new : Paged) (region : Region) : Type 0 where
 pub record IsLeft (old new : Paged) (start pages : ℕ) : Type 0 where
   pub regions : new.regions ≡ without_region start pages old.regions
   pub gone : ArePagesGone old new start pages
-  pub whole : is_cut old.words old.root (start / 4096) ≡ false
+  pub whole : cuts_large_page old.words old.root (start / 4096) ≡ false
 
 -- `pages` pages from an address on left the regions: one that begins among them left, and one that reaches there from
 -- before ends where they begin. They are no longer mapped and their frames are free, but for that of the table of a
 -- slot that was mapped by one entry and is left in part; the other tables stay, and so does every byte that is still
 -- mapped.
 pub record AreGone (old new : Paged) (start pages : ℕ) : Type 0 where
-  pub regions : new.regions ≡ cut_of start pages old.regions
+  pub regions : new.regions ≡ cut_regions start pages old.regions
   pub gone : ArePagesGone old new start pages
 
 -- a word stands at the address, in a page that is mapped
@@ -110,12 +110,12 @@ pub record IsMappedWord (p : Paged) (at : ℕ) : Type 0 where
   pub mapped : IsSome (walk_of p.words p.root (at / 4096))
 
 -- the word that the walk to an address reaches
-abbrev pub word_in : List ℕ → ℕ → Option Place → ℕ
-word_in words at None = 0
-word_in words at (Some place) = word_at words place.frame (at % 4096 / 8)
+abbrev pub walked_word : List ℕ → ℕ → Option Place → ℕ
+walked_word words at None = 0
+walked_word words at (Some place) = word_at words place.frame (at % 4096 / 8)
 
 abbrev pub word_reached : Paged → ℕ → ℕ
-word_reached p at = word_in p.words at (walk_of p.words p.root (at / 4096))
+word_reached p at = walked_word p.words at (walk_of p.words p.root (at / 4096))
 
 -- ---- this is kept in one way
 

@@ -43,7 +43,7 @@ abbrev pub AreMet : List ℕ → ℕ → MetSlots → Type 0
 AreMet words root slots = AreTablesMet words root slots.tables × AreLargePagesMet words root slots.large_pages × ArePagesMet words root slots.pages
 
 -- the same, with the place, which is one of the memory
-pub record IsFrameOf (words : List ℕ) (root page frame : ℕ) : Type 0 where
+pub record LeadsToFrame (words : List ℕ) (root page frame : ℕ) : Type 0 where
   pub place : Place
   pub found : walk_of words root page ≡ Some place
   pub to_frame : place.frame ≡ frame

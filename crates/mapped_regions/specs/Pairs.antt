@@ -9,8 +9,8 @@ use Rattle.mapped_regions.specs.declared.region_tree.Kind.{Kind}
 abbrev pub region_of : Interval ℕ × Kind → Region
 region_of e = record { start = 4096 * e.0.start; pages = e.0.end - e.0.start; heap = e.1.heap; rights = e.1.rights }
 
-abbrev pub regions_of : List (Interval ℕ × Kind) → List Region
-regions_of es = map region_of es
+abbrev pub pair_regions : List (Interval ℕ × Kind) → List Region
+pair_regions es = map region_of es
 
 -- intervals one after the other between two pages, each of at least one page
 abbrev pub Follow : ℕ → List (Interval ℕ × Kind) → ℕ → Type 0
@@ -22,4 +22,4 @@ Follow from (e ∷ es) to = (from ≤ e.0.start) × (e.0.start < e.0.end) × Fol
 pub record IsTreeKept (base hint : ℕ) (es : List (Interval ℕ × Kind)) : Type 0 where
   pub follow : Follow 0 es (2 ^ 52)
   pub above : base ≤ hint
-  pub held : AreHeld (4096 * base) (4096 * hint) (regions_of es)
+  pub held : AreHeld (4096 * base) (4096 * hint) (pair_regions es)

@@ -3,7 +3,7 @@ use Rattle.std.specs.Prelude.{◌≡◌, ℕ, ◌-◌, ◌/◌, ◌%◌, ◌<◌
 use Rattle.std.specs.List.{list_any, AllByRecursion}
 use Rattle.paging_core.specs.declared.page_table.Rights.{Rights}
 use Rattle.heap_model.specs.declared.region.Region.{Region}
-use Rattle.heap_model.specs.State.{end_of, is_within}
+use Rattle.heap_model.specs.State.{end_of_region, is_within}
 use Rattle.heap_model.specs.Place.{meets}
 pub use Rattle.heap_model.specs.Place.{is_at, without_region}
 
@@ -12,15 +12,15 @@ pub use Rattle.heap_model.specs.Place.{is_at, without_region}
 -- regions one after the other between two addresses: each has pages, begins at a page, and ends before the next begins
 abbrev pub AreLaid : ℕ → List Region → ℕ → Type 0
 AreLaid from [] to = from ≤ to
-AreLaid from (region ∷ rest) to = (from ≤ region.start) × (region.start % 4096 ≡ 0) × (0 < region.pages) × AreLaid (end_of region) rest to
+AreLaid from (region ∷ rest) to = (from ≤ region.start) × (region.start % 4096 ≡ 0) × (0 < region.pages) × AreLaid (end_of_region region) rest to
 
 -- each address from one on and below another lies in a region
 abbrev pub AreHeld : ℕ → ℕ → List Region → Type 0
 AreHeld from to regions = (address : ℕ) → from ≤ address → address < to → IsTrue (list_any (is_within address) regions)
 
 -- each region lies before the address or after it: none reaches over it
-abbrev pub IsBoundary : ℕ → List Region → Type 0
-IsBoundary address regions = AllByRecursion (λ region. (end_of region ≤ address) ⊎ (address ≤ region.start)) regions
+abbrev pub IsRegionBoundary : ℕ → List Region → Type 0
+IsRegionBoundary address regions = AllByRecursion (λ region. (end_of_region region ≤ address) ⊎ (address ≤ region.start)) regions
 
 -- ---- single regions
 
@@ -35,16 +35,16 @@ kind_at regions address = option_map (λ region. (region.heap, region.rights)) (
 -- ---- changes
 
 -- a region with another number of pages, if it is the one of a given number of pages at an address
-abbrev pub with_pages : ℕ → ℕ → ℕ → Region → Region
-with_pages start pages new region = if is_at start pages region then record region { pages = new } else region
+abbrev pub with_page_count : ℕ → ℕ → ℕ → Region → Region
+with_page_count start pages new region = if is_at start pages region then record region { pages = new } else region
 
 -- The regions without `pages` pages from an address on: a region that meets them ends where they begin, and leaves if
 -- it begins there or after that.
-abbrev pub cut_of : ℕ → ℕ → List Region → List Region
-cut_of address pages [] = []
-cut_of address pages (region ∷ rest) =
-    if meets address pages region then (if nat_lt region.start address then record region { pages = (address - region.start) / 4096 } ∷ cut_of address pages rest else cut_of address pages rest)
-    else region ∷ cut_of address pages rest
+abbrev pub cut_regions : ℕ → ℕ → List Region → List Region
+cut_regions address pages [] = []
+cut_regions address pages (region ∷ rest) =
+    if meets address pages region then (if nat_lt region.start address then record region { pages = (address - region.start) / 4096 } ∷ cut_regions address pages rest else cut_regions address pages rest)
+    else region ∷ cut_regions address pages rest
 
 -- the addresses from one on and below another were taken out, and every other one is in a region of the kind that it was
 abbrev pub AreTakenOut : ℕ → ℕ → List Region → List Region → Type 0

@@ -2,5 +2,5 @@
 use Rattle.heap_model.specs.Machine.{Paged}
 use Rattle.mapped_regions.specs.declared.regions.MappedRegions.{MappedRegions}
 
-abbrev pub shown : MappedRegions → Paged
-shown mapped = record { base = mapped.base; pages = mapped.pages; words = mapped.frames; root = mapped.root; free = mapped.pool; tables = mapped.tables; joins = mapped.joins; regions = mapped.regions; slots = mapped.slots.items }
+abbrev pub paged_view : MappedRegions → Paged
+paged_view mapped = record { base = mapped.base; pages = mapped.pages; words = mapped.frames; root = mapped.root; free = mapped.pool; tables = mapped.tables; joins = mapped.joins; regions = mapped.regions; slots = mapped.slots.items }

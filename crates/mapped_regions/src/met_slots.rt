@@ -3,7 +3,7 @@ ghost use Rattle.std.specs.Prelude.{◌≡◌, ℕ, ◌+◌, ◌*◌, ◌/◌, �
 ghost use Rattle.paging_core.specs.Memory.{frame_count, word_at};
 ghost use Rattle.paging_core.specs.Prefix.{prefix_of};
 ghost use Rattle.paging_core.specs.Walk.{walk_of};
-ghost use Rattle.mapped_regions.specs.MetSlots.{IsPage, IsTable, IsLargePage, IsMapOf, IsFrameOf, ArePagesMet, AreTablesMet, AreLargePagesMet};
+ghost use Rattle.mapped_regions.specs.MetSlots.{IsPage, IsTable, IsLargePage, IsMapOf, LeadsToFrame, ArePagesMet, AreTablesMet, AreLargePagesMet};
 
 use paging_core::{Frames, Page, PageTableEntry, PageTableIndex, PhysFrame, walk};
 
@@ -57,7 +57,7 @@ fn frame_in_table(frames: &Frames, root: PhysFrame, table: PhysFrame, page: Page
     requires root { root < frame_count frames.now }
     requires table { IsTable frames.now root (prefix_of page 3) table }
     requires mapped { IsSome (walk_of frames.now root page) }
-    ensures { IsFrameOf frames.now root page result }
+    ensures { LeadsToFrame frames.now root page result }
 {
     entry_at(frames, table, page.p1_index()).frame()
 }
@@ -67,7 +67,7 @@ fn frame_in_large_page(frames: &Frames, root: PhysFrame, first: PhysFrame, page:
     requires root { root < frame_count frames.now }
     requires large_page { IsLargePage frames.now root (prefix_of page 3) first }
     requires mapped { IsSome (walk_of frames.now root page) }
-    ensures { IsFrameOf frames.now root page result }
+    ensures { LeadsToFrame frames.now root page result }
 {
     first.after(page.number() % 512)
 }
@@ -76,7 +76,7 @@ fn frame_in_large_page(frames: &Frames, root: PhysFrame, first: PhysFrame, page:
 fn frame_by_walk(frames: &Frames, root: PhysFrame, page: Page) -> PhysFrame
     requires root { root < frame_count frames.now }
     requires mapped { IsSome (walk_of frames.now root page) }
-    ensures { IsFrameOf frames.now root page result }
+    ensures { LeadsToFrame frames.now root page result }
 {
     let Some(mapped) = walk(frames, root, page) else {
         unreachable!()
@@ -177,7 +177,7 @@ impl MetSlots {
         requires root { root < frame_count frames.now }
         requires met { AreMet frames.now root self.now }
         requires mapped { IsSome (walk_of frames.now root page) }
-        ensures { IsFrameOf frames.now root page result }
+        ensures { LeadsToFrame frames.now root page result }
     {
         let number = slot_number(page);
         if let Some(table) = find(&self.tables, number) {
@@ -194,7 +194,7 @@ impl MetSlots {
         requires root { root < frame_count frames.now }
         requires met { AreMet frames.now root self.now }
         requires mapped { IsSome (walk_of frames.now root page) }
-        ensures { IsFrameOf frames.now root page result }
+        ensures { LeadsToFrame frames.now root page result }
     {
         match find(&self.pages, page.number()) {
             Some(frame) => frame,
@@ -231,7 +231,7 @@ impl MetSlots {
         requires root { root < frame_count frames.now }
         requires met { AreMet frames.now root self.old }
         requires mapped { IsSome (walk_of frames.now root page) }
-        ensures frame { IsFrameOf frames.now root page result }
+        ensures frame { LeadsToFrame frames.now root page result }
         ensures met { AreMet frames.now root self.new }
     {
         self.keep_new_slot(frames, root, page);
@@ -245,7 +245,7 @@ impl MetSlots {
         requires root { root < frame_count frames.now }
         requires met { AreMet frames.now root self.old }
         requires mapped { IsSome (walk_of frames.now root page) }
-        ensures frame { IsFrameOf frames.now root page result }
+        ensures frame { LeadsToFrame frames.now root page result }
         ensures met { AreMet frames.now root self.new }
     {
         match find(&self.pages, page.number()) {

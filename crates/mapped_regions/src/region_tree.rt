@@ -4,8 +4,8 @@ ghost use Rattle.std.specs.Prelude.{IsFalse, IsTrue, OnOk, OnErr, filter, find, 
 ghost use Rattle.std.specs.List.{list_any};
 ghost use Rattle.heap_model.specs.Place.{IsPlace, HasNoPlace, meets, meets_any, with_region};
 ghost use Rattle.meminterval.specs.Tree.{entries};
-ghost use Rattle.mapped_regions.specs.Pairs.{region_of, regions_of, Follow};
-ghost use Rattle.mapped_regions.specs.Regions.{AreLaid, AreHeld, IsBoundary, AreTakenOut, IsPutIn, is_at, meets_heap, without_region, with_pages, cut_of};
+ghost use Rattle.mapped_regions.specs.Pairs.{region_of, pair_regions, Follow};
+ghost use Rattle.mapped_regions.specs.Regions.{AreLaid, AreHeld, IsRegionBoundary, AreTakenOut, IsPutIn, is_at, meets_heap, without_region, with_page_count, cut_regions};
 
 use heap_model::{Region, RegionList, Rights};
 use meminterval::{Interval, IntervalTree};
@@ -62,7 +62,7 @@ fn push_of_heap(list: &mut Vec<Region>, region: Region)
 fn run_end(tree: &IntervalTree<u64, Kind>, from: u64) -> u64
     requires { Follow 0 (entries tree.now) (2 ^ 52) }
     ensures above { from ≤ result }
-    ensures held { AreHeld (4096 * from) (4096 * result) (regions_of (entries tree.now)) }
+    ensures held { AreHeld (4096 * from) (4096 * result) (pair_regions (entries tree.now)) }
 {
     let mut at = from;
     while let Some(entry) = tree.first_from(&at) {
@@ -107,11 +107,11 @@ impl Model for RegionTree {
     ghost use Rattle.std.specs.Prelude.{ℕ, List, ◌^◌};
     ghost use Rattle.heap_model.specs.declared.region.Region.{Region};
     ghost use Rattle.meminterval.specs.Tree.{entries};
-    ghost use Rattle.mapped_regions.specs.Pairs.{regions_of, IsTreeKept};
+    ghost use Rattle.mapped_regions.specs.Pairs.{pair_regions, IsTreeKept};
 
     ghost Value = { List Region };
 
-    ghost view = { λ t. regions_of (entries t.tree) };
+    ghost view = { λ t. pair_regions (entries t.tree) };
 
     ghost invariant = { λ t. IsTreeKept t.base t.hint (entries t.tree) };
 }
@@ -326,7 +326,7 @@ impl RegionTree {
         requires some { 0 < left }
         requires less { left ≤ region.now.pages }
         requires within { region.now.start + 4096 * region.now.pages ≤ 2 ^ 64 }
-        ensures { self.new ≡ map (with_pages region.now.start region.now.pages left) self.old }
+        ensures { self.new ≡ map (with_page_count region.now.start region.now.pages left) self.old }
     {
         let pages = pages_of(region);
         let end = pages.start + left;
@@ -338,10 +338,10 @@ impl RegionTree {
     /// leaves if it begins there or after that.
     pub fn cut(&mut self, first: u64, pages: u64)
         requires within { first + pages ≤ 2 ^ 52 }
-        ensures regions { self.new ≡ cut_of (4096 * first) pages self.old }
+        ensures regions { self.new ≡ cut_regions (4096 * first) pages self.old }
 
         // If no region reaches over their end, these pages leave and no others.
-        ensures taken { IsBoundary (4096 * (first + pages)) self.old → AreTakenOut (4096 * first) (4096 * (first + pages)) self.old self.new }
+        ensures taken { IsRegionBoundary (4096 * (first + pages)) self.old → AreTakenOut (4096 * first) (4096 * (first + pages)) self.old self.new }
         ensures laid { AreLaid 0 self.old (2 ^ 64) }
     {
         // After a look at a field, what the type keeps is known of the regions as they were.

@@ -9,7 +9,7 @@ ghost use Rattle.paging_core.specs.Walk.{walk_of, reached};
 ghost use Rattle.paging_core.specs.Tree.{IsTree};
 ghost use Rattle.heap_model.specs.Place.{IsPlace, HasNoPlace};
 ghost use Rattle.heap_model.specs.Machine.{rights_of};
-ghost use Rattle.mapped_regions.specs.Regions.{is_at, kind_at, AreHeld, IsBoundary};
+ghost use Rattle.mapped_regions.specs.Regions.{is_at, kind_at, AreHeld, IsRegionBoundary};
 ghost use Rattle.mapped_regions.specs.MetSlots.{AreMet, AreMet-prop};
 ghost use Rattle.mapped_regions.specs.Mapped.{IsPageRange, IsMapped, IsMapped-prop};
 
@@ -59,7 +59,7 @@ pub struct MappedRegions {
 
 impl MappedRegions {
     ghost use Rattle.mapped_regions.specs.Mapped.{IsEmpty, IsRegion, HasFrames, CanMap, IsRegionJoined, IsLeft, AreGone, IsMappedWord, word_reached};
-    ghost use Rattle.mapped_regions.specs.Shown.{shown};
+    ghost use Rattle.mapped_regions.specs.Shown.{paged_view};
     ghost use Rattle.paging_core.specs.Stores.{KeepsTables, IsWordPut};
 
     /// A memory with `frames` frames, of which one holds the root table, and with a window of `pages` pages from the
@@ -67,7 +67,7 @@ impl MappedRegions {
     pub fn new(alloc: Global, base: u64, pages: u64, frames: u32) -> Result<Self, AllocError>
         requires window { IsPageRange base pages }
         requires frames { 0 < frames }
-        ensures { IfOk result (λ memory. IsEmpty (shown memory) base pages frames) }
+        ensures { IfOk result (λ memory. IsEmpty (paged_view memory) base pages frames) }
     {
         let mut memory = Frames::new(alloc, frames)?;
         let mut pool = FramePool::new(alloc, frames)?;
@@ -91,7 +91,7 @@ impl MappedRegions {
 
     /// The regions, by ascending address.
     pub fn regions(&self, alloc: Global) -> Result<RegionList, AllocError>
-        ensures { IfOk result (λ list. list ≡ (shown self.now).regions) }
+        ensures { IfOk result (λ list. list ≡ (paged_view self.now).regions) }
     {
         let list = Vec::with_capacity(alloc, self.regions.count())?;
         Ok(self.regions.list(list))
@@ -99,46 +99,46 @@ impl MappedRegions {
 
     /// The physical memory.
     pub fn frames(&self) -> &Frames
-        ensures words { result.now ≡ (shown self.now).words }
+        ensures words { result.now ≡ (paged_view self.now).words }
 
         // In it the walk finds a page exactly where a region has it, with the region's rights, and no frame serves two
         // pages.
-        ensures mapped { IsMapped (shown self.now) }
+        ensures mapped { IsMapped (paged_view self.now) }
     {
         &self.frames
     }
 
     /// The frame of the root table.
     pub fn root(&self) -> PhysFrame
-        ensures { result ≡ (shown self.now).root }
+        ensures { result ≡ (paged_view self.now).root }
     {
         self.root
     }
 
     /// The number of free frames.
     pub fn free_frames(&self) -> u64
-        ensures { result ≡ free_count (shown self.now).free }
+        ensures { result ≡ free_count (paged_view self.now).free }
     {
         self.pool.free_count()
     }
 
     /// How often a region joined, modulo 2^64.
     pub fn joins(&self) -> u64
-        ensures { result ≡ (shown self.now).joins }
+        ensures { result ≡ (paged_view self.now).joins }
     {
         self.joins
     }
 
     /// The number of tables, with the root.
     pub fn tables(&self) -> u64
-        ensures { result ≡ (shown self.now).tables }
+        ensures { result ≡ (paged_view self.now).tables }
     {
         self.tables
     }
 
     /// The number of regions.
     pub fn count(&self) -> usize
-        ensures count { result ≡ length (shown self.now).regions }
+        ensures count { result ≡ length (paged_view self.now).regions }
         ensures few { result ≤ 2 ^ 52 }
     {
         self.regions.count()
@@ -147,8 +147,8 @@ impl MappedRegions {
     /// Puts the regions into a list that has places for them.
     pub fn list(&self, list: Vec<Region>) -> RegionList
         requires empty { list.items ≡ [] }
-        requires places { length (shown self.now).regions ≤ vec_capacity list }
-        ensures { result ≡ (shown self.now).regions }
+        requires places { length (paged_view self.now).regions ≤ vec_capacity list }
+        ensures { result ≡ (paged_view self.now).regions }
     {
         self.regions.list(list)
     }
@@ -156,8 +156,8 @@ impl MappedRegions {
     /// Puts the regions of the heap into a list that has places for all regions.
     pub fn list_of_heap(&self, list: Vec<Region>) -> RegionList
         requires empty { list.items ≡ [] }
-        requires places { length (shown self.now).regions ≤ vec_capacity list }
-        ensures { result ≡ filter (λ region. region.heap) (shown self.now).regions }
+        requires places { length (paged_view self.now).regions ≤ vec_capacity list }
+        ensures { result ≡ filter (λ region. region.heap) (paged_view self.now).regions }
     {
         self.regions.list_of_heap(list)
     }
@@ -165,7 +165,7 @@ impl MappedRegions {
     /// Whether there are frames for the `pages` pages from `page` on, and for the tables that they lack.
     pub fn has_frames(&self, page: u64, pages: u64) -> bool
         requires { IsCanonicalRange page pages }
-        ensures { IsTrue result ↔ HasFrames (shown self.now) page pages }
+        ensures { IsTrue result ↔ HasFrames (paged_view self.now) page pages }
     {
         let free = self.pool.free_count();
         if free < pages {
@@ -177,9 +177,9 @@ impl MappedRegions {
     /// The lowest place in the window for `pages` pages.
     pub fn lowest_place(&self, pages: u64) -> Option<u64>
         requires some { 0 < pages }
-        ensures place { IfSome result (λ start. IsPlace (shown self.now).base (shown self.now).pages (shown self.now).regions pages start) }
+        ensures place { IfSome result (λ start. IsPlace (paged_view self.now).base (paged_view self.now).pages (paged_view self.now).regions pages start) }
         ensures range { IfSome result (λ start. IsPageRange start pages) }
-        ensures none { IfNone result (HasNoPlace (shown self.now).base (shown self.now).pages (shown self.now).regions pages) }
+        ensures none { IfNone result (HasNoPlace (paged_view self.now).base (paged_view self.now).pages (paged_view self.now).regions pages) }
     {
         let base = self.base / Size4KiB::SIZE;
         let page = self.regions.lowest_place(base, self.pages, pages)?;
@@ -189,10 +189,10 @@ impl MappedRegions {
     /// Maps the pages of a region, and puts it among the others. Slots that lie whole in it and have no table are mapped
     /// by one entry each, as long as a run of frames is free. An `Err` changes nothing.
     pub fn join(&mut self, region: Region) -> Result<(), AllocError>
-        requires region { IsRegion (shown self.old).base (shown self.old).pages region }
-        requires can { CanMap (shown self.old) region.start region.pages }
-        ensures ok { OnOk result (IsRegionJoined (shown self.old) (shown self.new) region) }
-        ensures err { OnErr result (shown self.new ≡ shown self.old) }
+        requires region { IsRegion (paged_view self.old).base (paged_view self.old).pages region }
+        requires can { CanMap (paged_view self.old) region.start region.pages }
+        ensures ok { OnOk result (IsRegionJoined (paged_view self.old) (paged_view self.new) region) }
+        ensures err { OnErr result (paged_view self.new ≡ paged_view self.old) }
     {
         let free = self.pool.free_count();
         let places = region.pages * Size4KiB::SIZE / Size2MiB::SIZE;
@@ -216,9 +216,9 @@ impl MappedRegions {
     /// The slots that the region which joined last has in large pages, by ascending address, if there are any and they
     /// were not asked for before.
     pub fn take_slots(&mut self) -> Option<SlotList>
-        ensures none { IfNone result ((shown self.old).slots ≡ []) }
-        ensures some { IfSome result (λ list. (list ≡ (shown self.old).slots) × (list ≢ [])) }
-        ensures rest { shown self.new ≡ record (shown self.old) { slots = [] } }
+        ensures none { IfNone result ((paged_view self.old).slots ≡ []) }
+        ensures some { IfSome result (λ list. (list ≡ (paged_view self.old).slots) × (list ≢ [])) }
+        ensures rest { paged_view self.new ≡ record (paged_view self.old) { slots = [] } }
     {
         if self.slots.is_empty() {
             return None;
@@ -229,8 +229,8 @@ impl MappedRegions {
 
     /// Unmaps the pages of a region, and takes it out. It takes no memory.
     pub fn leave(&mut self, region: &Region)
-        requires there { IsTrue (list_any (is_at region.now.start region.now.pages) (shown self.old).regions) }
-        ensures { IsLeft (shown self.old) (shown self.new) region.now.start region.now.pages }
+        requires there { IsTrue (list_any (is_at region.now.start region.now.pages) (paged_view self.old).regions) }
+        ensures { IsLeft (paged_view self.old) (paged_view self.new) region.now.start region.now.pages }
     {
         // The tree says here how its regions lie.
         let _ = self.regions.count();
@@ -248,8 +248,8 @@ impl MappedRegions {
     /// What may be done at an address: the rights of the region that has it, if there is one, by a walk.
     pub fn rights_at(&self, address: u64) -> Option<Rights>
         requires { IsTrue (is_canonical address) }
-        ensures region { result ≡ option_map (λ kind. kind.1) (kind_at (shown self.now).regions address) }
-        ensures walk { result ≡ option_map rights_of (walk_of (shown self.now).words (shown self.now).root (address / 4096)) }
+        ensures region { result ≡ option_map (λ kind. kind.1) (kind_at (paged_view self.now).regions address) }
+        ensures walk { result ≡ option_map rights_of (walk_of (paged_view self.now).words (paged_view self.now).root (address / 4096)) }
     {
         let page = Page::containing_address(VirtAddr::new(address));
         let Some(mapped) = walk(&self.frames, self.root, page) else {
@@ -265,8 +265,8 @@ impl MappedRegions {
     /// The byte at an address that a region has, by a walk.
     pub fn byte(&self, address: u64) -> u8
         requires canonical { IsTrue (is_canonical address) }
-        requires there { IsSome (kind_at (shown self.now).regions address) }
-        ensures { reached (shown self.now).words (shown self.now).root address ≡ Some result }
+        requires there { IsSome (kind_at (paged_view self.now).regions address) }
+        ensures { reached (paged_view self.now).words (paged_view self.now).root address ≡ Some result }
     {
         let place = VirtAddr::new(address - address % 8);
         let word = load_word(&self.frames, self.root, place);
@@ -278,9 +278,9 @@ impl MappedRegions {
     /// becomes the table of what is left of it. It takes no memory, and no free frame.
     pub fn cut(&mut self, start: u64, pages: u64)
         requires range { IsPageRange start pages }
-        requires held { AreHeld start (start + 4096 * pages) (shown self.old).regions }
-        requires ends { IsBoundary (start + 4096 * pages) (shown self.old).regions }
-        ensures { AreGone (shown self.old) (shown self.new) start pages }
+        requires held { AreHeld start (start + 4096 * pages) (paged_view self.old).regions }
+        requires ends { IsRegionBoundary (start + 4096 * pages) (paged_view self.old).regions }
+        ensures { AreGone (paged_view self.old) (paged_view self.new) start pages }
     {
         // The tree says here how its regions lie.
         let _ = self.regions.count();
@@ -299,8 +299,8 @@ impl MappedRegions {
 
     /// The word at a multiple of 8 in a page that is mapped, by a walk.
     pub fn word(&self, at: u64) -> u64
-        requires word { IsMappedWord (shown self.now) at }
-        ensures { result ≡ word_reached (shown self.now) at }
+        requires word { IsMappedWord (paged_view self.now) at }
+        ensures { result ≡ word_reached (paged_view self.now) at }
     {
         let page = Page::containing_address(VirtAddr::new(at));
         let frame = self.met_slots.frame(&self.frames, self.root, page);
@@ -309,11 +309,11 @@ impl MappedRegions {
 
     /// Puts a word at a multiple of 8 in a page that is mapped, by a walk, and changes nothing else.
     pub fn set_word(&mut self, at: u64, value: u64)
-        requires word { IsMappedWord (shown self.old) at }
-        ensures others { shown self.new ≡ record (shown self.old) { words = (shown self.new).words } }
-        ensures kept { KeepsTables (shown self.old).words (shown self.new).words (shown self.old).root }
-        ensures set { IfSome (walk_of (shown self.old).words (shown self.old).root (at / 4096)) (λ place. (shown self.new).words ≡ set (shown self.old).words (512 * place.frame + at % 4096 / 8) value) }
-        ensures put { IsWordPut (shown self.old).words (shown self.new).words (shown self.old).root at value }
+        requires word { IsMappedWord (paged_view self.old) at }
+        ensures others { paged_view self.new ≡ record (paged_view self.old) { words = (paged_view self.new).words } }
+        ensures kept { KeepsTables (paged_view self.old).words (paged_view self.new).words (paged_view self.old).root }
+        ensures set { IfSome (walk_of (paged_view self.old).words (paged_view self.old).root (at / 4096)) (λ place. (paged_view self.new).words ≡ set (paged_view self.old).words (512 * place.frame + at % 4096 / 8) value) }
+        ensures put { IsWordPut (paged_view self.old).words (paged_view self.new).words (paged_view self.old).root at value }
     {
         let page = Page::containing_address(VirtAddr::new(at));
         let frame = self.met_slots.frame_kept(&self.frames, self.root, page);
@@ -323,9 +323,9 @@ impl MappedRegions {
     /// Reads words from a multiple of 8 on in a page that is mapped, by one walk. The page has that many words from
     /// there on.
     pub fn words(&self, at: u64, words: &mut [u64])
-        requires word { IsMappedWord (shown self.now) at }
+        requires word { IsMappedWord (paged_view self.now) at }
         requires fits { at % 4096 / 8 + length words.old ≤ 512 }
-        ensures read { (k : ℕ) → k < length words.new → slice_index words.new k ≡ word_reached (shown self.now) (at + 8 * k) }
+        ensures read { (k : ℕ) → k < length words.new → slice_index words.new k ≡ word_reached (paged_view self.now) (at + 8 * k) }
         ensures length { length words.new ≡ length words.old }
     {
         let page = Page::containing_address(VirtAddr::new(at));
@@ -336,15 +336,15 @@ impl MappedRegions {
     /// Puts words from a multiple of 8 on in a page that is mapped, by one walk, and changes nothing else. The page has
     /// that many words from there on.
     pub fn set_words(&mut self, at: u64, words: &[u64])
-        requires word { IsMappedWord (shown self.old) at }
+        requires word { IsMappedWord (paged_view self.old) at }
         requires fits { at % 4096 / 8 + length words.now ≤ 512 }
-        ensures others { shown self.new ≡ record (shown self.old) { words = (shown self.new).words } }
-        ensures kept { KeepsTables (shown self.old).words (shown self.new).words (shown self.old).root }
-        ensures set { IfSome (walk_of (shown self.old).words (shown self.old).root (at / 4096)) (λ place. AreWordsWritten (shown self.old).words (shown self.new).words place.frame (at % 4096 / 8) words.now) }
-        ensures bytes { (free : List Bool) → IsTree (shown self.old).words (shown self.old).root free → (k : ℕ) → k < 8 * length words.now →
-            reached (shown self.new).words (shown self.old).root (at + k) ≡ Some (byte_of (slice_index words.now (k / 8)) (k % 8)) }
-        ensures other_bytes { (free : List Bool) → IsTree (shown self.old).words (shown self.old).root free → (other : ℕ) → IsTrue (is_canonical other) → (other < at) ⊎ (at + 8 * length words.now ≤ other) →
-            reached (shown self.new).words (shown self.old).root other ≡ reached (shown self.old).words (shown self.old).root other }
+        ensures others { paged_view self.new ≡ record (paged_view self.old) { words = (paged_view self.new).words } }
+        ensures kept { KeepsTables (paged_view self.old).words (paged_view self.new).words (paged_view self.old).root }
+        ensures set { IfSome (walk_of (paged_view self.old).words (paged_view self.old).root (at / 4096)) (λ place. AreWordsWritten (paged_view self.old).words (paged_view self.new).words place.frame (at % 4096 / 8) words.now) }
+        ensures bytes { (free : List Bool) → IsTree (paged_view self.old).words (paged_view self.old).root free → (k : ℕ) → k < 8 * length words.now →
+            reached (paged_view self.new).words (paged_view self.old).root (at + k) ≡ Some (byte_of (slice_index words.now (k / 8)) (k % 8)) }
+        ensures other_bytes { (free : List Bool) → IsTree (paged_view self.old).words (paged_view self.old).root free → (other : ℕ) → IsTrue (is_canonical other) → (other < at) ⊎ (at + 8 * length words.now ≤ other) →
+            reached (paged_view self.new).words (paged_view self.old).root other ≡ reached (paged_view self.old).words (paged_view self.old).root other }
     {
         let page = Page::containing_address(VirtAddr::new(at));
         let frame = self.met_slots.meet(&self.frames, self.root, page);

@@ -1,7 +1,7 @@
 // Regions of the user: pages that are mapped and unmapped at an address that the caller names.
 ghost use Rattle.std.specs.Prelude.{◌≡◌, ◌*◌, ◌/◌, ◌+◌, ◌^◌, ◌≤◌, ◌↔◌, IsTrue, IfErr, OnOk, OnErr};
 ghost use Rattle.mapped_regions.specs.Mapped.{IsPageRange, CanMap, IsRegionJoined, IsLeft};
-ghost use Rattle.mapped_regions.specs.Shown.{shown};
+ghost use Rattle.mapped_regions.specs.Shown.{paged_view};
 ghost use Rattle.mapped_regions.specs.UserRegions.{user_region, IsMapRefused, IsUnmapRefused, CanUnmap};
 
 use crate::map_fault::{MapFault, UnmapFault};
@@ -34,10 +34,10 @@ impl MappedRegions {
     /// Maps `pages` pages from the address `start` on as a region of the user with these rights, each at a cleared
     /// frame. A refused call changes nothing.
     pub fn map(&mut self, start: u64, pages: u64, rights: Rights) -> Result<(), MapFault>
-        ensures ok { OnOk result (IsRegionJoined (shown self.old) (shown self.new) (user_region start pages rights)) }
-        ensures can { OnOk result (CanMap (shown self.old) start pages) }
-        ensures err { OnErr result (shown self.new ≡ shown self.old) }
-        ensures refused { IfErr result (λ fault. IsMapRefused (shown self.old) start pages fault) }
+        ensures ok { OnOk result (IsRegionJoined (paged_view self.old) (paged_view self.new) (user_region start pages rights)) }
+        ensures can { OnOk result (CanMap (paged_view self.old) start pages) }
+        ensures err { OnErr result (paged_view self.new ≡ paged_view self.old) }
+        ensures refused { IfErr result (λ fault. IsMapRefused (paged_view self.old) start pages fault) }
     {
         if !is_page_range(start, pages) {
             return Err(MapFault::BadRange);
@@ -67,10 +67,10 @@ impl MappedRegions {
     /// Unmaps the region of the user that has just `pages` pages from the address `start` on, and gives its frames
     /// back. It takes no memory, and a refused call changes nothing.
     pub fn unmap(&mut self, start: u64, pages: u64) -> Result<(), UnmapFault>
-        ensures ok { OnOk result (IsLeft (shown self.old) (shown self.new) start pages) }
-        ensures can { OnOk result (CanUnmap (shown self.old) start pages) }
-        ensures err { OnErr result (shown self.new ≡ shown self.old) }
-        ensures refused { IfErr result (λ fault. IsUnmapRefused (shown self.old) start pages fault) }
+        ensures ok { OnOk result (IsLeft (paged_view self.old) (paged_view self.new) start pages) }
+        ensures can { OnOk result (CanUnmap (paged_view self.old) start pages) }
+        ensures err { OnErr result (paged_view self.new ≡ paged_view self.old) }
+        ensures refused { IfErr result (λ fault. IsUnmapRefused (paged_view self.old) start pages fault) }
     {
         if !is_page_range(start, pages) {
             return Err(UnmapFault::BadRange);

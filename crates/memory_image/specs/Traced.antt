@@ -5,7 +5,7 @@ use Rattle.heap_model.specs.declared.call.Call.TheVariants.{Probe}
 use Rattle.kernel_heap.specs.declared.machine.Machine.{Machine}
 use Rattle.heap_program.specs.Answering.{IsAnswering}
 use Rattle.memory_image.specs.declared.tracing.Traced.{Traced}
-use Rattle.memory_image.specs.Walks.{walk_line}
+use Rattle.memory_image.specs.Walks.{cr2_line}
 
 -- the address that an item probes, if it is a probe
 abbrev pub probed_address : Option Call → Option ℕ
@@ -14,7 +14,7 @@ probed_address item = None
 
 -- after the answer to a probe, where its walk arrives
 abbrev pub behind : Option ℕ → Machine → List ℕ
-behind (Some at) machine = walk_line machine at
+behind (Some at) machine = cr2_line machine at
 behind None machine = []
 
 -- An item is answered as by a machine, and the walk of a probe stands after the answer.

@@ -22,6 +22,6 @@ place_text (Some place) = hexadecimal place
 place_text None = codes "none"
 
 -- CR2, and the place of an address
-abbrev pub walk_line : Parts → ℕ → List ℕ
-walk_line machine at =
+abbrev pub cr2_line : Parts → ℕ → List ℕ
+cr2_line machine at =
     codes "cr2 " ++ (hexadecimal machine.cpu.cr2 ++ (codes " walk " ++ (place_text (place_walked (paged (system_of machine.heap)) at) ++ codes "\n")))

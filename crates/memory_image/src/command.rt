@@ -2,7 +2,7 @@
 ghost use Rattle.std.specs.Prelude.{◌≡◌, ◌≢◌, ◌≤◌, ◌<◌, ◌+◌, ◌^◌, ◌⊎◌, ◌↔◌, [], length, unwrap_or, map, string_bytes, IfSome, IfOk, IsErrOf};
 ghost use Rattle.heap_program.specs.Faults.{HasRisen};
 ghost use Rattle.heap_program.specs.declared.run.Stop.TheVariants.{ReadFault, WriteFault, TooLong};
-ghost use Rattle.memory_image.specs.Done.{IsDone};
+ghost use Rattle.memory_image.specs.Done.{IsImageDone};
 ghost use Rattle.memory_image.specs.Imaged.{IsImaged, Images, ImagesOf};
 
 use crate::image::push_image;
@@ -92,7 +92,7 @@ pub fn image_main<S: Source, K: Sink>(
 pub struct MemoryImage;
 
 impl Command for MemoryImage {
-    ghost comes = { λ S K. IsDone };
+    ghost comes = { λ S K. IsImageDone };
 
     fn run<S: Source, K: Sink>(
         alloc: Global,

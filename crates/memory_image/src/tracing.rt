@@ -3,7 +3,7 @@ ghost use Rattle.std.specs.Prelude.{◌≡◌, ◌++◌, OnOk, string_bytes};
 ghost use Rattle.kernel_heap.specs.System.{paged};
 ghost use Rattle.memory_image.specs.Traced.{probed_address, IsTracing};
 ghost use Rattle.memory_image.specs.TracedLaws.{tracing_none, tracing_on};
-ghost use Rattle.memory_image.specs.Walks.{place_from, place_walked, walk_line};
+ghost use Rattle.memory_image.specs.Walks.{place_from, place_walked, cr2_line};
 
 use heap_program::Respond;
 use kernel_heap::{Call, Machine, PagedSystem};
@@ -39,7 +39,7 @@ fn place_walked(system: &PagedSystem, at: u64) -> Option<u64>
 
 // Puts CR2 and the place of an address at the end.
 fn push_walk(out: &mut String, machine: &Machine, at: u64) -> Result<(), AllocError>
-    ensures { OnOk result (string_bytes out.new ≡ string_bytes out.old ++ walk_line machine.now at) }
+    ensures { OnOk result (string_bytes out.new ≡ string_bytes out.old ++ cr2_line machine.now at) }
 {
     let cr2 = machine.cpu().cr2;
     match place_walked(machine.system(), at) {

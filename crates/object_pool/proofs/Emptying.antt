@@ -16,7 +16,7 @@ use Rattle.dlmalloc.specs.Trimmed.{cut_of, cut_off, end_released, is_cut, is_tri
 use Rattle.dlmalloc.specs.AfterFree.{after_free, free_releases, is_above_check, regions_after, IsFreed}
 use Rattle.dlmalloc.specs.declared.heap.Dlmalloc.{Dlmalloc}
 use Rattle.sound_heap.specs.Heap.{IsIntact}
-use Rattle.object_pool.specs.Pool.{IsLaidOut, KeepsOthers}
+use Rattle.object_pool.specs.Pool.{AreSlabsLaidOut, KeepsOtherBlocks}
 use Rattle.object_pool.specs.Emptied.{slabs_freed, slab_releases, regions_left, IsRelease, AreFreed, IsEmptied}
 use Rattle.object_pool.proofs.HeapBlocks.{freed_keeps, freed_only}
 use Rattle.object_pool.proofs.Numbers.{lt_or_le}
@@ -69,10 +69,10 @@ pub record IsEmptying {A : Type 0} (regions : A → List Grant) (word : A → �
     (frees parts : Bool) (unit : ℕ) (old : Dlmalloc A) (slabs : List ℕ) (size : ℕ) (heap : Dlmalloc A)
     (left : List ℕ) : Type 0 where
   pub intact : IsIntact regions word heap
-  pub laid : IsLaidOut regions word heap size left
+  pub laid : AreSlabsLaidOut regions word heap size left
   pub few : length left ≤ length slabs
   pub front : (i : ℕ) → i < length left → slice_index left i ≡ slice_index slabs i
-  pub kept : KeepsOthers word slabs old heap
+  pub kept : KeepsOtherBlocks word slabs old heap
   pub only : (address n : ℕ) → IsBlock (state_of word heap) address n →
       IsBlock (state_of word old) address n × ((i : ℕ) → length left ≤ i → i < length slabs → slice_index slabs i ≢ address)
   pub back : List ℕ
@@ -86,7 +86,7 @@ pub record IsEmptying {A : Type 0} (regions : A → List Grant) (word : A → �
 
 pub emptying_none : {A : Type 0} (regions : A → List Grant) (word : A → ℕ → ℕ) (follows : A → List Event → A → Type 0)
     (frees parts : Bool) (unit : ℕ) (heap : Dlmalloc A) (slabs : List ℕ) (size : ℕ) →
-    follows heap.system [] heap.system → IsIntact regions word heap → IsLaidOut regions word heap size slabs →
+    follows heap.system [] heap.system → IsIntact regions word heap → AreSlabsLaidOut regions word heap size slabs →
     IsEmptying regions word follows frees parts unit heap slabs size heap slabs
 emptying_none regions word follows frees parts unit heap slabs size followed intact laid = record {
   intact = intact;

@@ -5,8 +5,8 @@ use Rattle.std.proofs.lemmas.List.{append_assoc, map-append}
 use Rattle.std.proofs.lemmas.List.Elements.{filter-append}
 use Rattle.object_pool.specs.declared.key.Key.{Key}
 use Rattle.object_pool.specs.declared.slots.Slot.{Slot}
-use Rattle.object_pool.specs.Lists.{Entry, is_of, object_of, entries_at, index_count, with_bytes, object_count}
-use Rattle.object_pool.specs.Pool.{past, present}
+use Rattle.object_pool.specs.Lists.{Entry, is_of, object_of, entries_at, index_count, with_entry_bytes, object_count}
+use Rattle.object_pool.specs.Pool.{past_entries, present}
 use Rattle.object_pool.proofs.Numbers.{lt_or_le, same_or_other}
 
 abbrev pub key_at : ℕ → ℕ → Key
@@ -66,42 +66,43 @@ key_stays key bytes entry = go (is_of key entry)
     go false = refl
 
 pub at_with : (index : ℕ) (key : Key) (bytes : Option (List ℕ)) (entries : List Entry) →
-    entries_at index (with_bytes key bytes entries) ≡ with_bytes key bytes (entries_at index entries)
+    entries_at index (with_entry_bytes key bytes entries) ≡ with_entry_bytes key bytes (entries_at index entries)
 at_with index key bytes [] = refl
 at_with index key bytes (entry ∷ entries) =
-    ap (λ (k : Key). if k.index == index then change key bytes entry ∷ entries_at index (with_bytes key bytes entries)
-    else entries_at index (with_bytes key bytes entries)) (key_stays key bytes entry)
+    ap (λ (k : Key). if k.index == index then change key bytes entry ∷ entries_at index (with_entry_bytes key bytes entries)
+    else entries_at index (with_entry_bytes key bytes entries)) (key_stays key bytes entry)
     ∙ go (entry.key.index == index) (at_with index key bytes entries)
   where
-    go : (b : Bool) → entries_at index (with_bytes key bytes entries) ≡ with_bytes key bytes (entries_at index entries) →
-        (if b then change key bytes entry ∷ entries_at index (with_bytes key bytes entries) else entries_at index
-        (with_bytes key bytes entries)) ≡ with_bytes key bytes (if b then entry ∷ entries_at index entries
+    go : (b : Bool) → entries_at index (with_entry_bytes key bytes entries) ≡ with_entry_bytes key bytes
+        (entries_at index entries) →
+        (if b then change key bytes entry ∷ entries_at index (with_entry_bytes key bytes entries) else entries_at index
+        (with_entry_bytes key bytes entries)) ≡ with_entry_bytes key bytes (if b then entry ∷ entries_at index entries
         else entries_at index entries)
     go true rest = ap (λ (list : List Entry). change key bytes entry ∷ list) rest
     go false rest = rest
 
 -- the entries of another index stay
 pub other_with : (index : ℕ) (key : Key) (bytes : Option (List ℕ)) (entries : List Entry) → index ≢ key.index →
-    with_bytes key bytes (entries_at index entries) ≡ entries_at index entries
+    with_entry_bytes key bytes (entries_at index entries) ≡ entries_at index entries
 other_with index key bytes [] differ = refl
 other_with index key bytes (entry ∷ entries) differ = go (entry.key.index == index) refl (other_with index key bytes entries differ)
   where
-    go : (b : Bool) → (entry.key.index == index) ≡ b → with_bytes key bytes (entries_at index entries) ≡ entries_at index entries →
-        with_bytes key bytes (if b then entry ∷ entries_at index entries else entries_at index entries) ≡ (if b
+    go : (b : Bool) → (entry.key.index == index) ≡ b → with_entry_bytes key bytes (entries_at index entries) ≡ entries_at index entries →
+        with_entry_bytes key bytes (if b then entry ∷ entries_at index entries else entries_at index entries) ≡ (if b
         then entry ∷ entries_at index entries else entries_at index entries)
     go true test rest =
         let no : (entry.key.index == key.index) ≡ false = grind (arith, nat_tests) in
         rw no (ap (λ (list : List Entry). entry ∷ list) rest)
     go false test rest = rest
 
-pub length_with : (key : Key) (bytes : Option (List ℕ)) (entries : List Entry) → length (with_bytes key bytes entries) ≡ length entries
+pub length_with : (key : Key) (bytes : Option (List ℕ)) (entries : List Entry) → length (with_entry_bytes key bytes entries) ≡ length entries
 length_with key bytes [] = refl
 length_with key bytes (entry ∷ entries) = ap suc (length_with key bytes entries)
 
-pub indexes_with : (key : Key) (bytes : Option (List ℕ)) (entries : List Entry) → index_count (with_bytes key bytes entries) ≡ index_count entries
+pub indexes_with : (key : Key) (bytes : Option (List ℕ)) (entries : List Entry) → index_count (with_entry_bytes key bytes entries) ≡ index_count entries
 indexes_with key bytes [] = refl
 indexes_with key bytes (entry ∷ entries) =
-    ap (λ (k : Key). max (k.index + 1) (index_count (with_bytes key bytes entries))) (key_stays key bytes entry)
+    ap (λ (k : Key). max (k.index + 1) (index_count (with_entry_bytes key bytes entries))) (key_stays key bytes entry)
     ∙ ap (max (entry.key.index + 1)) (indexes_with key bytes entries)
 
 pub indexes_append : (entries : List Entry) (entry : Entry) → index_count (entries ++ entry ∷ []) ≡ max (index_count entries) (entry.key.index + 1)
@@ -131,7 +132,7 @@ count_append (first ∷ entries) entry =
 
 -- of those of a key, each has the new bytes
 pub count_with : (key : Key) (bytes : Option (List ℕ)) (entries : List Entry) →
-    object_count (with_bytes key bytes entries) + object_count (filter (is_of key) entries) ≡ object_count
+    object_count (with_entry_bytes key bytes entries) + object_count (filter (is_of key) entries) ≡ object_count
     entries + (if is_some bytes then length (filter (is_of key) entries) else 0)
 count_with key bytes [] = go (is_some bytes)
   where
@@ -141,89 +142,93 @@ count_with key bytes [] = go (is_some bytes)
 count_with key bytes (entry ∷ entries) = go (is_of key entry) (is_some bytes) refl (count_with key bytes entries)
   where
     go : (b s : Bool) → is_some bytes ≡ s →
-        object_count (with_bytes key bytes entries) + object_count (filter (is_of key) entries) ≡ object_count
+        object_count (with_entry_bytes key bytes entries) + object_count (filter (is_of key) entries) ≡ object_count
         entries + (if is_some bytes then length (filter (is_of key) entries) else 0) →
-        object_count ((if b then record entry { bytes = bytes } else entry) ∷ with_bytes key bytes entries) + object_count
+        object_count ((if b then record entry { bytes = bytes } else entry) ∷ with_entry_bytes key bytes
+        entries) + object_count
         (if b then entry ∷ filter (is_of key) entries else filter (is_of key) entries)
         ≡ object_count (entry ∷ entries) + (if is_some bytes then length (if b then entry ∷ filter (is_of key) entries else filter (is_of key) entries) else 0)
     go true true is rest =
-        let new : object_count (record entry { bytes = bytes } ∷ with_bytes key bytes entries) ≡ 1 + object_count
-        (with_bytes key bytes entries) = counted (record entry { bytes = bytes }) (with_bytes key bytes entries)
-        ∙ ap (λ b. one b + object_count (with_bytes key bytes entries)) is in
+        let new : object_count (record entry { bytes = bytes } ∷ with_entry_bytes key bytes entries) ≡ 1 + object_count
+        (with_entry_bytes key bytes entries) = counted (record entry { bytes = bytes }) (with_entry_bytes key bytes entries)
+        ∙ ap (λ b. one b + object_count (with_entry_bytes key bytes entries)) is in
         let old = counted entry entries in
         let kept = counted entry (filter (is_of key) entries) in
-        let rest' : object_count (with_bytes key bytes entries) + object_count (filter (is_of key) entries) ≡ object_count
+        let rest' : object_count (with_entry_bytes key bytes entries) + object_count
+        (filter (is_of key) entries) ≡ object_count
         entries + length (filter (is_of key) entries) = rest ∙ ap (λ b.
         object_count entries + (if b then length (filter (is_of key) entries) else 0)) is in
         rw is (omega (arith, new, old, kept, rest'))
     go true false is rest =
-        let new : object_count (record entry { bytes = bytes } ∷ with_bytes key bytes entries) ≡ 0 + object_count
-        (with_bytes key bytes entries) = counted (record entry { bytes = bytes }) (with_bytes key bytes entries)
-        ∙ ap (λ b. one b + object_count (with_bytes key bytes entries)) is in
+        let new : object_count (record entry { bytes = bytes } ∷ with_entry_bytes key bytes entries) ≡ 0 + object_count
+        (with_entry_bytes key bytes entries) = counted (record entry { bytes = bytes }) (with_entry_bytes key bytes entries)
+        ∙ ap (λ b. one b + object_count (with_entry_bytes key bytes entries)) is in
         let old = counted entry entries in
         let kept = counted entry (filter (is_of key) entries) in
-        let rest' : object_count (with_bytes key bytes entries) + object_count (filter (is_of key) entries) ≡ object_count
+        let rest' : object_count (with_entry_bytes key bytes entries) + object_count
+        (filter (is_of key) entries) ≡ object_count
         entries + 0 = rest ∙ ap (λ b. object_count entries + (if b then length (filter (is_of key) entries) else 0)) is
         in
         rw is (omega (arith, new, old, kept, rest'))
     go false s is rest =
-        let new = counted entry (with_bytes key bytes entries) in
+        let new = counted entry (with_entry_bytes key bytes entries) in
         let old = counted entry entries in
         omega (arith, new, old, rest)
 
 -- ---- a slot's history
 
-pub length_past : (index generation : ℕ) → length (past index generation) ≡ generation
+pub length_past : (index generation : ℕ) → length (past_entries index generation) ≡ generation
 length_past index zero = refl
-length_past index (suc generation) = length-append (past index generation) (entry_at index generation None ∷ [])
+length_past index (suc generation) = length-append (past_entries index generation) (entry_at index generation None ∷ [])
     ∙ (let rest = length_past index generation in omega (arith, rest))
 
 -- no entry of the past has a later key, and none an object
-of_past : (index generation n : ℕ) → n ≤ generation → filter (is_of (key_at index generation)) (past index n) ≡ []
+of_past : (index generation n : ℕ) → n ≤ generation → filter (is_of (key_at index generation)) (past_entries index n) ≡ []
 of_past index generation zero few = refl
 of_past index generation (suc n) few =
     let no : (index == index && n == generation) ≡ false = grind (arith, nat_tests) in
-    filter-append (is_of (key_at index generation)) (past index n) (entry_at index n None ∷ [])
+    filter-append (is_of (key_at index generation)) (past_entries index n) (entry_at index n None ∷ [])
     ∙ (ap (λ (list : List Entry). list ++ filter (is_of (key_at index generation)) (entry_at index n None ∷ []))
     (of_past index generation n (omega (arith, few)))
     ∙ ap (λ b. if b then entry_at index n None ∷ [] else []) no)
 
-pub with_past : (index generation n : ℕ) (bytes : Option (List ℕ)) → n ≤ generation → with_bytes (key_at index generation) bytes (past index n) ≡ past index n
+pub with_past : (index generation n : ℕ) (bytes : Option (List ℕ)) → n ≤ generation →
+    with_entry_bytes (key_at index generation) bytes (past_entries index n) ≡ past_entries index n
 with_past index generation zero bytes few = refl
 with_past index generation (suc n) bytes few =
     let no : (index == index && n == generation) ≡ false = grind (arith, nat_tests) in
-    map-append (change (key_at index generation) bytes) (past index n) (entry_at index n None ∷ [])
+    map-append (change (key_at index generation) bytes) (past_entries index n) (entry_at index n None ∷ [])
     ∙ (ap (λ (list : List Entry). list ++ change (key_at index generation) bytes (entry_at index n None) ∷ [])
     (with_past index generation n bytes (omega (arith, few)))
-    ∙ ap (λ b. past index n ++ (if b then entry_at index n bytes else entry_at index n None) ∷ []) no)
+    ∙ ap (λ b. past_entries index n ++ (if b then entry_at index n bytes else entry_at index n None) ∷ []) no)
 
 -- a later key has no entry there
 object_later : (index generation n : ℕ) (rest : List Entry) → n ≤ generation →
-    object_of (key_at index generation) (past index n ++ rest) ≡ object_of (key_at index generation) rest
+    object_of (key_at index generation) (past_entries index n ++ rest) ≡ object_of (key_at index generation) rest
 object_later index generation zero rest few = refl
 object_later index generation (suc n) rest few =
     let no : (index == index && n == generation) ≡ false = grind (arith, nat_tests) in
-    ap (object_of (key_at index generation)) (append_assoc (past index n) (entry_at index n None ∷ []) rest)
+    ap (object_of (key_at index generation)) (append_assoc (past_entries index n) (entry_at index n None ∷ []) rest)
     ∙ (object_later index generation n (entry_at index n None ∷ rest) (omega (arith, few))
     ∙ ap (λ b. if b then None else object_of (key_at index generation) rest) no)
 
 -- an earlier key has no object
-object_earlier : (index generation n : ℕ) (rest : List Entry) → generation < n → object_of (key_at index generation) (past index n ++ rest) ≡ None
+object_earlier : (index generation n : ℕ) (rest : List Entry) → generation < n → object_of (key_at index generation) (past_entries index n ++ rest) ≡ None
 object_earlier index generation zero rest less = absurd (omega (arith, less))
 object_earlier index generation (suc n) rest less = elim (same_or_other generation n) [
   | inl same ↦ (
       let yes : (index == index && n == generation) ≡ true = grind (arith, nat_tests) in
-      ap (object_of (key_at index generation)) (append_assoc (past index n) (entry_at index n None ∷ []) rest)
+      ap (object_of (key_at index generation)) (append_assoc (past_entries index n) (entry_at index n None ∷ []) rest)
       ∙ (object_later index generation n (entry_at index n None ∷ rest) (omega (arith, same))
       ∙ ap (λ b. if b then None else object_of (key_at index generation) rest) yes))
   | inr other ↦ (
-      ap (object_of (key_at index generation)) (append_assoc (past index n) (entry_at index n None ∷ []) rest)
+      ap (object_of (key_at index generation)) (append_assoc (past_entries index n) (entry_at index n None ∷ []) rest)
       ∙ object_earlier index generation n (entry_at index n None ∷ rest) (omega (arith, less, other)))
 ]
 
 -- the entries of a slot
 abbrev pub history : ℕ → Slot → List ℕ → List Entry
-history index slot bytes = past index slot.generation ++ present index slot bytes
+history index slot bytes = past_entries index slot.generation ++ present index slot bytes
 
 -- the object in a slot is that of its key
 pub object_in : (index generation : ℕ) (bytes : List ℕ) → object_of (key_at index generation)
@@ -255,18 +260,21 @@ pub filter_in : (index generation : ℕ) (bytes : List ℕ) → filter (is_of (k
     (history index (record { generation = generation; used = true }) bytes) ≡ entry_at index generation (Some bytes) ∷ []
 filter_in index generation bytes =
     let yes : (index == index && generation == generation) ≡ true = grind (arith, nat_tests) in
-    filter-append (is_of (key_at index generation)) (past index generation) (entry_at index generation (Some bytes) ∷ [])
+    filter-append (is_of (key_at index generation)) (past_entries index generation)
+    (entry_at index generation (Some bytes) ∷ [])
     ∙ (ap (λ (list : List Entry). list ++ filter (is_of (key_at index generation))
     (entry_at index generation (Some bytes) ∷ [])) (of_past index generation generation (omega arith))
     ∙ ap (λ b. if b then entry_at index generation (Some bytes) ∷ [] else []) yes)
 
 -- it gets other bytes
 pub with_in : (index generation : ℕ) (bytes : List ℕ) (new : Option (List ℕ)) →
-    with_bytes (key_at index generation) new (history index (record { generation = generation; used = true }) bytes) ≡ past
+    with_entry_bytes (key_at index generation) new (history index (record { generation = generation; used = true })
+    bytes) ≡ past_entries
     index generation ++ entry_at index generation new ∷ []
 with_in index generation bytes new =
     let yes : (index == index && generation == generation) ≡ true = grind (arith, nat_tests) in
-    map-append (change (key_at index generation) new) (past index generation) (entry_at index generation (Some bytes) ∷ [])
+    map-append (change (key_at index generation) new) (past_entries index generation)
+    (entry_at index generation (Some bytes) ∷ [])
     ∙ (ap (λ (list : List Entry). list ++ change (key_at index generation) new
     (entry_at index generation (Some bytes)) ∷ []) (with_past index generation generation new (omega arith))
-    ∙ ap (λ b. past index generation ++ (if b then entry_at index generation new else entry_at index generation (Some bytes)) ∷ []) yes)
+    ∙ ap (λ b. past_entries index generation ++ (if b then entry_at index generation new else entry_at index generation (Some bytes)) ∷ []) yes)

@@ -1,7 +1,7 @@
 -- The lists of a pool, computed.
 use Rattle.std.proofs.Common.{◌≡◌, ℕ, zero, suc, ◌+◌, ◌-◌, ◌^◌, List, [], ◌∷◌, ◌++◌, length, Some, None, refl, arith}
 use Rattle.object_pool.specs.declared.key.Key.{Key}
-use Rattle.object_pool.specs.Lists.{Entry, Lists, empty, object_of, entries_at, index_count, keys_of, object_count, slab_count, next_key, inserted, removed, replaced, LacksSlot, IsFull}
+use Rattle.object_pool.specs.Lists.{Entry, Lists, empty, object_of, entries_at, index_count, keys_of, object_count, slab_count, next_key, inserted, without_object, with_new_bytes, LacksSlot, HasAllSlots}
 use Rattle.object_pool.proofs.Entries.{key_at, entry_at}
 
 -- ---- a slot is used again
@@ -10,7 +10,7 @@ abbrev two : Lists
 two = inserted (2 ∷ []) (inserted (1 ∷ []) empty)
 
 abbrev again : Lists
-again = removed (key_at 0 0) two
+again = without_object (key_at 0 0) two
 
 abbrev three : Lists
 three = inserted (3 ∷ []) again
@@ -33,7 +33,7 @@ there = refl
 beside : object_of (key_at 1 0) three.entries ≡ Some (2 ∷ [])
 beside = refl
 
-changed : object_of (key_at 1 0) (replaced (key_at 1 0) (9 ∷ []) three).entries ≡ Some (9 ∷ [])
+changed : object_of (key_at 1 0) (with_new_bytes (key_at 1 0) (9 ∷ []) three).entries ≡ Some (9 ∷ [])
 changed = refl
 
 one_slab : slab_count three.entries ≡ 1
@@ -49,7 +49,7 @@ no_more : keys_of again.entries ≡ key_at 1 0 ∷ []
 no_more = refl
 
 -- the slot freed last goes first
-last_first : next_key (removed (key_at 0 0) (removed (key_at 1 0) two)) ≡ key_at 0 1
+last_first : next_key (without_object (key_at 0 0) (without_object (key_at 1 0) two)) ≡ key_at 0 1
 last_first = refl
 
 -- ---- 128 objects fill two slabs
@@ -74,23 +74,24 @@ three_slabs = refl
 no_slot : LacksSlot (filled 128)
 no_slot = (refl, refl)
 
-one_slot : next_key (removed (key_at 77 0) (filled 128)) ≡ key_at 77 1
+one_slot : next_key (without_object (key_at 77 0) (filled 128)) ≡ key_at 77 1
 one_slot = refl
 
 -- ---- the end of generations
 
 -- a slot is free again behind its object of generation 2 ^ 32 - 3, and not behind that of generation 2 ^ 32 - 2
-before_last : (key : Key) (lists : Lists) → length (entries_at key.index lists.entries) ≡ 2 ^ 32 - 2 → (removed key lists).freed ≡ lists.freed ++ key.index ∷ []
+before_last : (key : Key) (lists : Lists) → length (entries_at key.index lists.entries) ≡ 2 ^ 32 - 2 →
+    (without_object key lists).freed ≡ lists.freed ++ key.index ∷ []
 before_last key lists many = rw many refl
 
-behind_last : (key : Key) (lists : Lists) → length (entries_at key.index lists.entries) ≡ 2 ^ 32 - 1 → (removed key lists).freed ≡ lists.freed
+behind_last : (key : Key) (lists : Lists) → length (entries_at key.index lists.entries) ≡ 2 ^ 32 - 1 → (without_object key lists).freed ≡ lists.freed
 behind_last key lists many = rw many refl
 
 -- ---- the end of slots
 
 -- a pool is full at 2 ^ 32 - 64 slots, where none is free, and not a slab before
-full : (lists : Lists) → lists.freed ≡ [] → index_count lists.entries ≡ 2 ^ 32 - 64 → IsFull lists
+full : (lists : Lists) → lists.freed ≡ [] → index_count lists.entries ≡ 2 ^ 32 - 64 → HasAllSlots lists
 full lists none many = ((none, omega (arith, many)), many)
 
-not_full : (lists : Lists) → index_count lists.entries ≡ 2 ^ 32 - 128 → IsFull lists → ⊥
+not_full : (lists : Lists) → index_count lists.entries ≡ 2 ^ 32 - 128 → HasAllSlots lists → ⊥
 not_full lists many is = absurd (let all = is.1 in omega (arith, many, all))

@@ -4,8 +4,8 @@ use Rattle.std.specs.Prelude.{nat_lt}
 use Rattle.std.proofs.lemmas.List.Elements.{filter-append}
 use Rattle.object_pool.specs.declared.slots.Slot.{Slot}
 use Rattle.object_pool.specs.Lists.{Entry, Lists, object_count, AreFreeAgain}
-use Rattle.object_pool.specs.Slots.{slot_at, is_free, AreFreed}
-use Rattle.object_pool.specs.Pool.{past, present, Holds}
+use Rattle.object_pool.specs.Slots.{slot_at, is_reusable, AreFreed}
+use Rattle.object_pool.specs.Pool.{past_entries, present, Holds}
 use Rattle.object_pool.proofs.Entries.{entry_at, history, length_past}
 use Rattle.object_pool.proofs.KeyLists.{objects, none_past}
 use Rattle.object_pool.proofs.SlotLists.{times}
@@ -16,7 +16,7 @@ one b = if b then 1 else 0
 -- the history of a slot has the one object that is in it
 objects_in : (index : ℕ) (slot : Slot) (bytes : List ℕ) → object_count (history index slot bytes) ≡ one slot.used
 objects_in index slot bytes =
-    ap length (filter-append (λ (entry : Entry). is_some entry.bytes) (past index slot.generation)
+    ap length (filter-append (λ (entry : Entry). is_some entry.bytes) (past_entries index slot.generation)
     (present index slot bytes) ∙ ap (λ (list : List Entry). list ++ objects (present index slot bytes))
     (none_past index slot.generation))
     ∙ go slot.used
@@ -27,7 +27,7 @@ objects_in index slot bytes =
 
 entries_in : (index : ℕ) (slot : Slot) (bytes : List ℕ) → length (history index slot bytes) ≡ slot.generation + one slot.used
 entries_in index slot bytes =
-    length-append (past index slot.generation) (present index slot bytes)
+    length-append (past_entries index slot.generation) (present index slot bytes)
     ∙ (ap (λ n. n + length (present index slot bytes)) (length_past index slot.generation)
     ∙ ap (λ n. slot.generation + n) (go slot.used))
   where
@@ -39,7 +39,7 @@ entries_in index slot bytes =
 abbrev again : ℕ → ℕ → Bool
 again count entries = count == 0 && nat_lt 0 entries && nat_lt entries (2 ^ 32 - 1)
 
-again_is : (slot : Slot) → again (one slot.used) (slot.generation + one slot.used) ≡ is_free slot
+again_is : (slot : Slot) → again (one slot.used) (slot.generation + one slot.used) ≡ is_reusable slot
 again_is slot = go slot.used
   where
     go : (b : Bool) → again (one b) (slot.generation + one b) ≡ (not b && nat_lt 0 slot.generation && nat_lt slot.generation (2 ^ 32 - 1))

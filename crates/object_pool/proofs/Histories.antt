@@ -4,9 +4,9 @@ use Rattle.std.proofs.lemmas.Bool.Decides.{nat_tests}
 use Rattle.std.proofs.lemmas.List.{append-nil}
 use Rattle.object_pool.specs.declared.key.Key.{Key}
 use Rattle.object_pool.specs.declared.slots.Slot.{Slot}
-use Rattle.object_pool.specs.Lists.{Entry, Lists, empty, is_of, object_of, entries_at, index_count, with_bytes, next_index, next_key, inserted, replaced, removed, object_count}
-use Rattle.object_pool.specs.Slots.{slot_at, IsChanged, IsTaken, IsNext, IsReleased, IsIn}
-use Rattle.object_pool.specs.Pool.{past, present, Holds}
+use Rattle.object_pool.specs.Lists.{Entry, Lists, empty, is_of, object_of, entries_at, index_count, with_entry_bytes, next_index, next_key, inserted, with_new_bytes, without_object, object_count}
+use Rattle.object_pool.specs.Slots.{slot_at, IsChanged, IsTaken, IsNextSlot, IsReleased, IsKeyLive}
+use Rattle.object_pool.specs.Pool.{past_entries, present, Holds}
 use Rattle.object_pool.proofs.Entries.{entry_at, history, at_append, object_at, of_at, at_with, other_with, length_with, indexes_with, indexes_append, count_append, count_with, length_past, object_in, object_out, filter_in, with_in}
 use Rattle.object_pool.proofs.Numbers.{same_or_other}
 
@@ -47,34 +47,35 @@ history_same : (index : ℕ) (slot new : Slot) (bytes new_bytes : List ℕ) → 
     (slot.used ≡ true → new_bytes ≡ bytes) → history index slot bytes ≡ history index new new_bytes
 history_same index slot new bytes new_bytes same alike = go slot.used refl ∙ ap (λ s. history index s new_bytes) (sym same)
   where
-    go : (b : Bool) → slot.used ≡ b → past index slot.generation ++ present index slot bytes ≡ past index slot.generation ++ present index slot new_bytes
-    go true is = ap (λ xs. past index slot.generation ++ present index slot xs) (sym (alike is))
-    go false is = ap (λ b. past index slot.generation ++ (if b then entry_at index slot.generation (Some bytes) ∷ []
-        else [])) is ∙ sym (ap (λ b. past index slot.generation ++ (if b then entry_at index slot.generation
+    go : (b : Bool) → slot.used ≡ b → past_entries index slot.generation ++ present index slot bytes ≡ past_entries index
+        slot.generation ++ present index slot new_bytes
+    go true is = ap (λ xs. past_entries index slot.generation ++ present index slot xs) (sym (alike is))
+    go false is = ap (λ b. past_entries index slot.generation ++ (if b then entry_at index slot.generation (Some bytes) ∷ []
+        else [])) is ∙ sym (ap (λ b. past_entries index slot.generation ++ (if b then entry_at index slot.generation
         (Some new_bytes) ∷ [] else [])) is)
 
 module _ (slots : List Slot) (freed : List ℕ) (bytes : ℕ → List ℕ) (lists : Lists) (h : Holds slots freed bytes lists) where
   -- ---- which keys have an object
 
-  pub object_is : (key : Key) → IsIn slots key → object_of key lists.entries ≡ Some (bytes key.index)
+  pub object_is : (key : Key) → IsKeyLive slots key → object_of key lists.entries ≡ Some (bytes key.index)
   object_is key is =
       object_at key lists.entries ∙ (ap (object_of key) (h.entries key.index
       ∙ ap (λ s. history key.index s (bytes key.index)) is) ∙ object_in key.index key.generation (bytes key.index))
 
-  pub object_none : (key : Key) → (IsIn slots key → ⊥) → object_of key lists.entries ≡ None
+  pub object_none : (key : Key) → (IsKeyLive slots key → ⊥) → object_of key lists.entries ≡ None
   object_none key none =
       object_at key lists.entries ∙ (ap (object_of key) (h.entries key.index)
       ∙ object_out key.index key.generation (slot_at slots key.index) (bytes key.index) none)
 
   -- the key of an object has one entry
-  one_entry : (key : Key) → IsIn slots key → filter (is_of key) lists.entries ≡ entry_at key.index key.generation (Some (bytes key.index)) ∷ []
+  one_entry : (key : Key) → IsKeyLive slots key → filter (is_of key) lists.entries ≡ entry_at key.index key.generation (Some (bytes key.index)) ∷ []
   one_entry key is =
       of_at key lists.entries ∙ (ap (filter (is_of key)) (h.entries key.index
       ∙ ap (λ s. history key.index s (bytes key.index)) is) ∙ filter_in key.index key.generation (bytes key.index))
 
   -- ---- an insert
 
-  module _ (key : Key) (new : List Slot) (new_freed : List ℕ) (next : IsNext slots freed key.index new new_freed) (taken : IsTaken slots key new) where
+  module _ (key : Key) (new : List Slot) (new_freed : List ℕ) (next : IsNextSlot slots freed key.index new new_freed) (taken : IsTaken slots key new) where
     index_is : next_index lists ≡ key.index
     index_is = elim next [
       | inl again ↦ (
@@ -100,12 +101,12 @@ module _ (slots : List Slot) (freed : List ℕ) (bytes : ℕ → List ℕ) (list
     ]
 
     -- the entries that the index had
-    before : entries_at key.index lists.entries ≡ past key.index key.generation ++ []
+    before : entries_at key.index lists.entries ≡ past_entries key.index key.generation ++ []
     before = h.entries key.index ∙ ap (λ s. history key.index s (bytes key.index)) taken.before
 
     generation_is : length (entries_at (next_index lists) lists.entries) ≡ key.generation
     generation_is = ap (λ i. length (entries_at i lists.entries)) index_is
-        ∙ (ap length (before ∙ append-nil (past key.index key.generation)) ∙ length_past key.index key.generation)
+        ∙ (ap length (before ∙ append-nil (past_entries key.index key.generation)) ∙ length_past key.index key.generation)
 
     pub key_is : next_key lists ≡ key
     key_is i = record { index = index_is i; generation = generation_is i }
@@ -125,8 +126,10 @@ module _ (slots : List Slot) (freed : List ℕ) (bytes : ℕ → List ℕ) (list
               let test : (key.index == other) ≡ true = grind (arith, nat_tests) in
               ap (λ b. entries_at other lists.entries ++ (if b then entry ∷ [] else [])) test
               ∙ (ap (λ i. entries_at i lists.entries ++ entry ∷ []) same
-              ∙ (ap (λ (list : List Entry). list ++ entry ∷ []) (before ∙ append-nil (past key.index key.generation))
-              ∙ (ap (λ xs. past key.index key.generation ++ entry_at key.index key.generation (Some xs) ∷ []) (sym here)
+              ∙ (ap (λ (list : List Entry). list ++ entry ∷ []) (before ∙ append-nil
+              (past_entries key.index key.generation))
+              ∙ (ap (λ xs. past_entries key.index key.generation ++ entry_at key.index key.generation (Some xs) ∷ [])
+              (sym here)
               ∙ (ap (λ i. history i (record { generation = key.generation; used = true }) (new_bytes i)) (sym same)
               ∙ sym (ap (λ s. history other s (new_bytes other)) (changed_here slots new key.index other _ taken.after same)))))))
           | inr differ ↦ (
@@ -173,29 +176,33 @@ module _ (slots : List Slot) (freed : List ℕ) (bytes : ℕ → List ℕ) (list
 
   -- ---- an object gets other bytes
 
-  module _ (key : Key) (is : IsIn slots key) where
+  module _ (key : Key) (is : IsKeyLive slots key) where
     -- the entries of the index of an object's key
     there : (new : Option (List ℕ)) (other : ℕ) → other ≡ key.index → entries_at other
-        (with_bytes key new lists.entries) ≡ past key.index key.generation ++ entry_at key.index key.generation new ∷ []
+        (with_entry_bytes key new lists.entries) ≡ past_entries key.index key.generation ++ entry_at key.index
+        key.generation new ∷ []
     there new other same =
-        ap (λ i. entries_at i (with_bytes key new lists.entries)) same
+        ap (λ i. entries_at i (with_entry_bytes key new lists.entries)) same
         ∙ (at_with key.index key new lists.entries
-        ∙ (ap (with_bytes key new) (h.entries key.index ∙ ap (λ s. history key.index s (bytes key.index)) is)
+        ∙ (ap (with_entry_bytes key new) (h.entries key.index ∙ ap (λ s. history key.index s (bytes key.index)) is)
         ∙ with_in key.index key.generation (bytes key.index) new))
 
-    elsewhere : (new : Option (List ℕ)) (other : ℕ) → other ≢ key.index → entries_at other (with_bytes key new lists.entries) ≡ entries_at other lists.entries
+    elsewhere : (new : Option (List ℕ)) (other : ℕ) → other ≢ key.index →
+        entries_at other (with_entry_bytes key new lists.entries) ≡ entries_at other lists.entries
     elsewhere new other differ = at_with other key new lists.entries ∙ other_with other key new lists.entries differ
 
-    many_same : (new : Option (List ℕ)) (other : ℕ) → length (entries_at other (with_bytes key new lists.entries)) ≡ length (entries_at other lists.entries)
+    many_same : (new : Option (List ℕ)) (other : ℕ) → length (entries_at other
+        (with_entry_bytes key new lists.entries)) ≡ length (entries_at other lists.entries)
     many_same new other = ap length (at_with other key new lists.entries) ∙ length_with key new (entries_at other lists.entries)
 
     pub holds_replaced : (object : List ℕ) (new_bytes : ℕ → List ℕ) → new_bytes key.index ≡ object →
         ((other : ℕ) → other ≢ key.index → (slot_at slots other).used ≡ true → new_bytes other ≡ bytes other) →
-        Holds slots freed new_bytes (replaced key object lists)
+        Holds slots freed new_bytes (with_new_bytes key object lists)
     holds_replaced object new_bytes here others = record {
       entries = λ other. elim (same_or_other other key.index) [
         | inl same ↦ there (Some object) other same
-            ∙ (ap (λ xs. past key.index key.generation ++ entry_at key.index key.generation (Some xs) ∷ []) (sym here)
+            ∙ (ap (λ xs. past_entries key.index key.generation ++ entry_at key.index key.generation (Some xs) ∷ [])
+            (sym here)
             ∙ (sym (ap (λ s. history key.index s (new_bytes key.index)) is) ∙ ap (λ i. history i (slot_at slots i) (new_bytes i)) (sym same)))
         | inr differ ↦ elsewhere (Some object) other differ
             ∙ (h.entries other ∙ history_same other (slot_at slots other) (slot_at slots other) (bytes other) (new_bytes other) refl (others other differ))
@@ -213,13 +220,13 @@ module _ (slots : List Slot) (freed : List ℕ) (bytes : ℕ → List ℕ) (list
 
     -- ---- a removal
 
-    pub holds_removed : (new : List Slot) (new_freed : List ℕ) → IsReleased slots freed key new new_freed → Holds new new_freed bytes (removed key lists)
+    pub holds_removed : (new : List Slot) (new_freed : List ℕ) → IsReleased slots freed key new new_freed → Holds new new_freed bytes (without_object key lists)
     holds_removed new new_freed released =
         let next : suc key.generation ≡ key.generation + 1 = omega arith in
         record {
           entries = λ other. elim (same_or_other other key.index) [
             | inl same ↦ there None other same
-                ∙ (sym (append-nil (past key.index key.generation ++ entry_at key.index key.generation None ∷ []))
+                ∙ (sym (append-nil (past_entries key.index key.generation ++ entry_at key.index key.generation None ∷ []))
                 ∙ (ap (λ i. history i (record { generation = suc key.generation; used = false }) (bytes i)) (sym same)
                 ∙ (ap (λ n. history other (record { generation = n; used = false }) (bytes other)) next
                 ∙ sym (ap (λ s. history other s (bytes other)) (changed_here slots new key.index other _ released.after same)))))
@@ -233,7 +240,7 @@ module _ (slots : List Slot) (freed : List ℕ) (bytes : ℕ → List ℕ) (list
           freed_are = (
               let many : length (entries_at key.index lists.entries) ≡ key.generation + 1 =
               ap length (h.entries key.index ∙ ap (λ s. history key.index s (bytes key.index)) is)
-              ∙ (length-append (past key.index key.generation) (entry_at key.index key.generation
+              ∙ (length-append (past_entries key.index key.generation) (entry_at key.index key.generation
               (Some (bytes key.index)) ∷ []) ∙ (let n = length_past key.index key.generation in omega (arith, n))) in
               ap (λ n. if n == 2 ^ 32 - 1 then lists.freed else lists.freed ++ key.index ∷ []) many
               ∙ (ap (λ (list : List ℕ). if key.generation + 1 == 2 ^ 32 - 1 then list else list ++ key.index ∷ []) h.freed_are ∙ sym released.freed));

@@ -5,17 +5,18 @@ use Rattle.object_pool.specs.declared.key.Key.{Key}
 use Rattle.object_pool.specs.declared.slots.Slot.{Slot}
 use Rattle.object_pool.specs.Lists.{Entry, Lists, entries_at, keys_at, keys_of}
 use Rattle.object_pool.specs.Slots.{slot_at, keys_from}
-use Rattle.object_pool.specs.Pool.{past, present, Holds}
+use Rattle.object_pool.specs.Pool.{past_entries, present, Holds}
 use Rattle.object_pool.proofs.Entries.{history, entry_at}
 
 abbrev pub objects : List Entry → List Entry
 objects entries = filter (λ (entry : Entry). is_some entry.bytes) entries
 
 -- what was removed is no object
-pub none_past : (index generation : ℕ) → objects (past index generation) ≡ []
+pub none_past : (index generation : ℕ) → objects (past_entries index generation) ≡ []
 none_past index zero = refl
 none_past index (suc generation) =
-    filter-append (λ (entry : Entry). is_some entry.bytes) (past index generation) (entry_at index generation None ∷ [])
+    filter-append (λ (entry : Entry). is_some entry.bytes) (past_entries index generation)
+    (entry_at index generation None ∷ [])
     ∙ ap (λ (list : List Entry). list ++ []) (none_past index generation)
 
 -- the keys of the objects of a slot
@@ -25,7 +26,7 @@ keys_here index slot = if slot.used then (record { index = index; generation = s
 keys_in : (index : ℕ) (slot : Slot) (bytes : List ℕ) → map (λ (entry : Entry). entry.key) (objects (history index slot bytes)) ≡ keys_here index slot
 keys_in index slot bytes =
     ap (map (λ (entry : Entry). entry.key)) (filter-append (λ (entry : Entry). is_some entry.bytes)
-    (past index slot.generation) (present index slot bytes) ∙ ap (λ (list : List Entry).
+    (past_entries index slot.generation) (present index slot bytes) ∙ ap (λ (list : List Entry).
     list ++ objects (present index slot bytes)) (none_past index slot.generation))
     ∙ go slot.used
   where

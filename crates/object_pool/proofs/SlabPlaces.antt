@@ -14,7 +14,7 @@ use Rattle.dlmalloc.specs.Requested.{IsHandedOut}
 use Rattle.dlmalloc.specs.declared.heap.Dlmalloc.{Dlmalloc}
 use Rattle.object_pool.specs.Bytes.{bytes_at, AreGranted, IsWritten}
 use Rattle.sound_heap.specs.Heap.{AreInBlock, StaysInState}
-use Rattle.object_pool.specs.Pool.{place_of, bytes_of, IsLaidOut, KeepsOthers, PlacesAreApart}
+use Rattle.object_pool.specs.Pool.{slot_address, object_bytes_at, AreSlabsLaidOut, KeepsOtherBlocks, PlacesAreApart}
 use Rattle.object_pool.proofs.ByteRuns.{bytes_same, bytes_are}
 use Rattle.object_pool.proofs.HeapBlocks.{handed_keeps, handed_fresh, written_keeps}
 use Rattle.object_pool.proofs.Numbers.{lt_or_le, same_or_other}
@@ -29,7 +29,7 @@ next_place size r s less =
     omega (arith, grown, one)
 
 module _ {A : Type 0} (regions : A → List Grant) (word : A → ℕ → ℕ) (heap : Dlmalloc A) (size : ℕ) (slabs : List ℕ)
-    (laid : IsLaidOut regions word heap size slabs) where
+    (laid : AreSlabsLaidOut regions word heap size slabs) where
   slab_there : (index : ℕ) → index < 64 * length slabs → index / 64 < length slabs
   slab_there index less = omega (arith, less)
 
@@ -38,14 +38,14 @@ module _ {A : Type 0} (regions : A → List Grant) (word : A → ℕ → ℕ) (h
   slab_block index less = laid.blocks (index / 64) (slab_there index less)
 
   -- the place of an index ends in its slab
-  pub place_ends : (index : ℕ) → place_of slabs size index + size ≤ slice_index slabs (index / 64) + 64 * size
+  pub place_ends : (index : ℕ) → slot_address slabs size index + size ≤ slice_index slabs (index / 64) + 64 * size
   place_ends index =
       let next = next_place size (index % 64) 64 (omega arith) in
       let turned : size * 64 ≡ 64 * size = grind arith in
       omega (arith, next, turned)
 
   pub place_granted : ArePlaced (regions heap.system) (state_of word heap) → (index : ℕ) → index < 64 * length slabs →
-      AreGranted (regions heap.system) (place_of slabs size index) size
+      AreGranted (regions heap.system) (slot_address slabs size index) size
   place_granted placed index less k from to =
       let end = place_ends index in
       (placed (slice_index slabs (index / 64)) (64 * size) (slab_block index less)).granted k (omega (arith, from)) (omega (arith, to, end))
@@ -71,7 +71,7 @@ module _ {A : Type 0} (regions : A → List Grant) (word : A → ℕ → ℕ) (h
   -- ---- an object is written
 
   pub object_inside : (index : ℕ) → index < 64 * length slabs → (count at : ℕ) → count ≡ size →
-      at ≡ place_of slabs size index → AreInBlock (state_of word heap) at count
+      at ≡ slot_address slabs size index → AreInBlock (state_of word heap) at count
   object_inside index less count at many is =
       let end = place_ends index in
       record {
@@ -85,11 +85,11 @@ module _ {A : Type 0} (regions : A → List Grant) (word : A → ℕ → ℕ) (h
   module _ (placed : ArePlaced (regions heap.system) (state_of word heap)) (apart : BlocksAreApart (state_of word heap)) (follows : A → List Event → A → Type 0)
       (index : ℕ) (less : index < 64 * length slabs) (new : Dlmalloc A) (stays : StaysInState regions word follows heap new)
       (bytes : List ℕ) (many : length bytes ≡ size)
-      (written : IsWritten (regions heap.system) (word heap.system) (place_of slabs size index) bytes (length bytes) (word new.system)) where
-    within : place_of slabs size index + length bytes ≤ slice_index slabs (index / 64) + 64 * size
+      (written : IsWritten (regions heap.system) (word heap.system) (slot_address slabs size index) bytes (length bytes) (word new.system)) where
+    within : slot_address slabs size index + length bytes ≤ slice_index slabs (index / 64) + 64 * size
     within = let end = place_ends index in omega (arith, end, many)
 
-    pub written_laid : IsLaidOut regions word new size slabs
+    pub written_laid : AreSlabsLaidOut regions word new size slabs
     written_laid = record {
       some = laid.some;
       small = laid.small;
@@ -97,23 +97,24 @@ module _ {A : Type 0} (regions : A → List Grant) (word : A → ℕ → ℕ) (h
       distinct = laid.distinct;
     }
 
-    pub written_here : bytes_of word new slabs size index ≡ bytes
-    written_here = subst (λ n. bytes_at (word new.system) (place_of slabs size index) n ≡ bytes) many
-        (bytes_are (word new.system) (place_of slabs size index) bytes written.here)
+    pub written_here : object_bytes_at word new slabs size index ≡ bytes
+    written_here = subst (λ n. bytes_at (word new.system) (slot_address slabs size index) n ≡ bytes) many
+        (bytes_are (word new.system) (slot_address slabs size index) bytes written.here)
 
-    pub written_others : (other : ℕ) → other < 64 * length slabs → other ≢ index → bytes_of word new slabs size other ≡ bytes_of word heap slabs size other
-    written_others other there differ = bytes_same (word heap.system) (word new.system) (place_of slabs size other) size (λ k below.
-        written.elsewhere (place_of slabs size other + k) (place_granted placed other there (place_of slabs size other + k) (omega arith) (omega arith))
+    pub written_others : (other : ℕ) → other < 64 * length slabs → other ≢ index →
+        object_bytes_at word new slabs size other ≡ object_bytes_at word heap slabs size other
+    written_others other there differ = bytes_same (word heap.system) (word new.system) (slot_address slabs size other) size (λ k below.
+        written.elsewhere (slot_address slabs size other + k) (place_granted placed other there (slot_address slabs size other + k) (omega arith) (omega arith))
         (elim (places_apart apart other index there less differ) [
           | inl before ↦ inl (omega (arith, before, below))
           | inr
               behind ↦ inr (omega (arith, behind, many))
         ]))
 
-    pub written_kept : KeepsOthers word slabs heap new
+    pub written_kept : KeepsOtherBlocks word slabs heap new
     written_kept address n block none =
         written_keeps regions word heap new (slice_index slabs (index / 64)) (64 * size) (slab_block index less) placed
-        (place_of slabs size index) bytes (length bytes) (omega arith) within written apart stays.state
+        (slot_address slabs size index) bytes (length bytes) (omega arith) within written apart stays.state
         address n block (λ e. none (index / 64) (slab_there index less) (sym e))
 
   -- ---- a slab more
@@ -136,7 +137,7 @@ module _ {A : Type 0} (regions : A → List Grant) (word : A → ℕ → ℕ) (h
         let is : length slabs ≡ i = omega (arith, many) in
         subst (λ j. slice_index (slabs ++ address ∷ []) j ≡ address) is last
 
-    pub added_laid : IsLaidOut regions word new size (slabs ++ address ∷ [])
+    pub added_laid : AreSlabsLaidOut regions word new size (slabs ++ address ∷ [])
     added_laid = record {
       some = laid.some;
       small = laid.small;

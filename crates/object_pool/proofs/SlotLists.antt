@@ -5,7 +5,7 @@ use Rattle.std.proofs.lemmas.List.{get_or_append_left, get_or_past, get_or-set_s
 use Rattle.std.proofs.lemmas.List.Sums.{sum_by_push, sum_by-set}
 use Rattle.std.proofs.Math.Seq.{get_or-append_seam}
 use Rattle.object_pool.specs.declared.slots.Slot.{Slot}
-use Rattle.object_pool.specs.Slots.{slot_at, is_free, AreFreed, AreYoung, used_count, IsChanged}
+use Rattle.object_pool.specs.Slots.{slot_at, is_reusable, AreFreed, AreYoung, used_count, IsChanged}
 use Rattle.object_pool.proofs.Numbers.{lt_or_le, same_or_other}
 
 -- no slot
@@ -13,16 +13,16 @@ abbrev pub none : Slot
 none = record { generation = 0; used = false }
 
 -- what a slot is that may be used again
-pub free_is : (slot : Slot) → is_free slot ≡ true → (slot.used ≡ false) × (0 < slot.generation) × (slot.generation < 2 ^ 32 - 1)
+pub free_is : (slot : Slot) → is_reusable slot ≡ true → (slot.used ≡ false) × (0 < slot.generation) × (slot.generation < 2 ^ 32 - 1)
 free_is slot is = grind (arith, nat_tests)
 
 pub past_is_none : (slots : List Slot) (index : ℕ) → length slots ≤ index → slot_at slots index ≡ none
 past_is_none slots index past = get_or_past slots index none past
 
-pub free_there : (slots : List Slot) (index : ℕ) → is_free (slot_at slots index) ≡ true → index < length slots
+pub free_there : (slots : List Slot) (index : ℕ) → is_reusable (slot_at slots index) ≡ true → index < length slots
 free_there slots index is = elim (lt_or_le index (length slots)) [
   | inl less ↦ less
-  | inr past ↦ absurd (let gone : is_free none ≡ true = subst (λ slot. is_free slot ≡ true) (past_is_none slots index past) is in cc)
+  | inr past ↦ absurd (let gone : is_reusable none ≡ true = subst (λ slot. is_reusable slot ≡ true) (past_is_none slots index past) is in cc)
 ]
 
 -- a slot that has an object is there
@@ -71,10 +71,10 @@ once_small false = omega arith
 
 -- the slot freed last may be used again
 pub freed_last : (slots : List Slot) (freed rest : List ℕ) (index : ℕ) → AreFreed slots freed → freed ≡ rest ++ index ∷ [] →
-    is_free (slot_at slots index) ≡ true
-freed_last slots freed rest index are is = go (is_free (slot_at slots index)) refl
+    is_reusable (slot_at slots index) ≡ true
+freed_last slots freed rest index are is = go (is_reusable (slot_at slots index)) refl
   where
-    go : (b : Bool) → is_free (slot_at slots index) ≡ b → is_free (slot_at slots index) ≡ true
+    go : (b : Bool) → is_reusable (slot_at slots index) ≡ b → is_reusable (slot_at slots index) ≡ true
     go true test = test
     go false test = absurd (
         let self : (index == index) ≡ true = grind (arith, nat_tests) in
@@ -94,10 +94,10 @@ freed_taken slots new freed rest index generation are is changed other = elim (s
       ∙ ap (λ b. if b then record { generation = generation; used = true } else slot_at slots other) test in
       let count : times other freed ≡ times other rest + 1 = ap (times other) is
       ∙ (times_push other rest index ∙ ap (λ b. times other rest + cond b 1 0) test') in
-      let few = once_small (is_free (slot_at slots other)) in
+      let few = once_small (is_reusable (slot_at slots other)) in
       let was = are other in
       let zero : times other rest ≡ 0 = omega arith in
-      zero ∙ sym (ap (λ s. once (is_free s)) slot))
+      zero ∙ sym (ap (λ s. once (is_reusable s)) slot))
   | inr differ ↦ (
       let test : (other == index) ≡ false = grind (arith, nat_tests) in
       let test' : (index == other) ≡ false = grind (arith, nat_tests) in
@@ -106,43 +106,45 @@ freed_taken slots new freed rest index generation are is changed other = elim (s
       let count : times other freed ≡ times other rest + 0 = ap (times other) is
       ∙ (times_push other rest index ∙ ap (λ b. times other rest + cond b 1 0) test') in
       let same : times other rest ≡ times other freed = omega arith in
-      same ∙ (are other ∙ sym (ap (λ s. once (is_free s)) slot)))
+      same ∙ (are other ∙ sym (ap (λ s. once (is_reusable s)) slot)))
 ]
 
 -- a slot that is not freed is another, which may not be used again
 pub freed_same : (slots new : List Slot) (freed : List ℕ) (index : ℕ) (slot : Slot) → AreFreed slots freed →
-    is_free (slot_at slots index) ≡ false → is_free slot ≡ false → IsChanged slots index slot new → AreFreed new freed
+    is_reusable (slot_at slots index) ≡ false → is_reusable slot ≡ false → IsChanged slots index slot new →
+    AreFreed new freed
 freed_same slots new freed index slot are before after changed other = elim (same_or_other other index) [
   | inl same ↦ (
       let test : (other == index) ≡ true = grind (arith, nat_tests) in
       let is : slot_at new other ≡ slot = changed other ∙ ap (λ b. if b then slot else slot_at slots other) test in
-      are other ∙ (ap once (ap (λ i. is_free (slot_at slots i)) same ∙ before) ∙ sym (ap once (ap is_free is ∙ after))))
+      are other ∙ (ap once (ap (λ i. is_reusable (slot_at slots i)) same ∙ before)
+      ∙ sym (ap once (ap is_reusable is ∙ after))))
   | inr differ ↦ (
       let test : (other == index) ≡ false = grind (arith, nat_tests) in
       let is : slot_at new other ≡ slot_at slots other = changed other ∙ ap (λ b. if b then slot else slot_at slots other) test in
-      are other ∙ sym (ap (λ s. once (is_free s)) is))
+      are other ∙ sym (ap (λ s. once (is_reusable s)) is))
 ]
 
 -- it is one that may be used again
 pub freed_more : (slots new : List Slot) (freed : List ℕ) (index : ℕ) (slot : Slot) → AreFreed slots freed →
-    is_free (slot_at slots index) ≡ false → is_free slot ≡ true → IsChanged slots index slot new →
+    is_reusable (slot_at slots index) ≡ false → is_reusable slot ≡ true → IsChanged slots index slot new →
     AreFreed new (freed ++ index ∷ [])
 freed_more slots new freed index slot are before after changed other = elim (same_or_other other index) [
   | inl same ↦ (
       let test : (other == index) ≡ true = grind (arith, nat_tests) in
       let test' : (index == other) ≡ true = grind (arith, nat_tests) in
       let is : slot_at new other ≡ slot = changed other ∙ ap (λ b. if b then slot else slot_at slots other) test in
-      let was : times other freed ≡ 0 = are other ∙ ap once (ap (λ i. is_free (slot_at slots i)) same ∙ before) in
+      let was : times other freed ≡ 0 = are other ∙ ap once (ap (λ i. is_reusable (slot_at slots i)) same ∙ before) in
       let count : times other (freed ++ index ∷ []) ≡ times other freed + 1 = times_push other freed index ∙ ap (λ b. times other freed + cond b 1 0) test' in
       let one : times other (freed ++ index ∷ []) ≡ 1 = omega arith in
-      one ∙ sym (ap once (ap is_free is ∙ after)))
+      one ∙ sym (ap once (ap is_reusable is ∙ after)))
   | inr differ ↦ (
       let test : (other == index) ≡ false = grind (arith, nat_tests) in
       let test' : (index == other) ≡ false = grind (arith, nat_tests) in
       let is : slot_at new other ≡ slot_at slots other = changed other ∙ ap (λ b. if b then slot else slot_at slots other) test in
       let count : times other (freed ++ index ∷ []) ≡ times other freed + 0 = times_push other freed index ∙ ap (λ b. times other freed + cond b 1 0) test' in
       let same : times other (freed ++ index ∷ []) ≡ times other freed = omega arith in
-      same ∙ (are other ∙ sym (ap (λ s. once (is_free s)) is)))
+      same ∙ (are other ∙ sym (ap (λ s. once (is_reusable s)) is)))
 ]
 
 -- ---- generations

@@ -14,12 +14,12 @@ use Rattle.dlmalloc.specs.Heap.{state_of}
 use Rattle.dlmalloc.specs.declared.heap.Dlmalloc.{Dlmalloc}
 use Rattle.object_pool.specs.declared.key.Key.{Key}
 use Rattle.object_pool.specs.declared.slots.Slot.{Slot}
-use Rattle.object_pool.specs.Lists.{Lists, empty, index_count, object_of, next_key, inserted, replaced, removed, LacksSlot, IsFull}
-use Rattle.object_pool.specs.Slots.{AreFreed, IsIn, IsNext, IsTaken, IsReleased}
+use Rattle.object_pool.specs.Lists.{Lists, empty, index_count, object_of, next_key, inserted, with_new_bytes, without_object, LacksSlot, HasAllSlots}
+use Rattle.object_pool.specs.Slots.{AreFreed, IsKeyLive, IsNextSlot, IsTaken, IsReleased}
 use Rattle.object_pool.specs.Pooled.{Pooled}
 use Rattle.object_pool.specs.Bytes.{byte_in, bytes_at}
 use Rattle.sound_heap.specs.Heap.{StaysInState}
-use Rattle.object_pool.specs.Pool.{place_of, bytes_of, Stands, IsLaidOut, IsNoSlab, KeepsOthers, Keeps, HasServed, IsAdded, HasRoom, IsPoolRefused, IsRefusedBy, TakesSlabIfNeeded}
+use Rattle.object_pool.specs.Pool.{slot_address, object_bytes_at, StandsForLists, AreSlabsLaidOut, IsNoSlab, KeepsOtherBlocks, Keeps, HasServed, IsSlabAdded, HasFreeSlot, IsPoolRefused, IsRefusedBy, TakesSlabIfNeeded}
 use Rattle.object_pool.specs.declared.pool_fault.PoolFault.{PoolFault}
 use Rattle.object_pool.specs.declared.pool_fault.PoolFault.TheVariants.{Full, Heap, OutOfMemory}
 use Rattle.object_pool.proofs.ByteRuns.{bytes_same}
@@ -44,71 +44,80 @@ abbrev pub pooled : {A : Type 0} → Dlmalloc A → ℕ → List ℕ → List Sl
 pooled heap size slabs slots freed = record { heap = heap; size = size; slabs = slabs; slots = slots; freed = freed }
 
 module _ {A : Type 0} (word : A → ℕ → ℕ) where
-  pub stands_none : (heap : Dlmalloc A) (size : ℕ) → Stands word (pooled heap size [] [] []) empty
-  stands_none heap size = record { holds = holds_none (bytes_of word heap [] size); freed = λ index. refl; slabs = refl }
+  pub stands_none : (heap : Dlmalloc A) (size : ℕ) → StandsForLists word (pooled heap size [] [] []) empty
+  stands_none heap size = record {
+    holds = holds_none (object_bytes_at word heap [] size);
+    freed = λ index. refl;
+    slabs =
+        refl;
+  }
 
   module _ (heap : Dlmalloc A) (size : ℕ) (slabs : List ℕ) (slots : List Slot) (freed : List ℕ) (lists : Lists)
-      (stands : Stands word (pooled heap size slabs slots freed) lists) where
-    pub stands_object : (key : Key) → IsIn slots key → object_of key lists.entries ≡ Some (bytes_of word heap slabs size key.index)
-    stands_object key is = object_is slots freed (bytes_of word heap slabs size) lists stands.holds key is
+      (stands : StandsForLists word (pooled heap size slabs slots freed) lists) where
+    pub stands_object : (key : Key) → IsKeyLive slots key → object_of key lists.entries ≡ Some (object_bytes_at word heap slabs size key.index)
+    stands_object key is = object_is slots freed (object_bytes_at word heap slabs size) lists stands.holds key is
 
-    pub stands_nothing : (key : Key) → (IsIn slots key → ⊥) → object_of key lists.entries ≡ None
-    stands_nothing key none = object_none slots freed (bytes_of word heap slabs size) lists stands.holds key none
+    pub stands_nothing : (key : Key) → (IsKeyLive slots key → ⊥) → object_of key lists.entries ≡ None
+    stands_nothing key none = object_none slots freed (object_bytes_at word heap slabs size) lists stands.holds key none
 
     -- there are as many slabs as before where there are as many indexes
     slabs_same : (indexes : ℕ) → indexes ≡ length slots → (indexes + 63) / 64 ≡ length slabs
     slabs_same indexes is = ap (λ n. (n + 63) / 64) (is ∙ sym stands.holds.indexes) ∙ stands.slabs
 
     pub stands_replaced : (new : Dlmalloc A) (size' : ℕ) (slabs' : List ℕ) (key : Key) (bytes : List ℕ) → size' ≡ size →
-        slabs' ≡ slabs → length slots ≤ 64 * length slabs → AreFreed slots freed → IsIn slots key →
-        bytes_of word new slabs size key.index ≡ bytes → ((other : ℕ) → other < 64 * length slabs → other ≢ key.index →
-        bytes_of word new slabs size other ≡ bytes_of word heap slabs size other) →
-        Stands word (pooled new size' slabs' slots freed) (replaced key bytes lists)
+        slabs' ≡ slabs → length slots ≤ 64 * length slabs → AreFreed slots freed → IsKeyLive slots key →
+        object_bytes_at word new slabs size key.index ≡ bytes → ((other : ℕ) → other < 64 * length slabs →
+        other ≢ key.index →
+        object_bytes_at word new slabs size other ≡ object_bytes_at word heap slabs size other) →
+        StandsForLists word (pooled new size' slabs' slots freed) (with_new_bytes key bytes lists)
     stands_replaced new size' slabs' key bytes same_size same_slabs within are is here others =
-        subst (λ n. Stands word (pooled new n slabs' slots freed) (replaced key bytes lists)) (sym same_size)
-        (subst (λ (list : List ℕ). Stands word (pooled new size list slots freed) (replaced key bytes lists)) (sym same_slabs)
-        (let holds = holds_replaced slots freed (bytes_of word heap slabs size) lists stands.holds key is bytes (bytes_of word new slabs size) here
+        subst (λ n. StandsForLists word (pooled new n slabs' slots freed) (with_new_bytes key bytes lists)) (sym same_size)
+        (subst (λ (list : List ℕ). StandsForLists word (pooled new size list slots freed) (with_new_bytes key bytes lists)) (sym same_slabs)
+        (let holds = holds_replaced slots freed (object_bytes_at word heap slabs size) lists stands.holds key is bytes
+        (object_bytes_at word new slabs size) here
         (λ other differ used. others other (let there = used_there slots other used in omega (arith, there, within)) differ) in
         record {
           holds = holds;
-          freed = free_again slots freed (bytes_of word new slabs size) (replaced key bytes lists)
+          freed = free_again slots freed (object_bytes_at word new slabs size) (with_new_bytes key bytes lists)
               holds are;
-          slabs = slabs_same (index_count (replaced key bytes lists).entries) holds.indexes;
+          slabs = slabs_same (index_count (with_new_bytes key bytes lists).entries) holds.indexes;
         }))
 
-    pub stands_removed : (key : Key) (new : List Slot) (new_freed : List ℕ) → IsIn slots key →
+    pub stands_removed : (key : Key) (new : List Slot) (new_freed : List ℕ) → IsKeyLive slots key →
         IsReleased slots freed key new new_freed → AreFreed new new_freed →
-        Stands word (pooled heap size slabs new new_freed) (removed key lists)
+        StandsForLists word (pooled heap size slabs new new_freed) (without_object key lists)
     stands_removed key new new_freed is released are =
-        let holds = holds_removed slots freed (bytes_of word heap slabs size) lists stands.holds key is new new_freed released in
+        let holds = holds_removed slots freed (object_bytes_at word heap slabs size) lists stands.holds key is new new_freed released in
         record {
           holds = holds;
-          freed = free_again new new_freed (bytes_of word heap slabs size) (removed key lists) holds
+          freed = free_again new new_freed (object_bytes_at word heap slabs size) (without_object key lists) holds
               are;
-          slabs = slabs_same (index_count (removed key lists).entries) (holds.indexes ∙ released.same);
+          slabs = slabs_same (index_count (without_object key lists).entries) (holds.indexes ∙ released.same);
         }
 
     -- ---- an insert
 
-    pub stands_key : (key : Key) (new : List Slot) (new_freed : List ℕ) → IsNext slots freed key.index new new_freed →
+    pub stands_key : (key : Key) (new : List Slot) (new_freed : List ℕ) → IsNextSlot slots freed key.index new new_freed →
         IsTaken slots key new → next_key lists ≡ key
-    stands_key key new new_freed next taken = key_is slots freed (bytes_of word heap slabs size) lists stands.holds key new new_freed next taken
+    stands_key key new new_freed next taken = key_is slots freed (object_bytes_at word heap slabs size) lists stands.holds key new new_freed next taken
 
     pub stands_inserted : (new : Dlmalloc A) (size' : ℕ) (slabs' : List ℕ) (key : Key) (bytes : List ℕ)
         (new_slots : List Slot) (new_freed : List ℕ) → size' ≡ size → length slots ≤ 64 * length slabs →
-        IsNext slots freed key.index new_slots new_freed → IsTaken slots key new_slots → AreFreed new_slots new_freed →
-        bytes_of word new slabs' size key.index ≡ bytes → ((other : ℕ) → other < 64 * length slabs → other ≢ key.index →
-        bytes_of word new slabs' size other ≡ bytes_of word heap slabs size other) →
+        IsNextSlot slots freed key.index new_slots new_freed → IsTaken slots key new_slots → AreFreed new_slots new_freed →
+        object_bytes_at word new slabs' size key.index ≡ bytes → ((other : ℕ) → other < 64 * length slabs →
+        other ≢ key.index →
+        object_bytes_at word new slabs' size other ≡ object_bytes_at word heap slabs size other) →
         (length new_slots + 63) / 64 ≡ length slabs' →
-        Stands word (pooled new size' slabs' new_slots new_freed) (inserted bytes lists)
+        StandsForLists word (pooled new size' slabs' new_slots new_freed) (inserted bytes lists)
     stands_inserted new size' slabs' key bytes new_slots new_freed same_size within next taken are here others many =
-        subst (λ n. Stands word (pooled new n slabs' new_slots new_freed) (inserted bytes lists)) (sym same_size)
-        (let holds = holds_inserted slots freed (bytes_of word heap slabs size) lists stands.holds key new_slots new_freed
-        next taken bytes (bytes_of word new slabs' size) here
+        subst (λ n. StandsForLists word (pooled new n slabs' new_slots new_freed) (inserted bytes lists)) (sym same_size)
+        (let holds = holds_inserted slots freed (object_bytes_at word heap slabs size) lists stands.holds key new_slots
+        new_freed
+        next taken bytes (object_bytes_at word new slabs' size) here
         (λ other differ used. others other (let there = used_there slots other used in omega (arith, there, within)) differ) in
         record {
           holds = holds;
-          freed = free_again new_slots new_freed (bytes_of word new slabs' size)
+          freed = free_again new_slots new_freed (object_bytes_at word new slabs' size)
               (inserted bytes lists) holds are;
           slabs = ap (λ n. (n + 63) / 64) holds.indexes ∙ many;
         })
@@ -135,7 +144,7 @@ module _ {A : Type 0} (word : A → ℕ → ℕ) where
     refused_lists denies OutOfMemory lacks why = (slots_lacking lacks, (let indexes = stands.holds.indexes in omega (arith, indexes, why)))
 
     -- where there is no slot at all, the fault says so
-    pub full_fault : (denies : A → ℕ → GrantFault → Type 0) (fault : PoolFault) → IsFull lists →
+    pub full_fault : (denies : A → ℕ → GrantFault → Type 0) (fault : PoolFault) → HasAllSlots lists →
         IsRefusedBy word denies (pooled heap size slabs slots freed) fault → fault ≡ Full
     full_fault denies Full full why = refl
     full_fault denies (Heap fault) full why = absurd (let indexes = stands.holds.indexes in let all = full.1 in let few =
@@ -167,8 +176,8 @@ module _ {A : Type 0} (regions : A → List Grant) (word : A → ℕ → ℕ) (f
   unfolding HasServed
   served_stays size address served = cut_stays (padded (64 * size)) (address - 16) served
 
-  pub added_stays : (size : ℕ) (slabs new_slabs : List ℕ) → IsAdded regions word follows old size slabs heap new_slabs →
-      IsAdded regions word follows old size slabs new new_slabs
+  pub added_stays : (size : ℕ) (slabs new_slabs : List ℕ) → IsSlabAdded regions word follows old size slabs heap new_slabs →
+      IsSlabAdded regions word follows old size slabs new new_slabs
   added_stays size slabs new_slabs added = record {
     address = added.address;
     is = added.is;
@@ -186,7 +195,7 @@ module _ {A : Type 0} (regions : A → List Grant) (word : A → ℕ → ℕ) (f
 
 module _ {A : Type 0} (regions : A → List Grant) (word : A → ℕ → ℕ) (follows : A → List Event → A → Type 0) (old : Pooled A)
     (heap : Dlmalloc A) (size : ℕ) (slabs : List ℕ) (slots : List Slot) (freed : List ℕ)
-    (laid_old : IsLaidOut regions word old.heap old.size old.slabs) (room : HasRoom regions word follows old
+    (laid_old : AreSlabsLaidOut regions word old.heap old.size old.slabs) (room : HasFreeSlot regions word follows old
     (pooled heap size slabs slots freed)) (within : length slots ≤ 64 * length slabs) where
   size_is : size ≡ old.size
   size_is = ap (λ p. p.size) room.others
@@ -240,19 +249,20 @@ module _ {A : Type 0} (regions : A → List Grant) (word : A → ℕ → ℕ) (f
   ]
 
   -- the objects that were there have their bytes
-  object_stays : (index : ℕ) → index < 64 * length old.slabs → bytes_of word heap slabs size index ≡ bytes_of word old.heap old.slabs old.size index
+  object_stays : (index : ℕ) → index < 64 * length old.slabs → object_bytes_at word heap slabs size index ≡ object_bytes_at
+      word old.heap old.slabs old.size index
   object_stays index less =
       let there : index / 64 < length old.slabs = omega (arith, less) in
       let kept = room.kept (slice_index old.slabs (index / 64)) (64 * old.size) (laid_old.blocks (index / 64) there) in
       let end = place_ends regions word old.heap old.size old.slabs laid_old index in
-      ap (λ n. bytes_of word heap slabs n index) size_is
+      ap (λ n. object_bytes_at word heap slabs n index) size_is
       ∙ (ap (λ a. bytes_at (word heap.system) (a + old.size * (index % 64)) old.size) (slab_stays (index / 64) there)
-      ∙ bytes_same (word old.heap.system) (word heap.system) (place_of old.slabs old.size index) old.size (λ k below.
-      (let place : slice_index old.slabs (index / 64) + (old.size * (index % 64) + k) ≡ place_of old.slabs old.size index + k = omega arith in
+      ∙ bytes_same (word old.heap.system) (word heap.system) (slot_address old.slabs old.size index) old.size (λ k below.
+      (let place : slice_index old.slabs (index / 64) + (old.size * (index % 64) + k) ≡ slot_address old.slabs old.size index + k = omega arith in
       subst (λ a. byte_in (word heap.system) a ≡ byte_in (word old.heap.system) a) place
       (kept.bytes (old.size * (index % 64) + k) (omega (arith, end, below))))))
 
-  module _ (key : Key) (new_slots : List Slot) (new_freed : List ℕ) (next : IsNext slots freed key.index new_slots
+  module _ (key : Key) (new_slots : List Slot) (new_freed : List ℕ) (next : IsNextSlot slots freed key.index new_slots
       new_freed) (taken : IsTaken slots key new_slots) where
     pub key_there : key.index < 64 * length slabs
     key_there = elim next [
@@ -266,10 +276,10 @@ module _ {A : Type 0} (regions : A → List Grant) (word : A → ℕ → ℕ) (f
       | inr fresh ↦ (let place = has_place fresh.0 in omega (arith, place, fresh.3))
     ]
 
-    pub made_key : (lists : Lists) → Stands word old lists → key ≡ next_key lists
+    pub made_key : (lists : Lists) → StandsForLists word old lists → key ≡ next_key lists
     made_key lists stands = sym (stands_key word old.heap old.size old.slabs old.slots old.freed lists stands key new_slots new_freed
-        (subst (λ list. IsNext list old.freed key.index new_slots new_freed) slots_are
-        (subst (λ list. IsNext slots list key.index new_slots new_freed) freed_are next))
+        (subst (λ list. IsNextSlot list old.freed key.index new_slots new_freed) slots_are
+        (subst (λ list. IsNextSlot slots list key.index new_slots new_freed) freed_are next))
         (subst (λ list. IsTaken list key new_slots) slots_are taken))
 
     -- there are as many slabs as the slots need
@@ -294,24 +304,27 @@ module _ {A : Type 0} (regions : A → List Grant) (word : A → ℕ → ℕ) (f
     ]
 
     module _ (new : Dlmalloc A) (new_size : ℕ) (new_slabs : List ℕ) (bytes : List ℕ) (same_size : new_size ≡ size) (same_slabs : new_slabs ≡ slabs) where
-      pub made_stands : (lists : Lists) → Stands word old lists → length old.slots ≤ 64 * length old.slabs →
-          AreFreed new_slots new_freed → bytes_of word new slabs size key.index ≡ bytes →
-          ((other : ℕ) → other < 64 * length slabs → other ≢ key.index → bytes_of word new slabs size other ≡ bytes_of word heap slabs size other) →
-          Stands word (pooled new new_size new_slabs new_slots new_freed) (inserted bytes lists)
+      pub made_stands : (lists : Lists) → StandsForLists word old lists → length old.slots ≤ 64 * length old.slabs →
+          AreFreed new_slots new_freed → object_bytes_at word new slabs size key.index ≡ bytes →
+          ((other : ℕ) → other < 64 * length slabs → other ≢ key.index → object_bytes_at word new slabs size
+          other ≡ object_bytes_at word heap slabs size other) →
+          StandsForLists word (pooled new new_size new_slabs new_slots new_freed) (inserted bytes lists)
       made_stands lists stands within_old are here others =
-          subst (λ list. Stands word (pooled new new_size list new_slots new_freed) (inserted bytes lists)) (sym same_slabs)
+          subst (λ list. StandsForLists word (pooled new new_size list new_slots new_freed) (inserted bytes lists))
+          (sym same_slabs)
           (stands_inserted word old.heap old.size old.slabs old.slots old.freed lists stands new new_size slabs key bytes
           new_slots new_freed (same_size ∙ size_is) within_old
-          (subst (λ list. IsNext list old.freed key.index new_slots new_freed) slots_are
-          (subst (λ list. IsNext slots list key.index new_slots new_freed) freed_are next))
+          (subst (λ list. IsNextSlot list old.freed key.index new_slots new_freed) slots_are
+          (subst (λ list. IsNextSlot slots list key.index new_slots new_freed) freed_are next))
           (subst (λ list. IsTaken list key new_slots) slots_are taken)
           are
-          (ap (λ n. bytes_of word new slabs n key.index) (sym size_is) ∙ here)
-          (λ other less differ. ap (λ n. bytes_of word new slabs n other) (sym size_is)
+          (ap (λ n. object_bytes_at word new slabs n key.index) (sym size_is) ∙ here)
+          (λ other less differ. ap (λ n. object_bytes_at word new slabs n other) (sym size_is)
           ∙ (others other (let more = fewer in omega (arith, less, more)) differ ∙ object_stays other less))
           (slabs_needed (ap (λ n. (n + 63) / 64) (sym stands.holds.indexes) ∙ stands.slabs)))
 
-      pub made_keeps : KeepsOthers word slabs heap new → Keeps word old (pooled new new_size new_slabs new_slots new_freed)
+      pub made_keeps : KeepsOtherBlocks word slabs heap new → Keeps word old
+          (pooled new new_size new_slabs new_slots new_freed)
       made_keeps kept = record {
         size = same_size ∙ size_is;
         blocks = λ address n block none. (
@@ -321,13 +334,13 @@ module _ {A : Type 0} (regions : A → List Grant) (word : A → ℕ → ℕ) (f
       }
 
       pub made_slab : (follows_on : (x y z : A) (a b c : List Event) → follows x a y → follows y b z → a ++ b ≡ c →
-          follows x c z) → StaysInState regions word follows heap new → (lists : Lists) → Stands word old lists →
+          follows x c z) → StaysInState regions word follows heap new → (lists : Lists) → StandsForLists word old lists →
           TakesSlabIfNeeded regions word follows old lists (pooled new new_size new_slabs new_slots new_freed)
       made_slab follows_on stays lists stands = elim room.slab [
         | inl taken_slab ↦ inl (
           slots_lacking word old.heap old.size old.slabs old.slots old.freed lists stands (taken_slab.0.0, taken_slab.0.1),
           added_stays regions word follows follows_on old.heap heap new stays old.size old.slabs new_slabs
-              (subst (λ (list : List ℕ). IsAdded regions word follows old.heap old.size old.slabs heap list) (sym same_slabs) taken_slab.1),
+              (subst (λ (list : List ℕ). IsSlabAdded regions word follows old.heap old.size old.slabs heap list) (sym same_slabs) taken_slab.1),
         )
         | inr kept ↦ inr (
           same_slabs ∙ ap (λ p. p.slabs) kept.1,
@@ -336,7 +349,7 @@ module _ {A : Type 0} (regions : A → List Grant) (word : A → ℕ → ℕ) (f
       ]
 
     -- so there was a slot
-    pub never_full : (lists : Lists) → Stands word old lists → IsFull lists → ⊥
+    pub never_full : (lists : Lists) → StandsForLists word old lists → HasAllSlots lists → ⊥
     never_full lists stands full = elim room.slab [
       | inl taken_slab ↦ (let indexes = stands.holds.indexes in let all = full.1 in omega (arith, indexes, all, taken_slab.0.2))
       | inr kept ↦ kept.0 (lacking_slots word old.heap old.size old.slabs old.slots old.freed lists stands full.0)

@@ -10,7 +10,7 @@ use Rattle.dlmalloc.specs.AfterFree.{after_free, free_releases, regions_after, I
 use Rattle.dlmalloc.specs.Heap.{state_of, IsSound}
 use Rattle.dlmalloc.specs.Binned.{IsBinned}
 use Rattle.dlmalloc.specs.Blocks.{IsBlock}
-use Rattle.object_pool.specs.Pool.{IsNoSlab, KeepsOthers}
+use Rattle.object_pool.specs.Pool.{IsNoSlab, KeepsOtherBlocks}
 
 -- the state of a heap in which each slab was freed
 abbrev pub slabs_freed : Bool → Bool → ℕ → List ℕ → HeapState → HeapState
@@ -51,7 +51,7 @@ pub record IsEmptied {A : Type 0} (regions : A → List Grant) (word : A → ℕ
   pub sound : IsSound regions word new
   pub linked : IsBinned regions word new
   pub each : AreFreed regions word follows frees parts unit old slabs new
-  pub kept : KeepsOthers word slabs old new
+  pub kept : KeepsOtherBlocks word slabs old new
   pub only : (address size : ℕ) → IsBlock (state_of word new) address size → IsBlock (state_of word old) address size × IsNoSlab slabs address
   pub state : state_of word new ≡ slabs_freed frees parts unit slabs (state_of word old)
   pub followed : follows old.system (slab_releases frees parts unit slabs (state_of word old)) new.system

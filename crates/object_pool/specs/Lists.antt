@@ -38,8 +38,8 @@ index_count [] = 0
 index_count (entry ∷ entries) = max (entry.key.index + 1) (index_count entries)
 
 -- the entries, if that of a key has other bytes or none
-abbrev pub with_bytes : Key → Option (List ℕ) → List Entry → List Entry
-with_bytes key bytes entries = map (λ entry. if is_of key entry then record entry { bytes = bytes } else entry) entries
+abbrev pub with_entry_bytes : Key → Option (List ℕ) → List Entry → List Entry
+with_entry_bytes key bytes entries = map (λ entry. if is_of key entry then record entry { bytes = bytes } else entry) entries
 
 -- the slot of the next insert: the one freed last, else the lowest that was never used
 abbrev pub next_index : Lists → ℕ
@@ -57,13 +57,13 @@ inserted bytes lists = record {
   freed = take (length lists.freed - 1) lists.freed;
 }
 
-abbrev pub replaced : Key → List ℕ → Lists → Lists
-replaced key bytes lists = record lists { entries = with_bytes key (Some bytes) lists.entries }
+abbrev pub with_new_bytes : Key → List ℕ → Lists → Lists
+with_new_bytes key bytes lists = record lists { entries = with_entry_bytes key (Some bytes) lists.entries }
 
 -- a slot is not used again if its index had 2 ^ 32 - 1 entries
-abbrev pub removed : Key → Lists → Lists
-removed key lists = record {
-  entries = with_bytes key None lists.entries;
+abbrev pub without_object : Key → Lists → Lists
+without_object key lists = record {
+  entries = with_entry_bytes key None lists.entries;
   freed = if length (entries_at key.index lists.entries) == 2 ^ 32 - 1 then lists.freed else lists.freed ++ key.index ∷ [];
 }
 
@@ -101,5 +101,5 @@ abbrev pub LacksSlot : Lists → Type 0
 LacksSlot lists = (lists.freed ≡ []) × (index_count lists.entries ≡ 64 * slab_count lists.entries)
 
 -- there are as many slots as there can be
-abbrev pub IsFull : Lists → Type 0
-IsFull lists = LacksSlot lists × (index_count lists.entries ≡ 2 ^ 32 - 64)
+abbrev pub HasAllSlots : Lists → Type 0
+HasAllSlots lists = LacksSlot lists × (index_count lists.entries ≡ 2 ^ 32 - 64)

@@ -17,26 +17,26 @@ use Rattle.object_pool.specs.declared.pool_fault.PoolFault.{PoolFault}
 use Rattle.object_pool.specs.declared.pool_fault.PoolFault.TheVariants.{Full, Heap, OutOfMemory}
 use Rattle.object_pool.specs.declared.slots.Slot.{Slot}
 use Rattle.object_pool.specs.Bytes.{byte_in, bytes_at}
-use Rattle.object_pool.specs.Lists.{Entry, Lists, entries_at, index_count, object_count, slab_count, AreFreeAgain, LacksSlot, IsFull}
+use Rattle.object_pool.specs.Lists.{Entry, Lists, entries_at, index_count, object_count, slab_count, AreFreeAgain, LacksSlot, HasAllSlots}
 use Rattle.object_pool.specs.Pooled.{Pooled}
 use Rattle.object_pool.specs.Slots.{slot_at, used_count}
 
 -- ---- where objects lie
 
 -- the place of a slot: 64 slots stand in a slab, one after the other
-abbrev pub place_of : List ℕ → ℕ → ℕ → ℕ
-place_of slabs size index = slice_index slabs (index / 64) + size * (index % 64)
+abbrev pub slot_address : List ℕ → ℕ → ℕ → ℕ
+slot_address slabs size index = slice_index slabs (index / 64) + size * (index % 64)
 
 -- the bytes at the place of a slot
-abbrev pub bytes_of : {A : Type 0} → (A → ℕ → ℕ) → Dlmalloc A → List ℕ → ℕ → ℕ → List ℕ
-bytes_of word heap slabs size index = bytes_at (word heap.system) (place_of slabs size index) size
+abbrev pub object_bytes_at : {A : Type 0} → (A → ℕ → ℕ) → Dlmalloc A → List ℕ → ℕ → ℕ → List ℕ
+object_bytes_at word heap slabs size index = bytes_at (word heap.system) (slot_address slabs size index) size
 
 -- no slab begins at an address
 abbrev pub IsNoSlab : List ℕ → ℕ → Type 0
 IsNoSlab slabs address = (i : ℕ) → i < length slabs → slice_index slabs i ≢ address
 
 -- Each slab is a block of the heap, which has room for 64 objects; no two slabs are one block.
-pub record IsLaidOut {A : Type 0} (regions : A → List Grant) (word : A → ℕ → ℕ) (heap : Dlmalloc A) (size : ℕ) (slabs : List ℕ) : Type 0 where
+pub record AreSlabsLaidOut {A : Type 0} (regions : A → List Grant) (word : A → ℕ → ℕ) (heap : Dlmalloc A) (size : ℕ) (slabs : List ℕ) : Type 0 where
   pub some : 0 < size
   pub small : size ≤ 4096
   pub blocks : (i : ℕ) → i < length slabs → IsBlock (state_of word heap) (slice_index slabs i) (64 * size)
@@ -45,7 +45,7 @@ pub record IsLaidOut {A : Type 0} (regions : A → List Grant) (word : A → ℕ
 -- the objects of two slots have no byte in common
 abbrev pub PlacesAreApart : List ℕ → ℕ → Type 0
 PlacesAreApart slabs size = (i j : ℕ) → i < 64 * length slabs → j < 64 * length slabs → i ≢ j →
-    (place_of slabs size i + size ≤ place_of slabs size j) ⊎ (place_of slabs size j + size ≤ place_of slabs size i)
+    (slot_address slabs size i + size ≤ slot_address slabs size j) ⊎ (slot_address slabs size j + size ≤ slot_address slabs size i)
 
 -- ---- what stays of a heap
 
@@ -59,8 +59,8 @@ abbrev pub KeepsAll : {A : Type 0} → (A → ℕ → ℕ) → Dlmalloc A → Dl
 KeepsAll word old new = (address size : ℕ) → IsBlock (state_of word old) address size → IsBlockKept word old address size new
 
 -- so is each block that is no slab
-abbrev pub KeepsOthers : {A : Type 0} → (A → ℕ → ℕ) → List ℕ → Dlmalloc A → Dlmalloc A → Type 0
-KeepsOthers word slabs old new = (address size : ℕ) → IsBlock (state_of word old) address size → IsNoSlab slabs address → IsBlockKept word old address size new
+abbrev pub KeepsOtherBlocks : {A : Type 0} → (A → ℕ → ℕ) → List ℕ → Dlmalloc A → Dlmalloc A → Type 0
+KeepsOtherBlocks word slabs old new = (address size : ℕ) → IsBlock (state_of word old) address size → IsNoSlab slabs address → IsBlockKept word old address size new
 
 -- The heap served one request, for the slab at an address: it was cut from what the heap had, or from a region of its system
 -- if it had no room.
@@ -69,7 +69,7 @@ HasServed regions word follows old size address new = IsObtained follows regions
 
 -- A slab more was taken, which was no block before. It is the one block that came: the heap served one request, for it, of chunks
 -- of one size from the one whose turn it was, and left the others in order.
-pub record IsAdded {A : Type 0} (regions : A → List Grant) (word : A → ℕ → ℕ) (follows : A → List Event → A → Type 0) (old : Dlmalloc A) (size : ℕ) (slabs : List ℕ) (new : Dlmalloc A) (new_slabs : List ℕ) : Type 0 where
+pub record IsSlabAdded {A : Type 0} (regions : A → List Grant) (word : A → ℕ → ℕ) (follows : A → List Event → A → Type 0) (old : Dlmalloc A) (size : ℕ) (slabs : List ℕ) (new : Dlmalloc A) (new_slabs : List ℕ) : Type 0 where
   pub address : ℕ
   pub is : new_slabs ≡ slabs ++ address ∷ []
   pub fresh : (n : ℕ) → IsBlock (state_of word old) address n → ⊥
@@ -82,7 +82,7 @@ pub record IsAdded {A : Type 0} (regions : A → List Grant) (word : A → ℕ �
 
 -- Its slabs are laid out, and each slot has a place in one of them; the slots of all slabs have places in the lists.
 pub record IsPool {A : Type 0} (regions : A → List Grant) (word : A → ℕ → ℕ) (heap : Dlmalloc A) (size : ℕ) (slabs : List ℕ) (slots : List Slot) (places freed_places : ℕ) : Type 0 where
-  pub laid : IsLaidOut regions word heap size slabs
+  pub laid : AreSlabsLaidOut regions word heap size slabs
   pub within : length slots ≤ 64 * length slabs
   pub most : 64 * length slabs ≤ 2 ^ 32 - 64
   pub room : 64 * length slabs ≤ places
@@ -91,9 +91,9 @@ pub record IsPool {A : Type 0} (regions : A → List Grant) (word : A → ℕ �
 -- ---- which lists a pool stands for
 
 -- the entries of the objects that were removed from a slot: their generations are 0 and up
-abbrev pub past : ℕ → ℕ → List Entry
-past index zero = []
-past index (suc generation) = past index generation ++ (record { key = record { index = index; generation = generation }; bytes = None }) ∷ []
+abbrev pub past_entries : ℕ → ℕ → List Entry
+past_entries index zero = []
+past_entries index (suc generation) = past_entries index generation ++ (record { key = record { index = index; generation = generation }; bytes = None }) ∷ []
 
 -- the entry of the object that is in a slot, if there is one
 abbrev pub present : ℕ → Slot → List ℕ → List Entry
@@ -103,7 +103,7 @@ present index slot bytes = if slot.used then (record { key = record { index = in
 pub record Holds (slots : List Slot) (freed : List ℕ) (bytes : ℕ → List ℕ) (lists : Lists) : Type 0 where
   -- the entries of an index, in the order inserted, are those of the objects that were removed from its slot, and then that of
   -- the object in it
-  pub entries : (index : ℕ) → entries_at index lists.entries ≡ past index (slot_at slots index).generation ++ present index (slot_at slots index) (bytes index)
+  pub entries : (index : ℕ) → entries_at index lists.entries ≡ past_entries index (slot_at slots index).generation ++ present index (slot_at slots index) (bytes index)
   -- the indexes are 0 and up without a gap
   pub indexes : index_count lists.entries ≡ length slots
   pub whole : (index : ℕ) → index < length slots → 0 < length (entries_at index lists.entries)
@@ -112,8 +112,8 @@ pub record Holds (slots : List Slot) (freed : List ℕ) (bytes : ℕ → List �
 
 -- A pool stands for the lists: its slots hold their entries, with the bytes that stand in its heap, and those that may be used
 -- again are the freed ones. There are as many slabs as the slots need.
-pub record Stands {A : Type 0} (word : A → ℕ → ℕ) (pool : Pooled A) (lists : Lists) : Type 0 where
-  pub holds : Holds pool.slots pool.freed (bytes_of word pool.heap pool.slabs pool.size) lists
+pub record StandsForLists {A : Type 0} (word : A → ℕ → ℕ) (pool : Pooled A) (lists : Lists) : Type 0 where
+  pub holds : Holds pool.slots pool.freed (object_bytes_at word pool.heap pool.slabs pool.size) lists
   pub freed : AreFreeAgain lists
   pub slabs : slab_count lists.entries ≡ length pool.slabs
 
@@ -122,24 +122,24 @@ pub record Stands {A : Type 0} (word : A → ℕ → ℕ) (pool : Pooled A) (lis
 -- the size of objects stays, and so does each block that is no slab, with the bytes that it had
 pub record Keeps {A : Type 0} (word : A → ℕ → ℕ) (old new : Pooled A) : Type 0 where
   pub size : new.size ≡ old.size
-  pub blocks : KeepsOthers word old.slabs old.heap new.heap
+  pub blocks : KeepsOtherBlocks word old.slabs old.heap new.heap
 
 -- A slab was taken, if no slot was free; or the slabs are the same, and the heap stays in its state.
 abbrev pub TakesSlabIfNeeded : {A : Type 0} → (A → List Grant) → (A → ℕ → ℕ) → (A → List Event → A → Type 0) → Pooled A → Lists → Pooled A → Type 0
 TakesSlabIfNeeded regions word follows old lists new =
-    (LacksSlot lists × IsAdded regions word follows old.heap old.size old.slabs new.heap new.slabs)
+    (LacksSlot lists × IsSlabAdded regions word follows old.heap old.size old.slabs new.heap new.slabs)
     ⊎ ((new.slabs ≡ old.slabs) × StaysInState regions word follows old.heap new.heap)
 
 -- A slot is free: if none was, a slab was taken, and else all is as it was.
-pub record HasRoom {A : Type 0} (regions : A → List Grant) (word : A → ℕ → ℕ) (follows : A → List Event → A → Type 0) (old new : Pooled A) : Type 0 where
+pub record HasFreeSlot {A : Type 0} (regions : A → List Grant) (word : A → ℕ → ℕ) (follows : A → List Event → A → Type 0) (old new : Pooled A) : Type 0 where
   pub kept : KeepsAll word old.heap new.heap
   pub others : new ≡ record old { heap = new.heap; slabs = new.slabs }
-  pub slab : (((old.freed ≡ []) × (length old.slots ≡ 64 * length old.slabs) × (length old.slots < 2 ^ 32 - 64)) × IsAdded regions word follows old.heap old.size old.slabs new.heap new.slabs)
+  pub slab : (((old.freed ≡ []) × (length old.slots ≡ 64 * length old.slabs) × (length old.slots < 2 ^ 32 - 64)) × IsSlabAdded regions word follows old.heap old.size old.slabs new.heap new.slabs)
       ⊎ (((old.freed ≡ []) × (length old.slots ≡ 64 * length old.slabs) → ⊥) × (new ≡ old))
 
 -- Why an insert is refused. Want of memory is free.
 abbrev pub IsPoolRefused : {A : Type 0} → (A → ℕ → ℕ) → (A → ℕ → GrantFault → Type 0) → Pooled A → Lists → PoolFault → Type 0
-IsPoolRefused word denies pool lists Full = IsFull lists
+IsPoolRefused word denies pool lists Full = HasAllSlots lists
 IsPoolRefused word denies pool lists (Heap fault) = LacksSlot lists × (index_count lists.entries < 2 ^ 32 - 64) × IsDenied denies pool.heap.system (state_of word pool.heap) (padded (64 * pool.size)) fault
 IsPoolRefused word denies pool lists OutOfMemory = LacksSlot lists × (index_count lists.entries < 2 ^ 32 - 64)
 

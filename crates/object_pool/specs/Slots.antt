@@ -9,12 +9,12 @@ abbrev pub slot_at : List Slot → ℕ → Slot
 slot_at slots index = slice_index_or slots index (record { generation = 0; used = false })
 
 -- whether a slot may be used again
-abbrev pub is_free : Slot → Bool
-is_free slot = not slot.used && nat_lt 0 slot.generation && nat_lt slot.generation (2 ^ 32 - 1)
+abbrev pub is_reusable : Slot → Bool
+is_reusable slot = not slot.used && nat_lt 0 slot.generation && nat_lt slot.generation (2 ^ 32 - 1)
 
 -- the freed slots are, each once, those that may be used again
 abbrev pub AreFreed : List Slot → List ℕ → Type 0
-AreFreed slots freed = (index : ℕ) → count_by (λ one. one == index) freed ≡ (if is_free (slot_at slots index) then 1 else 0)
+AreFreed slots freed = (index : ℕ) → count_by (λ one. one == index) freed ≡ (if is_reusable (slot_at slots index) then 1 else 0)
 
 -- how many slots have an object
 abbrev pub used_count : List Slot → ℕ
@@ -35,8 +35,8 @@ pub record IsTaken (old : List Slot) (key : Key) (new : List Slot) : Type 0 wher
   pub used : used_count new ≡ used_count old + 1
 
 -- It is the one freed last; else it is a new one, which is the last.
-abbrev pub IsNext : List Slot → List ℕ → ℕ → List Slot → List ℕ → Type 0
-IsNext slots freed index slots' freed' =
+abbrev pub IsNextSlot : List Slot → List ℕ → ℕ → List Slot → List ℕ → Type 0
+IsNextSlot slots freed index slots' freed' =
     ((freed ≡ freed' ++ index ∷ []) × (index < length slots) × (length slots' ≡ length slots))
     ⊎ ((freed ≡ []) × (freed' ≡ []) × (index ≡ length slots) × (length slots' ≡ length slots + 1))
 
@@ -48,8 +48,8 @@ pub record IsReleased (old : List Slot) (old_freed : List ℕ) (key : Key) (new 
   pub freed : new_freed ≡ (if key.generation + 1 == 2 ^ 32 - 1 then old_freed else old_freed ++ key.index ∷ [])
 
 -- a key's object is in its slot
-abbrev pub IsIn : List Slot → Key → Type 0
-IsIn slots key = slot_at slots key.index ≡ record { generation = key.generation; used = true }
+abbrev pub IsKeyLive : List Slot → Key → Type 0
+IsKeyLive slots key = slot_at slots key.index ≡ record { generation = key.generation; used = true }
 
 -- the keys of the objects in slots, the first of which has an index
 abbrev pub keys_from : ℕ → List Slot → List Key

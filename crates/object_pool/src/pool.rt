@@ -1,7 +1,7 @@
 //! The pool.
 ghost use Rattle.std.specs.Prelude.{◌≡◌, ◌≢◌, ℕ, ◌+◌, ◌-◌, ◌*◌, ◌/◌, ◌^◌, ◌<◌, ◌≤◌, Bool, true, false, if◌then◌else◌, [], ◌∷◌, ◌++◌, IfOk, IfErr, OnErr, OnOk, Some, None, Err, IsSome, IsTrue, ◌↔◌, length, vec_len, vec_capacity};
 ghost use Rattle.dlmalloc_chunks.specs.Request.{padded};
-ghost use Rattle.object_pool.specs.Lists.{Lists, empty, object_of, object_count, slab_count, next_key, keys_of, inserted, replaced, removed, LacksSlot, IsFull};
+ghost use Rattle.object_pool.specs.Lists.{Lists, empty, object_of, object_count, slab_count, next_key, keys_of, inserted, with_new_bytes, without_object, LacksSlot, HasAllSlots};
 
 use crate::Bytes;
 use crate::key::Key;
@@ -56,14 +56,14 @@ impl<A: Allocator + Memory> Model for Pool<A> {
 impl<A: Allocator + Memory> Pool<A> {
     ghost use Rattle.object_pool.specs.Emptied.{IsEmptied};
     ghost use Rattle.sound_heap.specs.Heap.{StaysInState};
-    ghost use Rattle.object_pool.specs.Pool.{HasRoom, IsAdded, IsLaidOut, IsPoolRefused, IsRefusedBy, IsUnchanged, Keeps, KeepsAll, PlacesAreApart, Stands, TakesSlabIfNeeded};
+    ghost use Rattle.object_pool.specs.Pool.{HasFreeSlot, IsSlabAdded, AreSlabsLaidOut, IsPoolRefused, IsRefusedBy, IsUnchanged, Keeps, KeepsAll, PlacesAreApart, StandsForLists, TakesSlabIfNeeded};
 
     /// A pool without objects or slabs, for objects of `size` bytes, over a heap.
     pub fn new(alloc: Global, heap: Heap<A>, size: u64) -> Pool<A>
         requires some { 0 < size }
         requires small { size ≤ 4096 }
         ensures is { result ≡ record { heap = heap; size = size; slabs = []; slots = []; freed = [] } }
-        ensures stands { Stands A.word result empty }
+        ensures stands { StandsForLists A.word result empty }
     {
         Pool {
             alloc,
@@ -81,11 +81,11 @@ impl<A: Allocator + Memory> Pool<A> {
     /// system denied a region: what it denies next may be other.
     pub fn insert(&mut self, bytes: &[u8]) -> Result<Key, PoolFault>
         requires many { length bytes.now ≡ self.old.size }
-        ensures key { (lists : Lists) → Stands A.word self.old lists → IfOk result (λ key. key ≡ next_key lists) }
-        ensures after { (lists : Lists) → Stands A.word self.old lists → IfOk result (λ key. Stands A.word self.new (inserted bytes.now lists)) }
-        ensures slab { (lists : Lists) → Stands A.word self.old lists → IfOk result (λ key. TakesSlabIfNeeded A.regions A.word A.follows self.old lists self.new) }
-        ensures refused { (lists : Lists) → Stands A.word self.old lists → IfErr result (λ fault. IsPoolRefused A.word A.denies self.old lists fault) }
-        ensures full { (lists : Lists) → Stands A.word self.old lists → IsFull lists → result ≡ Err PoolFault.Full }
+        ensures key { (lists : Lists) → StandsForLists A.word self.old lists → IfOk result (λ key. key ≡ next_key lists) }
+        ensures after { (lists : Lists) → StandsForLists A.word self.old lists → IfOk result (λ key. StandsForLists A.word self.new (inserted bytes.now lists)) }
+        ensures slab { (lists : Lists) → StandsForLists A.word self.old lists → IfOk result (λ key. TakesSlabIfNeeded A.regions A.word A.follows self.old lists self.new) }
+        ensures refused { (lists : Lists) → StandsForLists A.word self.old lists → IfErr result (λ fault. IsPoolRefused A.word A.denies self.old lists fault) }
+        ensures full { (lists : Lists) → StandsForLists A.word self.old lists → HasAllSlots lists → result ≡ Err PoolFault.Full }
         ensures err { IfErr result (λ fault. IsUnchanged A.regions A.word A.follows A.refuses self.old fault self.new) }
         ensures kept { Keeps A.word self.old self.new }
     {
@@ -97,7 +97,7 @@ impl<A: Allocator + Memory> Pool<A> {
 
     /// Whether no slot is free.
     fn lacks_slot(&self) -> bool
-        ensures laid { IsLaidOut A.regions A.word self.now.heap self.now.size self.now.slabs }
+        ensures laid { AreSlabsLaidOut A.regions A.word self.now.heap self.now.size self.now.slabs }
         ensures within { length self.now.slots ≤ 64 * length self.now.slabs }
         ensures answer { IsTrue result ↔ ((self.now.freed ≡ []) × (length self.now.slots ≡ 64 * length self.now.slabs)) }
     {
@@ -106,9 +106,9 @@ impl<A: Allocator + Memory> Pool<A> {
 
     /// Takes a slab if no slot is free.
     fn make_room(&mut self) -> Result<(), PoolFault>
-        ensures laid { IsLaidOut A.regions A.word self.old.heap self.old.size self.old.slabs }
+        ensures laid { AreSlabsLaidOut A.regions A.word self.old.heap self.old.size self.old.slabs }
         ensures within { length self.old.slots ≤ 64 * length self.old.slabs }
-        ensures room { OnOk result (HasRoom A.regions A.word A.follows self.old self.new) }
+        ensures room { OnOk result (HasFreeSlot A.regions A.word A.follows self.old self.new) }
         ensures kept { KeepsAll A.word self.old.heap self.new.heap }
         ensures others { self.new ≡ record self.old { heap = self.new.heap; slabs = self.new.slabs } }
         ensures lacks { OnErr result ((self.old.freed ≡ []) × (length self.old.slots ≡ 64 * length self.old.slabs)) }
@@ -124,7 +124,7 @@ impl<A: Allocator + Memory> Pool<A> {
     /// Takes one more slab if no slot is free. Every place that its slots need is reserved before the heap is asked.
     fn add_slab(&mut self) -> Result<(), PoolFault>
         requires lacks { (self.old.freed ≡ []) × (length self.old.slots ≡ 64 * length self.old.slabs) }
-        ensures added { OnOk result (IsAdded A.regions A.word A.follows self.old.heap self.old.size self.old.slabs self.new.heap self.new.slabs) }
+        ensures added { OnOk result (IsSlabAdded A.regions A.word A.follows self.old.heap self.old.size self.old.slabs self.new.heap self.new.slabs) }
         ensures few { OnOk result (length self.old.slots < 2 ^ 32 - 64) }
         ensures kept { KeepsAll A.word self.old.heap self.new.heap }
         ensures others { self.new ≡ record self.old { heap = self.new.heap; slabs = self.new.slabs } }
@@ -145,8 +145,8 @@ impl<A: Allocator + Memory> Pool<A> {
 
     /// The bytes of a key's object. None exactly if the key has no object.
     pub fn get(&self, key: Key) -> Result<Option<Bytes>, AllocError>
-        ensures ok { (lists : Lists) → Stands A.word self.now lists → IfOk result (λ object. object ≡ object_of key lists.entries) }
-        ensures err { (lists : Lists) → Stands A.word self.now lists → OnErr result (IsSome (object_of key lists.entries)) }
+        ensures ok { (lists : Lists) → StandsForLists A.word self.now lists → IfOk result (λ object. object ≡ object_of key lists.entries) }
+        ensures err { (lists : Lists) → StandsForLists A.word self.now lists → OnErr result (IsSome (object_of key lists.entries)) }
     {
         if !self.slots.has(key) {
             return Ok(None);
@@ -157,8 +157,8 @@ impl<A: Allocator + Memory> Pool<A> {
     /// Gives a key's object other bytes. False exactly if the key has no object; then nothing changes. It takes no memory.
     pub fn set(&mut self, key: Key, bytes: &[u8]) -> bool
         requires many { length bytes.now ≡ self.old.size }
-        ensures answer { (lists : Lists) → Stands A.word self.old lists → IsTrue result ↔ IsSome (object_of key lists.entries) }
-        ensures after { (lists : Lists) → Stands A.word self.old lists → result ≡ true → Stands A.word self.new (replaced key bytes.now lists) }
+        ensures answer { (lists : Lists) → StandsForLists A.word self.old lists → IsTrue result ↔ IsSome (object_of key lists.entries) }
+        ensures after { (lists : Lists) → StandsForLists A.word self.old lists → result ≡ true → StandsForLists A.word self.new (with_new_bytes key bytes.now lists) }
         ensures same { result ≡ false → self.new ≡ self.old }
         ensures others { self.new ≡ record self.old { heap = self.new.heap } }
         ensures heap { StaysInState A.regions A.word A.follows self.old.heap self.new.heap }
@@ -174,8 +174,8 @@ impl<A: Allocator + Memory> Pool<A> {
     /// Removes a key's object. False exactly if the key has no object; then nothing changes. The slot is free, unless it was
     /// its last generation. It takes no memory.
     pub fn remove(&mut self, key: Key) -> bool
-        ensures answer { (lists : Lists) → Stands A.word self.old lists → IsTrue result ↔ IsSome (object_of key lists.entries) }
-        ensures after { (lists : Lists) → Stands A.word self.old lists → result ≡ true → Stands A.word self.new (removed key lists) }
+        ensures answer { (lists : Lists) → StandsForLists A.word self.old lists → IsTrue result ↔ IsSome (object_of key lists.entries) }
+        ensures after { (lists : Lists) → StandsForLists A.word self.old lists → result ≡ true → StandsForLists A.word self.new (without_object key lists) }
         ensures same { result ≡ false → self.new ≡ self.old }
         ensures heap { self.new.heap ≡ self.old.heap }
         ensures slabs { self.new.slabs ≡ self.old.slabs }
@@ -190,14 +190,14 @@ impl<A: Allocator + Memory> Pool<A> {
 
     /// The keys of the objects, by index. They take no memory, and a step costs what the slots that it passes do.
     pub fn keys(&self) -> Keys<'_>
-        ensures { (lists : Lists) → Stands A.word self.now lists → result ≡ keys_of lists.entries }
+        ensures { (lists : Lists) → StandsForLists A.word self.now lists → result ≡ keys_of lists.entries }
     {
         self.slots.keys()
     }
 
     /// The number of objects.
     pub fn len(&self) -> u64
-        ensures { (lists : Lists) → Stands A.word self.now lists → result ≡ object_count lists.entries }
+        ensures { (lists : Lists) → StandsForLists A.word self.now lists → result ≡ object_count lists.entries }
     {
         self.slots.used()
     }
@@ -205,7 +205,7 @@ impl<A: Allocator + Memory> Pool<A> {
     /// The number of slabs.
     pub fn slabs(&self) -> u64
         ensures number { result ≡ length self.now.slabs }
-        ensures needed { (lists : Lists) → Stands A.word self.now lists → result ≡ slab_count lists.entries }
+        ensures needed { (lists : Lists) → StandsForLists A.word self.now lists → result ≡ slab_count lists.entries }
     {
         self.slabs.len()
     }
@@ -213,7 +213,7 @@ impl<A: Allocator + Memory> Pool<A> {
     /// The heap. Each slab is a block of it.
     pub fn heap(&self) -> &Heap<A>
         ensures heap { result.now ≡ self.now.heap }
-        ensures laid { IsLaidOut A.regions A.word self.now.heap self.now.size self.now.slabs }
+        ensures laid { AreSlabsLaidOut A.regions A.word self.now.heap self.now.size self.now.slabs }
     {
         &self.slabs.heap
     }

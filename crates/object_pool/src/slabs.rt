@@ -11,7 +11,7 @@ ghost use Rattle.dlmalloc.specs.Served.{IsDenied, IsRefusedWith, refused_events}
 ghost use Rattle.sound_heap.specs.Heap.{HasBlock, AreInBlock, StaysInState};
 ghost use Rattle.object_pool.specs.Bytes.{AreGranted, IsWritten};
 ghost use Rattle.object_pool.specs.Emptied.{IsEmptied};
-ghost use Rattle.object_pool.specs.Pool.{bytes_of, place_of, IsAdded, IsLaidOut, KeepsAll, KeepsOthers};
+ghost use Rattle.object_pool.specs.Pool.{object_bytes_at, slot_address, IsSlabAdded, AreSlabsLaidOut, KeepsAll, KeepsOtherBlocks};
 
 use crate::Bytes;
 use crate::bytes::{read_bytes, write_bytes};
@@ -76,9 +76,9 @@ impl<A: Allocator + Memory> Slabs<A> {
 
     /// The place of a slot. It is granted, with the bytes of an object.
     fn place(&self, index: u32) -> u64
-        requires laid { IsLaidOut A.regions A.word self.now.heap self.now.size self.now.places.items }
+        requires laid { AreSlabsLaidOut A.regions A.word self.now.heap self.now.size self.now.places.items }
         requires there { index < 64 * length self.now.places.items }
-        ensures place { result ≡ place_of self.now.places.items self.now.size index }
+        ensures place { result ≡ slot_address self.now.places.items self.now.size index }
         ensures granted { AreGranted (A.regions self.now.heap.system) result self.now.size }
     {
         self.heap.blocks_are_placed();
@@ -88,9 +88,9 @@ impl<A: Allocator + Memory> Slabs<A> {
 
     /// The bytes at the place of a slot.
     pub(crate) fn read(&self, alloc: Global, index: u32) -> Result<Bytes, AllocError>
-        requires laid { IsLaidOut A.regions A.word self.now.heap self.now.size self.now.places.items }
+        requires laid { AreSlabsLaidOut A.regions A.word self.now.heap self.now.size self.now.places.items }
         requires there { index < 64 * length self.now.places.items }
-        ensures { IfOk result (λ bytes. bytes ≡ bytes_of A.word self.now.heap self.now.places.items self.now.size index) }
+        ensures { IfOk result (λ bytes. bytes ≡ object_bytes_at A.word self.now.heap self.now.places.items self.now.size index) }
     {
         let place = self.place(index);
         let bytes = read_bytes(self.heap.system(), alloc, place, self.size)?;
@@ -99,17 +99,17 @@ impl<A: Allocator + Memory> Slabs<A> {
 
     /// Puts bytes at the place of a slot.
     pub(crate) fn write(&mut self, index: u32, bytes: &[u8])
-        requires laid { IsLaidOut A.regions A.word self.old.heap self.old.size self.old.places.items }
+        requires laid { AreSlabsLaidOut A.regions A.word self.old.heap self.old.size self.old.places.items }
         requires there { index < 64 * length self.old.places.items }
         requires many { length bytes.now ≡ self.old.size }
-        ensures laid { IsLaidOut A.regions A.word self.new.heap self.new.size self.new.places.items }
+        ensures laid { AreSlabsLaidOut A.regions A.word self.new.heap self.new.size self.new.places.items }
         ensures size { self.new.size ≡ self.old.size }
         ensures places { self.new.places ≡ self.old.places }
         ensures state { StaysInState A.regions A.word A.follows self.old.heap self.new.heap }
-        ensures here { bytes_of A.word self.new.heap self.old.places.items self.old.size index ≡ bytes.now }
+        ensures here { object_bytes_at A.word self.new.heap self.old.places.items self.old.size index ≡ bytes.now }
         ensures others { (other : ℕ) → other < 64 * length self.old.places.items → other ≢ index →
-            bytes_of A.word self.new.heap self.old.places.items self.old.size other ≡ bytes_of A.word self.old.heap self.old.places.items self.old.size other }
-        ensures kept { KeepsOthers A.word self.old.places.items self.old.heap self.new.heap }
+            object_bytes_at A.word self.new.heap self.old.places.items self.old.size other ≡ object_bytes_at A.word self.old.heap self.old.places.items self.old.size other }
+        ensures kept { KeepsOtherBlocks A.word self.old.places.items self.old.heap self.new.heap }
     {
         let place = self.place(index);
         self.heap.blocks_are_placed();
@@ -119,12 +119,12 @@ impl<A: Allocator + Memory> Slabs<A> {
 
     /// Takes one more slab of the heap. It has a place in the list.
     pub(crate) fn add(&mut self) -> Result<(), GrantFault>
-        requires laid { IsLaidOut A.regions A.word self.old.heap self.old.size self.old.places.items }
+        requires laid { AreSlabsLaidOut A.regions A.word self.old.heap self.old.size self.old.places.items }
         requires room { vec_len self.old.places < vec_capacity self.old.places }
-        ensures laid { IsLaidOut A.regions A.word self.new.heap self.new.size self.new.places.items }
+        ensures laid { AreSlabsLaidOut A.regions A.word self.new.heap self.new.size self.new.places.items }
         ensures size { self.new.size ≡ self.old.size }
         ensures kept { KeepsAll A.word self.old.heap self.new.heap }
-        ensures added { IfOk result (λ done. IsAdded A.regions A.word A.follows self.old.heap self.old.size self.old.places.items self.new.heap self.new.places.items) }
+        ensures added { IfOk result (λ done. IsSlabAdded A.regions A.word A.follows self.old.heap self.old.size self.old.places.items self.new.heap self.new.places.items) }
         ensures places { IfErr result (λ fault. self.new.places ≡ self.old.places) }
         ensures err { IfErr result (λ fault. IsAsItWas A.regions A.word A.follows A.refuses (refused_events (state_of A.word self.old.heap) (64 * self.old.size) (MallocError.System fault)) self.old.heap self.new.heap) }
         ensures denied { IfErr result (λ fault. IsDenied A.denies self.old.heap.system (state_of A.word self.old.heap) (padded (64 * self.old.size)) fault) }
@@ -144,7 +144,7 @@ impl<A: Allocator + Memory> Slabs<A> {
 
     /// Gives every slab back, the last one first, and answers the heap.
     pub(crate) fn free_all(self) -> Heap<A>
-        requires laid { IsLaidOut A.regions A.word self.heap self.size self.places.items }
+        requires laid { AreSlabsLaidOut A.regions A.word self.heap self.size self.places.items }
         ensures { IsEmptied A.regions A.word A.follows (A.frees self.heap.system) (A.parts self.heap.system) (A.unit self.heap.system) self.heap self.places.items result }
     {
         let mut heap = self.heap;

@@ -1,6 +1,6 @@
 // The slots of a pool: which have an object, and which may be used again.
 ghost use Rattle.std.specs.Prelude.{◌≡◌, ℕ, ◌+◌, ◌-◌, ◌^◌, ◌<◌, ◌≤◌, ◌↔◌, [], length, vec_len, vec_capacity, IsTrue, OnOk, OnErr};
-ghost use Rattle.object_pool.specs.Slots.{AreFreed, AreYoung, IsIn, IsNext, IsReleased, IsTaken, keys_from, used_count};
+ghost use Rattle.object_pool.specs.Slots.{AreFreed, AreYoung, IsKeyLive, IsNextSlot, IsReleased, IsTaken, keys_from, used_count};
 
 use crate::key::Key;
 use crate::keys::Keys;
@@ -69,7 +69,7 @@ impl Slots {
 
     /// Whether a key's object is in its slot.
     pub(crate) fn has(&self, key: Key) -> bool
-        ensures { IsTrue result ↔ IsIn self.now.slots.items key }
+        ensures { IsTrue result ↔ IsKeyLive self.now.slots.items key }
     {
         match self.slots.get(key.index as usize) {
             Some(slot) => slot.used && slot.generation == key.generation,
@@ -101,7 +101,7 @@ impl Slots {
     /// Uses the slot that was freed last, or else a new one, which has a place.
     pub(crate) fn take(&mut self) -> Key
         requires { self.old.freed.items ≡ [] → (length self.old.slots.items < 2 ^ 32 - 64) × (length self.old.slots.items < vec_capacity self.old.slots) × (length self.old.slots.items < vec_capacity self.old.freed) }
-        ensures next { IsNext self.old.slots.items self.old.freed.items result.index self.new.slots.items self.new.freed.items }
+        ensures next { IsNextSlot self.old.slots.items self.old.freed.items result.index self.new.slots.items self.new.freed.items }
         ensures taken { IsTaken self.old.slots.items result self.new.slots.items }
         ensures room { vec_capacity self.new.slots ≡ vec_capacity self.old.slots }
         ensures places { vec_capacity self.new.freed ≡ vec_capacity self.old.freed }
@@ -133,7 +133,7 @@ impl Slots {
 
     /// Frees the slot of a key's object.
     pub(crate) fn release(&mut self, key: Key)
-        requires { IsIn self.old.slots.items key }
+        requires { IsKeyLive self.old.slots.items key }
         ensures released { IsReleased self.old.slots.items self.old.freed.items key self.new.slots.items self.new.freed.items }
         ensures room { vec_capacity self.new.slots ≡ vec_capacity self.old.slots }
         ensures places { vec_capacity self.new.freed ≡ vec_capacity self.old.freed }

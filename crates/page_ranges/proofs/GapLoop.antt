@@ -5,8 +5,8 @@ use Rattle.std.proofs.lemmas.Bool.{cases_Bool, cases_lt}
 use Rattle.paging_core.specs.Address.{is_canonical, IsCanonicalRange}
 use Rattle.paging_core.specs.Memory.{word_at, frame_count, byte_of}
 use Rattle.paging_core.specs.Prefix.{prefix_of}
-use Rattle.paging_core.specs.Pool.{is_free, free_count, FreeBelow, AreLowestTaken}
-use Rattle.paging_core.specs.Walk.{Place, reach, large_of, walk_of, reached, page_in, top, granted}
+use Rattle.paging_core.specs.Pool.{is_frame_free, free_count, FreeBelow, AreLowestTaken}
+use Rattle.paging_core.specs.Walk.{Place, reach, large_of, walk_of, reached, page_in, top, place_with}
 use Rattle.paging_core.specs.Tree.{IsTree}
 use Rattle.paging_core.specs.Missing.{missing_of}
 use Rattle.paging_core.specs.Mapping.{IsNewPage, IsRangeAdded}
@@ -37,10 +37,10 @@ pub record AreGapsFilled (mid now : List ℕ) (free1 free2 : List Bool) (root fi
 
 -- the lowest frames are taken, and then again
 lowest_on : (free free1 free' : List Bool) → AreLowestTaken free free1 → AreLowestTaken free1 free' →
-    ((f : ℕ) → is_free free1 f ≡ false → is_free free' f ≡ false) → AreLowestTaken free free'
-lowest_on free free1 free' first second fewer f g was gone left = go (cases_Bool (is_free free1 f))
+    ((f : ℕ) → is_frame_free free1 f ≡ false → is_frame_free free' f ≡ false) → AreLowestTaken free free'
+lowest_on free free1 free' first second fewer f g was gone left = go (cases_Bool (is_frame_free free1 f))
   where
-    go : (is_free free1 f ≡ true) ⊎ (is_free free1 f ≡ false) → f < g
+    go : (is_frame_free free1 f ≡ true) ⊎ (is_frame_free free1 f ≡ false) → f < g
     go (inl still) = second f g still gone left
     go (inr taken) = first f g was taken (free_before free1 free' fewer g left)
 
@@ -109,7 +109,7 @@ module _ (old mid now : List ℕ) (free free1 free2 : List Bool) (root first pag
       mapped_of k lt (inr x) =
           let p = next.mapped (k - done) (omega arith) in
           let e : first + k ≡ first + done + (k - done) = omega arith in
-          (granted p.frame rights, ap (walk_of new root) e ∙ p.found)
+          (place_with p.frame rights, ap (walk_of new root) e ∙ p.found)
 
       -- a page that is mapped already
       page_before : (j : ℕ) (place : Place) → j < done → walk_of new root (first + j) ≡ Some place → walk_of now root (first + j) ≡ Some place
@@ -128,12 +128,13 @@ module _ (old mid now : List ℕ) (free free1 free2 : List Bool) (root first pag
           let here = page_before j place a j_is in
           let page = next.mapped (k - done) (omega arith) in
           let e : first + k ≡ first + done + (k - done) = omega arith in
-          let s : walk_of new root (first + k) ≡ Some (granted page.frame rights) = ap (walk_of new root) e ∙ page.found in
-          let same : granted page.frame rights ≡ far = cc in
+          let s : walk_of new root (first + k) ≡ Some (place_with page.frame rights) = ap (walk_of new root) e
+          ∙ page.found in
+          let same : place_with page.frame rights ≡ far = cc in
           let g : page.frame ≡ far.frame = ap (λ m. m.frame) same in
           filled.lowest place.frame far.frame (filled.pages_added.added (first + j) place j_was here).was_free
           (filled.pages_added.tree.used 4 (prefix_of (first + j) 4) place (omega arith) (sym (walk_reach now root (first + j)) ∙ here))
-          (ap (is_free free2) (sym g) ∙ page.was_free)
+          (ap (is_frame_free free2) (sym g) ∙ page.was_free)
       ascending j k place far less lt j_was k_was j_is k_is (inr a) (inl b) = absurd (omega arith)
       ascending j k place far less lt j_was k_was j_is k_is (inr a) (inr b) =
           let x : first + done + (j - done) ≡ first + j = omega arith in

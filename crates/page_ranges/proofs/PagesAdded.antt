@@ -3,8 +3,8 @@ use Rattle.std.proofs.Common.{◌≡◌, ℕ, ◌+◌, ◌*◌, ◌/◌, ◌%◌
 use Rattle.paging_core.specs.Memory.{word_at}
 use Rattle.paging_core.specs.Entry.{table_entry, page_entry, large_entry}
 use Rattle.paging_core.specs.Prefix.{prefix_of}
-use Rattle.paging_core.specs.Pool.{is_free}
-use Rattle.paging_core.specs.Walk.{Place, reach, large_of, large_from, walk_of, top, granted}
+use Rattle.paging_core.specs.Pool.{is_frame_free}
+use Rattle.paging_core.specs.Walk.{Place, reach, large_of, large_from, walk_of, top, place_with}
 use Rattle.paging_core.specs.Tree.{IsTree}
 use Rattle.page_ranges.specs.RangeMapping.{IsNewPlace, ArePagesAdded}
 use Rattle.paging_core.specs.declared.page_table.Rights.{Rights}
@@ -119,27 +119,28 @@ module _ (old mid new : List ℕ) (free free1 free' : List Bool) (root first pag
           let x = b.added page place e now in
           record { granted_all = x.granted_all; was_free = free_before free free1 a.fewer place.frame x.was_free; zeros = x.zeros }
 
-  large_added_of : (n : ℕ) (large : Place) → large_of old root n ≡ None → large_of new root n ≡ Some large → large ≡ granted large.frame rights
+  large_added_of : (n : ℕ) (large : Place) → large_of old root n ≡ None → large_of new root n ≡ Some large → large ≡ place_with large.frame rights
   large_added_of n large none now = go (some_or_none (large_of mid root n))
     where
-      go : ((m : Place) × (large_of mid root n ≡ Some m)) ⊎ (large_of mid root n ≡ None) → large ≡ granted large.frame rights
+      go : ((m : Place) × (large_of mid root n ≡ Some m)) ⊎ (large_of mid root n ≡ None) → large ≡ place_with large.frame rights
       go (inl p) =
           let s = b.large_stayed n p.0 p.1 in
           let same : p.0 ≡ large = cc in
           a.large_added n large none (p.1 ∙ ap Some same)
       go (inr e) = b.large_added n large e now
 
-  made_of : (l n : ℕ) (met : Place) → l < 4 → reach old root l n ≡ None → reach new root l n ≡ Some met → is_free free met.frame ≡ true
+  made_of : (l n : ℕ) (met : Place) → l < 4 → reach old root l n ≡ None → reach new root l n ≡ Some met → is_frame_free free met.frame ≡ true
   made_of l n met ll none now = go (some_or_none (reach mid root l n))
     where
-      go : ((m : Place) × (reach mid root l n ≡ Some m)) ⊎ (reach mid root l n ≡ None) → is_free free met.frame ≡ true
+      go : ((m : Place) × (reach mid root l n ≡ Some m)) ⊎ (reach mid root l n ≡ None) → is_frame_free free met.frame ≡ true
       go (inl p) =
           let s = b.stayed l n p.0 (omega arith) p.1 in
           let same : p.0 ≡ met = cc in
           a.made l n met ll none (p.1 ∙ ap Some same)
       go (inr gone) = free_before free free1 a.fewer met.frame (b.made l n met ll gone now)
 
-  words_of : (f i : ℕ) → i < 512 → is_free free f ≡ false → ((l n : ℕ) → l < 4 → reach old root l n ≡ Some (top f) → ⊥) → word_at new f i ≡ word_at old f i
+  words_of : (f i : ℕ) → i < 512 → is_frame_free free f ≡ false → ((l n : ℕ) → l < 4 → reach old root l n ≡ Some (top f) →
+      ⊥) → word_at new f i ≡ word_at old f i
   words_of f i li held untabled =
       b.words f i li (a.fewer f held) (λ l n ll now. table l n ll now (some_or_none (reach old root l n)))
       ∙ a.words f i li held untabled
@@ -150,7 +151,7 @@ module _ (old mid new : List ℕ) (free free1 free' : List Bool) (root first pag
           let s = a.stayed l n p.0 (omega arith) p.1 in
           let same : p.0 ≡ top f = cc in
           untabled l n ll (p.1 ∙ ap Some same)
-      table l n ll now (inr none) = let m : is_free free f ≡ true = a.made l n (top f) ll none now in cc
+      table l n ll now (inr none) = let m : is_frame_free free f ≡ true = a.made l n (top f) ll none now in cc
 
   old_words : (l n f i : ℕ) → l < 4 → i < 512 → reach old root l n ≡ Some (top f) →
       reach new root (l + 1) (512 * n + i) ≡ reach old root (l + 1) (512 * n + i) →

@@ -6,9 +6,9 @@ use Rattle.paging_core.specs.Address.{IsCanonicalRange}
 use Rattle.paging_core.specs.Memory.{word_at, frame_count}
 use Rattle.paging_core.specs.Entry.{page_entry, large_entry}
 use Rattle.paging_core.specs.Prefix.{prefix_of}
-use Rattle.paging_core.specs.Pool.{is_free, free_count, FreeBelow}
+use Rattle.paging_core.specs.Pool.{is_frame_free, free_count, FreeBelow}
 use Rattle.paging_core.specs.Runs.{IsRunFree, IsRunSet}
-use Rattle.paging_core.specs.Walk.{Place, reach, large_of, walk_of, top, granted}
+use Rattle.paging_core.specs.Walk.{Place, reach, large_of, walk_of, top, place_with}
 use Rattle.paging_core.specs.Tree.{IsTree}
 use Rattle.paging_core.specs.Missing.{missing_of}
 use Rattle.paging_core.specs.Mapping.{IsRangeAdded}
@@ -53,9 +53,9 @@ module _ (old new : List ℕ) (free free' : List Bool) (root first pages p m : �
       let e = numbered (prefix_of page 4 - prefix_of p 4) (omega arith) in
       let f : prefix_of (p + (prefix_of page 4 - prefix_of p 4)) 4 ≡ prefix_of page 4 = omega arith in
       let x = next.mapped (prefix_of page 4 - prefix_of p 4) (omega arith) in
-      let now' : walk_of new root page ≡ Some (granted x.frame rights) =
+      let now' : walk_of new root page ≡ Some (place_with x.frame rights) =
       walk_reach new root page ∙ (ap (reach new root 4) (sym f) ∙ (sym (walk_reach new root (p + (prefix_of page 4 - prefix_of p 4))) ∙ x.found)) in
-      let same : granted x.frame rights ≡ place = cc in
+      let same : place_with x.frame rights ≡ place = cc in
       rw (← same) (record { granted_all = refl; was_free = x.was_free; zeros = x.zeros })
   added_in page place gone now (inr a) _ = absurd (let s = away page (λ k lk e. let h = numbered k lk in omega arith) in cc)
     where
@@ -90,7 +90,7 @@ module _ (old new : List ℕ) (free free' : List Bool) (root first pages p m : �
     count =
         let u = unmapped_step first pages p m range lo hi some old new root (λ k lk. sym (walk_reach old root (p + k)) ∙ none k lk)
         (λ n ne. next.others 4 n (omega arith) ne)
-        (λ k lk. let x = next.mapped k lk in (granted x.frame rights, sym (walk_reach new root (p + k)) ∙ x.found)) in
+        (λ k lk. let x = next.mapped k lk in (place_with x.frame rights, sym (walk_reach new root (p + k)) ∙ x.found)) in
         let v = missing_step_in first pages p m range lo hi old new root (λ l n lt ne. next.others l n (omega arith) ne)
         (λ l k lt lk. let t = next.tables l k lt lk in (top t.0, t.1)) some in
         let c = next.count in
@@ -129,7 +129,7 @@ module _ (old mid new : List ℕ) (free free1 free' : List Bool) (root first pag
   larges : (n : ℕ) → large_of mid root n ≡ large_of old root n
   larges = run_larges old mid free free1 root run known tree was_free taken blank
 
-  fewer1 : (f : ℕ) → is_free free f ≡ false → is_free free1 f ≡ false
+  fewer1 : (f : ℕ) → is_frame_free free f ≡ false → is_frame_free free1 f ≡ false
   fewer1 = run_fewer old mid free free1 root run known tree was_free taken blank
 
   not_met : (l n : ℕ) (m : Place) → l ≤ 4 → reach old root l n ≡ Some m → m.frame / 512 ≡ run → ⊥
@@ -172,21 +172,21 @@ module _ (old mid new : List ℕ) (free free1 free' : List Bool) (root first pag
   large_stayed n large is = other_large n (λ e. let x = no_large in let y : large_of old root n ≡ None = ap (large_of old root) e ∙ x in cc) ∙ is
 
   large_added : (n : ℕ) (large : Place) → large_of old root n ≡ None → large_of new root n ≡ Some large →
-      (n ≡ slot_of page) × (large ≡ granted (512 * run) rights)
+      (n ≡ slot_of page) × (large ≡ place_with (512 * run) rights)
   large_added n large gone now = go (cases_eq n (slot_of page))
     where
-      go : (n ≡ slot_of page) ⊎ (n ≡ slot_of page → ⊥) → (n ≡ slot_of page) × (large ≡ granted (512 * run) rights)
+      go : (n ≡ slot_of page) ⊎ (n ≡ slot_of page → ⊥) → (n ≡ slot_of page) × (large ≡ place_with (512 * run) rights)
       go (inl e) =
-          let x : large_of new root n ≡ Some (granted (512 * run) rights) = ap (large_of new root) e ∙ added.large in
-          let s : large ≡ granted (512 * run) rights = cc in
+          let x : large_of new root n ≡ Some (place_with (512 * run) rights) = ap (large_of new root) e ∙ added.large in
+          let s : large ≡ place_with (512 * run) rights = cc in
           (e, s)
       go (inr ne) = let x = other_large n ne in absurd (cc)
 
   -- a table that is new is one above the slot, and its frame was left by the run
-  made_left : (l n : ℕ) (met : Place) → l < 4 → reach old root l n ≡ None → reach new root l n ≡ Some met → is_free free1 met.frame ≡ true
+  made_left : (l n : ℕ) (met : Place) → l < 4 → reach old root l n ≡ None → reach new root l n ≡ Some met → is_frame_free free1 met.frame ≡ true
   made_left l n met ll gone now = go (cases_lt l 3) (cases_eq n (above page l))
     where
-      go : (l < 3) ⊎ (3 ≤ l) → (n ≡ above page l) ⊎ (n ≡ above page l → ⊥) → is_free free1 met.frame ≡ true
+      go : (l < 3) ⊎ (3 ≤ l) → (n ≡ above page l) ⊎ (n ≡ above page l → ⊥) → is_frame_free free1 met.frame ≡ true
       go (inl lt) (inl e) =
           let t = added.made l lt (same l (above page l) (omega arith) ∙ (ap (reach old root l) (sym e) ∙ gone)) in
           let x : reach new root l n ≡ Some (top t.0) = ap (reach new root l) e ∙ t.1 in
@@ -195,7 +195,7 @@ module _ (old mid new : List ℕ) (free free1 free' : List Bool) (root first pag
       go (inl lt) (inr ne) = let x = others l n (omega arith) (λ _. ne) (λ e. absurd (omega arith)) in absurd (cc)
       go (inr ge) _ = let x = others l n (omega arith) (λ lt. absurd (omega arith)) (λ e. absurd (omega arith)) in absurd (cc)
 
-  made : (l n : ℕ) (met : Place) → l < 4 → reach old root l n ≡ None → reach new root l n ≡ Some met → is_free free met.frame ≡ true
+  made : (l n : ℕ) (met : Place) → l < 4 → reach old root l n ≡ None → reach new root l n ≡ Some met → is_frame_free free met.frame ≡ true
   made l n met ll gone now = free_before free free1 fewer1 met.frame (made_left l n met ll gone now)
 
   page_added : (other : ℕ) (place : Place) → walk_of old root other ≡ None → walk_of new root other ≡ Some place → IsNewPlace new free place rights
@@ -205,10 +205,10 @@ module _ (old mid new : List ℕ) (free free1 free' : List Bool) (root first pag
       go (inr ne) = let x = added.pages other ne in let y = run_walk old mid free free1 root run known tree was_free taken blank other in absurd (cc)
       go (inl e) =
           let n : prefix_of other 4 ≡ prefix_of (512 * page + other % 512) 4 = (let z = page_number (other % 512) (omega arith) in omega arith) in
-          let x : walk_of new root other ≡ Some (granted (512 * run + other % 512) rights) =
+          let x : walk_of new root other ≡ Some (place_with (512 * run + other % 512) rights) =
           walk_reach new root other ∙ (ap (reach new root 4) n ∙ (sym (walk_reach new root (512 * page + other % 512))
           ∙ added.there (other % 512) (omega arith))) in
-          let s : granted (512 * run + other % 512) rights ≡ place = cc in
+          let s : place_with (512 * run + other % 512) rights ≡ place = cc in
           rw (← s) (record {
             granted_all = refl;
             was_free = was_free (512 * run + other % 512) (omega arith);
@@ -216,12 +216,13 @@ module _ (old mid new : List ℕ) (free free1 free' : List Bool) (root first pag
                 added tree' (other % 512) i (omega arith) li;
           })
 
-  kept : (f : ℕ) → is_free free f ≡ true → ((l n : ℕ) (met : Place) → l ≤ 4 → reach new root l n ≡ Some met → met.frame ≡ f → ⊥) → is_free free' f ≡ true
+  kept : (f : ℕ) → is_frame_free free f ≡ true → ((l n : ℕ) (met : Place) → l ≤ 4 → reach new root l n ≡ Some met →
+      met.frame ≡ f → ⊥) → is_frame_free free' f ≡ true
   kept f is unseen = go (cases_eq (f / 512) run)
     where
-      go : (f / 512 ≡ run) ⊎ (f / 512 ≡ run → ⊥) → is_free free' f ≡ true
+      go : (f / 512 ≡ run) ⊎ (f / 512 ≡ run → ⊥) → is_frame_free free' f ≡ true
       go (inr ne) = added.kept f (taken.elsewhere f ne ∙ is) (λ l lt here. unseen l (above page l) (top f) (omega arith) here refl)
-      go (inl e) = absurd (unseen 4 (prefix_of (512 * page + f % 512) 4) (granted (512 * run + f % 512) rights) (omega arith)
+      go (inl e) = absurd (unseen 4 (prefix_of (512 * page + f % 512) 4) (place_with (512 * run + f % 512) rights) (omega arith)
           (sym (walk_reach new root (512 * page + f % 512)) ∙ added.there (f % 512) (omega arith))
           (let h : 512 * run + f % 512 ≡ f = omega arith in h))
 
@@ -235,14 +236,15 @@ module _ (old mid new : List ℕ) (free free1 free' : List Bool) (root first pag
       (omega arith) (λ _ _. refl) now here refl in absurd (omega (arith, d.0)))
       ∙ stay place.frame i li (not_met 4 (prefix_of other 4) place (omega arith) was)
 
-  words_of : (f i : ℕ) → i < 512 → is_free free f ≡ false → ((l n : ℕ) → l < 4 → reach old root l n ≡ Some (top f) → ⊥) → word_at new f i ≡ word_at old f i
+  words_of : (f i : ℕ) → i < 512 → is_frame_free free f ≡ false → ((l n : ℕ) → l < 4 → reach old root l n ≡ Some (top f) →
+      ⊥) → word_at new f i ≡ word_at old f i
   words_of f i li held untabled =
       added.words f i li (λ l ll here. table l ll here (some_or_none (reach old root l (above page l))))
       ∙ stay f i li (λ e. let h = was_free f e in cc)
     where
       table : (l : ℕ) → l < 3 → reach new root l (above page l) ≡ Some (top f) →
           ((m : Place) × (reach old root l (above page l) ≡ Some m)) ⊎ (reach old root l (above page l) ≡ None) → ⊥
-      table l ll here (inr gone) = let x = made l (above page l) (top f) (omega arith) gone here in let y : is_free free f ≡ true = x in cc
+      table l ll here (inr gone) = let x = made l (above page l) (top f) (omega arith) gone here in let y : is_frame_free free f ≡ true = x in cc
       table l ll here (inl q) =
           let s = added.stayed l (above page l) q.0 (omega arith) (same l (above page l) (omega arith) ∙ q.1) in
           let e : q.0 ≡ top f = cc in
@@ -253,7 +255,7 @@ module _ (old mid new : List ℕ) (free free1 free' : List Bool) (root first pag
       (l ≡ 2 → large_of new root (512 * n + i) ≡ large_of old root (512 * n + i)) → word_at new f i ≡ word_at old f i
   old_words l n f i ll li was keeps large =
       added.entries.old_words l n f i ll li (same l n (omega arith) ∙ was) (keeps ∙ sym (same (l + 1) (512 * n + i) (omega arith)))
-      (λ e x. let a : large_of new root (512 * n + i) ≡ Some (granted (512 * run) rights) = ap (large_of new root) x ∙ added.large in
+      (λ e x. let a : large_of new root (512 * n + i) ≡ Some (place_with (512 * run) rights) = ap (large_of new root) x ∙ added.large in
       let b : large_of old root (512 * n + i) ≡ None = ap (large_of old root) x ∙ no_large in
       let c = large e in cc)
       ∙ stay f i li (not_met l n (top f) (omega arith) was)
@@ -262,7 +264,7 @@ module _ (old mid new : List ℕ) (free free1 free' : List Bool) (root first pag
       reach new root (l + 1) (512 * n + i) ≡ None → (l ≡ 2 → large_of new root (512 * n + i) ≡ None) → word_at new f i ≡ 0
   table_new l n f i ll li gone now nowhere small =
       added.entries.blank l n f i ll li (same l n (omega arith) ∙ gone) now nowhere
-      (λ e x. let a : large_of new root (512 * n + i) ≡ Some (granted (512 * run) rights) = ap (large_of new root) x ∙ added.large in
+      (λ e x. let a : large_of new root (512 * n + i) ≡ Some (place_with (512 * run) rights) = ap (large_of new root) x ∙ added.large in
       let c = small e in cc)
 
   page_words : (n f i : ℕ) (place : Place) → i < 512 → reach new root 3 n ≡ Some (top f) → reach old root 4 (512 * n + i) ≡ None →
@@ -273,7 +275,7 @@ module _ (old mid new : List ℕ) (free free1 free' : List Bool) (root first pag
       q = omega arith
 
       go : (n ≡ slot_of page) ⊎ (n ≡ slot_of page → ⊥) → word_at new f i ≡ page_entry place.frame rights
-      go (inl e) = let x = large_none new root n (granted (512 * run) rights) (ap (large_of new root) e ∙ added.large) in absurd (cc)
+      go (inl e) = let x = large_none new root n (place_with (512 * run) rights) (ap (large_of new root) e ∙ added.large) in absurd (cc)
       go (inr ne) = let x = others 4 (512 * n + i) (omega arith) (λ lt. absurd (omega arith)) (λ _ e. ne (sym q ∙ e)) in absurd (cc)
 
   large_words : (n f i : ℕ) (large : Place) → i < 512 → reach new root 2 n ≡ Some (top f) → large_of old root (512 * n + i) ≡ None →
@@ -295,7 +297,7 @@ module _ (old mid new : List ℕ) (free free1 free' : List Bool) (root first pag
     large_added = λ n large gone now.
         let x = large_added n large gone now in
         let g : large.frame ≡ 512 * run = ap (λ m. m.frame) x.1 in
-        x.1 ∙ ap (λ f. granted f rights) (sym g);
+        x.1 ∙ ap (λ f. place_with f rights) (sym g);
     others = λ l n le ne. others l n le (λ lt. outside_slot l n ne)
         (λ e. outside_page n (λ k lk x. ne k lk (x ∙ ap (prefix_of (first + k)) (sym e))));
     other_larges = λ n ne. other_large n (λ e. outside_slot 3 n ne (e ∙ slot_number));
@@ -309,7 +311,7 @@ module _ (old mid new : List ℕ) (free free1 free' : List Bool) (root first pag
         (λ k lk. sym (walk_reach old root (512 * page + k)) ∙ empty.unmapped k lk)
         (λ n ne. others 4 n (omega arith) (λ lt. absurd (omega arith))
         (λ _ e. ne (n % 512) (omega arith) (let z = page_number (n % 512) (omega arith) in omega arith)))
-        (λ k lk. (granted (512 * run + k) rights, sym (walk_reach new root (512 * page + k)) ∙ added.there k lk)) in
+        (λ k lk. (place_with (512 * run + k) rights, sym (walk_reach new root (512 * page + k)) ∙ added.there k lk)) in
         omega arith;
     bytes_stay = bytes_stay;
     words = words_of;
@@ -339,7 +341,7 @@ module _ (old mid new : List ℕ) (free free1 free' : List Bool) (root first pag
         some_of (large_of old root (slot_of slot)) (large_of new root (slot_of slot)) (λ m e. large_stayed (slot_of slot) m e) (before.slots.large slot whole x)
     large_of_slot slot whole lt (inr x) =
         let e : slot ≡ page = omega arith in
-        rw (e, added.large) (let h : IsSome (Some (granted (512 * run) rights)) = cc in h)
+        rw (e, added.large) (let h : IsSome (Some (place_with (512 * run) rights)) = cc in h)
 
     mine : IsOpenSlot start root first pages page
     mine = record { from = lo; to = hi; no_table = sym (before.tables (slot_of page)) ∙ empty.no_table }
@@ -347,9 +349,10 @@ module _ (old mid new : List ℕ) (free free1 free' : List Bool) (root first pag
     page_stays : (n : ℕ) → large_of new root (n / 512) ≡ large_of start root (n / 512) → (n / 512 ≡ slot_of page) ⊎ (n / 512 ≡ slot_of page → ⊥) →
         reach new root 4 n ≡ reach start root 4 n
     page_stays n keeps (inl e) =
-        let a : large_of new root (n / 512) ≡ Some (granted (512 * run) rights) = ap (large_of new root) e ∙ added.large in
+        let a : large_of new root (n / 512) ≡ Some (place_with (512 * run) rights) = ap (large_of new root) e
+        ∙ added.large in
         let b : large_of old root (n / 512) ≡ None = ap (large_of old root) e ∙ no_large in
-        let c = before.pages_added.large_stayed (n / 512) (granted (512 * run) rights) (sym keeps ∙ a) in
+        let c = before.pages_added.large_stayed (n / 512) (place_with (512 * run) rights) (sym keeps ∙ a) in
         absurd (cc)
     page_stays n keeps (inr ne) =
         others 4 n (omega arith) (λ lt. absurd (omega arith)) (λ _. ne) ∙ before.others n (sym (other_large (n / 512) ne) ∙ keeps)
@@ -377,12 +380,12 @@ module _ (old mid new : List ℕ) (free free1 free' : List Bool) (root first pag
             p.1 ∙ ap Some e
         go (inr none) = absurd (none_some (large_of old root (slot_of slot)) none (before.slots.large slot whole lt))
 
-    spent : (f : ℕ) → is_free flags f ≡ true → ((slot : ℕ) → IsOpenSlot start root first pages slot → slot < page + 1 → ¬ (IsUsedFor new root slot f)) →
-        is_free free' f ≡ true
+    spent : (f : ℕ) → is_frame_free flags f ≡ true → ((slot : ℕ) → IsOpenSlot start root first pages slot → slot < page + 1 → ¬ (IsUsedFor new root slot f)) →
+        is_frame_free free' f ≡ true
     spent f was unused = go (cases_eq (f / 512) run)
       where
-        go : (f / 512 ≡ run) ⊎ (f / 512 ≡ run → ⊥) → is_free free' f ≡ true
-        go (inl e) = absurd (unused page mine (omega arith) (inl (granted (512 * run) rights, added.large, omega (arith, e))))
+        go : (f / 512 ≡ run) ⊎ (f / 512 ≡ run → ⊥) → is_frame_free free' f ≡ true
+        go (inl e) = absurd (unused page mine (omega arith) (inl (place_with (512 * run) rights, added.large, omega (arith, e))))
         go (inr ne) =
             added.kept f (taken.elsewhere f ne ∙ before.spent f was (λ slot whole lt used. unused slot whole (omega (arith, lt)) (used_still slot f used)))
             (λ l lt here. unused page mine (omega arith) (inr (l, lt, here)))
@@ -398,13 +401,13 @@ module _ (old mid new : List ℕ) (free free1 free' : List Bool) (root first pag
             (λ f earlier at its sooner used. unused f earlier at its sooner (used_still earlier f used))
         go (inr x) =
             let e : slot ≡ page = omega arith in
-            let here : large_of new root (slot_of slot) ≡ Some (granted (512 * run) rights) = ap (λ s. large_of new root (slot_of s)) e ∙ added.large in
-            let s : large ≡ granted (512 * run) rights = cc in
+            let here : large_of new root (slot_of slot) ≡ Some (place_with (512 * run) rights) = ap (λ s. large_of new root (slot_of s)) e ∙ added.large in
+            let s : large ≡ place_with (512 * run) rights = cc in
             let g : large.frame ≡ 512 * run = ap (λ m. m.frame) s in
             lowest_run spare (omega (arith, less, g))
             (λ f at. before.spent f (was f at) (λ earlier its sooner used. unused f earlier at its (omega (arith, sooner, e)) (used_still earlier f used)))
 
-    lowest_tables : (l n table f : ℕ) → l < 3 → reach start root l n ≡ None → reach new root l n ≡ Some (top table) → is_free free' f ≡ true → table < f
+    lowest_tables : (l n table f : ℕ) → l < 3 → reach start root l n ≡ None → reach new root l n ≡ Some (top table) → is_frame_free free' f ≡ true → table < f
     lowest_tables l n table f ll gone now left = go (some_or_none (reach old root l n))
       where
         go : ((m : Place) × (reach old root l n ≡ Some m)) ⊎ (reach old root l n ≡ None) → table < f

@@ -6,13 +6,13 @@ use Rattle.paging_core.specs.Address.{IsCanonicalRange}
 use Rattle.paging_core.specs.Memory.{word_at, frame_count}
 use Rattle.paging_core.specs.Entry.{table_entry}
 use Rattle.paging_core.specs.Prefix.{prefix_of}
-use Rattle.paging_core.specs.Pool.{is_free, free_count}
+use Rattle.paging_core.specs.Pool.{is_frame_free, free_count}
 use Rattle.paging_core.specs.Runs.{IsRunOut, IsRunSet}
 use Rattle.paging_core.specs.Walk.{Place, reach, large_of, walk_of, page_in, top}
 use Rattle.paging_core.specs.Tree.{IsTree}
 use Rattle.paging_core.specs.PageChanges.{ArePagesFreed, among}
 use Rattle.paging_core.specs.Large.{slot_of, above, IsLargeCleared, IsLargeRemoved, IsLargeCut}
-use Rattle.page_ranges.specs.RangeUnmapping.{NoLargePageReachesOver, is_cut, IsCutPage, AreUnmapped}
+use Rattle.page_ranges.specs.RangeUnmapping.{NoLargePageReachesOver, cuts_large_page, IsCutPage, AreUnmapped}
 use Rattle.paging_core.proofs.Words.{word_at_set_same, word_at_set_other}
 use Rattle.paging_core.proofs.Prefixes.{walk_reach, prefix_parent}
 use Rattle.paging_core.proofs.Reach.{reach_in, either_way, ByEntry, InLarge, large_none}
@@ -138,7 +138,7 @@ module _ (first pages : ℕ)
       let at = at_large words root (512 * slot_of (first / 512) + f % 512) large was i in
       let u = tree.used 4 (512 * slot_of (first / 512) + f % 512) (page_in ((512 * slot_of (first / 512) + f % 512) % 512) large) (omega arith) at in
       let g : large.frame + (512 * slot_of (first / 512) + f % 512) % 512 ≡ f = omega arith in
-      out_of free f (omega arith) (ap (is_free free) (sym g) ∙ u)
+      out_of free f (omega arith) (ap (is_frame_free free) (sym g) ∙ u)
 
   -- by the entry of a large page
   module _ (old new : List ℕ) (free free' : List Bool) (root run : ℕ) (large : Place)
@@ -276,7 +276,7 @@ module _ (first pages : ℕ)
             before (inr ge) = let y = of_index n e ge (omega arith) in absurd (cc)
         go (inr ne) = cut.others 4 n (omega arith) (λ e _. absurd (omega arith)) (λ _ e. ne e)
 
-    tables_stay : (l n : ℕ) → l < 4 → (l ≡ 3 → n ≡ prefix_of first 3 → is_cut old root first ≡ false) → reach new root l n ≡ reach old root l n
+    tables_stay : (l n : ℕ) → l < 4 → (l ≡ 3 → n ≡ prefix_of first 3 → cuts_large_page old root first ≡ false) → reach new root l n ≡ reach old root l n
     tables_stay l n lt h = cut.others l n (omega arith)
         (λ e f. let z = h e (f ∙ sym first_slot) in let y = cut_is old root first cut.large it in cc)
         (λ e _. absurd (omega arith))
@@ -292,25 +292,26 @@ module _ (first pages : ℕ)
     frame_among k lo lt = of_index (512 * slot_of (first / 512) + k) (omega arith) (omega arith) (omega arith)
 
     given : (n : ℕ) (place : Place) → among first pages n ≡ true → reach old root 4 n ≡ Some place →
-        ((large : Place) → IsCutPage old root first large → n ≡ prefix_of first 4 → ⊥) → is_free free' place.frame ≡ true
+        ((large : Place) → IsCutPage old root first large → n ≡ prefix_of first 4 → ⊥) →
+        is_frame_free free' place.frame ≡ true
     given n place x at nc =
         let j = index n x in
         let f = frame_in old root n cut.large place cut.was j.0 at in
         let lo = j.1 in
         let ne : n % 512 ≡ first % 512 → ⊥ = λ e. nc cut.large it (let k = j.0 in omega arith) in
-        ap (is_free free') f ∙ cut.given (n % 512) (after (cases_eq (n % 512) (first % 512)) lo ne) (omega arith)
+        ap (is_frame_free free') f ∙ cut.given (n % 512) (after (cases_eq (n % 512) (first % 512)) lo ne) (omega arith)
       where
         after : (n % 512 ≡ first % 512) ⊎ (n % 512 ≡ first % 512 → ⊥) → first % 512 ≤ n % 512 → (n % 512 ≡ first % 512 → ⊥) → first % 512 < n % 512
         after (inl e) lo ne = absurd (ne e)
         after (inr q) lo ne = omega arith
 
-    used : is_free free' (cut.large.frame + first % 512) ≡ false
+    used : is_frame_free free' (cut.large.frame + first % 512) ≡ false
     used =
         cut.kept (cut.large.frame + first % 512) (λ k lo lt e. omega arith)
         ∙ tree.used 4 (512 * slot_of (first / 512) + first % 512) (page_in (first % 512) cut.large) (omega arith) (frame_at (first % 512) (omega arith))
 
     kept : (f : ℕ) → ((n : ℕ) (place : Place) → among first pages n ≡ true → reach old root 4 n ≡ Some place → place.frame ≡ f → ⊥) →
-        is_free free' f ≡ is_free free f
+        is_frame_free free' f ≡ is_frame_free free f
     kept f ne = cut.kept f (λ k lo lt e.
         ne (512 * slot_of (first / 512) + k) (page_in k cut.large) (frame_among k (omega arith) lt) (frame_at k lt) (sym e))
 
@@ -318,7 +319,7 @@ module _ (first pages : ℕ)
     second_slot = omega arith
 
     large_words : (n f i : ℕ) (large : Place) → i < 512 → reach old root 2 n ≡ Some (top f) → large_of old root (512 * n + i) ≡ Some large →
-        large_of new root (512 * n + i) ≡ None → (is_cut old root first ≡ true → 512 * n + i ≡ prefix_of first 3 → ⊥) → word_at new f i ≡ 0
+        large_of new root (512 * n + i) ≡ None → (cuts_large_page old root first ≡ true → 512 * n + i ≡ prefix_of first 3 → ⊥) → word_at new f i ≡ 0
     large_words n f i large li at before now nc =
         let ne : 512 * n + i ≡ slot_of (first / 512) → ⊥ = λ e. nc (cut_is old root first cut.large it) (e ∙ sym first_slot) in
         let s = cut.larges (512 * n + i) ne in
@@ -348,7 +349,7 @@ module _ (first pages : ℕ)
       tables_stay = tables_stay;
       table = λ large other. ap (reach new root 3) first_slot ∙ (cut.table ∙ ap (λ f. Some (top f)) (sym (made_is large other)));
       given = given;
-      used = λ large other. ap (is_free free') (made_is large other) ∙ used;
+      used = λ large other. ap (is_frame_free free') (made_is large other) ∙ used;
       kept = kept;
       count = let z = cut_one old root first (cut_is old root first cut.large it) in let c = cut.count in omega arith;
       entries = record {

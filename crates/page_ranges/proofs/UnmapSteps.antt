@@ -5,11 +5,11 @@ use Rattle.std.proofs.lemmas.Bool.{cases_Bool, cases_lt}
 use Rattle.paging_core.specs.Address.{IsCanonicalRange}
 use Rattle.paging_core.specs.Memory.{word_at, frame_count}
 use Rattle.paging_core.specs.Prefix.{prefix_of}
-use Rattle.paging_core.specs.Pool.{is_free}
+use Rattle.paging_core.specs.Pool.{is_frame_free}
 use Rattle.paging_core.specs.Walk.{Place, reach, large_of, walk_of, page_in, top}
 use Rattle.paging_core.specs.Tree.{IsTree}
 use Rattle.paging_core.specs.PageChanges.{among}
-use Rattle.page_ranges.specs.RangeUnmapping.{NoLargePageReachesOver, is_cut, IsCutPage, HasEntriesLeft, AreUnmapped}
+use Rattle.page_ranges.specs.RangeUnmapping.{NoLargePageReachesOver, cuts_large_page, IsCutPage, HasEntriesLeft, AreUnmapped}
 use Rattle.paging_core.proofs.Prefixes.{walk_reach, prefix_more}
 use Rattle.paging_core.proofs.LastEntry.{some_or_none}
 use Rattle.paging_core.proofs.Ranges.{page_in as range_page}
@@ -72,7 +72,7 @@ module _ (old mid new : List ℕ) (free free1 free' : List Bool) (root first p q
       let f : prefix_of (first + k) 3 ≡ prefix_of (first + (p + j)) 3 = e ∙ ap (λ m. prefix_of m 3) z in
       omega arith
 
-  no_cut : is_cut mid root (first + p) ≡ false
+  no_cut : cuts_large_page mid root (first + p) ≡ false
   no_cut = no_cut_whole mid root (first + p) at_slot
 
   whole : (large : Place) → IsCutPage mid root (first + p) large → ⊥
@@ -116,10 +116,11 @@ module _ (old mid new : List ℕ) (free free1 free' : List Bool) (root first p q
       cc
 
   given : (n : ℕ) (place : Place) → among first (p + q) n ≡ true → reach old root 4 n ≡ Some place →
-      ((large : Place) → IsCutPage old root first large → n ≡ prefix_of first 4 → ⊥) → is_free free' place.frame ≡ true
+      ((large : Place) → IsCutPage old root first large → n ≡ prefix_of first 4 → ⊥) →
+      is_frame_free free' place.frame ≡ true
   given n place x at nc = go (cases_Bool (among (first + p) q n))
     where
-      go : (among (first + p) q n ≡ true) ⊎ (among (first + p) q n ≡ false) → is_free free' place.frame ≡ true
+      go : (among (first + p) q n ≡ true) ⊎ (among (first + p) q n ≡ false) → is_frame_free free' place.frame ≡ true
       go (inl y) = b.given n place y (a.pages_stay n (not_a n y) ∙ at) (λ large it _. whole large it)
       go (inr y) =
           let z = rest n x y in
@@ -128,7 +129,7 @@ module _ (old mid new : List ℕ) (free free1 free' : List Bool) (root first p q
   first_in : among first p (prefix_of first 4) ≡ true
   first_in = among_is first p (prefix_of first 4) (omega arith) (omega arith)
 
-  used : (large : Place) → IsCutPage old root first large → is_free free' (large.frame + first % 512) ≡ false
+  used : (large : Place) → IsCutPage old root first large → is_frame_free free' (large.frame + first % 512) ≡ false
   used large it =
       b.kept (large.frame + first % 512)
       (λ m other g here e. other_frame (prefix_of first 4) m (page_in (first % 512) large) other first_in (cut_page old root first large it) g here e)
@@ -200,7 +201,7 @@ module _ (old mid new : List ℕ) (free free1 free' : List Bool) (root first p q
       go (inr y) = third_stays f i n li here y ∙ a.entries.page_words n f i li (rest (512 * n + i) x y) at
 
   large_words : (n f i : ℕ) (large : Place) → i < 512 → reach old root 2 n ≡ Some (top f) → large_of old root (512 * n + i) ≡ Some large →
-      large_of new root (512 * n + i) ≡ None → (is_cut old root first ≡ true → 512 * n + i ≡ prefix_of first 3 → ⊥) → word_at new f i ≡ 0
+      large_of new root (512 * n + i) ≡ None → (cuts_large_page old root first ≡ true → 512 * n + i ≡ prefix_of first 3 → ⊥) → word_at new f i ≡ 0
   large_words n f i large li at before now nc = go (some_or_none (large_of mid root (512 * n + i)))
     where
       here : reach mid root 2 n ≡ Some (top f)

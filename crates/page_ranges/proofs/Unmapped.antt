@@ -6,11 +6,11 @@ use Rattle.std.proofs.lemmas.Bool.Decides.{nat_tests}
 use Rattle.paging_core.specs.Address.{is_canonical, IsCanonicalRange}
 use Rattle.paging_core.specs.Memory.{word_at, frame_count}
 use Rattle.paging_core.specs.Prefix.{prefix_of}
-use Rattle.paging_core.specs.Pool.{is_free, FreeBelow}
+use Rattle.paging_core.specs.Pool.{is_frame_free, FreeBelow}
 use Rattle.paging_core.specs.Walk.{Place, reach, large_of, walk_of, reached, page_in, top}
 use Rattle.paging_core.specs.Tree.{IsTree}
 use Rattle.paging_core.specs.PageChanges.{among}
-use Rattle.page_ranges.specs.RangeUnmapping.{is_cut, cut_tables, IsCutPage, AreUnmapped}
+use Rattle.page_ranges.specs.RangeUnmapping.{cuts_large_page, cut_tables, IsCutPage, AreUnmapped}
 use Rattle.paging_core.proofs.Prefixes.{walk_reach, prefix_parent}
 use Rattle.paging_core.proofs.Reach.{reach_in, table_none}
 use Rattle.paging_core.proofs.LastEntry.{some_or_none}
@@ -55,36 +55,37 @@ slot_in first (suc more) n range = go (cases_lt n (prefix_of first 3)) (cases_lt
 
 -- ---- a page that is cut
 
-pub cut_is : (words : List ℕ) (root first : ℕ) (large : Place) → IsCutPage words root first large → is_cut words root first ≡ true
+pub cut_is : (words : List ℕ) (root first : ℕ) (large : Place) → IsCutPage words root first large → cuts_large_page words root first ≡ true
 cut_is words root first large it =
     let b = it.behind in
     let z : (first % 512 == 0) ≡ false = grind (arith, nat_tests) in
     rw (it.there, z) refl
 
 -- there is none if the first page is mapped by a table
-pub no_cut_small : (words : List ℕ) (root first : ℕ) → large_of words root (prefix_of first 3) ≡ None → is_cut words root first ≡ false
+pub no_cut_small : (words : List ℕ) (root first : ℕ) → large_of words root (prefix_of first 3) ≡ None → cuts_large_page words root first ≡ false
 no_cut_small words root first e = rw e refl
 
 -- and none if the range begins with a slot
-pub no_cut_whole : (words : List ℕ) (root first : ℕ) → first % 512 ≡ 0 → is_cut words root first ≡ false
+pub no_cut_whole : (words : List ℕ) (root first : ℕ) → first % 512 ≡ 0 → cuts_large_page words root first ≡ false
 no_cut_whole words root first e = rw e (go (is_some (large_of words root (prefix_of first 3))))
   where
     go : (b : Bool) → (b && false) ≡ false
     go true = refl
     go false = refl
 
-pub cut_none : (words : List ℕ) (root first : ℕ) → is_cut words root first ≡ false → cut_tables words root first ≡ 0
+pub cut_none : (words : List ℕ) (root first : ℕ) → cuts_large_page words root first ≡ false →
+    cut_tables words root first ≡ 0
 cut_none words root first e = rw e refl
 
-pub cut_one : (words : List ℕ) (root first : ℕ) → is_cut words root first ≡ true → cut_tables words root first ≡ 1
+pub cut_one : (words : List ℕ) (root first : ℕ) → cuts_large_page words root first ≡ true → cut_tables words root first ≡ 1
 cut_one words root first e = rw e refl
 
 -- a range that is cut, or one that is not
-pub cut_or_not : (words : List ℕ) (root first : ℕ) → ((large : Place) × IsCutPage words root first large) ⊎ (is_cut words root first ≡ false)
+pub cut_or_not : (words : List ℕ) (root first : ℕ) → ((large : Place) × IsCutPage words root first large) ⊎ (cuts_large_page words root first ≡ false)
 cut_or_not words root first = go (some_or_none (large_of words root (prefix_of first 3))) (cases_eq (first % 512) 0)
   where
     go : ((m : Place) × (large_of words root (prefix_of first 3) ≡ Some m)) ⊎ (large_of words root (prefix_of first 3) ≡ None) →
-        (first % 512 ≡ 0) ⊎ (first % 512 ≡ 0 → ⊥) → ((large : Place) × IsCutPage words root first large) ⊎ (is_cut words root first ≡ false)
+        (first % 512 ≡ 0) ⊎ (first % 512 ≡ 0 → ⊥) → ((large : Place) × IsCutPage words root first large) ⊎ (cuts_large_page words root first ≡ false)
     go (inr none) _ = inr (no_cut_small words root first none)
     go _ (inl e) = inr (no_cut_whole words root first e)
     go (inl p) (inr ne) = inl (p.0, record { there = p.1; behind = omega arith })
@@ -129,7 +130,7 @@ module _ (old new : List ℕ) (free free' : List Bool) (root first pages : ℕ)
       last (inl x) e = let z = a.gone n x in let w : reach new root 4 n ≡ Some met = rw (← e) is in absurd (cc)
       last (inr x) e = stays (rw e (a.pages_stay n x)) (λ _. x)
 
-      go : (l ≡ 4) ⊎ (l ≡ 4 → ⊥) → ((large : Place) × IsCutPage old root first large) ⊎ (is_cut old root first ≡ false) → (l ≡ 3) ⊎ (l ≡ 3 → ⊥) →
+      go : (l ≡ 4) ⊎ (l ≡ 4 → ⊥) → ((large : Place) × IsCutPage old root first large) ⊎ (cuts_large_page old root first ≡ false) → (l ≡ 3) ⊎ (l ≡ 3 → ⊥) →
           (n ≡ prefix_of first 3) ⊎ (n ≡ prefix_of first 3 → ⊥) → IsNewTable l n met ⊎ IsOld l n met
       go (inl e) _ _ _ = last (cases_Bool (among first pages n)) e
       go (inr ne) (inr whole) _ _ = stays (a.tables_stay l n (omega arith) (λ _ _. whole)) (λ e. absurd (ne e))
@@ -158,7 +159,8 @@ module _ (old new : List ℕ) (free free' : List Bool) (root first pages : ℕ)
   same_place l n k j x y ll lk (inr o) (inr q) e = tree.distinct l n k j x y ll lk (λ _ _. refl) o.was q.was e
 
   -- an old place is at no frame of a page of the range
-  keeps_frame : (l n : ℕ) (met : Place) → l ≤ 4 → IsOld l n met → is_free free' met.frame ≡ is_free free met.frame
+  keeps_frame : (l n : ℕ) (met : Place) → l ≤ 4 → IsOld l n met → is_frame_free free' met.frame ≡ is_frame_free free
+      met.frame
   keeps_frame l n met le o = a.kept met.frame (λ m place g at e.
       let d = tree.distinct 4 m l n place met (omega arith) le (λ _ _. refl) at o.was e in
       let out = o.outside (sym d.0) in
@@ -169,7 +171,7 @@ module _ (old new : List ℕ) (free free' : List Bool) (root first pages : ℕ)
   pub unmapped_tables : (l n : ℕ) (met : Place) → l < 4 → reach old root l n ≡ Some met → reach new root l n ≡ Some met
   unmapped_tables l n met lt is = a.tables_stay l n lt small ∙ is
     where
-      small : l ≡ 3 → n ≡ prefix_of first 3 → is_cut old root first ≡ false
+      small : l ≡ 3 → n ≡ prefix_of first 3 → cuts_large_page old root first ≡ false
       small e f = no_cut_small old root first (table_none old root (prefix_of first 3) met
           (ap (reach old root 3) (sym f) ∙ (ap (λ k. reach old root k n) (sym e) ∙ is)))
 
@@ -261,14 +263,15 @@ module _ (old new : List ℕ) (free free' : List Bool) (root first pages : ℕ)
 
     -- an entry of a table of the third step, where a large page was
     large_zero : (n i : ℕ) (met large : Place) → i < 512 → reach old root 2 n ≡ Some met → large_of old root (512 * n + i) ≡ Some large →
-        large_of new root (512 * n + i) ≡ None → (is_cut old root first ≡ true → 512 * n + i ≡ prefix_of first 3 → ⊥) →
+        large_of new root (512 * n + i) ≡ None → (cuts_large_page old root first ≡ true → 512 * n + i ≡ prefix_of first 3 →
+        ⊥) →
         has_bit (word_at new met.frame i) 0 ≡ true → IsPlain new 2 (word_at new met.frame i)
     large_zero n i met large li at was gone whole =
         let t : met ≡ top met.frame = tree.rights 2 n met (omega arith) at in
         plain_zero new 2 (word_at new met.frame i) (a.entries.large_words n met.frame i large li (at ∙ ap Some t) was gone whole)
 
     large_entry : (n i : ℕ) (met large : Place) → i < 512 → reach old root 2 n ≡ Some met → large_of old root (512 * n + i) ≡ Some large →
-        large_of new root (512 * n + i) ≡ None → ((cut : Place) × IsCutPage old root first cut) ⊎ (is_cut old root first ≡ false) →
+        large_of new root (512 * n + i) ≡ None → ((cut : Place) × IsCutPage old root first cut) ⊎ (cuts_large_page old root first ≡ false) →
         (512 * n + i ≡ prefix_of first 3) ⊎ (512 * n + i ≡ prefix_of first 3 → ⊥) →
         has_bit (word_at new met.frame i) 0 ≡ true → IsPlain new 2 (word_at new met.frame i)
     large_entry n i met large li at was gone (inl cut) (inl e) =
@@ -330,8 +333,9 @@ module _ (old new : List ℕ) (free free' : List Bool) (root first pages : ℕ)
         rights_of l n met lt (inl t) = t.framed ∙ ap top (sym (ap (λ p. p.frame) t.framed))
         rights_of l n met lt (inr o) = tree.rights l n met lt o.was
 
-        used_of : (l n : ℕ) (met : Place) → l ≤ 4 → IsNewTable l n met ⊎ IsOld l n met → is_free free' met.frame ≡ false
-        used_of l n met le (inl t) = ap (is_free free') (ap (λ p. p.frame) t.framed) ∙ a.used t.large t.cut
+        used_of : (l n : ℕ) (met : Place) → l ≤ 4 → IsNewTable l n met ⊎ IsOld l n met →
+            is_frame_free free' met.frame ≡ false
+        used_of l n met le (inl t) = ap (is_frame_free free') (ap (λ p. p.frame) t.framed) ∙ a.used t.large t.cut
         used_of l n met le (inr o) = keeps_frame l n met le o ∙ tree.used l n met le o.was
 
     pub unmapped_gone : (k : ℕ) → k < pages → walk_of new root (first + k) ≡ None

@@ -4,9 +4,9 @@ use Rattle.std.specs.Prelude.{◌≡◌, ℕ, ◌+◌, ◌*◌, ◌/◌, ◌<◌
 use Rattle.paging_core.specs.Memory.{word_at}
 use Rattle.paging_core.specs.Entry.{table_entry, page_entry, large_entry}
 use Rattle.paging_core.specs.Prefix.{prefix_of, prefixes_from}
-use Rattle.paging_core.specs.Pool.{is_free, free_count, AreLowestTaken}
+use Rattle.paging_core.specs.Pool.{is_frame_free, free_count, AreLowestTaken}
 use Rattle.paging_core.specs.Runs.{IsRunFree}
-use Rattle.paging_core.specs.Walk.{Place, reach, large_of, walk_of, top, granted}
+use Rattle.paging_core.specs.Walk.{Place, reach, large_of, walk_of, top, place_with}
 use Rattle.paging_core.specs.Tree.{IsTree}
 use Rattle.paging_core.specs.Missing.{is_missing, missing_of}
 use Rattle.paging_core.specs.Mapping.{IsNewPage}
@@ -42,8 +42,8 @@ pub record HasNewEntries (old new : List ℕ) (root : ℕ) (rights : Rights) : T
 
 -- A page was added here: with the rights, at a frame that was free and is 0.
 pub record IsNewPlace (new : List ℕ) (free : List Bool) (place : Place) (rights : Rights) : Type 0 where
-  pub granted_all : place ≡ granted place.frame rights
-  pub was_free : is_free free place.frame ≡ true
+  pub granted_all : place ≡ place_with place.frame rights
+  pub was_free : is_frame_free free place.frame ≡ true
   pub zeros : (i : ℕ) → i < 512 → word_at new place.frame i ≡ 0
 
 -- Some of the pages from `first` on were added, each at a new frame, by tables or in large pages, and tables that they
@@ -53,7 +53,7 @@ pub record ArePagesAdded (old new : List ℕ) (free free' : List Bool) (root fir
   pub flags : length free' ≡ length free
   pub tree : IsTree new root free'
   pub added : (page : ℕ) (place : Place) → walk_of old root page ≡ None → walk_of new root page ≡ Some place → IsNewPlace new free place rights
-  pub large_added : (n : ℕ) (large : Place) → large_of old root n ≡ None → large_of new root n ≡ Some large → large ≡ granted large.frame rights
+  pub large_added : (n : ℕ) (large : Place) → large_of old root n ≡ None → large_of new root n ≡ Some large → large ≡ place_with large.frame rights
   -- what is no prefix of a page of the range is met as before, and so is all that was there
   pub others :
       (l n : ℕ) → l ≤ 4 → ((k : ℕ) → k < pages → n ≡ prefix_of (first + k) l → ⊥) → reach new root l n ≡ reach old root l n
@@ -62,12 +62,12 @@ pub record ArePagesAdded (old new : List ℕ) (free free' : List Bool) (root fir
   pub large_stayed : (n : ℕ) (large : Place) → large_of old root n ≡ Some large → large_of new root n ≡ Some large
   -- the frames of the new tables were free
   pub made :
-      (l n : ℕ) (met : Place) → l < 4 → reach old root l n ≡ None → reach new root l n ≡ Some met → is_free free met.frame ≡ true
+      (l n : ℕ) (met : Place) → l < 4 → reach old root l n ≡ None → reach new root l n ≡ Some met → is_frame_free free met.frame ≡ true
   -- no frame was given back, and none was taken but for what the walk meets: one for each page and each table that is new
-  pub fewer : (f : ℕ) → is_free free f ≡ false → is_free free' f ≡ false
+  pub fewer : (f : ℕ) → is_frame_free free f ≡ false → is_frame_free free' f ≡ false
   pub kept :
-      (f : ℕ) → is_free free f ≡ true → ((l n : ℕ) (met : Place) → l ≤ 4 → reach new root l n ≡ Some met → met.frame ≡ f → ⊥) →
-      is_free free' f ≡ true
+      (f : ℕ) → is_frame_free free f ≡ true → ((l n : ℕ) (met : Place) → l ≤ 4 → reach new root l n ≡ Some met → met.frame ≡ f → ⊥) →
+      is_frame_free free' f ≡ true
   pub count :
       free_count free' + (unmapped_of old root first pages + missing_of old root first pages)
       ≡ free_count free + (unmapped_of new root first pages + missing_of new root first pages)
@@ -75,10 +75,10 @@ pub record ArePagesAdded (old new : List ℕ) (free free' : List Bool) (root fir
   pub bytes_stay : (page : ℕ) (place : Place) (i : ℕ) → walk_of old root page ≡ Some place → i < 512 → word_at new place.frame i ≡ word_at old place.frame i
   -- words are changed only in frames that were free and in tables, and there no more than the new entries need
   pub words :
-      (f i : ℕ) → i < 512 → is_free free f ≡ false → ((l n : ℕ) → l < 4 → reach old root l n ≡ Some (top f) → ⊥) →
+      (f i : ℕ) → i < 512 → is_frame_free free f ≡ false → ((l n : ℕ) → l < 4 → reach old root l n ≡ Some (top f) → ⊥) →
       word_at new f i ≡ word_at old f i
   -- and what is free after still has its words
-  pub free_words : (f i : ℕ) → i < 512 → is_free free' f ≡ true → word_at new f i ≡ word_at old f i
+  pub free_words : (f i : ℕ) → i < 512 → is_frame_free free' f ≡ true → word_at new f i ≡ word_at old f i
   pub entries : HasNewEntries old new root rights
 
 -- The slot lies whole in the range and has no table.
@@ -113,8 +113,8 @@ pub record AreSlotsAdded (old new : List ℕ) (free free' : List Bool) (root fir
   pub others : (n : ℕ) → large_of new root (n / 512) ≡ large_of old root (n / 512) → reach new root 4 n ≡ reach old root 4 n
   -- no frame was taken but for these slots
   pub spent :
-      (f : ℕ) → is_free free f ≡ true → ((slot : ℕ) → IsOpenSlot old root first pages slot → slot < stop → ¬ (IsUsedFor new root slot f)) →
-      is_free free' f ≡ true
+      (f : ℕ) → is_frame_free free f ≡ true → ((slot : ℕ) → IsOpenSlot old root first pages slot → slot < stop → ¬ (IsUsedFor new root slot f)) →
+      is_frame_free free' f ≡ true
   -- each got the lowest run: of each lower one that was free, a frame was used for a slot before it
   pub lowest_runs :
       (slot run : ℕ) (large : Place) → IsOpenSlot old root first pages slot → slot < stop → large_of new root (slot_of slot) ≡ Some large →
@@ -122,7 +122,7 @@ pub record AreSlotsAdded (old new : List ℕ) (free free' : List Bool) (root fir
       ((f before : ℕ) → f / 512 ≡ run → IsOpenSlot old root first pages before → before < slot → ¬ (IsUsedFor new root before f)) → ⊥
   -- and their tables the lowest frames
   pub lowest_tables :
-      (l n table f : ℕ) → l < 3 → reach old root l n ≡ None → reach new root l n ≡ Some (top table) → is_free free' f ≡ true → table < f
+      (l n table f : ℕ) → l < 3 → reach old root l n ≡ None → reach new root l n ≡ Some (top table) → is_frame_free free' f ≡ true → table < f
 
 -- The pages from `first` on were added: first those of the slots below `stop` that lie whole in the range and had no table, in
 -- large pages, as long as a run of frames was free; then the others, by tables.

@@ -6,7 +6,7 @@ use Rattle.std.specs.Prelude.{◌≡◌, ℕ, ◌+◌, ◌*◌, ◌/◌, ◌%◌
 use Rattle.paging_core.specs.Memory.{word_at}
 use Rattle.paging_core.specs.Entry.{table_entry, page_entry}
 use Rattle.paging_core.specs.Prefix.{prefix_of}
-use Rattle.paging_core.specs.Pool.{is_free, free_count}
+use Rattle.paging_core.specs.Pool.{is_frame_free, free_count}
 use Rattle.paging_core.specs.Walk.{Place, reach, large_of, top}
 use Rattle.paging_core.specs.PageChanges.{among}
 
@@ -16,12 +16,12 @@ NoLargePageReachesOver words root first pages =
     (k : ℕ) → k < pages → IsSome (large_of words root (prefix_of (first + k) 3)) → 512 * ((first + k) / 512) + 512 ≤ first + pages
 
 -- the range begins in a large page, after its first page
-abbrev pub is_cut : List ℕ → ℕ → ℕ → Bool
-is_cut words root first = is_some (large_of words root (prefix_of first 3)) && not (first % 512 == 0)
+abbrev pub cuts_large_page : List ℕ → ℕ → ℕ → Bool
+cuts_large_page words root first = is_some (large_of words root (prefix_of first 3)) && not (first % 512 == 0)
 
 -- the tables that are made by it
 abbrev pub cut_tables : List ℕ → ℕ → ℕ → ℕ
-cut_tables words root first = if is_cut words root first then 1 else 0
+cut_tables words root first = if cuts_large_page words root first then 1 else 0
 
 -- The range begins after the first page of this large page, whose table then is the frame of the range's first page.
 pub record IsCutPage (words : List ℕ) (root first : ℕ) (large : Place) : Type 0 where
@@ -35,7 +35,7 @@ pub record HasEntriesLeft (old new : List ℕ) (root first pages : ℕ) : Type 0
   pub page_words : (n f i : ℕ) → i < 512 → among first pages (512 * n + i) ≡ true → reach old root 3 n ≡ Some (top f) → word_at new f i ≡ 0
   pub large_words :
       (n f i : ℕ) (large : Place) → i < 512 → reach old root 2 n ≡ Some (top f) → large_of old root (512 * n + i) ≡ Some large →
-      large_of new root (512 * n + i) ≡ None → (is_cut old root first ≡ true → 512 * n + i ≡ prefix_of first 3 → ⊥) → word_at new f i ≡ 0
+      large_of new root (512 * n + i) ≡ None → (cuts_large_page old root first ≡ true → 512 * n + i ≡ prefix_of first 3 → ⊥) → word_at new f i ≡ 0
   -- the entry of a large page that was cut, and the words of its table
   pub table_word :
       (f : ℕ) (large : Place) → IsCutPage old root first large → reach old root 2 (prefix_of first 2) ≡ Some (top f) →
@@ -61,16 +61,16 @@ pub record AreUnmapped (old new : List ℕ) (free free' : List Bool) (root first
   -- every other page, every other large page and every table stays
   pub pages_stay : (n : ℕ) → among first pages n ≡ false → reach new root 4 n ≡ reach old root 4 n
   pub larges_stay : (n : ℕ) → ((k : ℕ) → k < pages → n ≡ prefix_of (first + k) 3 → ⊥) → large_of new root n ≡ large_of old root n
-  pub tables_stay : (l n : ℕ) → l < 4 → (l ≡ 3 → n ≡ prefix_of first 3 → is_cut old root first ≡ false) → reach new root l n ≡ reach old root l n
+  pub tables_stay : (l n : ℕ) → l < 4 → (l ≡ 3 → n ≡ prefix_of first 3 → cuts_large_page old root first ≡ false) → reach new root l n ≡ reach old root l n
   -- the table of a large page that was cut
   pub table : (large : Place) → IsCutPage old root first large → reach new root 3 (prefix_of first 3) ≡ Some (top (large.frame + first % 512))
   -- the frames that were given back, that of the new table, and every other flag
   pub given :
       (n : ℕ) (place : Place) → among first pages n ≡ true → reach old root 4 n ≡ Some place →
-      ((large : Place) → IsCutPage old root first large → n ≡ prefix_of first 4 → ⊥) → is_free free' place.frame ≡ true
-  pub used : (large : Place) → IsCutPage old root first large → is_free free' (large.frame + first % 512) ≡ false
+      ((large : Place) → IsCutPage old root first large → n ≡ prefix_of first 4 → ⊥) → is_frame_free free' place.frame ≡ true
+  pub used : (large : Place) → IsCutPage old root first large → is_frame_free free' (large.frame + first % 512) ≡ false
   pub kept :
       (f : ℕ) → ((n : ℕ) (place : Place) → among first pages n ≡ true → reach old root 4 n ≡ Some place → place.frame ≡ f → ⊥) →
-      is_free free' f ≡ is_free free f
+      is_frame_free free' f ≡ is_frame_free free f
   pub count : free_count free' + cut_tables old root first ≡ free_count free + pages
   pub entries : HasEntriesLeft old new root first pages

@@ -2,34 +2,34 @@
 use Rattle.std.proofs.Common.{◌≡◌, ℕ, zero, suc, ◌+◌, ◌-◌, ◌<◌, ◌≤◌, Bool, true, false, ◌++◌, length, set, replicate, sym, ap, ◌∙◌, ◌⊎◌, inl, inr, arith, append_assoc}
 use Rattle.std.proofs.lemmas.Bool.{cases_lt}
 use Rattle.std.proofs.lemmas.List.{get_or_append_left, get_or-append_right, get_or-replicate, get_or_past, length-replicate, set-append_right, replicate-append-replicate}
-use Rattle.paging_core.specs.Pool.{is_free, free_count}
+use Rattle.paging_core.specs.Pool.{is_frame_free, free_count}
 use Rattle.paging_core.specs.Ahead.{ahead}
 use Rattle.paging_core.proofs.Made.{taken_count, none_free}
 
-pub ahead_below : (next end f : ℕ) → f < next → is_free (ahead next end) f ≡ false
+pub ahead_below : (next end f : ℕ) → f < next → is_frame_free (ahead next end) f ≡ false
 unfolding ahead
 ahead_below next end f lt =
     let l : length {A = Bool} (replicate next false) ≡ next = length-replicate next false in
     get_or_append_left (replicate next false) (replicate (end - next) true) false f (omega arith) ∙ get_or-replicate next f false false lt
 
-ahead_behind : (next end f : ℕ) → next ≤ f → f < end → is_free (ahead next end) f ≡ true
+ahead_behind : (next end f : ℕ) → next ≤ f → f < end → is_frame_free (ahead next end) f ≡ true
 unfolding ahead
 ahead_behind next end f from to =
     get_or-append_right (replicate next false) (replicate (end - next) true) next f false (length-replicate next false) from
     ∙ get_or-replicate (end - next) (f - next) true false (omega arith)
 
-ahead_past : (next end f : ℕ) → next ≤ f → end ≤ f → is_free (ahead next end) f ≡ false
+ahead_past : (next end f : ℕ) → next ≤ f → end ≤ f → is_frame_free (ahead next end) f ≡ false
 unfolding ahead
 ahead_past next end f from past =
     let l : length {A = Bool} (replicate (end - next) true) ≡ end - next = length-replicate (end - next) true in
     get_or-append_right (replicate next false) (replicate (end - next) true) next f false (length-replicate next false) from
     ∙ get_or_past (replicate (end - next) true) (f - next) false (omega arith)
 
-pub ahead_here : (next end : ℕ) → next < end → is_free (ahead next end) next ≡ true
+pub ahead_here : (next end : ℕ) → next < end → is_frame_free (ahead next end) next ≡ true
 ahead_here next end lt = ahead_behind next end next (omega arith) lt
 
 -- a frame is free from `next` on, and before `end`
-pub ahead_in : (next end f : ℕ) → is_free (ahead next end) f ≡ true → (next ≤ f) × (f < end)
+pub ahead_in : (next end f : ℕ) → is_frame_free (ahead next end) f ≡ true → (next ≤ f) × (f < end)
 ahead_in next end f is = go (cases_lt f next) (cases_lt f end)
   where
     go : (f < next) ⊎ (next ≤ f) → (f < end) ⊎ (end ≤ f) → (next ≤ f) × (f < end)
@@ -37,10 +37,10 @@ ahead_in next end f is = go (cases_lt f next) (cases_lt f end)
     go (inr from) (inl to) = (from, to)
     go (inr from) (inr past) = let z = ahead_past next end f from past in absurd (cc)
 
-pub ahead_none : (next end f : ℕ) → next ≡ end → is_free (ahead next end) f ≡ false
+pub ahead_none : (next end f : ℕ) → next ≡ end → is_frame_free (ahead next end) f ≡ false
 ahead_none next end f e = go (cases_lt f next)
   where
-    go : (f < next) ⊎ (next ≤ f) → is_free (ahead next end) f ≡ false
+    go : (f < next) ⊎ (next ≤ f) → is_frame_free (ahead next end) f ≡ false
     go (inl lt) = ahead_below next end f lt
     go (inr from) = ahead_past next end f from (omega arith)
 

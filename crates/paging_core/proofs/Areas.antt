@@ -3,7 +3,7 @@ use Rattle.std.proofs.Common.{◌≡◌, ℕ, ◌+◌, ◌<◌, ◌≤◌, Bool,
 use Rattle.std.proofs.lemmas.Bool.{cases_Bool, cases_eq}
 use Rattle.std.proofs.lemmas.Bool.Decides.{nat_tests}
 use Rattle.paging_core.specs.Area.{Area, Whole, Part, in_area}
-use Rattle.paging_core.specs.Pool.{is_free, FreeBelow, FreeIn}
+use Rattle.paging_core.specs.Pool.{is_frame_free, FreeBelow, FreeIn}
 use Rattle.paging_core.specs.Tree.{IsTreeIn, IsUnmet, IsRunUnmet}
 use Rattle.paging_core.specs.Walk.{Place, reach}
 
@@ -12,27 +12,27 @@ pub free_below : (area : Area) (free : List Bool) (count : ℕ) → FreeIn area 
 free_below Whole free count known = known
 free_below (Part first end) free count known = λ f is. (known f is).1
 
-pub free_inside : (area : Area) (free : List Bool) (count : ℕ) → FreeIn area free count → (f : ℕ) → is_free free f ≡ true → in_area area f ≡ true
+pub free_inside : (area : Area) (free : List Bool) (count : ℕ) → FreeIn area free count → (f : ℕ) → is_frame_free free f ≡ true → in_area area f ≡ true
 free_inside Whole free count known f is = refl
 free_inside (Part first end) free count known f is = (known f is).0
 
 pub free_in : (area : Area) (free : List Bool) (count : ℕ) → FreeBelow free count →
-    ((f : ℕ) → is_free free f ≡ true → in_area area f ≡ true) → FreeIn area free count
+    ((f : ℕ) → is_frame_free free f ≡ true → in_area area f ≡ true) → FreeIn area free count
 free_in Whole free count below inside = below
 free_in (Part first end) free count below inside = λ f is. (inside f is, below f is)
 
 -- as free frames were, if none was given back
 pub free_stays : (area : Area) (free free' : List Bool) (count count' : ℕ) → FreeIn area free count → count' ≡ count →
-    ((f : ℕ) → is_free free f ≡ false → is_free free' f ≡ false) → FreeIn area free' count'
+    ((f : ℕ) → is_frame_free free f ≡ false → is_frame_free free' f ≡ false) → FreeIn area free' count'
 free_stays area free free' count count' known same fewer =
     free_in area free' count'
     (λ f is. let b = free_below area free count known f (before f is) in omega arith)
     (λ f is. free_inside area free count known f (before f is))
   where
-    before : (f : ℕ) → is_free free' f ≡ true → is_free free f ≡ true
-    before f is = go (cases_Bool (is_free free f))
+    before : (f : ℕ) → is_frame_free free' f ≡ true → is_frame_free free f ≡ true
+    before f is = go (cases_Bool (is_frame_free free f))
       where
-        go : (is_free free f ≡ true) ⊎ (is_free free f ≡ false) → is_free free f ≡ true
+        go : (is_frame_free free f ≡ true) ⊎ (is_frame_free free f ≡ false) → is_frame_free free f ≡ true
         go (inl h) = h
         go (inr h) = let x = fewer f h in absurd (cc)
 

@@ -8,7 +8,7 @@ use Rattle.std.proofs.Math.Logic.{⊎_elim}
 use Rattle.std.proofs.lemmas.Bool.{cases_lt}
 use Rattle.std.proofs.lemmas.Nat.{pow_pos, mod_low, pow-add, mul-le, shl-shr, shr_high, div-add-mod'}
 use Rattle.std.proofs.lemmas.Nat.Bits.{ones_shr, ones_shl, and_high, and_high_mask, bit_at_and, bit_at_or, bit_at-lt, bit_at-zero, bit_at_not, bit_at_above, bit_at_cat_low, bit_at_cat_high, bit_at_mask_inside, bit_at_mask_below, bit_at_mask_above, same_from_bits}
-use Rattle.paging_core.specs.Field.{field_of, with_field, ReplacesField}
+use Rattle.paging_core.specs.Field.{field_of, with_bit_field, ReplacesField}
 
 module _ (low high : ℕ) (order : low < high) where
   width : high ≡ high - low + low
@@ -50,7 +50,7 @@ module _ (word low high value : ℕ) (order : low < high) (fits : value < 2 ^ (h
       let next : suc value * 2 ^ low ≡ value * 2 ^ low + 2 ^ low = grind arith in
       omega (arith, top, next, whole, mod-lt word (pow_pos low))
 
-  field-is : field_of (with_field word low high value) low high ≡ value
+  field-is : field_of (with_bit_field word low high value) low high ≡ value
   field-is =
       let joined : word / 2 ^ high * 2 ^ high + (value * 2 ^ low + word % 2 ^ low) ≡ (word / 2 ^ high * 2 ^ (high - low) + value) * 2 ^ low + word % 2 ^ low =
       let h = whole in grind arith in
@@ -58,22 +58,23 @@ module _ (word low high value : ℕ) (order : low < high) (fits : value < 2 ^ (h
       ∙ (ap (λ n. n % 2 ^ (high - low)) (shr_high (word / 2 ^ high * 2 ^ (high - low) + value) low (word % 2 ^ low) (mod-lt word (pow_pos low)))
       ∙ mod_low (word / 2 ^ high) (high - low) value fits)
 
-  with_field-below : (i : ℕ) → i < low → bit_at (with_field word low high value) i ≡ bit_at word i
-  with_field-below i below =
+  with_bit_field-below : (i : ℕ) → i < low → bit_at (with_bit_field word low high value) i ≡ bit_at word i
+  with_bit_field-below i below =
       bit_at_cat_low (word / 2 ^ high) high (value * 2 ^ low + word % 2 ^ low) i (omega arith)
       ∙ (bit_at_cat_low value low (word % 2 ^ low) i below ∙ low_bits word low i below)
 
-  with_field-inside : (i : ℕ) → low ≤ i → i < high → bit_at (with_field word low high value) i ≡ bit_at value (i - low)
-  with_field-inside i from below =
+  with_bit_field-inside : (i : ℕ) → low ≤ i → i < high → bit_at (with_bit_field word low high value) i ≡ bit_at value
+      (i - low)
+  with_bit_field-inside i from below =
       bit_at_cat_low (word / 2 ^ high) high (value * 2 ^ low + word % 2 ^ low) i below
       ∙ bit_at_cat_high value low (word % 2 ^ low) i (mod-lt word (pow_pos low)) from
 
-  with_field-above : (i : ℕ) → high ≤ i → bit_at (with_field word low high value) i ≡ bit_at word i
-  with_field-above i from =
+  with_bit_field-above : (i : ℕ) → high ≤ i → bit_at (with_bit_field word low high value) i ≡ bit_at word i
+  with_bit_field-above i from =
       bit_at_cat_high (word / 2 ^ high) high (value * 2 ^ low + word % 2 ^ low) i rest_below from ∙ high_bits word high i from
 
-  pub replaces_field : ReplacesField word (with_field word low high value) low high value
-  replaces_field = record { field = field-is; below = with_field-below; above = with_field-above }
+  pub replaces_field : ReplacesField word (with_bit_field word low high value) low high value
+  replaces_field = record { field = field-is; below = with_bit_field-below; above = with_bit_field-above }
 
   shifted-below : (i : ℕ) → i < low → bit_at (value * 2 ^ low) i ≡ 0
   shifted-below i below =
@@ -101,27 +102,27 @@ module _ (word low high value : ℕ) (order : low < high) (fits : value < 2 ^ (h
         (cases_lt i 64)
 
     same_bits : (i : ℕ) →
-        bit_at (bit_or (bit_and word (18446744073709551615 - (2 ^ high - 2 ^ low))) (value * 2 ^ low)) i ≡ bit_at (with_field word low high value) i
+        bit_at (bit_or (bit_and word (18446744073709551615 - (2 ^ high - 2 ^ low))) (value * 2 ^ low)) i ≡ bit_at (with_bit_field word low high value) i
     same_bits i =
         let joined = bit_at_or (bit_and word (18446744073709551615 - (2 ^ high - 2 ^ low))) (value * 2 ^ low) i in
         ⊎_elim
-        (λ below. omega (arith, joined, cleared i, bit_at_mask_below low high i below, shifted-below i below, with_field-below i below, bit_at-lt word i))
+        (λ below. omega (arith, joined, cleared i, bit_at_mask_below low high i below, shifted-below i below, with_bit_field-below i below, bit_at-lt word i))
         (λ from. ⊎_elim
-        (λ inside. omega (arith, joined, cleared i, bit_at_mask_inside low high i from inside, shifted-inside i from, with_field-inside i from inside))
+        (λ inside. omega (arith, joined, cleared i, bit_at_mask_inside low high i from inside, shifted-inside i from, with_bit_field-inside i from inside))
         (λ above. omega (
           arith,
           joined,
           cleared i,
           bit_at_mask_above low high i above,
           bit_at_above (value * 2 ^ low) high i (omega (arith, rest_below)) above,
-          with_field-above i above,
+          with_bit_field-above i above,
           bit_at-lt word i,
         ))
         (cases_lt i high))
         (cases_lt i low)
 
     pub set_by_mask :
-        bit_or (bit_and word (18446744073709551615 - (2 ^ high - 2 ^ low))) (value * 2 ^ low % 18446744073709551616) ≡ with_field word low high value
+        bit_or (bit_and word (18446744073709551615 - (2 ^ high - 2 ^ low))) (value * 2 ^ low % 18446744073709551616) ≡ with_bit_field word low high value
     set_by_mask =
         ap (λ n. bit_or (bit_and word (18446744073709551615 - (2 ^ high - 2 ^ low))) n) (mod-eq_of_lt shifted_below)
-        ∙ same_from_bits _ (with_field word low high value) same_bits
+        ∙ same_from_bits _ (with_bit_field word low high value) same_bits

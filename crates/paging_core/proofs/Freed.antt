@@ -4,7 +4,7 @@ use Rattle.std.proofs.lemmas.Bool.{cases_lt, cases_Bool}
 use Rattle.std.proofs.lemmas.Bool.Decides.{nat_tests}
 use Rattle.paging_core.specs.Memory.{frame_count}
 use Rattle.paging_core.specs.Prefix.{prefix_of}
-use Rattle.paging_core.specs.Pool.{is_free, FreeBelow, IsOut, IsFrameGiven}
+use Rattle.paging_core.specs.Pool.{is_frame_free, FreeBelow, IsOut, IsFrameGiven}
 use Rattle.paging_core.specs.Walk.{Place, reach, walk_of}
 use Rattle.paging_core.specs.Tree.{IsTree}
 use Rattle.paging_core.specs.PageChanges.{removal, IsPageChanged, ArePagesFreed, only}
@@ -52,7 +52,7 @@ module _ (old mid new : List ℕ) (free free1 free' : List Bool) (root : ℕ) (a
       go (inl x) = let h = apart n x in absurd (cc)
       go (inr x) = sym (one.removed.stayed 4 n (omega arith) (λ _. x)) ∙ at
 
-  given_of : (n : ℕ) (place : Place) → c n ≡ true → reach old root 4 n ≡ Some place → (a n ≡ true) ⊎ (a n ≡ false) → is_free free' place.frame ≡ true
+  given_of : (n : ℕ) (place : Place) → c n ≡ true → reach old root 4 n ≡ Some place → (a n ≡ true) ⊎ (a n ≡ false) → is_frame_free free' place.frame ≡ true
   given_of n place g at (inl x) =
       two.kept place.frame (λ m p gm here e.
       let d = tree.distinct 4 m 4 n p place (omega arith) (omega arith) (λ _ _. refl) (later m p gm here) at e in

@@ -4,7 +4,7 @@ use Rattle.std.proofs.lemmas.Bool.{cases_lt}
 use Rattle.std.proofs.lemmas.List.{get_or-set_same, get_or-set_other, get_or_past}
 use Rattle.std.proofs.lemmas.List.Sums.{sum_by-set}
 use Rattle.std.specs.Prelude.{slice_index_or}
-use Rattle.paging_core.specs.Pool.{is_free, free_count, IsOut}
+use Rattle.paging_core.specs.Pool.{is_frame_free, free_count, IsOut}
 
 pub out_below : (free : List Bool) (f : ℕ) → IsOut free f → f < length free
 out_below free f e = go (cases_lt f (length free))
@@ -21,15 +21,15 @@ given_count free f e =
     omega arith
 
 -- a frame below the flags that is not free is out
-pub out_of : (free : List Bool) (f : ℕ) → f < length free → is_free free f ≡ false → IsOut free f
+pub out_of : (free : List Bool) (f : ℕ) → f < length free → is_frame_free free f ≡ false → IsOut free f
 out_of [] f lt e = absurd (omega arith)
 out_of (x ∷ xs) zero lt e = e
 out_of (x ∷ xs) (suc f) lt e = out_of xs f (omega arith) e
 
-pub given_here : (free : List Bool) (f : ℕ) → IsOut free f → is_free (set free f true) f ≡ true
+pub given_here : (free : List Bool) (f : ℕ) → IsOut free f → is_frame_free (set free f true) f ≡ true
 given_here free f e = get_or-set_same free f true false (out_below free f e)
 
-pub given_other : (free : List Bool) (f g : ℕ) → (g ≡ f → ⊥) → is_free (set free f true) g ≡ is_free free g
+pub given_other : (free : List Bool) (f g : ℕ) → (g ≡ f → ⊥) → is_frame_free (set free f true) g ≡ is_frame_free free g
 given_other free f g ne = get_or-set_other free f g true false ne
 
 pub out_other : (free : List Bool) (f g : ℕ) → (g ≡ f → ⊥) → IsOut free g → IsOut (set free f true) g

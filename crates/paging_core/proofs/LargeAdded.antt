@@ -6,8 +6,8 @@ use Rattle.paging_core.specs.Entry.{has_bit, frame_of, table_entry, large_entry}
 use Rattle.paging_core.specs.Area.{Area, Whole}
 use Rattle.paging_core.specs.Memory.{word_at, frame_count}
 use Rattle.paging_core.specs.Prefix.{prefix_of}
-use Rattle.paging_core.specs.Walk.{Place, large_step, reach, large_of, top, walk_of, reached, granted}
-use Rattle.paging_core.specs.Pool.{is_free}
+use Rattle.paging_core.specs.Walk.{Place, large_step, reach, large_of, top, walk_of, reached, place_with}
+use Rattle.paging_core.specs.Pool.{is_frame_free}
 use Rattle.paging_core.specs.Tree.{IsTreeIn}
 use Rattle.paging_core.specs.Tables.{IsPrepared}
 use Rattle.paging_core.specs.Large.{slot_of, above, IsSlotEmpty, IsLargeAdded}
@@ -122,7 +122,7 @@ large_bits n lt rights = go rights.write rights.user rights.fetch
     }
 
 pub step_large : (words : List ℕ) (t j frame : ℕ) (rights : Rights) → frame < 2 ^ 40 → frame % 512 ≡ 0 → frame + 511 < frame_count words →
-    word_at words t j ≡ large_entry frame rights → large_step words (top t) j ≡ Some (granted frame rights)
+    word_at words t j ≡ large_entry frame rights → large_step words (top t) j ≡ Some (place_with frame rights)
 unfolding large_step
 step_large words t j frame rights small aligned within e =
     let p : ltb frame (frame_count words) ≡ true = lt-ltb frame (frame_count words) (omega arith) in
@@ -135,7 +135,7 @@ module _ {area : Area} (old mid new : List ℕ) (free free' : List Bool) (root p
     (empty : IsSlotEmpty old root page)
     (small : 512 * frame < 2 ^ 40)
     (frame_in : 512 * frame + 511 < frame_count old)
-    (used : (k : ℕ) → k < 512 → is_free free (512 * frame + k) ≡ false)
+    (used : (k : ℕ) → k < 512 → is_frame_free free (512 * frame + k) ≡ false)
     (unmet : (k l n : ℕ) (b : Place) → k < 512 → l ≤ 4 → (l ≡ 4 → area ≡ Whole) → reach old root l n ≡ Some b → b.frame ≡ 512 * frame + k → ⊥)
     (ix : index ≡ prefix_of (512 * page) 3 % 512)
     (tree : IsTreeIn area mid root free')
@@ -173,18 +173,18 @@ module _ {area : Area} (old mid new : List ℕ) (free free' : List Bool) (root p
       word_at new b.frame j ≡ word_at mid b.frame j
   same l n b j lt is lj ne = word_stays b.frame j lj ne
 
-  now_step : large_step new (top table) index ≡ Some (granted (512 * frame) rights)
+  now_step : large_step new (top table) index ≡ Some (place_with (512 * frame) rights)
   now_step =
       step_large new table index (512 * frame) rights small (omega arith) (let a = size in let b = prepared.size in omega arith) written_here
 
-  now_large : large_of new root (slot_of page) ≡ Some (granted (512 * frame) rights)
+  now_large : large_of new root (slot_of page) ≡ Some (place_with (512 * frame) rights)
   now_large = ap (large_of new root) (sym place) ∙ (slot_large mid new root (above page 2) index (top table) index_in size met same alone ∙ now_step)
 
   no_table_now : reach new root 3 (slot_of page) ≡ None
   no_table_now =
       ap (reach new root 3) (sym place)
       ∙ (slot_there mid new root (above page 2) index (top table) index_in size met same alone
-      ∙ large_no_table new (top table) (granted (512 * frame) rights) index now_step)
+      ∙ large_no_table new (top table) (place_with (512 * frame) rights) index now_step)
 
   no_table_mid : reach mid root 3 (slot_of page) ≡ None
   no_table_mid = prepared.others 3 (slot_of page) (omega arith) (λ le _. absurd (omega arith)) ∙ empty.no_table
@@ -212,8 +212,8 @@ module _ {area : Area} (old mid new : List ℕ) (free free' : List Bool) (root p
           (λ y _. absurd (omega arith)) (λ y z. ne y (z ∙ place))
 
   -- the pages of the slot
-  inside : (n : ℕ) → n / 512 ≡ slot_of page → reach new root 4 n ≡ Some (granted (512 * frame + n % 512) rights)
-  inside n e = reach_in new root n (granted (512 * frame) rights) (ap (large_of new root) e ∙ now_large)
+  inside : (n : ℕ) → n / 512 ≡ slot_of page → reach new root 4 n ≡ Some (place_with (512 * frame + n % 512) rights)
+  inside n e = reach_in new root n (place_with (512 * frame) rights) (ap (large_of new root) e ∙ now_large)
 
   was_none : (n : ℕ) → n / 512 ≡ slot_of page → reach old root 4 n ≡ None
   was_none n e =
@@ -231,8 +231,8 @@ module _ {area : Area} (old mid new : List ℕ) (free free' : List Bool) (root p
           unmet k l (above page l) b lk le whole (p.1 ∙ ap Some q) e
       here_of x lo (inr p) =
           let w : reach mid root l (above page l) ≡ Some b = rw (← x) now in
-          let f : is_free free b.frame ≡ true = prepared.made l b lo p w in
-          let g = ap (is_free free) e in
+          let f : is_frame_free free b.frame ≡ true = prepared.made l b lo p w in
+          let g = ap (is_frame_free free) e in
           let u = used k lk in cc
 
       go : (n ≡ above page l) ⊎ (n ≡ above page l → ⊥) → (2 < l) ⊎ (l ≤ 2) → ⊥
@@ -253,7 +253,7 @@ module _ {area : Area} (old mid new : List ℕ) (free free' : List Bool) (root p
       go (inl x) (inl y) =
           let i = inside n y in
           let w : reach new root 4 n ≡ Some b = rw (← x) is in
-          let q : granted (512 * frame + n % 512) rights ≡ b = cc in
+          let q : place_with (512 * frame + n % 512) rights ≡ b = cc in
           inl (record { at_four = x; in_slot = y; framed = sym (ap (λ p. p.frame) q) })
       go (inr x) _ = inr (sym (outside l n le (λ e _. x e)) ∙ is)
       go _ (inr y) = inr (sym (outside l n le (λ _ e. y e)) ∙ is)
@@ -281,8 +281,8 @@ module _ {area : Area} (old mid new : List ℕ) (free free' : List Bool) (root p
       plain_of l n i b lt li is (inr x) _ = kept l n i b lt li is (λ e _. x e)
       plain_of l n i b lt li is _ (inr y) = kept l n i b lt li is (λ _ e. y e)
 
-      used_of : (l n : ℕ) (b : Place) → l ≤ 4 → IsInside l n b ⊎ (reach mid root l n ≡ Some b) → is_free free' b.frame ≡ false
-      used_of l n b le (inl x) = prepared.fewer b.frame (ap (is_free free) x.framed ∙ used (n % 512) (omega arith))
+      used_of : (l n : ℕ) (b : Place) → l ≤ 4 → IsInside l n b ⊎ (reach mid root l n ≡ Some b) → is_frame_free free' b.frame ≡ false
+      used_of l n b le (inl x) = prepared.fewer b.frame (ap (is_frame_free free) x.framed ∙ used (n % 512) (omega arith))
       used_of l n b le (inr x) = tree.used l n b le x
 
       distinct_of : (l n k j : ℕ) (a b : Place) → l ≤ 4 → k ≤ 4 → (l ≡ 4 → k ≡ 4 → area ≡ Whole) → a.frame ≡ b.frame →
@@ -298,7 +298,7 @@ module _ {area : Area} (old mid new : List ℕ) (free free' : List Bool) (root p
   -- each table above the slot is there
   made_of : (l : ℕ) → l < 3 → reach old root l (above page l) ≡ None →
       ((b : Place) × (reach mid root l (above page l) ≡ Some b)) ⊎ (reach mid root l (above page l) ≡ None) →
-      (f : ℕ) × (reach new root l (above page l) ≡ Some (top f)) × (is_free free f ≡ true)
+      (f : ℕ) × (reach new root l (above page l) ≡ Some (top f)) × (is_frame_free free f ≡ true)
   made_of l lt none (inl p) =
       let r : p.0 ≡ top p.0.frame = tree.rights l (above page l) p.0 (omega arith) p.1 in
       (p.0.frame, low l (above page l) (omega arith) ∙ (p.1 ∙ ap Some r), prepared.made l p.0 (omega arith) none p.1)
@@ -451,7 +451,7 @@ module _ {area : Area} (old mid new : List ℕ) (free free' : List Bool) (root p
     there = λ k lt.
         let p : prefix_of (512 * page + k) 4 / 512 ≡ slot_of page = omega arith in
         let q : prefix_of (512 * page + k) 4 % 512 ≡ k = omega arith in
-        walk_reach new root (512 * page + k) ∙ (inside (prefix_of (512 * page + k) 4) p ∙ ap (λ j. Some (granted (512 * frame + j) rights)) q);
+        walk_reach new root (512 * page + k) ∙ (inside (prefix_of (512 * page + k) 4) p ∙ ap (λ j. Some (place_with (512 * frame + j) rights)) q);
     large = now_large;
     pages = λ other ne.
         let p : prefix_of other 4 / 512 ≡ other / 512 % 2 ^ 27 = omega arith in

@@ -8,7 +8,7 @@ use Rattle.paging_core.specs.Memory.{word_at, frame_count, cleared}
 use Rattle.std.specs.Prelude.{IsSome}
 use Rattle.paging_core.specs.Prefix.{prefix_of}
 use Rattle.paging_core.specs.Walk.{Place, reach, large_of, walk_of, reached, top, page_in}
-use Rattle.paging_core.specs.Pool.{is_free, free_count, FreeBelow}
+use Rattle.paging_core.specs.Pool.{is_frame_free, free_count, FreeBelow}
 use Rattle.paging_core.specs.Tree.{IsTree}
 use Rattle.paging_core.specs.Large.{slot_of, above, IsLargeEntry, IsLargeCut}
 use Rattle.paging_core.proofs.Reach.{step_zero, reach_in}
@@ -32,8 +32,9 @@ module _ (old new : List ℕ) (free free' : List Bool) (root page keep table : �
     (blank : (k : ℕ) → keep ≤ k → k < 512 → word_at new (large.frame + keep) k ≡ 0)
     (entry : word_at new table (slot_of page % 512) ≡ table_entry (large.frame + keep))
     (words : (f i : ℕ) → i < 512 → (f ≡ large.frame + keep → ⊥) → (f ≡ table → i ≡ slot_of page % 512 → ⊥) → word_at new f i ≡ word_at old f i)
-    (given : (k : ℕ) → keep < k → k < 512 → is_free free' (large.frame + k) ≡ true)
-    (kept : (f : ℕ) → ((k : ℕ) → keep < k → k < 512 → f ≡ large.frame + k → ⊥) → is_free free' f ≡ is_free free f)
+    (given : (k : ℕ) → keep < k → k < 512 → is_frame_free free' (large.frame + k) ≡ true)
+    (kept : (f : ℕ) → ((k : ℕ) → keep < k → k < 512 → f ≡ large.frame + k → ⊥) →
+    is_frame_free free' f ≡ is_frame_free free f)
     (count : free_count free' + keep ≡ free_count free + 511) where
   below : large.frame + 511 < frame_count new
   below = let b = large_below old root (slot_of page) large was in omega (arith, b.1)
@@ -167,15 +168,15 @@ module _ (old new : List ℕ) (free free' : List Bool) (root page keep table : �
       go (inr p) = (p.0 ∙ sym y.at_three, p.1 ∙ sym y.here)
 
   -- what is met now was out before
-  was_used : (l n : ℕ) (b : Place) → l ≤ 4 → IsKept l n b ⊎ (IsNewTable l n b ⊎ IsOutside l n b) → is_free free b.frame ≡ false
+  was_used : (l n : ℕ) (b : Place) → l ≤ 4 → IsKept l n b ⊎ (IsNewTable l n b ⊎ IsOutside l n b) → is_frame_free free b.frame ≡ false
   was_used l n b le (inl x) =
-      ap (is_free free) x.framed ∙ tree.used 4 n (page_in (n % 512) large) (omega arith) (at_page old root page large was n x.in_slot)
+      ap (is_frame_free free) x.framed ∙ tree.used 4 n (page_in (n % 512) large) (omega arith) (at_page old root page large was n x.in_slot)
   was_used l n b le (inr (inl x)) =
       let p : (512 * slot_of page + keep) / 512 ≡ slot_of page = omega arith in
       let q : (512 * slot_of page + keep) % 512 ≡ keep = omega arith in
       let at : reach old root 4 (512 * slot_of page + keep) ≡ Some (page_in keep large) =
       at_page old root page large was (512 * slot_of page + keep) p ∙ ap (λ j. Some (page_in j large)) q in
-      ap (is_free free) (ap (λ m. m.frame) x.is) ∙ tree.used 4 (512 * slot_of page + keep) (page_in keep large) (omega arith) at
+      ap (is_frame_free free) (ap (λ m. m.frame) x.is) ∙ tree.used 4 (512 * slot_of page + keep) (page_in keep large) (omega arith) at
   was_used l n b le (inr (inr x)) = tree.used l n b le x.met_old
 
   pub cut_tree : IsTree new root free'
@@ -297,7 +298,7 @@ module _ (old new : List ℕ) (free free' : List Bool) (root page keep table : �
 
 -- the frames of a large page are out
 pub large_used : (words : List ℕ) (root page k : ℕ) (free : List Bool) (large : Place) → k < 512 → IsTree words root free →
-    large_of words root (slot_of page) ≡ Some large → is_free free (large.frame + k) ≡ false
+    large_of words root (slot_of page) ≡ Some large → is_frame_free free (large.frame + k) ≡ false
 large_used words root page k free large lk tree was =
     let p : (512 * slot_of page + k) / 512 ≡ slot_of page = omega arith in
     let q : (512 * slot_of page + k) % 512 ≡ k = omega arith in
@@ -322,8 +323,8 @@ module _ (old mid filled new : List ℕ) (free free' : List Bool) (root page kee
     (is_from : from ≡ made + 1)
     (is_count : count ≡ 511 - keep)
     (flags : length free' ≡ length free)
-    (freed : (k : ℕ) → k < count → is_free free' (from + k) ≡ true)
-    (stayed : (f : ℕ) → ((k : ℕ) → k < count → f ≡ from + k → ⊥) → is_free free' f ≡ is_free free f)
+    (freed : (k : ℕ) → k < count → is_frame_free free' (from + k) ≡ true)
+    (stayed : (f : ℕ) → ((k : ℕ) → k < count → f ≡ from + k → ⊥) → is_frame_free free' f ≡ is_frame_free free f)
     (counted : free_count free' ≡ free_count free + count) where
   made_in : made < frame_count old
   made_in = let b = large_below old root (slot_of page) large entry.found in omega (arith, b.1)
@@ -378,12 +379,12 @@ module _ (old mid filled new : List ℕ) (free free' : List Bool) (root page kee
       ∙ (fill_others f i li (λ e _. nf (e ∙ is_made))
       ∙ (ap (λ w. word_at w f i) blank ∙ word_at_cleared_other old made f i made_in li (λ e. nf (e ∙ is_made)))))
 
-  given : (k : ℕ) → keep < k → k < 512 → is_free free' (large.frame + k) ≡ true
+  given : (k : ℕ) → keep < k → k < 512 → is_frame_free free' (large.frame + k) ≡ true
   given k lo hi =
       let e : from + (k - keep - 1) ≡ large.frame + k = omega arith in
-      ap (is_free free') (sym e) ∙ freed (k - keep - 1) (omega arith)
+      ap (is_frame_free free') (sym e) ∙ freed (k - keep - 1) (omega arith)
 
-  kept : (f : ℕ) → ((k : ℕ) → keep < k → k < 512 → f ≡ large.frame + k → ⊥) → is_free free' f ≡ is_free free f
+  kept : (f : ℕ) → ((k : ℕ) → keep < k → k < 512 → f ≡ large.frame + k → ⊥) → is_frame_free free' f ≡ is_frame_free free f
   kept f ne = stayed f (λ k lt e. ne (keep + 1 + k) (omega arith) (omega arith) (omega arith))
 
   total : free_count free' + keep ≡ free_count free + 511

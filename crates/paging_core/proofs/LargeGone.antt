@@ -10,7 +10,7 @@ use Rattle.paging_core.specs.Tree.{IsTreeIn}
 use Rattle.paging_core.specs.Large.{slot_of, above, IsLargeEntry, IsLargeCleared, IsLargeRemoved}
 use Rattle.paging_core.specs.Entry.{has_bit}
 use Rattle.paging_core.specs.Plain.{IsPlain}
-use Rattle.paging_core.specs.Pool.{is_free}
+use Rattle.paging_core.specs.Pool.{is_frame_free}
 use Rattle.paging_core.proofs.LastEntry.{some_or_none}
 use Rattle.paging_core.proofs.Plain.{plain_kept, plain_zero}
 use Rattle.paging_core.proofs.Reach.{step_zero, large_zero, large_is, large_none, reach_none, reach_in}
@@ -156,7 +156,7 @@ module _ (old new : List ℕ) (root page value : ℕ) (large table : Place)
             let p = met_before l n a ll x in
             let q = met_before k j b lk y in
             tree.distinct l n k j p.before q.before ll lk apart p.at q.at (p.framed ∙ (e ∙ sym q.framed));
-        used = λ l n b le is. let m = met_before l n b le is in ap (is_free free) (sym m.framed) ∙ tree.used l n m.before le m.at;
+        used = λ l n b le is. let m = met_before l n b le is in ap (is_frame_free free) (sym m.framed) ∙ tree.used l n m.before le m.at;
         inside = λ l n b lt is. tree.inside l n b lt (table_before l n b lt is);
         plain = record {
           each = λ l n i b lt li is. plain_of l n i b lt li (table_before l n b lt is)

@@ -5,7 +5,7 @@ use Rattle.paging_core.specs.Area.{Area}
 use Rattle.paging_core.specs.Entry.{large_entry}
 use Rattle.paging_core.specs.Memory.{frame_count}
 use Rattle.paging_core.specs.Prefix.{prefix_of}
-use Rattle.paging_core.specs.Walk.{Place, step, large_step, reach, walk_of, reached, top, granted}
+use Rattle.paging_core.specs.Walk.{Place, step, large_step, reach, walk_of, reached, top, place_with}
 use Rattle.paging_core.specs.Tree.{IsTreeIn}
 use Rattle.paging_core.specs.Large.{slot_of, above, IsLargeEntry}
 use Rattle.paging_core.specs.LargeChanges.{IsLargeRegranted, AreLargeGranted}
@@ -34,7 +34,7 @@ module _ (old new : List ℕ) (root page : ℕ) (rights : Rights)
     small : one.large.frame < 2 ^ 40
     small = large_small old root (slot_of page) one.large one.was
 
-    maps : large_step new one.table (slot_of page % 512) ≡ Some (granted one.large.frame rights)
+    maps : large_step new one.table (slot_of page % 512) ≡ Some (place_with one.large.frame rights)
     maps =
         let r : one.table ≡ top one.table.frame = tree.rights 2 (above page 2) one.table (omega arith) one.met in
         ap (λ t. large_step new t (slot_of page % 512)) r
@@ -42,12 +42,12 @@ module _ (old new : List ℕ) (root page : ℕ) (rights : Rights)
         (entry_word old new root page (large_entry one.large.frame rights) one.large one.table root_in one.was one.met one.words)
 
     no_step : step new 2 one.table (slot_of page % 512) ≡ None
-    no_step = large_no_table new one.table (granted one.large.frame rights) (slot_of page % 512) maps
+    no_step = large_no_table new one.table (place_with one.large.frame rights) (slot_of page % 512) maps
 
     keeps : (now : Place) → large_step new one.table (slot_of page % 512) ≡ Some now → now.frame ≡ one.large.frame
     keeps now is =
-        let q : Some now ≡ Some (granted one.large.frame rights) = sym is ∙ maps in
-        let r : now ≡ granted one.large.frame rights = cc in
+        let q : Some now ≡ Some (place_with one.large.frame rights) = sym is ∙ maps in
+        let r : now ≡ place_with one.large.frame rights = cc in
         ap (λ p. p.frame) r
 
     pub granted_tree : IsTreeIn area new root free
@@ -55,10 +55,10 @@ module _ (old new : List ℕ) (root page : ℕ) (rights : Rights)
         entry_tree old new root page (large_entry one.large.frame rights) one.large one.table root_in one.was one.met one.words free tree no_step keeps
         (λ _. plain_large new one.large.frame rights small frames.0 frames.1)
 
-    in_slot : (n : ℕ) → n / 512 ≡ slot_of page → reach new root 4 n ≡ Some (granted (one.large.frame + n % 512) rights)
+    in_slot : (n : ℕ) → n / 512 ≡ slot_of page → reach new root 4 n ≡ Some (place_with (one.large.frame + n % 512) rights)
     in_slot n e =
         entry_pages old new root page (large_entry one.large.frame rights) one.large one.table root_in one.was one.met one.words free tree no_step n
-        (granted one.large.frame rights) e maps
+        (place_with one.large.frame rights) e maps
 
     pub large_granted : AreLargeGranted old new root page rights
     large_granted = record {
@@ -69,7 +69,7 @@ module _ (old new : List ℕ) (root page : ℕ) (rights : Rights)
           let p : prefix_of (512 * page + k) 4 / 512 ≡ slot_of page = omega arith in
           let q : prefix_of (512 * page + k) 4 % 512 ≡ k = omega arith in
           walk_reach new root (512 * page + k)
-          ∙ (in_slot (prefix_of (512 * page + k) 4) p ∙ ap (λ j. Some (granted (one.large.frame + j) rights)) q);
+          ∙ (in_slot (prefix_of (512 * page + k) 4) p ∙ ap (λ j. Some (place_with (one.large.frame + j) rights)) q);
       stays = entry_large old new root page (large_entry one.large.frame rights) one.large one.table root_in one.was one.met one.words free tree no_step ∙ maps;
       others = entry_others old new root page (large_entry one.large.frame rights) one.large one.table root_in one.was one.met one.words free tree no_step;
       larges = entry_larges old new root page (large_entry one.large.frame rights) one.large one.table root_in one.was one.met one.words free tree no_step;

@@ -7,7 +7,7 @@ use Rattle.paging_core.specs.Plain.{IsPlain}
 use Rattle.paging_core.specs.Memory.{word_at, frame_count}
 use Rattle.paging_core.specs.Prefix.{prefix_of}
 use Rattle.paging_core.specs.Walk.{Place, reach, walk_of, reached, top, page_in}
-use Rattle.paging_core.specs.Pool.{is_free, free_count, FreeIn}
+use Rattle.paging_core.specs.Pool.{is_frame_free, free_count, FreeIn}
 use Rattle.paging_core.specs.Tree.{IsTreeIn}
 use Rattle.paging_core.specs.Large.{slot_of, above, IsLargeEntry}
 use Rattle.paging_core.specs.LargeChanges.{IsLargeSplit}
@@ -28,9 +28,9 @@ module _ (area : Area) (old filled new : List ℕ) (free free' : List Bool) (roo
     (tree : IsTreeIn area old root free)
     (entry : IsLargeEntry old root page table index large)
     (table_in : table < frame_count old)
-    (was_free : is_free free made ≡ true)
+    (was_free : is_frame_free free made ≡ true)
     (taken : free' ≡ set free made false)
-    (lowest : (lower : ℕ) → lower < made → is_free free lower ≡ false)
+    (lowest : (lower : ℕ) → lower < made → is_frame_free free lower ≡ false)
     (fill_size : length filled ≡ length old)
     (fill_words : (k : ℕ) → k < 512 → word_at filled made k ≡ page_entry (large.frame + k) (rights_of large))
     (fill_others : (f i : ℕ) → i < 512 → (f ≡ made → i < 512 → ⊥) → word_at filled f i ≡ word_at old f i)
@@ -48,7 +48,7 @@ module _ (area : Area) (old filled new : List ℕ) (free free' : List Bool) (roo
 
   -- the frame is met by no walk: it was free
   unmet : (l n : ℕ) (b : Place) → l ≤ 4 → reach old root l n ≡ Some b → b.frame ≡ made → ⊥
-  unmet l n b le is e = let u : is_free free b.frame ≡ false = tree.used l n b le is in let w = was_free in let x = ap (λ f. is_free free f) e in cc
+  unmet l n b le is e = let u : is_frame_free free b.frame ≡ false = tree.used l n b le is in let w = was_free in let x = ap (λ f. is_frame_free free f) e in cc
 
   apart : table ≡ made → ⊥
   apart e = unmet 2 (above page 2) (top table) (omega arith) met_top e
@@ -143,9 +143,9 @@ module _ (area : Area) (old filled new : List ℕ) (free free' : List Bool) (roo
       rights l n b lt (inl x) = rw x.is refl
       rights l n b lt (inr x) = tree.rights l n b lt x
 
-      used : (l n : ℕ) (b : Place) → l ≤ 4 → IsNewTable l n b ⊎ (reach old root l n ≡ Some b) → is_free free' b.frame ≡ false
-      used l n b le (inl x) = ap (λ p. is_free free' p.frame) x.is ∙ (ap (λ q. is_free q made) taken ∙ taken_flag free made was_free)
-      used l n b le (inr x) = ap (λ q. is_free q b.frame) taken ∙ fewer_flags free made b.frame (tree.used l n b le x)
+      used : (l n : ℕ) (b : Place) → l ≤ 4 → IsNewTable l n b ⊎ (reach old root l n ≡ Some b) → is_frame_free free' b.frame ≡ false
+      used l n b le (inl x) = ap (λ p. is_frame_free free' p.frame) x.is ∙ (ap (λ q. is_frame_free q made) taken ∙ taken_flag free made was_free)
+      used l n b le (inr x) = ap (λ q. is_frame_free q b.frame) taken ∙ fewer_flags free made b.frame (tree.used l n b le x)
 
       within : (l n : ℕ) (b : Place) → l < 4 → IsNewTable l n b ⊎ (reach old root l n ≡ Some b) → in_area area b.frame ≡ true
       within l n b lt (inl x) = ap (λ p. in_area area p.frame) x.is ∙ free_inside area free (frame_count old) known made was_free
@@ -235,4 +235,4 @@ module _ (area : Area) (old filled new : List ℕ) (free free' : List Bool) (roo
   pub split_known : FreeIn area free' (frame_count new)
   split_known =
       let s = size in
-      free_stays area free free' (frame_count old) (frame_count new) known (omega arith) (λ f e. ap (λ q. is_free q f) taken ∙ fewer_flags free made f e)
+      free_stays area free free' (frame_count old) (frame_count new) known (omega arith) (λ f e. ap (λ q. is_frame_free q f) taken ∙ fewer_flags free made f e)

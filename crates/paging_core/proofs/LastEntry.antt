@@ -6,8 +6,8 @@ use Rattle.paging_core.specs.Entry.{has_bit, frame_of, table_entry, page_entry}
 use Rattle.paging_core.specs.Area.{Area, Whole}
 use Rattle.paging_core.specs.Memory.{word_at, frame_count}
 use Rattle.paging_core.specs.Prefix.{prefix_of}
-use Rattle.paging_core.specs.Walk.{Place, step, reach, large_of, top, walk_of, granted}
-use Rattle.paging_core.specs.Pool.{is_free}
+use Rattle.paging_core.specs.Walk.{Place, step, reach, large_of, top, walk_of, place_with}
+use Rattle.paging_core.specs.Pool.{is_frame_free}
 use Rattle.paging_core.specs.Tree.{IsTreeIn}
 use Rattle.paging_core.specs.Tables.{IsPrepared}
 use Rattle.paging_core.specs.Mapping.{HasExactEntries, IsPageAdded}
@@ -102,7 +102,7 @@ page_bits n lt rights = go rights.write rights.user rights.fetch
     }
 
 pub step_page : (words : List ℕ) (t j frame : ℕ) (rights : Rights) → frame < 2 ^ 40 → frame < frame_count words →
-    word_at words t j ≡ page_entry frame rights → step words 3 (top t) j ≡ Some (granted frame rights)
+    word_at words t j ≡ page_entry frame rights → step words 3 (top t) j ≡ Some (place_with frame rights)
 unfolding step
 step_page words t j frame rights small within e =
     let p : ltb frame (frame_count words) ≡ true = lt-ltb frame (frame_count words) within in
@@ -114,7 +114,7 @@ some_or_none None = inr refl
 some_or_none (Some x) = inl (x, refl)
 
 -- a frame that is met nowhere is not met once the missing tables are made
-pub kept_unmet : (area : Area) (old mid : List ℕ) (free free' : List Bool) (root page frame : ℕ) → is_free free frame ≡ false →
+pub kept_unmet : (area : Area) (old mid : List ℕ) (free free' : List Bool) (root page frame : ℕ) → is_frame_free free frame ≡ false →
     IsPrepared old mid free free' root page 3 →
     ((l n : ℕ) (b : Place) → l ≤ 4 → (l ≡ 4 → area ≡ Whole) → reach old root l n ≡ Some b → b.frame ≡ frame → ⊥) →
     (l n : ℕ) (b : Place) → l ≤ 4 → (l ≡ 4 → area ≡ Whole) → reach mid root l n ≡ Some b → b.frame ≡ frame → ⊥
@@ -128,8 +128,8 @@ kept_unmet area old mid free free' root page frame used prepared unmet l n b le 
         unmet l (prefix_of page l) b le whole (p.1 ∙ ap Some q) e
     here_of x lo (inr p) =
         let w : reach mid root l (prefix_of page l) ≡ Some b = rw (← x) now in
-        let f : is_free free b.frame ≡ true = prepared.made l b lo p w in
-        let g = ap (is_free free) e in cc
+        let f : is_frame_free free b.frame ≡ true = prepared.made l b lo p w in
+        let g = ap (is_frame_free free) e in cc
 
     go : (n ≡ prefix_of page l) ⊎ (n ≡ prefix_of page l → ⊥) → (3 < l) ⊎ (l ≤ 3) → ⊥
     go (inl x) (inr lo) = here_of x lo (some_or_none (reach old root l (prefix_of page l)))
@@ -141,7 +141,7 @@ module _ {area : Area} (old mid new : List ℕ) (free free' : List Bool) (root p
     (unmapped : walk_of old root page ≡ None)
     (small : frame < 2 ^ 40)
     (frame_in : frame < frame_count old)
-    (used : is_free free frame ≡ false)
+    (used : is_frame_free free frame ≡ false)
     (unmet : (l n : ℕ) (b : Place) → l ≤ 4 → (l ≡ 4 → area ≡ Whole) → reach old root l n ≡ Some b → b.frame ≡ frame → ⊥)
     (ix : index ≡ prefix_of page 4 % 512)
     (tree : IsTreeIn area mid root free')
@@ -172,7 +172,7 @@ module _ {area : Area} (old mid new : List ℕ) (free free' : List Bool) (root p
   written_here : word_at new table index ≡ page_entry frame rights
   written_here = ap (λ w. word_at w table index) written ∙ word_at_set_same mid table index (page_entry frame rights) table_in index_in
 
-  link : IsLink mid new root 3 (prefix_of page 3) index (top table) (granted frame rights)
+  link : IsLink mid new root 3 (prefix_of page 3) index (top table) (place_with frame rights)
   link = record {
     level_bound = omega arith;
     index_bound = index_in;
@@ -187,16 +187,17 @@ module _ {area : Area} (old mid new : List ℕ) (free free' : List Bool) (root p
   }
 
   same : (l n : ℕ) → l ≤ 4 → (l ≡ 4 → n ≡ prefix_of page 4 → ⊥) → reach new root l n ≡ reach mid root l n
-  same l n le ne = link_others mid new root 3 (prefix_of page 3) index (top table) (granted frame rights) free' link tree l n le (λ x y. ne x (y ∙ place))
+  same l n le ne = link_others mid new root 3 (prefix_of page 3) index (top table) (place_with frame rights) free' link tree l n le (λ x y. ne x (y ∙ place))
 
-  there : reach new root 4 (prefix_of page 4) ≡ Some (granted frame rights)
-  there = rw (← place) (link_there mid new root 3 (prefix_of page 3) index (top table) (granted frame rights) free' link tree)
+  there : reach new root 4 (prefix_of page 4) ≡ Some (place_with frame rights)
+  there = rw (← place) (link_there mid new root 3 (prefix_of page 3) index (top table) (place_with frame rights) free' link tree)
 
   larges : (n : ℕ) → large_of new root n ≡ large_of old root n
-  larges n = link_larges mid new root 3 (prefix_of page 3) index (top table) (granted frame rights) free' link tree n ∙ prepared.larges n
+  larges n = link_larges mid new root 3 (prefix_of page 3) index (top table) (place_with frame rights) free' link tree n ∙ prepared.larges n
 
   pub mapped_tree : IsTreeIn area new root free'
-  mapped_tree = tree_link mid new root 3 (prefix_of page 3) index (top table) (granted frame rights) free' link tree free'
+  mapped_tree = tree_link mid new root 3 (prefix_of page 3) index (top table) (place_with frame rights) free' link tree
+      free'
       (λ l n b le whole. kept_unmet area old mid free free' root page frame used prepared unmet l n b le (whole refl))
       (λ lt. absurd (omega arith)) (λ lt. absurd (omega arith)) (prepared.fewer frame used) (λ f e. e)
 
@@ -206,7 +207,7 @@ module _ {area : Area} (old mid new : List ℕ) (free free' : List Bool) (root p
   -- each table above the last is there
   made_of : (l : ℕ) → l < 4 → reach old root l (prefix_of page l) ≡ None →
       ((b : Place) × (reach mid root l (prefix_of page l) ≡ Some b)) ⊎ (reach mid root l (prefix_of page l) ≡ None) →
-      (f : ℕ) × (reach new root l (prefix_of page l) ≡ Some (top f)) × (is_free free f ≡ true)
+      (f : ℕ) × (reach new root l (prefix_of page l) ≡ Some (top f)) × (is_frame_free free f ≡ true)
   made_of l lt none (inl p) =
       let r : p.0 ≡ top p.0.frame = tree.rights l (prefix_of page l) p.0 lt p.1 in
       (p.0.frame, low l (prefix_of page l) lt ∙ (p.1 ∙ ap Some r), prepared.made l p.0 (omega arith) none p.1)
@@ -285,7 +286,7 @@ module _ {area : Area} (old mid new : List ℕ) (free free' : List Bool) (root p
       go : (l < 3) ⊎ (3 ≤ l) → ((m : Place) × (reach old root (l + 1) (prefix_of page (l + 1)) ≡ Some m)) ⊎ (reach old root
           (l + 1) (prefix_of page (l + 1)) ≡ None) →
           (m : Place) × (reach new root (l + 1) (prefix_of page (l + 1)) ≡ Some m)
-      go (inr hi) _ = let e : l ≡ 3 = omega arith in (granted frame rights, rw e there)
+      go (inr hi) _ = let e : l ≡ 3 = omega arith in (place_with frame rights, rw e there)
       go (inl lo) (inl p) = (p.0, stayed (l + 1) (prefix_of page (l + 1)) p.0 (omega arith) p.1)
       go (inl lo) (inr none) =
           let t = made_of (l + 1) (omega arith) none (some_or_none (reach mid root (l + 1) (prefix_of page (l + 1)))) in (top t.0, t.1)
@@ -354,7 +355,7 @@ module _ {area : Area} (old mid new : List ℕ) (free free' : List Bool) (root p
       let p = prefix_split page 3 n i (omega arith) li e in
       let is : reach new root 4 (prefix_of page 4) ≡ Some place = rw (← e) now in
       let t = there in
-      let same : granted frame rights ≡ place = cc in
+      let same : place_with frame rights ≡ place = cc in
       let f' : frame ≡ place.frame = ap (λ q. q.frame) same in
       rw (p.1, ← f') (at_last_entry f (rw (← p.0) here))
 

@@ -5,7 +5,7 @@ use Rattle.paging_core.specs.Walk.{Place}
 use Rattle.paging_core.specs.Walk.{step, large_step, large_of, large_from, reach, next_from, top}
 use Rattle.paging_core.specs.Area.{Area, Whole, in_area}
 use Rattle.paging_core.specs.Memory.{word_at}
-use Rattle.paging_core.specs.Pool.{is_free}
+use Rattle.paging_core.specs.Pool.{is_frame_free}
 use Rattle.paging_core.specs.Tree.{IsTreeIn}
 use Rattle.paging_core.specs.Entry.{has_bit}
 use Rattle.paging_core.specs.Plain.{IsPlain}
@@ -70,8 +70,8 @@ module _ {area : Area} (old new : List ℕ) (root level prefix index : ℕ) (at 
       (fresh : (l n : ℕ) (b : Place) → l ≤ 4 → (suc level ≡ 4 → l ≡ 4 → area ≡ Whole) → reach old root l n ≡ Some b → b.frame ≡ to.frame → ⊥)
       (rights : level < 3 → to ≡ top to.frame)
       (within : level < 3 → in_area area to.frame ≡ true)
-      (taken : is_free free' to.frame ≡ false)
-      (fewer : (f : ℕ) → is_free free f ≡ false → is_free free' f ≡ false) where
+      (taken : is_frame_free free' to.frame ≡ false)
+      (fewer : (f : ℕ) → is_frame_free free f ≡ false → is_frame_free free' f ≡ false) where
     pub tree_link : IsTreeIn area new root free'
     tree_link = record {
       rights = λ l n b lt is. rights_of l n b lt (met l n b (omega arith) is);
@@ -107,7 +107,7 @@ module _ {area : Area} (old new : List ℕ) (root level prefix index : ℕ) (at 
         inside_of l n b lt (inr x) = tree.inside l n b lt x
 
         used_of : (l n : ℕ) (b : Place) → l ≤ 4 → ((l ≡ suc level) × (n ≡ 512 * prefix + index) × (b ≡ to)) ⊎ (reach old
-            root l n ≡ Some b) → is_free free' b.frame ≡ false
+            root l n ≡ Some b) → is_frame_free free' b.frame ≡ false
         used_of l n b le (inl x) = rw x.2 taken
         used_of l n b le (inr x) = fewer b.frame (tree.used l n b le x)
 

@@ -9,7 +9,7 @@ use Rattle.paging_core.specs.Area.{Area, in_area}
 use Rattle.paging_core.specs.Memory.{word_at, frame_count, cleared}
 use Rattle.paging_core.specs.Walk.{Place, step, large_step, large_of, large_from, reach, next_from, top, is_present, is_run, ends_walk, named}
 use Rattle.paging_core.specs.Tree.{IsTreeIn}
-use Rattle.paging_core.specs.Pool.{is_free, free_count, FreeBelow, AreLowestTaken}
+use Rattle.paging_core.specs.Pool.{is_frame_free, free_count, FreeBelow, AreLowestTaken}
 use Rattle.paging_core.specs.Tables.{IsTableMade}
 use Rattle.std.proofs.lemmas.List.Sums.{sum_by-set}
 use Rattle.paging_core.proofs.Reach.{step_same, large_same, reach_same, larges_same, reach_zero, reach_suc, large_is, either_way, ByEntry, InLarge}
@@ -139,41 +139,41 @@ reach_below words root l n m le lt e = go (cases_eq l 4)
 
 -- ---- the flags
 
-pub free_below : (free : List Bool) (f : ℕ) → is_free free f ≡ true → f < length free
+pub free_below : (free : List Bool) (f : ℕ) → is_frame_free free f ≡ true → f < length free
 free_below free f e = go (cases_lt f (length free))
   where
     go : (f < length free) ⊎ (length free ≤ f) → f < length free
     go (inl h) = h
     go (inr h) = let k = get_or_past free f false h in absurd (cc)
 
-pub taken_flag : (free : List Bool) (f : ℕ) → is_free free f ≡ true → is_free (set free f false) f ≡ false
+pub taken_flag : (free : List Bool) (f : ℕ) → is_frame_free free f ≡ true → is_frame_free (set free f false) f ≡ false
 taken_flag free f e = get_or-set_same free f false false (free_below free f e)
 
-pub fewer_flags : (free : List Bool) (f g : ℕ) → is_free free g ≡ false → is_free (set free f false) g ≡ false
+pub fewer_flags : (free : List Bool) (f g : ℕ) → is_frame_free free g ≡ false → is_frame_free (set free f false) g ≡ false
 fewer_flags free f g e = go (cases_lt f (length free)) (cases_eq g f)
   where
-    go : (f < length free) ⊎ (length free ≤ f) → (g ≡ f) ⊎ (g ≡ f → ⊥) → is_free (set free f false) g ≡ false
+    go : (f < length free) ⊎ (length free ≤ f) → (g ≡ f) ⊎ (g ≡ f → ⊥) → is_frame_free (set free f false) g ≡ false
     go (inl h) (inl x) = rw x (get_or-set_same free f false false h)
     go (inr h) (inl x) = get_or_past (set free f false) g false (simp length-set (omega arith))
     go _ (inr x) = get_or-set_other free f g false false x ∙ e
 
-pub none_free : (free : List Bool) → ((f : ℕ) → is_free free f ≡ false) → free_count free ≡ 0
+pub none_free : (free : List Bool) → ((f : ℕ) → is_frame_free free f ≡ false) → free_count free ≡ 0
 none_free [] h = refl
 none_free (x ∷ xs) h = let e : x ≡ false = h 0 in rw e (none_free xs (λ f. h (suc f)))
 
 -- if frames are free, one is
-pub some_free : (free : List Bool) → 0 < free_count free → ((f : ℕ) → is_free free f ≡ false) → ⊥
+pub some_free : (free : List Bool) → 0 < free_count free → ((f : ℕ) → is_frame_free free f ≡ false) → ⊥
 some_free free lt h = let z = none_free free h in omega arith
 
 -- frames are taken from the lowest on, and the next one is the lowest that is left
-pub lowest_more : (free freem : List Bool) (made : ℕ) → AreLowestTaken free freem → is_free freem made ≡ true →
-    ((g : ℕ) → g < made → is_free freem g ≡ false) → AreLowestTaken free (set freem made false)
-lowest_more free freem made before here lowest f g was now other = go (cases_Bool (is_free freem f)) (cases_eq g made) (cases_eq f made)
+pub lowest_more : (free freem : List Bool) (made : ℕ) → AreLowestTaken free freem → is_frame_free freem made ≡ true →
+    ((g : ℕ) → g < made → is_frame_free freem g ≡ false) → AreLowestTaken free (set freem made false)
+lowest_more free freem made before here lowest f g was now other = go (cases_Bool (is_frame_free freem f)) (cases_eq g made) (cases_eq f made)
   where
-    mine : is_free (set freem made false) made ≡ false
+    mine : is_frame_free (set freem made false) made ≡ false
     mine = taken_flag freem made here
 
-    go : (is_free freem f ≡ true) ⊎ (is_free freem f ≡ false) → (g ≡ made) ⊎ (g ≡ made → ⊥) → (f ≡ made) ⊎ (f ≡ made → ⊥) → f < g
+    go : (is_frame_free freem f ≡ true) ⊎ (is_frame_free freem f ≡ false) → (g ≡ made) ⊎ (g ≡ made → ⊥) → (f ≡ made) ⊎ (f ≡ made → ⊥) → f < g
     go _ (inl e) _ = let x = rw e at other in let m = mine in absurd (cc)
     go (inr gone) (inr ne) _ = before f g was gone (sym (get_or-set_other freem made g false false ne) ∙ other)
     go (inl still) (inr ne) (inr nf) = let x = sym (get_or-set_other freem made f false false nf) ∙ now in absurd (cc)
@@ -184,11 +184,12 @@ lowest_more free freem made before here lowest f g was now other = go (cases_Boo
         past (inr le) = omega arith
 
 -- a frame that is taken is one free frame fewer
-pub taken_count : (free : List Bool) (f : ℕ) → is_free free f ≡ true → free_count (set free f false) + 1 ≡ free_count free
+pub taken_count : (free : List Bool) (f : ℕ) → is_frame_free free f ≡ true →
+    free_count (set free f false) + 1 ≡ free_count free
 taken_count free f e =
-    let h : free_count (set free f false) + cond (is_free free f) 1 0 ≡ free_count free + 0 =
+    let h : free_count (set free f false) + cond (is_frame_free free f) 1 0 ≡ free_count free + 0 =
     sum_by-set (λ (x : Bool). cond x 1 0) free f false false (free_below free f e) in
-    let k : cond {A = ℕ} (is_free free f) 1 0 ≡ 1 = rw e refl in
+    let k : cond {A = ℕ} (is_frame_free free f) 1 0 ≡ 1 = rw e refl in
     omega arith
 
 -- the tables stay a tree if their words stay
@@ -233,7 +234,8 @@ module _ {area : Area} (old new : List ℕ) (free free' : List Bool) (root level
   new_size = rw m.words (length-set (cleared old made) (512 * table + index) (table_entry made))
 
   unmet : (l n : ℕ) (b : Place) → l ≤ 4 → reach old root l n ≡ Some b → b.frame ≡ made → ⊥
-  unmet l n b le is e = let u : is_free free b.frame ≡ false = tree.used l n b le is in let w = m.was_free in let x = ap (λ f. is_free free f) e in cc
+  unmet l n b le is e = let u : is_frame_free free b.frame ≡ false = tree.used l n b le is in let w = m.was_free in let x =
+      ap (λ f. is_frame_free free f) e in cc
 
   table_apart : table ≡ made → ⊥
   table_apart e = unmet level prefix (top table) (omega arith) met e

@@ -3,7 +3,7 @@ use Rattle.std.proofs.Common.{◌≡◌, ℕ, ◌<◌, ◌≤◌, Bool, true, fa
 use Rattle.paging_core.specs.Area.{Area}
 use Rattle.paging_core.specs.Memory.{word_at}
 use Rattle.paging_core.specs.Moments.{IsChangedIn, IsStill}
-use Rattle.paging_core.specs.Pool.{is_free}
+use Rattle.paging_core.specs.Pool.{is_frame_free}
 use Rattle.paging_core.specs.Prefix.{prefix_of}
 use Rattle.paging_core.specs.Tables.{IsPrepared}
 use Rattle.paging_core.specs.Tree.{IsTreeIn}
@@ -24,15 +24,16 @@ still_reached old now root free tree same = record {
 }
 
 -- a frame is written that was free
-pub still_free : {area : Area} (old now : List ℕ) (root : ℕ) (free : List Bool) (frame : ℕ) → IsTreeIn area old root free → is_free free frame ≡ true →
+pub still_free : {area : Area} (old now : List ℕ) (root : ℕ) (free : List Bool) (frame : ℕ) → IsTreeIn area old root free → is_frame_free free frame ≡ true →
     IsChangedIn old now frame → IsStill area old root now
 still_free old now root free frame tree was_free only =
     still_reached old now root free (tree_same old now root free only.size words tree) (λ n. reach_same old now root only.size words 4 n (omega arith))
   where
     words : (l n : ℕ) (b : Place) (j : ℕ) → l < 4 → reach old root l n ≡ Some b → j < 512 → word_at now b.frame j ≡ word_at old b.frame j
     words l n b j lt is lj =
-        only.others b.frame j lj (λ e. let u : is_free free b.frame ≡ false = tree.used l n b (omega arith) is in let x =
-        ap (λ f. is_free free f) e in let w = was_free in absurd (cc))
+        only.others b.frame j lj (λ e. let u : is_frame_free free b.frame ≡ false = tree.used l n b (omega arith) is in
+        let x =
+        ap (λ f. is_frame_free free f) e in let w = was_free in absurd (cc))
 
 -- tables were made that a page misses
 pub still_prepared : {area : Area} (old now : List ℕ) (root page level : ℕ) (free free' : List Bool) → level ≤ 3 → IsTreeIn area now root free' →

@@ -4,8 +4,8 @@ use Rattle.std.proofs.lemmas.Bool.{cases_eq, cases_lt}
 use Rattle.std.proofs.lemmas.List.{get_or-set_other}
 use Rattle.paging_core.specs.Memory.{word_at, frame_count, cleared}
 use Rattle.paging_core.specs.Prefix.{prefix_of}
-use Rattle.paging_core.specs.Pool.{is_free, FreeBelow, AreLowestTaken}
-use Rattle.paging_core.specs.Walk.{Place, reach, large_of, walk_of, top, granted}
+use Rattle.paging_core.specs.Pool.{is_frame_free, FreeBelow, AreLowestTaken}
+use Rattle.paging_core.specs.Walk.{Place, reach, large_of, walk_of, top, place_with}
 use Rattle.paging_core.specs.Tree.{IsTree}
 use Rattle.paging_core.specs.Missing.{missing_of}
 use Rattle.paging_core.specs.Mapping.{HasExactEntries, IsPageAdded, IsRangeAdded}
@@ -21,20 +21,20 @@ module _ (old mid : List ℕ) (free free1 : List Bool) (root frame : ℕ)
     (root_in : root < frame_count old)
     (known : FreeBelow free (frame_count old))
     (tree : IsTree old root free)
-    (was_free : is_free free frame ≡ true)
-    (lowest : (g : ℕ) → g < frame → is_free free g ≡ false)
+    (was_free : is_frame_free free frame ≡ true)
+    (lowest : (g : ℕ) → g < frame → is_frame_free free g ≡ false)
     (taken : free1 ≡ set free frame false)
     (blank : mid ≡ cleared old frame) where
   mid_size : length mid ≡ length old
   mid_size = fresh_size old mid free free1 frame known was_free taken blank
 
-  mid_fewer : (f : ℕ) → is_free free f ≡ false → is_free free1 f ≡ false
+  mid_fewer : (f : ℕ) → is_frame_free free f ≡ false → is_frame_free free1 f ≡ false
   mid_fewer = fresh_fewer old mid free free1 frame known was_free taken blank
 
   pub mid_unmet : (l n : ℕ) (m : Place) → l ≤ 4 → reach old root l n ≡ Some m → m.frame ≡ frame → ⊥
   mid_unmet l n m le is e =
-      let u : is_free free m.frame ≡ false = tree.used l n m le is in
-      let x = ap (is_free free) e in cc
+      let u : is_frame_free free m.frame ≡ false = tree.used l n m le is in
+      let x = ap (is_frame_free free) e in cc
 
   mid_other : (f i : ℕ) → i < 512 → (f ≡ frame → ⊥) → word_at mid f i ≡ word_at old f i
   mid_other = fresh_other old mid free free1 frame known was_free taken blank
@@ -61,7 +61,7 @@ module _ (old mid : List ℕ) (free free1 : List Bool) (root frame : ℕ)
   pub mid_walk : (page : ℕ) → walk_of mid root page ≡ walk_of old root page
   mid_walk page = walk_reach mid root page ∙ (mid_same 4 (prefix_of page 4) (omega arith) ∙ sym (walk_reach old root page))
 
-  mid_used : is_free free1 frame ≡ false
+  mid_used : is_frame_free free1 frame ≡ false
   mid_used = fresh_used old mid free free1 frame known was_free taken blank
 
   pub mid_unmet_now : (l n : ℕ) (m : Place) → l ≤ 4 → reach mid root l n ≡ Some m → m.frame ≡ frame → ⊥
@@ -77,7 +77,7 @@ module _ (old mid : List ℕ) (free free1 : List Bool) (root frame : ℕ)
     old_none : reach old root 4 (prefix_of page 4) ≡ None
     old_none = sym (walk_reach old root page) ∙ unmapped
 
-    there : reach new root 4 (prefix_of page 4) ≡ Some (granted frame rights)
+    there : reach new root 4 (prefix_of page 4) ≡ Some (place_with frame rights)
     there = sym (walk_reach new root page) ∙ added.there
 
     stayed : (l n : ℕ) (m : Place) → l ≤ 4 → reach old root l n ≡ Some m → reach new root l n ≡ Some m
@@ -104,10 +104,10 @@ module _ (old mid : List ℕ) (free free1 : List Bool) (root frame : ℕ)
     table_of l lt (inr none) = let t = added.made l lt none in (t.0, t.1)
 
     -- a table that was not there was made for the page, in a frame that was free
-    made_of : (l n : ℕ) (m : Place) → l < 4 → reach old root l n ≡ None → reach new root l n ≡ Some m → is_free free1 m.frame ≡ true
+    made_of : (l n : ℕ) (m : Place) → l < 4 → reach old root l n ≡ None → reach new root l n ≡ Some m → is_frame_free free1 m.frame ≡ true
     made_of l n m lt none now = go (cases_eq n (prefix_of page l))
       where
-        go : (n ≡ prefix_of page l) ⊎ (n ≡ prefix_of page l → ⊥) → is_free free1 m.frame ≡ true
+        go : (n ≡ prefix_of page l) ⊎ (n ≡ prefix_of page l → ⊥) → is_frame_free free1 m.frame ≡ true
         go (inr ne) = let e = added.others l n (omega arith) ne in let s = mid_same l n (omega arith) in absurd (cc)
         go (inl e) =
             let gone : reach mid root l (prefix_of page l) ≡ None = rw (← e) (mid_same l n (omega arith) ∙ none) in
@@ -120,17 +120,17 @@ module _ (old mid : List ℕ) (free free1 : List Bool) (root frame : ℕ)
     page_frame : (l n : ℕ) → l < 4 → reach new root l n ≡ Some (top frame) → ⊥
     page_frame l n lt now =
         let p : (l ≡ 4) × (n ≡ prefix_of page 4) = tree'.distinct l n 4 (prefix_of page 4) (top frame)
-        (granted frame rights) (omega arith) (omega arith) (λ _ _. refl) now there refl in
+        (place_with frame rights) (omega arith) (omega arith) (λ _ _. refl) now there refl in
         omega arith
 
-    fewer : (f : ℕ) → is_free free f ≡ false → is_free free' f ≡ false
+    fewer : (f : ℕ) → is_frame_free free f ≡ false → is_frame_free free' f ≡ false
     fewer f e = added.fewer f (mid_fewer f e)
 
     -- the frame is the lowest that was free, and the tables come after it
     lowest_of : AreLowestTaken free free'
     lowest_of f g was now other = go (cases_eq f frame) (cases_lt g frame)
       where
-        before : is_free free1 g ≡ true
+        before : is_frame_free free1 g ≡ true
         before = free_before free1 free' added.fewer g other
 
         go : (f ≡ frame) ⊎ (f ≡ frame → ⊥) → (g < frame) ⊎ (frame ≤ g) → f < g
@@ -147,21 +147,21 @@ module _ (old mid : List ℕ) (free free1 : List Bool) (root frame : ℕ)
         reach new root l (prefix_of page l) ≡ Some table → place.frame < table.frame
     after_page l place table lt none found now = go (cases_lt table.frame frame) (cases_eq table.frame frame)
       where
-        still : is_free free1 table.frame ≡ true
+        still : is_frame_free free1 table.frame ≡ true
         still = made_of l (prefix_of page l) table lt none now
 
         at : frame ≡ place.frame
-        at = let t = added.there in let s : granted frame rights ≡ place = cc in ap (λ p. p.frame) s
+        at = let t = added.there in let s : place_with frame rights ≡ place = cc in ap (λ p. p.frame) s
 
         go : (table.frame < frame) ⊎ (frame ≤ table.frame) → (table.frame ≡ frame) ⊎ (table.frame ≡ frame → ⊥) → place.frame < table.frame
         go (inl lower) _ = let x = lowest table.frame lower in let y = free_before free free1 mid_fewer table.frame still in absurd (cc)
         go (inr le) (inl same) = let x = mid_used in let y = rw same at still in absurd (cc)
         go (inr le) (inr ne) = let a = at in omega arith
 
-    kept_of : (f : ℕ) → is_free free f ≡ true → ((l n : ℕ) (met : Place) → l ≤ 4 → reach new root l n ≡ Some met → met.frame ≡ f → ⊥) →
-        is_free free' f ≡ true
+    kept_of : (f : ℕ) → is_frame_free free f ≡ true → ((l n : ℕ) (met : Place) → l ≤ 4 → reach new root l n ≡ Some met → met.frame ≡ f → ⊥) →
+        is_frame_free free' f ≡ true
     kept_of f e unmet =
-        let apart : f ≡ frame → ⊥ = λ x. unmet 4 (prefix_of page 4) (granted frame rights) (omega arith) there (sym x) in
+        let apart : f ≡ frame → ⊥ = λ x. unmet 4 (prefix_of page 4) (place_with frame rights) (omega arith) there (sym x) in
         added.kept f (rw taken (get_or-set_other free frame f false false apart ∙ e))
         (λ l lt now. unmet l (prefix_of page l) (top f) (omega arith) now refl)
 
@@ -176,10 +176,11 @@ module _ (old mid : List ℕ) (free free1 : List Bool) (root frame : ℕ)
         (λ l lt now. let p = no_table 4 (prefix_of other 4) l (prefix_of page l) place (omega arith) lt met now in let e : 4 ≡ l = p.0 in omega arith)
         ∙ mid_other place.frame i li (mid_unmet 4 (prefix_of other 4) place (omega arith) met)
 
-    words_of : (f i : ℕ) → i < 512 → is_free free f ≡ false → ((l n : ℕ) → l < 4 → reach old root l n ≡ Some (top f) → ⊥) → word_at new f i ≡ word_at old f i
+    words_of : (f i : ℕ) → i < 512 → is_frame_free free f ≡ false → ((l n : ℕ) → l < 4 → reach old root l n ≡ Some (top f) →
+        ⊥) → word_at new f i ≡ word_at old f i
     words_of f i li held untabled =
         added.words f i li (λ l lt now. table l lt now (some_or_none (reach old root l (prefix_of page l))))
-        ∙ mid_other f i li (λ e. let x = ap (is_free free) e in let w = was_free in absurd (cc))
+        ∙ mid_other f i li (λ e. let x = ap (is_frame_free free) e in let w = was_free in absurd (cc))
       where
         table : (l : ℕ) → l < 4 → reach new root l (prefix_of page l) ≡ Some (top f) →
             ((m : Place) × (reach old root l (prefix_of page l) ≡ Some m)) ⊎ (reach old root l (prefix_of page l) ≡ None) → ⊥
@@ -192,10 +193,10 @@ module _ (old mid : List ℕ) (free free1 : List Bool) (root frame : ℕ)
             let h = mid_fewer f held in cc
 
     -- a frame that is still free is neither the page's nor a table's
-    free_words : (f i : ℕ) → i < 512 → is_free free' f ≡ true → word_at new f i ≡ word_at old f i
+    free_words : (f i : ℕ) → i < 512 → is_frame_free free' f ≡ true → word_at new f i ≡ word_at old f i
     free_words f i li still =
-        added.words f i li (λ l lt now. let u : is_free free' f ≡ false = tree'.used l (prefix_of page l) (top f) (omega arith) now in absurd (cc))
-        ∙ mid_other f i li (λ e. let u = added.fewer frame mid_used in let x = ap (is_free free') e in absurd (cc))
+        added.words f i li (λ l lt now. let u : is_frame_free free' f ≡ false = tree'.used l (prefix_of page l) (top f) (omega arith) now in absurd (cc))
+        ∙ mid_other f i li (λ e. let u = added.fewer frame mid_used in let x = ap (is_frame_free free') e in absurd (cc))
 
     apart : (l n f : ℕ) → l < 4 → reach old root l n ≡ Some (top f) → f ≡ frame → ⊥
     apart l n f lt is e = mid_unmet l n (top f) (omega arith) is e

@@ -3,7 +3,7 @@ use Rattle.std.proofs.Common.{◌≡◌, ℕ, ◌+◌, ◌-◌, ◌*◌, ◌<◌
 use Rattle.std.proofs.lemmas.Bool.{cases_lt}
 use Rattle.std.proofs.lemmas.List.{get_or-append_right, get_or_append_left, get_or-replicate, get_or_past, length-replicate, set-append_left, set-append_right, take-append-le, drop-append-le}
 use Rattle.std.proofs.Math.Seq.{take-append-add, drop-append-add}
-use Rattle.paging_core.specs.Area.{padded}
+use Rattle.paging_core.specs.Area.{with_zeros_around}
 use Rattle.paging_core.specs.Memory.{frame_count, with_zeros}
 use Rattle.paging_core.proofs.Words.{length-with_zeros}
 
@@ -15,16 +15,16 @@ zeros_read n k = go (cases_lt k n)
     go (inl lt) = get_or-replicate n k 0 0 lt
     go (inr le) = let l : length {A = ℕ} (replicate n 0) ≡ n = length-replicate n 0 in get_or_past (replicate n 0) k 0 (omega arith)
 
-pub length_padded : (words : List ℕ) (first limit : ℕ) → 512 * first + length words ≤ 512 * limit → length (padded words first limit) ≡ 512 * limit
-unfolding padded
+pub length_padded : (words : List ℕ) (first limit : ℕ) → 512 * first + length words ≤ 512 * limit → length (with_zeros_around words first limit) ≡ 512 * limit
+unfolding with_zeros_around
 length_padded words first limit le = simp (length-append, length-replicate) (omega arith)
 
-pub count_padded : (words : List ℕ) (first limit : ℕ) → 512 * first + length words ≤ 512 * limit → frame_count (padded words first limit) ≡ limit
+pub count_padded : (words : List ℕ) (first limit : ℕ) → 512 * first + length words ≤ 512 * limit → frame_count (with_zeros_around words first limit) ≡ limit
 count_padded words first limit le = let l = length_padded words first limit le in omega arith
 
 pub padded_inside : (words : List ℕ) (first limit place at : ℕ) → 512 * first + at ≡ place → at < length words →
-    get_or (padded words first limit) place 0 ≡ get_or words at 0
-unfolding padded
+    get_or (with_zeros_around words first limit) place 0 ≡ get_or words at 0
+unfolding with_zeros_around
 padded_inside words first limit place at e lt =
     let i : place - 512 * first ≡ at = omega arith in
     get_or-append_right (replicate (512 * first) 0) (words ++ replicate (512 * limit - (512 * first + length words)) 0)
@@ -32,15 +32,15 @@ padded_inside words first limit place at e lt =
     ∙ (ap (λ k. get_or (words ++ replicate (512 * limit - (512 * first + length words)) 0) k 0) i
     ∙ get_or_append_left words (replicate (512 * limit - (512 * first + length words)) 0) 0 at lt)
 
-pub padded_below : (words : List ℕ) (first limit place : ℕ) → place < 512 * first → get_or (padded words first limit) place 0 ≡ 0
-unfolding padded
+pub padded_below : (words : List ℕ) (first limit place : ℕ) → place < 512 * first → get_or (with_zeros_around words first limit) place 0 ≡ 0
+unfolding with_zeros_around
 padded_below words first limit place lt =
     let l : length {A = ℕ} (replicate (512 * first) 0) ≡ 512 * first = length-replicate (512 * first) 0 in
     get_or_append_left (replicate (512 * first) 0) (words ++ replicate (512 * limit - (512 * first + length words)) 0) 0 place (omega arith)
     ∙ zeros_read (512 * first) place
 
-pub padded_past : (words : List ℕ) (first limit place : ℕ) → 512 * first + length words ≤ place → get_or (padded words first limit) place 0 ≡ 0
-unfolding padded
+pub padded_past : (words : List ℕ) (first limit place : ℕ) → 512 * first + length words ≤ place → get_or (with_zeros_around words first limit) place 0 ≡ 0
+unfolding with_zeros_around
 padded_past words first limit place le =
     get_or-append_right (replicate (512 * first) 0) (words ++ replicate (512 * limit - (512 * first + length words)) 0)
     (512 * first) place 0 (length-replicate (512 * first) 0) (omega arith)
@@ -49,8 +49,8 @@ padded_past words first limit place le =
 
 -- a write to a word of the area
 pub padded_set : (words : List ℕ) (first limit at place v : ℕ) → 512 * first + at ≡ place → at < length words →
-    padded (set words at v) first limit ≡ set (padded words first limit) place v
-unfolding padded
+    with_zeros_around (set words at v) first limit ≡ set (with_zeros_around words first limit) place v
+unfolding with_zeros_around
 padded_set words first limit at place v e lt =
     let i : place - 512 * first ≡ at = omega arith in
     ap (λ n. replicate (512 * first) 0 ++ (set words at v ++ replicate (512 * limit - (512 * first + n)) 0)) (length-set words at v)
@@ -85,8 +85,9 @@ zeros_behind words n base place count e =
 
 -- a frame of the area is cleared
 pub padded_zeros : (words : List ℕ) (first limit base place count : ℕ) → 512 * first + base ≡ place → base + count ≤ length words →
-    padded (with_zeros words base count) first limit ≡ with_zeros (padded words first limit) place count
-unfolding padded
+    with_zeros_around (with_zeros words base count) first limit ≡ with_zeros (with_zeros_around words first limit) place
+    count
+unfolding with_zeros_around
 padded_zeros words first limit base place count e le =
     ap (λ n. replicate (512 * first) 0 ++ (with_zeros words base count ++ replicate (512 * limit - (512 * first + n)) 0))
     (length-with_zeros words base count le)

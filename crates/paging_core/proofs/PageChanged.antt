@@ -6,7 +6,7 @@ use Rattle.std.specs.Prelude.{IsSome}
 use Rattle.paging_core.specs.Area.{Area}
 use Rattle.paging_core.specs.Memory.{word_at, frame_count, byte_of}
 use Rattle.paging_core.specs.Prefix.{prefix_of}
-use Rattle.paging_core.specs.Walk.{Place, step, reach, large_of, top, walk_of, granted, reached}
+use Rattle.paging_core.specs.Walk.{Place, step, reach, large_of, top, walk_of, place_with, reached}
 use Rattle.paging_core.specs.Tree.{IsTreeIn}
 use Rattle.paging_core.specs.PageChanges.{Change, removal, regrant, IsLastEntry, IsPageChanged, ArePagesChanged, only}
 use Rattle.paging_core.specs.declared.page_table.Rights.{Rights}
@@ -33,7 +33,7 @@ removal_keeps = record { same = λ place now e. absurd (cc); plain = λ words pl
 
 pub regrant_keeps : (rights : Rights) → KeepsFrame (regrant rights)
 regrant_keeps rights = record {
-  same = λ place now e. let q : granted place.frame rights ≡ now = cc in sym (ap (λ p. p.frame) q);
+  same = λ place now e. let q : place_with place.frame rights ≡ now = cc in sym (ap (λ p. p.frame) q);
   plain = λ words place small within _. plain_page words place.frame rights small within;
 }
 

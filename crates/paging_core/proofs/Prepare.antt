@@ -6,7 +6,7 @@ use Rattle.paging_core.specs.Entry.{table_entry}
 use Rattle.paging_core.specs.Area.{Area, in_area}
 use Rattle.paging_core.specs.Memory.{word_at, frame_count, cleared}
 use Rattle.paging_core.specs.Prefix.{prefix_of}
-use Rattle.paging_core.specs.Pool.{is_free, free_count, FreeBelow, FreeIn}
+use Rattle.paging_core.specs.Pool.{is_frame_free, free_count, FreeBelow, FreeIn}
 use Rattle.paging_core.specs.Walk.{Place, step, large_step, large_of, large_from, reach, next_from, top}
 use Rattle.paging_core.specs.Tree.{IsTreeIn}
 use Rattle.paging_core.specs.Tables.{IsTableMade, IsEnsured, IsPrepared, missing_at, missing_past}
@@ -95,10 +95,10 @@ module _ {area : Area} (old mid : List ℕ) (free freem : List Bool) (root page 
   table_below = let s = prepared.size in reach_below mid root level (prefix_of page level) (top table) (omega arith) (omega arith) met
 
   -- a frame that is free was free at first
-  first_free : (f : ℕ) → is_free freem f ≡ true → is_free free f ≡ true
-  first_free f e = go (cases_Bool (is_free free f))
+  first_free : (f : ℕ) → is_frame_free freem f ≡ true → is_frame_free free f ≡ true
+  first_free f e = go (cases_Bool (is_frame_free free f))
     where
-      go : (is_free free f ≡ true) ⊎ (is_free free f ≡ false) → is_free free f ≡ true
+      go : (is_frame_free free f ≡ true) ⊎ (is_frame_free free f ≡ false) → is_frame_free free f ≡ true
       go (inl h) = h
       go (inr h) = let x = prepared.fewer f h in absurd (cc)
 
@@ -145,7 +145,7 @@ module _ {area : Area} (old mid : List ℕ) (free freem : List Bool) (root page 
   }
     where
       made_of : (l : ℕ) (b : Place) → reach old root l (prefix_of page l) ≡ None → reach mid root l (prefix_of page l) ≡ Some b →
-          (level < l) ⊎ (l ≤ level) → l ≤ level + 1 → is_free free b.frame ≡ true
+          (level < l) ⊎ (l ≤ level) → l ≤ level + 1 → is_frame_free free b.frame ≡ true
       made_of l b absent now (inr h) le = prepared.made l b h absent now
       made_of l b absent now (inl h) le =
           let e : l ≡ level + 1 = omega arith in
@@ -220,8 +220,8 @@ module _ {area : Area} (old mid : List ℕ) (free freem : List Bool) (root page 
 
     met_apart : (l n : ℕ) (b : Place) → l ≤ 4 → reach mid root l n ≡ Some b → b.frame ≡ made → ⊥
     met_apart l n b le is e =
-        let u : is_free freem b.frame ≡ false = tree.used l n b le is in
-        let w = m.was_free in let x = ap (is_free freem) e in cc
+        let u : is_frame_free freem b.frame ≡ false = tree.used l n b le is in
+        let w = m.was_free in let x = ap (is_frame_free freem) e in cc
 
     -- the table is met at its own prefix alone
     here_only : (l f : ℕ) → l < 4 → reach mid root l (prefix_of page l) ≡ Some (top f) → f ≡ table → l ≡ level
@@ -281,7 +281,7 @@ module _ {area : Area} (old mid : List ℕ) (free freem : List Bool) (root page 
     }
       where
         made_of : (l : ℕ) (b : Place) → reach old root l (prefix_of page l) ≡ None → reach new root l (prefix_of page l) ≡ Some b →
-            (level < l) ⊎ (l ≤ level) → l ≤ level + 1 → is_free free b.frame ≡ true
+            (level < l) ⊎ (l ≤ level) → l ≤ level + 1 → is_frame_free free b.frame ≡ true
         made_of l b none now (inr h) le =
             prepared.made l b h none (sym (now_others l (prefix_of page l) (omega arith) (λ x _. absurd (omega arith))) ∙ now)
         made_of l b none now (inl h) le =
@@ -290,8 +290,8 @@ module _ {area : Area} (old mid : List ℕ) (free freem : List Bool) (root page 
             let y : b ≡ top made = cc in
             rw y (first_free made m.was_free)
 
-        kept_of : (f : ℕ) → is_free free f ≡ true →
-            ((l : ℕ) → l ≤ level + 1 → reach new root l (prefix_of page l) ≡ Some (top f) → ⊥) → (f ≡ made) ⊎ (f ≡ made → ⊥) → is_free free' f ≡ true
+        kept_of : (f : ℕ) → is_frame_free free f ≡ true →
+            ((l : ℕ) → l ≤ level + 1 → reach new root l (prefix_of page l) ≡ Some (top f) → ⊥) → (f ≡ made) ⊎ (f ≡ made → ⊥) → is_frame_free free' f ≡ true
         kept_of f e ne (inl x) = absurd (ne (level + 1) (omega arith) (now_there ∙ ap (λ k. Some (top k)) (sym x)))
         kept_of f e ne (inr x) = rw m.taken (get_or-set_other freem made f false false x
             ∙ prepared.kept f e (λ l le is. ne l (omega arith) (grown l (top f) (omega arith) is)))

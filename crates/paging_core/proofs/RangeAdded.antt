@@ -6,8 +6,8 @@ use Rattle.paging_core.specs.Address.{is_canonical, IsCanonicalRange}
 use Rattle.paging_core.specs.Memory.{word_at, byte_of}
 use Rattle.paging_core.specs.Entry.{table_entry, page_entry}
 use Rattle.paging_core.specs.Prefix.{prefix_of}
-use Rattle.paging_core.specs.Pool.{is_free, free_count}
-use Rattle.paging_core.specs.Walk.{Place, reach, large_of, walk_of, reached, top, granted}
+use Rattle.paging_core.specs.Pool.{is_frame_free, free_count}
+use Rattle.paging_core.specs.Walk.{Place, reach, large_of, walk_of, reached, top, place_with}
 use Rattle.paging_core.specs.Tree.{IsTree}
 use Rattle.paging_core.specs.Missing.{missing_of}
 use Rattle.paging_core.specs.Mapping.{IsNewPage, IsRangeAdded}
@@ -103,8 +103,8 @@ module _ (old mid : List ℕ) (free free1 : List Bool) (root first pages k : ℕ
     same_place : (j : ℕ) (place : Place) → (h : j < k) → walk_of new root (first + j) ≡ Some place → walk_of mid root (first + j) ≡ Some place
     same_place j place h found =
         let p = added.mapped j h in
-        let now = next.pages_stay (first + j) (granted p.frame rights) p.found in
-        let same : granted p.frame rights ≡ place = cc in
+        let now = next.pages_stay (first + j) (place_with p.frame rights) p.found in
+        let same : place_with p.frame rights ≡ place = cc in
         p.found ∙ ap Some same
 
     ascending : (i j : ℕ) (place later : Place) → i < j → j < k + 1 → walk_of new root (first + i) ≡ Some place → walk_of new root (first + j) ≡ Some later →
@@ -115,11 +115,11 @@ module _ (old mid : List ℕ) (free free1 : List Bool) (root first pages k : ℕ
         let p = added.mapped i (omega arith) in
         let q = next.mapped 0 (omega arith) in
         let e : first + k + 0 ≡ first + j = omega arith in
-        let there : walk_of new root (first + j) ≡ Some (granted q.frame rights) = rw (← e) q.found in
+        let there : walk_of new root (first + j) ≡ Some (place_with q.frame rights) = rw (← e) q.found in
         let here = same_place i place (omega arith) was in
         let a = p.found in
-        let x : granted p.frame rights ≡ place = cc in
-        let y : granted q.frame rights ≡ later = cc in
+        let x : place_with p.frame rights ≡ place = cc in
+        let y : place_with q.frame rights ≡ later = cc in
         let f : p.frame ≡ place.frame = ap (λ m. m.frame) x in
         let g : q.frame ≡ later.frame = ap (λ m. m.frame) y in
         rw (← f, ← g) (added.lowest p.frame q.frame p.was_free p.taken q.was_free)
@@ -143,11 +143,11 @@ module _ (old mid : List ℕ) (free free1 : List Bool) (root first pages k : ℕ
         go (inr h) =
             let q = next.mapped 0 (omega arith) in
             let e : first + k + 0 ≡ first + j = omega arith in
-            let there : walk_of new root (first + j) ≡ Some (granted q.frame rights) = rw (← e) q.found in
-            let y : granted q.frame rights ≡ later = cc in
+            let there : walk_of new root (first + j) ≡ Some (place_with q.frame rights) = rw (← e) q.found in
+            let y : place_with q.frame rights ≡ later = cc in
             let g : q.frame ≡ later.frame = ap (λ m. m.frame) y in
-            let was : is_free free table.frame ≡ true = added.made l (prefix_of (first + i) l) table ll none here in
-            let gone : is_free free1 table.frame ≡ false = added.tree.used l (prefix_of (first + i) l) table (omega arith) here in
+            let was : is_frame_free free table.frame ≡ true = added.made l (prefix_of (first + i) l) table ll none here in
+            let gone : is_frame_free free1 table.frame ≡ false = added.tree.used l (prefix_of (first + i) l) table (omega arith) here in
             rw (← g) (added.lowest table.frame q.frame was gone q.was_free)
 
     tables_after : (j l : ℕ) (place table : Place) → j < k + 1 → l < 4 → reach old root l (prefix_of (first + j) l) ≡ None →
@@ -172,14 +172,15 @@ module _ (old mid : List ℕ) (free free1 : List Bool) (root first pages k : ℕ
     tables_of l j ll lj (inr h) = let e : first + j ≡ first + k + 0 = omega arith in rw e (next.tables l 0 ll (omega arith))
 
     made_of : (l n : ℕ) (met : Place) → l < 4 → reach old root l n ≡ None → reach new root l n ≡ Some met →
-        ((m : Place) × (reach mid root l n ≡ Some m)) ⊎ (reach mid root l n ≡ None) → is_free free met.frame ≡ true
+        ((m : Place) × (reach mid root l n ≡ Some m)) ⊎ (reach mid root l n ≡ None) → is_frame_free free met.frame ≡ true
     made_of l n met ll none now (inl p) =
         let s = next.stayed l n p.0 (omega arith) p.1 in
         let same : p.0 ≡ met = cc in
         added.made l n met ll none (p.1 ∙ ap Some same)
     made_of l n met ll none now (inr gone) = free_before free free1 added.fewer met.frame (next.made l n met ll gone now)
 
-    words_of : (f i : ℕ) → i < 512 → is_free free f ≡ false → ((l n : ℕ) → l < 4 → reach old root l n ≡ Some (top f) → ⊥) → word_at new f i ≡ word_at old f i
+    words_of : (f i : ℕ) → i < 512 → is_frame_free free f ≡ false → ((l n : ℕ) → l < 4 → reach old root l n ≡ Some (top f) →
+        ⊥) → word_at new f i ≡ word_at old f i
     words_of f i li held untabled =
         next.words f i li (added.fewer f held) (λ l n ll now. table l n ll now (some_or_none (reach old root l n)))
         ∙ added.words f i li held untabled
@@ -190,10 +191,10 @@ module _ (old mid : List ℕ) (free free1 : List Bool) (root first pages k : ℕ
             let s = added.stayed l n p.0 (omega arith) p.1 in
             let same : p.0 ≡ top f = cc in
             untabled l n ll (p.1 ∙ ap Some same)
-        table l n ll now (inr none) = let m : is_free free f ≡ true = added.made l n (top f) ll none now in cc
+        table l n ll now (inr none) = let m : is_frame_free free f ≡ true = added.made l n (top f) ll none now in cc
 
-    lowest_of : (f g : ℕ) → is_free free f ≡ true → is_free free' f ≡ false → is_free free' g ≡ true →
-        (is_free free1 f ≡ true) ⊎ (is_free free1 f ≡ false) → f < g
+    lowest_of : (f g : ℕ) → is_frame_free free f ≡ true → is_frame_free free' f ≡ false → is_frame_free free' g ≡ true →
+        (is_frame_free free1 f ≡ true) ⊎ (is_frame_free free1 f ≡ false) → f < g
     lowest_of f g was now other (inl still) = next.lowest f g still now other
     lowest_of f g was now other (inr gone) = added.lowest f g was gone (free_before free1 free' next.fewer g other)
 
@@ -307,7 +308,7 @@ module _ (old mid : List ℕ) (free free1 : List Bool) (root first pages k : ℕ
       stayed = λ l n met le is. next.stayed l n met le (added.stayed l n met le is);
       made = λ l n met ll none now. made_of l n met ll none now (some_or_none (reach mid root l n));
       fewer = λ f e. next.fewer f (added.fewer f e);
-      lowest = λ f g was now other. lowest_of f g was now other (cases_Bool (is_free free1 f));
+      lowest = λ f g was now other. lowest_of f g was now other (cases_Bool (is_frame_free free1 f));
       kept = λ f e unmet. next.kept f (added.kept f e (λ l n met le is. unmet l n met le (next.stayed l n met le is))) unmet;
       count = let s = step_count in let a = added.count in let b = next.count in omega arith;
       ascending = λ i j place later lt lj was now. ascending i j place later lt lj was now (cases_lt j k);

@@ -4,7 +4,7 @@ use Rattle.std.proofs.lemmas.Bool.{eqb-true, cases_eq}
 use Rattle.paging_core.specs.Area.{Area, in_area}
 use Rattle.paging_core.specs.Memory.{word_at}
 use Rattle.paging_core.specs.Prefix.{prefix_of}
-use Rattle.paging_core.specs.Pool.{is_free}
+use Rattle.paging_core.specs.Pool.{is_frame_free}
 use Rattle.paging_core.specs.Walk.{Place, by_entries, step, reach, large_of, large_from, next_from, walk_of, top}
 use Rattle.paging_core.specs.Tree.{IsTreeIn}
 use Rattle.paging_core.proofs.Reach.{entries_zero, entries_suc, reach_low, reach_entries, step_zero, large_is, either_way, ByEntry, InLarge}
@@ -56,7 +56,8 @@ only_root words root blank l n met is = go (cases_eq l 4)
     go (inr ne) = entries_root words root blank l n met (sym (reach_entries words root l n ne) ∙ is)
     go (inl x) = way (either_way words root n met (rw x at is))
 
-pub tree_start : (area : Area) (words : List ℕ) (root : ℕ) (free : List Bool) → ((i : ℕ) → i < 512 → word_at words root i ≡ 0) → is_free free root ≡ false →
+pub tree_start : (area : Area) (words : List ℕ) (root : ℕ) (free : List Bool) →
+    ((i : ℕ) → i < 512 → word_at words root i ≡ 0) → is_frame_free free root ≡ false →
     in_area area root ≡ true → IsTreeIn area words root free
 tree_start area words root free blank taken within = record {
   rights = λ l n met lt is. let p = only_root words root blank l n met is in rw p.2 refl;

@@ -4,9 +4,9 @@ use Rattle.std.proofs.lemmas.Bool.{cases_eq, cases_Bool}
 use Rattle.std.specs.Prelude.{IsSome}
 use Rattle.paging_core.specs.Memory.{word_at, frame_count, byte_of}
 use Rattle.paging_core.specs.Prefix.{prefix_of}
-use Rattle.paging_core.specs.Pool.{is_free, FreeBelow}
+use Rattle.paging_core.specs.Pool.{is_frame_free, FreeBelow}
 use Rattle.paging_core.specs.Runs.{IsRunFree, IsRunSet}
-use Rattle.paging_core.specs.Walk.{Place, reach, large_of, walk_of, reached, top, granted}
+use Rattle.paging_core.specs.Walk.{Place, reach, large_of, walk_of, reached, top, place_with}
 use Rattle.paging_core.specs.Tree.{IsTree}
 use Rattle.paging_core.specs.Large.{slot_of, above, missing_above, IsSlotEmpty, IsLargeAdded, AreFramesCleared}
 use Rattle.paging_core.specs.declared.page_table.Rights.{Rights}
@@ -27,24 +27,24 @@ module _ (old mid : List ℕ) (free free1 : List Bool) (root run : ℕ)
   pub run_in : 512 * run + 511 < frame_count old
   run_in = known (512 * run + 511) (was_free (512 * run + 511) (omega arith))
 
-  pub run_fewer : (f : ℕ) → is_free free f ≡ false → is_free free1 f ≡ false
+  pub run_fewer : (f : ℕ) → is_frame_free free f ≡ false → is_frame_free free1 f ≡ false
   run_fewer f e = go (cases_eq (f / 512) run)
     where
-      go : (f / 512 ≡ run) ⊎ (f / 512 ≡ run → ⊥) → is_free free1 f ≡ false
+      go : (f / 512 ≡ run) ⊎ (f / 512 ≡ run → ⊥) → is_frame_free free1 f ≡ false
       go (inl x) = taken.here f x
       go (inr x) = taken.elsewhere f x ∙ e
 
   pub run_known : FreeBelow free1 (frame_count mid)
-  run_known f is = go (cases_Bool (is_free free f))
+  run_known f is = go (cases_Bool (is_frame_free free f))
     where
-      go : (is_free free f ≡ true) ⊎ (is_free free f ≡ false) → f < frame_count mid
+      go : (is_frame_free free f ≡ true) ⊎ (is_frame_free free f ≡ false) → f < frame_count mid
       go (inl x) = let h = known f x in let s = blank.size in omega arith
       go (inr x) = let h = run_fewer f x in absurd (cc)
 
   pub unmet : (l n : ℕ) (m : Place) → l ≤ 4 → reach old root l n ≡ Some m → m.frame / 512 ≡ run → ⊥
   unmet l n m le is e =
-      let u : is_free free m.frame ≡ false = tree.used l n m le is in
-      let w : is_free free m.frame ≡ true = was_free m.frame e in cc
+      let u : is_frame_free free m.frame ≡ false = tree.used l n m le is in
+      let w : is_frame_free free m.frame ≡ true = was_free m.frame e in cc
 
   pub stays : (f i : ℕ) → i < 512 → (f / 512 ≡ run → ⊥) → word_at mid f i ≡ word_at old f i
   stays f i li ne = blank.others f i li (λ k lt e. ne (omega arith))
@@ -82,7 +82,7 @@ module _ (old mid : List ℕ) (free free1 : List Bool) (root run : ℕ)
       let b = run_same 2 (above page 2) (omega arith) in
       rw (a, b) refl
 
-  pub run_used : (k : ℕ) → k < 512 → is_free free1 (512 * run + k) ≡ false
+  pub run_used : (k : ℕ) → k < 512 → is_frame_free free1 (512 * run + k) ≡ false
   run_used k lt = taken.here (512 * run + k) (omega arith)
 
   pub run_unmet : (k l n : ℕ) (m : Place) → k < 512 → l ≤ 4 → reach mid root l n ≡ Some m → m.frame ≡ 512 * run + k → ⊥
@@ -111,24 +111,25 @@ module _ (old mid : List ℕ) (free free1 : List Bool) (root run : ℕ)
     -- each word of the slot is 0
     pub slot_words : (k i : ℕ) → k < 512 → i < 512 → word_at new (512 * run + k) i ≡ 0
     slot_words k i lt li =
-        let met : reach new root 4 (prefix_of (512 * page + k) 4) ≡ Some (granted (512 * run + k) rights) =
+        let met : reach new root 4 (prefix_of (512 * page + k) 4) ≡ Some (place_with (512 * run + k) rights) =
         sym (walk_reach new root (512 * page + k)) ∙ added.there k lt in
         added.words (512 * run + k) i li
-        (λ l ll here. let d = tree'.distinct 4 (prefix_of (512 * page + k) 4) l (above page l) (granted (512 * run + k) rights) (top (512 * run + k))
+        (λ l ll here. let d = tree'.distinct 4 (prefix_of (512 * page + k) 4) l (above page l) (place_with (512 * run + k) rights) (top (512 * run + k))
         (omega arith) (omega arith) (λ _ _. refl) met here refl in absurd (omega (arith, d.0)))
         ∙ blank.zeros k i lt li
 
     -- each byte of the slot is 0
     pub slot_zeros : (address k : ℕ) → k < 512 → address / 4096 ≡ 512 * page + k → reached new root address ≡ Some 0
     slot_zeros address k lt e =
-        let at : walk_of new root (address / 4096) ≡ Some (granted (512 * run + k) rights) = ap (walk_of new root) e ∙ added.there k lt in
-        let met : reach new root 4 (prefix_of (address / 4096) 4) ≡ Some (granted (512 * run + k) rights) = sym (walk_reach new root (address / 4096)) ∙ at in
+        let at : walk_of new root (address / 4096) ≡ Some (place_with (512 * run + k) rights) = ap (walk_of new root) e ∙ added.there k lt in
+        let met : reach new root 4 (prefix_of (address / 4096) 4) ≡ Some (place_with (512 * run + k) rights) =
+        sym (walk_reach new root (address / 4096)) ∙ at in
         let w : word_at new (512 * run + k) (address % 4096 / 8) ≡ 0 =
         added.words (512 * run + k) (address % 4096 / 8) (omega arith)
-        (λ l ll here. let d = tree'.distinct 4 (prefix_of (address / 4096) 4) l (above page l) (granted (512 * run + k) rights) (top (512 * run + k))
+        (λ l ll here. let d = tree'.distinct 4 (prefix_of (address / 4096) 4) l (above page l) (place_with (512 * run + k) rights) (top (512 * run + k))
         (omega arith) (omega arith) (λ _ _. refl) met here refl in absurd (omega (arith, d.0)))
         ∙ blank.zeros k (address % 4096 / 8) lt (omega arith) in
-        reached_at new root address (granted (512 * run + k) rights) at
+        reached_at new root address (place_with (512 * run + k) rights) at
         ∙ (ap (λ v. Some (byte_of v (address % 8))) w ∙ ap Some (zero_byte (address % 8)))
       where
         zero_byte : (k : ℕ) → byte_of 0 k ≡ 0

@@ -7,8 +7,8 @@ use Rattle.std.proofs.lemmas.List.Sums.{sum_by-set, sum_by-cons, count_by-le-len
 use Rattle.std.proofs.lemmas.List.Folds.{sum_by-replicate}
 use Rattle.std.proofs.lemmas.Grind.{get_or_default_zero}
 use Rattle.std.proofs.Math.Seq.{take-set-lt}
-use Rattle.paging_core.specs.Pool.{is_free, free_count, IsOut}
-use Rattle.paging_core.specs.Runs.{free_in, whole_runs, IsRunFree, IsRunOut, IsRunSet, IsCounted}
+use Rattle.paging_core.specs.Pool.{is_frame_free, free_count, IsOut}
+use Rattle.paging_core.specs.Runs.{free_in, whole_runs, IsRunFree, IsRunOut, IsRunSet, AreRunsCounted}
 use Rattle.paging_core.proofs.Made.{free_below, none_free, taken_count}
 use Rattle.paging_core.proofs.Given.{out_below, given_count, out_of}
 
@@ -124,17 +124,18 @@ free_run free run all =
     (λ k lt. get_or-part 512 (512 * run) free k false lt ∙ all (512 * run + k) (omega arith))
 
 -- a run of which no frame is free
-pub no_free_run : (free : List Bool) (run : ℕ) → ((frame : ℕ) → frame / 512 ≡ run → is_free free frame ≡ false) → free_in free run ≡ 0
+pub no_free_run : (free : List Bool) (run : ℕ) → ((frame : ℕ) → frame / 512 ≡ run → is_frame_free free frame ≡ false) → free_in free run ≡ 0
 unfolding free_in
 no_free_run free run none = none_free (take 512 (drop (512 * run) free)) (λ k. go k (cases_lt k 512))
   where
-    go : (k : ℕ) → (k < 512) ⊎ (512 ≤ k) → is_free (take 512 (drop (512 * run) free)) k ≡ false
+    go : (k : ℕ) → (k < 512) ⊎ (512 ≤ k) → is_frame_free (take 512 (drop (512 * run) free)) k ≡ false
     go k (inl lt) = get_or-part 512 (512 * run) free k false lt ∙ none (512 * run + k) (omega arith)
     go k (inr le) = get_or_past (take 512 (drop (512 * run) free)) k false (let b = (length-part 512 (512 * run) free).0 in omega arith)
 
 -- a run whose flags stay has as many free frames
 pub free_in-same : (free free' : List Bool) (run : ℕ) → length free' ≡ length free →
-    ((frame : ℕ) → frame / 512 ≡ run → is_free free' frame ≡ is_free free frame) → free_in free' run ≡ free_in free run
+    ((frame : ℕ) → frame / 512 ≡ run → is_frame_free free' frame ≡ is_frame_free free frame) →
+    free_in free' run ≡ free_in free run
 unfolding free_in
 free_in-same free free' run size same =
     ap free_count (same_lists (take 512 (drop (512 * run) free')) (take 512 (drop (512 * run) free)) lengths each)
@@ -215,14 +216,14 @@ whole-same free free' size same =
 
 -- ---- one frame is taken or given back
 
-pub taken_counted : (free whole : List Bool) (counts : List ℕ) (number count : ℕ) → IsCounted free whole counts → is_free free number ≡ true →
+pub taken_counted : (free whole : List Bool) (counts : List ℕ) (number count : ℕ) → AreRunsCounted free whole counts → is_frame_free free number ≡ true →
     count ≡ get_or counts (number / 512) 0 →
-    IsCounted (set free number false) (set whole (number / 512) false) (set counts (number / 512) (count - 1))
+    AreRunsCounted (set free number false) (set whole (number / 512) false) (set counts (number / 512) (count - 1))
 taken_counted free whole counts number count c was is =
     let below : number < length free = free_below free number was in
-    let s : free_in (set free number false) (number / 512) + cond (is_free free number) 1 0 ≡ free_in free (number / 512) + 0 =
+    let s : free_in (set free number false) (number / 512) + cond (is_frame_free free number) 1 0 ≡ free_in free (number / 512) + 0 =
     free_in-set_same free number (number / 512) false false refl below in
-    let k : cond {A = ℕ} (is_free free number) 1 0 ≡ 1 = rw was refl in
+    let k : cond {A = ℕ} (is_frame_free free number) 1 0 ≡ 1 = rw was refl in
     let n : get_or counts (number / 512) 0 ≡ free_in free (number / 512) = c.counted (number / 512) in
     let size : length (set free number false) ≡ length free = length-set free number false in
     let less : free_in (set free number false) (number / 512) ≡ count - 1 = omega arith in
@@ -244,10 +245,11 @@ taken_counted free whole counts number count c was is =
     each run less (inr ne) =
         get_or-set_other counts (number / 512) run (count - 1) 0 ne ∙ (c.counted run ∙ sym (free_in-set_other free number run false ne))
 
-pub given_more : (free whole : List Bool) (counts : List ℕ) (number count : ℕ) → IsCounted free whole counts → IsOut free number →
+pub given_more : (free whole : List Bool) (counts : List ℕ) (number count : ℕ) → AreRunsCounted free whole counts → IsOut free number →
     count ≡ get_or counts (number / 512) 0 + 1 →
-    (count < 512 → IsCounted (set free number true) whole (set counts (number / 512) count))
-    × (count ≡ 512 → IsCounted (set free number true) (set whole (number / 512) true) (set counts (number / 512) count))
+    (count < 512 → AreRunsCounted (set free number true) whole (set counts (number / 512) count))
+    × (count ≡ 512 → AreRunsCounted (set free number true) (set whole (number / 512) true)
+    (set counts (number / 512) count))
     × (count ≤ 512)
 given_more free whole counts number count c was is =
     let below : number < length free = out_below free number was in
@@ -302,9 +304,10 @@ free_run_in free run all = free_below free (512 * run + 511) (all (512 * run + 5
 pub out_run_in : (free : List Bool) (run : ℕ) → IsRunOut free run → 512 * run + 511 < length free
 out_run_in free run all = out_below free (512 * run + 511) (all (512 * run + 511) (omega arith))
 
-run_counted : (free free' whole : List Bool) (counts : List ℕ) (run count : ℕ) (v : Bool) → IsCounted free whole counts →
+run_counted : (free free' whole : List Bool) (counts : List ℕ) (run count : ℕ) (v : Bool) →
+    AreRunsCounted free whole counts →
     512 * run + 511 < length free → IsRunSet free free' run v → free_in free' run ≡ count → eqb count 512 ≡ v →
-    IsCounted free' (set whole run v) (set counts run count)
+    AreRunsCounted free' (set whole run v) (set counts run count)
 run_counted free free' whole counts run count v c within s is flag = record {
   bounded = omega (arith, c.bounded, s.size);
   runs = omega (arith, c.runs, s.size, length-set counts run count);
@@ -320,13 +323,13 @@ run_counted free free' whole counts run count v c within s is flag = record {
     each other (inl e) = rw e (get_or-set_same counts run count 0 (omega (arith, c.runs, run_within free run within)) ∙ sym is)
     each other (inr ne) = get_or-set_other counts run other count 0 ne ∙ (c.counted other ∙ sym (others other ne))
 
-pub run_taken : (free free' whole : List Bool) (counts : List ℕ) (run : ℕ) → IsCounted free whole counts →
-    IsRunFree free run → IsRunSet free free' run false → IsCounted free' (set whole run false) (set counts run 0)
+pub run_taken : (free free' whole : List Bool) (counts : List ℕ) (run : ℕ) → AreRunsCounted free whole counts →
+    IsRunFree free run → IsRunSet free free' run false → AreRunsCounted free' (set whole run false) (set counts run 0)
 run_taken free free' whole counts run c was s =
     run_counted free free' whole counts run 0 false c (free_run_in free run was) s (no_free_run free' run s.here) refl
 
-pub run_given : (free free' whole : List Bool) (counts : List ℕ) (run : ℕ) → IsCounted free whole counts →
-    IsRunOut free run → IsRunSet free free' run true → IsCounted free' (set whole run true) (set counts run 512)
+pub run_given : (free free' whole : List Bool) (counts : List ℕ) (run : ℕ) → AreRunsCounted free whole counts →
+    IsRunOut free run → IsRunSet free free' run true → AreRunsCounted free' (set whole run true) (set counts run 512)
 run_given free free' whole counts run c was s =
     run_counted free free' whole counts run 512 true c (out_run_in free run was) s (free_run free' run s.here) refl
 
@@ -353,7 +356,7 @@ free_in-new count run = (
 
 -- if the frames are whole runs
 pub new_whole : (count : ℕ) → count < 2 ^ 32 → count % 512 ≡ 0 →
-    IsCounted (replicate count true) (replicate ((count + 511) / 512) true) (replicate ((count + 511) / 512) 512)
+    AreRunsCounted (replicate count true) (replicate ((count + 511) / 512) true) (replicate ((count + 511) / 512) 512)
 new_whole count lt whole = record {
   bounded = omega (arith, length-replicate count true);
   runs = omega (arith, length-replicate count true, length-replicate {A = ℕ} ((count + 511) / 512) 512);
@@ -378,7 +381,7 @@ new_whole count lt whole = record {
 
 -- if the last run has fewer frames
 pub new_rest : (count : ℕ) → count < 2 ^ 32 → 0 < count % 512 →
-    IsCounted (replicate count true) (set (replicate ((count + 511) / 512) true) (count / 512) false)
+    AreRunsCounted (replicate count true) (set (replicate ((count + 511) / 512) true) (count / 512) false)
     (set (replicate ((count + 511) / 512) 512) (count / 512) (count % 512))
 new_rest count lt some = record {
   bounded = omega (arith, length-replicate count true);
@@ -439,8 +442,8 @@ new_rest count lt some = record {
 
 pub record IsPartSet (free now : List Bool) (first upto : ℕ) (value : Bool) : Type 0 where
   pub size : length now ≡ length free
-  pub here : (frame : ℕ) → first ≤ frame → frame < upto → is_free now frame ≡ value
-  pub elsewhere : (frame : ℕ) → (first ≤ frame → frame < upto → ⊥) → is_free now frame ≡ is_free free frame
+  pub here : (frame : ℕ) → first ≤ frame → frame < upto → is_frame_free now frame ≡ value
+  pub elsewhere : (frame : ℕ) → (first ≤ frame → frame < upto → ⊥) → is_frame_free now frame ≡ is_frame_free free frame
 
 pub part_none : (free : List Bool) (first : ℕ) (value : Bool) → IsPartSet free free first first value
 part_none free first value = record { size = refl; here = λ frame a b. absurd (omega arith); elsewhere = λ frame out. refl }
@@ -454,7 +457,7 @@ part_more free now first upto value le lt p = record {
       get_or-set_other now upto frame value false (λ e. out (omega arith) (omega arith)) ∙ p.elsewhere frame (λ a b. out a (omega arith));
 }
   where
-    inside : (frame : ℕ) → first ≤ frame → frame < upto + 1 → (frame ≡ upto) ⊎ (frame ≡ upto → ⊥) → is_free (set now upto value) frame ≡ value
+    inside : (frame : ℕ) → first ≤ frame → frame < upto + 1 → (frame ≡ upto) ⊎ (frame ≡ upto → ⊥) → is_frame_free (set now upto value) frame ≡ value
     inside frame a b (inl e) = rw e (get_or-set_same now upto value false (omega (arith, p.size)))
     inside frame a b (inr ne) = get_or-set_other now upto frame value false ne ∙ p.here frame a (omega arith)
 
@@ -469,32 +472,33 @@ part_run free now run first upto value f u p = record {
 -- ---- what the calls read
 
 -- a count that was read
-pub read_count : (free whole : List Bool) (counts : List ℕ) (number count : ℕ) → IsCounted free whole counts → number < length free →
+pub read_count : (free whole : List Bool) (counts : List ℕ) (number count : ℕ) → AreRunsCounted free whole counts → number < length free →
     count ≡ get_or counts (number / 512) count → count ≡ get_or counts (number / 512) 0
 read_count free whole counts number count c lt read = read ∙ get_or_default_zero counts (number / 512) count (omega (arith, c.runs))
 
-pub count_some : (free whole : List Bool) (counts : List ℕ) (number count : ℕ) → IsCounted free whole counts → is_free free number ≡ true →
+pub count_some : (free whole : List Bool) (counts : List ℕ) (number count : ℕ) → AreRunsCounted free whole counts → is_frame_free free number ≡ true →
     count ≡ get_or counts (number / 512) 0 → 1 ≤ count
 count_some free whole counts number count c was is =
     let below : number < length free = free_below free number was in
-    let s : free_in (set free number false) (number / 512) + cond (is_free free number) 1 0 ≡ free_in free (number / 512) + 0 =
+    let s : free_in (set free number false) (number / 512) + cond (is_frame_free free number) 1 0 ≡ free_in free (number / 512) + 0 =
     free_in-set_same free number (number / 512) false false refl below in
-    let k : cond {A = ℕ} (is_free free number) 1 0 ≡ 1 = rw was refl in
+    let k : cond {A = ℕ} (is_frame_free free number) 1 0 ≡ 1 = rw was refl in
     let n : get_or counts (number / 512) 0 ≡ free_in free (number / 512) = c.counted (number / 512) in
     omega arith
 
 -- the run of a frame is one of those that the set may have
-pub run_in : (free whole : List Bool) (counts : List ℕ) (number : ℕ) → IsCounted free whole counts → number < length free → number / 512 < length whole
+pub run_in : (free whole : List Bool) (counts : List ℕ) (number : ℕ) → AreRunsCounted free whole counts → number < length free → number / 512 < length whole
 run_in free whole counts number c lt = let a = ap length c.are_whole in let b = length-whole_runs free in omega arith
 
-pub is_whole : (free whole : List Bool) (counts : List ℕ) (run : ℕ) → IsCounted free whole counts → get_or whole run false ≡ true → IsRunFree free run
+pub is_whole : (free whole : List Bool) (counts : List ℕ) (run : ℕ) → AreRunsCounted free whole counts → get_or whole run false ≡ true → IsRunFree free run
 is_whole free whole counts run c e = whole_is free run (ap (λ w. get_or w run false) (sym c.are_whole) ∙ e)
 
-pub not_whole : (free whole : List Bool) (counts : List ℕ) (run : ℕ) → IsCounted free whole counts → get_or whole run false ≡ false → IsRunFree free run → ⊥
+pub not_whole : (free whole : List Bool) (counts : List ℕ) (run : ℕ) → AreRunsCounted free whole counts →
+    get_or whole run false ≡ false → IsRunFree free run → ⊥
 not_whole free whole counts run c e all = false≢true (sym e ∙ (ap (λ w. get_or w run false) c.are_whole ∙ whole_of free run all))
 
 -- a run that is taken or given is one of those that are counted
-pub runs_below : (free whole : List Bool) (counts : List ℕ) (run : ℕ) → IsCounted free whole counts → 512 * run + 511 < length free →
+pub runs_below : (free whole : List Bool) (counts : List ℕ) (run : ℕ) → AreRunsCounted free whole counts → 512 * run + 511 < length free →
     (run < length counts) × (run < length whole) × (run < 2 ^ 23)
 runs_below free whole counts run c lt =
     let a : length whole ≡ length (whole_runs free) = ap length c.are_whole in
@@ -504,7 +508,7 @@ runs_below free whole counts run c lt =
     (omega arith, omega arith, omega arith)
 
 -- what the flags of the runs are after a run was taken
-pub whole_taken : (free free' whole : List Bool) (counts : List ℕ) (run : ℕ) → IsCounted free whole counts →
+pub whole_taken : (free free' whole : List Bool) (counts : List ℕ) (run : ℕ) → AreRunsCounted free whole counts →
     IsRunFree free run → IsRunSet free free' run false → whole_runs free' ≡ set (whole_runs free) run false
 whole_taken free free' whole counts run c was s =
     sym (ap (λ w. set w run false) (sym c.are_whole) ∙ (run_taken free free' whole counts run c was s).are_whole)
@@ -523,9 +527,9 @@ removing_none free first = record { part = part_none free first false; count = o
 pub removing_more : (free now : List Bool) (run first upto : ℕ) → first ≡ run * 512 → upto < first + 512 → IsRunFree free run →
     IsRemoving free now first upto → (upto < length now) × IsRemoving free (set now upto false) first (upto + 1)
 removing_more free now run first upto f lt all r =
-    let was : is_free free upto ≡ true = all upto (let a = r.above in omega arith) in
+    let was : is_frame_free free upto ≡ true = all upto (let a = r.above in omega arith) in
     let within : upto < length free = free_below free upto was in
-    let still : is_free now upto ≡ true = r.part.elsewhere upto (λ a b. omega arith) ∙ was in
+    let still : is_frame_free now upto ≡ true = r.part.elsewhere upto (λ a b. omega arith) ∙ was in
     let one : free_count (set now upto false) + 1 ≡ free_count now = taken_count now upto still in (
       omega (arith, r.part.size),
       record {
@@ -550,8 +554,8 @@ pub inserting_more : (free now : List Bool) (run first upto : ℕ) → first ≡
 inserting_more free now run first upto f lt all r =
     let was : IsOut free upto = all upto (let a = r.above in omega arith) in
     let within : upto < length free = out_below free upto was in
-    let gone : is_free free upto ≡ false = get_or_default free upto false true within ∙ was in
-    let still : is_free now upto ≡ false = r.part.elsewhere upto (λ a b. omega arith) ∙ gone in
+    let gone : is_frame_free free upto ≡ false = get_or_default free upto false true within ∙ was in
+    let still : is_frame_free now upto ≡ false = r.part.elsewhere upto (λ a b. omega arith) ∙ gone in
     let inside : upto < length now = omega (arith, r.part.size) in
     let one : free_count (set now upto true) ≡ free_count now + 1 = given_count now upto (out_of now upto inside still) in (
       inside,

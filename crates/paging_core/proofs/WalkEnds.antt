@@ -3,7 +3,7 @@ use Rattle.std.proofs.Common.{◌≡◌, ℕ, ◌+◌, ◌%◌, ◌<◌, true, L
 use Rattle.paging_core.specs.Missing.{missing_of}
 use Rattle.paging_core.specs.Prefix.{prefix_of}
 use Rattle.paging_core.specs.Tables.{missing_at}
-use Rattle.paging_core.specs.Walk.{Place, step, next_from, large_step, page_or, reach, walk_of, place_of, top}
+use Rattle.paging_core.specs.Walk.{Place, step, next_from, large_step, page_or, reach, walk_of, mapped_place, top}
 use Rattle.paging_core.specs.WalkEnd.{IsEntryOf, IsWalkEnd, IsEndFrom}
 use Rattle.paging_core.specs.declared.page_walk.Mapped.{Mapped}
 use Rattle.paging_core.specs.declared.walk_end.WalkEnd.{WalkEnd}
@@ -21,9 +21,9 @@ next_met words root page level index at lt met ix =
 
 -- the first step, from the root with all rights
 pub first_met : (words : List ℕ) (root page index : ℕ) (full : Mapped) → full ≡ record { frame = root; write = true; user = true; fetch = true } →
-    index ≡ prefix_of page 1 % 512 → reach words root 1 (prefix_of page 1) ≡ step words 0 (place_of full) index
+    index ≡ prefix_of page 1 % 512 → reach words root 1 (prefix_of page 1) ≡ step words 0 (mapped_place full) index
 first_met words root page index full e ix =
-    next_met words root page 0 index (top root) (omega arith) (reach_root words root page) ix ∙ ap (λ (m : Mapped). step words 0 (place_of m) index) (sym e)
+    next_met words root page 0 index (top root) (omega arith) (reach_root words root page) ix ∙ ap (λ (m : Mapped). step words 0 (mapped_place m) index) (sym e)
 
 pub stops_first : (words : List ℕ) (root page : ℕ) → reach words root 1 (prefix_of page 1) ≡ None → IsWalkEnd words root page (Missing 3)
 stops_first words root page n1 =

@@ -19,8 +19,8 @@ area_meets (Part first end) from count = nat_lt first end && (nat_lt from end &&
 
 -- The words of all frames below a limit, of which these are those of the frames from `first` on. The others are 0 here,
 -- whatever the machine has there.
-unfoldable pub padded : List ℕ → ℕ → ℕ → List ℕ
-padded words first limit = replicate (512 * first) 0 ++ (words ++ replicate (512 * limit - (512 * first + length words)) 0)
+unfoldable pub with_zeros_around : List ℕ → ℕ → ℕ → List ℕ
+with_zeros_around words first limit = replicate (512 * first) 0 ++ (words ++ replicate (512 * limit - (512 * first + length words)) 0)
 
 -- An area of frames with its words, beside a limit of all frames.
 pub record AreaWords : Type 0 where

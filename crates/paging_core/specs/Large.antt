@@ -6,9 +6,9 @@ use Rattle.std.specs.Prelude.{◌≡◌, ℕ, ◌+◌, ◌*◌, ◌/◌, ◌%◌
 use Rattle.paging_core.specs.Memory.{word_at}
 use Rattle.paging_core.specs.Entry.{table_entry, page_entry, large_entry}
 use Rattle.paging_core.specs.Prefix.{prefix_of}
-use Rattle.paging_core.specs.Pool.{is_free, free_count, AreLowestTaken}
+use Rattle.paging_core.specs.Pool.{is_frame_free, free_count, AreLowestTaken}
 use Rattle.paging_core.specs.Runs.{IsRunTaken}
-use Rattle.paging_core.specs.Walk.{Place, reach, large_of, walk_of, top, granted}
+use Rattle.paging_core.specs.Walk.{Place, reach, large_of, walk_of, top, place_with}
 use Rattle.paging_core.specs.Tables.{missing_at}
 use Rattle.paging_core.specs.declared.page_table.Rights.{Rights}
 
@@ -51,8 +51,8 @@ pub record IsLargeAdded (old new : List ℕ) (free free' : List Bool) (root page
   pub size : length new ≡ length old
   pub flags : length free' ≡ length free
   -- the 512 pages, and the large page
-  pub there : (k : ℕ) → k < 512 → walk_of new root (512 * page + k) ≡ Some (granted (512 * frame + k) rights)
-  pub large : large_of new root (slot_of page) ≡ Some (granted (512 * frame) rights)
+  pub there : (k : ℕ) → k < 512 → walk_of new root (512 * page + k) ≡ Some (place_with (512 * frame + k) rights)
+  pub large : large_of new root (slot_of page) ≡ Some (place_with (512 * frame) rights)
   -- nothing else of the walk is changed: no page of another slot, no other large page, and no table that was there
   pub pages : (other : ℕ) → (other / 512 % 2 ^ 27 ≡ slot_of page → ⊥) → walk_of new root other ≡ walk_of old root other
   pub others :
@@ -62,10 +62,10 @@ pub record IsLargeAdded (old new : List ℕ) (free free' : List Bool) (root page
   -- the frames of the new tables were free, the lowest ones, and no other frame was taken
   pub made :
       (l : ℕ) → l < 3 → reach old root l (above page l) ≡ None →
-      (table : ℕ) × (reach new root l (above page l) ≡ Some (top table)) × (is_free free table ≡ true)
-  pub fewer : (f : ℕ) → is_free free f ≡ false → is_free free' f ≡ false
+      (table : ℕ) × (reach new root l (above page l) ≡ Some (top table)) × (is_frame_free free table ≡ true)
+  pub fewer : (f : ℕ) → is_frame_free free f ≡ false → is_frame_free free' f ≡ false
   pub lowest : AreLowestTaken free free'
-  pub kept : (f : ℕ) → is_free free f ≡ true → ((l : ℕ) → l < 3 → reach new root l (above page l) ≡ Some (top f) → ⊥) → is_free free' f ≡ true
+  pub kept : (f : ℕ) → is_frame_free free f ≡ true → ((l : ℕ) → l < 3 → reach new root l (above page l) ≡ Some (top f) → ⊥) → is_frame_free free' f ≡ true
   pub count : free_count free' + missing_above old root page ≡ free_count free
   -- no word outside the tables above the slot is changed, and in them no more than the new entries need
   pub words :
@@ -128,8 +128,8 @@ pub record IsLargeCut (old new : List ℕ) (free free' : List Bool) (root page k
       (l n : ℕ) → l ≤ 4 → (l ≡ 3 → n ≡ slot_of page → ⊥) → (l ≡ 4 → n / 512 ≡ slot_of page → ⊥) → reach new root l n ≡ reach old root l n
   pub larges : (n : ℕ) → (n ≡ slot_of page → ⊥) → large_of new root n ≡ large_of old root n
   -- the frames that were given back, and every other flag
-  pub given : (k : ℕ) → keep < k → k < 512 → is_free free' (large.frame + k) ≡ true
-  pub kept : (f : ℕ) → ((k : ℕ) → keep < k → k < 512 → f ≡ large.frame + k → ⊥) → is_free free' f ≡ is_free free f
+  pub given : (k : ℕ) → keep < k → k < 512 → is_frame_free free' (large.frame + k) ≡ true
+  pub kept : (f : ℕ) → ((k : ℕ) → keep < k → k < 512 → f ≡ large.frame + k → ⊥) → is_frame_free free' f ≡ is_frame_free free f
   pub count : free_count free' + keep ≡ free_count free + 511
   -- the words: of the new table, of the entry that names it, and all others
   pub page_words : (k : ℕ) → k < keep →

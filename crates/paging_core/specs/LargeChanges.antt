@@ -3,8 +3,8 @@
 use Rattle.std.specs.Prelude.{◌≡◌, ℕ, ◌+◌, ◌*◌, ◌/◌, ◌%◌, ◌<◌, ◌≤◌, Bool, true, false, List, length, set, Some, None}
 use Rattle.paging_core.specs.Memory.{word_at}
 use Rattle.paging_core.specs.Entry.{table_entry, page_entry, large_entry}
-use Rattle.paging_core.specs.Pool.{is_free, free_count}
-use Rattle.paging_core.specs.Walk.{Place, reach, large_of, walk_of, top, granted, page_in}
+use Rattle.paging_core.specs.Pool.{is_frame_free, free_count}
+use Rattle.paging_core.specs.Walk.{Place, reach, large_of, walk_of, top, place_with, page_in}
 use Rattle.paging_core.specs.Large.{slot_of, above}
 use Rattle.paging_core.specs.declared.page_table.Rights.{Rights}
 
@@ -24,8 +24,8 @@ pub record IsLargeSplit (old new : List ℕ) (free free' : List Bool) (root page
   pub others : (l n : ℕ) → l ≤ 4 → (l ≡ 3 → n ≡ slot_of page → ⊥) → reach new root l n ≡ reach old root l n
   pub larges : (n : ℕ) → (n ≡ slot_of page → ⊥) → large_of new root n ≡ large_of old root n
   -- the frame of the table, and every other flag
-  pub was_free : is_free free made ≡ true
-  pub lowest : (lower : ℕ) → lower < made → is_free free lower ≡ false
+  pub was_free : is_frame_free free made ≡ true
+  pub lowest : (lower : ℕ) → lower < made → is_frame_free free lower ≡ false
   pub taken : free' ≡ set free made false
   pub count : free_count free' + 1 ≡ free_count free
   -- the words: of the new table, of the entry that names it, and all others
@@ -49,7 +49,7 @@ pub record AreLargeGranted (old new : List ℕ) (root page : ℕ) (rights : Righ
   pub large : Place
   pub was : large_of old root (slot_of page) ≡ Some large
   pub size : length new ≡ length old
-  pub there : (k : ℕ) → k < 512 → walk_of new root (512 * page + k) ≡ Some (granted (large.frame + k) rights)
-  pub stays : large_of new root (slot_of page) ≡ Some (granted large.frame rights)
+  pub there : (k : ℕ) → k < 512 → walk_of new root (512 * page + k) ≡ Some (place_with (large.frame + k) rights)
+  pub stays : large_of new root (slot_of page) ≡ Some (place_with large.frame rights)
   pub others : (l n : ℕ) → l ≤ 4 → (l ≡ 4 → n / 512 ≡ slot_of page → ⊥) → reach new root l n ≡ reach old root l n
   pub larges : (n : ℕ) → (n ≡ slot_of page → ⊥) → large_of new root n ≡ large_of old root n

@@ -5,7 +5,7 @@ use Rattle.paging_core.specs.Memory.{word_at, frame_count}
 use Rattle.paging_core.specs.Address.{IsCanonicalRange, is_canonical}
 use Rattle.paging_core.specs.Prefix.{prefix_of, prefixes_of}
 use Rattle.paging_core.specs.Steps.{position, pages_before}
-use Rattle.paging_core.specs.Pool.{is_free, IsFrameGiven}
+use Rattle.paging_core.specs.Pool.{is_frame_free, IsFrameGiven}
 use Rattle.paging_core.specs.Walk.{Place, step, next_from, large_from, large_of, page_in, page_or, reach, walk_of, top}
 use Rattle.paging_core.specs.ProcessorWalk.{AtPage, processor_walk, page_of, is_refused}
 use Rattle.paging_core.specs.Entry.{has_bit}
@@ -40,7 +40,7 @@ OnePageForAFrame =
 abbrev pub NoPageAtAFreeFrame : Type 0
 NoPageAtAFreeFrame =
     (words : List ℕ) (root : ℕ) (free : List Bool) (page : ℕ) (place : Place) → IsTree words root free →
-    walk_of words root page ≡ Some place → is_free free place.frame ≡ false
+    walk_of words root page ≡ Some place → is_frame_free free place.frame ≡ false
 
 -- two pages that are mapped in either order leave the same walk of every page
 abbrev pub MappingCommutes : Type 0

@@ -3,8 +3,8 @@ use Rattle.std.specs.Prelude.{◌≡◌, ℕ, ◌+◌, ◌*◌, ◌%◌, ◌^◌
 use Rattle.paging_core.specs.Memory.{word_at}
 use Rattle.paging_core.specs.Entry.{table_entry, page_entry}
 use Rattle.paging_core.specs.Prefix.{prefix_of}
-use Rattle.paging_core.specs.Pool.{is_free, free_count, AreLowestTaken}
-use Rattle.paging_core.specs.Walk.{Place, reach, large_of, walk_of, top, granted}
+use Rattle.paging_core.specs.Pool.{is_frame_free, free_count, AreLowestTaken}
+use Rattle.paging_core.specs.Walk.{Place, reach, large_of, walk_of, top, place_with}
 use Rattle.paging_core.specs.Tree.{IsTree}
 use Rattle.paging_core.specs.Missing.{missing_of}
 use Rattle.paging_core.specs.declared.page_table.Rights.{Rights}
@@ -32,7 +32,7 @@ pub record HasExactEntries (old new : List ℕ) (root : ℕ) (rights : Rights) :
 pub record IsPageAdded (old new : List ℕ) (free free' : List Bool) (root page frame : ℕ) (rights : Rights) : Type 0 where
   pub size : length new ≡ length old
   pub flags : length free' ≡ length free
-  pub there : walk_of new root page ≡ Some (granted frame rights)
+  pub there : walk_of new root page ≡ Some (place_with frame rights)
   -- nothing else of the walk is changed: no other page, and no table that was there
   pub pages : (other : ℕ) → (other % 2 ^ 36 ≡ page % 2 ^ 36 → ⊥) → walk_of new root other ≡ walk_of old root other
   pub others : (l n : ℕ) → l ≤ 4 → (n ≡ prefix_of page l → ⊥) → reach new root l n ≡ reach old root l n
@@ -41,11 +41,11 @@ pub record IsPageAdded (old new : List ℕ) (free free' : List Bool) (root page 
   -- the frames of the new tables were free, the lowest ones, and no other frame was taken
   pub made :
       (l : ℕ) → l < 4 → reach old root l (prefix_of page l) ≡ None →
-      (table : ℕ) × (reach new root l (prefix_of page l) ≡ Some (top table)) × (is_free free table ≡ true)
-  pub fewer : (f : ℕ) → is_free free f ≡ false → is_free free' f ≡ false
+      (table : ℕ) × (reach new root l (prefix_of page l) ≡ Some (top table)) × (is_frame_free free table ≡ true)
+  pub fewer : (f : ℕ) → is_frame_free free f ≡ false → is_frame_free free' f ≡ false
   pub lowest : AreLowestTaken free free'
   pub kept :
-      (f : ℕ) → is_free free f ≡ true → ((l : ℕ) → l < 4 → reach new root l (prefix_of page l) ≡ Some (top f) → ⊥) → is_free free' f ≡ true
+      (f : ℕ) → is_frame_free free f ≡ true → ((l : ℕ) → l < 4 → reach new root l (prefix_of page l) ≡ Some (top f) → ⊥) → is_frame_free free' f ≡ true
   pub count : free_count free' + missing_of old root page 1 ≡ free_count free
   -- no word outside the page's tables is changed, and in them no more than the new entries need
   pub words :
@@ -55,9 +55,9 @@ pub record IsPageAdded (old new : List ℕ) (free free' : List Bool) (root page 
 -- A page of a range that was added: it is found with the rights, at a frame that was free and is 0.
 pub record IsNewPage (new : List ℕ) (free free' : List Bool) (root page : ℕ) (rights : Rights) : Type 0 where
   pub frame : ℕ
-  pub found : walk_of new root page ≡ Some (granted frame rights)
-  pub was_free : is_free free frame ≡ true
-  pub taken : is_free free' frame ≡ false
+  pub found : walk_of new root page ≡ Some (place_with frame rights)
+  pub was_free : is_frame_free free frame ≡ true
+  pub taken : is_frame_free free' frame ≡ false
   pub zeros : (i : ℕ) → i < 512 → word_at new frame i ≡ 0
 
 -- The pages from `first` on were added, each at a new frame, and the tables that they missed.
@@ -75,13 +75,13 @@ pub record IsRangeAdded (old new : List ℕ) (free free' : List Bool) (root firs
   pub stayed : (l n : ℕ) (met : Place) → l ≤ 4 → reach old root l n ≡ Some met → reach new root l n ≡ Some met
   -- the frames of the new tables were free
   pub made :
-      (l n : ℕ) (met : Place) → l < 4 → reach old root l n ≡ None → reach new root l n ≡ Some met → is_free free met.frame ≡ true
+      (l n : ℕ) (met : Place) → l < 4 → reach old root l n ≡ None → reach new root l n ≡ Some met → is_frame_free free met.frame ≡ true
   -- no frame was given back, and none was taken but for what the walk meets: the lowest ones
-  pub fewer : (f : ℕ) → is_free free f ≡ false → is_free free' f ≡ false
+  pub fewer : (f : ℕ) → is_frame_free free f ≡ false → is_frame_free free' f ≡ false
   pub lowest : AreLowestTaken free free'
   pub kept :
-      (f : ℕ) → is_free free f ≡ true → ((l n : ℕ) (met : Place) → l ≤ 4 → reach new root l n ≡ Some met → met.frame ≡ f → ⊥) →
-      is_free free' f ≡ true
+      (f : ℕ) → is_frame_free free f ≡ true → ((l n : ℕ) (met : Place) → l ≤ 4 → reach new root l n ≡ Some met → met.frame ≡ f → ⊥) →
+      is_frame_free free' f ≡ true
   pub count : free_count free' + pages + missing_of old root first pages ≡ free_count free
   -- the frames are handed out in the order of the pages: that of a page, then those of the tables that it misses
   pub ascending :
@@ -100,7 +100,7 @@ pub record IsRangeAdded (old new : List ℕ) (free free' : List Bool) (root firs
       (other : ℕ) (place : Place) (i : ℕ) → walk_of old root other ≡ Some place → i < 512 → word_at new place.frame i ≡ word_at old place.frame i
   -- words are changed only in frames that were taken and in tables, and there no more than the new entries need
   pub words :
-      (f i : ℕ) → i < 512 → is_free free f ≡ false → ((l n : ℕ) → l < 4 → reach old root l n ≡ Some (top f) → ⊥) →
+      (f i : ℕ) → i < 512 → is_frame_free free f ≡ false → ((l n : ℕ) → l < 4 → reach old root l n ≡ Some (top f) → ⊥) →
       word_at new f i ≡ word_at old f i
-  pub free_words : (f i : ℕ) → i < 512 → is_free free' f ≡ true → word_at new f i ≡ word_at old f i
+  pub free_words : (f i : ℕ) → i < 512 → is_frame_free free' f ≡ true → word_at new f i ≡ word_at old f i
   pub entries : HasExactEntries old new root rights

@@ -33,5 +33,5 @@ pub record AreWordsWritten (old new : List ℕ) (frame index : ℕ) (run : List 
       (f i : ℕ) → i < 512 → (f ≡ frame → index ≤ i → i < index + length run → ⊥) → word_at new f i ≡ word_at old f i
 
 -- A run of words is that of a frame, from `index` on.
-pub record AreWordsOf (words : List ℕ) (frame index : ℕ) (run : List ℕ) : Type 0 where
+pub record AreFrameWords (words : List ℕ) (frame index : ℕ) (run : List ℕ) : Type 0 where
   pub read : (k : ℕ) → k < length run → slice_index run k ≡ word_at words frame (index + k)

@@ -4,8 +4,8 @@ use Rattle.std.specs.Prelude.{◌≡◌, ℕ, ◌+◌, ◌*◌, ◌/◌, ◌<◌
 use Rattle.paging_core.specs.Address.{is_canonical, IsCanonicalRange}
 use Rattle.paging_core.specs.Area.{Area}
 use Rattle.paging_core.specs.Memory.{frame_count}
-use Rattle.paging_core.specs.Pool.{is_free, free_count, FreeIn, IsFrameTaken}
-use Rattle.paging_core.specs.Walk.{reach, large_of, walk_of, reached, granted}
+use Rattle.paging_core.specs.Pool.{is_frame_free, free_count, FreeIn, IsFrameTaken}
+use Rattle.paging_core.specs.Walk.{reach, large_of, walk_of, reached, place_with}
 use Rattle.paging_core.specs.Tree.{IsTreeIn}
 use Rattle.paging_core.specs.Missing.{missing_of}
 use Rattle.paging_core.specs.Mapping.{IsPageAdded}
@@ -23,7 +23,7 @@ pub record IsTreeAndPool (area : Area) (words : List ℕ) (root : ℕ) (free : L
 pub record IsLowestFrameTaken (free free' : List Bool) (result : Option ℕ) : Type 0 where
   pub taken : IsFrameTaken free free' result
   pub flags : length free' ≡ length free
-  pub lowest : IfSome result (λ frame. (lower : ℕ) → lower < frame → is_free free lower ≡ false)
+  pub lowest : IfSome result (λ frame. (lower : ℕ) → lower < frame → is_frame_free free lower ≡ false)
   pub count : MatchOption result (free_count free ≡ 0) (λ _. free_count free' + 1 ≡ free_count free)
 
 -- A root table that maps nothing.
@@ -56,7 +56,7 @@ pub record IsPageTakenOut (area : Area) (old new : List ℕ) (root : ℕ) (free 
 pub record IsPageRegranted (area : Area) (old new : List ℕ) (root : ℕ) (free : List Bool) (page : ℕ) (rights : Rights) : Type 0 where
   pub tree : IsTreeIn area new root free
   pub pages : ArePagesChanged old new root (regrant rights) (only page)
-  pub granted : IfSome (walk_of old root page) (λ place. walk_of new root page ≡ Some (granted place.frame rights))
+  pub granted : IfSome (walk_of old root page) (λ place. walk_of new root page ≡ Some (place_with place.frame rights))
   pub elsewhere : (other : ℕ) → IsTrue (is_canonical (other * 4096)) → (other ≡ page → ⊥) → walk_of new root other ≡ walk_of old root other
   pub bytes : (address : ℕ) → reached new root address ≡ reached old root address
 
@@ -81,7 +81,7 @@ pub record IsRangeTakenOut (old new : List ℕ) (root first pages : ℕ) : Type 
 pub record IsRangeRegranted (old new : List ℕ) (root first pages : ℕ) (rights : Rights) : Type 0 where
   pub granted :
       (k : ℕ) → k < pages →
-      IfSome (walk_of old root (first + k)) (λ place. walk_of new root (first + k) ≡ Some (granted place.frame rights))
+      IfSome (walk_of old root (first + k)) (λ place. walk_of new root (first + k) ≡ Some (place_with place.frame rights))
   pub elsewhere :
       (other : ℕ) → IsTrue (is_canonical (other * 4096)) → ((k : ℕ) → k < pages → other ≡ first + k → ⊥) →
       walk_of new root other ≡ walk_of old root other

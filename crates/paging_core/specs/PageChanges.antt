@@ -4,8 +4,8 @@ use Rattle.std.specs.Prelude.{◌≡◌, ℕ, ◌+◌, ◌*◌, ◌%◌, ◌<◌
 use Rattle.paging_core.specs.Memory.{word_at}
 use Rattle.paging_core.specs.Entry.{page_entry}
 use Rattle.paging_core.specs.Prefix.{prefix_of}
-use Rattle.paging_core.specs.Pool.{is_free}
-use Rattle.paging_core.specs.Walk.{Place, reach, large_of, walk_of, top, granted}
+use Rattle.paging_core.specs.Pool.{is_frame_free}
+use Rattle.paging_core.specs.Walk.{Place, reach, large_of, walk_of, top, place_with}
 use Rattle.paging_core.specs.declared.page_table.Rights.{Rights}
 
 -- What becomes of a page that led to a place: the word of its entry, and where the page leads then.
@@ -19,7 +19,7 @@ removal = record { entry = λ place. 0; leads = λ place. None }
 
 -- the page keeps its frame, and has these rights
 abbrev pub regrant : Rights → Change
-regrant rights = record { entry = λ place. page_entry place.frame rights; leads = λ place. Some (granted place.frame rights) }
+regrant rights = record { entry = λ place. page_entry place.frame rights; leads = λ place. Some (place_with place.frame rights) }
 
 -- The page leads to the frame.
 pub record IsFrameOf (words : List ℕ) (root page frame : ℕ) : Type 0 where
@@ -72,7 +72,7 @@ among first pages n = not (nat_lt n (prefix_of first 4)) && nat_lt n (prefix_of 
 pub record ArePagesFreed (old new : List ℕ) (free free' : List Bool) (root : ℕ) (gone : ℕ → Bool) : Type 0 where
   pub removed : ArePagesChanged old new root removal gone
   pub flags : length free' ≡ length free
-  pub given : (n : ℕ) (place : Place) → gone n ≡ true → reach old root 4 n ≡ Some place → is_free free' place.frame ≡ true
+  pub given : (n : ℕ) (place : Place) → gone n ≡ true → reach old root 4 n ≡ Some place → is_frame_free free' place.frame ≡ true
   pub kept :
       (f : ℕ) → ((n : ℕ) (place : Place) → gone n ≡ true → reach old root 4 n ≡ Some place → place.frame ≡ f → ⊥) →
-      is_free free' f ≡ is_free free f
+      is_frame_free free' f ≡ is_frame_free free f

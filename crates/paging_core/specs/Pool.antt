@@ -2,29 +2,29 @@
 use Rattle.std.specs.Prelude.{◌≡◌, ℕ, ◌<◌, Bool, true, false, List, set, count_by, slice_index_or, Option, Some, None}
 use Rattle.paging_core.specs.Area.{Area, in_area, Whole, Part}
 
-abbrev pub is_free : List Bool → ℕ → Bool
-is_free free frame = slice_index_or free frame false
+abbrev pub is_frame_free : List Bool → ℕ → Bool
+is_frame_free free frame = slice_index_or free frame false
 
 abbrev pub free_count : List Bool → ℕ
 free_count free = count_by (λ flag. flag) free
 
 -- the free frames are below the count
 abbrev pub FreeBelow : List Bool → ℕ → Type 0
-FreeBelow free count = (frame : ℕ) → is_free free frame ≡ true → frame < count
+FreeBelow free count = (frame : ℕ) → is_frame_free free frame ≡ true → frame < count
 
 -- the free frames lie in the area, and below the count
 abbrev pub FreeIn : Area → List Bool → ℕ → Type 0
 FreeIn Whole free count = FreeBelow free count
-FreeIn (Part first end) free count = (frame : ℕ) → is_free free frame ≡ true → (in_area (Part first end) frame ≡ true) × (frame < count)
+FreeIn (Part first end) free count = (frame : ℕ) → is_frame_free free frame ≡ true → (in_area (Part first end) frame ≡ true) × (frame < count)
 
 -- a frame was taken that was free, or none is free
 abbrev pub IsFrameTaken : List Bool → List Bool → Option ℕ → Type 0
-IsFrameTaken free free' None = (free' ≡ free) × ((frame : ℕ) → is_free free frame ≡ false)
-IsFrameTaken free free' (Some frame) = (is_free free frame ≡ true) × (free' ≡ set free frame false)
+IsFrameTaken free free' None = (free' ≡ free) × ((frame : ℕ) → is_frame_free free frame ≡ false)
+IsFrameTaken free free' (Some frame) = (is_frame_free free frame ≡ true) × (free' ≡ set free frame false)
 
 -- the frames that were taken are the lowest that were free
 abbrev pub AreLowestTaken : List Bool → List Bool → Type 0
-AreLowestTaken free free' = (f g : ℕ) → is_free free f ≡ true → is_free free' f ≡ false → is_free free' g ≡ true → f < g
+AreLowestTaken free free' = (f g : ℕ) → is_frame_free free f ≡ true → is_frame_free free' f ≡ false → is_frame_free free' g ≡ true → f < g
 
 -- a frame was handed out
 abbrev pub IsOut : List Bool → ℕ → Type 0

@@ -8,14 +8,14 @@ use Rattle.paging_core.specs.declared.processor_access.AccessKind.{AccessKind}
 use Rattle.paging_core.specs.declared.processor_access.AccessKind.TheVariants.{Read, Write, Fetch}
 
 -- whether the rights of the page grant an access of the kind; reading is always granted
-abbrev pub grants : Place → AccessKind → Bool
-grants place Read = true
-grants place Write = place.write
-grants place Fetch = place.fetch
+abbrev pub place_grants : Place → AccessKind → Bool
+place_grants place Read = true
+place_grants place Write = place.write
+place_grants place Fetch = place.fetch
 
 -- whether the access is granted: one by the user needs the user's right too
 abbrev pub permits : Place → AccessKind → Bool → Bool
-permits place kind user = grants place kind && (not user || place.user)
+permits place kind user = place_grants place kind && (not user || place.user)
 
 -- what the code says of the access: bit 1 that it is a write, bit 4 that it is a fetch
 abbrev pub kind_bit : AccessKind → ℕ

@@ -4,7 +4,7 @@
 use Rattle.std.specs.Prelude.{ℕ, ◌+◌, ◌*◌, ◌/◌, ◌%◌, ◌^◌, Bool, true, false, not, ◌==◌, ◌&&◌, ◌||◌, if◌then◌else◌, List, Option, Some, None}
 use Rattle.paging_core.specs.Memory.{word_at}
 use Rattle.paging_core.specs.Entry.{has_bit, frame_of}
-use Rattle.paging_core.specs.Walk.{Place, named, top, place_of}
+use Rattle.paging_core.specs.Walk.{Place, named, top, mapped_place}
 use Rattle.paging_core.specs.declared.processor_walk.Translated.{Translated}
 use Rattle.paging_core.specs.declared.processor_walk.Translated.TheVariants.{Page, NotPresent as IsAbsent, Reserved as IsReserved}
 
@@ -59,7 +59,7 @@ processor_walk width words root page =
 
 -- how the walk ended by the answer of `translate`
 abbrev pub outcome_of : Translated → Outcome
-outcome_of (Page mapped) = AtPage (place_of mapped)
+outcome_of (Page mapped) = AtPage (mapped_place mapped)
 outcome_of (IsAbsent step) = NotPresent step
 outcome_of (IsReserved step) = Reserved step
 

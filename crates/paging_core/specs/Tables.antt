@@ -3,14 +3,14 @@ use Rattle.std.specs.Prelude.{◌≡◌, ℕ, suc, zero, ◌+◌, ◌*◌, ◌%�
 use Rattle.paging_core.specs.Memory.{word_at, cleared}
 use Rattle.paging_core.specs.Entry.{table_entry}
 use Rattle.paging_core.specs.Prefix.{prefix_of}
-use Rattle.paging_core.specs.Pool.{is_free, free_count, AreLowestTaken}
+use Rattle.paging_core.specs.Pool.{is_frame_free, free_count, AreLowestTaken}
 use Rattle.paging_core.specs.Walk.{Place, reach, large_of, top}
 
 -- a free frame was cleared, and is named as a table by an entry
 pub record IsTableMade (old new : List ℕ) (free free' : List Bool) (table index made : ℕ) : Type 0 where
   pub bounded : made < 2 ^ 40
-  pub was_free : is_free free made ≡ true
-  pub lowest : (g : ℕ) → g < made → is_free free g ≡ false
+  pub was_free : is_frame_free free made ≡ true
+  pub lowest : (g : ℕ) → g < made → is_frame_free free g ≡ false
   pub taken : free' ≡ set free made false
   pub words : new ≡ set (cleared old made) (512 * table + index) (table_entry made)
 
@@ -41,11 +41,11 @@ pub record IsPrepared (old new : List ℕ) (free free' : List Bool) (root page l
   -- the frames of the new tables were free, and no other frame was taken
   pub made :
       (l : ℕ) (met : Place) → l ≤ level → reach old root l (prefix_of page l) ≡ None → reach new root l (prefix_of page l) ≡ Some met →
-      is_free free met.frame ≡ true
-  pub fewer : (f : ℕ) → is_free free f ≡ false → is_free free' f ≡ false
+      is_frame_free free met.frame ≡ true
+  pub fewer : (f : ℕ) → is_frame_free free f ≡ false → is_frame_free free' f ≡ false
   pub lowest : AreLowestTaken free free'
   pub kept :
-      (f : ℕ) → is_free free f ≡ true → ((l : ℕ) → l ≤ level → reach new root l (prefix_of page l) ≡ Some (top f) → ⊥) → is_free free' f ≡ true
+      (f : ℕ) → is_frame_free free f ≡ true → ((l : ℕ) → l ≤ level → reach new root l (prefix_of page l) ≡ Some (top f) → ⊥) → is_frame_free free' f ≡ true
   pub count : free_count free' + missing_past old root page 0 ≡ free_count free + missing_past old root page level
   -- words are changed only in tables of the page
   pub words :

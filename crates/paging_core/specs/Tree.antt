@@ -1,7 +1,7 @@
 -- The tables that the walk meets form a tree of plain entries.
 use Rattle.std.specs.Prelude.{◌≡◌, ℕ, ◌<◌, ◌+◌, ◌≤◌, Bool, true, false, List, Some}
 use Rattle.paging_core.specs.Area.{Area, in_area, Whole, Part}
-use Rattle.paging_core.specs.Pool.{is_free}
+use Rattle.paging_core.specs.Pool.{is_frame_free}
 use Rattle.paging_core.specs.Walk.{Place, reach, top}
 use Rattle.paging_core.specs.Plain.{ArePlain}
 
@@ -16,7 +16,7 @@ pub record IsTreeIn (area : Area) (words : List ℕ) (root : ℕ) (free : List B
       (level ≡ level') × (number ≡ number')
   -- no frame that is met is free
   pub used :
-      (level number : ℕ) (met : Place) → level ≤ 4 → reach words root level number ≡ Some met → is_free free met.frame ≡ false
+      (level number : ℕ) (met : Place) → level ≤ 4 → reach words root level number ≡ Some met → is_frame_free free met.frame ≡ false
   -- no bit is set but those that are written here
   pub plain : ArePlain words root
   -- each table lies in the area

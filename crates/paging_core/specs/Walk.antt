@@ -92,9 +92,9 @@ reached words root address =
     option_map (λ place. byte_of (word_at words place.frame (address % 4096 / 8)) (address % 8)) (walk_of words root (address / 4096))
 
 -- a frame with these rights
-abbrev pub granted : ℕ → Rights → Place
-granted frame rights = record { frame = frame; write = rights.write; user = rights.user; fetch = rights.fetch }
+abbrev pub place_with : ℕ → Rights → Place
+place_with frame rights = record { frame = frame; write = rights.write; user = rights.user; fetch = rights.fetch }
 
 -- the place of an answer of `walk`
-abbrev pub place_of : Mapped → Place
-place_of mapped = record { frame = mapped.frame; write = mapped.write; user = mapped.user; fetch = mapped.fetch }
+abbrev pub mapped_place : Mapped → Place
+mapped_place mapped = record { frame = mapped.frame; write = mapped.write; user = mapped.user; fetch = mapped.fetch }

@@ -1,6 +1,6 @@
 ghost use Rattle.std.specs.Prelude.{◌≡◌, ℕ, ◌+◌, ◌-◌, ◌*◌, ◌/◌, ◌%◌, ◌<◌, ◌≤◌, IsSome, IfSome, Some, length, List, Bool, set, IsTrue, slice_index};
 ghost use Rattle.paging_core.specs.Address.{is_canonical};
-ghost use Rattle.paging_core.specs.Memory.{frame_count, word_at, byte_of, IsFrameCopied, AreWordsWritten, AreWordsOf};
+ghost use Rattle.paging_core.specs.Memory.{frame_count, word_at, byte_of, IsFrameCopied, AreWordsWritten, AreFrameWords};
 ghost use Rattle.paging_core.specs.Walk.{walk_of, reached};
 ghost use Rattle.paging_core.specs.Stores.{KeepsTables, IsWordPut};
 ghost use Rattle.paging_core.specs.Tree.{IsTree};
@@ -60,7 +60,7 @@ pub fn load_words(frames: &Frames, root: PhysFrame, page: Page, index: u16, word
     requires root { root < frame_count frames.now }
     requires mapped { IsSome (walk_of frames.now root page) }
     requires fits { index + length words.old ≤ 512 }
-    ensures words { IfSome (walk_of frames.now root page) (λ place. AreWordsOf frames.now place.frame index words.new) }
+    ensures words { IfSome (walk_of frames.now root page) (λ place. AreFrameWords frames.now place.frame index words.new) }
     ensures length { length words.new ≡ length words.old }
     ensures bytes { (address : ℕ) → address / 4096 ≡ page → index ≤ address % 4096 / 8 → address % 4096 / 8 < index + length words.new →
         reached frames.now root address ≡ Some (byte_of (slice_index words.new (address % 4096 / 8 - index)) (address % 8)) }

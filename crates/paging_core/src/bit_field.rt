@@ -1,7 +1,7 @@
 //! Fields of words: the bits from one place up to another.
 
 ghost use Rattle.std.specs.Prelude.{◌≡◌, ℕ, ◌-◌, ◌^◌, ◌<◌, ◌≤◌};
-ghost use Rattle.paging_core.specs.Field.{field_of, with_field, ReplacesField};
+ghost use Rattle.paging_core.specs.Field.{field_of, with_bit_field, ReplacesField};
 
 /// The ones of the bits `low` up to `high`, `high` excluded.
 fn mask(low: u32, high: u32) -> u64
@@ -27,7 +27,7 @@ pub fn set_bits(word: u64, low: u32, high: u32, value: u64) -> u64
     requires order { low < high }
     requires within { high ≤ 64 }
     requires fits { value < 2 ^ (high - low) }
-    ensures value { result ≡ with_field word low high value }
+    ensures value { result ≡ with_bit_field word low high value }
     ensures bits { ReplacesField word result low high value }
 {
     word & !mask(low, high) | value << low

@@ -4,8 +4,8 @@ ghost use Rattle.paging_core.specs.Address.{is_canonical, IsCanonicalRange};
 ghost use Rattle.paging_core.specs.Area.{in_area, Whole};
 ghost use Rattle.paging_core.specs.Memory.{frame_count, word_at};
 ghost use Rattle.paging_core.specs.Entry.{page_entry};
-ghost use Rattle.paging_core.specs.Walk.{reach, large_of, walk_of, reached, place_of};
-ghost use Rattle.paging_core.specs.Pool.{is_free, free_count, FreeBelow, FreeIn, IsOut};
+ghost use Rattle.paging_core.specs.Walk.{reach, large_of, walk_of, reached, mapped_place};
+ghost use Rattle.paging_core.specs.Pool.{is_frame_free, free_count, FreeBelow, FreeIn, IsOut};
 ghost use Rattle.paging_core.specs.Runs.{IsRunFree};
 ghost use Rattle.paging_core.specs.Tree.{IsTree, IsTreeIn, IsRunUnmet};
 ghost use Rattle.paging_core.specs.Missing.{missing_of};
@@ -59,7 +59,7 @@ pub fn map_large<M: PhysicalMemory, P: TableFrames>(
     requires tree { IsTreeIn (M.area frames.old) (M.words frames.old) root (P.free pool.old) }
     requires empty { IsSlotEmpty (M.words frames.old) root page }
     requires frame { 512 * frame + 511 < frame_count (M.words frames.old) }
-    requires used { (k : ℕ) → k < 512 → is_free (P.free pool.old) (512 * frame + k) ≡ false }
+    requires used { (k : ℕ) → k < 512 → is_frame_free (P.free pool.old) (512 * frame + k) ≡ false }
     requires unmet { IsRunUnmet (M.area frames.old) (M.words frames.old) root (512 * frame) }
     requires room { missing_above (M.words frames.old) root page ≤ free_count (P.free pool.old) }
     requires before { (now : List ℕ) → IsStill (M.area frames.old) (M.words frames.old) root now → M.allows now }
@@ -127,7 +127,7 @@ pub fn large_page<M: PhysicalMemory>(
     page: Page<Size2MiB>,
 ) -> Option<Mapped>
     requires root { root < frame_count (M.words frames.now) }
-    ensures { option_map place_of result ≡ large_of (M.words frames.now) root (slot_of page) }
+    ensures { option_map mapped_place result ≡ large_of (M.words frames.now) root (slot_of page) }
 {
     let first = first_page(page);
     let at = descend(frames, root, first, 2)?;
@@ -158,7 +158,7 @@ pub(crate) fn large_entry<M: PhysicalMemory>(
 ) -> LargeEntry
     requires root { root < frame_count (M.words frames.now) }
     requires large { IsSome (large_of (M.words frames.now) root (slot_of page)) }
-    ensures entry { IsLargeEntry (M.words frames.now) root page result.table result.index (place_of result.large) }
+    ensures entry { IsLargeEntry (M.words frames.now) root page result.table result.index (mapped_place result.large) }
     ensures inside { in_area (M.area frames.now) result.table ≡ true }
     ensures table { result.table < frame_count (M.words frames.now) }
     ensures index { result.index < 512 }
@@ -240,8 +240,8 @@ fn free_frames(pool: &mut FramePool, first: PhysFrame, count: u64)
     requires first { first + count < 2 ^ 40 }
     requires out { (k : ℕ) → k < count → IsOut pool.old (first + k) }
     ensures flags { length pool.new ≡ length pool.old }
-    ensures given { (k : ℕ) → k < count → is_free pool.new (first + k) ≡ true }
-    ensures kept { (f : ℕ) → ((k : ℕ) → k < count → f ≡ first + k → ⊥) → is_free pool.new f ≡ is_free pool.old f }
+    ensures given { (k : ℕ) → k < count → is_frame_free pool.new (first + k) ≡ true }
+    ensures kept { (f : ℕ) → ((k : ℕ) → k < count → f ≡ first + k → ⊥) → is_frame_free pool.new f ≡ is_frame_free pool.old f }
     ensures count { free_count pool.new ≡ free_count pool.old + count }
 {
     for step in 0..count {

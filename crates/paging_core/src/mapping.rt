@@ -4,7 +4,7 @@ ghost use Rattle.paging_core.specs.Area.{in_area};
 ghost use Rattle.paging_core.specs.Entry.{page_entry};
 ghost use Rattle.paging_core.specs.Memory.{frame_count};
 ghost use Rattle.paging_core.specs.Walk.{walk_of};
-ghost use Rattle.paging_core.specs.Pool.{is_free, free_count, FreeIn};
+ghost use Rattle.paging_core.specs.Pool.{is_frame_free, free_count, FreeIn};
 ghost use Rattle.paging_core.specs.Tree.{IsTreeIn, IsUnmet};
 ghost use Rattle.paging_core.specs.Missing.{missing_of};
 ghost use Rattle.paging_core.specs.Moments.{IsStill};
@@ -49,7 +49,7 @@ pub fn map_at<M: PhysicalMemory>(
     ensures known { (free : List Bool) → FreeIn (M.area frames.old) free (frame_count (M.words frames.old)) → FreeIn (M.area frames.new) free (frame_count (M.words frames.new)) }
 
     // If the tables are a tree beside some free frames, and the frame is none of these, they stay one.
-    ensures mapped { (free : List Bool) → IsTreeIn (M.area frames.old) (M.words frames.old) root free → is_free free frame ≡ false →
+    ensures mapped { (free : List Bool) → IsTreeIn (M.area frames.old) (M.words frames.old) root free → is_frame_free free frame ≡ false →
         IsPagePut (M.area frames.new) (M.words frames.old) (M.words frames.new) root free page frame rights }
 {
     let _canonical = page.number();
@@ -75,7 +75,7 @@ pub fn map_page<M: PhysicalMemory, P: TableFrames>(
     requires tree { IsTreeIn (M.area frames.old) (M.words frames.old) root (P.free pool.old) }
     requires unmapped { walk_of (M.words frames.old) root page ≡ None }
     requires frame { frame < frame_count (M.words frames.old) }
-    requires used { is_free (P.free pool.old) frame ≡ false }
+    requires used { is_frame_free (P.free pool.old) frame ≡ false }
     requires unmet { IsUnmet (M.area frames.old) (M.words frames.old) root frame }
     requires room { missing_of (M.words frames.old) root page 1 ≤ free_count (P.free pool.old) }
     requires before { (now : List ℕ) → IsStill (M.area frames.old) (M.words frames.old) root now → M.allows now }

@@ -1,6 +1,6 @@
 ghost use Rattle.std.specs.Prelude.{◌≡◌, ℕ, ◌+◌, ◌-◌, ◌*◌, ◌/◌, ◌%◌, ◌^◌, ◌<◌, ◌≤◌, ◌++◌, IfOk, length, replicate, List, set};
 ghost use Rattle.std.specs.Vec.{vec_len, vec_capacity};
-ghost use Rattle.paging_core.specs.Memory.{word_at, frame_count, cleared, IsFrameCopied, AreWordsWritten, AreWordsOf};
+ghost use Rattle.paging_core.specs.Memory.{word_at, frame_count, cleared, IsFrameCopied, AreWordsWritten, AreFrameWords};
 
 use crate::phys_frames::PhysFrame;
 use std::alloc::{AllocError, Global};
@@ -128,7 +128,7 @@ impl Frames {
     pub fn read_words(&self, frame: PhysFrame, index: u16, words: &mut [u64])
         requires frame { frame < frame_count self.now }
         requires fits { index + length words.old ≤ 512 }
-        ensures read { AreWordsOf self.now frame index words.new }
+        ensures read { AreFrameWords self.now frame index words.new }
         ensures length { length words.new ≡ length words.old }
     {
         let base = 512 * frame.number() as usize;

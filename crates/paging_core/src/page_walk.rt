@@ -3,7 +3,7 @@ ghost use Rattle.std.specs.Option.{option_map};
 ghost use Rattle.paging_core.specs.Area.{in_area};
 ghost use Rattle.paging_core.specs.Memory.{frame_count};
 ghost use Rattle.paging_core.specs.Prefix.{prefix_of};
-ghost use Rattle.paging_core.specs.Walk.{is_present, is_run, named, step, large_step, page_in, reach, walk_of, place_of};
+ghost use Rattle.paging_core.specs.Walk.{is_present, is_run, named, step, large_step, page_in, reach, walk_of, mapped_place};
 ghost use Rattle.paging_core.specs.Address.{is_canonical};
 ghost use Rattle.paging_core.specs.PageChanges.{IsFrameOf, IsLastEntry};
 
@@ -54,7 +54,7 @@ impl Mapped {
 
 /// What the entry names, from a place, be it present and its frame there or not.
 pub(crate) fn led(from: Mapped, entry: PageTableEntry) -> Mapped
-    ensures { place_of result ≡ named (place_of from) entry }
+    ensures { mapped_place result ≡ named (mapped_place from) entry }
 {
     Mapped {
         frame: entry.frame(),
@@ -71,7 +71,7 @@ pub(crate) fn follow<M: PhysicalMemory>(
     from: Mapped,
     entry: PageTableEntry,
 ) -> Option<Mapped>
-    ensures led { option_map place_of result ≡ (if is_present (M.words frames.now) entry then Some (named (place_of from) entry) else None) }
+    ensures led { option_map mapped_place result ≡ (if is_present (M.words frames.now) entry then Some (named (mapped_place from) entry) else None) }
     ensures below { IfSome result (λ to. to.frame < frame_count (M.words frames.now)) }
 {
     if !entry.is_present() {
@@ -96,7 +96,7 @@ pub(crate) fn next<M: PhysicalMemory>(
 ) -> Option<Mapped>
     requires frame { from.frame < frame_count (M.words frames.now) }
     requires index { index < 512 }
-    ensures step { option_map place_of result ≡ step (M.words frames.now) level (place_of from) index }
+    ensures step { option_map mapped_place result ≡ step (M.words frames.now) level (mapped_place from) index }
     ensures inside { IfSome result (λ _. in_area (M.area frames.now) from.frame ≡ true) }
     ensures below { IfSome result (λ to. to.frame < frame_count (M.words frames.now)) }
 {
@@ -121,7 +121,7 @@ fn is_run<M: PhysicalMemory>(frames: &M, first: PhysFrame) -> bool
 pub(crate) fn large_at<M: PhysicalMemory>(frames: &M, at: Mapped, index: u16) -> Option<Mapped>
     requires frame { at.frame < frame_count (M.words frames.now) }
     requires index { index < 512 }
-    ensures step { option_map place_of result ≡ large_step (M.words frames.now) (place_of at) index }
+    ensures step { option_map mapped_place result ≡ large_step (M.words frames.now) (mapped_place at) index }
     ensures inside { IfSome result (λ _. in_area (M.area frames.now) at.frame ≡ true) }
     ensures bounded { IfSome result (λ large. large.frame + 512 < 2 ^ 40) }
 {
@@ -139,7 +139,7 @@ pub(crate) fn large_at<M: PhysicalMemory>(frames: &M, at: Mapped, index: u16) ->
 pub(crate) fn in_run<M: PhysicalMemory>(frames: &M, large: Mapped, index: u16) -> Option<Mapped>
     requires index { index < 512 }
     requires below { large.frame < frame_count (M.words frames.now) }
-    ensures page { option_map place_of result ≡ (if is_run (M.words frames.now) large.frame then Some (page_in index (place_of large)) else None) }
+    ensures page { option_map mapped_place result ≡ (if is_run (M.words frames.now) large.frame then Some (page_in index (mapped_place large)) else None) }
     ensures below { IfSome result (λ page. page.frame < frame_count (M.words frames.now)) }
 {
     if !is_run(frames, large.frame) {
@@ -160,7 +160,7 @@ pub(crate) fn descend<M: PhysicalMemory>(
 ) -> Option<Mapped>
     requires root { root < frame_count (M.words frames.now) }
     requires levels { levels ≤ 3 }
-    ensures reach { option_map place_of result ≡ reach (M.words frames.now) root levels (prefix_of page levels) }
+    ensures reach { option_map mapped_place result ≡ reach (M.words frames.now) root levels (prefix_of page levels) }
     ensures below { IfSome result (λ at. at.frame < frame_count (M.words frames.now)) }
 {
     let mut at = Mapped::full(root);
@@ -174,7 +174,7 @@ pub(crate) fn descend<M: PhysicalMemory>(
 /// them is not present, or the frames of the large page are not there.
 pub fn walk<M: PhysicalMemory>(frames: &M, root: PhysFrame, page: Page) -> Option<Mapped>
     requires { root < frame_count (M.words frames.now) }
-    ensures found { option_map place_of result ≡ walk_of (M.words frames.now) root page }
+    ensures found { option_map mapped_place result ≡ walk_of (M.words frames.now) root page }
     ensures below { IfSome result (λ mapped. mapped.frame < frame_count (M.words frames.now)) }
 {
     match end_of_walk(frames, root, page) {

@@ -1,5 +1,5 @@
 ghost use Rattle.std.specs.Prelude.{◌≡◌, ℕ, ◌+◌, ◌*◌, ◌/◌, ◌<◌, ◌≤◌, ◌^◌, IfOk, IfSome, MatchOption, replicate, List, Bool, true, false, length, set};
-ghost use Rattle.paging_core.specs.Pool.{is_free, free_count, FreeBelow, IsFrameTaken, IsOut, IsFrameGiven};
+ghost use Rattle.paging_core.specs.Pool.{is_frame_free, free_count, FreeBelow, IsFrameTaken, IsOut, IsFrameGiven};
 ghost use Rattle.paging_core.specs.Runs.{whole_runs, IsRunFree, IsRunOut, IsRunSet, IsRunTaken};
 
 use crate::addr::PhysAddr;
@@ -26,13 +26,13 @@ pub struct FramePool {
 
 impl Model for FramePool {
     ghost use Rattle.std.specs.Prelude.{Bool, List};
-    ghost use Rattle.paging_core.specs.Runs.{IsCounted};
+    ghost use Rattle.paging_core.specs.Runs.{AreRunsCounted};
 
     ghost Value = { List Bool };
 
     ghost view = { λ p. p.free };
 
-    ghost invariant = { λ p. IsCounted p.free p.whole p.counts.items };
+    ghost invariant = { λ p. AreRunsCounted p.free p.whole p.counts.items };
 }
 
 impl FramePool {
@@ -66,7 +66,7 @@ impl FramePool {
 
     /// The frame is no longer free.
     fn take(&mut self, number: u32)
-        requires { is_free self.old number ≡ true }
+        requires { is_frame_free self.old number ≡ true }
         ensures { self.new ≡ set self.old number false }
     {
         let run = number / RUN;
@@ -98,7 +98,7 @@ impl FrameAllocator<Size4KiB> for FramePool {
     fn allocate_frame(&mut self) -> Option<PhysFrame>
         ensures taken { IsFrameTaken self.old self.new result }
         ensures count { MatchOption result (free_count self.old ≡ 0) (λ _. free_count self.new + 1 ≡ free_count self.old) }
-        ensures lowest { IfSome result (λ frame. (lower : ℕ) → lower < frame → is_free self.old lower ≡ false) }
+        ensures lowest { IfSome result (λ frame. (lower : ℕ) → lower < frame → is_frame_free self.old lower ≡ false) }
     {
         let number = self.free.lowest()?;
         self.take(number);

@@ -1,6 +1,6 @@
 // An access to a byte, as a processor checks it after its walk.
 ghost use Rattle.std.specs.Prelude.{◌≡◌, IfOk, IfErr, Ok, Err};
-ghost use Rattle.paging_core.specs.Walk.{place_of};
+ghost use Rattle.paging_core.specs.Walk.{mapped_place};
 ghost use Rattle.paging_core.specs.ProcessorAccess.{permits, kind_bit, fault_code, access_of};
 ghost use Rattle.x86_flags.specs.PageFaultErrorCode.{page_fault_bits};
 
@@ -26,7 +26,7 @@ pub enum AccessKind {
 
 /// Whether the rights of the page grant the access.
 fn permits(mapped: Mapped, kind: AccessKind, user: bool) -> bool
-    ensures { result ≡ permits (place_of mapped) kind user }
+    ensures { result ≡ permits (mapped_place mapped) kind user }
 {
     let granted = match kind {
         AccessKind::Read => true,

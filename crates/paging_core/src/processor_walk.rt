@@ -1,7 +1,7 @@
 // The walk of a processor, over any words.
 ghost use Rattle.std.specs.Prelude.{◌≡◌, ℕ, ◌*◌, ◌/◌, ◌^◌, ◌<◌, ◌⊎◌, ◌==◌, not, IfSome, IfNone};
 ghost use Rattle.paging_core.specs.Memory.{word_at};
-ghost use Rattle.paging_core.specs.Walk.{place_of};
+ghost use Rattle.paging_core.specs.Walk.{mapped_place};
 ghost use Rattle.paging_core.specs.ProcessorWalk.{Outcome, is_malformed, past, within, processor_walk, outcome_of};
 
 use crate::addr::PhysAddr;
@@ -71,7 +71,7 @@ fn ending(width: u8, step: u8, entry: PageTableEntry) -> Option<Translated>
 /// The page's place in `count` pages that are mapped as one, which begin at a multiple of their count.
 fn within(count: u64, page: Page, mapped: Mapped) -> Mapped
     requires { (count ≡ 2 ^ 18) ⊎ (count ≡ 2 ^ 9) }
-    ensures { place_of result ≡ within count page (place_of mapped) }
+    ensures { mapped_place result ≡ within count page (mapped_place mapped) }
 {
     let number = mapped.frame.number();
     let first = PhysFrame::containing_address(PhysAddr::new(number / count * count * 4096));

@@ -4,7 +4,7 @@ ghost use Rattle.paging_core.specs.Area.{in_area};
 ghost use Rattle.paging_core.specs.Entry.{page_entry};
 ghost use Rattle.paging_core.specs.Memory.{frame_count};
 ghost use Rattle.paging_core.specs.Prefix.{prefix_of};
-ghost use Rattle.paging_core.specs.Walk.{reach, walk_of, granted};
+ghost use Rattle.paging_core.specs.Walk.{reach, walk_of, place_with};
 ghost use Rattle.paging_core.specs.Tree.{IsTreeIn, HasTreeIn};
 ghost use Rattle.paging_core.specs.PageChanges.{regrant, IsFrameOf, IsPageChanged, ArePagesChanged, among};
 ghost use Rattle.paging_core.specs.WalkEnd.{IsEntryOf};

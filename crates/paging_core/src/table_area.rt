@@ -1,5 +1,5 @@
 ghost use Rattle.std.specs.Prelude.{◌≡◌, ℕ, ◌+◌, ◌*◌, ◌/◌, ◌%◌, ◌<◌, ◌≤◌, ◌^◌, ◌↔◌, IsSome, IfSome, length};
-ghost use Rattle.paging_core.specs.Area.{Part, in_area, area_meets, padded};
+ghost use Rattle.paging_core.specs.Area.{Part, in_area, area_meets, with_zeros_around};
 
 use crate::phys_frames::PhysFrame;
 use crate::physical_memory::PhysicalMemory;
@@ -17,11 +17,11 @@ pub struct TableArea<'a> {
 
 impl<'a> Model for TableArea<'a> {
     ghost use Rattle.std.specs.Prelude.{◌≡◌, ◌+◌, ◌*◌, ◌<◌, ◌≤◌, ◌^◌, length};
-    ghost use Rattle.paging_core.specs.Area.{AreaWords, Part, padded};
+    ghost use Rattle.paging_core.specs.Area.{AreaWords, Part, with_zeros_around};
 
     ghost Value = { AreaWords };
 
-    ghost view = { λ a. record { words = padded a.words.now a.first a.limit; area = Part a.first a.end } };
+    ghost view = { λ a. record { words = with_zeros_around a.words.now a.first a.limit; area = Part a.first a.end } };
 
     ghost invariant = { λ a. (512 * a.first + length a.words.now ≡ 512 * a.end) × (a.end ≤ a.limit) × (a.limit < 2 ^ 40) × (a.first < a.end) };
 }
@@ -34,7 +34,7 @@ impl<'a> TableArea<'a> {
     /// the limit is not below 2^40, the number of frames that an entry can name.
     pub fn over(words: &'a mut [u64], first: u64, limit: u64) -> Option<TableArea<'a>>
         ensures some { IsSome result ↔ ((length words.entry.now % 512 ≡ 0) × (0 < length words.entry.now) × (first + length words.entry.now / 512 ≤ limit) × (limit < 2 ^ 40)) }
-        ensures value { IfSome result (λ area. area ≡ record { words = padded words.entry.now first limit; area = Part first (first + length words.entry.now / 512) }) }
+        ensures value { IfSome result (λ area. area ≡ record { words = with_zeros_around words.entry.now first limit; area = Part first (first + length words.entry.now / 512) }) }
     {
         let count = words.len() as u64;
         if count == 0 || count % 512 != 0 || limit >= 1 << 40 || first > limit {

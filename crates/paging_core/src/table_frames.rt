@@ -6,7 +6,7 @@ use crate::pool::FramePool;
 /// What hands out frames for tables, the lowest that is free first.
 pub trait TableFrames {
     ghost use Rattle.std.specs.Prelude.{◌≡◌, ℕ, ◌+◌, ◌<◌, List, Bool, false, IfSome, MatchOption};
-    ghost use Rattle.paging_core.specs.Pool.{is_free, free_count, IsFrameTaken};
+    ghost use Rattle.paging_core.specs.Pool.{is_frame_free, free_count, IsFrameTaken};
 
     /// A flag for each frame, by its number: true if it is free.
     ghost free: { Self → List Bool };
@@ -16,7 +16,7 @@ pub trait TableFrames {
     fn take_frame(&mut self) -> Option<PhysFrame>
         ensures taken { IsFrameTaken (free self.old) (free self.new) result }
         ensures count { MatchOption result (free_count (free self.old) ≡ 0) (λ _. free_count (free self.new) + 1 ≡ free_count (free self.old)) }
-        ensures lowest { IfSome result (λ frame. (lower : ℕ) → lower < frame → is_free (free self.old) lower ≡ false) };
+        ensures lowest { IfSome result (λ frame. (lower : ℕ) → lower < frame → is_frame_free (free self.old) lower ≡ false) };
 }
 
 impl TableFrames for FramePool {

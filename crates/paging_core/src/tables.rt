@@ -3,7 +3,7 @@ ghost use Rattle.paging_core.specs.Area.{in_area};
 ghost use Rattle.paging_core.specs.Memory.{frame_count, cleared};
 ghost use Rattle.paging_core.specs.Prefix.{prefix_of};
 ghost use Rattle.paging_core.specs.Walk.{step, large_of, reach, top};
-ghost use Rattle.paging_core.specs.Pool.{is_free, free_count, FreeIn};
+ghost use Rattle.paging_core.specs.Pool.{is_frame_free, free_count, FreeIn};
 ghost use Rattle.paging_core.specs.Moments.{IsChangedIn, IsStill};
 ghost use Rattle.paging_core.specs.Tree.{IsTreeIn};
 ghost use Rattle.paging_core.specs.Tables.{IsTableMade, IsEnsured, IsPrepared, missing_past};
@@ -23,7 +23,7 @@ pub fn make_root<M: PhysicalMemory, P: TableFrames>(
     pool: &mut P,
 ) -> Option<PhysFrame>
     requires known { FreeIn (M.area frames.old) (P.free pool.old) (frame_count (M.words frames.old)) }
-    requires seen { (now : List ℕ) (frame : ℕ) → is_free (P.free pool.old) frame ≡ true → IsChangedIn (M.words frames.old) now frame → M.allows now }
+    requires seen { (now : List ℕ) (frame : ℕ) → is_frame_free (P.free pool.old) frame ≡ true → IsChangedIn (M.words frames.old) now frame → M.allows now }
     ensures frame { IsLowestFrameTaken (P.free pool.old) (P.free pool.new) result }
     ensures known { FreeIn (M.area frames.new) (P.free pool.new) (frame_count (M.words frames.new)) }
     ensures words { MatchOption result ((M.words frames.new) ≡ (M.words frames.old)) (λ root. (M.words frames.new) ≡ cleared (M.words frames.old) root) }
@@ -48,7 +48,7 @@ fn make_table<M: PhysicalMemory, P: TableFrames>(
     requires table { table < frame_count (M.words frames.old) }
     requires known { FreeIn (M.area frames.old) (P.free pool.old) (frame_count (M.words frames.old)) }
     requires room { 0 < free_count (P.free pool.old) }
-    requires before { (now : List ℕ) (frame : ℕ) → is_free (P.free pool.old) frame ≡ true → IsChangedIn (M.words frames.old) now frame → M.allows now }
+    requires before { (now : List ℕ) (frame : ℕ) → is_frame_free (P.free pool.old) frame ≡ true → IsChangedIn (M.words frames.old) now frame → M.allows now }
     requires seen { (now : List ℕ) (free : List Bool) (made : ℕ) → IsTableMade (M.words frames.old) now (P.free pool.old) free table index made → M.allows now }
     ensures area { M.area frames.new ≡ M.area frames.old }
     ensures made { IsTableMade (M.words frames.old) (M.words frames.new) (P.free pool.old) (P.free pool.new) table index result }
@@ -75,7 +75,7 @@ fn ensure_table<M: PhysicalMemory, P: TableFrames>(
     requires table { table < frame_count (M.words frames.old) }
     requires known { FreeIn (M.area frames.old) (P.free pool.old) (frame_count (M.words frames.old)) }
     requires room { step (M.words frames.old) level (top table) index ≡ None → 0 < free_count (P.free pool.old) }
-    requires before { (now : List ℕ) (frame : ℕ) → is_free (P.free pool.old) frame ≡ true → IsChangedIn (M.words frames.old) now frame → M.allows now }
+    requires before { (now : List ℕ) (frame : ℕ) → is_frame_free (P.free pool.old) frame ≡ true → IsChangedIn (M.words frames.old) now frame → M.allows now }
     requires seen { step (M.words frames.old) level (top table) index ≡ None → (now : List ℕ) (free : List Bool) (made : ℕ) → IsTableMade (M.words frames.old) now (P.free pool.old) free table index made → M.allows now }
     ensures area { M.area frames.new ≡ M.area frames.old }
     ensures ensured { IsEnsured (step (M.words frames.old) level (top table) index) (M.words frames.old) (M.words frames.new) (P.free pool.old) (P.free pool.new) table index result }

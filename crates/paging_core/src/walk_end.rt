@@ -1,7 +1,7 @@
 ghost use Rattle.std.specs.Prelude.{◌≡◌, ℕ, ◌<◌};
 ghost use Rattle.paging_core.specs.Memory.{frame_count};
-ghost use Rattle.paging_core.specs.Walk.{place_of};
-ghost use Rattle.paging_core.specs.WalkEnd.{IsWalkEnd, IsEndFrom, IsWithin};
+ghost use Rattle.paging_core.specs.Walk.{mapped_place};
+ghost use Rattle.paging_core.specs.WalkEnd.{IsWalkEnd, IsEndFrom, IsEndWithin};
 
 use crate::page_table::PageTableEntry;
 use crate::page_walk::{Mapped, follow, in_run, next};
@@ -42,8 +42,8 @@ fn end_from<M: PhysicalMemory>(frames: &M, at: Mapped, index: u16, last: u16) ->
     requires frame { at.frame < frame_count (M.words frames.now) }
     requires index { index < 512 }
     requires last { last < 512 }
-    ensures end { IsEndFrom (M.words frames.now) (place_of at) index last result }
-    ensures within { IsWithin (M.area frames.now) (frame_count (M.words frames.now)) result }
+    ensures end { IsEndFrom (M.words frames.now) (mapped_place at) index last result }
+    ensures within { IsEndWithin (M.area frames.now) (frame_count (M.words frames.now)) result }
 {
     let entry = PageTableEntry::from_bits(frames.word(at.frame, index));
     let Some(to) = follow(frames, at, entry) else {
@@ -69,7 +69,7 @@ fn end_from<M: PhysicalMemory>(frames: &M, at: Mapped, index: u16, last: u16) ->
 pub fn end_of_walk<M: PhysicalMemory>(frames: &M, root: PhysFrame, page: Page) -> WalkEnd
     requires { root < frame_count (M.words frames.now) }
     ensures end { IsWalkEnd (M.words frames.now) root page result }
-    ensures within { IsWithin (M.area frames.now) (frame_count (M.words frames.now)) result }
+    ensures within { IsEndWithin (M.area frames.now) (frame_count (M.words frames.now)) result }
 {
     let Some(upper) = next(frames, 0, Mapped::full(root), index_after(page, 0)) else {
         return WalkEnd::Missing(3);

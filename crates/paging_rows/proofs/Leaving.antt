@@ -3,7 +3,7 @@ use Rattle.std.proofs.Common.{◌≡◌, ℕ, ◌+◌, ◌-◌, ◌*◌, ◌/◌
 use Rattle.std.specs.Prelude.{IsSome}
 use Rattle.std.proofs.lemmas.Bool.{cases_lt}
 use Rattle.paging_core.specs.Prefix.{prefix_of}
-use Rattle.paging_core.specs.Walk.{large_of, walk_of, granted}
+use Rattle.paging_core.specs.Walk.{large_of, walk_of, place_with}
 use Rattle.paging_core.specs.declared.page_table.Rights.{Rights}
 use Rattle.page_ranges.specs.RangeMapping.{IsRangeMapped}
 use Rattle.page_ranges.specs.RangeUnmapping.{NoLargePageReachesOver}
@@ -19,7 +19,7 @@ module _ (old new : List ℕ) (free free' : List Bool) (root first pages stop fr
   part_mapped k lt =
       let p = m.mapped (from - first + k) (omega arith) in
       let e : from + k ≡ first + (from - first + k) = omega arith in
-      let is : walk_of new root (from + k) ≡ Some (granted p.frame rights) = ap (walk_of new root) e ∙ p.found in
+      let is : walk_of new root (from + k) ≡ Some (place_with p.frame rights) = ap (walk_of new root) e ∙ p.found in
       rw is refl
 
   pub part_ends : NoLargePageReachesOver new root from count

@@ -1,6 +1,6 @@
 ghost use Rattle.std.specs.Prelude.{◌≡◌, ℕ, ◌+◌, ◌*◌, ◌<◌, ◌≤◌, ◌-◌, ◌%◌, ◌/◌, ◌^◌, Bool, false, None, length};
 ghost use Rattle.paging_core.specs.Memory.{frame_count};
-ghost use Rattle.paging_core.specs.Pool.{is_free, FreeBelow};
+ghost use Rattle.paging_core.specs.Pool.{is_frame_free, FreeBelow};
 ghost use Rattle.paging_core.specs.Tree.{IsTree};
 ghost use Rattle.paging_core.specs.Walk.{reach, walk_of};
 
@@ -198,7 +198,7 @@ struct LeavingRow {
 /// Takes every frame that is free.
 fn take_all(pool: &mut FramePool)
     ensures flags { length pool.new ≡ length pool.old }
-    ensures none { (frame : ℕ) → is_free pool.new frame ≡ false }
+    ensures none { (frame : ℕ) → is_frame_free pool.new frame ≡ false }
 {
     while FrameAllocator::<Size4KiB>::allocate_frame(pool).is_some() {}
 }

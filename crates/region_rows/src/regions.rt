@@ -1,8 +1,8 @@
 //! Rows whose answers are known.
 ghost use Rattle.std.specs.Prelude.{◌≡◌, ◌*◌, ◌^◌, ◌<◌, ◌≤◌, ◌||◌, nat_le, IfSome};
 ghost use Rattle.std.specs.List.{list_all};
-ghost use Rattle.heap_model.specs.State.{end_of, is_within};
-ghost use Rattle.mapped_regions.specs.Regions.{AreHeld, IsBoundary};
+ghost use Rattle.heap_model.specs.State.{end_of_region, is_within};
+ghost use Rattle.mapped_regions.specs.Regions.{AreHeld, IsRegionBoundary};
 
 use crate::checks::same;
 use heap_model::{Region, RegionList, Rights};
@@ -143,7 +143,7 @@ fn has_page(region: &Region, page: u64) -> bool
 /// Whether the region ends at a page or before, or begins there or after it.
 fn is_missed(region: &Region, page: u64) -> bool
     requires { page < 2 ^ 35 }
-    ensures { result ≡ nat_le (end_of region.now) (4096 * page) || nat_le (4096 * page) region.now.start }
+    ensures { result ≡ nat_le (end_of_region region.now) (4096 * page) || nat_le (4096 * page) region.now.start }
 {
     region.start >= page * 4096 || region.pages <= (page * 4096 - region.start) / 4096
 }
@@ -151,7 +151,7 @@ fn is_missed(region: &Region, page: u64) -> bool
 /// Whether each region ends at a page or before, or begins there or after it.
 fn are_missed(list: &[Region], page: u64) -> bool
     requires { page < 2 ^ 35 }
-    ensures { result ≡ list_all (λ region. nat_le (end_of region) (4096 * page) || nat_le (4096 * page) region.start) list.now }
+    ensures { result ≡ list_all (λ region. nat_le (end_of_region region) (4096 * page) || nat_le (4096 * page) region.start) list.now }
 {
     list.iter().all(|region| is_missed(region, page))
 }
@@ -161,7 +161,7 @@ fn end_page(list: &[Region], page: u64) -> Option<u64>
     requires { page < 2 ^ 35 }
     ensures range { IfSome result (λ end. (page < end) × (end < 2 ^ 35)) }
     ensures held { IfSome result (λ end. AreHeld (4096 * page) (4096 * end) list.now) }
-    ensures boundary { IfSome result (λ end. IsBoundary (4096 * end) list.now) }
+    ensures boundary { IfSome result (λ end. IsRegionBoundary (4096 * end) list.now) }
 {
     let region = list.iter().find(|region| has_page(region, page))?;
     let end = (region.start / 4096).checked_add(region.pages)?;

@@ -20,8 +20,8 @@ options_bits gate =
     stack_of gate.stack + (if gate.off then 14 else 15) * 2 ^ 8 + level_number gate.ring * 2 ^ 13 + (if gate.present then 1 else 0) * 2 ^ 15
 
 -- the gate in a table, in this code segment
-abbrev pub entry_of : {F : Type 0} → ℕ → Gate → Entry F
-entry_of cs gate = record {
+abbrev pub gate_entry : {F : Type 0} → ℕ → Gate → Entry F
+gate_entry cs gate = record {
   address = gate.handler;
   options = record { cs = record { 0 = cs }; bits = options_bits gate };
   handler = record {};
@@ -29,23 +29,23 @@ entry_of cs gate = record {
 
 -- the gate of a vector whose handler takes no error code and returns, in its place, if there is one
 abbrev pub with_plain : ℕ → InterruptDescriptorTable → Gate → Option (Entry HandlerFunc) → InterruptDescriptorTable
-with_plain cs table gate (Some old) = with_entry table gate.vector (entry_of cs gate)
+with_plain cs table gate (Some old) = with_entry table gate.vector (gate_entry cs gate)
 with_plain cs table gate None = table
 
 -- the table with a gate in its place
 abbrev pub with_gate : ℕ → InterruptDescriptorTable → Gate → InterruptDescriptorTable
 with_gate cs table gate =
-    if gate.vector == 8 then record table { double_fault = entry_of cs gate }
-    else if gate.vector == 10 then record table { invalid_tss = entry_of cs gate }
-    else if gate.vector == 11 then record table { segment_not_present = entry_of cs gate }
-    else if gate.vector == 12 then record table { stack_segment_fault = entry_of cs gate }
-    else if gate.vector == 13 then record table { general_protection_fault = entry_of cs gate }
-    else if gate.vector == 14 then record table { page_fault = entry_of cs gate }
-    else if gate.vector == 17 then record table { alignment_check = entry_of cs gate }
-    else if gate.vector == 18 then record table { machine_check = entry_of cs gate }
-    else if gate.vector == 21 then record table { cp_protection_exception = entry_of cs gate }
-    else if gate.vector == 29 then record table { vmm_communication_exception = entry_of cs gate }
-    else if gate.vector == 30 then record table { security_exception = entry_of cs gate }
+    if gate.vector == 8 then record table { double_fault = gate_entry cs gate }
+    else if gate.vector == 10 then record table { invalid_tss = gate_entry cs gate }
+    else if gate.vector == 11 then record table { segment_not_present = gate_entry cs gate }
+    else if gate.vector == 12 then record table { stack_segment_fault = gate_entry cs gate }
+    else if gate.vector == 13 then record table { general_protection_fault = gate_entry cs gate }
+    else if gate.vector == 14 then record table { page_fault = gate_entry cs gate }
+    else if gate.vector == 17 then record table { alignment_check = gate_entry cs gate }
+    else if gate.vector == 18 then record table { machine_check = gate_entry cs gate }
+    else if gate.vector == 21 then record table { cp_protection_exception = gate_entry cs gate }
+    else if gate.vector == 29 then record table { vmm_communication_exception = gate_entry cs gate }
+    else if gate.vector == 30 then record table { security_exception = gate_entry cs gate }
     else with_plain cs table gate (entry_at table gate.vector)
 
 -- one after another

@@ -2,7 +2,7 @@
 use Rattle.std.specs.Prelude.{ℕ, List, [], ◌∷◌, ◌++◌, ◌+◌, ◌*◌, ◌-◌, Result, Ok, Err, codes, length}
 use Rattle.std.specs.Int.{to_le_bytes, w16, w64}
 use Rattle.paging_core.specs.Field.{field_of}
-use Rattle.x86_tables.specs.Descriptor.{level_of, words_of}
+use Rattle.x86_tables.specs.Descriptor.{level_of, descriptor_words}
 use Rattle.x86_tables.specs.IoMap.{iomap_verdict}
 use Rattle.x86_tables.specs.TaskStateSegment.{tss_bytes}
 use Rattle.x86_tables.specs.declared.gdt.descriptor.Descriptor.{Descriptor}
@@ -14,7 +14,7 @@ use Rattle.register_image.specs.Numbers.{line}
 -- state segment
 unfoldable pub words : ℕ → Descriptor → List ℕ
 words given task =
-    0 ∷ 0x00af9b000000ffff ∷ 0x00cf93000000ffff ∷ 0x00cff3000000ffff ∷ 0x00affb000000ffff ∷ given ∷ words_of task
+    0 ∷ 0x00af9b000000ffff ∷ 0x00cf93000000ffff ∷ 0x00cff3000000ffff ∷ 0x00affb000000ffff ∷ given ∷ descriptor_words task
 
 -- their selectors: each by the place of the descriptor, and its ring
 unfoldable pub selectors : ℕ → Descriptor → List ℕ

@@ -8,15 +8,15 @@ use Rattle.x86_registers.specs.declared.xcontrol.InvalidXCr0.TheVariants.{X87, A
 use Rattle.register_image.specs.Numbers.{number_text}
 
 -- the bits of both, if both are there
-abbrev pub joined : Option ℕ → Option ℕ → Option ℕ
-joined (Some left) (Some right) = Some (bit_or left right)
-joined (Some left) None = None
-joined None right = None
+abbrev pub joined_bits : Option ℕ → Option ℕ → Option ℕ
+joined_bits (Some left) (Some right) = Some (bit_or left right)
+joined_bits (Some left) None = None
+joined_bits None right = None
 
 -- those bits, and those of the flags of these names
 abbrev pub named_beside : List Row → Option ℕ → List (List ℕ) → Option ℕ
 named_beside table bits [] = bits
-named_beside table bits (name ∷ names) = named_beside table (joined bits (find_name table name)) names
+named_beside table bits (name ∷ names) = named_beside table (joined_bits bits (find_name table name)) names
 
 -- the bits of the flags of these names, if each is the name of a flag
 abbrev pub named_bits : List Row → List (List ℕ) → Option ℕ

@@ -1,6 +1,6 @@
 // Interrupt descriptor tables.
 ghost use Rattle.std.specs.Prelude.{◌≡◌, ◌<◌, ◌++◌, OnOk, string_bytes};
-ghost use Rattle.register_image.specs.Gates.{entry_of, gate_line, gates_text, options_bits, table_text, with_gate, with_gates};
+ghost use Rattle.register_image.specs.Gates.{gate_entry, gate_line, gates_text, options_bits, table_text, with_gate, with_gates};
 
 use crate::numbers::push_line;
 use paging_core::VirtAddr;
@@ -40,7 +40,7 @@ fn set_options(options: &mut EntryOptions, gate: &Gate)
 }
 
 fn set_entry<F>(entry: &mut Entry<F>, cpu: &Cpu, gate: &Gate)
-    ensures { entry.new ≡ entry_of cpu.now.cs gate.now }
+    ensures { entry.new ≡ gate_entry cpu.now.cs gate.now }
 {
     set_options(entry.set_handler_addr(cpu, gate.handler), gate);
 }

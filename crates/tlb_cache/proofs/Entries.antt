@@ -6,9 +6,9 @@ use Rattle.std.specs.List.{AllByRecursion}
 use Rattle.circular_buffer.specs.Buffer.{keep_last}
 use Rattle.paging_core.specs.Address.{is_canonical}
 use Rattle.paging_core.specs.Memory.{frame_count}
-use Rattle.paging_core.specs.Walk.{walk_of, place_of}
+use Rattle.paging_core.specs.Walk.{walk_of, mapped_place}
 use Rattle.paging_core.specs.declared.page_walk.Mapped.{Mapped}
-use Rattle.tlb_cache.specs.Cache.{Cache, pages_of, has_page, AreDistinct, IsFound, Agrees, kept}
+use Rattle.tlb_cache.specs.Cache.{Cache, cached_pages, has_page, AreOfDistinctPages, IsEntryFound, AgreesWithTables, kept}
 use Rattle.tlb_cache.specs.declared.entry.TlbEntry.{TlbEntry}
 
 -- ---- the entry of an age
@@ -18,7 +18,7 @@ got [] k x d h = cc
 got (y ∷ ys) zero x d h = (omega arith, cc)
 got (y ∷ ys) (suc k) x d h = let rest = got ys k x d h in (omega (arith, rest.0), rest.1)
 
-pub page_got : (entries : List TlbEntry) (age : ℕ) (entry : TlbEntry) → slice_get entries age ≡ Some entry → slice_index (pages_of entries) age ≡ entry.page
+pub page_got : (entries : List TlbEntry) (age : ℕ) (entry : TlbEntry) → slice_get entries age ≡ Some entry → slice_index (cached_pages entries) age ≡ entry.page
 page_got [] age entry h = cc
 page_got (x ∷ xs) zero entry h = let same : x ≡ entry = cc in ap (λ (e : TlbEntry). e.page) same
 page_got (x ∷ xs) (suc age) entry h = page_got xs age entry h
@@ -28,18 +28,19 @@ not_past [] age h = omega arith
 not_past (x ∷ xs) zero h = cc
 not_past (x ∷ xs) (suc age) h = omega (arith, not_past xs age h)
 
-pub length_pages : (entries : List TlbEntry) → length (pages_of entries) ≡ length entries
+pub length_pages : (entries : List TlbEntry) → length (cached_pages entries) ≡ length entries
 length_pages [] = refl
 length_pages (x ∷ xs) = ap suc (length_pages xs)
 
-pub pages_push : (entries : List TlbEntry) (entry : TlbEntry) → pages_of (entries ++ entry ∷ []) ≡ pages_of entries ++ entry.page ∷ []
+pub pages_push : (entries : List TlbEntry) (entry : TlbEntry) → cached_pages (entries ++ entry ∷ []) ≡ cached_pages entries ++ entry.page ∷ []
 pages_push [] entry = refl
 pages_push (x ∷ xs) entry = ap (λ (pages : List ℕ). x.page ∷ pages) (pages_push xs entry)
 
 -- the page of the oldest comes first
-pub first_page : (entries : List TlbEntry) (entry : TlbEntry) → slice_get entries 0 ≡ Some entry → pages_of entries ≡ entry.page ∷ pages_of (drop 1 entries)
+pub first_page : (entries : List TlbEntry) (entry : TlbEntry) → slice_get entries 0 ≡ Some entry →
+    cached_pages entries ≡ entry.page ∷ cached_pages (drop 1 entries)
 first_page [] entry h = cc
-first_page (x ∷ xs) entry h = let same : x ≡ entry = cc in ap (λ (e : TlbEntry). e.page ∷ pages_of xs) same
+first_page (x ∷ xs) entry h = let same : x ≡ entry = cc in ap (λ (e : TlbEntry). e.page ∷ cached_pages xs) same
 
 -- ---- whether a page has an entry
 
@@ -55,13 +56,13 @@ neither : (a b : Bool) → a ≡ false → b ≡ false → (a || b) ≡ false
 neither true b h k = h
 neither false b h k = k
 
-pub has_at : (entries : List TlbEntry) (page age : ℕ) → age < length entries → slice_index (pages_of entries) age ≡ page → has_page entries page ≡ true
+pub has_at : (entries : List TlbEntry) (page age : ℕ) → age < length entries → slice_index (cached_pages entries) age ≡ page → has_page entries page ≡ true
 has_at [] page age h e = absurd (omega arith)
 has_at (x ∷ xs) page zero h e = ap (λ (b : Bool). b || has_page xs page) (eq-eqb x.page page e)
 has_at (x ∷ xs) page (suc age) h e = ap (λ (b : Bool). x.page == page || b) (has_at xs page age (omega arith) e) ∙ or_true (x.page == page)
 
 pub none_at : (entries : List TlbEntry) (page : ℕ) → ((age : ℕ) → age < length entries →
-    slice_index (pages_of entries) age ≡ page → ⊥) → has_page entries page ≡ false
+    slice_index (cached_pages entries) age ≡ page → ⊥) → has_page entries page ≡ false
 none_at [] page h = refl
 none_at (x ∷ xs) page h =
     neither (x.page == page) (has_page xs page) (ne_eqb x.page page (h zero (omega arith))) (none_at xs page (λ age l. h (suc age) (omega (arith, l))))
@@ -80,20 +81,21 @@ has_drop (suc n) (x ∷ xs) page h = has_drop n xs page (or_none (x.page == page
 
 -- ---- no page has two
 
-pub distinct_push : (entries : List TlbEntry) (entry : TlbEntry) → AreDistinct entries →
-    has_page entries entry.page ≡ false → AreDistinct (entries ++ entry ∷ [])
+pub distinct_push : (entries : List TlbEntry) (entry : TlbEntry) → AreOfDistinctPages entries →
+    has_page entries entry.page ≡ false → AreOfDistinctPages (entries ++ entry ∷ [])
 distinct_push [] entry d h = (refl, tt)
 distinct_push (x ∷ xs) entry d h =
     let parts = or_none (x.page == entry.page) (has_page xs entry.page) h in
     let other : x.page ≡ entry.page → ⊥ = eqb-false x.page entry.page parts.0 in
     (has_push xs entry x.page d.0 (λ e. other (sym e)), distinct_push xs entry d.1 parts.1)
 
-pub distinct_drop : (entries : List TlbEntry) → AreDistinct entries → AreDistinct (drop 1 entries)
+pub distinct_drop : (entries : List TlbEntry) → AreOfDistinctPages entries → AreOfDistinctPages (drop 1 entries)
 distinct_drop [] d = tt
 distinct_drop (x ∷ xs) d = d.1
 
 -- the oldest entry's page has no other
-pub first_alone : (entries : List TlbEntry) (entry : TlbEntry) → AreDistinct entries → slice_get entries 0 ≡ Some entry →
+pub first_alone : (entries : List TlbEntry) (entry : TlbEntry) → AreOfDistinctPages entries →
+    slice_get entries 0 ≡ Some entry →
     has_page (drop 1 entries) entry.page ≡ false
 first_alone [] entry d h = cc
 first_alone (x ∷ xs) entry d h = let same : x ≡ entry = cc in subst (λ (e : TlbEntry). has_page xs e.page ≡ false) same d.0
@@ -254,17 +256,19 @@ all_at P (x ∷ xs) (suc k) d a h = all_at P xs k d a.1 (omega arith)
 
 -- ---- each entry is what the walk finds
 
-pub found_at : (words : List ℕ) (root : ℕ) (entries : List TlbEntry) (entry : TlbEntry) → Agrees words root entries →
-    Contains entries entry → IsFound words root entry
-found_at words root entries entry agrees (k, within, is) = subst (IsFound words root) is (all_at (IsFound words root) entries k entry agrees within)
+pub found_at : (words : List ℕ) (root : ℕ) (entries : List TlbEntry) (entry : TlbEntry) →
+    AgreesWithTables words root entries →
+    Contains entries entry → IsEntryFound words root entry
+found_at words root entries entry agrees (k, within, is) = subst (IsEntryFound words root) is (all_at (IsEntryFound words root) entries k entry agrees within)
 
 pub agrees_kept :
     (words : List ℕ) (root : ℕ) (cache : Cache) (page : ℕ) (found : Option Mapped) → IsTrue (is_canonical (page * 4096)) →
-    option_map place_of found ≡ walk_of words root page →
-    IfSome found (λ (mapped : Mapped). mapped.frame < frame_count words) → Agrees words root cache.entries → Agrees words root (kept cache page found).entries
+    option_map mapped_place found ≡ walk_of words root page →
+    IfSome found (λ (mapped : Mapped). mapped.frame < frame_count words) → AgreesWithTables words root cache.entries →
+    AgreesWithTables words root (kept cache page found).entries
 agrees_kept words root cache page None canonical walked below agrees = agrees
 agrees_kept words root cache page (Some mapped) canonical walked below agrees =
     let entry : TlbEntry = record { page = page; mapped = mapped } in
-    let is : IsFound words root entry = record { canonical = canonical; walked = sym walked; frame = below } in
-    all_drop (IsFound words root) (length (cache.entries ++ entry ∷ []) - cache.capacity) (cache.entries ++ entry ∷ [])
-    (all_append (IsFound words root) cache.entries (entry ∷ []) agrees (is, tt))
+    let is : IsEntryFound words root entry = record { canonical = canonical; walked = sym walked; frame = below } in
+    all_drop (IsEntryFound words root) (length (cache.entries ++ entry ∷ []) - cache.capacity) (cache.entries ++ entry ∷ [])
+    (all_append (IsEntryFound words root) cache.entries (entry ∷ []) agrees (is, tt))

@@ -3,18 +3,19 @@ use Rattle.std.proofs.Common.{◌≡◌, ℕ, ◌+◌, ◌*◌, ◌/◌, ◌%◌
 use Rattle.std.specs.List.{list_any, AllByRecursion}
 use Rattle.std.proofs.lemmas.Bool.{true≢false}
 use Rattle.paging_core.specs.Memory.{frame_count}
-use Rattle.paging_core.specs.Walk.{walk_of, place_of}
+use Rattle.paging_core.specs.Walk.{walk_of, mapped_place}
 use Rattle.heap_model.specs.declared.region.Region.{Region}
 use Rattle.heap_model.specs.Machine.{Paged}
 use Rattle.mapped_regions.specs.Mapped.{IsRegionJoined, IsLeft}
 use Rattle.x86_instructions.specs.declared.tlb.FlushCommand.{FlushCommand}
-use Rattle.tlb_cache.specs.Cache.{Agrees, IsFound, left_by_all}
+use Rattle.tlb_cache.specs.Cache.{AgreesWithTables, IsEntryFound, left_by_all}
 use Rattle.tlb_cache.specs.Cached.{Flushes}
 use Rattle.tlb_cache.specs.Covered.{covers}
 use Rattle.tlb_cache.specs.declared.entry.TlbEntry.{TlbEntry}
 
 still : (words words' : List ℕ) (root root' : ℕ) (entry : TlbEntry) → root' ≡ root → length words' ≡ length words →
-    walk_of words' root entry.page ≡ walk_of words root entry.page → IsFound words root entry → IsFound words' root' entry
+    walk_of words' root entry.page ≡ walk_of words root entry.page → IsEntryFound words root entry →
+    IsEntryFound words' root' entry
 still words words' root root' entry same size walks found = record {
   canonical = found.canonical;
   walked = ap (λ (r : ℕ). walk_of words' r entry.page) same ∙ (walks ∙ found.walked);
@@ -22,12 +23,12 @@ still words words' root root' entry same size walks found = record {
 }
 
 pub mapped_agrees : (old new : Paged) (region : Region) (entries : List TlbEntry) → IsRegionJoined old new region →
-    Agrees old.words old.root entries → Agrees new.words new.root entries
+    AgreesWithTables old.words old.root entries → AgreesWithTables new.words new.root entries
 unfolding walk_of
 mapped_agrees old new region [] joined agrees = tt
 mapped_agrees old new region (entry ∷ entries) joined agrees =
     let added = joined.added.added.pages_added in
-    let met = added.stayed 4 (entry.page % 2 ^ 36) (place_of entry.mapped) (omega arith) agrees.0.walked in (
+    let met = added.stayed 4 (entry.page % 2 ^ 36) (mapped_place entry.mapped) (omega arith) agrees.0.walked in (
       still old.words new.words old.root new.root entry joined.added.root added.size (met ∙ sym agrees.0.walked) agrees.0,
       mapped_agrees old new region entries joined agrees.1,
     )
@@ -36,9 +37,9 @@ mapped_agrees old new region (entry ∷ entries) joined agrees =
 pub map_agrees :
     {E : Type 0} (old new : Paged) (region : Region) (entries : List TlbEntry) (result : Result (Unit {0}) E) →
     OnOk result (IsRegionJoined old new region) → OnErr result (new ≡ old) →
-    Agrees old.words old.root entries → Agrees new.words new.root entries
+    AgreesWithTables old.words old.root entries → AgreesWithTables new.words new.root entries
 map_agrees old new region entries (Ok _) joined same agrees = mapped_agrees old new region entries joined agrees
-map_agrees old new region entries (Err _) joined same agrees = subst (λ (p : Paged). Agrees p.words p.root entries) (sym same) agrees
+map_agrees old new region entries (Err _) joined same agrees = subst (λ (p : Paged). AgreesWithTables p.words p.root entries) (sym same) agrees
 
 -- two facts of a call that was served
 pub both : {T E A B C : Type 0} (result : Result T E) → (A → B → C) → OnOk result A → OnOk result B → OnOk result C
@@ -47,16 +48,18 @@ both (Err _) join a b = tt
 
 pub left_agrees : (old new : Paged) (start pages : ℕ) (list : List FlushCommand) (entries : List TlbEntry) →
     IsLeft old new start pages → Flushes list start pages →
-    Agrees old.words old.root entries → Agrees new.words new.root (left_by_all list entries)
+    AgreesWithTables old.words old.root entries → AgreesWithTables new.words new.root (left_by_all list entries)
 left_agrees old new start pages list [] left flushes agrees = tt
 left_agrees old new start pages list (entry ∷ entries) left flushes agrees =
     go (list_any (λ (command : FlushCommand). covers command entry.page) list) refl
     (left_agrees old new start pages list entries left flushes agrees.1) where
-      go : (b : Bool) → list_any (λ (command : FlushCommand). covers command entry.page) list ≡ b → Agrees new.words new.root (left_by_all list entries) →
-          Agrees new.words new.root (cond (not b) (entry ∷ left_by_all list entries) (left_by_all list entries))
+      go : (b : Bool) → list_any (λ (command : FlushCommand). covers command entry.page) list ≡ b →
+          AgreesWithTables new.words new.root (left_by_all list entries) →
+          AgreesWithTables new.words new.root (cond (not b) (entry ∷ left_by_all list entries) (left_by_all list entries))
       go true covered rest = rest
       go false free rest =
           let apart : (k : ℕ) → k < pages → entry.page ≡ start / 4096 + k → ⊥ =
-          λ k below is. true≢false (sym (flushes k below) ∙ (ap (λ (page : ℕ). list_any (λ (command : FlushCommand). covers command page) list) (sym is) ∙ free)) in
+          λ k below is. true≢false (sym (flushes k below) ∙ (ap (λ (page : ℕ).
+          list_any (λ (command : FlushCommand). covers command page) list) (sym is) ∙ free)) in
           let walks = left.gone.others entry.page agrees.0.canonical apart in
           (still old.words new.words old.root new.root entry left.gone.root left.gone.gone.size walks agrees.0, rest)

@@ -5,7 +5,7 @@ use Rattle.std.proofs.Props.{props}
 use Rattle.paging_core.specs.Address.{is_canonical}
 use Rattle.paging_core.specs.Memory.{frame_count}
 use Rattle.paging_core.specs.declared.page_walk.Mapped.{Mapped}
-use Rattle.paging_core.specs.Walk.{walk_of, place_of}
+use Rattle.paging_core.specs.Walk.{walk_of, mapped_place}
 use Rattle.circular_buffer.specs.Buffer.{keep_last}
 use Rattle.x86_instructions.specs.declared.tlb.FlushCommand.{FlushCommand}
 use Rattle.tlb_cache.specs.Covered.{covers}
@@ -17,8 +17,8 @@ pub record Cache : Type 0 where
   pub capacity : ℕ
 
 -- the pages of entries
-abbrev pub pages_of : List TlbEntry → List ℕ
-pages_of entries = map (λ (entry : TlbEntry). entry.page) entries
+abbrev pub cached_pages : List TlbEntry → List ℕ
+cached_pages entries = map (λ (entry : TlbEntry). entry.page) entries
 
 -- whether a page has an entry
 abbrev pub has_page : List TlbEntry → ℕ → Bool
@@ -27,26 +27,26 @@ has_page entries page = list_any (λ (entry : TlbEntry). entry.page == page) ent
 -- the entry with an age is of a page
 pub record IsAgeOf (entries : List TlbEntry) (page age : ℕ) : Type 0 where
   pub there : age < length entries
-  pub of_page : slice_index (pages_of entries) age ≡ page
+  pub of_page : slice_index (cached_pages entries) age ≡ page
 
 -- no two entries are of one page
-abbrev pub AreDistinct : List TlbEntry → Type 0
-AreDistinct [] = Unit {0}
-AreDistinct (entry ∷ rest) = IsFalse (has_page rest entry.page) × AreDistinct rest
+abbrev pub AreOfDistinctPages : List TlbEntry → Type 0
+AreOfDistinctPages [] = Unit {0}
+AreOfDistinctPages (entry ∷ rest) = IsFalse (has_page rest entry.page) × AreOfDistinctPages rest
 
 -- An entry is what the walk finds of its page, at a frame that exists.
-pub record IsFound (words : List ℕ) (root : ℕ) (entry : TlbEntry) : Type 0 where
+pub record IsEntryFound (words : List ℕ) (root : ℕ) (entry : TlbEntry) : Type 0 where
   pub canonical : IsTrue (is_canonical (entry.page * 4096))
-  pub walked : walk_of words root entry.page ≡ Some (place_of entry.mapped)
+  pub walked : walk_of words root entry.page ≡ Some (mapped_place entry.mapped)
   pub frame : entry.mapped.frame < frame_count words
 
 -- each entry is
-abbrev pub Agrees : List ℕ → ℕ → List TlbEntry → Type 0
-Agrees words root entries = AllByRecursion (IsFound words root) entries
+abbrev pub AgreesWithTables : List ℕ → ℕ → List TlbEntry → Type 0
+AgreesWithTables words root entries = AllByRecursion (IsEntryFound words root) entries
 
-pub Agrees-prop : (words : List ℕ) (root : ℕ) (entries : List TlbEntry) → IsProp (Agrees words root entries)
-Agrees-prop words root entries = AllByRecursion-prop (IsFound words root) (IsFound-prop words root) entries where
-  IsFound-prop : (words : List ℕ) (root : ℕ) (entry : TlbEntry) → IsProp (IsFound words root entry)
+pub AgreesWithTables-prop : (words : List ℕ) (root : ℕ) (entries : List TlbEntry) → IsProp (AgreesWithTables words root entries)
+AgreesWithTables-prop words root entries = AllByRecursion-prop (IsEntryFound words root) (IsFound-prop words root) entries where
+  IsFound-prop : (words : List ℕ) (root : ℕ) (entry : TlbEntry) → IsProp (IsEntryFound words root entry)
   IsFound-prop words root entry = hlevel props
 
 -- the entries after a look-up that missed: what the walk found of the page is the newest, and the oldest leaves if
@@ -58,7 +58,7 @@ kept cache page (Some mapped) = record cache { entries = keep_last cache.capacit
 -- The cache after a page was looked up: as it was if the page had an entry, and else with what the walk found.
 pub record IsLookedUp (words : List ℕ) (root page : ℕ) (old new : Cache) : Type 0 where
   pub hit : IsTrue (has_page old.entries page) → new ≡ old
-  pub missed : IsFalse (has_page old.entries page) → (found : Option Mapped) × (option_map place_of found ≡ walk_of words root page) × (new ≡ kept old page found)
+  pub missed : IsFalse (has_page old.entries page) → (found : Option Mapped) × (option_map mapped_place found ≡ walk_of words root page) × (new ≡ kept old page found)
 
 -- those that a command leaves, in order
 abbrev pub left_by : FlushCommand → List TlbEntry → List TlbEntry

@@ -12,7 +12,7 @@ use Rattle.x86_instructions.specs.Invlpgb.{commands, limits_of, whole}
 use Rattle.x86_flags.specs.PageFaultErrorCode.{page_fault_bits}
 use Rattle.heap_model.specs.declared.call.Access.{Access}
 use Rattle.heap_model.specs.Machine.{Paged, rights_of}
-use Rattle.heap_model.specs.Probe.{is_granted, fault_code}
+use Rattle.heap_model.specs.Probe.{is_access_granted, probe_fault_code}
 use Rattle.mapped_regions.specs.Mapped.{IsPageRange}
 use Rattle.mapped_regions.specs.UserRegions.{IsUnmapRefused}
 use Rattle.tlb_cache.specs.Covered.{covers}
@@ -23,16 +23,16 @@ use Rattle.tlb_cache.specs.declared.cached_fault.CachedFault.{CachedFault}
 use Rattle.tlb_cache.specs.declared.cached_fault.CachedFault.TheVariants.{Unmap, OutOfMemory}
 
 -- what may be done at the page of an address, if the walk finds it
-abbrev pub rights_at : Paged → ℕ → Option Rights
-rights_at p at = option_map rights_of (walk_of p.words p.root (at / 4096))
+abbrev pub walked_rights : Paged → ℕ → Option Rights
+walked_rights p at = option_map rights_of (walk_of p.words p.root (at / 4096))
 
 -- What an access to one byte gives, by the walk alone: no cache is named here. (AMD64 manual, volume 2, sections 5.6 and
 -- 8.4.2.)
 abbrev pub IsProbed : Paged → ℕ → Access → Bool → Probed → Type 0
 IsProbed p at access user NotCanonical = IsFalse (is_canonical at)
 IsProbed p at access user (Fault code) =
-    IsTrue (is_canonical at) × IsFalse (is_granted (rights_at p at) access user) × (page_fault_bits code ≡ fault_code (is_some (rights_at p at)) access user)
-IsProbed p at access user (Byte byte) = IsTrue (is_canonical at) × IsTrue (is_granted (rights_at p at) access user) × (reached p.words p.root at ≡ Some byte)
+    IsTrue (is_canonical at) × IsFalse (is_access_granted (walked_rights p at) access user) × (page_fault_bits code ≡ probe_fault_code (is_some (walked_rights p at)) access user)
+IsProbed p at access user (Byte byte) = IsTrue (is_canonical at) × IsTrue (is_access_granted (walked_rights p at) access user) × (reached p.words p.root at ≡ Some byte)
 
 -- a page, and the page that comes next after a number of pages from it on, unless they hold the last one of the address
 -- space

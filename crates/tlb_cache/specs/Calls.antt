@@ -5,7 +5,7 @@ use Rattle.x86_instructions.specs.declared.tlb.FlushCommand.{FlushCommand}
 use Rattle.kernel_heap.specs.System.{paged}
 use Rattle.mapped_regions.specs.Mapped.{CanMap, IsRegionJoined, IsLeft}
 use Rattle.mapped_regions.specs.UserRegions.{user_region, CanUnmap}
-use Rattle.tlb_cache.specs.Cache.{Agrees, left_by_all}
+use Rattle.tlb_cache.specs.Cache.{AgreesWithTables, left_by_all}
 use Rattle.tlb_cache.specs.Cached.{Flushes, flush_of}
 use Rattle.tlb_cache.specs.declared.cached_system.CachedSystem.{CachedSystem}
 
@@ -26,4 +26,4 @@ pub record IsRegionFlushed (old new : CachedSystem) (start pages : ℕ) (list : 
 -- The processor is as it was, and each entry is what a walk finds.
 pub record IsStillCached (old new : CachedSystem) : Type 0 where
   pub cpu : new.cpu ≡ old.cpu
-  pub agrees : Agrees (paged new.system).words (paged new.system).root new.tlb.entries
+  pub agrees : AgreesWithTables (paged new.system).words (paged new.system).root new.tlb.entries

@@ -19,8 +19,8 @@ unfoldable pub next_place : ℕ → ℕ → ℕ
 next_place places oldest = if nat_lt (oldest + 1) places then oldest + 1 else 0
 
 -- how many entries are no newer than the one at a place, if that is one of a number of oldest entries, and else 0
-unfoldable pub up_to : ℕ → ℕ → ℕ → ℕ → ℕ
-up_to places oldest place limit = if nat_lt (age_at places oldest place) limit then age_at places oldest place + 1 else 0
+unfoldable pub count_up_to : ℕ → ℕ → ℕ → ℕ → ℕ
+count_up_to places oldest place limit = if nat_lt (age_at places oldest place) limit then age_at places oldest place + 1 else 0
 
 -- Among the oldest entries, `limit` of them, those with a hash are among the first `count`; and if there is one, the last of
 -- these has it. `hash` has the hash of the entry with an age.
@@ -39,7 +39,7 @@ pub record AreChains (newest older : List ℕ) (oldest : ℕ) (pages : List ℕ)
   pub fits : length pages ≤ length older
   pub heads :
       (hash : ℕ) → hash < length newest →
-      Leads (hash_at (length newest) pages) hash (length pages) (up_to (length older) oldest (slice_index newest hash) (length pages))
+      Leads (hash_at (length newest) pages) hash (length pages) (count_up_to (length older) oldest (slice_index newest hash) (length pages))
   pub links :
       (age : ℕ) → age < length pages →
-      Leads (hash_at (length newest) pages) (hash_at (length newest) pages age) age (up_to (length older) oldest (slice_index older (place_at (length older) oldest age)) age)
+      Leads (hash_at (length newest) pages) (hash_at (length newest) pages age) age (count_up_to (length older) oldest (slice_index older (place_at (length older) oldest age)) age)

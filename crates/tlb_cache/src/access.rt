@@ -2,10 +2,10 @@
 ghost use Rattle.std.specs.Prelude.{◌≡◌, ◌+◌, ◌*◌, ◌/◌, ◌%◌, ◌^◌, ◌<◌, Some, IsTrue, IfSome, option_map};
 ghost use Rattle.paging_core.specs.Address.{is_canonical};
 ghost use Rattle.paging_core.specs.Memory.{frame_count, word_at, byte_of};
-ghost use Rattle.paging_core.specs.Walk.{walk_of, place_of};
+ghost use Rattle.paging_core.specs.Walk.{walk_of, mapped_place};
 ghost use Rattle.heap_model.specs.Machine.{rights_of};
 ghost use Rattle.kernel_heap.specs.System.{paged};
-ghost use Rattle.tlb_cache.specs.Cache.{Agrees, IsLookedUp};
+ghost use Rattle.tlb_cache.specs.Cache.{AgreesWithTables, IsLookedUp};
 ghost use Rattle.tlb_cache.specs.Cached.{IsProbed};
 
 use crate::probed::Probed;
@@ -21,10 +21,10 @@ pub(crate) fn probe(
     access: Access,
     user: bool,
 ) -> Probed
-    requires { Agrees (paged system.now).words (paged system.now).root tlb.old.entries }
+    requires { AgreesWithTables (paged system.now).words (paged system.now).root tlb.old.entries }
     ensures probed { IsProbed (paged system.now) address access user result }
     ensures looked_up { IsLookedUp (paged system.now).words (paged system.now).root (address / 4096) tlb.old tlb.new }
-    ensures agrees { Agrees (paged system.now).words (paged system.now).root tlb.new.entries }
+    ensures agrees { AgreesWithTables (paged system.now).words (paged system.now).root tlb.new.entries }
 {
     let page = Page::containing_address(address);
     let translated = tlb.translate(system.frames(), system.root(), page);
@@ -42,7 +42,7 @@ pub(crate) fn answer(
     user: bool,
 ) -> Probed
     requires canonical { IsTrue (is_canonical at) }
-    requires walked { option_map place_of found.now ≡ walk_of (paged system.now).words (paged system.now).root (at / 4096) }
+    requires walked { option_map mapped_place found.now ≡ walk_of (paged system.now).words (paged system.now).root (at / 4096) }
     requires below { IfSome found.now (λ mapped. mapped.frame < frame_count (paged system.now).words) }
     ensures { IsProbed (paged system.now) at access user result }
 {
@@ -60,7 +60,7 @@ pub(crate) fn answer(
 
 /// The rights of a page.
 fn rights(mapped: &Mapped) -> Rights
-    ensures { result ≡ rights_of (place_of mapped.now) }
+    ensures { result ≡ rights_of (mapped_place mapped.now) }
 {
     Rights {
         write: mapped.write,

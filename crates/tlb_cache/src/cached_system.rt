@@ -3,11 +3,11 @@ ghost use Rattle.paging_core.specs.Address.{is_canonical};
 ghost use Rattle.mapped_regions.specs.Mapped.{IsPageRange};
 ghost use Rattle.mapped_regions.specs.UserRegions.{IsMapRefused, CanUnmap};
 ghost use Rattle.paging_core.specs.Memory.{frame_count};
-ghost use Rattle.kernel_heap.specs.Config.{IsGoodWindow};
+ghost use Rattle.kernel_heap.specs.Config.{IsHeapWindow};
 ghost use Rattle.kernel_heap.specs.Layout.{IsNew};
 ghost use Rattle.kernel_heap.specs.System.{paged};
-ghost use Rattle.kernel_heap.specs.Beside.{IsBeside};
-ghost use Rattle.tlb_cache.specs.Cache.{Agrees, Agrees-prop, IsLookedUp, left_by_all};
+ghost use Rattle.kernel_heap.specs.Beside.{KeepsHeapWords};
+ghost use Rattle.tlb_cache.specs.Cache.{AgreesWithTables, AgreesWithTables-prop, IsLookedUp, left_by_all};
 ghost use Rattle.tlb_cache.specs.Cached.{IsProbed, IsCachedRefused, Flushes, flush_of};
 
 use crate::access;
@@ -40,7 +40,7 @@ pub struct CachedSystem {
     tlb: Tlb,
     cpu: Cpu,
     alloc: Global,
-    ghost agrees: { Agrees (paged system).words (paged system).root tlb.entries } by { Agrees-prop (paged system).words (paged system).root tlb.entries },
+    ghost agrees: { AgreesWithTables (paged system).words (paged system).root tlb.entries } by { AgreesWithTables-prop (paged system).words (paged system).root tlb.entries },
     ghost has_invlpgb: { cpu.invlpgb ≡ true },
     ghost privileged: { cpu.cs % 4 ≡ 0 },
 }
@@ -62,14 +62,14 @@ impl CachedSystem {
         capacity: u64,
         count_max: u16,
     ) -> Result<CachedSystem, AllocError>
-        requires window { IsGoodWindow base pages }
+        requires window { IsHeapWindow base pages }
         requires frames { 0 < frames }
         requires capacity { 0 < capacity }
         ensures system { IfOk result (λ cached. IsNew (paged cached.system) base pages frames) }
         ensures tlb { IfOk result (λ cached. cached.tlb ≡ record { entries = []; capacity = capacity }) }
         ensures few { OnOk result (capacity < 2 ^ 31) }
         ensures cpu { IfOk result (λ cached. cached.cpu ≡ cached_cpu new_cpu count_max) }
-        ensures agrees { IfOk result (λ cached. Agrees (paged cached.system).words (paged cached.system).root cached.tlb.entries) }
+        ensures agrees { IfOk result (λ cached. AgreesWithTables (paged cached.system).words (paged cached.system).root cached.tlb.entries) }
     {
         let mut cpu = Cpu::new();
         cpu.invlpgb = true;
@@ -108,7 +108,7 @@ impl CachedSystem {
         ensures mapped { OnOk result (IsRegionMapped self.old self.new start pages rights) }
         ensures err { OnErr result (paged self.new.system ≡ paged self.old.system) }
         ensures refused { IfErr result (λ fault. IsMapRefused (paged self.old.system) start pages fault) }
-        ensures beside { IsBeside (paged self.old.system) (paged self.new.system) }
+        ensures beside { KeepsHeapWords (paged self.old.system) (paged self.new.system) }
         ensures tlb { self.new.tlb ≡ self.old.tlb }
         ensures still { IsStillCached self.old self.new }
     {
@@ -121,7 +121,7 @@ impl CachedSystem {
         ensures unmapped { IfOk result (λ list. IsRegionFlushed self.old self.new start pages list) }
         ensures same { OnErr result ((paged self.new.system ≡ paged self.old.system) × (self.new.tlb ≡ self.old.tlb)) }
         ensures refused { IfErr result (λ fault. IsCachedRefused (paged self.old.system) start pages fault) }
-        ensures beside { IsBeside (paged self.old.system) (paged self.new.system) }
+        ensures beside { KeepsHeapWords (paged self.old.system) (paged self.new.system) }
         ensures still { IsStillCached self.old self.new }
     {
         let Ok(list) = self.commands(start, pages) else {

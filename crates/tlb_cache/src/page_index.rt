@@ -4,7 +4,7 @@
 //! of its chain, and no link has to be taken out: one that leads to a place whose entry left, or to a newer one that
 //! took the place, is known by the age there.
 ghost use Rattle.std.specs.Prelude.{◌≡◌, ℕ, ◌+◌, ◌*◌, ◌^◌, ◌<◌, ◌≤◌, List, [], ◌∷◌, ◌++◌, length, slice_index, IfOk};
-ghost use Rattle.tlb_cache.specs.Chains.{hash_of, place_at, next_place, up_to, Leads};
+ghost use Rattle.tlb_cache.specs.Chains.{hash_of, place_at, next_place, count_up_to, Leads};
 
 use std::alloc::{AllocError, Global};
 
@@ -87,10 +87,10 @@ impl PageIndex {
     }
 
     /// How many entries are no newer than the one at a place, if that is one of the oldest `limit`, and else 0.
-    #[tactic(auto, unfolding(crate::specs::Chains::up_to, crate::specs::Chains::age_at))]
+    #[tactic(auto, unfolding(crate::specs::Chains::count_up_to, crate::specs::Chains::age_at))]
     fn up_to(&self, place: u32, limit: u32) -> u32
         requires place { place < length self.now.older.items }
-        ensures { result ≡ up_to (length self.now.older.items) self.now.oldest place limit }
+        ensures { result ≡ count_up_to (length self.now.older.items) self.now.oldest place limit }
     {
         let age = if self.oldest <= place {
             place - self.oldest

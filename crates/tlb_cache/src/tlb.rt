@@ -2,7 +2,7 @@ ghost use Rattle.std.specs.Prelude.{◌≡◌, ℕ, ◌+◌, ◌-◌, ◌*◌, �
 ghost use Rattle.circular_buffer.specs.Buffer.{keep_last};
 ghost use Rattle.paging_core.specs.Address.{is_canonical};
 ghost use Rattle.paging_core.specs.Memory.{frame_count};
-ghost use Rattle.tlb_cache.specs.Cache.{has_page, pages_of, IsAgeOf, AreDistinct, Agrees, kept, left_by};
+ghost use Rattle.tlb_cache.specs.Cache.{has_page, cached_pages, IsAgeOf, AreOfDistinctPages, AgreesWithTables, kept, left_by};
 ghost use Rattle.tlb_cache.specs.PageIndex.{Indexes};
 ghost use Rattle.tlb_cache.specs.Covered.{covers, is_among};
 
@@ -21,7 +21,7 @@ const MOST: u64 = (1 << 31) - 1;
 
 /// The age of a page's entry in a ring, by its index.
 fn find(ring: &HeapCircularBuffer<TlbEntry>, index: &PageIndex, page: u64) -> Option<usize>
-    requires indexed { Indexes index.now (pages_of ring.now.items) }
+    requires indexed { Indexes index.now (cached_pages ring.now.items) }
     ensures there { IfSome result (λ age. IsAgeOf ring.now.items page age) }
     ensures some { is_some result ≡ has_page ring.now.items page }
 {
@@ -52,7 +52,7 @@ pub struct Tlb {
 
 impl Model for Tlb {
     ghost use Rattle.std.specs.Prelude.{◌≡◌, ◌<◌, length};
-    ghost use Rattle.tlb_cache.specs.Cache.{Cache, pages_of, AreDistinct};
+    ghost use Rattle.tlb_cache.specs.Cache.{Cache, cached_pages, AreOfDistinctPages};
 
     ghost Value = { Cache };
 
@@ -60,7 +60,7 @@ impl Model for Tlb {
 
     ghost view = { λ tlb. record { entries = tlb.ring.items; capacity = tlb.ring.capacity } };
 
-    ghost invariant = { λ tlb. (length tlb.index.older.items ≡ tlb.ring.capacity) × AreDistinct tlb.ring.items × Indexes tlb.index (pages_of tlb.ring.items) };
+    ghost invariant = { λ tlb. (length tlb.index.older.items ≡ tlb.ring.capacity) × AreOfDistinctPages tlb.ring.items × Indexes tlb.index (cached_pages tlb.ring.items) };
 }
 
 impl Tlb {
@@ -86,7 +86,7 @@ impl Tlb {
     pub fn len(&self) -> u64
         ensures len { result ≡ length self.now.entries }
         ensures within { result ≤ self.now.capacity }
-        ensures distinct { AreDistinct self.now.entries }
+        ensures distinct { AreOfDistinctPages self.now.entries }
     {
         self.ring.len() as u64
     }
@@ -108,7 +108,7 @@ impl Tlb {
         ensures kept { IsTrue result.hit → IsKeptAnswer self.old self.new page result.mapped }
         ensures walked { IsFalse result.hit → IsWalkedAnswer frames.now root self.old self.new page result.mapped }
         // If each entry is what the walk finds, so is the answer, and so is each entry then.
-        ensures answer { Agrees frames.now root self.old.entries → IsTrueAnswer frames.now root self.new page result.mapped }
+        ensures answer { AgreesWithTables frames.now root self.old.entries → IsTrueAnswer frames.now root self.new page result.mapped }
     {
         match self.kept(page) {
             Some(mapped) => Translated {

@@ -10,7 +10,7 @@ use Rattle.std.proofs.lemmas.List.{map-append}
 use Rattle.paging_core.specs.Steps.{half_pages, gap_pages, position, page_at}
 use Rattle.x86_instructions.specs.Turns.{Turn, greatest_count, turns_within}
 use Rattle.x86_instructions.specs.Invlpgb.{Flush, bit_if, options_of, turn_command, commands, commands_of}
-use Rattle.x86_instructions.specs.Flushed.{page_in, count_in, flushed_by, IsBelowGap, IsAboveGap, IsTurnOf, FlushesRange}
+use Rattle.x86_instructions.specs.Flushed.{first_flushed, count_in, flushed_by, IsBelowGap, IsAboveGap, IsTurnOf, FlushesRange}
 use Rattle.x86_instructions.proofs.Places.{page_at-low, page_at-high, position-page_at, half_whole, high_whole}
 use Rattle.x86_instructions.proofs.Turns.{after, turn_at, turns_within-next, turns_within-end, greatest-le, greatest-low}
 
@@ -91,8 +91,8 @@ module _ (size : ℕ) (pos : 0 < size) (divides : 2 ^ 47 % size ≡ 0) (aligned 
       let read : (page * size / 4096 * 4096 + low) / 4096 * 4096 ≡ page * size = omega (arith, whole) in
       rw read (mul-div_cancel page pos)
 
-  page_in-turn : (turn : Turn) → page_in size (turn_command size flush turn) ≡ turn.page
-  page_in-turn turn = address-read turn.page (1 + options_of flush) (omega (arith, options-lt flush))
+  first_flushed-turn : (turn : Turn) → first_flushed size (turn_command size flush turn) ≡ turn.page
+  first_flushed-turn turn = address-read turn.page (1 + options_of flush) (omega (arith, options-lt flush))
 
   count_in-turn : (turn : Turn) → turn.count < 2 ^ 16 → count_in (turn_command size flush turn) ≡ turn.count
   count_in-turn turn fits = count-read (size == 2 ^ 21) turn.count fits
@@ -106,7 +106,7 @@ module _ (size : ℕ) (pos : 0 < size) (divides : 2 ^ 47 % size ≡ 0) (aligned 
 
     -- what the command of a turn names
     named : flushed_by size (turn_command size flush turn) ≡ range_with_len turn.page (max 1 turn.count)
-    named = rw (page_in-turn turn, count_in-turn turn fits) refl
+    named = rw (first_flushed-turn turn, count_in-turn turn fits) refl
 
     within : from < half_pages size → from + max 1 turn.count ≤ half_pages size
     within low = omega (arith, greatest-low size flush.limits.count_max from to low)
@@ -130,8 +130,8 @@ module _ (size : ℕ) (pos : 0 < size) (divides : 2 ^ 47 % size ≡ 0) (aligned 
     ]
 
     greatest : count_in (turn_command size flush turn)
-        ≡ greatest_count size flush.limits.count_max (position size (page_in size (turn_command size flush turn))) to
-    greatest = rw (count_in-turn turn fits, page_in-turn turn, position-page_at size from) refl
+        ≡ greatest_count size flush.limits.count_max (position size (first_flushed size (turn_command size flush turn))) to
+    greatest = rw (count_in-turn turn fits, first_flushed-turn turn, position-page_at size from) refl
 
   covers : (pages from to : ℕ) → to - from ≤ pages →
       flat_map (flushed_by size) (map (turn_command size flush) (turns_within pages size flush.limits.count_max from to))

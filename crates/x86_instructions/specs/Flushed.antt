@@ -7,9 +7,9 @@ use Rattle.x86_instructions.specs.declared.tlb.FlushCommand.{FlushCommand}
 use Rattle.x86_instructions.specs.declared.tlb.FlushCommand.TheVariants.{Invlpgb}
 
 -- the first page that INVLPGB names, by the address in RAX, and the count in ECX
-abbrev pub page_in : ℕ → FlushCommand → ℕ
-page_in size (Invlpgb rax ecx edx) = rax / 4096 * 4096 / size
-page_in size _ = 0
+abbrev pub first_flushed : ℕ → FlushCommand → ℕ
+first_flushed size (Invlpgb rax ecx edx) = rax / 4096 * 4096 / size
+first_flushed size _ = 0
 
 abbrev pub count_in : FlushCommand → ℕ
 count_in (Invlpgb rax ecx edx) = ecx % 2 ^ 16
@@ -18,7 +18,7 @@ count_in _ = 0
 -- the pages that such a command flushes: as many as its count, or one if that is 0, one after the other in the order of
 -- their addresses
 abbrev pub flushed_by : ℕ → FlushCommand → List ℕ
-flushed_by size command = range_with_len (page_in size command) (max 1 (count_in command))
+flushed_by size command = range_with_len (first_flushed size command) (max 1 (count_in command))
 
 -- the pages of a range in order, by their numbers
 abbrev pub pages_of : ℕ → ℕ × ℕ → List ℕ
@@ -35,7 +35,7 @@ IsAboveGap size page = 0xffff_8000_0000_0000 ≤ page * size
 -- turn may have there
 pub record IsTurnOf (size count_max end : ℕ) (command : FlushCommand) : Type 0 where
   pub one_side : AllByRecursion (IsBelowGap size) (flushed_by size command) ⊎ AllByRecursion (IsAboveGap size) (flushed_by size command)
-  pub greatest : count_in command ≡ greatest_count size count_max (position size (page_in size command)) (position size end)
+  pub greatest : count_in command ≡ greatest_count size count_max (position size (first_flushed size command)) (position size end)
 
 -- commands flush the pages of a range in order, each page once, and in greatest turns
 pub record FlushesRange (size count_max : ℕ) (range : ℕ × ℕ) (commands : List FlushCommand) : Type 0 where

@@ -12,15 +12,15 @@ abbrev pub was_written : ℕ → ℕ → ℕ → PortAccessed
 was_written port width value = record { port = port; width = width; write = true; value = value }
 
 -- what ports in memory answer, and the last access to them
-abbrev pub answer_of : MemoryPorts → ℕ
-answer_of ports = ports.value
+abbrev pub port_value : MemoryPorts → ℕ
+port_value ports = ports.value
 
-abbrev pub last_of : MemoryPorts → Option PortAccessed
-last_of ports = ports.last
+abbrev pub last_port_access : MemoryPorts → Option PortAccessed
+last_port_access ports = ports.last
 
 -- one access to ports in memory: it is the last one, a read answers the low bits of what they answer, and they go on
 -- to answer that
 pub record IsAccess (before : MemoryPorts) (access : PortAccessed) (after : MemoryPorts) : Type 0 where
-  pub last : last_of after ≡ Some access
-  pub value : access.write ≡ false → access.value ≡ answer_of before % 2 ^ access.width
-  pub answer : answer_of after ≡ answer_of before
+  pub last : last_port_access after ≡ Some access
+  pub value : access.write ≡ false → access.value ≡ port_value before % 2 ^ access.width
+  pub answer : port_value after ≡ port_value before

@@ -2,7 +2,7 @@
 use Rattle.std.proofs.Common.{◌≡◌, ℕ, suc, ◌+◌, ◌-◌, ◌*◌, ◌/◌, ◌^◌, ◌<◌, ◌≤◌, ap, sym, ◌∙◌, arith}
 use Rattle.std.proofs.Math.Nat.{mod-lt, div-lt_iff_lt-mul}
 use Rattle.std.proofs.lemmas.Nat.{pow_pos, pow-add, mul-le}
-use Rattle.paging_core.specs.Field.{with_field}
+use Rattle.paging_core.specs.Field.{with_bit_field}
 
 -- one field more, below or above
 product : (a b c : ℕ) → a + b ≡ c → 2 ^ a * 2 ^ b ≡ 2 ^ c
@@ -14,9 +14,9 @@ rows a b n below =
     let next : suc a * 2 ^ n ≡ a * 2 ^ n + 2 ^ n = grind arith in
     omega (arith, most, next)
 
-pub with_field-lt : (word low high value : ℕ) → low < high → high < 17 → word < 2 ^ 16 → value < 2 ^ (high - low) →
-    with_field word low high value < 2 ^ 16
-with_field-lt word low high value order within small fits =
+pub with_bit_field-lt : (word low high value : ℕ) → low < high → high < 17 → word < 2 ^ 16 → value < 2 ^ (high - low) →
+    with_bit_field word low high value < 2 ^ 16
+with_bit_field-lt word low high value order within small fits =
     let above : word / 2 ^ high < 2 ^ (16 - high) = (div-lt_iff_lt-mul (pow_pos high)).1 (omega (arith, small, product (16 - high) high 16 (omega arith))) in
     omega (
       arith,

@@ -5,9 +5,9 @@ use Rattle.x86_tables.specs.declared.gdt.descriptor.Descriptor.{Descriptor}
 use Rattle.x86_tables.specs.declared.gdt.descriptor.Descriptor.TheVariants.{UserSegment, SystemSegment}
 
 -- the words that a descriptor takes in its table, the low one first: a system segment takes two (section 4.8.3)
-abbrev pub words_of : Descriptor → List ℕ
-words_of (UserSegment word) = word ∷ []
-words_of (SystemSegment low high) = low ∷ high ∷ []
+abbrev pub descriptor_words : Descriptor → List ℕ
+descriptor_words (UserSegment word) = word ∷ []
+descriptor_words (SystemSegment low high) = low ∷ high ∷ []
 
 -- the field DPL: bits 45 and 46 of the low word (section 4.7.1)
 abbrev pub level_of : Descriptor → ℕ

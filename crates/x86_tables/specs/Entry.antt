@@ -10,8 +10,8 @@ use Rattle.x86_tables.specs.contracts.idt.entry.Entry.{the_row}
 use Rattle.x86_tables.specs.contracts.idt.entry_options.EntryOptions.{the_row as options_row}
 
 -- a gate that is not present
-abbrev pub missing : {F : Type 0} → Entry F
-missing = record { address = 0; options = minimal_options; handler = record {} }
+abbrev pub absent_gate : {F : Type 0} → Entry F
+absent_gate = record { address = 0; options = minimal_options; handler = record {} }
 
 -- bits 0 to 15 of the handler's address, the code segment, the options, bits 16 to 31 and bits 32 to 63 of the
 -- address, and 4 reserved bytes

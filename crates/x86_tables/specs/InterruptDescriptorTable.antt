@@ -1,7 +1,7 @@
 -- The table of gates (AMD64 manual, volume 2, sections 4.6.5 and 8.2).
 use Rattle.std.specs.Prelude.{ℕ, ◌-◌, ◌≤◌, List, [], Option, Some, None, nat_le, ◌==◌, if◌then◌else◌, replicate, slice_get, slice_set, slice_range}
 use Rattle.std.specs.Borrow.{Lends, LendsIf, MutBor, Fml, Array, RattleType}
-use Rattle.x86_tables.specs.Entry.{gate_bytes, missing}
+use Rattle.x86_tables.specs.Entry.{gate_bytes, absent_gate}
 use Rattle.x86_tables.specs.declared.idt.entry.Entry.{Entry}
 use Rattle.x86_tables.specs.declared.idt.handler.HandlerFunc.{HandlerFunc}
 use Rattle.x86_tables.specs.declared.idt.handler.HandlerFuncWithErrCode.{HandlerFuncWithErrCode}
@@ -21,34 +21,34 @@ gate_row = entry_row handler_row
 -- no gate is present
 abbrev pub new_table : InterruptDescriptorTable
 new_table = record {
-  divide_error = missing;
-  debug = missing;
-  non_maskable_interrupt = missing;
-  breakpoint = missing;
-  overflow = missing;
-  bound_range_exceeded = missing;
-  invalid_opcode = missing;
-  device_not_available = missing;
-  double_fault = missing;
-  coprocessor_segment_overrun = missing;
-  invalid_tss = missing;
-  segment_not_present = missing;
-  stack_segment_fault = missing;
-  general_protection_fault = missing;
-  page_fault = missing;
-  reserved_1 = missing;
-  x87_floating_point = missing;
-  alignment_check = missing;
-  machine_check = missing;
-  simd_floating_point = missing;
-  virtualization = missing;
-  cp_protection_exception = missing;
-  reserved_2 = record { gates = replicate 6 missing };
-  hv_injection_exception = missing;
-  vmm_communication_exception = missing;
-  security_exception = missing;
-  reserved_3 = missing;
-  interrupts = record { gates = replicate 224 missing };
+  divide_error = absent_gate;
+  debug = absent_gate;
+  non_maskable_interrupt = absent_gate;
+  breakpoint = absent_gate;
+  overflow = absent_gate;
+  bound_range_exceeded = absent_gate;
+  invalid_opcode = absent_gate;
+  device_not_available = absent_gate;
+  double_fault = absent_gate;
+  coprocessor_segment_overrun = absent_gate;
+  invalid_tss = absent_gate;
+  segment_not_present = absent_gate;
+  stack_segment_fault = absent_gate;
+  general_protection_fault = absent_gate;
+  page_fault = absent_gate;
+  reserved_1 = absent_gate;
+  x87_floating_point = absent_gate;
+  alignment_check = absent_gate;
+  machine_check = absent_gate;
+  simd_floating_point = absent_gate;
+  virtualization = absent_gate;
+  cp_protection_exception = absent_gate;
+  reserved_2 = record { gates = replicate 6 absent_gate };
+  hv_injection_exception = absent_gate;
+  vmm_communication_exception = absent_gate;
+  security_exception = absent_gate;
+  reserved_3 = absent_gate;
+  interrupts = record { gates = replicate 224 absent_gate };
 }
 
 -- the bytes of a gate, by the form of its handler: one that returns, with and without an error code, that of page

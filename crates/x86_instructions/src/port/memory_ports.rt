@@ -13,19 +13,19 @@ pub struct MemoryPorts {
 }
 
 impl MemoryPorts {
-    ghost use Rattle.x86_instructions.specs.Ports.{answer_of, last_of};
+    ghost use Rattle.x86_instructions.specs.Ports.{port_value, last_port_access};
 
     /// Ports that answer the low bits of `value`, with no access yet.
     pub fn new(value: u32) -> MemoryPorts
-        ensures answer { answer_of result ≡ value }
-        ensures last { last_of result ≡ None }
+        ensures answer { port_value result ≡ value }
+        ensures last { last_port_access result ≡ None }
     {
         MemoryPorts { value, last: None }
     }
 
     /// The last access. None before the first.
     pub fn last(&self) -> Option<PortAccessed>
-        ensures { result ≡ last_of self.now }
+        ensures { result ≡ last_port_access self.now }
     {
         self.last
     }
@@ -33,8 +33,8 @@ impl MemoryPorts {
     /// Keeps a read as the last access, and answers its value.
     fn read(&mut self, port: u16, width: u8, value: u32) -> u32
         ensures value { result ≡ value }
-        ensures answer { answer_of self.new ≡ answer_of self.old }
-        ensures last { last_of self.new ≡ Some (was_read port width value) }
+        ensures answer { port_value self.new ≡ port_value self.old }
+        ensures last { last_port_access self.new ≡ Some (was_read port width value) }
     {
         self.last = Some(PortAccessed {
             port,
@@ -47,8 +47,8 @@ impl MemoryPorts {
 
     /// Keeps a write as the last access.
     fn write(&mut self, port: u16, width: u8, value: u32)
-        ensures answer { answer_of self.new ≡ answer_of self.old }
-        ensures last { last_of self.new ≡ Some (was_written port width value) }
+        ensures answer { port_value self.new ≡ port_value self.old }
+        ensures last { last_port_access self.new ≡ Some (was_written port width value) }
     {
         self.last = Some(PortAccessed {
             port,
@@ -60,9 +60,9 @@ impl MemoryPorts {
 }
 
 impl Ports for MemoryPorts {
-    ghost use Rattle.x86_instructions.specs.Ports.{IsAccess, last_of};
+    ghost use Rattle.x86_instructions.specs.Ports.{IsAccess, last_port_access};
 
-    ghost last = { last_of };
+    ghost last = { last_port_access };
 
     ghost accessed = { IsAccess };
 

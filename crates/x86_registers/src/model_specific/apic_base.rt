@@ -4,7 +4,7 @@ ghost use Rattle.std.specs.Prelude.{◌≡◌, ℕ, ◌*◌, ◌<◌, ◌≤◌}
 ghost use Rattle.std.specs.Int.{bit_at};
 ghost use Rattle.std.specs.Int.RustNames.{bit_and, bit_or};
 ghost use Rattle.bitflags.specs.Sets.{known_bits};
-ghost use Rattle.paging_core.specs.Field.{field_of, with_field};
+ghost use Rattle.paging_core.specs.Field.{field_of, with_bit_field};
 ghost use Rattle.x86_flags.specs.ApicBaseFlags.{apic_base_bits, apic_base_flags};
 ghost use Rattle.x86_registers.specs.Keeping.{keeping, kept_bit};
 
@@ -68,7 +68,7 @@ impl ApicBase {
     /// Writes the frame and the flags. Every bit that is neither stays.
     pub fn write(cpu: &mut Cpu, frame: PhysFrame, flags: ApicBaseFlags)
         ensures written { cpu.new ≡ record cpu.old {
-          apic_base = with_field
+          apic_base = with_bit_field
               (keeping (known_bits apic_base_flags) cpu.old.apic_base (apic_base_bits flags)) 12 52 frame;
         } }
         ensures frame { field_of cpu.new.apic_base 12 52 ≡ frame }

@@ -1,7 +1,7 @@
 //! The table of segment descriptors.
 
 ghost use Rattle.std.specs.Prelude.{⊤, ◌≡◌, ◌+◌, ◌-◌, ◌*◌, ◌<◌, ◌≤◌, ◌↔◌, ◌∷◌, [], ◌++◌, length, slice_index, IsSome, IfSome, OnSome, IfNone};
-ghost use Rattle.x86_tables.specs.Descriptor.{level_of, words_of};
+ghost use Rattle.x86_tables.specs.Descriptor.{level_of, descriptor_words};
 
 use crate::gdt::descriptor::Descriptor;
 use arrayvec::ArrayVec;
@@ -111,8 +111,8 @@ impl<const MAX: usize> GlobalDescriptorTable<MAX> {
     /// Appends a descriptor, for which there is room: one entry for a code or data segment, two for a system
     /// segment. The selector has the index of the first new entry, and the descriptor's level.
     pub fn append(&mut self, entry: Descriptor) -> SegmentSelector
-        requires { length self.old + length (words_of entry) ≤ MAX }
-        ensures words { self.new ≡ self.old ++ words_of entry }
+        requires { length self.old + length (descriptor_words entry) ≤ MAX }
+        ensures words { self.new ≡ self.old ++ descriptor_words entry }
         ensures selector { result.0 ≡ length self.old * 8 + level_of entry }
     {
         let index = self.table.len() as u16;
@@ -128,8 +128,8 @@ impl<const MAX: usize> GlobalDescriptorTable<MAX> {
 
     /// Appends a descriptor as `append` does. None exactly if there is no room; then the table is unchanged.
     pub fn try_append(&mut self, entry: Descriptor) -> Option<SegmentSelector>
-        ensures some { IsSome result ↔ (length self.old + length (words_of entry) ≤ MAX) }
-        ensures words { OnSome result (self.new ≡ self.old ++ words_of entry) }
+        ensures some { IsSome result ↔ (length self.old + length (descriptor_words entry) ≤ MAX) }
+        ensures words { OnSome result (self.new ≡ self.old ++ descriptor_words entry) }
         ensures selector { IfSome result (λ selector. selector.0 ≡ length self.old * 8 + level_of entry) }
         ensures none { IfNone result (self.new ≡ self.old) }
     {

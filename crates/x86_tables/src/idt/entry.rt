@@ -3,7 +3,7 @@
 ghost use Rattle.std.specs.Prelude.{◌≡◌};
 ghost use Rattle.std.specs.Borrow.{sem};
 ghost use Rattle.x86_tables.specs.EntryOptions.{handler_options};
-ghost use Rattle.x86_tables.specs.Entry.{gate_bytes, lends_options, missing};
+ghost use Rattle.x86_tables.specs.Entry.{gate_bytes, lends_options, absent_gate};
 
 use crate::idt::entry_options::EntryOptions;
 use paging_core::VirtAddr;
@@ -24,7 +24,7 @@ pub struct Entry<F> {
 impl<F> Entry<F> {
     /// A gate that is not present, to the address 0.
     pub fn missing() -> Self
-        ensures { result ≡ missing }
+        ensures { result ≡ absent_gate }
     {
         Self {
             address: VirtAddr::zero(),

@@ -1,7 +1,7 @@
 //! What an entry of the interrupt descriptor table says besides its handler's address.
 
 ghost use Rattle.std.specs.Prelude.{◌≡◌, ◌+◌, ◌-◌, ◌^◌, ◌<◌, ◌==◌, ◌↔◌, IsNone, IfSome, if◌then◌else◌};
-ghost use Rattle.paging_core.specs.Field.{field_of, with_field};
+ghost use Rattle.paging_core.specs.Field.{field_of, with_bit_field};
 ghost use Rattle.x86_flags.specs.PrivilegeLevel.{level_number};
 ghost use Rattle.x86_tables.specs.EntryOptions.{minimal_options};
 
@@ -42,7 +42,7 @@ impl EntryOptions {
     pub fn set_present(&mut self, present: bool) -> &mut Self
         ensures same { result.ghost_name ≡ self.entry.ghost_name }
         ensures value { result.now
-            ≡ record self.old { bits = with_field self.old.bits 15 16 (if present then 1 else 0) } }
+            ≡ record self.old { bits = with_bit_field self.old.bits 15 16 (if present then 1 else 0) } }
     {
         self.set_field(15, 16, u16::from(present));
         self
@@ -53,7 +53,7 @@ impl EntryOptions {
     pub fn disable_interrupts(&mut self, disable: bool) -> &mut Self
         ensures same { result.ghost_name ≡ self.entry.ghost_name }
         ensures value { result.now
-            ≡ record self.old { bits = with_field self.old.bits 8 9 (if disable then 0 else 1) } }
+            ≡ record self.old { bits = with_bit_field self.old.bits 8 9 (if disable then 0 else 1) } }
     {
         self.set_field(8, 9, u16::from(!disable));
         self
@@ -63,7 +63,7 @@ impl EntryOptions {
     pub fn set_privilege_level(&mut self, dpl: PrivilegeLevel) -> &mut Self
         ensures same { result.ghost_name ≡ self.entry.ghost_name }
         ensures value { result.now
-            ≡ record self.old { bits = with_field self.old.bits 13 15 (level_number dpl) } }
+            ≡ record self.old { bits = with_bit_field self.old.bits 13 15 (level_number dpl) } }
     {
         self.set_field(13, 15, dpl as u16);
         self
@@ -74,7 +74,7 @@ impl EntryOptions {
     pub fn set_stack_index(&mut self, index: u16) -> &mut Self
         requires { index < 7 }
         ensures same { result.ghost_name ≡ self.entry.ghost_name }
-        ensures value { result.now ≡ record self.old { bits = with_field self.old.bits 0 3 (index + 1) } }
+        ensures value { result.now ≡ record self.old { bits = with_bit_field self.old.bits 0 3 (index + 1) } }
     {
         self.set_field(0, 3, index + 1);
         self
@@ -130,7 +130,7 @@ impl EntryOptions {
         requires order { low < high }
         requires within { high < 17 }
         requires fits { value < 2 ^ (high - low) }
-        ensures { self.new ≡ record self.old { bits = with_field self.old.bits low high value } }
+        ensures { self.new ≡ record self.old { bits = with_bit_field self.old.bits low high value } }
     {
         self.bits = set_bits(u64::from(self.bits), low, high, u64::from(value)) as u16;
     }

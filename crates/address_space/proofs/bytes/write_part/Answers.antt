@@ -1,7 +1,7 @@
 use Rattle.std.proofs.Common.{◌≡◌, ◌∙◌, ℕ, ◌+◌, ◌-◌, ◌*◌, ◌/◌, ◌%◌, ◌^◌, ◌<◌, ◌≤◌, ◌==◌, ◌||◌, length, option_map, ap, sym, refl, subst, arith}
 use Rattle.std.specs.Prelude.{IsSome, IsTrue}
 use Rattle.paging_core.specs.Address.{is_canonical}
-use Rattle.paging_core.specs.Walk.{walk_of, place_of}
+use Rattle.paging_core.specs.Walk.{walk_of, mapped_place}
 use Rattle.paging_core.specs.Memory.{word_at}
 use Rattle.paging_core.proofs.PageWritten.{written_walks, written_larges, written_tree, run_bytes, run_others}
 use Rattle.address_space.proofs.Unmapped.{not_there}
@@ -13,7 +13,7 @@ unreachable-requires c =
     let page = c.containing_address-page.ensures in
     let at = c.new.ensures in
     let same : c.args.at / 4096 ≡ c.containing_address-page.result = omega (arith, page, at) in
-    not_there (walk_of c.args.frames.now c.args.root c.containing_address-page.result) (sym c.walk.ensures.found ∙ ap (option_map place_of) c.in_default.is)
+    not_there (walk_of c.args.frames.now c.args.root c.containing_address-page.result) (sym c.walk.ensures.found ∙ ap (option_map mapped_place) c.in_default.is)
     (subst (λ (p : ℕ). IsSome (walk_of c.args.frames.now c.args.root p)) same c.requires.mapped)
 
 pub read_words-requires-clause-fits : goal.read_words-requires-clause-fits
@@ -36,7 +36,7 @@ write_words-requires-clause-fits c =
 
 part : (c : goal.After-write_words) → IsPartWritten c.args.frames.now c.write_words.new.self c.read_words.new.words
     c.put_bytes.new.words c.args.bytes.now c.args.root c.args.at c.containing_address-page.result (c.args.at % 4096 / 8)
-    (place_of c.in-Some.place)
+    (mapped_place c.in-Some.place)
 part c = record {
   there = sym c.in-Some.ensures.found;
   page_is = (let page = c.containing_address-page.ensures in let at = c.new.ensures in omega (arith, page, at));
@@ -52,7 +52,7 @@ part c = record {
 fits : (c : goal.After-write_words) → c.args.at % 4096 / 8 + length c.put_bytes.new.words ≤ 512
 fits c =
     part_fits c.args.frames.now c.write_words.new.self c.read_words.new.words c.put_bytes.new.words c.args.bytes.now
-    c.args.root c.args.at c.containing_address-page.result (c.args.at % 4096 / 8) (place_of c.in-Some.place) (part c)
+    c.args.root c.args.at c.containing_address-page.result (c.args.at % 4096 / 8) (mapped_place c.in-Some.place) (part c)
 
 elsewhere : (c : goal.After-write_words) → (f i : ℕ) → i < 512 → (f ≡ c.in-Some.place.frame → ⊥) →
     word_at c.write_words.new.self f i ≡ word_at c.args.frames.now f i
@@ -64,24 +64,24 @@ returns-clause-size c = c.write_words.ensures.size
 pub returns-clause-tree : goal.returns-clause-tree
 returns-clause-tree c = λ free tree.
     written_tree c.args.frames.now c.write_words.new.self c.args.root c.containing_address-page.result
-    (place_of c.in-Some.place) free (sym c.in-Some.ensures.found) c.write_words.ensures.size (elsewhere c) tree
+    (mapped_place c.in-Some.place) free (sym c.in-Some.ensures.found) c.write_words.ensures.size (elsewhere c) tree
 
 pub returns-clause-walks : goal.returns-clause-walks
 returns-clause-walks c =
     let t = c.requires.tree in
     written_walks c.args.frames.now c.write_words.new.self c.args.root c.containing_address-page.result
-    (place_of c.in-Some.place) t.0 (sym c.in-Some.ensures.found) c.write_words.ensures.size (elsewhere c) t.1
+    (mapped_place c.in-Some.place) t.0 (sym c.in-Some.ensures.found) c.write_words.ensures.size (elsewhere c) t.1
 
 pub returns-clause-larges : goal.returns-clause-larges
 returns-clause-larges c =
     let t = c.requires.tree in
     written_larges c.args.frames.now c.write_words.new.self c.args.root c.containing_address-page.result
-    (place_of c.in-Some.place) t.0 (sym c.in-Some.ensures.found) c.write_words.ensures.size (elsewhere c) t.1
+    (mapped_place c.in-Some.place) t.0 (sym c.in-Some.ensures.found) c.write_words.ensures.size (elsewhere c) t.1
 
 pub returns-clause-words : goal.returns-clause-words
 returns-clause-words c =
     part_words c.args.frames.now c.write_words.new.self c.read_words.new.words c.put_bytes.new.words c.args.bytes.now
-    c.args.root c.args.at c.containing_address-page.result (c.args.at % 4096 / 8) (place_of c.in-Some.place) (part c)
+    c.args.root c.args.at c.containing_address-page.result (c.args.at % 4096 / 8) (mapped_place c.in-Some.place) (part c)
 
 pub returns-clause-bytes : goal.returns-clause-bytes
 returns-clause-bytes c =
@@ -91,10 +91,10 @@ returns-clause-bytes c =
     let half : c.containing_address-page.result * 4096 / 2 ^ 47 ≡ c.args.at / 2 ^ 47 = omega (arith, page, at) in
     let canonical : IsTrue (is_canonical (c.containing_address-page.result * 4096)) = ap (λ (n : ℕ). n == 0 || n == 2 ^ 17 - 1) half ∙ c.requires.canonical in
     part_written c.args.frames.now c.write_words.new.self c.read_words.new.words c.put_bytes.new.words c.args.bytes.now
-    c.args.root c.args.at c.containing_address-page.result (c.args.at % 4096 / 8) (place_of c.in-Some.place) (part c)
+    c.args.root c.args.at c.containing_address-page.result (c.args.at % 4096 / 8) (mapped_place c.in-Some.place) (part c)
     (run_bytes c.args.frames.now c.write_words.new.self c.args.root c.containing_address-page.result (c.args.at % 4096 / 8)
-    c.put_bytes.new.words (place_of c.in-Some.place) t.0 (sym c.in-Some.ensures.found) (fits c) c.write_words.ensures
+    c.put_bytes.new.words (mapped_place c.in-Some.place) t.0 (sym c.in-Some.ensures.found) (fits c) c.write_words.ensures
     t.1)
     (run_others c.args.frames.now c.write_words.new.self c.args.root c.containing_address-page.result (c.args.at % 4096 / 8)
-    c.put_bytes.new.words (place_of c.in-Some.place) t.0 (sym c.in-Some.ensures.found) (fits c) c.write_words.ensures
+    c.put_bytes.new.words (mapped_place c.in-Some.place) t.0 (sym c.in-Some.ensures.found) (fits c) c.write_words.ensures
     t.1 canonical)

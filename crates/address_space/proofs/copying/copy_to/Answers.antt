@@ -1,6 +1,6 @@
 use Rattle.std.proofs.Common.{◌∙◌, ap, option_map, sym, subst}
 use Rattle.std.specs.Prelude.{IsSome}
-use Rattle.paging_core.specs.Walk.{walk_of, place_of}
+use Rattle.paging_core.specs.Walk.{walk_of, mapped_place}
 use Rattle.paging_core.proofs.PageChanged.{some_place}
 use Rattle.address_space.proofs.Mapped.{by_table}
 use Rattle.address_space.proofs.Unmapped.{not_there}
@@ -17,13 +17,15 @@ pub protect_page-requires-clause-small : goal.protect_page-requires-clause-small
 protect_page-requires-clause-small c =
     let t = c.requires.tree in
     by_table c.copy_page.new.frames c.args.root c.args.target (λ slot. c.copy_page.ensures.kept.larges t.0 t.1 slot ∙ c.requires.no_large slot)
-    (subst IsSome (sym (walk_same c.args.frames.now c.copy_page.new.frames c.args.root c.args.target (c.copy_page.ensures.kept.walks t.0 t.1))) c.requires.target)
+    (subst IsSome (sym (walk_same c.args.frames.now c.copy_page.new.frames c.args.root c.args.target
+    (c.copy_page.ensures.kept.walks t.0 t.1))) c.requires.target)
 
 pub unreachable-requires : goal.unreachable-requires
 unreachable-requires c =
     let t = c.requires.tree in
     let one = c.copy_page.new.frames in
-    not_there (walk_of one c.args.root c.args.source) (sym c.walk.ensures.found ∙ ap (option_map place_of) c.in_default.is)
+    not_there (walk_of one c.args.root c.args.source) (sym c.walk.ensures.found
+    ∙ ap (option_map mapped_place) c.in_default.is)
     (subst IsSome (sym (walk_same c.args.frames.now one c.args.root c.args.source (c.copy_page.ensures.kept.walks t.0 t.1))) c.requires.source)
 
 pub returns : goal.returns
@@ -32,7 +34,7 @@ returns c =
     let tree = c.copy_page.ensures.kept.tree t.0 t.1 in
     let walks = c.copy_page.ensures.kept.walks t.0 t.1 in
     let target = some_place (walk_of c.args.frames.now c.args.root c.args.target) c.requires.target in
-    one_copied c.args.frames.now c.copy_page.new.frames c.protect_page.new.frames c.args.root c.args.source c.args.target (place_of c.in-Some.place)
+    one_copied c.args.frames.now c.copy_page.new.frames c.protect_page.new.frames c.args.root c.args.source c.args.target (mapped_place c.in-Some.place)
     (record {
       there = sym c.in-Some.ensures.found;
       mapped = subst IsSome (sym (walk_same c.args.frames.now c.copy_page.new.frames c.args.root c.args.target walks)) c.requires.target;

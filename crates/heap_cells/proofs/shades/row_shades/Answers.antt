@@ -1,6 +1,6 @@
 use Rattle.std.proofs.Common.{◌≡◌, ◌≤◌, ◌<◌, ◌+◌, ℕ, List, [], ◌∷◌, ◌++◌, length, sym, ◌∙◌, ap, arith}
 use Rattle.heap_cells.specs.declared.sums.Change.TheVariants.{Comes, Goes}
-use Rattle.heap_cells.specs.Shades.{columns_of, cell_shade, first_shades, row_shades}
+use Rattle.heap_cells.specs.Shades.{cell_columns, cell_shade, first_shades, row_shades}
 use Rattle.heap_cells.proofs.Columns.{before_none, before_few, next_before, shown_in, shade_is}
 use Rattle.heap_cells.proofs.Steps.{shades_step}
 use Rattle.heap_cells.proofs.shades.row_shades.Goals as goal
@@ -15,7 +15,7 @@ loop-column-init c = record {
 pub overflow_add-since : goal.overflow_add-since
 overflow_add-since c =
     let column = c.loop-column.column in
-    let inside : column < columns_of c.args.scale = omega (arith, c.loop-column-test.true, c.columns_of-column-end.ensures.value) in
+    let inside : column < cell_columns c.args.scale = omega (arith, c.loop-column-test.true, c.columns_of-column-end.ensures.value) in
     let within : column < length c.in_ok-came.came.items = omega (arith, inside, c.in_ok-came.ensures.length) in
     let more = next_before c.args.scale Comes c.args.row c.args.spans.now c.in_ok-came.came.items column c.loop-column.since
     c.index.result.now c.loop-column.invariant.since within c.index.ensures (c.in_ok-came.ensures.each column inside) in
@@ -25,7 +25,7 @@ overflow_add-since c =
 pub overflow_add-until : goal.overflow_add-until
 overflow_add-until c =
     let column = c.loop-column.column in
-    let inside : column < columns_of c.args.scale = omega (arith, c.loop-column-test.true, c.columns_of-column-end.ensures.value) in
+    let inside : column < cell_columns c.args.scale = omega (arith, c.loop-column-test.true, c.columns_of-column-end.ensures.value) in
     let within : column < length c.in_ok-went.went.items = omega (arith, inside, c.in_ok-went.ensures.length) in
     let more = next_before c.args.scale Goes c.args.row c.args.spans.now c.in_ok-went.went.items column c.loop-column.until
     c.index-in-loop-column.result.now c.loop-column.invariant.until within c.index-in-loop-column.ensures
@@ -36,8 +36,8 @@ overflow_add-until c =
 pub overflow_sub-since : goal.overflow_sub-since
 overflow_sub-since c =
     let column = c.loop-column.column in
-    let inside : column < columns_of c.args.scale = omega (arith, c.loop-column-test.true, c.columns_of-column-end.ensures.value) in
-    let wide : 1 ≤ columns_of c.args.scale = omega (arith, inside) in
+    let inside : column < cell_columns c.args.scale = omega (arith, c.loop-column-test.true, c.columns_of-column-end.ensures.value) in
+    let wide : 1 ≤ cell_columns c.args.scale = omega (arith, inside) in
     let within : column < length c.in_ok-came.came.items = omega (arith, inside, c.in_ok-came.ensures.length) in
     let within' : column < length c.in_ok-went.went.items = omega (arith, inside, c.in_ok-went.ensures.length) in
     let came = next_before c.args.scale Comes c.args.row c.args.spans.now c.in_ok-came.came.items column c.loop-column.since
@@ -54,8 +54,8 @@ loop-column-preserved c =
     let row = c.args.row in
     let scale = c.args.scale in
     let column = c.loop-column.column in
-    let inside : column < columns_of c.args.scale = omega (arith, c.loop-column-test.true, c.columns_of-column-end.ensures.value) in
-    let wide : 1 ≤ columns_of c.args.scale = omega (arith, inside) in
+    let inside : column < cell_columns c.args.scale = omega (arith, c.loop-column-test.true, c.columns_of-column-end.ensures.value) in
+    let wide : 1 ≤ cell_columns c.args.scale = omega (arith, inside) in
     let within : column < length c.in_ok-came.came.items = omega (arith, inside, c.in_ok-came.ensures.length) in
     let within' : column < length c.in_ok-went.went.items = omega (arith, inside, c.in_ok-went.ensures.length) in
     let came = next_before scale Comes row spans c.in_ok-came.came.items column c.loop-column.since c.index.result.now
@@ -76,7 +76,7 @@ loop-column-preserved c =
 pub returns : goal.returns
 unfolding row_shades
 returns c =
-    let all : c.loop-column.column ≡ columns_of c.args.scale = omega (
+    let all : c.loop-column.column ≡ cell_columns c.args.scale = omega (
       arith,
       c.loop-column-test.false,
       c.loop-column.auto.column-end,

@@ -1,7 +1,7 @@
 use Rattle.std.proofs.Common.{List, ℕ, ◌++◌, string_bytes, sym, ◌∙◌, ap, append_assoc, codes}
 use Rattle.std.proofs.lemmas.List.{append-nil}
 use Rattle.heap_figures.specs.Classes.{small_count}
-use Rattle.heap_figures.specs.Text.{class_text, small_texts}
+use Rattle.heap_figures.specs.Text.{bin_class_text, small_texts}
 use Rattle.heap_figures.proofs.Texts.{small_none, small_more}
 use Rattle.heap_figures.proofs.text.push_small.Goals as goal
 
@@ -17,9 +17,9 @@ loop-size-preserved c =
     let extents = c.args.extents.now in
     let out = string_bytes c.args.out.now in
     let n = c.loop-size.size in
-    let one = class_text before behind (codes "small") n (small_count n extents) in
+    let one = bin_class_text before behind (codes "small") n (small_count n extents) in
     c.in_ok-push_class.ensures
-    ∙ ap (λ (k : ℕ). string_bytes c.loop-size.out ++ class_text before behind (codes "small") n k) (c.small_counts-counts.ensures n c.loop-size-test.true)
+    ∙ ap (λ (k : ℕ). string_bytes c.loop-size.out ++ bin_class_text before behind (codes "small") n k) (c.small_counts-counts.ensures n c.loop-size-test.true)
     ∙ ap (λ (l : List ℕ). l ++ one) c.loop-size.invariant
     ∙ append_assoc out (small_texts before behind extents n) one
     ∙ ap (λ (l : List ℕ). out ++ l) (sym (small_more before behind extents n))

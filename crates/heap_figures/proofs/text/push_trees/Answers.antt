@@ -1,7 +1,7 @@
 use Rattle.std.proofs.Common.{List, ℕ, ◌++◌, string_bytes, sym, ◌∙◌, ap, append_assoc, codes}
 use Rattle.std.proofs.lemmas.List.{append-nil}
 use Rattle.heap_figures.specs.Classes.{tree_count}
-use Rattle.heap_figures.specs.Text.{class_text, tree_texts}
+use Rattle.heap_figures.specs.Text.{bin_class_text, tree_texts}
 use Rattle.heap_figures.proofs.Texts.{tree_none, tree_more}
 use Rattle.heap_figures.proofs.text.push_trees.Goals as goal
 
@@ -17,9 +17,9 @@ loop-index-preserved c =
     let extents = c.args.extents.now in
     let out = string_bytes c.args.out.now in
     let n = c.loop-index.index in
-    let one = class_text before behind (codes "tree") n (tree_count n extents) in
+    let one = bin_class_text before behind (codes "tree") n (tree_count n extents) in
     c.in_ok-push_class.ensures
-    ∙ ap (λ (k : ℕ). string_bytes c.loop-index.out ++ class_text before behind (codes "tree") n k) (c.tree_counts-counts.ensures n c.loop-index-test.true)
+    ∙ ap (λ (k : ℕ). string_bytes c.loop-index.out ++ bin_class_text before behind (codes "tree") n k) (c.tree_counts-counts.ensures n c.loop-index-test.true)
     ∙ ap (λ (l : List ℕ). l ++ one) c.loop-index.invariant
     ∙ append_assoc out (tree_texts before behind extents n) one
     ∙ ap (λ (l : List ℕ). out ++ l) (sym (tree_more before behind extents n))

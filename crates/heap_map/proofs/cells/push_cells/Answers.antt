@@ -1,6 +1,6 @@
 use Rattle.std.proofs.Common.{◌≡◌, ◌≤◌, ◌<◌, ◌+◌, ◌*◌, ℕ, ◌++◌, List, true, false, sym, ◌∙◌, ap, arith, string_bytes}
 use Rattle.heap_map.specs.declared.cells.Cell.{Cell}
-use Rattle.heap_map.specs.Cells.{cell_at, look_same, cells_text}
+use Rattle.heap_map.specs.Cells.{drawn_cell, look_same, row_cells_text}
 use Rattle.heap_map.proofs.Bars.{runs_begin, runs_same, runs_other}
 use Rattle.heap_map.proofs.cells.push_cells.Goals as goal
 use Rattle.heap_map.proofs.cells.push_cells.Goals.{then-not-look_same+in_ok-push_run, else-not-look_same}
@@ -19,8 +19,8 @@ loop-next-preserved c =
     let line = c.args.line.now in
     let n = c.loop-next.next in
     let h = c.loop-next.invariant in
-    let text = string_bytes c.args.out.now ++ cells_text c.args.cell c.args.base c.args.y line in
-    let is = c.cell_at-one.ensures.value ∙ ap (λ (low : ℕ). cell_at c.args.cell low line) c.cell_start.ensures.value in
+    let text = string_bytes c.args.out.now ++ row_cells_text c.args.cell c.args.base c.args.y line in
+    let is = c.cell_at-one.ensures.value ∙ ap (λ (low : ℕ). drawn_cell c.args.cell low line) c.cell_start.ensures.value in
     elim c.if-not-look_same.branch [
       | then-not-look_same+in_ok-push_run w ↦ (let differs : c.look_same.result ≡ false = grind (arith, w.if-not-look_same.true) in
           let used : c.if-not-look_same.same.used ≡ c.cell_at-one.result.used = ap (λ (s : Cell). s.used) w.same-is in

@@ -1,4 +1,4 @@
-use Rattle.std.proofs.Common.{◌≡◌, ◌⊎◌, string_bytes, sym, subst}
+use Rattle.std.proofs.Common.{◌≡◌, ◌⊎◌, inl, string_bytes, sym, subst, rules}
 use Rattle.heap_program.specs.Progress.{IsAt}
 use Rattle.heap_program.specs.Stepped.{IsGeneratedBy}
 use Rattle.heap_program.proofs.Draws.{all_drawn, whole_text, none_generated, part_generated, all_generated}
@@ -20,6 +20,27 @@ returns-in_err-push_tally-clause-stopped g c = on_err c.from_residual-in_err-pus
 pub returns-in_err-push_end-clause-stopped : goal.returns-in_err-push_end-clause-stopped
 returns-in_err-push_end-clause-stopped g c = on_err c.from_residual-in_err-push_end.result
     (λ s at. none_generated s c.args.seed c.args.count (g.K.Sink.taken c.args.sink.now))
+
+pub returns-in_err-draw_calls-clause-faults : goal.returns-in_err-draw_calls-clause-faults
+returns-in_err-draw_calls-clause-faults g c = record {
+  which = if_err c.from_residual.result (λ stop. stop ≡ Memory) c.from_residual.ensures.1 (λ stop made. inl made);
+  later = search rules;
+  cause = search rules;
+}
+
+pub returns-in_err-push_tally-clause-faults : goal.returns-in_err-push_tally-clause-faults
+returns-in_err-push_tally-clause-faults g c = record {
+  which = if_err c.from_residual-in_err-push_tally.result (λ stop. stop ≡ Memory) c.from_residual-in_err-push_tally.ensures.1 (λ stop made. inl made);
+  later = search rules;
+  cause = search rules;
+}
+
+pub returns-in_err-push_end-clause-faults : goal.returns-in_err-push_end-clause-faults
+returns-in_err-push_end-clause-faults g c = record {
+  which = if_err c.from_residual-in_err-push_end.result (λ stop. stop ≡ Memory) c.from_residual-in_err-push_end.ensures.1 (λ stop made. inl made);
+  later = search rules;
+  cause = search rules;
+}
 
 pub returns-in_err-write_out-clause-stopped : goal.returns-in_err-write_out-clause-stopped
 returns-in_err-write_out-clause-stopped g c = on_err c.from_residual-in_err-write_out.result (λ s at.

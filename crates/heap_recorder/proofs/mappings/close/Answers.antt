@@ -1,8 +1,8 @@
 use Rattle.std.proofs.Common.{arith}
 use Rattle.std.proofs.lemmas.Grind.{common_steps}
 use Rattle.std.proofs.lemmas.List.Edits.{map_over_more}
-use Rattle.heap_recorder.specs.Mappings.{closed}
+use Rattle.heap_recorder.specs.Mappings.{closed_mapping}
 use Rattle.heap_recorder.proofs.mappings.close.Goals as goal
 
 pub loop-place-preserved : goal.loop-place-preserved
-loop-place-preserved c = grind (arith, common_steps, map_over_more (closed c.args.calls))
+loop-place-preserved c = grind (arith, common_steps, map_over_more (closed_mapping c.args.calls))

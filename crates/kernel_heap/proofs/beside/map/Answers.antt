@@ -3,7 +3,7 @@ use Rattle.std.specs.Prelude.{IfErr, OnOk, OnErr}
 use Rattle.dlmalloc.specs.declared.heap.Dlmalloc.{Dlmalloc}
 use Rattle.mapped_regions.specs.Mapped.{CanMap, IsRegionJoined}
 use Rattle.mapped_regions.specs.UserRegions.{user_region, IsMapRefused}
-use Rattle.kernel_heap.specs.Beside.{IsBeside}
+use Rattle.kernel_heap.specs.Beside.{KeepsHeapWords}
 use Rattle.kernel_heap.specs.Moves.{IsKeptBeside}
 use Rattle.kernel_heap.specs.System.{paged}
 use Rattle.kernel_heap.specs.declared.paged_system.PagedSystem.{PagedSystem}
@@ -13,7 +13,8 @@ use Rattle.kernel_heap.proofs.beside.map.Goals as goal
 pub invariant_of-heap : goal.invariant_of-heap
 invariant_of-heap c =
     intact_beside c.heap.inside.heap c.heap.invariant c.map.new.self (subst
-    (λ (s : PagedSystem). IsBeside (paged s) (paged c.map.new.self)) c.allocator_mut.ensures.value c.map.ensures.beside)
+    (λ (s : PagedSystem). KeepsHeapWords (paged s) (paged c.map.new.self)) c.allocator_mut.ensures.value
+    c.map.ensures.beside)
     c.rests_outside.ensures
 
 pub returns-clause-ok : goal.returns-clause-ok
@@ -40,5 +41,6 @@ pub returns-clause-kept : goal.returns-clause-kept
 returns-clause-kept c =
     subst (λ (h : Dlmalloc PagedSystem). IsKeptBeside h (record c.heap.inside.heap { system = c.map.new.self })) c.heap.view_is
     (kept_beside c.heap.inside.heap c.heap.invariant c.map.new.self (subst
-    (λ (s : PagedSystem). IsBeside (paged s) (paged c.map.new.self)) c.allocator_mut.ensures.value c.map.ensures.beside)
+    (λ (s : PagedSystem). KeepsHeapWords (paged s) (paged c.map.new.self)) c.allocator_mut.ensures.value
+    c.map.ensures.beside)
     c.rests_outside.ensures c.order_rests_outside.ensures)

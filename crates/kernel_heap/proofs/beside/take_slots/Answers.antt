@@ -1,7 +1,7 @@
 use Rattle.std.proofs.Common.{◌≡◌, ◌∙◌, [], ap, subst}
 use Rattle.dlmalloc.specs.declared.heap.Dlmalloc.{Dlmalloc}
 use Rattle.heap_model.specs.Slots.{listed_slots}
-use Rattle.kernel_heap.specs.Beside.{IsBeside}
+use Rattle.kernel_heap.specs.Beside.{KeepsHeapWords}
 use Rattle.kernel_heap.specs.Moves.{IsKeptBeside}
 use Rattle.kernel_heap.specs.System.{paged}
 use Rattle.kernel_heap.specs.declared.paged_system.PagedSystem.{PagedSystem}
@@ -11,7 +11,7 @@ use Rattle.kernel_heap.proofs.beside.take_slots.Goals as goal
 pub invariant_of-heap : goal.invariant_of-heap
 invariant_of-heap c =
     intact_beside c.heap.inside.heap c.heap.invariant c.take_slots.new.self
-    (subst (λ (s : PagedSystem). IsBeside (paged s) (paged c.take_slots.new.self)) c.allocator_mut.ensures.value
+    (subst (λ (s : PagedSystem). KeepsHeapWords (paged s) (paged c.take_slots.new.self)) c.allocator_mut.ensures.value
     c.take_slots.ensures.beside) c.rests_outside.ensures
 
 pub returns-clause-slots : goal.returns-clause-slots
@@ -30,5 +30,5 @@ pub returns-clause-kept : goal.returns-clause-kept
 returns-clause-kept c =
     subst (λ (h : Dlmalloc PagedSystem). IsKeptBeside h (record c.heap.inside.heap { system = c.take_slots.new.self })) c.heap.view_is
     (kept_beside c.heap.inside.heap c.heap.invariant c.take_slots.new.self
-    (subst (λ (s : PagedSystem). IsBeside (paged s) (paged c.take_slots.new.self)) c.allocator_mut.ensures.value
+    (subst (λ (s : PagedSystem). KeepsHeapWords (paged s) (paged c.take_slots.new.self)) c.allocator_mut.ensures.value
     c.take_slots.ensures.beside) c.rests_outside.ensures c.order_rests_outside.ensures)

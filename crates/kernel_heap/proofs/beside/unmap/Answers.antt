@@ -3,7 +3,7 @@ use Rattle.std.specs.Prelude.{IfErr, OnOk, OnErr}
 use Rattle.dlmalloc.specs.declared.heap.Dlmalloc.{Dlmalloc}
 use Rattle.mapped_regions.specs.Mapped.{IsLeft}
 use Rattle.mapped_regions.specs.UserRegions.{CanUnmap, IsUnmapRefused}
-use Rattle.kernel_heap.specs.Beside.{IsBeside}
+use Rattle.kernel_heap.specs.Beside.{KeepsHeapWords}
 use Rattle.kernel_heap.specs.Moves.{IsKeptBeside}
 use Rattle.kernel_heap.specs.System.{paged}
 use Rattle.kernel_heap.specs.declared.paged_system.PagedSystem.{PagedSystem}
@@ -13,7 +13,7 @@ use Rattle.kernel_heap.proofs.beside.unmap.Goals as goal
 pub invariant_of-heap : goal.invariant_of-heap
 invariant_of-heap c =
     intact_beside c.heap.inside.heap c.heap.invariant c.unmap.new.self
-    (subst (λ (s : PagedSystem). IsBeside (paged s) (paged c.unmap.new.self)) c.allocator_mut.ensures.value
+    (subst (λ (s : PagedSystem). KeepsHeapWords (paged s) (paged c.unmap.new.self)) c.allocator_mut.ensures.value
     c.unmap.ensures.beside) c.rests_outside.ensures
 
 pub returns-clause-ok : goal.returns-clause-ok
@@ -40,5 +40,5 @@ pub returns-clause-kept : goal.returns-clause-kept
 returns-clause-kept c =
     subst (λ (h : Dlmalloc PagedSystem). IsKeptBeside h (record c.heap.inside.heap { system = c.unmap.new.self })) c.heap.view_is
     (kept_beside c.heap.inside.heap c.heap.invariant c.unmap.new.self (subst
-    (λ (s : PagedSystem). IsBeside (paged s) (paged c.unmap.new.self)) c.allocator_mut.ensures.value
+    (λ (s : PagedSystem). KeepsHeapWords (paged s) (paged c.unmap.new.self)) c.allocator_mut.ensures.value
     c.unmap.ensures.beside) c.rests_outside.ensures c.order_rests_outside.ensures)

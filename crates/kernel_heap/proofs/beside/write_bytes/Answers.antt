@@ -5,7 +5,7 @@ use Rattle.kernel_heap.specs.Heap.{heap_state}
 use Rattle.kernel_heap.specs.Moves.{IsKeptBeside}
 use Rattle.kernel_heap.specs.System.{paged}
 use Rattle.kernel_heap.specs.Words.{grants_of}
-use Rattle.kernel_heap.specs.Written.{AreInside, IsWritten}
+use Rattle.kernel_heap.specs.Written.{AreHeapBytes, AreBytesWritten}
 use Rattle.kernel_heap.specs.declared.paged_system.PagedSystem.{PagedSystem}
 use Rattle.kernel_heap.proofs.BlockBytes.{block_inside, only_blocks}
 use Rattle.kernel_heap.proofs.Laid.{intact_outside, kept_outside}
@@ -15,14 +15,14 @@ pub write_bytes-requires : goal.write_bytes-requires
 write_bytes-requires c =
     let inside = subst (λ (h : Dlmalloc PagedSystem). AreInBlock (heap_state h) c.args.address (length c.args.bytes.now))
     (sym c.heap.view_is) c.requires.inside in
-    subst (λ (s : PagedSystem). AreInside (paged s) c.args.address (length c.args.bytes.now)) (sym c.allocator_mut.ensures.value)
+    subst (λ (s : PagedSystem). AreHeapBytes (paged s) c.args.address (length c.args.bytes.now)) (sym c.allocator_mut.ensures.value)
     (block_inside c.heap.inside.heap c.blocks_are_placed.ensures c.args.address (length c.args.bytes.now) inside)
 
 pub invariant_of-heap : goal.invariant_of-heap
 invariant_of-heap c =
     let inside = subst (λ (h : Dlmalloc PagedSystem). AreInBlock (heap_state h) c.args.address (length c.args.bytes.now))
     (sym c.heap.view_is) c.requires.inside in
-    let written = subst (λ (s : PagedSystem). IsWritten (paged s) (paged c.write_bytes.new.self) c.args.address
+    let written = subst (λ (s : PagedSystem). AreBytesWritten (paged s) (paged c.write_bytes.new.self) c.args.address
     c.args.bytes.now (length c.args.bytes.now)) c.allocator_mut.ensures.value c.write_bytes.ensures in
     intact_outside c.heap.inside.heap c.heap.invariant c.write_bytes.new.self (ap grants_of written.still.others)
     (only_blocks c.heap.inside.heap c.blocks_are_placed.ensures c.args.address (length c.args.bytes.now) inside
@@ -30,14 +30,14 @@ invariant_of-heap c =
 
 pub returns-clause-written : goal.returns-clause-written
 returns-clause-written c =
-    subst (λ (s : PagedSystem). IsWritten (paged s) (paged c.write_bytes.new.self) c.args.address c.args.bytes.now (length c.args.bytes.now))
+    subst (λ (s : PagedSystem). AreBytesWritten (paged s) (paged c.write_bytes.new.self) c.args.address c.args.bytes.now (length c.args.bytes.now))
     (c.allocator_mut.ensures.value ∙ ap (λ (h : Dlmalloc PagedSystem). h.system) c.heap.view_is) c.write_bytes.ensures
 
 pub returns-clause-kept : goal.returns-clause-kept
 returns-clause-kept c =
     let inside = subst (λ (h : Dlmalloc PagedSystem). AreInBlock (heap_state h) c.args.address (length c.args.bytes.now))
     (sym c.heap.view_is) c.requires.inside in
-    let written = subst (λ (s : PagedSystem). IsWritten (paged s) (paged c.write_bytes.new.self) c.args.address
+    let written = subst (λ (s : PagedSystem). AreBytesWritten (paged s) (paged c.write_bytes.new.self) c.args.address
     c.args.bytes.now (length c.args.bytes.now)) c.allocator_mut.ensures.value c.write_bytes.ensures in
     subst (λ (h : Dlmalloc PagedSystem). IsKeptBeside h (record c.heap.inside.heap { system = c.write_bytes.new.self })) c.heap.view_is
     (kept_outside c.heap.inside.heap c.heap.invariant c.write_bytes.new.self (ap grants_of written.still.others)

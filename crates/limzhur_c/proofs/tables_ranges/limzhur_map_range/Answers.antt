@@ -1,18 +1,18 @@
 use Rattle.std.proofs.Common.{◌≡◌, ◌/◌, sym, refl, ap, ◌∙◌, arith}
 use Rattle.kernel_tables.specs.Ranges.{map_range_fault}
-use Rattle.limzhur_c.specs.TablesCodes.{range_code, told_of, map_range_cause}
+use Rattle.limzhur_c.specs.TablesCodes.{range_code, fault_detail, map_range_cause}
 use Rattle.limzhur_c.proofs.RangeCauses.{map_off_half, map_far, map_asked}
 use Rattle.limzhur_c.proofs.tables_ranges.limzhur_map_range.Goals as goal
 use Rattle.limzhur_c.proofs.tables_ranges.limzhur_map_range.Goals.{After-map_range}
 
 pub returns-in_default-clause-told : goal.returns-in_default-clause-told
 returns-in_default-clause-told c =
-    ap (λ cause. told_of cause c.args.told.now)
+    ap (λ cause. fault_detail cause c.args.told.now)
     (sym (map_off_half c.args.handle.now.tables c.args.address c.args.pages c.args.frame (λ is. let k = c.in_default.ensures.canonical.1 is in absurd (cc))))
 
 pub returns-then-frame-clause-told : goal.returns-then-frame-clause-told
 returns-then-frame-clause-told c =
-    ap (λ cause. told_of cause c.args.told.now)
+    ap (λ cause. fault_detail cause c.args.told.now)
     (sym (map_far c.args.handle.now.tables c.args.address c.args.pages c.args.frame (c.in-Ok.ensures.canonical.0 refl) (omega (arith, c.if-frame.true))))
 
 -- ---- what the tables were asked
@@ -41,11 +41,12 @@ returns-in-Err-clause-answer c = c.refuse.ensures.code ∙ ap range_code
 
 pub returns-in-Ok-map_range-clause-told : goal.returns-in-Ok-map_range-clause-told
 returns-in-Ok-map_range-clause-told c =
-    ap (λ cause. told_of cause c.args.told.now) (c.in-Ok-map_range.ensures.fault ∙ cause_is (goal.at.returns-in-Ok-map_range-clause-told c).After-map_range)
+    ap (λ cause. fault_detail cause c.args.told.now) (c.in-Ok-map_range.ensures.fault
+    ∙ cause_is (goal.at.returns-in-Ok-map_range-clause-told c).After-map_range)
 
 pub returns-in-Err-clause-told : goal.returns-in-Err-clause-told
 returns-in-Err-clause-told c =
-    c.refuse.ensures.told ∙ ap (λ cause. told_of cause c.args.told.now)
+    c.refuse.ensures.told ∙ ap (λ cause. fault_detail cause c.args.told.now)
     (c.in-Err.ensures.fault ∙ cause_is (goal.at.returns-in-Err-clause-told c).After-map_range)
 
 pub returns-in-Ok-map_range-clause-mapped : goal.returns-in-Ok-map_range-clause-mapped

@@ -1,13 +1,13 @@
 use Rattle.std.proofs.Common.{◌≡◌, ◌/◌, sym, refl, ap, ◌∙◌}
 use Rattle.kernel_tables.specs.Ranges.{change_range_fault}
-use Rattle.limzhur_c.specs.TablesCodes.{told_of, change_range_cause}
+use Rattle.limzhur_c.specs.TablesCodes.{fault_detail, change_range_cause}
 use Rattle.limzhur_c.proofs.RangeCauses.{change_off_half, change_asked}
 use Rattle.limzhur_c.proofs.tables_ranges.limzhur_unmap_range.Goals as goal
 use Rattle.limzhur_c.proofs.tables_ranges.limzhur_unmap_range.Goals.{After-unmap_range}
 
 pub returns-in_default-clause-told : goal.returns-in_default-clause-told
 returns-in_default-clause-told c =
-    ap (λ cause. told_of cause c.args.told.now)
+    ap (λ cause. fault_detail cause c.args.told.now)
     (sym (change_off_half c.args.handle.now.tables c.args.address c.args.pages (λ is. let k = c.in_default.ensures.canonical.1 is in absurd (cc))))
 
 -- ---- what the tables were asked
@@ -23,12 +23,12 @@ cause_is c =
 
 pub returns-in-Ok-unmap_range-clause-told : goal.returns-in-Ok-unmap_range-clause-told
 returns-in-Ok-unmap_range-clause-told c =
-    ap (λ cause. told_of cause c.args.told.now) (c.in-Ok-unmap_range.ensures.fault
+    ap (λ cause. fault_detail cause c.args.told.now) (c.in-Ok-unmap_range.ensures.fault
     ∙ cause_is (goal.at.returns-in-Ok-unmap_range-clause-told c).After-unmap_range)
 
 pub returns-in-Err-clause-told : goal.returns-in-Err-clause-told
 returns-in-Err-clause-told c =
-    c.refuse.ensures.told ∙ ap (λ cause. told_of cause c.args.told.now)
+    c.refuse.ensures.told ∙ ap (λ cause. fault_detail cause c.args.told.now)
     (c.in-Err.ensures.fault ∙ cause_is (goal.at.returns-in-Err-clause-told c).After-unmap_range)
 
 pub returns-in-Ok-unmap_range-clause-unmapped : goal.returns-in-Ok-unmap_range-clause-unmapped

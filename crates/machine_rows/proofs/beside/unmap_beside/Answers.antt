@@ -1,6 +1,6 @@
 use Rattle.std.proofs.Common.{subst}
 use Rattle.dlmalloc.specs.declared.heap.Dlmalloc.{Dlmalloc}
-use Rattle.kernel_heap.specs.Beside.{IsBeside}
+use Rattle.kernel_heap.specs.Beside.{KeepsHeapWords}
 use Rattle.kernel_heap.specs.Moves.{IsKeptBeside}
 use Rattle.kernel_heap.specs.System.{paged}
 use Rattle.kernel_heap.specs.declared.paged_system.PagedSystem.{PagedSystem}
@@ -10,7 +10,7 @@ use Rattle.machine_rows.proofs.beside.unmap_beside.Goals as goal
 pub invariant_of-heap : goal.invariant_of-heap
 invariant_of-heap c =
     intact_beside c.heap.inside.heap c.heap.invariant c.unmap.new.self
-    (subst (λ (s : PagedSystem). IsBeside (paged s) (paged c.unmap.new.self)) c.allocator_mut.ensures.value
+    (subst (λ (s : PagedSystem). KeepsHeapWords (paged s) (paged c.unmap.new.self)) c.allocator_mut.ensures.value
     c.unmap.ensures.beside) c.rests_outside.ensures
 
 pub returns : goal.returns
@@ -18,6 +18,6 @@ returns c = record {
   kept =
       subst (λ (h : Dlmalloc PagedSystem). IsKeptBeside h (record c.heap.inside.heap { system = c.unmap.new.self })) c.heap.view_is
       (kept_beside c.heap.inside.heap c.heap.invariant c.unmap.new.self
-      (subst (λ (s : PagedSystem). IsBeside (paged s) (paged c.unmap.new.self)) c.allocator_mut.ensures.value
+      (subst (λ (s : PagedSystem). KeepsHeapWords (paged s) (paged c.unmap.new.self)) c.allocator_mut.ensures.value
       c.unmap.ensures.beside) c.rests_outside.ensures c.order_rests_outside.ensures);
 }

@@ -1,7 +1,7 @@
 use Rattle.std.proofs.Common.{◌*◌, ◌^◌, arith, sym}
 use Rattle.meminterval.specs.Entry.{pair_of}
 use Rattle.meminterval.specs.Tree.{entries}
-use Rattle.mapped_regions.specs.Pairs.{regions_of}
+use Rattle.mapped_regions.specs.Pairs.{pair_regions}
 use Rattle.mapped_regions.proofs.Passed.{behind_first}
 use Rattle.mapped_regions.proofs.Held.{held_join, held_pair}
 use Rattle.mapped_regions.proofs.region_tree.run_end.Goals as goal
@@ -30,7 +30,7 @@ loop-entry-preserved c =
     let here = held_pair at 0 es (2 ^ 52) next c.requires (sym c.in-Some.ensures) in
     record {
       above = omega (arith, above, i.starts, i.some);
-      held = held_join (4096 * c.args.from) (4096 * at) (4096 * next.0.end) (regions_of es) c.loop-entry.invariant.held
+      held = held_join (4096 * c.args.from) (4096 * at) (4096 * next.0.end) (pair_regions es) c.loop-entry.invariant.held
           (λ address a b. here address (omega (arith, a, c.if-entry-at.false)) b);
     }
 

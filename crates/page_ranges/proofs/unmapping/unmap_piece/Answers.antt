@@ -1,6 +1,6 @@
 use Rattle.std.proofs.Common.{◌≡◌, ◌*◌, ◌/◌, List, ℕ, Option, Some, true, not, sym, ap, ◌∙◌, arith}
 use Rattle.std.specs.Option.{is_some, option_map}
-use Rattle.paging_core.specs.Walk.{Place, large_of, place_of}
+use Rattle.paging_core.specs.Walk.{Place, large_of, mapped_place}
 use Rattle.paging_core.specs.Large.{slot_of}
 use Rattle.paging_core.specs.declared.page_walk.Mapped.{Mapped}
 use Rattle.paging_core.proofs.PageChanged.{some_place}
@@ -9,7 +9,7 @@ use Rattle.page_ranges.proofs.UnmapPieces.{piece_small, ends_with_slot, run_out,
 use Rattle.page_ranges.proofs.unmapping.unmap_piece.Goals as goal
 
 -- the slot's large page
-found : (words : List ℕ) (root first slot : ℕ) (o : Option Mapped) → option_map place_of o ≡ large_of words root
+found : (words : List ℕ) (root first slot : ℕ) (o : Option Mapped) → option_map mapped_place o ≡ large_of words root
     (slot_of slot) → is_some o ≡ true → slot ≡ first / 512 →
     (large : Place) × (large_of words root (slot_of (first / 512)) ≡ Some large)
 found words root first slot o e some at =

@@ -1,6 +1,6 @@
 use Rattle.std.proofs.Common.{◌≡◌, ◌∙◌, ◌+◌, ◌-◌, ◌*◌, ◌<◌, ap, set, length, arith}
-use Rattle.paging_core.specs.Walk.{place_of}
-use Rattle.paging_core.specs.Pool.{is_free}
+use Rattle.paging_core.specs.Walk.{mapped_place}
+use Rattle.paging_core.specs.Pool.{is_frame_free}
 use Rattle.paging_core.specs.Large.{slot_of}
 use Rattle.paging_core.proofs.Words.{length_cleared}
 use Rattle.paging_core.proofs.Made.{large_below}
@@ -11,14 +11,14 @@ use Rattle.paging_core.proofs.large.cut_large.Goals as goal
 
 pub clear_frame-requires : goal.clear_frame-requires
 clear_frame-requires c =
-    let b = large_below c.args.frames.now c.args.root (slot_of c.args.page) (place_of c.large_entry-index.result.large)
+    let b = large_below c.args.frames.now c.args.root (slot_of c.args.page) (mapped_place c.large_entry-index.result.large)
     c.large_entry-index.ensures.entry.found in
     let e = c.after-made.ensures ∙ ap (λ k. c.large_entry-index.result.large.frame + k) c.from.ensures in
     omega (arith, b.1, e, c.requires.part)
 
 pub fill_table-requires-clause-table : goal.fill_table-requires-clause-table
 fill_table-requires-clause-table c =
-    let b = large_below c.args.frames.now c.args.root (slot_of c.args.page) (place_of c.large_entry-index.result.large)
+    let b = large_below c.args.frames.now c.args.root (slot_of c.args.page) (mapped_place c.large_entry-index.result.large)
     c.large_entry-index.ensures.entry.found in
     let e = c.after-made.ensures ∙ ap (λ k. c.large_entry-index.result.large.frame + k) c.from.ensures in
     let s : length c.clear_frame.new.self ≡ length c.args.frames.now =
@@ -27,7 +27,7 @@ fill_table-requires-clause-table c =
 
 pub set_word-requires-clause-frame : goal.set_word-requires-clause-frame
 set_word-requires-clause-frame c =
-    let b = large_below c.args.frames.now c.args.root (slot_of c.args.page) (place_of c.large_entry-index.result.large)
+    let b = large_below c.args.frames.now c.args.root (slot_of c.args.page) (mapped_place c.large_entry-index.result.large)
     c.large_entry-index.ensures.entry.found in
     let e = c.after-made.ensures ∙ ap (λ k. c.large_entry-index.result.large.frame + k) c.from.ensures in
     let s : length c.clear_frame.new.self ≡ length c.args.frames.now =
@@ -40,12 +40,13 @@ free_frames-requires-clause-out c = λ k lt.
     let e = c.after-made.ensures ∙ ap (λ k. c.large_entry-index.result.large.frame + k) c.from.ensures in
     let keeps = c.from-2.ensures in
     let f : c.after.result + k ≡ c.large_entry-index.result.large.frame + (c.args.keep + 1 + k) = omega (arith, e, c.after.ensures) in
-    let b = large_below c.args.frames.now c.args.root (slot_of c.args.page) (place_of c.large_entry-index.result.large)
+    let b = large_below c.args.frames.now c.args.root (slot_of c.args.page) (mapped_place c.large_entry-index.result.large)
     c.large_entry-index.ensures.entry.found in
     let low : c.args.keep + 1 + k < 512 = omega (arith, c.requires.part) in
     out_of c.args.pool.now (c.after.result + k) (omega (arith, b.1, c.requires.flags))
-    (ap (is_free c.args.pool.now) f
-    ∙ large_used c.args.frames.now c.args.root c.args.page (c.args.keep + 1 + k) c.args.pool.now (place_of c.large_entry-index.result.large) low c.requires.tree
+    (ap (is_frame_free c.args.pool.now) f
+    ∙ large_used c.args.frames.now c.args.root c.args.page (c.args.keep + 1 + k) c.args.pool.now
+    (mapped_place c.large_entry-index.result.large) low c.requires.tree
     c.large_entry-index.ensures.entry.found)
 
 pub returns-clause-tree : goal.returns-clause-tree
@@ -53,7 +54,7 @@ returns-clause-tree c =
     steps_tree c.args.frames.now c.clear_frame.new.self c.fill_table.new.frames c.set_word.new.self c.args.pool.now
     c.free_frames.new.pool c.args.root c.args.page c.args.keep
     c.large_entry-index.result.table c.large_entry-index.result.index c.after-made.result c.after.result
-    (511 - c.from-2.result) (place_of c.large_entry-index.result.large)
+    (511 - c.from-2.result) (mapped_place c.large_entry-index.result.large)
     c.requires.some c.requires.part c.large_entry-index.ensures.bounded c.requires.tree c.large_entry-index.ensures.entry
     (c.after-made.ensures ∙ ap (λ k. c.large_entry-index.result.large.frame + k) c.from.ensures)
     c.large_entry-index.ensures.table c.clear_frame.ensures c.fill_table.ensures.size
@@ -68,7 +69,7 @@ returns-clause-cut c =
     steps_cut c.args.frames.now c.clear_frame.new.self c.fill_table.new.frames c.set_word.new.self c.args.pool.now
     c.free_frames.new.pool c.args.root c.args.page c.args.keep
     c.large_entry-index.result.table c.large_entry-index.result.index c.after-made.result c.after.result
-    (511 - c.from-2.result) (place_of c.large_entry-index.result.large)
+    (511 - c.from-2.result) (mapped_place c.large_entry-index.result.large)
     c.requires.some c.requires.part c.large_entry-index.ensures.bounded c.requires.tree c.large_entry-index.ensures.entry
     (c.after-made.ensures ∙ ap (λ k. c.large_entry-index.result.large.frame + k) c.from.ensures)
     c.large_entry-index.ensures.table c.clear_frame.ensures c.fill_table.ensures.size
@@ -83,7 +84,7 @@ returns-clause-known c =
     steps_known c.args.frames.now c.clear_frame.new.self c.fill_table.new.frames c.set_word.new.self c.args.pool.now
     c.free_frames.new.pool c.args.root c.args.page c.args.keep
     c.large_entry-index.result.table c.large_entry-index.result.index c.after-made.result c.after.result
-    (511 - c.from-2.result) (place_of c.large_entry-index.result.large)
+    (511 - c.from-2.result) (mapped_place c.large_entry-index.result.large)
     c.requires.some c.requires.part c.large_entry-index.ensures.bounded c.requires.tree c.large_entry-index.ensures.entry
     (c.after-made.ensures ∙ ap (λ k. c.large_entry-index.result.large.frame + k) c.from.ensures)
     c.large_entry-index.ensures.table c.clear_frame.ensures c.fill_table.ensures.size
@@ -98,7 +99,7 @@ returns-clause-elsewhere c = λ other canonical ne.
     steps_elsewhere c.args.frames.now c.clear_frame.new.self c.fill_table.new.frames c.set_word.new.self c.args.pool.now
     c.free_frames.new.pool c.args.root c.args.page c.args.keep
     c.large_entry-index.result.table c.large_entry-index.result.index c.after-made.result c.after.result
-    (511 - c.from-2.result) (place_of c.large_entry-index.result.large)
+    (511 - c.from-2.result) (mapped_place c.large_entry-index.result.large)
     c.requires.some c.requires.part c.large_entry-index.ensures.bounded c.requires.tree c.large_entry-index.ensures.entry
     (c.after-made.ensures ∙ ap (λ k. c.large_entry-index.result.large.frame + k) c.from.ensures)
     c.large_entry-index.ensures.table c.clear_frame.ensures c.fill_table.ensures.size
@@ -114,7 +115,7 @@ returns-clause-bytes c =
     steps_bytes c.args.frames.now c.clear_frame.new.self c.fill_table.new.frames c.set_word.new.self c.args.pool.now
     c.free_frames.new.pool c.args.root c.args.page c.args.keep
     c.large_entry-index.result.table c.large_entry-index.result.index c.after-made.result c.after.result
-    (511 - c.from-2.result) (place_of c.large_entry-index.result.large)
+    (511 - c.from-2.result) (mapped_place c.large_entry-index.result.large)
     c.requires.some c.requires.part c.large_entry-index.ensures.bounded c.requires.tree c.large_entry-index.ensures.entry
     (c.after-made.ensures ∙ ap (λ k. c.large_entry-index.result.large.frame + k) c.from.ensures)
     c.large_entry-index.ensures.table c.clear_frame.ensures c.fill_table.ensures.size

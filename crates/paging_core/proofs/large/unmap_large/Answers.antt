@@ -1,5 +1,5 @@
 use Rattle.std.proofs.Common.{◌≡◌, ◌∙◌, ◌+◌, ◌*◌, ◌/◌, ◌%◌, ◌^◌, ℕ, length, arith, length-set, ap, set, refl}
-use Rattle.paging_core.specs.Walk.{place_of}
+use Rattle.paging_core.specs.Walk.{mapped_place}
 use Rattle.paging_core.specs.Large.{slot_of, IsLargeCleared}
 use Rattle.paging_core.proofs.Areas.{tree_moved}
 use Rattle.paging_core.proofs.Made.{large_below}
@@ -17,12 +17,12 @@ cleared : (g : Over) (c : goal.After-containing_address g) → IsLargeCleared (g
 cleared g c =
     large_cleared (g.M.PhysicalMemory.words c.args.frames.now) (g.M.PhysicalMemory.words c.set_word.new.self) c.args.root
     c.args.page c.large_entry-table.result.table c.large_entry-table.result.index
-    (place_of c.large_entry-table.result.large) c.large_entry-table.ensures.entry c.set_word.ensures.words
+    (mapped_place c.large_entry-table.result.large) c.large_entry-table.ensures.entry c.set_word.ensures.words
 
 run : (g : Over) (c : goal.After-containing_address g) → 512 * c.containing_address.result ≡ c.large_entry-table.result.large.frame
 run g c =
     let b = large_below (g.M.PhysicalMemory.words c.args.frames.now) c.args.root (slot_of c.args.page)
-    (place_of c.large_entry-table.result.large) c.large_entry-table.ensures.entry.found in
+    (mapped_place c.large_entry-table.result.large) c.large_entry-table.ensures.entry.found in
     run_number c.large_entry-table.result.large.frame c.start_address.result c.containing_address.result b.0
     c.start_address.ensures c.containing_address.ensures
 
@@ -32,7 +32,7 @@ returns-clause-frame g c = rw c.large_entry-table.ensures.entry.found (run g c)
 pub returns-clause-below : goal.returns-clause-below
 returns-clause-below g c =
     let b = large_below (g.M.PhysicalMemory.words c.args.frames.now) c.args.root (slot_of c.args.page)
-    (place_of c.large_entry-table.result.large) c.large_entry-table.ensures.entry.found in
+    (mapped_place c.large_entry-table.result.large) c.large_entry-table.ensures.entry.found in
     let r = run g c in
     let s : length (g.M.PhysicalMemory.words c.set_word.new.self) ≡ length (g.M.PhysicalMemory.words c.args.frames.now) =
     ap length c.set_word.ensures.words
@@ -57,4 +57,4 @@ set_word-requires-clause-seen g c =
     c.requires.seen (set (g.M.PhysicalMemory.words c.args.frames.now) (512 * c.large_entry-table.result.table + c.large_entry-table.result.index) 0)
     (large_cleared (g.M.PhysicalMemory.words c.args.frames.now) (set (g.M.PhysicalMemory.words c.args.frames.now)
     (512 * c.large_entry-table.result.table + c.large_entry-table.result.index) 0) c.args.root c.args.page
-    c.large_entry-table.result.table c.large_entry-table.result.index (place_of c.large_entry-table.result.large) c.large_entry-table.ensures.entry refl)
+    c.large_entry-table.result.table c.large_entry-table.result.index (mapped_place c.large_entry-table.result.large) c.large_entry-table.ensures.entry refl)

@@ -1,5 +1,5 @@
 use Rattle.std.proofs.Common.{ap, ◌∙◌}
-use Rattle.paging_core.specs.Pool.{is_free}
+use Rattle.paging_core.specs.Pool.{is_frame_free}
 use Rattle.paging_core.proofs.Given.{given_other}
 use Rattle.paging_core.proofs.laws.giving_keeps_the_tree.Goals as goal
 
@@ -9,5 +9,5 @@ returns c = λ words root free free' frame tree given unmet. record {
   distinct = tree.distinct;
   plain = tree.plain;
   inside = tree.inside;
-  used = λ l n b le is. ap (λ flags. is_free flags b.frame) given ∙ (given_other free frame b.frame (unmet l n b le is) ∙ tree.used l n b le is);
+  used = λ l n b le is. ap (λ flags. is_frame_free flags b.frame) given ∙ (given_other free frame b.frame (unmet l n b le is) ∙ tree.used l n b le is);
 }

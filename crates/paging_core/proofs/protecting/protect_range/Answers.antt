@@ -40,13 +40,15 @@ loop-step-preserved g c =
     let t = changed_tree (g.M.PhysicalMemory.words c.args.frames.now) (g.M.PhysicalMemory.words c.loop-step.frames)
     c.args.root (regrant c.args.rights) (among c.args.first c.loop-step.step) c.loop-step.invariant.changed
     (regrant_keeps c.args.rights) c.requires.tree.0 c.requires.tree.1 in
+    let still = tree_moved (g.M.PhysicalMemory.area c.args.frames.now) (g.M.PhysicalMemory.area c.loop-step.frames)
+    (g.M.PhysicalMemory.words c.loop-step.frames) c.args.root c.requires.tree.0 c.loop-step.invariant.area t in
     record {
       area = c.protect_page.ensures.area ∙ c.loop-step.invariant.area;
       changed = next_changed (g.M.PhysicalMemory.words c.args.frames.now) (g.M.PhysicalMemory.words c.loop-step.frames)
           c.args.root c.args.first c.args.pages c.loop-step.step (regrant c.args.rights)
           c.requires.range c.loop-step.invariant.changed c.loop-step-test.true
           (g.M.PhysicalMemory.words c.protect_page.new.frames) c.requires.tree.0 c.requires.tree.1
-          (rw c.after.ensures at ((c.protect_page.ensures.granted c.requires.tree.0 (tree_moved (g.M.PhysicalMemory.area c.args.frames.now) (g.M.PhysicalMemory.area c.loop-step.frames) (g.M.PhysicalMemory.words c.loop-step.frames) c.args.root c.requires.tree.0 c.loop-step.invariant.area t)).pages));
+          (rw c.after.ensures at (c.protect_page.ensures.granted c.requires.tree.0 still).pages);
     }
 
 pub returns-clause-tree : goal.returns-clause-tree

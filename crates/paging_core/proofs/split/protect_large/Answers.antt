@@ -1,5 +1,5 @@
 use Rattle.std.proofs.Common.{◌∙◌, ◌+◌, ◌*◌, ap, set}
-use Rattle.paging_core.specs.Walk.{place_of}
+use Rattle.paging_core.specs.Walk.{mapped_place}
 use Rattle.paging_core.proofs.Areas.{tree_moved}
 use Rattle.paging_core.proofs.LargeAdded.{same_slot}
 use Rattle.paging_core.proofs.LargeGranted.{large_regranted, granted_tree, large_granted, granted_elsewhere, granted_bytes}
@@ -9,7 +9,7 @@ pub returns-clause-regranted : goal.returns-clause-regranted
 returns-clause-regranted g c =
     large_regranted (g.M.PhysicalMemory.words c.args.frames.now) (g.M.PhysicalMemory.words c.set_word.new.self) c.args.root
     c.args.page c.large_entry-table.result.table c.large_entry-table.result.index c.args.rights
-    (place_of c.large_entry-table.result.large) c.large_entry-table.ensures.entry
+    (mapped_place c.large_entry-table.result.large) c.large_entry-table.ensures.entry
     (c.set_word.ensures.words
     ∙ ap (set (g.M.PhysicalMemory.words c.args.frames.now)
     (512 * c.large_entry-table.result.table + c.large_entry-table.result.index))
@@ -35,7 +35,7 @@ set_word-requires-clause-seen g c =
     c.requires.seen now
     (large_regranted (g.M.PhysicalMemory.words c.args.frames.now) now c.args.root c.args.page
     c.large_entry-table.result.table c.large_entry-table.result.index c.args.rights
-    (place_of c.large_entry-table.result.large) c.large_entry-table.ensures.entry
+    (mapped_place c.large_entry-table.result.large) c.large_entry-table.ensures.entry
     (ap (set (g.M.PhysicalMemory.words c.args.frames.now)
     (512 * c.large_entry-table.result.table + c.large_entry-table.result.index))
     (c.bits.ensures ∙ c.to_large-entry.ensures.value)))

@@ -2,7 +2,7 @@ use Rattle.std.proofs.Common.{◌≡◌, ◌∙◌, ◌+◌, ◌*◌, ap, set, a
 use Rattle.paging_core.specs.Area.{in_area}
 use Rattle.paging_core.specs.Entry.{table_entry}
 use Rattle.paging_core.specs.Memory.{frame_count}
-use Rattle.paging_core.specs.Walk.{place_of}
+use Rattle.paging_core.specs.Walk.{mapped_place}
 use Rattle.paging_core.proofs.Areas.{free_below, free_inside, tree_moved, known_moved}
 use Rattle.paging_core.proofs.Made.{some_free}
 use Rattle.paging_core.proofs.LargeSplit.{split_tree, large_split, split_walk, split_bytes, split_known}
@@ -47,7 +47,7 @@ returns-clause-split g c =
     (g.M.PhysicalMemory.words c.fill_table.new.frames) (g.M.PhysicalMemory.words c.set_word.new.self)
     (g.P.TableFrames.free c.args.pool.now) (g.P.TableFrames.free c.take_frame.new.self) c.args.root c.args.page
     c.large_entry-index.result.table c.large_entry-index.result.index c.in-Some.made
-    (place_of c.large_entry-index.result.large) c.large_entry-index.ensures.bounded (omega arith) c.requires.known
+    (mapped_place c.large_entry-index.result.large) c.large_entry-index.ensures.bounded (omega arith) c.requires.known
     c.requires.tree c.large_entry-index.ensures.entry c.large_entry-index.ensures.table
     c.in-Some.ensures.taken.0 c.in-Some.ensures.taken.1 c.in-Some.ensures.lowest c.fill_table.ensures.size
     (rw c.rights.ensures at c.fill_table.ensures.filled) c.fill_table.ensures.others (written g c)
@@ -58,7 +58,7 @@ returns-clause-walks g c =
     (g.M.PhysicalMemory.words c.fill_table.new.frames) (g.M.PhysicalMemory.words c.set_word.new.self)
     (g.P.TableFrames.free c.args.pool.now) (g.P.TableFrames.free c.take_frame.new.self) c.args.root c.args.page
     c.large_entry-index.result.table c.large_entry-index.result.index c.in-Some.made
-    (place_of c.large_entry-index.result.large) c.large_entry-index.ensures.bounded (omega arith) c.requires.known
+    (mapped_place c.large_entry-index.result.large) c.large_entry-index.ensures.bounded (omega arith) c.requires.known
     c.requires.tree c.large_entry-index.ensures.entry c.large_entry-index.ensures.table
     c.in-Some.ensures.taken.0 c.in-Some.ensures.taken.1 c.in-Some.ensures.lowest c.fill_table.ensures.size
     (rw c.rights.ensures at c.fill_table.ensures.filled) c.fill_table.ensures.others (written g c)
@@ -69,7 +69,7 @@ returns-clause-bytes g c =
     (g.M.PhysicalMemory.words c.fill_table.new.frames) (g.M.PhysicalMemory.words c.set_word.new.self)
     (g.P.TableFrames.free c.args.pool.now) (g.P.TableFrames.free c.take_frame.new.self) c.args.root c.args.page
     c.large_entry-index.result.table c.large_entry-index.result.index c.in-Some.made
-    (place_of c.large_entry-index.result.large) c.large_entry-index.ensures.bounded (omega arith) c.requires.known
+    (mapped_place c.large_entry-index.result.large) c.large_entry-index.ensures.bounded (omega arith) c.requires.known
     c.requires.tree c.large_entry-index.ensures.entry c.large_entry-index.ensures.table
     c.in-Some.ensures.taken.0 c.in-Some.ensures.taken.1 c.in-Some.ensures.lowest c.fill_table.ensures.size
     (rw c.rights.ensures at c.fill_table.ensures.filled) c.fill_table.ensures.others (written g c)
@@ -83,7 +83,7 @@ returns-clause-standing g c = record {
       (g.M.PhysicalMemory.words c.fill_table.new.frames) (g.M.PhysicalMemory.words c.set_word.new.self)
       (g.P.TableFrames.free c.args.pool.now) (g.P.TableFrames.free c.take_frame.new.self) c.args.root c.args.page
       c.large_entry-index.result.table c.large_entry-index.result.index c.in-Some.made
-      (place_of c.large_entry-index.result.large) c.large_entry-index.ensures.bounded (omega arith) c.requires.known
+      (mapped_place c.large_entry-index.result.large) c.large_entry-index.ensures.bounded (omega arith) c.requires.known
       c.requires.tree c.large_entry-index.ensures.entry c.large_entry-index.ensures.table
       c.in-Some.ensures.taken.0 c.in-Some.ensures.taken.1 c.in-Some.ensures.lowest c.fill_table.ensures.size
       (rw c.rights.ensures at c.fill_table.ensures.filled) c.fill_table.ensures.others (written g c));
@@ -94,7 +94,7 @@ returns-clause-standing g c = record {
       (g.M.PhysicalMemory.words c.fill_table.new.frames) (g.M.PhysicalMemory.words c.set_word.new.self)
       (g.P.TableFrames.free c.args.pool.now) (g.P.TableFrames.free c.take_frame.new.self) c.args.root c.args.page
       c.large_entry-index.result.table c.large_entry-index.result.index c.in-Some.made
-      (place_of c.large_entry-index.result.large) c.large_entry-index.ensures.bounded (omega arith) c.requires.known
+      (mapped_place c.large_entry-index.result.large) c.large_entry-index.ensures.bounded (omega arith) c.requires.known
       c.requires.tree c.large_entry-index.ensures.entry c.large_entry-index.ensures.table
       c.in-Some.ensures.taken.0 c.in-Some.ensures.taken.1 c.in-Some.ensures.lowest c.fill_table.ensures.size
       (rw c.rights.ensures at c.fill_table.ensures.filled) c.fill_table.ensures.others (written g c));
@@ -121,7 +121,8 @@ set_word-requires-clause-seen g c =
             (g.M.PhysicalMemory.words c.fill_table.new.frames) now
             (g.P.TableFrames.free c.args.pool.now) (g.P.TableFrames.free c.take_frame.new.self) c.args.root c.args.page
             c.large_entry-index.result.table c.large_entry-index.result.index c.in-Some.made
-            (place_of c.large_entry-index.result.large) c.large_entry-index.ensures.bounded (omega arith) c.requires.known
+            (mapped_place c.large_entry-index.result.large) c.large_entry-index.ensures.bounded (omega arith)
+            c.requires.known
             c.requires.tree c.large_entry-index.ensures.entry c.large_entry-index.ensures.table
             c.in-Some.ensures.taken.0 c.in-Some.ensures.taken.1 c.in-Some.ensures.lowest c.fill_table.ensures.size
             (rw c.rights.ensures at c.fill_table.ensures.filled) c.fill_table.ensures.others written,
@@ -131,7 +132,7 @@ set_word-requires-clause-seen g c =
           (g.M.PhysicalMemory.words c.fill_table.new.frames) now
           (g.P.TableFrames.free c.args.pool.now) (g.P.TableFrames.free c.take_frame.new.self) c.args.root c.args.page
           c.large_entry-index.result.table c.large_entry-index.result.index c.in-Some.made
-          (place_of c.large_entry-index.result.large) c.large_entry-index.ensures.bounded (omega arith) c.requires.known
+          (mapped_place c.large_entry-index.result.large) c.large_entry-index.ensures.bounded (omega arith) c.requires.known
           c.requires.tree c.large_entry-index.ensures.entry c.large_entry-index.ensures.table
           c.in-Some.ensures.taken.0 c.in-Some.ensures.taken.1 c.in-Some.ensures.lowest c.fill_table.ensures.size
           (rw c.rights.ensures at c.fill_table.ensures.filled) c.fill_table.ensures.others written;

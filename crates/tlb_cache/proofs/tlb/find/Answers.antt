@@ -1,5 +1,5 @@
 use Rattle.std.proofs.Common.{◌≡◌, ℕ, ◌-◌, ◌<◌, ◌≤◌, length, slice_get, slice_index, Some, ap, ◌∙◌, sym, arith}
-use Rattle.tlb_cache.specs.Cache.{pages_of}
+use Rattle.tlb_cache.specs.Cache.{cached_pages}
 use Rattle.tlb_cache.specs.Chains.{hash_of}
 use Rattle.tlb_cache.proofs.Entries.{got, page_got, not_past, length_pages, has_at, none_at}
 use Rattle.tlb_cache.proofs.tlb.find.Goals as goal
@@ -21,7 +21,7 @@ returns-in-None-clause-some c =
 pub loop-count-preserved : goal.loop-count-preserved
 loop-count-preserved c =
     let items = c.args.ring.now.items in
-    let pages = pages_of items in
+    let pages = cached_pages items in
     let age = c.loop-count.count - 1 in
     let at : slice_get items age ≡ Some c.in-Some.entry.now = sym c.in-Some.ensures in
     let within : age < length pages = omega (arith, (got items age c.in-Some.entry.now c.in-Some.entry.now at).0, length_pages items) in

@@ -2,7 +2,7 @@ use Rattle.std.proofs.Common.{ℕ, ◌+◌, ◌∙◌, false, refl, sym, subst, 
 use Rattle.std.specs.Prelude.{IsSome}
 use Rattle.meminterval.specs.Tree.{entries}
 use Rattle.paging_core.specs.Walk.{walk_of}
-use Rattle.address_space.specs.RunChanges.{AreCopied}
+use Rattle.address_space.specs.RunChanges.{AreRightsCopied}
 use Rattle.address_space.specs.PageCopies.{ArePagesCopied}
 use Rattle.address_space.specs.Seen.{tables_of}
 use Rattle.address_space.proofs.Duplicated.{AreDuplicated, duplicated_kept, duplicated_map, duplicated_is, ranges_apart, source_mapped, target_mapped}
@@ -54,8 +54,8 @@ invariant_of-self-2 c =
       bytes = c.map_range.ensures.clear.bytes;
       copied = subst (λ (n : ℕ). ArePagesCopied one words t.root n c.args.pages c.args.target) c.number-from.ensures.value
           (subst (λ (n : ℕ). ArePagesCopied one words t.root c.number-from.result c.args.pages n) c.number-to.ensures.value c.copy_pages.ensures);
-      runs_copied = subst (λ (n : ℕ). AreCopied t.runs runs n c.args.pages c.args.target) c.number-from.ensures.value
-          (subst (λ (n : ℕ). AreCopied t.runs runs c.number-from.result c.args.pages n) c.number-to.ensures.value c.in_ok-copy.ensures.ok);
+      runs_copied = subst (λ (n : ℕ). AreRightsCopied t.runs runs n c.args.pages c.args.target) c.number-from.ensures.value
+          (subst (λ (n : ℕ). AreRightsCopied t.runs runs c.number-from.result c.args.pages n) c.number-to.ensures.value c.in_ok-copy.ensures.ok);
     } in
     record {
       kept = duplicated_kept t one words c.map_range.new.pool runs c.args.source c.args.pages c.args.target
@@ -81,8 +81,8 @@ returns-clause-ok c =
       bytes = c.map_range.ensures.clear.bytes;
       copied = subst (λ (n : ℕ). ArePagesCopied one words t.root n c.args.pages c.args.target) c.number-from.ensures.value
           (subst (λ (n : ℕ). ArePagesCopied one words t.root c.number-from.result c.args.pages n) c.number-to.ensures.value c.copy_pages.ensures);
-      runs_copied = subst (λ (n : ℕ). AreCopied t.runs runs n c.args.pages c.args.target) c.number-from.ensures.value
-          (subst (λ (n : ℕ). AreCopied t.runs runs c.number-from.result c.args.pages n) c.number-to.ensures.value c.in_ok-copy.ensures.ok);
+      runs_copied = subst (λ (n : ℕ). AreRightsCopied t.runs runs n c.args.pages c.args.target) c.number-from.ensures.value
+          (subst (λ (n : ℕ). AreRightsCopied t.runs runs c.number-from.result c.args.pages n) c.number-to.ensures.value c.in_ok-copy.ensures.ok);
     } in
     duplicated_is t (record { words = words; root = t.root; free = c.map_range.new.pool; runs = runs }) one c.args.source
     c.args.pages c.args.target (record { write = false; user = false; fetch = false }) m refl

@@ -1,6 +1,6 @@
 use Rattle.std.proofs.Common.{◌+◌, ℕ, refl, subst}
 use Rattle.meminterval.specs.Tree.{entries}
-use Rattle.address_space.specs.Joining.{IsAdded}
+use Rattle.address_space.specs.Joining.{IsRunAdded}
 use Rattle.address_space.specs.Seen.{tables_of}
 use Rattle.address_space.proofs.Mapped.{mapped_kept, mapped_map}
 use Rattle.address_space.proofs.space.Space.map_clear.Goals as goal
@@ -16,7 +16,8 @@ invariant_of-self-2 c = record {
         elsewhere = c.map_range.ensures.clear.elsewhere;
         zeros = c.map_range.ensures.clear.zeros;
         bytes = c.map_range.ensures.clear.bytes;
-        runs_added = subst (λ (n : ℕ). IsAdded (entries c.args.self.now.runs) (entries c.add.new.runs) n (n + c.args.pages)
+        runs_added = subst (λ (n : ℕ). IsRunAdded (entries c.args.self.now.runs) (entries c.add.new.runs) n
+            (n + c.args.pages)
             c.args.rights) c.number-number.ensures.value c.in_ok-add.ensures.ok;
       });
 }
@@ -32,7 +33,8 @@ returns-clause-ok c = record {
         elsewhere = c.map_range.ensures.clear.elsewhere;
         zeros = c.map_range.ensures.clear.zeros;
         bytes = c.map_range.ensures.clear.bytes;
-        runs_added = subst (λ (n : ℕ). IsAdded (entries c.args.self.now.runs) (entries c.add.new.runs) n (n + c.args.pages)
+        runs_added = subst (λ (n : ℕ). IsRunAdded (entries c.args.self.now.runs) (entries c.add.new.runs) n
+            (n + c.args.pages)
             c.args.rights) c.number-number.ensures.value c.in_ok-add.ensures.ok;
       });
   root = refl;

@@ -1,6 +1,6 @@
 use Rattle.std.proofs.Common.{ℕ, ◌+◌, refl, subst, arith}
 use Rattle.meminterval.specs.Tree.{entries}
-use Rattle.address_space.specs.Joining.{IsAdded}
+use Rattle.address_space.specs.Joining.{IsRunAdded}
 use Rattle.address_space.specs.Seen.{tables_of}
 use Rattle.address_space.proofs.Protected.{AreProtected, mapped_walks, protected_kept, protected_map}
 use Rattle.address_space.proofs.Mapped.{by_table}
@@ -23,7 +23,8 @@ invariant_of-self-2 c =
       there = c.protect_range.ensures.granted.granted;
       elsewhere = c.protect_range.ensures.granted.elsewhere;
       bytes = c.protect_range.ensures.granted.bytes;
-      added = subst (λ (n : ℕ). IsAdded (entries c.args.self.now.runs) (entries c.set_rights.new.runs) n (n + c.args.pages)
+      added = subst (λ (n : ℕ). IsRunAdded (entries c.args.self.now.runs) (entries c.set_rights.new.runs) n
+          (n + c.args.pages)
           c.args.rights) c.number-number.ensures.value c.in_ok-set_rights.ensures.ok;
     } in
     record { kept = protected_kept t c.protect_range.new.frames (entries c.set_rights.new.runs) c.args.first c.args.pages c.args.rights m }
@@ -40,7 +41,8 @@ returns-clause-ok c =
       there = c.protect_range.ensures.granted.granted;
       elsewhere = c.protect_range.ensures.granted.elsewhere;
       bytes = c.protect_range.ensures.granted.bytes;
-      added = subst (λ (n : ℕ). IsAdded (entries c.args.self.now.runs) (entries c.set_rights.new.runs) n (n + c.args.pages)
+      added = subst (λ (n : ℕ). IsRunAdded (entries c.args.self.now.runs) (entries c.set_rights.new.runs) n
+          (n + c.args.pages)
           c.args.rights) c.number-number.ensures.value c.in_ok-set_rights.ensures.ok;
     } in
     record {

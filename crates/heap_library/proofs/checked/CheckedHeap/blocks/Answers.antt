@@ -1,6 +1,6 @@
 use Rattle.std.proofs.Common.{subst, ◌∙◌}
 use Rattle.heap_library.specs.Counted.{HasBlocks}
-use Rattle.heap_library.specs.Checked.{heap_state}
+use Rattle.heap_library.specs.Checked.{arena_heap_state}
 use Rattle.heap_library.specs.Marks.{is_marked}
 use Rattle.heap_library.proofs.Counting.{has_blocks}
 use Rattle.heap_library.proofs.checked.CheckedHeap.blocks.Goals as goal
@@ -8,6 +8,6 @@ use Rattle.heap_library.proofs.checked.CheckedHeap.blocks.Goals as goal
 pub returns : goal.returns
 returns c =
     let marks = c.self.inside.marks in
-    subst (λ heap. HasBlocks (heap_state heap) c.count.result) c.self.view_is
-    (has_blocks (heap_state c.self.inside.heap) (is_marked marks.base marks.words.now) c.count.result
+    subst (λ heap. HasBlocks (arena_heap_state heap) c.count.result) c.self.view_is
+    (has_blocks (arena_heap_state c.self.inside.heap) (is_marked marks.base marks.words.now) c.count.result
     c.self.invariant.blocks c.self.invariant.marked (c.count.ensures ∙ c.self.invariant.count_is))

@@ -2,7 +2,7 @@ use Rattle.std.proofs.Common.{true, refl, subst, sym, arith}
 use Rattle.heap_arena.specs.Arena.{regions_of, word_of}
 use Rattle.sound_heap.specs.Heap.{IsRequestRefused}
 use Rattle.heap_library.specs.Calls.{IsBlockGiven}
-use Rattle.heap_library.specs.Checked.{follows, refuses, denies}
+use Rattle.heap_library.specs.Checked.{arena_follows, arena_refuses, arena_denies}
 use Rattle.heap_library.proofs.Marking.{made_unmarked, made_marked, unserved_marked}
 use Rattle.heap_library.proofs.Room.{refused_for, not_refused}
 use Rattle.heap_library.specs.Room.{IsRefused}
@@ -27,7 +27,8 @@ pub invariant_of-self-in-Err : goal.invariant_of-self-in-Err
 invariant_of-self-in-Err c = unserved_marked c.calloc.new.self c.self.invariant c.args.size c.args.align c.in-Err.error c.in-Err.ensures.err
 
 pub returns-in-Err-clause-err : goal.returns-in-Err-clause-err
-returns-in-Err-clause-err c = subst (λ heap. IsRequestRefused regions_of word_of follows refuses denies heap c.args.size
+returns-in-Err-clause-err c = subst (λ heap. IsRequestRefused regions_of word_of arena_follows arena_refuses arena_denies
+    heap c.args.size
     c.args.align c.in-Err.error c.calloc.new.self) c.self.view_is c.in-Err.ensures.err
 
 pub returns-in-Ok-clause-ok : goal.returns-in-Ok-clause-ok

@@ -5,7 +5,7 @@ use Rattle.heap_library.specs.Calls.{IsBlockResized}
 use Rattle.heap_library.specs.Library.{IsResizeRefused}
 use Rattle.sound_heap.specs.Heap.{HasBlock, usable}
 use Rattle.sound_heap.specs.declared.heap_error.HeapError.TheVariants.{Refused}
-use Rattle.heap_library.specs.Checked.{follows, refuses, denies, heap_state}
+use Rattle.heap_library.specs.Checked.{arena_follows, arena_refuses, arena_denies, arena_heap_state}
 use Rattle.heap_library.proofs.MarkLemmas.{place_of_mark}
 use Rattle.heap_library.proofs.Marking.{resized_same, moved_unmarked, moved_marked, unresized_marked}
 use Rattle.heap_library.proofs.Room.{resize_refused_for, resize_not_refused}
@@ -13,16 +13,16 @@ use Rattle.heap_library.specs.Room.{IsRefusedResize}
 use Rattle.heap_library.proofs.checked.CheckedHeap.realloc.Goals as goal
 
 pub returns-then-not-has_block-clause-apart : goal.returns-then-not-has_block-clause-apart
-returns-then-not-has_block-clause-apart c = subst (λ heap. BlocksAreApart (heap_state heap)) c.self.view_is c.blocks_are_apart.ensures
+returns-then-not-has_block-clause-apart c = subst (λ heap. BlocksAreApart (arena_heap_state heap)) c.self.view_is c.blocks_are_apart.ensures
 
 pub clear-requires-clause-place : goal.clear-requires-clause-place
 clear-requires-clause-place c =
-    let block = subst (λ heap. HasBlock (heap_state heap) c.args.from) (sym c.self.view_is) (c.has_block.ensures.0 c.if-not-has_block.false) in
+    let block = subst (λ heap. HasBlock (arena_heap_state heap) c.args.from) (sym c.self.view_is) (c.has_block.ensures.0 c.if-not-has_block.false) in
     place_of_mark c.self.inside.marks.base c.self.inside.marks.words.now c.args.from (c.self.invariant.marked c.args.from block)
 
 pub clear-requires-clause-marked : goal.clear-requires-clause-marked
 clear-requires-clause-marked c =
-    let block = subst (λ heap. HasBlock (heap_state heap) c.args.from) (sym c.self.view_is) (c.has_block.ensures.0 c.if-not-has_block.false) in
+    let block = subst (λ heap. HasBlock (arena_heap_state heap) c.args.from) (sym c.self.view_is) (c.has_block.ensures.0 c.if-not-has_block.false) in
     c.self.invariant.marked c.args.from block
 
 pub mark-requires-clause-some : goal.mark-requires-clause-some
@@ -31,21 +31,21 @@ mark-requires-clause-some c = let same = c.clear.ensures.base in let some = c.se
 pub mark-requires-clause-unmarked : goal.mark-requires-clause-unmarked
 mark-requires-clause-unmarked c =
     let heap = c.self.inside.heap in
-    let block = subst (λ heap. HasBlock (heap_state heap) c.args.from) (sym c.self.view_is) (c.has_block.ensures.0 c.if-not-has_block.false) in
-    moved_unmarked c.realloc.new.self c.self.invariant c.args.from (usable (heap_state heap) c.args.from) c.args.size
+    let block = subst (λ heap. HasBlock (arena_heap_state heap) c.args.from) (sym c.self.view_is) (c.has_block.ensures.0 c.if-not-has_block.false) in
+    moved_unmarked c.realloc.new.self c.self.invariant c.args.from (usable (arena_heap_state heap) c.args.from) c.args.size
     c.in-Ok.to c.clear.new.self.base c.clear.new.self.words.now
     block c.in-Ok.ensures.ok.given c.clear.ensures.here c.clear.ensures.others
 
 pub mark-requires-clause-base : goal.mark-requires-clause-base
 mark-requires-clause-base c =
     let heap = c.self.inside.heap in
-    (resized_same heap c.realloc.new.self c.args.from (usable (heap_state heap) c.args.from) c.args.size c.in-Ok.to
+    (resized_same heap c.realloc.new.self c.args.from (usable (arena_heap_state heap) c.args.from) c.args.size c.in-Ok.to
     c.in-Ok.ensures.ok.given).base ∙ (c.self.invariant.base_is ∙ sym c.clear.ensures.base)
 
 pub mark-requires-clause-room : goal.mark-requires-clause-room
 mark-requires-clause-room c =
     let heap = c.self.inside.heap in
-    let same = (resized_same heap c.realloc.new.self c.args.from (usable (heap_state heap) c.args.from) c.args.size
+    let same = (resized_same heap c.realloc.new.self c.args.from (usable (arena_heap_state heap) c.args.from) c.args.size
     c.in-Ok.to c.in-Ok.ensures.ok.given).len in
     let room = c.self.invariant.room in
     let len = c.clear.ensures.len in
@@ -54,23 +54,23 @@ mark-requires-clause-room c =
 pub invariant_of-self : goal.invariant_of-self
 invariant_of-self c =
     let heap = c.self.inside.heap in
-    let block = subst (λ heap. HasBlock (heap_state heap) c.args.from) (sym c.self.view_is) (c.has_block.ensures.0 c.if-not-has_block.false) in
+    let block = subst (λ heap. HasBlock (arena_heap_state heap) c.args.from) (sym c.self.view_is) (c.has_block.ensures.0 c.if-not-has_block.false) in
     moved_marked c.realloc.new.self c.self.invariant c.mark.new.marks.base c.mark.new.marks.words.now c.mark.new.marks.count
     (c.mark.ensures.base ∙ c.clear.ensures.base) (c.mark.ensures.len ∙ c.clear.ensures.len) c.mark.ensures.counted
-    c.args.from (usable (heap_state heap) c.args.from) c.args.size c.in-Ok.to c.clear.new.self.base
+    c.args.from (usable (arena_heap_state heap) c.args.from) c.args.size c.in-Ok.to c.clear.new.self.base
     c.clear.new.self.words.now block c.in-Ok.ensures.ok.given
     c.clear.ensures.here c.clear.ensures.others c.mark.ensures.here c.mark.ensures.others
 
 pub invariant_of-self-in-Err : goal.invariant_of-self-in-Err
 invariant_of-self-in-Err c =
-    let block = subst (λ heap. HasBlock (heap_state heap) c.args.from) (sym c.self.view_is) (c.has_block.ensures.0 c.if-not-has_block.false) in
+    let block = subst (λ heap. HasBlock (arena_heap_state heap) c.args.from) (sym c.self.view_is) (c.has_block.ensures.0 c.if-not-has_block.false) in
     unresized_marked c.realloc.new.self c.self.invariant c.args.from c.args.size (Refused c.in-Err.error)
     (block, c.in-Err.ensures.err.refused, λ few. c.in-Err.ensures.err.tried few (omega arith))
 
 pub returns-in-Err-clause-err : goal.returns-in-Err-clause-err
 returns-in-Err-clause-err c =
-    let block = subst (λ heap. HasBlock (heap_state heap) c.args.from) (sym c.self.view_is) (c.has_block.ensures.0 c.if-not-has_block.false) in
-    subst (λ heap. IsResizeRefused regions_of word_of follows refuses denies heap c.args.from c.args.size
+    let block = subst (λ heap. HasBlock (arena_heap_state heap) c.args.from) (sym c.self.view_is) (c.has_block.ensures.0 c.if-not-has_block.false) in
+    subst (λ heap. IsResizeRefused regions_of word_of arena_follows arena_refuses arena_denies heap c.args.from c.args.size
     (Refused c.in-Err.error) c.realloc.new.self) c.self.view_is
     (block, c.in-Err.ensures.err.refused, λ few. c.in-Err.ensures.err.tried few (omega arith))
 
@@ -79,7 +79,7 @@ returns-in-Ok-clause-ok c =
     let block = c.has_block.ensures.0 c.if-not-has_block.false in
     subst (λ heap. IsBlockResized heap c.args.from c.args.size c.in-Ok.to c.realloc.new.self) c.self.view_is
     (record {
-      block = subst (λ heap. HasBlock (heap_state heap) c.args.from) (sym c.self.view_is) block;
+      block = subst (λ heap. HasBlock (arena_heap_state heap) c.args.from) (sym c.self.view_is) block;
       reallocated = c.in-Ok.ensures.ok;
       enough = c.in-Ok.ensures.enough;
     })
@@ -92,15 +92,16 @@ returns-then-not-has_block-clause-refused c =
 pub returns-in-Ok-clause-refused : goal.returns-in-Ok-clause-refused
 returns-in-Ok-clause-refused c =
     let heap = c.self.inside.heap in
-    let block = subst (λ heap. HasBlock (heap_state heap) c.args.from) (sym c.self.view_is) (c.has_block.ensures.0 c.if-not-has_block.false) in
-    let served = resize_not_refused heap c.realloc.new.self c.args.from (usable (heap_state heap) c.args.from) c.args.size
+    let block = subst (λ heap. HasBlock (arena_heap_state heap) c.args.from) (sym c.self.view_is) (c.has_block.ensures.0 c.if-not-has_block.false) in
+    let served = resize_not_refused heap c.realloc.new.self c.args.from (usable (arena_heap_state heap) c.args.from)
+    c.args.size
     c.in-Ok.to block c.in-Ok.ensures.ok.given.small c.in-Ok.ensures.ok.resized in
     (λ none. absurd (cc), λ refused. absurd (served (subst (λ heap. IsRefusedResize heap c.args.from c.args.size) (sym c.self.view_is) refused)))
 
 pub returns-in-Err-clause-refused : goal.returns-in-Err-clause-refused
 returns-in-Err-clause-refused c = (
   λ _.
-      let block = subst (λ heap. HasBlock (heap_state heap) c.args.from) (sym c.self.view_is) (c.has_block.ensures.0 c.if-not-has_block.false) in
+      let block = subst (λ heap. HasBlock (arena_heap_state heap) c.args.from) (sym c.self.view_is) (c.has_block.ensures.0 c.if-not-has_block.false) in
       subst (λ heap. IsRefusedResize heap c.args.from c.args.size) c.self.view_is
       (resize_refused_for c.self.inside.heap c.realloc.new.self c.args.from c.args.size (Refused c.in-Err.error)
       (block, c.in-Err.ensures.err.refused, λ few. c.in-Err.ensures.err.tried few (omega arith))),

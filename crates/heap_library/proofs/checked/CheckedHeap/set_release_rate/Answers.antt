@@ -3,7 +3,7 @@ use Rattle.dlmalloc.specs.State.{extents_in}
 use Rattle.dlmalloc.specs.Order.{KeepsIndex}
 use Rattle.heap_arena.specs.Arena.{regions_of, word_of}
 use Rattle.heap_arena.specs.declared.arena.Arena.{Arena}
-use Rattle.heap_library.specs.Checked.{heap_state}
+use Rattle.heap_library.specs.Checked.{arena_heap_state}
 use Rattle.heap_library.proofs.Marking.{kept_marked, same_blocks}
 use Rattle.heap_library.proofs.checked.CheckedHeap.set_release_rate.Goals as goal
 
@@ -18,8 +18,9 @@ invariant_of-self c =
       table =
           ap (λ (a : Arena). length a.table.words.now) system;
     })
-    (same_blocks (heap_state c.self.inside.heap) (heap_state c.set_release_rate.new.self) (ap extents_in state))
-    (same_blocks (heap_state c.set_release_rate.new.self) (heap_state c.self.inside.heap) (sym (ap extents_in state)))
+    (same_blocks (arena_heap_state c.self.inside.heap) (arena_heap_state c.set_release_rate.new.self) (ap extents_in state))
+    (same_blocks (arena_heap_state c.set_release_rate.new.self) (arena_heap_state c.self.inside.heap)
+    (sym (ap extents_in state)))
 
 pub returns-clause-index : goal.returns-clause-index
 returns-clause-index c = subst (λ heap. KeepsIndex regions_of word_of heap c.set_release_rate.new.self) c.self.view_is c.set_release_rate.ensures.index

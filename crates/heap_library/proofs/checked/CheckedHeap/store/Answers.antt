@@ -1,7 +1,7 @@
 use Rattle.std.proofs.Common.{rules, refl, subst}
 use Rattle.heap_arena.specs.Arena.{regions_of, word_of}
 use Rattle.sound_heap.specs.Heap.{StaysInState}
-use Rattle.heap_library.specs.Checked.{follows}
+use Rattle.heap_library.specs.Checked.{arena_follows}
 use Rattle.heap_library.proofs.Marking.{same_marked}
 use Rattle.heap_library.proofs.checked.CheckedHeap.store.Goals as goal
 
@@ -12,7 +12,7 @@ invariant_of-self c =
 
 pub returns-clause-stays : goal.returns-clause-stays
 returns-clause-stays c =
-    subst (λ heap. StaysInState regions_of word_of follows heap c.store.new.self) c.self.view_is c.store.ensures.stays
+    subst (λ heap. StaysInState regions_of word_of arena_follows heap c.store.new.self) c.self.view_is c.store.ensures.stays
 
 pub returns-then-not-has_word-clause-stays : goal.returns-then-not-has_word-clause-stays
 returns-then-not-has_word-clause-stays c = record {

@@ -1,7 +1,7 @@
 use Rattle.std.proofs.Common.{subst, true}
 use Rattle.dlmalloc.specs.Shortened.{IsTrimmed}
 use Rattle.heap_arena.specs.Arena.{regions_of, word_of}
-use Rattle.heap_library.specs.Checked.{follows}
+use Rattle.heap_library.specs.Checked.{arena_follows}
 use Rattle.heap_library.proofs.Marking.{trimmed_marked}
 use Rattle.heap_library.proofs.checked.CheckedHeap.trim.Goals as goal
 
@@ -10,6 +10,6 @@ invariant_of-self c = trimmed_marked c.trim.new.self c.self.invariant c.args.pad
 
 pub returns : goal.returns
 returns c = record {
-  trimmed = subst (λ heap. IsTrimmed regions_of word_of follows true true 1 heap c.args.pad c.trim.result
+  trimmed = subst (λ heap. IsTrimmed regions_of word_of arena_follows true true 1 heap c.args.pad c.trim.result
       c.trim.new.self) c.self.view_is c.trim.ensures.trimmed;
 }

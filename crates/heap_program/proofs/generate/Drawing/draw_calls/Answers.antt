@@ -1,5 +1,5 @@
 use Rattle.std.proofs.Common.{◌≡◌, subst, arith}
-use Rattle.heap_program.specs.Drawing.{HasDrawn}
+use Rattle.heap_program.specs.Drawing.{HasDrawnCalls}
 use Rattle.heap_program.proofs.Draws.{drawn_none, drawn_more}
 use Rattle.heap_program.proofs.generate.Drawing.draw_calls.Goals as goal
 
@@ -24,4 +24,4 @@ returns c = λ s at.
     let end = c.calls.auto._made-end in
     let out = c.calls-test.false in
     let whole : c.calls._made ≡ c.args.count = omega (arith, end, out) in
-    subst (HasDrawn s c.args.self.now c.calls.self) whole (c.calls.invariant.drawn s at)
+    subst (HasDrawnCalls s c.args.self.now c.calls.self) whole (c.calls.invariant.drawn s at)

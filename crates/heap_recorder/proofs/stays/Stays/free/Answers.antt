@@ -1,6 +1,6 @@
 use Rattle.std.proofs.Common.{rules, ◌≡◌, length, Some, None, subst}
 use Rattle.std.specs.Prelude.{slice_get, slice_set}
-use Rattle.heap_recorder.specs.Stays.{StayNotes, freed}
+use Rattle.heap_recorder.specs.Stays.{StayNotes, with_block_freed}
 use Rattle.heap_recorder.proofs.Places.{get_below}
 use Rattle.heap_recorder.proofs.KeptStays.{missed_begun, missed_stay, freed_none, freed_at, places_freed}
 use Rattle.heap_recorder.proofs.stays.Stays.free.Goals as goal
@@ -8,7 +8,7 @@ use Rattle.heap_recorder.proofs.stays.Stays.free.Goals as goal
 pub returns-in_default : goal.returns-in_default
 returns-in_default c =
     let none : slice_get c.self.inside.places.items c.args.number ≡ None = search rules in
-    subst (λ (notes : StayNotes). notes ≡ freed c.args.call c.args.number notes) c.self.view_is
+    subst (λ (notes : StayNotes). notes ≡ with_block_freed c.args.call c.args.number notes) c.self.view_is
     (freed_none c.args.call c.args.number _ (missed_begun c.self.inside.stays.items c.self.inside.places.items
     c.self.inside.first c.args.number c.self.invariant none))
 
@@ -16,7 +16,7 @@ pub returns-in_default-stay_at : goal.returns-in_default-stay_at
 returns-in_default-stay_at c =
     let place : slice_get c.self.inside.places.items c.args.number ≡ Some c.in-Some.place = search rules in
     let none : slice_get c.self.inside.stays.items c.in-Some.place ≡ None = search rules in
-    subst (λ (notes : StayNotes). notes ≡ freed c.args.call c.args.number notes) c.self.view_is
+    subst (λ (notes : StayNotes). notes ≡ with_block_freed c.args.call c.args.number notes) c.self.view_is
     (freed_none c.args.call c.args.number _ (missed_stay c.self.inside.stays.items c.self.inside.places.items
     c.self.inside.first c.args.number c.in-Some.place c.self.invariant place none))
 
@@ -40,7 +40,7 @@ returns c =
       begun = length c.self.inside.places.items;
       stays =
           slice_set c.self.inside.stays.items c.in-Some.place c.ended_of.result;
-    } ≡ freed c.args.call c.args.number notes)
+    } ≡ with_block_freed c.args.call c.args.number notes)
     c.self.view_is
     (freed_at c.self.inside.stays.items c.self.inside.places.items c.self.inside.first c.args.call c.args.number
     c.in-Some.place (length c.self.inside.places.items) c.in-Some-stay_at.stay c.ended_of.result c.self.invariant place

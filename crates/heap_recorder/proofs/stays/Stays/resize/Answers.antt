@@ -2,7 +2,7 @@ use Rattle.std.proofs.Common.{rules, ◌≡◌, ◌++◌, ◌∷◌, [], length,
 use Rattle.std.specs.Prelude.{slice_get, slice_set}
 use Rattle.std.proofs.Math.ListN.{length-set}
 use Rattle.heap_history.specs.declared.history.Ending.{Ending}
-use Rattle.heap_recorder.specs.Stays.{StayNotes, is_of, is_at, ended, resized}
+use Rattle.heap_recorder.specs.Stays.{StayNotes, is_stay_of, is_stay_at, ended, resized}
 use Rattle.heap_recorder.proofs.Places.{get_below}
 use Rattle.heap_recorder.proofs.KeptStays.{missed_begun, missed_stay, missed_other, resized_none, resized_same, resized_at, places_resized, ended_gone}
 use Rattle.heap_recorder.proofs.stays.Stays.resize.Goals as goal
@@ -28,7 +28,7 @@ pub returns-then-not-is_of : goal.returns-then-not-is_of
 returns-then-not-is_of c =
     let place : slice_get c.self.inside.places.items c.args.number ≡ Some c.in-Some.place = search rules in
     let stay : slice_get c.self.inside.stays.items c.in-Some.place ≡ Some c.in-Some-stay_at.stay = search rules in
-    let other : is_of c.args.number c.in-Some-stay_at.stay ≡ false = search rules in
+    let other : is_stay_of c.args.number c.in-Some-stay_at.stay ≡ false = search rules in
     subst (λ (notes : StayNotes). notes ≡ resized c.args.call c.args.number c.args.address c.args.size notes) c.self.view_is
     (resized_none c.args.call c.args.number c.args.address c.args.size _
     (missed_other c.self.inside.stays.items c.self.inside.places.items c.self.inside.first c.args.number c.in-Some.place
@@ -38,8 +38,8 @@ pub returns-then-is_at : goal.returns-then-is_at
 returns-then-is_at c =
     let place : slice_get c.self.inside.places.items c.args.number ≡ Some c.in-Some.place = search rules in
     let stay : slice_get c.self.inside.stays.items c.in-Some.place ≡ Some c.in-Some-stay_at.stay = search rules in
-    let of : is_of c.args.number c.in-Some-stay_at.stay ≡ true = search rules in
-    let here : is_at c.args.address c.args.size c.in-Some-stay_at.stay ≡ true = search rules in
+    let of : is_stay_of c.args.number c.in-Some-stay_at.stay ≡ true = search rules in
+    let here : is_stay_at c.args.address c.args.size c.in-Some-stay_at.stay ≡ true = search rules in
     subst (λ (notes : StayNotes). notes ≡ resized c.args.call c.args.number c.args.address c.args.size notes) c.self.view_is
     (resized_same c.self.inside.stays.items c.self.inside.places.items c.self.inside.first c.args.call c.args.number
     c.in-Some.place c.args.address c.args.size c.in-Some-stay_at.stay _ refl c.self.invariant place stay of here)
@@ -71,8 +71,8 @@ pub returns : goal.returns
 returns c =
     let place : slice_get c.self.inside.places.items c.args.number ≡ Some c.in-Some.place = search rules in
     let stay : slice_get c.self.inside.stays.items c.in-Some.place ≡ Some c.in-Some-stay_at.stay = search rules in
-    let of : is_of c.args.number c.in-Some-stay_at.stay ≡ true = search rules in
-    let other : is_at c.args.address c.args.size c.in-Some-stay_at.stay ≡ false = search rules in
+    let of : is_stay_of c.args.number c.in-Some-stay_at.stay ≡ true = search rules in
+    let other : is_stay_at c.args.address c.args.size c.in-Some-stay_at.stay ≡ false = search rules in
     let stays : c.push.new.self.items ≡ c.self.inside.stays.items ++ c.new_stay.result ∷ [] = search rules in
     let long : length (slice_set c.self.inside.places.items c.args.number c.len-next.result) ≡ length
     c.self.inside.places.items = length-set c.self.inside.places.items c.args.number c.len-next.result in

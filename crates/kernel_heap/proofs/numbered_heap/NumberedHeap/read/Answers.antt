@@ -1,6 +1,6 @@
 use Rattle.std.proofs.Common.{◌∙◌, subst, sym}
 use Rattle.kernel_heap.specs.System.{paged}
-use Rattle.kernel_heap.specs.Written.{AreInside, AreRead}
+use Rattle.kernel_heap.specs.Written.{AreHeapBytes, AreRead}
 use Rattle.kernel_heap.proofs.BlockBytes.{block_inside, in_block, refuse_same, step_read}
 use Rattle.heap_model.specs.declared.call.Call.TheVariants.{Read}
 use Rattle.kernel_heap.specs.Machine.{seen_with}
@@ -8,7 +8,7 @@ use Rattle.kernel_heap.proofs.Refused.{step_refused}
 use Rattle.kernel_heap.proofs.numbered_heap.NumberedHeap.read.Goals as goal
 
 pub read_bytes-requires : goal.read_bytes-requires
-read_bytes-requires c = subst (λ system. AreInside (paged system) c.in-Ok.address c.args.count) (sym c.system.ensures)
+read_bytes-requires c = subst (λ system. AreHeapBytes (paged system) c.in-Ok.address c.args.count) (sym c.system.ensures)
     (block_inside c.args.self.now.heap c.find_bytes.ensures.placed c.in-Ok.address c.args.count
     (in_block c.args.self.now.heap c.args.self.now.blocks.items c.args.number c.args.offset c.args.count c.in-Ok.address c.requires.sound c.in-Ok.ensures.ok))
 

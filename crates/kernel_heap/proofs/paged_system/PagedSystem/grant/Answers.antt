@@ -1,7 +1,7 @@
 use Rattle.std.proofs.Common.{Result, Ok, Err, OnOk, subst, sym}
 use Rattle.heap_model.specs.declared.region.Region.{Region}
 use Rattle.mapped_regions.specs.Mapped.{IsRegion, CanMap, IsRegionJoined}
-use Rattle.mapped_regions.specs.Shown.{shown}
+use Rattle.mapped_regions.specs.Shown.{paged_view}
 use Rattle.kernel_heap.specs.System.{paged}
 use Rattle.kernel_heap.proofs.Granted.{kept_joined, granted_region, can_map, granted_joined}
 use Rattle.kernel_heap.proofs.paged_system.PagedSystem.grant.Goals as goal
@@ -27,7 +27,8 @@ join-requires-clause-can c =
 
 pub invariant_of-self : goal.invariant_of-self
 invariant_of-self c = record {
-  kept = kept_joined c.join.result (paged c.args.self.now) (shown c.join.new.self) c.heap_region.result c.join.ensures.ok
+  kept = kept_joined c.join.result (paged c.args.self.now) (paged_view c.join.new.self) c.heap_region.result
+      c.join.ensures.ok
       (on_ok c.join.result (CanMap (paged c.args.self.now) c.heap_region.result.start c.heap_region.result.pages)
       (subst (λ (r : Region). CanMap (paged c.args.self.now) r.start r.pages) (sym c.heap_region.ensures)
       (can_map (paged c.args.self.now) c.args.pages c.args.place c.args.self.now.kept c.requires.can)))
@@ -35,5 +36,5 @@ invariant_of-self c = record {
 }
 
 pub returns-clause-ok : goal.returns-clause-ok
-returns-clause-ok c = if_ok c.join.result (IsRegionJoined (paged c.args.self.now) (shown c.join.new.self) c.heap_region.result) _ c.join.ensures.ok
-    (λ joined. granted_joined (paged c.args.self.now) (shown c.join.new.self) c.heap_region.result c.args.pages c.args.place c.heap_region.ensures joined)
+returns-clause-ok c = if_ok c.join.result (IsRegionJoined (paged c.args.self.now) (paged_view c.join.new.self) c.heap_region.result) _ c.join.ensures.ok
+    (λ joined. granted_joined (paged c.args.self.now) (paged_view c.join.new.self) c.heap_region.result c.args.pages c.args.place c.heap_region.ensures joined)

@@ -1,5 +1,5 @@
 use Rattle.mapped_regions.specs.UserRegions.{user_region}
-use Rattle.mapped_regions.specs.Shown.{shown}
+use Rattle.mapped_regions.specs.Shown.{paged_view}
 use Rattle.kernel_heap.specs.System.{paged}
 use Rattle.kernel_heap.proofs.Granted.{kept_joined}
 use Rattle.kernel_heap.proofs.WordsStay.{beside_joined}
@@ -7,11 +7,11 @@ use Rattle.kernel_heap.proofs.paged_system.PagedSystem.map.Goals as goal
 
 pub invariant_of-self : goal.invariant_of-self
 invariant_of-self c = record {
-  kept = kept_joined c.map.result (paged c.args.self.now) (shown c.map.new.self)
+  kept = kept_joined c.map.result (paged c.args.self.now) (paged_view c.map.new.self)
       (user_region c.args.start c.args.pages c.args.rights) c.map.ensures.ok c.map.ensures.can c.map.ensures.err
       c.args.self.now.kept c.map.new.self.mapped;
 }
 
 pub returns-clause-beside : goal.returns-clause-beside
-returns-clause-beside c = beside_joined c.map.result (paged c.args.self.now) (shown c.map.new.self) c.args.start
+returns-clause-beside c = beside_joined c.map.result (paged c.args.self.now) (paged_view c.map.new.self) c.args.start
     c.args.pages c.args.rights c.map.ensures.ok c.map.ensures.err c.args.self.now.kept

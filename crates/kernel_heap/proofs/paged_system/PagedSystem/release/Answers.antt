@@ -2,7 +2,7 @@ use Rattle.std.proofs.Common.{◌≡◌, ℕ, ◌+◌, ◌-◌, ◌/◌, ◌<◌
 use Rattle.std.proofs.lemmas.Bool.{cases_lt}
 use Rattle.heap_memory.specs.Runs.{without_run}
 use Rattle.heap_memory.specs.RunLaws.{run_bounded}
-use Rattle.mapped_regions.specs.Shown.{shown}
+use Rattle.mapped_regions.specs.Shown.{paged_view}
 use Rattle.kernel_heap.specs.Ordered.{regions_whole}
 use Rattle.kernel_heap.specs.System.{paged}
 use Rattle.kernel_heap.specs.Words.{grants_of}
@@ -41,16 +41,18 @@ invariant_of-self c =
     let range = cut_range (paged c.args.self.now) c.args.at c.args.size c.args.left c.args.self.now.kept c.requires.run
     (below c.args.left c.args.size c.requires.within c.if-left-size.false) c.requires.in_pages in
     record {
-      kept = kept_cut (paged c.args.self.now) (shown c.cut.new.self) (c.args.at + c.args.left)
+      kept = kept_cut (paged c.args.self.now) (paged_view c.cut.new.self) (c.args.at + c.args.left)
           ((c.args.size - c.args.left) / 4096) range.0 c.cut.ensures c.args.self.now.kept c.cut.new.self.mapped;
     }
 
 pub returns-clause-regions : goal.returns-clause-regions
-returns-clause-regions c = released_regions (paged c.args.self.now) (shown c.cut.new.self) c.args.at c.args.size c.args.left c.args.self.now.kept c.requires.run
+returns-clause-regions c = released_regions (paged c.args.self.now) (paged_view c.cut.new.self) c.args.at c.args.size
+    c.args.left c.args.self.now.kept c.requires.run
     (below c.args.left c.args.size c.requires.within c.if-left-size.false) c.requires.in_pages c.cut.ensures
 
 pub returns-clause-words : goal.returns-clause-words
-returns-clause-words c = released_words (paged c.args.self.now) (shown c.cut.new.self) c.args.at c.args.size c.args.left c.args.self.now.kept c.requires.run
+returns-clause-words c = released_words (paged c.args.self.now) (paged_view c.cut.new.self) c.args.at c.args.size
+    c.args.left c.args.self.now.kept c.requires.run
     (below c.args.left c.args.size c.requires.within c.if-left-size.false) c.requires.in_pages c.cut.ensures
 
 pub returns-clause-released : goal.returns-clause-released

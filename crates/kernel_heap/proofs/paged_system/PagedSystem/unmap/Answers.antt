@@ -1,4 +1,4 @@
-use Rattle.mapped_regions.specs.Shown.{shown}
+use Rattle.mapped_regions.specs.Shown.{paged_view}
 use Rattle.kernel_heap.specs.System.{paged}
 use Rattle.kernel_heap.proofs.Granted.{kept_left}
 use Rattle.kernel_heap.proofs.WordsStay.{beside_left}
@@ -6,12 +6,13 @@ use Rattle.kernel_heap.proofs.paged_system.PagedSystem.unmap.Goals as goal
 
 pub invariant_of-self : goal.invariant_of-self
 invariant_of-self c = record {
-  kept = kept_left c.unmap.result (paged c.args.self.now) (shown c.unmap.new.self) c.args.start c.args.pages
+  kept = kept_left c.unmap.result (paged c.args.self.now) (paged_view c.unmap.new.self) c.args.start c.args.pages
       c.unmap.ensures.ok c.unmap.ensures.err c.args.self.now.kept c.unmap.new.self.mapped;
 }
 
 pub returns-clause-beside : goal.returns-clause-beside
-returns-clause-beside c = beside_left c.unmap.result (paged c.args.self.now) (shown c.unmap.new.self) c.args.start
+returns-clause-beside c = beside_left c.unmap.result (paged c.args.self.now) (paged_view c.unmap.new.self) c.args.start
     c.args.pages c.unmap.ensures.ok c.unmap.ensures.can c.unmap.ensures.err c.args.self.now.kept
-    (kept_left c.unmap.result (paged c.args.self.now) (shown c.unmap.new.self) c.args.start c.args.pages c.unmap.ensures.ok
+    (kept_left c.unmap.result (paged c.args.self.now) (paged_view c.unmap.new.self) c.args.start c.args.pages
+    c.unmap.ensures.ok
     c.unmap.ensures.err c.args.self.now.kept c.unmap.new.self.mapped)

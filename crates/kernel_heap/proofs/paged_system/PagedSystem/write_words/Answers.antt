@@ -1,7 +1,7 @@
 use Rattle.std.proofs.Common.{◌≡◌, ◌+◌, ◌*◌, arith, subst}
 use Rattle.std.specs.Int.{w64, to_le_bytes}
 use Rattle.kernel_heap.specs.System.{paged}
-use Rattle.kernel_heap.specs.Written.{IsWritten}
+use Rattle.kernel_heap.specs.Written.{AreBytesWritten}
 use Rattle.kernel_heap.proofs.Bytes.{inside_part, inside_below}
 use Rattle.kernel_heap.proofs.ByteRuns.{still_inside, word_there, word_written, written_on}
 use Rattle.kernel_heap.proofs.paged_system.PagedSystem.write_words.Goals as goal
@@ -29,7 +29,7 @@ loop-k-preserved c =
     let at = c.args.address + 8 * c.loop-k.k in
     let aligned = c.requires.aligned (omega (arith, c.loop-k-test.true)) in
     let next : 8 * c.loop-k.k + 8 ≡ 8 * (c.loop-k.k + 1) = omega arith in
-    subst (IsWritten old new c.args.address c.args.bytes.now) next
+    subst (AreBytesWritten old new c.args.address c.args.bytes.now) next
     (written_on old mid new c.args.address (8 * c.loop-k.k) 8 c.args.bytes.now (to_le_bytes w64 c.word_of_bytes.result)
     (inside_part old c.args.address _ c.args.address (8 * c.loop-k.k + 8) c.requires.inside (omega arith)
     (omega (arith, c.loop-k-test.true))) c.loop-k.invariant

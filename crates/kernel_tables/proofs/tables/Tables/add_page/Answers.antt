@@ -31,7 +31,9 @@ returns-in-Entry-clause-added c =
     ap (λ (s : TableState). in_area s.area c.args.frame) c.self.view_is ∙ c.requires.outside in
     subst (λ (s : TableState). IsPageAdded s.words c.map_at.new.frames.words s.free c.self.inside.free s.root c.args.page
     c.args.frame c.args.rights) c.self.view_is
-    ((c.map_at.ensures.mapped c.self.inside.free c.self.invariant.tree (outside_used c.self.inside.memory.area c.self.inside.free (frame_count c.self.inside.memory.words) c.args.frame c.self.invariant.known out)).added)
+    (c.map_at.ensures.mapped c.self.inside.free c.self.invariant.tree
+    (outside_used c.self.inside.memory.area c.self.inside.free (frame_count c.self.inside.memory.words) c.args.frame
+    c.self.invariant.known out)).added
 
 pub invariant_of-self-in_default : goal.invariant_of-self-in_default
 invariant_of-self-in_default c =

@@ -4,7 +4,7 @@ use Rattle.std.specs.Option.{option_map}
 use Rattle.paging_core.specs.Area.{in_area}
 use Rattle.paging_core.specs.Large.{slot_of}
 use Rattle.paging_core.specs.Memory.{frame_count}
-use Rattle.paging_core.specs.Walk.{place_of, large_of}
+use Rattle.paging_core.specs.Walk.{mapped_place, large_of}
 use Rattle.paging_core.proofs.Areas.{free_stays, known_moved}
 use Rattle.kernel_tables.specs.TableState.{TableState, leads}
 use Rattle.kernel_tables.proofs.Sound.{removed_outside}
@@ -34,7 +34,7 @@ invariant_of-self c =
 pub returns-in-Entry-default-Some-clause-some : goal.returns-in-Entry-default-Some-clause-some
 returns-in-Entry-default-Some-clause-some c = λ _.
     subst (λ (s : TableState). IsSome (leads s c.args.page) × (large_of s.words s.root (slot_of (c.args.page / 512)) ≡ None)) c.self.view_is (
-      rw (sym c.in-Entry-default-Some.ensures.end.1 ∙ ap (option_map place_of) c.in-Entry-default-Some.page-is) refl,
+      rw (sym c.in-Entry-default-Some.ensures.end.1 ∙ ap (option_map mapped_place) c.in-Entry-default-Some.page-is) refl,
       entry_alone (record { words = c.self.inside.memory.words; area = c.self.inside.memory.area; root = c.self.inside.root; free = c.self.inside.free })
           c.args.page c.in-Entry-default-Some.entry.table c.in-Entry-default-Some.entry.index c.in-Entry-default-Some.ensures.end.0,
     )

@@ -1,6 +1,6 @@
 use Rattle.std.proofs.Common.{◌≡◌, ◌+◌, ◌*◌, ◌/◌, Some, ap, ◌∙◌, arith}
 use Rattle.paging_core.specs.Large.{slot_of}
-use Rattle.paging_core.specs.Walk.{large_of, granted}
+use Rattle.paging_core.specs.Walk.{large_of, place_with}
 use Rattle.kernel_tables.specs.TableState.{leads}
 use Rattle.std.specs.Prelude.{IsSome}
 use Rattle.kernel_tables.proofs.RangeChanged.{IsChangedTo, changed_start, still, page_changed, slot_changed, only_range, granted_all, told, is_hole}
@@ -8,14 +8,14 @@ use Rattle.kernel_tables.proofs.tables.Tables.grant_all.Goals as goal
 use Rattle.kernel_tables.proofs.tables.Tables.grant_all.Goals.{After-slot_at, After-loop-done}
 
 pub loop-done-init : goal.loop-done-init
-loop-done-init c = changed_start c.args.self.now c.args.page c.args.pages (λ was. Some (granted was.frame c.args.rights)) c.requires.within
+loop-done-init c = changed_start c.args.self.now c.args.page c.args.pages (λ was. Some (place_with was.frame c.args.rights)) c.requires.within
 
 -- the large page of the next page, which has no entry of its own
 large : (c : goal.After-slot_at) → IsSome (large_of c.loop-done.self.words c.loop-done.self.root (slot_of ((c.args.page + c.loop-done.done) / 512)))
 large c =
     rw c.after-at.ensures at (c.grant_entry.ensures.none c.if-grant_entry.false (rw (
       c.after-at.ensures,
-      still c.args.self.now c.loop-done.self c.args.page c.args.pages c.loop-done.done (λ was. Some (granted was.frame c.args.rights))
+      still c.args.self.now c.loop-done.self c.args.page c.args.pages c.loop-done.done (λ was. Some (place_with was.frame c.args.rights))
           c.requires.range c.loop-done.invariant c.loop-done-test.true c.loop-done.done (omega arith) c.loop-done-test.true,
     ) (c.requires.mapped c.loop-done.done c.loop-done-test.true)))
 
@@ -27,11 +27,11 @@ loop-done-preserved-then-grant_entry c =
     let a = c.after-at.ensures in
     let alone = (c.grant_entry.ensures.some c.if-grant_entry.true).1 in
     page_changed c.args.self.now c.loop-done.self c.args.page c.args.pages c.loop-done.done
-    (λ was. Some (granted was.frame c.args.rights)) c.requires.range c.loop-done.invariant c.loop-done-test.true
+    (λ was. Some (place_with was.frame c.args.rights)) c.requires.range c.loop-done.invariant c.loop-done-test.true
     c.grant_entry.new.self c.grant_entry.ensures.free
     (λ some. is_hole (large_of c.loop-done.self.words c.loop-done.self.root (slot_of ((c.args.page + c.loop-done.done) / 512))) (rw a at alone) some)
     (rw a at c.grant_entry.ensures.only) (λ was is. rw a at (told (leads c.loop-done.self c.after-at.result)
-    (λ was. leads c.grant_entry.new.self c.after-at.result ≡ Some (granted was.frame c.args.rights))
+    (λ was. leads c.grant_entry.new.self c.after-at.result ≡ Some (place_with was.frame c.args.rights))
     was (c.grant_entry.ensures.granted c.if-grant_entry.true) (rw a is))) c.grant_entry.ensures.larges
 
 pub loop-done-preserved : goal.loop-done-preserved
@@ -39,14 +39,14 @@ loop-done-preserved c =
     let e : c.slot_at.result ≡ (c.args.page + c.loop-done.done) / 512 = c.slot_at.ensures ∙ ap (λ n. n / 512) c.after-at.ensures in
     let s = c.grant_entry.ensures.same c.if-grant_entry.false in
     slot_changed c.args.self.now c.loop-done.self c.args.page c.args.pages c.loop-done.done
-    (λ was. Some (granted was.frame c.args.rights)) c.requires.range c.loop-done.invariant c.loop-done-test.true
+    (λ was. Some (place_with was.frame c.args.rights)) c.requires.range c.loop-done.invariant c.loop-done-test.true
     c.grant_slot.new.self (rw s at c.grant_slot.ensures.free) (large (goal.at.loop-done-preserved c).After-slot_at) (rw (s, e) at c.grant_slot.ensures.only)
     (λ k was lt is. rw e at (told (leads c.loop-done.self (512 * c.slot_at.result + k))
-    (λ was. leads c.grant_slot.new.self (512 * c.slot_at.result + k) ≡ Some (granted was.frame c.args.rights))
+    (λ was. leads c.grant_slot.new.self (512 * c.slot_at.result + k) ≡ Some (place_with was.frame c.args.rights))
     was (rw s at (c.grant_slot.ensures.granted k lt)) (rw e is))) (rw (s, e) at c.grant_slot.ensures.larges)
 
 all : (c : goal.After-loop-done) → IsChangedTo c.args.self.now c.loop-done.self c.args.page c.args.pages c.args.pages
-    (λ was. Some (granted was.frame c.args.rights))
+    (λ was. Some (place_with was.frame c.args.rights))
 all c =
     let w = c.loop-done.invariant.within in
     let d : c.loop-done.done ≡ c.args.pages = omega (arith, w, c.loop-done-test.false) in
@@ -54,7 +54,7 @@ all c =
 
 pub returns-clause-only : goal.returns-clause-only
 returns-clause-only c = only_range c.args.self.now c.loop-done.self c.args.page c.args.pages
-    (λ was. Some (granted was.frame c.args.rights)) (all (goal.at.returns-clause-only c).After-loop-done)
+    (λ was. Some (place_with was.frame c.args.rights)) (all (goal.at.returns-clause-only c).After-loop-done)
 
 pub returns-clause-granted : goal.returns-clause-granted
 returns-clause-granted c = granted_all c.args.self.now c.loop-done.self c.args.page c.args.pages c.args.rights

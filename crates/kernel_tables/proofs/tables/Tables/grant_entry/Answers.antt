@@ -4,7 +4,7 @@ use Rattle.std.specs.Option.{option_map}
 use Rattle.paging_core.specs.Area.{in_area}
 use Rattle.paging_core.specs.Large.{slot_of}
 use Rattle.paging_core.specs.Memory.{frame_count}
-use Rattle.paging_core.specs.Walk.{place_of, large_of, walk_of, granted}
+use Rattle.paging_core.specs.Walk.{mapped_place, large_of, walk_of, place_with}
 use Rattle.paging_core.proofs.Areas.{free_stays, known_moved}
 use Rattle.kernel_tables.specs.TableState.{TableState, leads}
 use Rattle.kernel_tables.proofs.Sound.{regranted_outside}
@@ -34,7 +34,7 @@ invariant_of-self c =
 pub returns-in-Entry-default-Some-clause-some : goal.returns-in-Entry-default-Some-clause-some
 returns-in-Entry-default-Some-clause-some c = λ _.
     subst (λ (s : TableState). IsSome (leads s c.args.page) × (large_of s.words s.root (slot_of (c.args.page / 512)) ≡ None)) c.self.view_is (
-      rw (sym c.in-Entry-default-Some.ensures.end.1 ∙ ap (option_map place_of) c.in-Entry-default-Some.page-is) refl,
+      rw (sym c.in-Entry-default-Some.ensures.end.1 ∙ ap (option_map mapped_place) c.in-Entry-default-Some.page-is) refl,
       entry_alone (record { words = c.self.inside.memory.words; area = c.self.inside.memory.area; root = c.self.inside.root; free = c.self.inside.free })
           c.args.page c.in-Entry-default-Some.entry.table c.in-Entry-default-Some.entry.index c.in-Entry-default-Some.ensures.end.0,
     )
@@ -47,7 +47,7 @@ returns-in-Entry-default-Some-clause-larges c = λ n.
 pub returns-in-Entry-default-Some-clause-granted : goal.returns-in-Entry-default-Some-clause-granted
 returns-in-Entry-default-Some-clause-granted c = λ _.
     subst (λ (s : TableState). IfSome (leads s c.args.page) (λ place. walk_of c.protect_at.new.frames.words
-    c.self.inside.root c.args.page ≡ Some (granted place.frame c.args.rights)))
+    c.self.inside.root c.args.page ≡ Some (place_with place.frame c.args.rights)))
     c.self.view_is ((c.protect_at.ensures.granted c.self.inside.free c.self.invariant.tree).granted)
 
 pub returns-in-Large-clause-none : goal.returns-in-Large-clause-none
@@ -59,4 +59,5 @@ pub returns-in-Entry-default-Some-clause-only : goal.returns-in-Entry-default-So
 returns-in-Entry-default-Some-clause-only c =
     let all = (c.protect_at.ensures.granted c.self.inside.free c.self.invariant.tree).pages in
     only_seen c.self.view_is c.protect_at.ensures.area all.size (λ l n met lt is. all.stayed l n (omega (arith, lt)) (λ e. absurd (omega (arith, lt, e))) ∙ is)
-    (λ other canonical not. (c.protect_at.ensures.granted c.self.inside.free c.self.invariant.tree).elsewhere other canonical (other_page c.args.page other not))
+    (λ other canonical not. (c.protect_at.ensures.granted c.self.inside.free c.self.invariant.tree).elsewhere other
+    canonical (other_page c.args.page other not))

@@ -2,7 +2,7 @@ use Rattle.std.proofs.Common.{◌≡◌, Some, ap, subst, ◌∙◌, arith}
 use Rattle.std.specs.Prelude.{IfSome}
 use Rattle.paging_core.specs.Area.{in_area}
 use Rattle.paging_core.specs.Memory.{frame_count}
-use Rattle.paging_core.specs.Walk.{large_of, walk_of, granted}
+use Rattle.paging_core.specs.Walk.{large_of, walk_of, place_with}
 use Rattle.paging_core.proofs.Areas.{free_stays, known_moved}
 use Rattle.kernel_tables.specs.TableState.{TableState, leads}
 use Rattle.kernel_tables.proofs.Sound.{regranted_outside}
@@ -35,7 +35,7 @@ returns-clause-larges c = λ n.
 pub returns-clause-granted : goal.returns-clause-granted
 returns-clause-granted c =
     subst (λ (s : TableState). IfSome (leads s c.args.page) (λ place. walk_of c.protect_page.new.frames.words
-    c.self.inside.root c.args.page ≡ Some (granted place.frame c.args.rights)))
+    c.self.inside.root c.args.page ≡ Some (place_with place.frame c.args.rights)))
     c.self.view_is ((c.protect_page.ensures.granted c.self.inside.free c.self.invariant.tree).granted)
 
 pub returns-clause-only : goal.returns-clause-only
@@ -43,4 +43,5 @@ returns-clause-only c =
     let all = (c.protect_page.ensures.granted c.self.inside.free c.self.invariant.tree).pages in
     only_seen c.self.view_is c.protect_page.ensures.area all.size (λ l n met lt is.
     all.stayed l n (omega (arith, lt)) (λ e. absurd (omega (arith, lt, e))) ∙ is)
-    (λ other canonical not. (c.protect_page.ensures.granted c.self.inside.free c.self.invariant.tree).elsewhere other canonical (other_page c.args.page other not))
+    (λ other canonical not. (c.protect_page.ensures.granted c.self.inside.free c.self.invariant.tree).elsewhere other
+    canonical (other_page c.args.page other not))

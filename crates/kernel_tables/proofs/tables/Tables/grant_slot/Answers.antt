@@ -2,7 +2,7 @@ use Rattle.std.proofs.Common.{◌≡◌, ◌+◌, ◌*◌, Some, ap, subst, ◌�
 use Rattle.std.specs.Prelude.{IfSome}
 use Rattle.paging_core.specs.Area.{in_area}
 use Rattle.paging_core.specs.Memory.{frame_count}
-use Rattle.paging_core.specs.Walk.{large_of, walk_of, granted}
+use Rattle.paging_core.specs.Walk.{large_of, walk_of, place_with}
 use Rattle.paging_core.proofs.Areas.{free_stays, known_moved}
 use Rattle.kernel_tables.specs.TableState.{TableState, leads}
 use Rattle.kernel_tables.proofs.RangeChanged.{slot_outside, slot_granted}
@@ -36,7 +36,7 @@ pub returns-clause-granted : goal.returns-clause-granted
 returns-clause-granted c = λ k lt.
     subst (λ (s : TableState). IfSome (leads s (512 * c.args.slot + k))
     (λ place. walk_of c.protect_large.new.frames.words c.self.inside.root (512 * c.args.slot + k) ≡ Some
-    (granted place.frame c.args.rights)))
+    (place_with place.frame c.args.rights)))
     c.self.view_is
     (slot_granted c.self.inside.memory.words c.protect_large.new.frames.words c.self.inside.root c.args.slot c.args.rights
     ((c.protect_large.ensures.granted c.self.inside.free c.self.invariant.tree).granted) k lt)
@@ -46,4 +46,5 @@ returns-clause-only c =
     let all = (c.protect_large.ensures.granted c.self.inside.free c.self.invariant.tree).granted in
     only_seen c.self.view_is c.protect_large.ensures.area all.size (λ l n met lt is.
     all.others l n (omega (arith, lt)) (λ e _. absurd (omega (arith, lt, e))) ∙ is)
-    (λ other canonical not. (c.protect_large.ensures.granted c.self.inside.free c.self.invariant.tree).elsewhere other canonical (other_slot c.args.slot other not))
+    (λ other canonical not. (c.protect_large.ensures.granted c.self.inside.free c.self.invariant.tree).elsewhere other
+    canonical (other_slot c.args.slot other not))

@@ -1,5 +1,5 @@
 use Rattle.std.proofs.Common.{◌≡◌, false, ap, sym, subst, ◌∙◌, arith}
-use Rattle.paging_core.specs.Pool.{is_free}
+use Rattle.paging_core.specs.Pool.{is_frame_free}
 use Rattle.kernel_tables.specs.Changes.{IsPageMapped}
 use Rattle.kernel_tables.proofs.Changed.{only_seen, other_page}
 use Rattle.paging_core.specs.WalkEnd.{IsEntryOf}
@@ -40,7 +40,7 @@ outside : (c : goal.In-None) → in_area c.self.inside.memory.area c.args.frame 
 outside c = ap (λ (s : TableState). in_area s.area c.args.frame) c.self.view_is
     ∙ no_fault c.args.self.now c.args.page c.args.frame (sym c.in-None.ensures.fault)
 
-used : (c : goal.In-None) → is_free c.self.inside.free c.args.frame ≡ false
+used : (c : goal.In-None) → is_frame_free c.self.inside.free c.args.frame ≡ false
 used c = outside_used c.self.inside.memory.area c.self.inside.free (frame_count c.self.inside.memory.words) c.args.frame c.self.invariant.known (outside c)
 
 pub returns-in-None-clause-only : goal.returns-in-None-clause-only
@@ -48,7 +48,8 @@ returns-in-None-clause-only c =
     let used = used (goal.at.returns-in-None-clause-only c).In-None in
     let added = (c.map_at.ensures.mapped c.self.inside.free c.self.invariant.tree used).added in
     only_seen c.self.view_is c.map_at.ensures.area added.size added.stayed
-    (λ other canonical not. (c.map_at.ensures.mapped c.self.inside.free c.self.invariant.tree used).elsewhere other canonical (other_page c.args.page other not))
+    (λ other canonical not. (c.map_at.ensures.mapped c.self.inside.free c.self.invariant.tree used).elsewhere other
+    canonical (other_page c.args.page other not))
 
 pub returns-in-None-clause-mapped : goal.returns-in-None-clause-mapped
 returns-in-None-clause-mapped c =

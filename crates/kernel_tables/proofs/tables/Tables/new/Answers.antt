@@ -18,7 +18,7 @@ pub unreachable-requires : goal.unreachable-requires
 unreachable-requires c =
     let k = c.in_ok-memory.ensures.some.0 refl in
     start_some c.new-free.result c.args.first (c.args.first + length c.args.words.now / 512) c.new-free.ensures
-    (omega (arith, k.0, k.1)) c.in_default.ensures.taken.1
+    (omega (arith, k.0, k.1)) c.in_default.ensures.frame.taken.1
 
 pub returns-clause-limit : goal.returns-clause-limit
 returns-clause-limit c =

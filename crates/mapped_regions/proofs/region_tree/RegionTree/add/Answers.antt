@@ -4,7 +4,7 @@ use Rattle.heap_model.specs.Place.{meets_any, with_region}
 use Rattle.meminterval.specs.declared.interval.Interval.{Interval}
 use Rattle.meminterval.specs.Tree.{entries}
 use Rattle.mapped_regions.specs.declared.region_tree.Kind.{Kind}
-use Rattle.mapped_regions.specs.Pairs.{region_of, regions_of, Follow}
+use Rattle.mapped_regions.specs.Pairs.{region_of, pair_regions, Follow}
 use Rattle.mapped_regions.specs.Regions.{IsPutIn}
 use Rattle.mapped_regions.proofs.Taken.{put_in}
 use Rattle.mapped_regions.proofs.Held.{held_add, held_add_on}
@@ -15,15 +15,15 @@ pub insert-requires-clause-room : goal.insert-requires-clause-room
 insert-requires-clause-room c = let h = follow_length 0 (entries c.self.inside.tree) (2 ^ 52) c.self.invariant.follow in omega (arith, h)
 
 -- what the pages and the kind of the region add
-adds : (region : Region) (i : Interval ℕ) (es : List (Interval ℕ × Kind)) (rs : List Region) → regions_of es ≡ rs →
+adds : (region : Region) (i : Interval ℕ) (es : List (Interval ℕ × Kind)) (rs : List Region) → pair_regions es ≡ rs →
     Follow 0 es (2 ^ 52) → 4096 * i.start ≡ region.start → i.end ≡ i.start + region.pages → i.end ≤ 2 ^ 52 →
     0 < region.pages → meets_any region.start region.pages rs ≡ false →
     IsAdded (i, record { heap = region.heap; rights = region.rights }) 0 es (2 ^ 52)
 adds region i es rs view f start pages within some clear =
     let n : region.pages ≡ i.end - i.start = omega (arith, pages) in
-    let misses : meets_any (4096 * i.start) (i.end - i.start) (regions_of es) ≡ false =
-    ap (λ (s : ℕ). meets_any s (i.end - i.start) (regions_of es)) start
-    ∙ (ap (λ (m : ℕ). meets_any region.start m (regions_of es)) (sym n)
+    let misses : meets_any (4096 * i.start) (i.end - i.start) (pair_regions es) ≡ false =
+    ap (λ (s : ℕ). meets_any s (i.end - i.start) (pair_regions es)) start
+    ∙ (ap (λ (m : ℕ). meets_any region.start m (pair_regions es)) (sym n)
     ∙ (ap (meets_any region.start region.pages) view ∙ clear)) in
     added (i, record { heap = region.heap; rights = region.rights }) 0 es (2 ^ 52) f (omega (arith, pages, some)) (omega arith) within misses
 
@@ -57,7 +57,7 @@ invariant_of-self-then-first-self c =
       follow = subst (λ (fs : List (Interval ℕ × Kind)). Follow 0 fs (2 ^ 52)) (sym is) a.follow;
       above = omega (arith, above, later, c.if-first-self.true, p.pages);
       held = held_add_on x c.self.inside.base c.self.inside.hint c.run_end-self-inside.result es new
-          (omega (arith, p.pages, c.requires.some)) c.if-first-self.true (ap regions_of is ∙ a.regions)
+          (omega (arith, p.pages, c.requires.some)) c.if-first-self.true (ap pair_regions is ∙ a.regions)
           c.self.invariant.held c.run_end-self-inside.ensures.held;
     }
 
@@ -73,7 +73,7 @@ invariant_of-self-else-first-self c =
     record {
       follow = subst (λ (fs : List (Interval ℕ × Kind)). Follow 0 fs (2 ^ 52)) (sym is) a.follow;
       above = c.self.invariant.above;
-      held = held_add x c.self.inside.base c.self.inside.hint es new (ap regions_of is ∙ a.regions) c.self.invariant.held;
+      held = held_add x c.self.inside.base c.self.inside.hint es new (ap pair_regions is ∙ a.regions) c.self.invariant.held;
     }
 
 pub returns-then-first-self-clause-ok : goal.returns-then-first-self-clause-ok
@@ -82,7 +82,7 @@ returns-then-first-self-clause-ok c =
     let i = c.pages_of-pages.result in
     let p = c.pages_of-pages.ensures in
     let a = adds c.args.region i es c.args.self.now c.self.view_is c.self.invariant.follow p.start p.pages p.within c.requires.some c.requires.clear in
-    ap regions_of c.in_ok-insert.ensures.ok ∙ (a.regions ∙ (ap (λ r. with_region r (regions_of es))
+    ap pair_regions c.in_ok-insert.ensures.ok ∙ (a.regions ∙ (ap (λ r. with_region r (pair_regions es))
     (is_region c.args.region i p.start p.pages) ∙ ap (with_region c.args.region) c.self.view_is))
 
 pub returns-else-first-self-clause-ok : goal.returns-else-first-self-clause-ok
@@ -91,7 +91,7 @@ returns-else-first-self-clause-ok c =
     let i = c.pages_of-pages.result in
     let p = c.pages_of-pages.ensures in
     let a = adds c.args.region i es c.args.self.now c.self.view_is c.self.invariant.follow p.start p.pages p.within c.requires.some c.requires.clear in
-    ap regions_of c.in_ok-insert.ensures.ok ∙ (a.regions ∙ (ap (λ r. with_region r (regions_of es))
+    ap pair_regions c.in_ok-insert.ensures.ok ∙ (a.regions ∙ (ap (λ r. with_region r (pair_regions es))
     (is_region c.args.region i p.start p.pages) ∙ ap (with_region c.args.region) c.self.view_is))
 
 pub returns-then-first-self-clause-put : goal.returns-then-first-self-clause-put

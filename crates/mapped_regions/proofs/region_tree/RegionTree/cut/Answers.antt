@@ -1,6 +1,6 @@
 use Rattle.std.proofs.Common.{◌≡◌, ◌∙◌, ◌+◌, ◌-◌, ◌*◌, ◌/◌, ◌%◌, ◌^◌, ◌<◌, arith, sym, ap, subst, ℕ, List, map}
 use Rattle.heap_model.specs.declared.region.Region.{Region}
-use Rattle.mapped_regions.specs.Regions.{AreLaid, AreTakenOut, IsBoundary, cut_of, with_pages}
+use Rattle.mapped_regions.specs.Regions.{AreLaid, AreTakenOut, IsRegionBoundary, cut_regions, with_page_count}
 use Rattle.meminterval.specs.Tree.{entries}
 use Rattle.mapped_regions.proofs.Listing.{laid}
 use Rattle.mapped_regions.proofs.Cutting.{count_met, found, removes, cuts, none_left, bounds}
@@ -27,10 +27,10 @@ shorten-requires-clause-within c = let f = found (4096 * c.args.first) c.args.pa
 
 -- the pages that are left, in the words of addresses
 pages_left : (first : ℕ) (r : Region) (rs : List Region) → r.start % 4096 ≡ 0 →
-    map (with_pages r.start r.pages (first - r.start / 4096)) rs ≡ map
-    (with_pages r.start r.pages ((4096 * first - r.start) / 4096)) rs
+    map (with_page_count r.start r.pages (first - r.start / 4096)) rs ≡ map
+    (with_page_count r.start r.pages ((4096 * first - r.start) / 4096)) rs
 pages_left first r rs h = let e : first - r.start / 4096 ≡ (4096 * first - r.start) / 4096 = omega (arith, h) in
-    ap (λ (k : ℕ). map (with_pages r.start r.pages k) rs) e
+    ap (λ (k : ℕ). map (with_page_count r.start r.pages k) rs) e
 
 pub loop-region-smaller-then-start-first : goal.loop-region-smaller-then-start-first
 loop-region-smaller-then-start-first c =
@@ -52,7 +52,7 @@ loop-region-preserved-then-start-first c =
     let s = cuts at n 0 c.loop-region.self (2 ^ 64) r c.in-Some.ensures.laid f.met (sym c.in-Some.ensures.value)
     (omega (arith, f.at_page, c.if-start-first.true)) in
     let is = c.shorten.ensures ∙ pages_left c.args.first r c.loop-region.self f.at_page in
-    ap (cut_of at n) is ∙ (s.same ∙ c.loop-region.invariant)
+    ap (cut_regions at n) is ∙ (s.same ∙ c.loop-region.invariant)
 
 pub remove-requires-clause-at_page : goal.remove-requires-clause-at_page
 remove-requires-clause-at_page c = let f = found (4096 * c.args.first) c.args.pages 0 c.loop-region.self (2 ^ 64)
@@ -78,7 +78,7 @@ loop-region-preserved c =
     let r = c.in-Some.region in
     let f = found at n 0 c.loop-region.self (2 ^ 64) r c.in-Some.ensures.laid (sym c.in-Some.ensures.value) in
     let s = removes at n c.loop-region.self r f.met (sym c.in-Some.ensures.value) (omega (arith, f.at_page, c.if-start-first.false)) in
-    ap (cut_of at n) c.remove.ensures.regions ∙ (s.same ∙ c.loop-region.invariant)
+    ap (cut_regions at n) c.remove.ensures.regions ∙ (s.same ∙ c.loop-region.invariant)
 
 pub returns-clause-regions : goal.returns-clause-regions
 returns-clause-regions c = sym (none_left (4096 * c.args.first) c.args.pages c.loop-region.self (sym c.in_default.ensures.value)) ∙ c.loop-region.invariant
@@ -91,9 +91,9 @@ returns-clause-taken c = λ boundary.
     let lie : AreLaid 0 old (2 ^ 64) = subst (λ (rs : List Region). AreLaid 0 rs (2 ^ 64)) c.self.view_is
     (laid 0 (entries c.self.inside.tree) (2 ^ 52) c.self.invariant.follow) in
     let end : 4096 * (c.args.first + n) ≡ low + 4096 * n = omega arith in
-    let taken = taken_out low n 0 old (2 ^ 64) (omega arith) lie (subst (λ (a : ℕ). IsBoundary a old) end boundary) in
+    let taken = taken_out low n 0 old (2 ^ 64) (omega arith) lie (subst (λ (a : ℕ). IsRegionBoundary a old) end boundary) in
     subst (λ (rs : List Region). AreTakenOut low (4096 * (c.args.first + n)) old rs) (sym (returns-clause-regions c))
-    (subst (λ (a : ℕ). AreTakenOut low a old (cut_of low n old)) (sym end) taken)
+    (subst (λ (a : ℕ). AreTakenOut low a old (cut_regions low n old)) (sym end) taken)
 
 pub returns-clause-laid : goal.returns-clause-laid
 returns-clause-laid c = subst (λ (rs : List Region). AreLaid 0 rs (2 ^ 64)) c.self.view_is

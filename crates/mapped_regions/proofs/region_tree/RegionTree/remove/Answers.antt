@@ -2,7 +2,7 @@ use Rattle.std.proofs.Common.{◌≡◌, ◌∙◌, ℕ, ◌+◌, ◌-◌, ◌*�
 use Rattle.meminterval.specs.declared.interval.Interval.{Interval}
 use Rattle.meminterval.specs.Tree.{entries}
 use Rattle.mapped_regions.specs.declared.region_tree.Kind.{Kind}
-use Rattle.mapped_regions.specs.Pairs.{regions_of, Follow}
+use Rattle.mapped_regions.specs.Pairs.{pair_regions, Follow}
 use Rattle.heap_model.specs.declared.region.Region.{Region}
 use Rattle.mapped_regions.specs.Regions.{AreHeld, AreLaid, AreTakenOut, without_region}
 use Rattle.mapped_regions.proofs.Listing.{laid}
@@ -22,8 +22,8 @@ invariant_of-self c =
     record {
       follow = subst (λ (es : List (Interval ℕ × Kind)). Follow 0 es (2 ^ 52)) (sym c.delete.ensures) r.follow;
       above = c.lowered-self-inside.ensures.above;
-      held = subst (λ (rs : List Region). AreHeld (4096 * base) (4096 * lower) rs) (sym (ap regions_of c.delete.ensures ∙ r.regions))
-          (held_without base c.self.inside.hint lower (4096 * i.start) (i.end - i.start) (regions_of es)
+      held = subst (λ (rs : List Region). AreHeld (4096 * base) (4096 * lower) rs) (sym (ap pair_regions c.delete.ensures ∙ r.regions))
+          (held_without base c.self.inside.hint lower (4096 * i.start) (i.end - i.start) (pair_regions es)
           c.self.invariant.held c.lowered-self-inside.ensures.below
           (λ h. let b = c.lowered-self-inside.ensures.before h in omega (arith, b)));
     }
@@ -35,9 +35,9 @@ returns-clause-regions c =
     let p = c.pages_of-pages.ensures in
     let r = removed i 0 es (2 ^ 52) c.self.invariant.follow (omega (arith, p.pages)) in
     let n : i.end - i.start ≡ c.args.region.now.pages = omega (arith, p.pages) in
-    ap regions_of c.delete.ensures ∙ (r.regions
-    ∙ (ap (λ (s : ℕ). without_region s (i.end - i.start) (regions_of es)) p.start
-    ∙ (ap (λ (m : ℕ). without_region c.args.region.now.start m (regions_of es)) n
+    ap pair_regions c.delete.ensures ∙ (r.regions
+    ∙ (ap (λ (s : ℕ). without_region s (i.end - i.start) (pair_regions es)) p.start
+    ∙ (ap (λ (m : ℕ). without_region c.args.region.now.start m (pair_regions es)) n
     ∙ ap (without_region c.args.region.now.start c.args.region.now.pages) c.self.view_is)))
 
 pub returns-clause-taken : goal.returns-clause-taken

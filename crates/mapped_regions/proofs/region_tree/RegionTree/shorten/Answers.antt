@@ -4,9 +4,9 @@ use Rattle.heap_model.specs.declared.region.Region.{Region}
 use Rattle.meminterval.specs.declared.interval.Interval.{Interval}
 use Rattle.meminterval.specs.Tree.{entries}
 use Rattle.mapped_regions.specs.declared.region_tree.Kind.{Kind}
-use Rattle.mapped_regions.specs.Pairs.{regions_of, Follow}
+use Rattle.mapped_regions.specs.Pairs.{pair_regions, Follow}
 use Rattle.mapped_regions.proofs.Held.{held_shorter}
-use Rattle.mapped_regions.specs.Regions.{AreHeld, is_at, with_pages}
+use Rattle.mapped_regions.specs.Regions.{AreHeld, is_at, with_page_count}
 use Rattle.mapped_regions.proofs.Changes.{cut, own_start}
 use Rattle.mapped_regions.proofs.region_tree.RegionTree.shorten.Goals as goal
 
@@ -24,7 +24,7 @@ shorten-requires-clause-alone c =
     let i = c.pages_of-pages.result in
     let p = c.pages_of-pages.ensures in
     own_start i 0 es (2 ^ 52) c.self.invariant.follow (omega (arith, p.pages))
-    (listed i c.args.region.now.start c.args.region.now.pages (regions_of es) c.args.self.now c.self.view_is p.start
+    (listed i c.args.region.now.start c.args.region.now.pages (pair_regions es) c.args.self.now c.self.view_is p.start
     p.pages c.requires.there)
 
 pub invariant_of-self : goal.invariant_of-self
@@ -39,8 +39,8 @@ invariant_of-self c =
     record {
       follow = subst (λ (es : List (Interval ℕ × Kind)). Follow 0 es (2 ^ 52)) (sym c.shorten.ensures.pairs) r.follow;
       above = c.lowered-self-inside.ensures.above;
-      held = subst (λ (rs : List Region). AreHeld (4096 * base) (4096 * lower) rs) (sym (ap regions_of c.shorten.ensures.pairs ∙ r.regions))
-          (held_shorter base c.self.inside.hint lower (4096 * i.start) (i.end - i.start) (end - i.start) (regions_of es)
+      held = subst (λ (rs : List Region). AreHeld (4096 * base) (4096 * lower) rs) (sym (ap pair_regions c.shorten.ensures.pairs ∙ r.regions))
+          (held_shorter base c.self.inside.hint lower (4096 * i.start) (i.end - i.start) (end - i.start) (pair_regions es)
           c.self.invariant.held c.lowered-self-inside.ensures.below
           (λ h. let b = c.lowered-self-inside.ensures.before h in omega (arith, b)));
     }
@@ -54,8 +54,8 @@ returns c =
     let r = cut i (i.start + left) 0 es (2 ^ 52) c.self.invariant.follow (omega (arith, c.requires.some)) (omega (arith, p.pages, c.requires.less)) in
     let n : i.end - i.start ≡ c.args.region.now.pages = omega (arith, p.pages) in
     let m : i.start + left - i.start ≡ left = omega arith in
-    ap regions_of c.shorten.ensures.pairs ∙ (r.regions
-    ∙ (ap (λ (s : ℕ). map (with_pages s (i.end - i.start) (i.start + left - i.start)) (regions_of es)) p.start
-    ∙ (ap (λ (k : ℕ). map (with_pages c.args.region.now.start k (i.start + left - i.start)) (regions_of es)) n
-    ∙ (ap (λ (k : ℕ). map (with_pages c.args.region.now.start c.args.region.now.pages k) (regions_of es)) m
-    ∙ ap (map (with_pages c.args.region.now.start c.args.region.now.pages left)) c.self.view_is))))
+    ap pair_regions c.shorten.ensures.pairs ∙ (r.regions
+    ∙ (ap (λ (s : ℕ). map (with_page_count s (i.end - i.start) (i.start + left - i.start)) (pair_regions es)) p.start
+    ∙ (ap (λ (k : ℕ). map (with_page_count c.args.region.now.start k (i.start + left - i.start)) (pair_regions es)) n
+    ∙ (ap (λ (k : ℕ). map (with_page_count c.args.region.now.start c.args.region.now.pages k) (pair_regions es)) m
+    ∙ ap (map (with_page_count c.args.region.now.start c.args.region.now.pages left)) c.self.view_is))))

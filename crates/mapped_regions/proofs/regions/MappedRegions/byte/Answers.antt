@@ -1,7 +1,7 @@
 use Rattle.std.proofs.Common.{◌≡◌, ◌+◌, ◌/◌, ◌%◌, ◌<◌, ap, ◌∙◌, subst, sym, arith, slice_index, Some, IsSome}
 use Rattle.paging_core.specs.Memory.{byte_of}
 use Rattle.paging_core.specs.Walk.{walk_of, reached}
-use Rattle.mapped_regions.specs.Shown.{shown}
+use Rattle.mapped_regions.specs.Shown.{paged_view}
 use Rattle.mapped_regions.proofs.Looked.{mapped_at, word_canonical, le_byte}
 use Rattle.mapped_regions.proofs.regions.MappedRegions.byte.Goals as goal
 
@@ -13,7 +13,7 @@ load_word-word-requires-clause-mapped c =
     let at = c.new-place.ensures in
     let same : c.new-place.result / 4096 ≡ c.args.address / 4096 = omega arith in
     subst (λ page. IsSome (walk_of c.args.self.now.frames c.args.self.now.root page)) (sym same)
-    (mapped_at (shown c.args.self.now) c.args.address c.args.self.now.mapped c.requires.canonical c.requires.there)
+    (mapped_at (paged_view c.args.self.now) c.args.address c.args.self.now.mapped c.requires.canonical c.requires.there)
 
 pub returns : goal.returns
 returns c =

@@ -6,9 +6,9 @@ use Rattle.page_ranges.specs.RangeUnmapping.{NoLargePageReachesOver, cut_tables}
 use Rattle.heap_model.specs.State.{total_pages}
 use Rattle.heap_model.specs.Slots.{is_whole_in}
 use Rattle.heap_model.specs.Machine.{Paged}
-use Rattle.mapped_regions.specs.Regions.{AreTakenOut, IsBoundary, cut_of}
+use Rattle.mapped_regions.specs.Regions.{AreTakenOut, IsRegionBoundary, cut_regions}
 use Rattle.mapped_regions.specs.Mapped.{IsRegion, AreGone}
-use Rattle.mapped_regions.specs.Shown.{shown}
+use Rattle.mapped_regions.specs.Shown.{paged_view}
 use Rattle.mapped_regions.proofs.MetSlots.{cut_stay}
 use Rattle.mapped_regions.proofs.Ends.{none_over, whole_cut}
 use Rattle.mapped_regions.proofs.Mapped.{held_mapped, pages_gone, fewer_mapped, range_canonical, range_ends}
@@ -31,17 +31,18 @@ pub unmap_pages-requires-clause-mapped : goal.unmap_pages-requires-clause-mapped
 unmap_pages-requires-clause-mapped c = λ k less.
     let first : c.containing_address.result ≡ c.args.start / 4096 = c.containing_address.ensures ∙ ap (λ a. a / 4096) c.new.ensures in
     subst (λ f. IsSome (walk_of c.args.self.now.frames c.args.self.now.root (f + k))) (sym first)
-    (held_mapped (shown c.args.self.now) c.args.start c.args.pages k c.args.self.now.mapped c.requires.range c.requires.held less)
+    (held_mapped (paged_view c.args.self.now) c.args.start c.args.pages k c.args.self.now.mapped c.requires.range c.requires.held less)
 
 pub unmap_pages-requires-clause-ends : goal.unmap_pages-requires-clause-ends
 unmap_pages-requires-clause-ends c =
     let first : c.containing_address.result ≡ c.args.start / 4096 = c.containing_address.ensures ∙ ap (λ a. a / 4096) c.new.ensures in
     subst (λ f. NoLargePageReachesOver c.args.self.now.frames c.args.self.now.root f c.args.pages) (sym first)
-    (none_over (shown c.args.self.now) c.args.start c.args.pages c.args.self.now.mapped c.requires.range c.requires.ends)
+    (none_over (paged_view c.args.self.now) c.args.start c.args.pages c.args.self.now.mapped c.requires.range
+    c.requires.ends)
 
 -- what is seen after the pages left
 abbrev after : After-forget_pages → Paged
-after c = record (shown c.args.self.now) {
+after c = record (paged_view c.args.self.now) {
   words = c.unmap_pages.new.frames;
   free = c.unmap_pages.new.pool;
   tables = c.args.self.now.tables + (c.free_count-free.result + c.args.pages - c.free_count.result);
@@ -55,7 +56,7 @@ page_is start whole = omega arith
 end_is : (start pages : ℕ) → start % 4096 ≡ 0 → 4096 * (start / 4096 + pages) ≡ start + 4096 * pages
 end_is start pages whole = omega arith
 
-gone : (c : After-forget_pages) → AreGone (shown c.args.self.now) (after c) c.args.start c.args.pages
+gone : (c : After-forget_pages) → AreGone (paged_view c.args.self.now) (after c) c.args.start c.args.pages
 gone c =
     let first : c.containing_address.result ≡ c.args.start / 4096 = c.containing_address.ensures ∙ ap (λ a. a / 4096) c.new.ensures in
     let count = c.unmap_pages.ensures.unmapped.count in
@@ -65,19 +66,19 @@ gone c =
     let before = c.free_count-free.ensures in
     let now = c.free_count.ensures in
     record {
-      regions = c.cut.ensures.regions ∙ ap (λ a. cut_of a c.args.pages (shown c.args.self.now).regions) (page_is c.args.start c.requires.range.0);
-      gone = pages_gone (shown c.args.self.now) c.unmap_pages.new.frames c.unmap_pages.new.pool c.cut.new.self
+      regions = c.cut.ensures.regions ∙ ap (λ a. cut_regions a c.args.pages (paged_view c.args.self.now).regions) (page_is c.args.start c.requires.range.0);
+      gone = pages_gone (paged_view c.args.self.now) c.unmap_pages.new.frames c.unmap_pages.new.pool c.cut.new.self
           (after c).tables c.containing_address.result c.args.start c.args.pages first
           c.unmap_pages.ensures.unmapped c.unmap_pages.ensures.tree c.unmap_pages.ensures.gone.unmapped
           c.unmap_pages.ensures.gone.elsewhere c.unmap_pages.ensures.gone.bytes (omega arith);
     }
 
-taken : (c : After-forget_pages) → AreTakenOut c.args.start (c.args.start + 4096 * c.args.pages) (shown c.args.self.now).regions c.cut.new.self
+taken : (c : After-forget_pages) → AreTakenOut c.args.start (c.args.start + 4096 * c.args.pages) (paged_view c.args.self.now).regions c.cut.new.self
 taken c =
     let whole = c.requires.range.0 in
-    subst (λ a. AreTakenOut a (c.args.start + 4096 * c.args.pages) (shown c.args.self.now).regions c.cut.new.self) (page_is c.args.start whole)
-    (subst (λ b. AreTakenOut (4096 * (c.args.start / 4096)) b (shown c.args.self.now).regions c.cut.new.self) (end_is c.args.start c.args.pages whole)
-    (c.cut.ensures.taken (subst (λ b. IsBoundary b (shown c.args.self.now).regions) (sym (end_is c.args.start c.args.pages whole)) c.requires.ends)))
+    subst (λ a. AreTakenOut a (c.args.start + 4096 * c.args.pages) (paged_view c.args.self.now).regions c.cut.new.self) (page_is c.args.start whole)
+    (subst (λ b. AreTakenOut (4096 * (c.args.start / 4096)) b (paged_view c.args.self.now).regions c.cut.new.self) (end_is c.args.start c.args.pages whole)
+    (c.cut.ensures.taken (subst (λ b. IsRegionBoundary b (paged_view c.args.self.now).regions) (sym (end_is c.args.start c.args.pages whole)) c.requires.ends)))
 
 pub invariant_of-self : goal.invariant_of-self
 invariant_of-self c =
@@ -88,16 +89,18 @@ invariant_of-self c =
       met = c.forget_pages.ensures c.unmap_pages.new.frames c.args.self.now.root
           (cut_stay c.args.self.now.frames c.unmap_pages.new.frames c.args.self.now.root (c.args.start / 4096) c.args.self.now.met_slots.tables
           (λ l number is apart. g.gone.gone.tables_stay l number (omega (arith, is)) apart) c.args.self.now.met.0);
-      mapped = fewer_mapped (shown c.args.self.now) (after c) c.args.start c.args.pages m range
+      mapped = fewer_mapped (paged_view c.args.self.now) (after c) c.args.start c.args.pages m range
           (ap (λ rs. total_pages rs + c.args.pages) g.regions
-          ∙ cut_count c.args.start c.args.pages range.0 range.1.some (2 ^ 64) (shown c.args.self.now).regions
+          ∙ cut_count c.args.start c.args.pages range.0 range.1.some (2 ^ 64) (paged_view c.args.self.now).regions
           c.count.ensures.laid c.requires.ends c.requires.held)
-          (subst (AllByRecursion (IsRegion (shown c.args.self.now).base (shown c.args.self.now).pages)) (sym g.regions)
-          (regions_cut (shown c.args.self.now).base (shown c.args.self.now).pages c.args.start c.args.pages (shown c.args.self.now).regions range.0 m.regions))
+          (subst (AllByRecursion (IsRegion (paged_view c.args.self.now).base (paged_view c.args.self.now).pages))
+          (sym g.regions)
+          (regions_cut (paged_view c.args.self.now).base (paged_view c.args.self.now).pages c.args.start c.args.pages
+          (paged_view c.args.self.now).regions range.0 m.regions))
           g.gone (taken c) (c.unmap_pages.ensures.known m.known)
           (λ slot is beside whole. ap (λ rs. is_whole_in rs slot) g.regions
-          ∙ whole_cut (shown c.args.self.now).base (shown c.args.self.now).pages c.args.start c.args.pages slot
-          (shown c.args.self.now).regions m.regions range.0 is.aligned c.requires.ends beside whole);
+          ∙ whole_cut (paged_view c.args.self.now).base (paged_view c.args.self.now).pages c.args.start c.args.pages slot
+          (paged_view c.args.self.now).regions m.regions range.0 is.aligned c.requires.ends beside whole);
     }
 
 pub returns : goal.returns

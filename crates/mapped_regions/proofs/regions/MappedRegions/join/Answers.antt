@@ -3,7 +3,7 @@ use Rattle.paging_core.specs.Walk.{walk_of}
 use Rattle.heap_model.specs.Machine.{Paged}
 use Rattle.heap_model.proofs.Regions.{within_bounds}
 use Rattle.mapped_regions.specs.Mapped.{IsRegionJoined}
-use Rattle.mapped_regions.specs.Shown.{shown}
+use Rattle.mapped_regions.specs.Shown.{paged_view}
 use Rattle.mapped_regions.proofs.MetSlots.{met_stay}
 use Rattle.mapped_regions.proofs.FewerMissing.{missing_fewer}
 use Rattle.mapped_regions.proofs.Mapped.{unmapped, joined_mapped}
@@ -15,7 +15,8 @@ pub map_pages-stop-requires-clause-unmapped : goal.map_pages-stop-requires-claus
 map_pages-stop-requires-clause-unmapped c = λ k less.
     let first : c.containing_address.result ≡ c.args.region.start / 4096 = c.containing_address.ensures ∙ ap (λ a. a / 4096) c.new.ensures in
     subst (λ f. walk_of c.args.self.now.frames c.args.self.now.root (f + k) ≡ None) (sym first)
-    (unmapped (shown c.args.self.now) c.args.region.start c.args.region.pages k c.args.self.now.mapped c.requires.can less)
+    (unmapped (paged_view c.args.self.now) c.args.region.start c.args.region.pages k c.args.self.now.mapped c.requires.can
+    less)
 
 pub overflow_sub-self-2 : goal.overflow_sub-self-2
 overflow_sub-self-2 c =
@@ -29,7 +30,7 @@ overflow_sub-self-2 c =
 
 pub list_large-requires-clause-rest : goal.list_large-requires-clause-rest
 list_large-requires-clause-rest c =
-    none_behind (shown c.args.self.now) c.map_pages-stop.new.frames c.map_pages-stop.new.pool c.args.region.start
+    none_behind (paged_view c.args.self.now) c.map_pages-stop.new.frames c.map_pages-stop.new.pool c.args.region.start
     c.args.region.pages c.map_pages-stop.result c.args.region.rights
     c.args.self.now.mapped c.requires.can (by_address c.args.self.now.frames c.map_pages-stop.new.frames
     c.args.self.now.pool c.map_pages-stop.new.pool c.args.self.now.root c.containing_address.result c.args.region.start
@@ -50,7 +51,7 @@ after c = record {
   slots = c.list_large.new.slots.items;
 }
 
-joined : (c : After-list_large) → IsRegionJoined (shown c.args.self.now) (after c) c.args.region
+joined : (c : After-list_large) → IsRegionJoined (paged_view c.args.self.now) (after c) c.args.region
 joined c =
     let a = by_address c.args.self.now.frames c.map_pages-stop.new.frames c.args.self.now.pool c.map_pages-stop.new.pool
     c.args.self.now.root c.containing_address.result c.args.region.start c.args.region.pages c.map_pages-stop.result
@@ -91,7 +92,7 @@ invariant_of-self-2 c =
       met = met_stay c.args.self.now.frames c.map_pages-stop.new.frames c.args.self.now.root c.args.self.now.met_slots
           (λ l number at le is. pages.stayed l number at le is)
           pages.large_stayed c.args.self.now.met;
-      mapped = joined_mapped (shown c.args.self.now) (after c) c.args.region c.args.self.now.mapped c.requires.region
+      mapped = joined_mapped (paged_view c.args.self.now) (after c) c.args.region c.args.self.now.mapped c.requires.region
           c.requires.can (joined c) c.in_ok-add.ensures.put
           (λ other canonical apart. c.map_pages-stop.ensures.clear.elsewhere other canonical (λ k less e. apart k less (e ∙ ap (λ f. f + k) first)));
     }

@@ -1,7 +1,7 @@
 use Rattle.std.proofs.Common.{◌≡◌, ◌*◌, ◌/◌, ◌+◌, ◌%◌, ◌∙◌, set}
 use Rattle.paging_core.specs.Stores.{KeepsTables}
 use Rattle.paging_core.proofs.Reached.{word_kept, word_put}
-use Rattle.mapped_regions.specs.Shown.{shown}
+use Rattle.mapped_regions.specs.Shown.{paged_view}
 use Rattle.mapped_regions.proofs.MetSlots.{met_stay, frame_at, set_at}
 use Rattle.mapped_regions.proofs.Mapped.{stored_mapped}
 use Rattle.mapped_regions.proofs.regions.MappedRegions.set_word.Goals as goal
@@ -46,6 +46,6 @@ invariant_of-self c =
     record {
       met = met_stay old new root c.frame_kept-frame.new.self (λ l number met le is. kept.walks free tree l number le ∙ is)
           (λ number large is. kept.larges free tree number ∙ is) c.frame_kept-frame.ensures.met;
-      mapped = stored_mapped (shown c.args.self.now) new c.args.self.now.mapped kept.size (kept.tree free tree) (kept.walks free tree)
+      mapped = stored_mapped (paged_view c.args.self.now) new c.args.self.now.mapped kept.size (kept.tree free tree) (kept.walks free tree)
           (kept.larges free tree);
     }

@@ -1,7 +1,7 @@
 use Rattle.std.proofs.Common.{◌≡◌, ◌+◌, ◌-◌, ◌/◌, ◌%◌, Some, get_or, ap, ◌∙◌, inl, inr, arith}
 use Rattle.paging_core.specs.Memory.{byte_of}
 use Rattle.paging_core.proofs.PageWritten.{page_kept, run_elsewhere, run_bytes, run_others}
-use Rattle.mapped_regions.specs.Shown.{shown}
+use Rattle.mapped_regions.specs.Shown.{paged_view}
 use Rattle.mapped_regions.proofs.MetSlots.{met_stay, frame_at, put_at, page_canonical}
 use Rattle.mapped_regions.proofs.Mapped.{stored_mapped}
 use Rattle.mapped_regions.proofs.regions.MappedRegions.set_words.Goals as goal
@@ -34,7 +34,7 @@ invariant_of-self c =
     record {
       met = met_stay old new root c.meet-frame.new.self (λ l number met le is. kept.walks free tree l number le ∙ is)
           (λ number large is. kept.larges free tree number ∙ is) c.meet-frame.ensures.met;
-      mapped = stored_mapped (shown c.args.self.now) new c.args.self.now.mapped put.size (kept.tree free tree) (kept.walks free tree)
+      mapped = stored_mapped (paged_view c.args.self.now) new c.args.self.now.mapped put.size (kept.tree free tree) (kept.walks free tree)
           (kept.larges free tree);
     }
 

@@ -1,5 +1,5 @@
 use Rattle.std.proofs.Common.{length, ap, sym, subst, arith}
-use Rattle.object_pool.specs.Pool.{HasRoom}
+use Rattle.object_pool.specs.Pool.{HasFreeSlot}
 use Rattle.object_pool.proofs.Standing.{made_key, made_stands, made_slab, made_keeps, key_there, slots_within}
 use Rattle.object_pool.proofs.pool.Pool.insert.Goals as goal
 
@@ -14,7 +14,7 @@ write-requires-clause-there g c =
     let p = c.self.inside in
     key_there g.A.Links.regions g.A.Links.word g.A.Links.follows c.args.self.now p.slabs.heap p.slabs.size
     p.slabs.places.items p.slots.slots.items p.slots.freed.items c.make_room.ensures.laid
-    (subst (λ mid. HasRoom g.A.Links.regions g.A.Links.word g.A.Links.follows c.args.self.now mid) (sym c.self.view_is)
+    (subst (λ mid. HasFreeSlot g.A.Links.regions g.A.Links.word g.A.Links.follows c.args.self.now mid) (sym c.self.view_is)
     c.in_ok-make_room.ensures.room) c.self.invariant.within
     c.take-key.result c.take-key.new.self.slots.items c.take-key.new.self.freed.items c.take-key.ensures.next c.take-key.ensures.taken
 
@@ -24,7 +24,7 @@ invariant_of-self g c =
     let same = ap (λ places. length places.items) c.write.ensures.places in
     let within = slots_within g.A.Links.regions g.A.Links.word g.A.Links.follows c.args.self.now p.slabs.heap p.slabs.size
     p.slabs.places.items p.slots.slots.items p.slots.freed.items c.make_room.ensures.laid
-    (subst (λ mid. HasRoom g.A.Links.regions g.A.Links.word g.A.Links.follows c.args.self.now mid) (sym c.self.view_is)
+    (subst (λ mid. HasFreeSlot g.A.Links.regions g.A.Links.word g.A.Links.follows c.args.self.now mid) (sym c.self.view_is)
     c.in_ok-make_room.ensures.room) c.self.invariant.within
     c.take-key.result c.take-key.new.self.slots.items c.take-key.new.self.freed.items c.take-key.ensures.next c.take-key.ensures.taken in
     record {
@@ -40,7 +40,7 @@ returns-clause-key g c = λ lists stands.
     let p = c.self.inside in
     made_key g.A.Links.regions g.A.Links.word g.A.Links.follows c.args.self.now p.slabs.heap p.slabs.size
     p.slabs.places.items p.slots.slots.items p.slots.freed.items c.make_room.ensures.laid
-    (subst (λ mid. HasRoom g.A.Links.regions g.A.Links.word g.A.Links.follows c.args.self.now mid) (sym c.self.view_is)
+    (subst (λ mid. HasFreeSlot g.A.Links.regions g.A.Links.word g.A.Links.follows c.args.self.now mid) (sym c.self.view_is)
     c.in_ok-make_room.ensures.room) c.self.invariant.within
     c.take-key.result c.take-key.new.self.slots.items c.take-key.new.self.freed.items c.take-key.ensures.next c.take-key.ensures.taken lists stands
 
@@ -49,7 +49,7 @@ returns-clause-after g c = λ lists stands.
     let p = c.self.inside in
     made_stands g.A.Links.regions g.A.Links.word g.A.Links.follows c.args.self.now p.slabs.heap p.slabs.size
     p.slabs.places.items p.slots.slots.items p.slots.freed.items c.make_room.ensures.laid
-    (subst (λ mid. HasRoom g.A.Links.regions g.A.Links.word g.A.Links.follows c.args.self.now mid) (sym c.self.view_is)
+    (subst (λ mid. HasFreeSlot g.A.Links.regions g.A.Links.word g.A.Links.follows c.args.self.now mid) (sym c.self.view_is)
     c.in_ok-make_room.ensures.room) c.self.invariant.within
     c.take-key.result c.take-key.new.self.slots.items c.take-key.new.self.freed.items c.take-key.ensures.next c.take-key.ensures.taken
     c.write.new.self.heap c.write.new.self.size c.write.new.self.places.items c.args.bytes.now c.write.ensures.size
@@ -61,7 +61,7 @@ returns-clause-kept g c =
     let p = c.self.inside in
     made_keeps g.A.Links.regions g.A.Links.word g.A.Links.follows c.args.self.now p.slabs.heap p.slabs.size
     p.slabs.places.items p.slots.slots.items p.slots.freed.items c.make_room.ensures.laid
-    (subst (λ mid. HasRoom g.A.Links.regions g.A.Links.word g.A.Links.follows c.args.self.now mid) (sym c.self.view_is)
+    (subst (λ mid. HasFreeSlot g.A.Links.regions g.A.Links.word g.A.Links.follows c.args.self.now mid) (sym c.self.view_is)
     c.in_ok-make_room.ensures.room) c.self.invariant.within
     c.take-key.result c.take-key.new.self.slots.items c.take-key.new.self.freed.items c.take-key.ensures.next c.take-key.ensures.taken
     c.write.new.self.heap c.write.new.self.size c.write.new.self.places.items c.args.bytes.now c.write.ensures.size
@@ -72,7 +72,7 @@ returns-clause-slab g c = λ lists stands.
     let p = c.self.inside in
     made_slab g.A.Links.regions g.A.Links.word g.A.Links.follows c.args.self.now p.slabs.heap p.slabs.size
     p.slabs.places.items p.slots.slots.items p.slots.freed.items c.make_room.ensures.laid
-    (subst (λ mid. HasRoom g.A.Links.regions g.A.Links.word g.A.Links.follows c.args.self.now mid) (sym c.self.view_is)
+    (subst (λ mid. HasFreeSlot g.A.Links.regions g.A.Links.word g.A.Links.follows c.args.self.now mid) (sym c.self.view_is)
     c.in_ok-make_room.ensures.room) c.self.invariant.within
     c.take-key.result c.take-key.new.self.slots.items c.take-key.new.self.freed.items c.take-key.ensures.next c.take-key.ensures.taken
     c.write.new.self.heap c.write.new.self.size c.write.new.self.places.items c.args.bytes.now c.write.ensures.size

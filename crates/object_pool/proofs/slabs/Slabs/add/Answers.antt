@@ -3,7 +3,7 @@ use Rattle.dlmalloc_chunks.specs.Request.{limit}
 use Rattle.dlmalloc.specs.Blocks.{IsBlock}
 use Rattle.dlmalloc.specs.Heap.{state_of}
 use Rattle.dlmalloc.specs.Served.{IsMallocRefused}
-use Rattle.object_pool.specs.Pool.{IsLaidOut}
+use Rattle.object_pool.specs.Pool.{AreSlabsLaidOut}
 use Rattle.object_pool.proofs.HeapBlocks.{handed_keeps, handed_fresh, handed_only, served_once, order_once, refused_keeps}
 use Rattle.object_pool.proofs.SlabPlaces.{added_laid}
 use Rattle.object_pool.proofs.slabs.Slabs.add.Goals as goal
@@ -23,7 +23,7 @@ hand_out-requires g c = record { align = (4, refl) }
 pub returns-in-Ok-clause-laid : goal.returns-in-Ok-clause-laid
 returns-in-Ok-clause-laid g c =
     let s = c.args.self.now in
-    subst (IsLaidOut g.A.Links.regions g.A.Links.word c.hand_out.new.self s.size) (sym c.push_reserved.ensures.items)
+    subst (AreSlabsLaidOut g.A.Links.regions g.A.Links.word c.hand_out.new.self s.size) (sym c.push_reserved.ensures.items)
     (added_laid g.A.Links.regions g.A.Links.word s.heap s.size s.places.items c.requires.laid g.A.Links.follows
     c.hand_out.new.self c.in-Ok.address c.blocks_are_placed.ensures c.in-Ok.ensures.ok.handed)
 

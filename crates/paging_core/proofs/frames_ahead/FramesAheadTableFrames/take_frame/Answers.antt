@@ -1,5 +1,5 @@
 use Rattle.std.proofs.Common.{◌≡◌, ◌∙◌, ◌<◌, ap, set, false, refl, sym, arith}
-use Rattle.paging_core.specs.Pool.{is_free, free_count}
+use Rattle.paging_core.specs.Pool.{is_frame_free, free_count}
 use Rattle.paging_core.specs.Ahead.{ahead}
 use Rattle.paging_core.proofs.Ahead.{ahead_below, ahead_here, ahead_none, ahead_taken, ahead_count, ahead_empty}
 use Rattle.paging_core.proofs.frames_ahead.FramesAheadTableFrames.take_frame.Goals as goal
@@ -7,7 +7,7 @@ use Rattle.paging_core.proofs.frames_ahead.FramesAheadTableFrames.take_frame.Goa
 pub returns-then-self-clause-taken : goal.returns-then-self-clause-taken
 returns-then-self-clause-taken c = (
   refl,
-  λ f. ap (λ flags. is_free flags f) (sym c.self.view_is) ∙ ahead_none c.self.inside.next c.self.inside.end f c.if-self.true,
+  λ f. ap (λ flags. is_frame_free flags f) (sym c.self.view_is) ∙ ahead_none c.self.inside.next c.self.inside.end f c.if-self.true,
 )
 
 pub returns-then-self-clause-count : goal.returns-then-self-clause-count
@@ -21,8 +21,8 @@ left c = omega (arith, c.if-self.false, c.self.invariant.0)
 
 pub returns-clause-taken : goal.returns-clause-taken
 returns-clause-taken c = (
-  ap (λ flags. is_free flags c.containing_address-frame.result) (sym c.self.view_is)
-      ∙ (ap (is_free (ahead c.self.inside.next c.self.inside.end)) (same c) ∙ ahead_here c.self.inside.next c.self.inside.end (left c)),
+  ap (λ flags. is_frame_free flags c.containing_address-frame.result) (sym c.self.view_is)
+      ∙ (ap (is_frame_free (ahead c.self.inside.next c.self.inside.end)) (same c) ∙ ahead_here c.self.inside.next c.self.inside.end (left c)),
   ahead_taken c.self.inside.next c.self.inside.end (left c)
       ∙ (ap (λ i. set (ahead c.self.inside.next c.self.inside.end) i false) (sym (same c))
       ∙ ap (λ flags. set flags c.containing_address-frame.result false) c.self.view_is),
@@ -34,4 +34,4 @@ returns-clause-count c = ahead_count c.self.inside.next c.self.inside.end (left 
 pub returns-clause-lowest : goal.returns-clause-lowest
 returns-clause-lowest c = λ lower lt.
     let e = same c in
-    ap (λ flags. is_free flags lower) (sym c.self.view_is) ∙ ahead_below c.self.inside.next c.self.inside.end lower (omega arith)
+    ap (λ flags. is_frame_free flags lower) (sym c.self.view_is) ∙ ahead_below c.self.inside.next c.self.inside.end lower (omega arith)

@@ -1,7 +1,7 @@
 use Rattle.std.proofs.Common.{◌≡◌, List, ◌∙◌, ap, sym, subst}
 use Rattle.x86_instructions.specs.declared.tlb.FlushCommand.{FlushCommand}
 use Rattle.kernel_heap.specs.System.{paged}
-use Rattle.tlb_cache.specs.Cache.{Cache, Agrees, left_by_all}
+use Rattle.tlb_cache.specs.Cache.{Cache, AgreesWithTables, left_by_all}
 use Rattle.tlb_cache.specs.Cached.{Flushes}
 use Rattle.tlb_cache.proofs.System.{left_agrees}
 use Rattle.tlb_cache.proofs.cached_system.CachedSystem.unmap.Goals as goal
@@ -14,7 +14,7 @@ invariant_of-self-clause-agrees c =
     let can = c.in-Ok-unmap.ensures.can in
     let flushes : Flushes c.in-Ok.list c.args.start c.args.pages =
     subst (λ (list : List FlushCommand). Flushes list c.args.start c.args.pages) (sym (c.in-Ok.ensures.list can)) (c.in-Ok.ensures.covered can) in
-    subst (λ (cache : Cache). Agrees new.words new.root cache.entries) (sym c.apply_each.ensures)
+    subst (λ (cache : Cache). AgreesWithTables new.words new.root cache.entries) (sym c.apply_each.ensures)
     (left_agrees old new c.args.start c.args.pages c.in-Ok.list s.tlb.entries c.in-Ok-unmap.ensures.ok flushes s.agrees)
 
 pub returns-in-Ok-unmap-clause-unmapped : goal.returns-in-Ok-unmap-clause-unmapped
