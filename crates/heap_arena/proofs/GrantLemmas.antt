@@ -1,14 +1,15 @@
 -- Grants of a table, as it changes.
-use Rattle.std.specs.Prelude.{◌≡◌, ◌≢◌, ℕ, zero, suc, ◌+◌, ◌-◌, ◌<◌, ◌≤◌, ◌⊎◌, Bool, true, false, ◌==◌, not, if◌then◌else◌, List, [], ◌∷◌, ◌++◌, IsTrue, map, cond}
-use Rattle.std.specs.List.{AllByRecursion, filter}
+use Rattle.std.specs.Prelude.{◌≡◌, ◌≢◌, ℕ, zero, suc, ◌+◌, ◌-◌, ◌<◌, ◌≤◌, ◌⊎◌, Bool, true, false, ◌==◌, ◌&&◌, not, nat_le, nat_lt, if◌then◌else◌, List, [], ◌∷◌, ◌++◌, IsTrue, map, cond}
+use Rattle.std.specs.List.{AllByRecursion, filter, list_all}
 use Rattle.std.proofs.Common.{◌∙◌, ap, sym, subst, refl, inl, inr, arith}
 use Rattle.std.proofs.lemmas.Bool.Decides.{nat_tests}
+use Rattle.std.proofs.lemmas.List.Folds.{list_all-append}
 use Rattle.heap_memory.specs.declared.grant.Grant.{Grant}
 use Rattle.heap_memory.specs.Regions.{is_granted, is_whole, are_whole, are_ordered, with_grant, IsApart}
 use Rattle.heap_memory.specs.Runs.{begins_in, up_to, without_run, IsRun}
 use Rattle.heap_memory.specs.RegionLaws.{ordered_with, whole_with}
 use Rattle.heap_arena.specs.Arena.{top_without}
-use Rattle.heap_arena.specs.Grants.{grant_at, grants, are_between}
+use Rattle.heap_arena.specs.Grants.{grant_at, grants, are_between, lies_before}
 
 -- grants that stand at the same places are the same
 pub grants_same : (old new : List ℕ) (count : ℕ) → ((k : ℕ) → k < count → grant_at new k ≡ grant_at old k) → grants new count ≡ grants old count
@@ -75,6 +76,79 @@ left_more low high initial i leaves =
     ap (without_run low high) (grants_more initial i) ∙ (without_more low high (grants initial i) (grant_at initial i)
     ∙ ap (λ (b : Bool). if b then without_run low high (grants initial i) else without_run low high
     (grants initial i) ++ up_to low (grant_at initial i) ∷ []) leaves)
+
+-- ---- grants before a place
+
+-- a grant that begins before the bytes that are given back stays, and whole if it ends before them
+begins_before : (low high : ℕ) (grant : Grant) → grant.base < low → begins_in low high grant ≡ false
+begins_before low high grant less = grind (arith, nat_tests)
+
+ends_before : (low : ℕ) (grant : Grant) → grant.base + grant.size ≤ low → up_to low grant ≡ grant
+ends_before low grant le =
+    let test : (nat_lt grant.base low && nat_lt low (grant.base + grant.size)) ≡ false = grind (arith, nat_tests) in
+    ap (λ (b : Bool). if b then record grant { size = low - grant.base } else grant) test
+
+-- grants that all end before a place stay as they are
+stay_before : (low high bound : ℕ) (regions : List Grant) → bound < low →
+    IsTrue (list_all (λ region. nat_le (region.base + region.size) bound) regions) → without_run low high regions ≡ regions
+stay_before low high bound [] less all = refl
+stay_before low high bound (region ∷ regions) less all =
+    let here : region.base + region.size ≤ bound = grind (arith, nat_tests) in
+    let rest : IsTrue (list_all (λ region. nat_le (region.base + region.size) bound) regions) = grind (arith, nat_tests) in
+    ap (λ (b : Bool). map (λ r. up_to low r) (cond (not b) (region ∷ filter (λ r. not (begins_in low high r)) regions)
+    (filter (λ r. not (begins_in low high r)) regions))) (begins_before low high region (omega arith))
+    ∙ (ap (λ (g : Grant). g ∷ without_run low high regions) (ends_before low region (omega arith))
+    ∙ ap (λ (rs : List Grant). region ∷ rs) (stay_before low high bound regions less rest))
+
+-- of grants in order, all but the last end before it begins
+ordered_last : (regions : List Grant) (last : Grant) → IsTrue (are_ordered (regions ++ last ∷ [])) →
+    IsTrue (list_all (λ region. nat_le (region.base + region.size) last.base) regions) × IsTrue (are_ordered regions)
+ordered_last [] last ordered = (refl, refl)
+ordered_last (region ∷ regions) last ordered =
+    let later : IsTrue (list_all (λ later. nat_le (region.base + region.size) later.base) (regions ++ last ∷ [])) = grind (arith, nat_tests) in
+    let rest : IsTrue (are_ordered (regions ++ last ∷ [])) = grind (arith, nat_tests) in
+    let both : IsTrue (list_all (λ later. nat_le (region.base + region.size) later.base) regions
+    && (nat_le (region.base + region.size) last.base && true)) =
+    sym (list_all-append (λ later. nat_le (region.base + region.size) later.base) regions (last ∷ [])) ∙ later in
+    let inner = ordered_last regions last rest in
+    let first = inner.0 in
+    let second = inner.1 in
+    (grind (arith, nat_tests), grind (arith, nat_tests))
+
+-- the first of them are in order
+front_ordered : (words : List ℕ) (count few : ℕ) → few ≤ count → IsTrue (are_ordered (grants words count)) → IsTrue (are_ordered (grants words few))
+front_ordered words zero few le ordered =
+    let none : few ≡ zero = omega arith in
+    subst (λ n. IsTrue (are_ordered (grants words n))) (sym none) ordered
+front_ordered words (suc count) few le ordered =
+    go (nat_le few count) refl (λ less. front_ordered words count few less
+    (ordered_last (grants words count) (grant_at words count) (subst (λ rs. IsTrue (are_ordered rs)) (grants_suc words count) ordered)).1)
+  where
+    go : (b : Bool) → nat_le few count ≡ b → (few ≤ count → IsTrue (are_ordered (grants words few))) → IsTrue (are_ordered (grants words few))
+    go true is fewer = fewer (grind (arith, nat_tests))
+    go false is fewer =
+        let all : few ≡ suc count = grind (arith, nat_tests) in
+        subst (λ n. IsTrue (are_ordered (grants words n))) (sym all) ordered
+
+-- the first grants stay as they are, if the last of them lies before the place
+pub kept_front : (low high : ℕ) (words : List ℕ) (count first : ℕ) → first ≤ count → IsTrue (are_ordered (grants words count)) →
+    (0 < first → lies_before low (grant_at words (first - 1)) ≡ true) → without_run low high (grants words first) ≡ grants words first
+kept_front low high words count zero le ordered ends = ap (without_run low high) (grants_none words) ∙ sym (grants_none words)
+kept_front low high words count (suc first) le ordered ends =
+    let at : suc first - 1 ≡ first = omega arith in
+    let before : lies_before low (grant_at words first) ≡ true =
+    subst (λ n. lies_before low (grant_at words n) ≡ true) at (ends (omega arith)) in
+    let begins : (grant_at words first).base < low = grind (arith, nat_tests) in
+    let ends_at : (grant_at words first).base + (grant_at words first).size ≤ low = grind (arith, nat_tests) in
+    let o = ordered_last (grants words first) (grant_at words first)
+    (subst (λ rs. IsTrue (are_ordered rs)) (grants_suc words first) (front_ordered words count (suc first) le ordered)) in
+    ap (without_run low high) (grants_suc words first)
+    ∙ (without_more low high (grants words first) (grant_at words first)
+    ∙ (ap (λ (b : Bool). if b then without_run low high (grants words first) else without_run low high (grants words first)
+    ++ up_to low (grant_at words first) ∷ []) (begins_before low high (grant_at words first) begins)
+    ∙ (ap (λ (rs : List Grant). rs ++ up_to low (grant_at words first) ∷ [])
+    (stay_before low high (grant_at words first).base (grants words first) begins o.0)
+    ∙ (ap (λ (g : Grant). grants words first ++ g ∷ []) (ends_before low (grant_at words first) ends_at) ∙ sym (grants_suc words first)))))
 
 -- ---- grants between two addresses
 

@@ -1,5 +1,5 @@
 -- Grants in the words of a table (own).
-use Rattle.std.specs.Prelude.{ℕ, zero, suc, ◌+◌, ◌*◌, Bool, ◌&&◌, nat_le, List, [], ◌∷◌, ◌++◌, slice_index}
+use Rattle.std.specs.Prelude.{ℕ, zero, suc, ◌+◌, ◌*◌, Bool, ◌&&◌, nat_le, nat_lt, List, [], ◌∷◌, ◌++◌, slice_index}
 use Rattle.std.specs.List.{list_all}
 use Rattle.heap_memory.specs.declared.grant.Grant.{Grant}
 
@@ -15,3 +15,7 @@ grants words (suc count) = grants words count ++ grant_at words count ∷ []
 -- whether grants stand from one address up to another
 abbrev pub are_between : ℕ → ℕ → List Grant → Bool
 are_between low high regions = list_all (λ region. nat_le low region.base && nat_le (region.base + region.size) high) regions
+
+-- whether a grant begins before a place and ends there or before it
+abbrev pub lies_before : ℕ → Grant → Bool
+lies_before place grant = nat_lt grant.base place && nat_le (grant.base + grant.size) place

@@ -1,6 +1,8 @@
 // The grants of an arena, in words that the caller gives.
-ghost use Rattle.std.specs.Prelude.{◌≡◌, ◌≢◌, ℕ, ◌+◌, ◌*◌, ◌<◌, ◌≤◌, nat_lt, [], ◌∷◌, ◌++◌, length};
+ghost use Rattle.std.specs.Prelude.{◌≡◌, ◌≢◌, ℕ, ◌+◌, ◌-◌, ◌*◌, ◌<◌, ◌≤◌, nat_lt, true, false, [], ◌∷◌, ◌++◌, length, IsTrue};
+ghost use Rattle.heap_memory.specs.Regions.{are_ordered};
 ghost use Rattle.heap_memory.specs.Runs.{begins_in, up_to};
+ghost use Rattle.heap_arena.specs.Grants.{lies_before};
 
 use heap_memory::Grant;
 
@@ -69,13 +71,32 @@ impl<'a> Table<'a> {
         self.count += 1;
     }
 
-    /// Takes the bytes from `low` on and below `high`, the end of a run, out of the grants.
+    // How many grants stand before the first that reaches beyond a place. It looks from the last grant on, at no more
+    // than one that does not reach there.
+    fn before(&self, place: u64) -> usize
+        ensures few { result ≤ self.now.count }
+        ensures ends { 0 < result → lies_before place (grant_at self.now.words.now (result - 1)) ≡ true }
+        ensures others { (k : ℕ) → result ≤ k → k < self.now.count → lies_before place (grant_at self.now.words.now k) ≡ false }
+    {
+        for passed in 0..self.count {
+            let last = self.count - 1 - passed;
+            if lies_before(self.get(last), place) {
+                return last + 1;
+            }
+        }
+        0
+    }
+
+    /// Takes the bytes from `low` on and below `high`, the end of a run, out of the grants, which stand in ascending
+    /// order. It looks at the grants that reach beyond `low` and at one before them.
     pub fn give_back(&mut self, low: u64, high: u64)
+        requires { IsTrue (are_ordered (grants self.old.words.now self.old.count)) }
         ensures grants { grants self.new.words.now self.new.count ≡ without_run low high (grants self.old.words.now self.old.count) }
         ensures len { length self.new.words.now ≡ length self.old.words.now }
     {
-        let mut kept = 0;
-        for i in 0..self.count {
+        let first = self.before(low);
+        let mut kept = first;
+        for i in first..self.count {
             let grant = self.get(i);
             if !begins_in(grant, low, high) {
                 self.set(kept, up_to(grant, low));
@@ -84,6 +105,13 @@ impl<'a> Table<'a> {
         }
         self.count = kept;
     }
+}
+
+/// Whether a grant begins before a place and ends there or before it.
+fn lies_before(grant: Grant, place: u64) -> bool
+    ensures { result ≡ lies_before place grant }
+{
+    grant.base < place && grant.size <= place - grant.base
 }
 
 /// Whether a grant begins among the bytes from `low` on and below `high`.

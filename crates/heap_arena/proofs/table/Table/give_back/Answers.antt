@@ -1,8 +1,8 @@
 use Rattle.std.proofs.Common.{rules, ◌≡◌, ◌∙◌, ap, sym, true, false, arith}
 use Rattle.heap_memory.specs.declared.grant.Grant.{Grant}
-use Rattle.heap_memory.specs.Runs.{begins_in, up_to, without_run}
+use Rattle.heap_memory.specs.Runs.{begins_in, up_to}
 use Rattle.heap_arena.specs.Grants.{grant_at}
-use Rattle.heap_arena.proofs.GrantLemmas.{grants_none, kept_more, left_more}
+use Rattle.heap_arena.proofs.GrantLemmas.{kept_front, kept_more, left_more}
 use Rattle.heap_arena.proofs.table.Table.give_back.Goals as goal
 use Rattle.heap_arena.proofs.table.Table.give_back.Goals.{then-not-begins_in, else-not-begins_in}
 
@@ -11,7 +11,8 @@ loop-i-init c = record {
   kept = search rules;
   count = search rules;
   len = search rules;
-  looked = grants_none c.args.self.now.words.now ∙ sym (ap (without_run c.args.low c.args.high) (grants_none c.args.self.now.words.now));
+  looked = sym (kept_front c.args.low c.args.high c.args.self.now.words.now c.args.self.now.count c.before-first.result
+      c.before-first.ensures.few c.requires c.before-first.ensures.ends);
   ahead = λ k less. search rules;
 }
 
