@@ -25,7 +25,7 @@
  * (bit 16), if the right to write is to mean something to the kernel itself. While a call runs the words of the area have to
  * be mapped, which the tables themselves never do: a kernel that runs on them changes to other tables for the call.
  *
- * A call takes at most 200 bytes of stack, and calls memset alone.
+ * A call takes at most 320 bytes of stack, and calls memset alone.
  *
  * A frame is given by its number: its physical address divided by 4096. An address names its whole page.
  */

@@ -1,4 +1,5 @@
-/* What mallinfo2 tells of blocks, of those that are freed, and of what malloc_trim gives back. */
+/* What mallinfo2 tells of blocks, of those that are freed, and of what malloc_trim gives back; and of all blocks what malloc_stats
+ * tells, on standard error. */
 #include "churn.h"
 #include <malloc.h>
 
@@ -9,6 +10,7 @@ int main(void) {
     struct mallinfo2 before = mallinfo2();
     for (int i = 0; i < BLOCKS; i++) blocks[i] = malloc(400);
     struct mallinfo2 full = mallinfo2();
+    malloc_stats();
     for (int i = 0; i < BLOCKS; i += 2) free(blocks[i]);
     struct mallinfo2 half = mallinfo2();
     for (int i = 1; i < BLOCKS; i += 2) free(blocks[i]);
