@@ -9,11 +9,16 @@ abbrev extent : Kind → ℕ → ℕ → Extent
 extent kind at size = record { at = at; size = size; kind = kind }
 
 -- a segment with a victim
-one_segment : AreExtents (extent Used 0x400000 32 ∷ extent Used 0x400020 32 ∷ extent Victim 0x400040 944 ∷ extent Used 0x4003f0 32 ∷ extent Top 0x400410 64416 ∷ extent Foot 0x40ffb0 80 ∷ [])
+one_segment :
+    AreExtents (extent Used 0x400000 32 ∷ extent Used 0x400020 32 ∷ extent Victim 0x400040 944 ∷ extent Used 0x4003f0 32
+    ∷ extent Top 0x400410 64416 ∷ extent Foot 0x40ffb0 80 ∷ [])
 one_segment = search rules
 
 -- a segment that ends with a record, and the head segment right after it
-two_segments : AreExtents (extent Used 0x400000 112 ∷ extent Free 0x400070 3904 ∷ extent Record 0x400fb0 80 ∷ extent Used 0x401000 3920 ∷ extent Free 0x401f50 176 ∷ extent Used 0x402000 5008 ∷ extent Top 0x403390 3104 ∷ extent Foot 0x403fb0 80 ∷ [])
+two_segments :
+    AreExtents (extent Used 0x400000 112 ∷ extent Free 0x400070 3904 ∷ extent Record 0x400fb0 80
+    ∷ extent Used 0x401000 3920 ∷ extent Free 0x401f50 176 ∷ extent Used 0x402000 5008 ∷ extent Top 0x403390 3104
+    ∷ extent Foot 0x403fb0 80 ∷ [])
 two_segments = search rules
 
 -- a heap that has been granted nothing
@@ -21,7 +26,9 @@ no_segment : AreExtents []
 no_segment = search rules
 
 -- two free ones touch
-touching : AreExtents (extent Used 0x400000 32 ∷ extent Free 0x400020 32 ∷ extent Victim 0x400040 32 ∷ extent Used 0x400060 32 ∷ extent Top 0x400080 3888 ∷ extent Foot 0x400fb0 80 ∷ []) → ⊥
+touching :
+    AreExtents (extent Used 0x400000 32 ∷ extent Free 0x400020 32 ∷ extent Victim 0x400040 32 ∷ extent Used 0x400060 32
+    ∷ extent Top 0x400080 3888 ∷ extent Foot 0x400fb0 80 ∷ []) → ⊥
 touching h = grind (arith, h.segments)
 
 -- the top touches a free one
@@ -29,7 +36,9 @@ touching_top : AreExtents (extent Used 0x400000 32 ∷ extent Free 0x400020 32 �
 touching_top h = grind (arith, h.segments)
 
 -- two victims
-two_victims : AreExtents (extent Victim 0x400000 32 ∷ extent Used 0x400020 32 ∷ extent Victim 0x400040 32 ∷ extent Used 0x400060 32 ∷ extent Top 0x400080 3888 ∷ extent Foot 0x400fb0 80 ∷ []) → ⊥
+two_victims :
+    AreExtents (extent Victim 0x400000 32 ∷ extent Used 0x400020 32 ∷ extent Victim 0x400040 32
+    ∷ extent Used 0x400060 32 ∷ extent Top 0x400080 3888 ∷ extent Foot 0x400fb0 80 ∷ []) → ⊥
 two_victims h = grind (arith, h.victims)
 
 -- a top without a foot

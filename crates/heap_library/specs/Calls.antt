@@ -9,8 +9,8 @@ use Rattle.heap_arena.specs.declared.arena.Arena.{Arena}
 use Rattle.sound_heap.specs.Heap.{HasBlock, usable, IsBlockHandedOut}
 use Rattle.heap_library.specs.Checked.{arena_zeros, arena_follows, arena_heap_state}
 
--- The block at the address is new, for a request of `size` bytes at a multiple of `align`; if `cleared`, it was asked to have the
--- value 0.
+-- The block at the address is new, for a request of `size` bytes at a multiple of `align`; if `cleared`, its bytes
+-- are 0.
 abbrev pub IsBlockGiven : (old : Dlmalloc Arena) → (size align : ℕ) → (cleared : Bool) → (address : ℕ) → (new : Dlmalloc Arena) → Type 0
 IsBlockGiven old size align cleared address new = IsBlockHandedOut regions_of word_of arena_zeros arena_follows old size align cleared address new
 

@@ -1,5 +1,5 @@
--- What a call that writes entries leaves, by the walk. `old` are the words of the memory before, `new` after; `area` is
--- where the tables may lie.
+-- What holds after a call that wrote entries, as the walk sees it. `old` are the words of the memory before, `new` after;
+-- `area` is where the tables may lie.
 use Rattle.std.specs.Prelude.{◌≡◌, ℕ, ◌+◌, ◌*◌, ◌/◌, ◌<◌, ◌≤◌, Bool, false, List, length, IsTrue, IsSome, IfSome, MatchOption, Option, Some, None}
 use Rattle.paging_core.specs.Address.{is_canonical, IsCanonicalRange}
 use Rattle.paging_core.specs.Area.{Area}
@@ -14,7 +14,7 @@ use Rattle.paging_core.specs.Large.{IsSlotAdded, IsLargeRemoved, missing_above}
 use Rattle.paging_core.specs.LargeChanges.{AreLargeGranted}
 use Rattle.paging_core.specs.declared.page_table.Rights.{Rights}
 
--- The tables are a tree beside the free frames, and these lie in the area.
+-- The tables are a tree that uses no free frame, and the free frames lie in the area.
 pub record IsTreeAndPool (area : Area) (words : List ℕ) (root : ℕ) (free : List Bool) : Type 0 where
   pub tree : IsTreeIn area words root free
   pub known : FreeIn area free (frame_count words)
@@ -26,7 +26,7 @@ pub record IsLowestFrameTaken (free free' : List Bool) (result : Option ℕ) : T
   pub lowest : IfSome result (λ frame. (lower : ℕ) → lower < frame → is_frame_free free lower ≡ false)
   pub count : MatchOption result (free_count free ≡ 0) (λ _. free_count free' + 1 ≡ free_count free)
 
--- A root table that maps nothing.
+-- `root` is a table that maps nothing.
 pub record IsRootMade (area : Area) (old new : List ℕ) (free : List Bool) (root : ℕ) : Type 0 where
   pub size : length new ≡ length old
   pub below : root < frame_count new
@@ -35,8 +35,8 @@ pub record IsRootMade (area : Area) (old new : List ℕ) (free : List Bool) (roo
   pub no_large : (slot : ℕ) → large_of new root slot ≡ None
   pub unmapped : (page : ℕ) → walk_of new root page ≡ None
 
--- The page was mapped to the frame, and no other page's walk is changed. A range of pages with it misses the tables that
--- it missed.
+-- The page was mapped to the frame, and no other page's walk is changed. A range that has this page misses as many tables
+-- as before.
 pub record IsPagePut (area : Area) (old new : List ℕ) (root : ℕ) (free : List Bool) (page frame : ℕ) (rights : Rights) : Type 0 where
   pub tree : IsTreeIn area new root free
   pub elsewhere : (other : ℕ) → IsTrue (is_canonical (other * 4096)) → (other ≡ page → ⊥) → walk_of new root other ≡ walk_of old root other
@@ -69,7 +69,7 @@ pub record AddsClearPages (old new : List ℕ) (root first pages : ℕ) : Type 0
   pub zeros : (address k : ℕ) → k < pages → address / 4096 ≡ first + k → reached new root address ≡ Some 0
   pub bytes : (address : ℕ) → IsSome (walk_of old root (address / 4096)) → reached new root address ≡ reached old root address
 
--- The pages from `first` on are no longer mapped; no other page's walk is changed, and no byte of it.
+-- The pages from `first` on are no longer mapped; no other page's walk is changed, and no byte of such a page.
 pub record IsRangeTakenOut (old new : List ℕ) (root first pages : ℕ) : Type 0 where
   pub unmapped : (k : ℕ) → k < pages → walk_of new root (first + k) ≡ None
   pub elsewhere :
@@ -87,13 +87,14 @@ pub record IsRangeRegranted (old new : List ℕ) (root first pages : ℕ) (right
       walk_of new root other ≡ walk_of old root other
   pub bytes : (address : ℕ) → reached new root address ≡ reached old root address
 
--- No page outside the slot leads elsewhere, and no byte of a page that was mapped is changed.
+-- `page` numbers a slot of 512 pages. No page outside it leads elsewhere than before, and no byte of a page that was mapped
+-- is changed.
 pub record KeepsOtherSlots (old new : List ℕ) (root page : ℕ) : Type 0 where
   pub elsewhere :
       (other : ℕ) → IsTrue (is_canonical (other * 4096)) → (other / 512 ≡ page → ⊥) → walk_of new root other ≡ walk_of old root other
   pub bytes : (address : ℕ) → IsSome (walk_of old root (address / 4096)) → reached new root address ≡ reached old root address
 
--- The slot was mapped to the lowest run that was free, and each of its bytes is 0.
+-- The slot of the number `page` was mapped to the lowest run that was free, and each of its bytes is 0.
 pub record IsSlotMapped (old new : List ℕ) (free free' : List Bool) (root page : ℕ) (rights : Rights) : Type 0 where
   pub added : IsSlotAdded old new free free' root page rights
   -- A range of pages with the slot no longer misses the tables above it. The slot's own still counts as missing.
@@ -103,7 +104,7 @@ pub record IsSlotMapped (old new : List ℕ) (free free' : List Bool) (root page
   pub count : free_count free' + 512 + missing_above old root page ≡ free_count free
   pub zeros : (address k : ℕ) → k < 512 → address / 4096 ≡ 512 * page + k → reached new root address ≡ Some 0
 
--- The slot was unmapped; no other page's walk is changed, and no byte of it.
+-- The slot of the number `page` was unmapped; no other page's walk is changed, and no byte of such a page.
 pub record IsLargeTakenOut (area : Area) (old new : List ℕ) (root : ℕ) (free : List Bool) (page : ℕ) : Type 0 where
   pub tree : IsTreeIn area new root free
   pub bytes : (address : ℕ) → IsSome (walk_of new root (address / 4096)) → reached new root address ≡ reached old root address
@@ -111,7 +112,7 @@ pub record IsLargeTakenOut (area : Area) (old new : List ℕ) (root : ℕ) (free
   pub elsewhere :
       (other : ℕ) → IsTrue (is_canonical (other * 4096)) → (other / 512 ≡ page → ⊥) → walk_of new root other ≡ walk_of old root other
 
--- The slot's pages have these rights; no other page's walk is changed, and no byte of any page.
+-- The pages of the slot of the number `page` have these rights; no other page's walk is changed, and no byte of any page.
 pub record IsSlotRegranted (area : Area) (old new : List ℕ) (root : ℕ) (free : List Bool) (page : ℕ) (rights : Rights) : Type 0 where
   pub tree : IsTreeIn area new root free
   pub granted : AreLargeGranted old new root page rights

@@ -15,7 +15,7 @@ pub record KeepsTables (old new : List ℕ) (root : ℕ) : Type 0 where
   pub tree : (free : List Bool) → IsTree old root free → IsTree new root free
 
 -- The word at the address, a multiple of 8, has the value, and no other word of a page is changed, if the tables are a
--- tree; and so for bytes.
+-- tree; and the same holds of bytes.
 pub record IsWordPut (old new : List ℕ) (root address value : ℕ) : Type 0 where
   pub stored :
       (free : List Bool) → IsTree old root free →

@@ -48,7 +48,7 @@ pub fn map_at<M: PhysicalMemory>(
     ensures area { M.area frames.new ≡ M.area frames.old }
     ensures known { (free : List Bool) → FreeIn (M.area frames.old) free (frame_count (M.words frames.old)) → FreeIn (M.area frames.new) free (frame_count (M.words frames.new)) }
 
-    // If the tables are a tree beside some free frames, and the frame is none of these, they stay one.
+    // If the tables are a tree that uses none of some free frames, and the frame is none of these, they stay such a tree.
     ensures mapped { (free : List Bool) → IsTreeIn (M.area frames.old) (M.words frames.old) root free → is_frame_free free frame ≡ false →
         IsPagePut (M.area frames.new) (M.words frames.old) (M.words frames.new) root free page frame rights }
 {

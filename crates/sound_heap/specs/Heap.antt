@@ -33,7 +33,7 @@ pub record AreInBlock (heap : HeapState) (address count : ℕ) : Type 0 where
 abbrev pub AreZero : (ℕ → ℕ) → ℕ → ℕ → Type 0
 AreZero words address size = (k : ℕ) → address ≤ k → k < address + size → k % 8 ≡ 0 → words k ≡ 0
 
--- A block of `size` bytes was handed out, at a multiple of an alignment. If `cleared`, it was asked to have the value 0.
+-- A block of `size` bytes was handed out, at a multiple of an alignment. If `cleared`, its bytes are 0.
 pub record IsBlockHandedOut {A : Type 0} (regions : A → List Grant) (word : A → ℕ → ℕ) (zeros : A → Bool) (follows : A → List Event → A → Type 0) (old : Dlmalloc A) (size align : ℕ) (cleared : Bool) (address : ℕ) (new : Dlmalloc A) : Type 0 where
   -- what holds of each block that is handed out
   pub handed : IsHandedOut regions word follows old size align address new

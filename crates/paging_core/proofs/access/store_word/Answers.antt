@@ -1,10 +1,6 @@
-use Rattle.std.proofs.Common.{◌≡◌, ◌∙◌, ℕ, ◌+◌, ◌*◌, ◌/◌, ◌%◌, Bool, List, refl, sym, ap, set, Option, Some, None}
-use Rattle.std.specs.Prelude.{IsTrue, IfSome}
-use Rattle.paging_core.specs.Address.{is_canonical}
-use Rattle.paging_core.specs.Memory.{word_at}
-use Rattle.paging_core.specs.Tree.{IsTree}
+use Rattle.std.proofs.Common.{◌≡◌, ◌∙◌, ◌+◌, ◌*◌, ◌/◌, ◌%◌, sym, ap, set, Some}
 use Rattle.std.specs.Option.{option_map}
-use Rattle.paging_core.specs.Walk.{Place, walk_of, mapped_place}
+use Rattle.paging_core.specs.Walk.{walk_of, mapped_place}
 use Rattle.paging_core.proofs.Reached.{not_mapped, word_kept, word_put}
 use Rattle.paging_core.proofs.access.store_word.Goals as goal
 

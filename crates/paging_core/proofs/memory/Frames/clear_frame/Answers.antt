@@ -1,22 +1,35 @@
-use Rattle.std.proofs.Common.{arith, ◌∙◌, rules, ap, sym, ◌≡◌, ◌*◌, ◌+◌, ◌-◌, ◌/◌, ◌%◌, ◌<◌, ◌++◌, replicate, length, ◌≤◌}
+use Rattle.std.proofs.Common.{arith, ◌∙◌, Vec, Global, ℕ, ap, sym, ◌≡◌, ◌*◌, ◌+◌, ◌-◌, ◌/◌, ◌%◌, ◌<◌, ◌++◌, replicate, length, ◌≤◌}
+use Rattle.std.specs.Vec.{vec_len}
 use Rattle.paging_core.specs.Memory.{with_zeros}
-use Rattle.paging_core.proofs.Words.{zeros_copied}
+use Rattle.paging_core.proofs.Words.{length-with_zeros}
 use Rattle.paging_core.proofs.LateFrames.{cleared_made, cleared_unmade, filled_up, filled_up_made, length-filled_up, length_made}
 use Rattle.paging_core.proofs.memory.Frames.clear_frame.Goals as goal
 
+-- the words stay as many
+same_len : (words new : Vec ℕ Global) (base : ℕ) → base + 512 ≤ vec_len words → new.items ≡ with_zeros words.items base 512 → vec_len new ≡ vec_len words
+same_len words new base fits e =
+    let len : vec_len words ≡ length words.items = words.ok.0 in
+    let len' : vec_len new ≡ length new.items = new.ok.0 in
+    len' ∙ (ap length e ∙ (length-with_zeros words.items base 512 (omega arith) ∙ sym len))
+
+pub invariant_of-self : goal.invariant_of-self
+invariant_of-self c =
+    let fits : 512 * c.number.result + 512 ≤ vec_len c.self.inside.words = omega (arith, c.if-base-len.true, c.len.ensures, c.self.invariant.0) in
+    let len : vec_len c.clear_made.new.words ≡ vec_len c.self.inside.words =
+    same_len c.self.inside.words c.clear_made.new.words (512 * c.number.result) fits c.clear_made.ensures.words in
+    (omega (arith, c.self.invariant.0), (omega (arith, c.self.invariant.1.0), omega (arith, c.self.invariant.1.1, c.clear_made.ensures.room)))
+
 pub returns-then-base-len : goal.returns-then-base-len
 returns-then-base-len c =
-    let w : c.deref_mut.result.now ≡ c.self.inside.words.items = search rules in
-    let z : c.copy_from_slice.new.self ≡ replicate 512 0 = search rules in
-    let n : 512 * c.number.result + 512 - 512 * c.number.result ≡ 512 = omega arith in
     let len : c.self.inside.words.len ≡ length c.self.inside.words.items = c.self.inside.words.ok.0 in
     let made : 512 * c.number.result < c.self.inside.words.len = omega (arith, c.if-base-len.true, c.len.ensures) in
     let fits : 512 * c.number.result + 512 ≤ length c.self.inside.words.items = omega (arith, c.self.invariant.0) in
+    let room : 512 * c.number.result + 512 ≤ vec_len c.self.inside.words = omega arith in
     let same : 512 * c.number.result ≡ 512 * c.args.frame = ap (λ k. 512 * k) c.number.ensures.value in
     let rest = 512 * c.self.inside.count - c.self.inside.words.len in
-    rw (w, n)
-    (ap (λ xs. xs ++ replicate rest 0) (zeros_copied c.self.inside.words.items c.copy_from_slice.new.self
-    (512 * c.number.result) 512 c.self.inside.words.len len fits z)
+    ap (λ n. c.clear_made.new.words.items ++ replicate (512 * c.self.inside.count - n) 0)
+    (same_len c.self.inside.words c.clear_made.new.words (512 * c.number.result) room c.clear_made.ensures.words)
+    ∙ (ap (λ xs. xs ++ replicate rest 0) c.clear_made.ensures.words
     ∙ (sym (cleared_made c.self.inside.words.items (replicate rest 0) (512 * c.number.result) 512 fits)
     ∙ (ap (λ xs. with_zeros xs (512 * c.number.result) 512) c.self.view_is ∙ ap (λ b. with_zeros c.args.self.now b 512) same)))
 
