@@ -6,5 +6,6 @@ pub mod RangeCounts
 pub mod RangeMapped
 pub mod RangeFaults
 pub mod RangeChanged
+pub mod SlotChanges
 pub mod Ends
 mod Changed

@@ -1,6 +1,6 @@
 -- A range of mapped pages is changed in ascending order, a large page or a page at a time.
-use Rattle.std.proofs.Common.{◌≡◌, ℕ, ◌+◌, ◌-◌, ◌*◌, ◌/◌, ◌%◌, ◌^◌, ◌<◌, ◌≤◌, Bool, true, false, not, cond, ltb, List, Option, Some, None, refl, sym, ap, subst, ◌∙◌, ◌⊎◌, inl, inr, arith}
-use Rattle.std.proofs.lemmas.Bool.{cases_eq, cases_lt}
+use Rattle.std.proofs.Common.{◌≡◌, ℕ, ◌+◌, ◌-◌, ◌*◌, ◌/◌, ◌%◌, ◌^◌, ◌<◌, ◌≤◌, Bool, true, false, not, cond, ltb, List, Option, Some, None, option_and_then, refl, sym, ap, subst, ◌∙◌, ◌⊎◌, inl, inr, arith}
+use Rattle.std.proofs.lemmas.Bool.{cases_Bool, cases_eq, cases_lt}
 use Rattle.std.proofs.lemmas.Bool.Decides.{nat_tests}
 use Rattle.std.specs.Prelude.{is_some, is_none, ◌==◌, ◌&&◌, nat_le, IsTrue, IsSome, IfSome}
 use Rattle.std.specs.Option.{option_or, option_map}
@@ -19,7 +19,7 @@ use Rattle.paging_core.proofs.Reach.{reach_in, reach_none, large_none}
 use Rattle.kernel_tables.specs.Faults.{entry_fault, split_of}
 use Rattle.kernel_tables.specs.Changes.{ChangesOnly, IsRangeUnmapped, IsRangeGranted}
 use Rattle.kernel_tables.specs.Flush.{page_alone, pages_of_slot, pages_of_range}
-use Rattle.kernel_tables.specs.Ranges.{lies_in_half, lowest_unmapped, is_split, splits, change_range_fault, AreWithin}
+use Rattle.kernel_tables.specs.Ranges.{has_page_of, lies_whole, lies_in_half, lowest_unmapped, is_split, splits, change_range_fault, AreWithin, AreNotLarge, AreSlotsGranted}
 use Rattle.kernel_tables.specs.TableState.{TableState, leads, IsSamePlace, DoTablesStay}
 use Rattle.kernel_tables.specs.declared.faults.EntryFault.TheVariants as Entry
 use Rattle.kernel_tables.specs.declared.range_fault.RangeFault.TheVariants.{NotCanonical, NotMapped, NoFrames}
@@ -27,6 +27,7 @@ use Rattle.kernel_tables.proofs.Changed.{same_place, same_tables, page_others, s
 use Rattle.kernel_tables.proofs.RangeFaults.{none_of_all}
 use Rattle.kernel_tables.proofs.RangeMapped.{slots_apart}
 use Rattle.kernel_tables.proofs.Sound.{LeadsOutside, same_page}
+use Rattle.kernel_tables.proofs.SlotChanges.{large_at, slot_same, none_whole}
 
 pub is_hole : (o : Option Place) → o ≡ None → IsSome o → ⊥
 is_hole None e h = cc
@@ -43,6 +44,28 @@ split_stay old new free free' root page split l n met lt is = split.others l n (
         ∙ (ap (reach old root 3) s ∙ large_none old root (slot_of page) split.large split.was) in
         is_hole (reach old root l n) none (rw is refl)
 
+none_there : (o : Option Place) → (IsSome o → ⊥) → o ≡ None
+none_there None h = refl
+none_there (Some x) h = absurd (h refl)
+
+-- a change that is given for the place that there is
+changed_of : (o p : Option Place) (change : Place → Option Place) → IsSome o → ((was : Place) → o ≡ Some was → p ≡ change was) →
+    p ≡ option_and_then change o
+changed_of None p change some h = absurd (cc)
+changed_of (Some x) p change some h = h x refl
+
+-- 512 pages more, from the first of a slot on, are those of no other slot
+has_alike : (page done slot : ℕ) → (page + done) % 512 ≡ 0 → (slot ≡ (page + done) / 512 → ⊥) → has_page_of page (done + 512) slot ≡ has_page_of page done slot
+has_alike page done slot first ne = go (cases_Bool (has_page_of page done slot)) (cases_Bool (has_page_of page (done + 512) slot))
+  where
+    go : (has_page_of page done slot ≡ true) ⊎ (has_page_of page done slot ≡ false) →
+        (has_page_of page (done + 512) slot ≡ true) ⊎ (has_page_of page (done + 512) slot ≡ false) →
+        has_page_of page (done + 512) slot ≡ has_page_of page done slot
+    go (inl a) (inl b) = b ∙ sym a
+    go (inl a) (inr b) = absurd (grind (arith, nat_tests))
+    go (inr a) (inl b) = absurd (grind (arith, nat_tests))
+    go (inr a) (inr b) = b ∙ sym a
+
 -- the first `done` pages of the range are changed; `change` says what becomes of a page that led to
 -- a place
 pub record IsChangedTo (old now : TableState) (page pages done : ℕ) (change : Place → Option Place) : Type 0 where
@@ -55,6 +78,10 @@ pub record IsChangedTo (old now : TableState) (page pages done : ℕ) (change : 
   -- the large pages that map the others lie whole among them
   pub whole : (slot : ℕ) → page + done < 512 * slot + 512 → 512 * slot < page + pages → IsSome (large_of now.words now.root (slot_of slot)) →
       (page + done ≤ 512 * slot) × (512 * slot + 512 ≤ page + pages)
+  -- of the slots that have a changed page, a large one is changed as its pages are
+  pub large :
+      (slot : ℕ) → IsTrue (is_canonical (512 * slot * 4096)) →
+      large_at now slot ≡ cond (has_page_of page done slot) (option_and_then change (large_at old slot)) (large_at old slot)
 
 pub changed_start : (old : TableState) (page pages : ℕ) (change : Place → Option Place) → AreWithin old page pages → IsChangedTo old old page pages 0 change
 changed_start old page pages change within = record {
@@ -65,6 +92,7 @@ changed_start old page pages change within = record {
   changed = λ k was lt is. absurd (omega arith);
   elsewhere = λ other canonical out. refl;
   whole = λ slot lo hi some. let w = within slot (omega arith) hi some in let a = w.0 in let b = w.1 in (omega arith, b);
+  large = λ slot canonical. refl;
 }
 
 module _ (old now : TableState) (page pages done : ℕ) (change : Place → Option Place)
@@ -101,8 +129,24 @@ module _ (old now : TableState) (page pages done : ℕ) (change : Place → Opti
           let a = w.0 in
           let b = w.1 in
           (past slot s a (cases_eq (512 * slot) (page + done)), b);
+      large = λ slot canonical.
+          larges (slot_of slot)
+          ∙ (before.large slot canonical ∙ next slot canonical (cases_Bool (has_page_of page done slot)) (cases_Bool (has_page_of page (done + 1) slot)));
     }
       where
+        next : (slot : ℕ) → IsTrue (is_canonical (512 * slot * 4096)) → (has_page_of page done slot ≡ true) ⊎ (has_page_of page done slot ≡ false) →
+            (has_page_of page (done + 1) slot ≡ true) ⊎ (has_page_of page (done + 1) slot ≡ false) →
+            cond (has_page_of page done slot) (option_and_then change (large_at old slot)) (large_at old slot)
+            ≡ cond (has_page_of page (done + 1) slot) (option_and_then change (large_at old slot)) (large_at old slot)
+        next slot canonical (inl a) (inl b) = rw (a, b) refl
+        next slot canonical (inl a) (inr b) = absurd (grind (arith, nat_tests))
+        next slot canonical (inr a) (inl b) =
+            let e : slot ≡ (page + done) / 512 = grind (arith, nat_tests) in
+            let w : large_at now slot ≡ large_at old slot = rw a at (before.large slot canonical) in
+            let n : large_at old slot ≡ None = sym w ∙ none_there (large_at now slot) (rw e small) in
+            rw (a, b, n) refl
+        next slot canonical (inr a) (inr b) = rw (a, b) refl
+
         changed : (k : ℕ) (was : Place) → leads old (page + k) ≡ Some was → (k < done) ⊎ (done ≤ k) → k < done + 1 → leads new (page + k) ≡ change was
         changed k was is (inl x) lt = page_others only (page + k) (page_canonical page pages k range (omega arith))
             (λ e. omega arith) ∙ before.changed k was x is
@@ -116,12 +160,13 @@ module _ (old now : TableState) (page pages done : ℕ) (change : Place → Opti
         past slot some le (inl e) = let same : (page + done) / 512 ≡ slot = omega arith in absurd (small (rw same some))
         past slot some le (inr ne) = omega arith
 
-    pub slot_changed : IsSome (large_of now.words now.root (slot_of ((page + done) / 512))) →
+    pub slot_changed : IsSome (large_at now ((page + done) / 512)) →
         ChangesOnly (pages_of_slot ((page + done) / 512)) now new →
         ((k : ℕ) (was : Place) → k < 512 → leads now (512 * ((page + done) / 512) + k) ≡ Some was → leads new (512 * ((page + done) / 512) + k) ≡ change was) →
         ((n : ℕ) → (n ≡ slot_of ((page + done) / 512) → ⊥) → large_of new.words new.root n ≡ large_of now.words now.root n) →
+        ((was : Place) → large_at now ((page + done) / 512) ≡ Some was → large_at new ((page + done) / 512) ≡ change was) →
         IsChangedTo old new page pages (done + 512) change
-    slot_changed large only changes larges =
+    slot_changed large only changes larges here =
         let b = begins_there large in
         let first = b.0 in
         let fits = b.1 in
@@ -135,8 +180,27 @@ module _ (old now : TableState) (page pages done : ℕ) (change : Place → Opti
               slot_others only other canonical (λ e. out (other - page) (omega arith) (omega arith))
               ∙ before.elsewhere other canonical (λ k lt e. out k (omega arith) e);
           whole = λ slot lo hi some. whole slot lo hi some (cases_eq slot ((page + done) / 512));
+          large = λ slot canonical. turned slot canonical (cases_eq slot ((page + done) / 512));
         }
       where
+        turned : (slot : ℕ) → IsTrue (is_canonical (512 * slot * 4096)) → (slot ≡ (page + done) / 512) ⊎ (slot ≡ (page + done) / 512 → ⊥) →
+            large_at new slot ≡ cond (has_page_of page (done + 512) slot) (option_and_then change (large_at old slot)) (large_at old slot)
+        turned slot canonical (inl e) =
+            let b = begins_there large in
+            let first = b.0 in
+            let u : has_page_of page done slot ≡ false = grind (arith, nat_tests) in
+            let t : has_page_of page (done + 512) slot ≡ true = grind (arith, nat_tests) in
+            let w : large_at now slot ≡ large_at old slot = rw u at (before.large slot canonical) in
+            rw t
+            (ap (large_at new) e
+            ∙ (changed_of (large_at now ((page + done) / 512)) (large_at new ((page + done) / 512)) change large here
+            ∙ ap (option_and_then change) (ap (large_at now) (sym e) ∙ w)))
+        turned slot canonical (inr ne) =
+            let b = begins_there large in
+            let first = b.0 in
+            larges (slot_of slot) (λ e. ne (slot_same slot (page + done) canonical (page_canonical page pages done range more) e))
+            ∙ rw (has_alike page done slot first ne) (before.large slot canonical)
+
         changed : (k : ℕ) (was : Place) → leads old (page + k) ≡ Some was → (k < done) ⊎ (done ≤ k) → k < done + 512 → leads new (page + k) ≡ change was
         changed k was is (inl x) lt =
             let b = begins_there large in
@@ -252,6 +316,40 @@ granted_all old now page pages rights mapped all k lk = go (some_or_none (leads 
     go (inl x) = rw x.1 (all.changed k x.0 lk x.1)
     go (inr none) = absurd (is_hole (leads old (page + k)) none (mapped k lk))
 
+-- which slots are large at the end
+pub gone_large : (old now : TableState) (page pages : ℕ) → IsChangedTo old now page pages pages (λ was. None) → AreNotLarge (has_page_of page pages) old now
+gone_large old now page pages all = λ slot canonical.
+    all.large slot canonical ∙ ap (λ o. cond (has_page_of page pages slot) o (large_at old slot)) (none (large_at old slot))
+  where
+    none : (o : Option Place) → option_and_then {T = Place} {U = Place} (λ was. None) o ≡ None
+    none None = refl
+    none (Some x) = refl
+
+pub granted_large : (old now : TableState) (page pages : ℕ) (rights : Rights) → AreWithin old page pages →
+    IsChangedTo old now page pages pages (λ was. Some (place_with was.frame rights)) → AreSlotsGranted old now page pages rights
+granted_large old now page pages rights within all = λ slot canonical.
+    all.large slot canonical ∙ go slot (cases_Bool (lies_whole page pages slot)) (cases_Bool (has_page_of page pages slot))
+  where
+    granted : (o : Option Place) →
+        option_and_then (λ (was : Place). Some (place_with was.frame rights)) o ≡ option_map (λ (was : Place). place_with was.frame rights) o
+    granted None = refl
+    granted (Some x) = refl
+
+    beyond : (slot : ℕ) → lies_whole page pages slot ≡ false → (page ≤ 512 * slot) × (512 * slot + 512 ≤ page + pages) → ⊥
+    beyond slot w both = let a = both.0 in let b = both.1 in grind (arith, nat_tests)
+
+    go : (slot : ℕ) → (lies_whole page pages slot ≡ true) ⊎ (lies_whole page pages slot ≡ false) →
+        (has_page_of page pages slot ≡ true) ⊎ (has_page_of page pages slot ≡ false) →
+        cond (has_page_of page pages slot) (option_and_then (λ (was : Place). Some (place_with was.frame rights)) (large_at old slot)) (large_at old slot)
+        ≡ cond (lies_whole page pages slot) (option_map (λ (was : Place). place_with was.frame rights) (large_at old slot))
+        (cond (has_page_of page pages slot) None (large_at old slot))
+    go slot (inl w) (inl h) = rw (w, h) (granted (large_at old slot))
+    go slot (inl w) (inr h) = absurd (grind (arith, nat_tests))
+    go slot (inr w) (inl h) =
+        let n = none_there (large_at old slot) (λ some. beyond slot w (within slot (grind (arith, nat_tests)) (grind (arith, nat_tests)) some)) in
+        rw (w, h, n) refl
+    go slot (inr w) (inr h) = rw (w, h) refl
+
 -- a change that is given for where a page led
 pub told : (o : Option Place) (P : Place → Type 0) (was : Place) → IfSome o P → o ≡ Some was → P was
 told None P was h e = absurd (cc)
@@ -325,6 +423,26 @@ split_some state page pages slot e = go (large_of state.words state.root (slot_o
     go None b e = absurd (cc)
     go (Some x) b e = refl
 
+-- a slot that is not to be split is large only if it lies whole in the range; one that is does not
+pub unsplit_large : (state : TableState) (page pages slot : ℕ) → is_split state page pages slot ≡ false →
+    large_at state slot ≡ cond (lies_whole page pages slot) (large_at state slot) None
+unsplit_large state page pages slot e = go (large_at state slot) (lies_whole page pages slot) e
+  where
+    go : (o : Option Place) (b : Bool) → (is_some o && not b) ≡ false → o ≡ cond b o None
+    go None true e = refl
+    go None false e = refl
+    go (Some x) true e = refl
+    go (Some x) false e = absurd (cc)
+
+pub split_not_whole : (state : TableState) (page pages slot : ℕ) → is_split state page pages slot ≡ true → lies_whole page pages slot ≡ false
+split_not_whole state page pages slot e = go (is_some (large_at state slot)) (lies_whole page pages slot) e
+  where
+    go : (a b : Bool) → (a && not b) ≡ true → b ≡ false
+    go true true e = absurd (cc)
+    go true false e = refl
+    go false true e = absurd (cc)
+    go false false e = refl
+
 -- the first slot stays whole if the last one is split
 pub first_still : (mid new : TableState) (page pages last : ℕ) → is_split mid page pages (page / 512) ≡ false → is_split new page pages (last / 512) ≡ false →
     ((n : ℕ) → (n ≡ slot_of (last / 512) → ⊥) → large_of new.words new.root n ≡ large_of mid.words mid.root n) →
@@ -384,10 +502,14 @@ none_split state page = omega arith
 
 -- a range of no pages is changed by nothing
 pub none_unmapped : (state : TableState) (page : ℕ) → IsRangeUnmapped state state page 0
-none_unmapped state page = record { unmapped = λ k lt. absurd (omega arith); free = none_split state page }
+none_unmapped state page = record { unmapped = λ k lt. absurd (omega arith); free = none_split state page; large = λ slot canonical. refl }
 
 pub none_granted : (state : TableState) (page : ℕ) (rights : Rights) → IsRangeGranted state state page 0 rights
-none_granted state page rights = record { granted = λ k lt. absurd (omega arith); free = none_split state page }
+none_granted state page rights = record {
+  granted = λ k lt. absurd (omega arith);
+  free = none_split state page;
+  large = λ slot canonical. rw (none_whole page slot) refl;
+}
 
 -- ---- single pages
 

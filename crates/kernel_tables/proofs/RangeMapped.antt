@@ -18,7 +18,7 @@ use Rattle.paging_core.proofs.Ranges.{page_canonical, same_number}
 use Rattle.paging_core.proofs.Reach.{reach_none}
 use Rattle.kernel_tables.specs.Changes.{ChangesOnly, IsMappedInARow}
 use Rattle.kernel_tables.specs.Flush.{page_alone, pages_of_slot, pages_of_range}
-use Rattle.kernel_tables.specs.Ranges.{becomes_large, tables_wanted, AreSlotsLarge}
+use Rattle.kernel_tables.specs.Ranges.{lies_whole, becomes_large, tables_wanted, AreSlotsLarge}
 use Rattle.kernel_tables.specs.TableState.{TableState, leads, IsSamePlace}
 use Rattle.kernel_tables.proofs.Changed.{same_place, page_others, slot_others, range_only}
 use Rattle.kernel_tables.proofs.RangeCounts.{Spanned, spanned, absent_alike, row_less, room_above, room_page, missing_after}
@@ -29,6 +29,12 @@ pub record Becomes (state : TableState) (page pages frame slot : ℕ) : Type 0 w
   pub to : 512 * slot + 512 ≤ page + pages
   pub aligned : page % 512 ≡ frame % 512
   pub no_table : reach state.words state.root 3 (slot_of slot) ≡ None
+
+all_three : (a b c : Bool) → (a && (b && c)) ≡ true → (a ≡ true) × (b ≡ true) × (c ≡ true)
+all_three false b c e = absurd (cc)
+all_three true false c e = absurd (cc)
+all_three true true false e = absurd (cc)
+all_three true true true e = (refl, refl, refl)
 
 all_four : (a b c d : Bool) → (a && (b && (c && d))) ≡ true → (a ≡ true) × (b ≡ true) × (c ≡ true) × (d ≡ true)
 all_four false b c d e = absurd (cc)
@@ -43,16 +49,14 @@ none_is (Some x) e = absurd (cc)
 
 pub becomes : (state : TableState) (page pages frame slot : ℕ) → becomes_large state page pages frame slot ≡ true → Becomes state page pages frame slot
 becomes state page pages frame slot e =
-    let f = all_four (nat_le page (512 * slot)) (nat_le (512 * slot + 512) (page + pages)) (page % 512 == frame % 512)
-    (is_none (reach state.words state.root 3 (slot_of slot))) e in
+    let f = all_three (lies_whole page pages slot) (page % 512 == frame % 512) (is_none (reach state.words state.root 3 (slot_of slot))) e in
     let a = f.0 in
     let b = f.1 in
-    let c = f.2 in
     record {
       from = grind (arith, nat_tests);
       to = grind (arith, nat_tests);
       aligned = grind (arith, nat_tests);
-      no_table = none_is (reach state.words state.root 3 (slot_of slot)) f.3;
+      no_table = none_is (reach state.words state.root 3 (slot_of slot)) f.2;
     }
 
 pub becomes_is : (state : TableState) (page pages frame slot : ℕ) → Becomes state page pages frame slot → becomes_large state page pages frame slot ≡ true

@@ -8,7 +8,7 @@ use Rattle.paging_core.specs.Pool.{free_count}
 use Rattle.paging_core.specs.Walk.{large_of, place_with}
 use Rattle.paging_core.specs.declared.page_table.Rights.{Rights}
 use Rattle.kernel_tables.specs.Faults.{split_of}
-use Rattle.kernel_tables.specs.Ranges.{tables_wanted, splits, AreSlotsLarge}
+use Rattle.kernel_tables.specs.Ranges.{is_slot_of, has_page_of, tables_wanted, splits, AreSlotsLarge, AreNotLarge, AreSlotsGranted}
 use Rattle.kernel_tables.specs.TableState.{TableState, leads, IsSamePlace, DoTablesStay}
 
 -- Only these pages change: the root, the area and the limit stay, each table is met where it was, and every other page leads where
@@ -30,17 +30,21 @@ pub record IsPageMapped (old new : TableState) (page frame : ℕ) (rights : Righ
   pub added : IsPageAdded old.words new.words old.free new.free old.root page frame rights
 
 -- The page led to the frame, and leads nowhere. A frame was taken if it was part of a large page; otherwise one entry is changed.
+-- Its slot is not large, and each other is large as it was.
 pub record IsPageUnmapped (old new : TableState) (page frame : ℕ) : Type 0 where
   pub led : IfSome (leads old page) (λ place. frame ≡ place.frame)
   pub unmapped : leads new page ≡ None
   pub free : free_count new.free + split_of old page ≡ free_count old.free
   pub removed : split_of old page ≡ 0 → IsPageChanged old.words new.words old.root page removal
+  pub large : AreNotLarge (is_slot_of page) old new
 
 -- The page leads where it led, with these rights. A frame was taken if it was part of a large page; otherwise one entry is changed.
+-- Its slot is not large, and each other is large as it was.
 pub record IsPageGranted (old new : TableState) (page : ℕ) (rights : Rights) : Type 0 where
   pub granted : IfSome (leads old page) (λ place. leads new page ≡ Some (place_with place.frame rights))
   pub free : free_count new.free + split_of old page ≡ free_count old.free
   pub changed : split_of old page ≡ 0 → IsPageChanged old.words new.words old.root page (regrant rights)
+  pub large : AreNotLarge (is_slot_of page) old new
 
 -- The pages of the large page lead to 512 frames in a row, of which this is the first by its number as a large one.
 pub record IsLargeMapped (old new : TableState) (page frame : ℕ) (rights : Rights) : Type 0 where
@@ -60,12 +64,16 @@ pub record IsMappedInARow (old new : TableState) (page pages frame : ℕ) (right
   pub free : free_count new.free + tables_wanted old page pages frame ≡ free_count old.free
   pub large : AreSlotsLarge old new page pages frame rights
 
--- The pages lead nowhere. A frame was taken for each large page that was split.
+-- The pages lead nowhere. A frame was taken for each large page that was split. No slot that has a page of the range is large,
+-- and each other is large as it was.
 pub record IsRangeUnmapped (old new : TableState) (page pages : ℕ) : Type 0 where
   pub unmapped : (k : ℕ) → k < pages → leads new (page + k) ≡ None
   pub free : free_count new.free + splits old page pages ≡ free_count old.free
+  pub large : AreNotLarge (has_page_of page pages) old new
 
--- Each of the pages leads where it led, with these rights. A frame was taken for each large page that was split.
+-- Each of the pages leads where it led, with these rights. A frame was taken for each large page that was split. The large
+-- pages that lie whole in the range stay large.
 pub record IsRangeGranted (old new : TableState) (page pages : ℕ) (rights : Rights) : Type 0 where
   pub granted : (k : ℕ) → k < pages → IfSome (leads old (page + k)) (λ was. leads new (page + k) ≡ Some (place_with was.frame rights))
   pub free : free_count new.free + splits old page pages ≡ free_count old.free
+  pub large : AreSlotsGranted old new page pages rights

@@ -13,6 +13,22 @@ use Rattle.kernel_tables.specs.TableState.{TableState, leads, limit_of}
 use Rattle.kernel_tables.specs.declared.range_fault.RangeFault.{RangeFault}
 use Rattle.kernel_tables.specs.declared.range_fault.RangeFault.TheVariants.{NotCanonical, IsMapped, NotMapped, PastLimit, InArea, NoFrames}
 
+-- the page is one of the slot's 512: it has the same first three indices
+abbrev pub is_slot_of : ℕ → ℕ → Bool
+is_slot_of page slot = slot_of slot == slot_of (page / 512)
+
+-- a page of the range is one of the slot's
+abbrev pub has_page_of : ℕ → ℕ → ℕ → Bool
+has_page_of page pages slot = nat_lt 0 pages && (nat_lt page (512 * slot + 512) && nat_lt (512 * slot) (page + pages))
+
+-- all pages of the slot are of the range
+abbrev pub lies_whole : ℕ → ℕ → ℕ → Bool
+lies_whole page pages slot = nat_le page (512 * slot) && nat_le (512 * slot + 512) (page + pages)
+
+-- some pages of the slot are of the range, and others are not
+abbrev pub is_cut : ℕ → ℕ → ℕ → Bool
+is_cut page pages slot = has_page_of page pages slot && not (lies_whole page pages slot)
+
 -- the pages lie in one canonical half
 abbrev pub lies_in_half : ℕ → ℕ → Bool
 lies_in_half page pages = (page + pages - 1) / 2 ^ 35 == page / 2 ^ 35
@@ -29,7 +45,7 @@ lowest_mapped state page pages = lowest (λ at. is_some (leads state at)) page p
 -- A slot becomes large if it lies whole in the range, its frames begin at a multiple of 512 as its pages do, and it has no table.
 abbrev pub becomes_large : TableState → ℕ → ℕ → ℕ → ℕ → Bool
 becomes_large state page pages frame slot =
-    nat_le page (512 * slot) && (nat_le (512 * slot + 512) (page + pages) && (page % 512 == frame % 512 && is_none (reach state.words state.root 3 (slot_of slot))))
+    lies_whole page pages slot && (page % 512 == frame % 512 && is_none (reach state.words state.root 3 (slot_of slot)))
 
 -- how many become large: those that have no table, of the slots that lie whole in the range
 abbrev pub large_count : TableState → ℕ → ℕ → ℕ → ℕ
@@ -60,6 +76,22 @@ AreSlotsLarge old new page pages frame rights =
     large_of new.words new.root (slot_of slot)
     ≡ (if becomes_large old page pages frame slot then Some (place_with (frame + (512 * slot - page)) rights) else large_of old.words old.root (slot_of slot))
 
+-- These slots are not large afterwards, and each other slot is large as it was.
+abbrev pub AreNotLarge : (ℕ → Bool) → TableState → TableState → Type 0
+AreNotLarge slots old new =
+    (slot : ℕ) → IsTrue (is_canonical (512 * slot * 4096)) →
+    large_of new.words new.root (slot_of slot) ≡ (if slots slot then None else large_of old.words old.root (slot_of slot))
+
+-- After the range was given the rights, a slot that lies whole in it is large as it was, with these rights. A slot that has pages
+-- of the range and others is not large, and each other slot is large as it was.
+abbrev pub AreSlotsGranted : TableState → TableState → ℕ → ℕ → Rights → Type 0
+AreSlotsGranted old new page pages rights =
+    (slot : ℕ) → IsTrue (is_canonical (512 * slot * 4096)) →
+    large_of new.words new.root (slot_of slot)
+    ≡ (if lies_whole page pages slot then option_map (λ was. place_with was.frame rights) (large_of old.words old.root (slot_of slot))
+    else if has_page_of page pages slot then None
+    else large_of old.words old.root (slot_of slot))
+
 -- the lowest page of the range that is not mapped
 abbrev pub lowest_unmapped : TableState → ℕ → ℕ → Option ℕ
 lowest_unmapped state page pages = lowest (λ at. is_none (leads state at)) page pages
@@ -67,7 +99,7 @@ lowest_unmapped state page pages = lowest (λ at. is_none (leads state at)) page
 -- a large page maps the slot, and the slot does not lie whole in the range
 abbrev pub is_split : TableState → ℕ → ℕ → ℕ → Bool
 is_split state page pages slot =
-    is_some (large_of state.words state.root (slot_of slot)) && not (nat_le page (512 * slot) && nat_le (512 * slot + 512) (page + pages))
+    is_some (large_of state.words state.root (slot_of slot)) && not (lies_whole page pages slot)
 
 -- how many large pages are split: the one in which the range begins and the one in which it ends, if they reach beyond
 -- the range

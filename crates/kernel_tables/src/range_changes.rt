@@ -11,7 +11,7 @@ ghost use Rattle.paging_core.specs.Walk.{reach, large_of, place_with};
 ghost use Rattle.kernel_tables.specs.Changes.{ChangesOnly, ChangesNone, IsRangeUnmapped, IsRangeGranted};
 ghost use Rattle.kernel_tables.specs.Faults.{entry_fault, split_of};
 ghost use Rattle.kernel_tables.specs.Flush.{page_alone, pages_of_slot, pages_of_range, IsFlushEnough};
-ghost use Rattle.kernel_tables.specs.Ranges.{is_split, splits, change_range_fault, AreWithin};
+ghost use Rattle.kernel_tables.specs.Ranges.{has_page_of, lies_whole, is_cut, is_split, splits, change_range_fault, AreWithin, AreNotLarge, AreSlotsGranted};
 ghost use Rattle.kernel_tables.specs.TableState.{leads};
 
 use crate::range_checks::slot_at;
@@ -42,6 +42,7 @@ impl<'a> Tables<'a> {
         ensures free { free_count self.new.free + (if is_split self.old page pages (at / 512) then 1 else 0) ≡ free_count self.old.free }
         ensures larges { (n : ℕ) → (n ≡ slot_of (at / 512) → ⊥) → large_of self.new.words self.new.root n ≡ large_of self.old.words self.old.root n }
         ensures whole { is_split self.new page pages (at / 512) ≡ false }
+        ensures here { large_of self.new.words self.new.root (slot_of (at / 512)) ≡ (if lies_whole page pages (at / 512) then large_of self.old.words self.old.root (slot_of (at / 512)) else None) }
     {
         if !self.is_split(at, page, pages) {
             return;
@@ -56,6 +57,7 @@ impl<'a> Tables<'a> {
         ensures none { ChangesNone self.old self.new }
         ensures free { free_count self.new.free + splits self.old page pages ≡ free_count self.old.free }
         ensures within { AreWithin self.new page pages }
+        ensures large { AreNotLarge (is_cut page pages) self.old self.new }
     {
         let last = page.after(pages - 1);
         self.split_beside(page, page, pages);
@@ -69,6 +71,7 @@ impl<'a> Tables<'a> {
         ensures free { free_count self.new.free + split_of self.old page ≡ free_count self.old.free }
         ensures small { IsSome (reach self.new.words self.new.root 3 (prefix_of page 3)) }
         ensures same { split_of self.old page ≡ 0 → self.new ≡ self.old }
+        ensures larges { (n : ℕ) → (n ≡ slot_of (page / 512) → ⊥) → large_of self.new.words self.new.root n ≡ large_of self.old.words self.old.root n }
     {
         let slot = slot_at(page);
         if self.large_page(slot).is_none() {
@@ -158,6 +161,7 @@ impl<'a> Tables<'a> {
         ensures only { ChangesOnly (pages_of_slot slot) self.old self.new }
         ensures free { self.new.free ≡ self.old.free }
         ensures unmapped { (k : ℕ) → k < 512 → leads self.new (512 * slot + k) ≡ None }
+        ensures gone { large_of self.new.words self.new.root (slot_of slot) ≡ None }
         ensures larges { (n : ℕ) → (n ≡ slot_of slot → ⊥) → large_of self.new.words self.new.root n ≡ large_of self.old.words self.old.root n }
     {
         unmap_large(&mut self.memory, self.root, slot);
@@ -182,6 +186,7 @@ impl<'a> Tables<'a> {
         ensures only { ChangesOnly (pages_of_slot slot) self.old self.new }
         ensures free { self.new.free ≡ self.old.free }
         ensures granted { (k : ℕ) → k < 512 → IfSome (leads self.old (512 * slot + k)) (λ was. leads self.new (512 * slot + k) ≡ Some (place_with was.frame rights)) }
+        ensures large { IfSome (large_of self.old.words self.old.root (slot_of slot)) (λ was. large_of self.new.words self.new.root (slot_of slot) ≡ Some (place_with was.frame rights)) }
         ensures larges { (n : ℕ) → (n ≡ slot_of slot → ⊥) → large_of self.new.words self.new.root n ≡ large_of self.old.words self.old.root n }
     {
         protect_large(&mut self.memory, self.root, slot, rights);
@@ -195,6 +200,7 @@ impl<'a> Tables<'a> {
         ensures only { ChangesOnly (pages_of_range page pages) self.old self.new }
         ensures free { self.new.free ≡ self.old.free }
         ensures unmapped { (k : ℕ) → k < pages → leads self.new (page + k) ≡ None }
+        ensures large { AreNotLarge (has_page_of page pages) self.old self.new }
     {
         let mut done = 0;
         while done < pages {
@@ -216,6 +222,7 @@ impl<'a> Tables<'a> {
         ensures only { ChangesOnly (pages_of_range page pages) self.old self.new }
         ensures free { self.new.free ≡ self.old.free }
         ensures granted { (k : ℕ) → k < pages → IfSome (leads self.old (page + k)) (λ was. leads self.new (page + k) ≡ Some (place_with was.frame rights)) }
+        ensures large { AreSlotsGranted self.old self.new page pages rights }
     {
         let mut done = 0;
         while done < pages {

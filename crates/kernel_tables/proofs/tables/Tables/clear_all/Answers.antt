@@ -3,7 +3,7 @@ use Rattle.paging_core.specs.Large.{slot_of}
 use Rattle.paging_core.specs.Walk.{large_of}
 use Rattle.std.specs.Prelude.{IsSome}
 use Rattle.kernel_tables.proofs.RangeTests.{is_there, is_nothing}
-use Rattle.kernel_tables.proofs.RangeChanged.{IsChangedTo, changed_start, still, page_changed, slot_changed, only_range, gone_all, is_hole}
+use Rattle.kernel_tables.proofs.RangeChanged.{IsChangedTo, changed_start, still, page_changed, slot_changed, only_range, gone_all, gone_large, is_hole}
 use Rattle.kernel_tables.proofs.tables.Tables.clear_all.Goals as goal
 use Rattle.kernel_tables.proofs.tables.Tables.clear_all.Goals.{After-slot_at, After-loop-done}
 
@@ -46,6 +46,7 @@ loop-done-preserved c =
     c.loop-done.invariant c.loop-done-test.true
     c.clear_slot.new.self (rw s at c.clear_slot.ensures.free) (large (goal.at.loop-done-preserved c).After-slot_at) (rw (s, e) at c.clear_slot.ensures.only)
     (λ k was lt is. rw e at (c.clear_slot.ensures.unmapped k lt)) (rw (s, e) at c.clear_slot.ensures.larges)
+    (λ was is. rw e at c.clear_slot.ensures.gone)
 
 all : (c : goal.After-loop-done) → IsChangedTo c.args.self.now c.loop-done.self c.args.page c.args.pages c.args.pages (λ was. None)
 all c =
@@ -55,6 +56,9 @@ all c =
 
 pub returns-clause-only : goal.returns-clause-only
 returns-clause-only c = only_range c.args.self.now c.loop-done.self c.args.page c.args.pages (λ was. None) (all (goal.at.returns-clause-only c).After-loop-done)
+
+pub returns-clause-large : goal.returns-clause-large
+returns-clause-large c = gone_large c.args.self.now c.loop-done.self c.args.page c.args.pages (all (goal.at.returns-clause-large c).After-loop-done)
 
 pub returns-clause-unmapped : goal.returns-clause-unmapped
 returns-clause-unmapped c = gone_all c.args.self.now c.loop-done.self c.args.page c.args.pages c.requires.mapped

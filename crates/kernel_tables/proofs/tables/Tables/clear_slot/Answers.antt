@@ -31,6 +31,9 @@ returns-clause-larges c = λ n ne.
     let all = (c.unmap_large.ensures.gone c.self.inside.free c.self.invariant.tree).removed in
     all.larges n ne ∙ ap (λ (s : TableState). large_of s.words s.root n) c.self.view_is
 
+pub returns-clause-gone : goal.returns-clause-gone
+returns-clause-gone c = let all = (c.unmap_large.ensures.gone c.self.inside.free c.self.invariant.tree).removed in all.no_large
+
 pub returns-clause-unmapped : goal.returns-clause-unmapped
 returns-clause-unmapped c = λ k lt. let all = (c.unmap_large.ensures.gone c.self.inside.free c.self.invariant.tree).removed in all.gone k lt
 

@@ -3,7 +3,7 @@ use Rattle.paging_core.specs.Large.{slot_of}
 use Rattle.paging_core.specs.Walk.{large_of, place_with}
 use Rattle.kernel_tables.specs.TableState.{leads}
 use Rattle.std.specs.Prelude.{IsSome}
-use Rattle.kernel_tables.proofs.RangeChanged.{IsChangedTo, changed_start, still, page_changed, slot_changed, only_range, granted_all, told, is_hole}
+use Rattle.kernel_tables.proofs.RangeChanged.{IsChangedTo, changed_start, still, page_changed, slot_changed, only_range, granted_all, granted_large, told, is_hole}
 use Rattle.kernel_tables.proofs.tables.Tables.grant_all.Goals as goal
 use Rattle.kernel_tables.proofs.tables.Tables.grant_all.Goals.{After-slot_at, After-loop-done}
 
@@ -44,6 +44,9 @@ loop-done-preserved c =
     (λ k was lt is. rw e at (told (leads c.loop-done.self (512 * c.slot_at.result + k))
     (λ was. leads c.grant_slot.new.self (512 * c.slot_at.result + k) ≡ Some (place_with was.frame c.args.rights))
     was (rw s at (c.grant_slot.ensures.granted k lt)) (rw e is))) (rw (s, e) at c.grant_slot.ensures.larges)
+    (λ was is. rw e at (told (large_of c.loop-done.self.words c.loop-done.self.root (slot_of c.slot_at.result))
+    (λ was. large_of c.grant_slot.new.self.words c.grant_slot.new.self.root (slot_of c.slot_at.result) ≡ Some (place_with was.frame c.args.rights))
+    was (rw s at c.grant_slot.ensures.large) (rw e is)))
 
 all : (c : goal.After-loop-done) → IsChangedTo c.args.self.now c.loop-done.self c.args.page c.args.pages c.args.pages
     (λ was. Some (place_with was.frame c.args.rights))
@@ -55,6 +58,10 @@ all c =
 pub returns-clause-only : goal.returns-clause-only
 returns-clause-only c = only_range c.args.self.now c.loop-done.self c.args.page c.args.pages
     (λ was. Some (place_with was.frame c.args.rights)) (all (goal.at.returns-clause-only c).After-loop-done)
+
+pub returns-clause-large : goal.returns-clause-large
+returns-clause-large c = granted_large c.args.self.now c.loop-done.self c.args.page c.args.pages c.args.rights c.requires.within
+    (all (goal.at.returns-clause-large c).After-loop-done)
 
 pub returns-clause-granted : goal.returns-clause-granted
 returns-clause-granted c = granted_all c.args.self.now c.loop-done.self c.args.page c.args.pages c.args.rights

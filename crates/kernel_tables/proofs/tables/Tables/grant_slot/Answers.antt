@@ -1,6 +1,7 @@
 use Rattle.std.proofs.Common.{◌≡◌, ◌+◌, ◌*◌, Some, ap, subst, ◌∙◌, arith}
 use Rattle.std.specs.Prelude.{IfSome}
 use Rattle.paging_core.specs.Area.{in_area}
+use Rattle.paging_core.specs.Large.{slot_of}
 use Rattle.paging_core.specs.Memory.{frame_count}
 use Rattle.paging_core.specs.Walk.{large_of, walk_of, place_with}
 use Rattle.paging_core.proofs.Areas.{free_stays, known_moved}
@@ -31,6 +32,13 @@ pub returns-clause-larges : goal.returns-clause-larges
 returns-clause-larges c = λ n ne.
     let all = (c.protect_large.ensures.granted c.self.inside.free c.self.invariant.tree).granted in
     all.larges n ne ∙ ap (λ (s : TableState). large_of s.words s.root n) c.self.view_is
+
+pub returns-clause-large : goal.returns-clause-large
+returns-clause-large c =
+    let all = (c.protect_large.ensures.granted c.self.inside.free c.self.invariant.tree).granted in
+    subst (λ (s : TableState). IfSome (large_of s.words s.root (slot_of c.args.slot))
+    (λ was. large_of c.protect_large.new.frames.words c.self.inside.root (slot_of c.args.slot) ≡ Some (place_with was.frame c.args.rights)))
+    c.self.view_is (rw all.was all.stays)
 
 pub returns-clause-granted : goal.returns-clause-granted
 returns-clause-granted c = λ k lt.

@@ -53,6 +53,12 @@ returns-clause-small c =
     let e : prefix_of c.args.page 3 ≡ slot_of c.slot_at-slot.result = omega (arith, s) in
     rw (e, c.split_slot.ensures.none.place.root, split.table) refl
 
+pub returns-clause-larges : goal.returns-clause-larges
+returns-clause-larges c = λ n ne.
+    let split = c.split_slot.ensures.split in
+    let root = c.split_slot.ensures.none.place.root in
+    ap (λ r. large_of c.split_slot.new.self.words r n) root ∙ split.larges n (rw c.slot_at-slot.ensures ne)
+
 pub returns-clause-same : goal.returns-clause-same
 returns-clause-same c = λ zero.
     let some = rw c.slot_at-slot.ensures at (found_there c.large_page.result

@@ -1,8 +1,10 @@
-use Rattle.std.proofs.Common.{ap, sym, arith}
+use Rattle.std.proofs.Common.{◌/◌, ap, sym, ◌∙◌, arith}
+use Rattle.paging_core.specs.Large.{slot_of}
 use Rattle.paging_core.specs.Pool.{free_count}
 use Rattle.kernel_tables.proofs.Changed.{flush_of}
 use Rattle.kernel_tables.proofs.Ends.{alone_open}
 use Rattle.kernel_tables.proofs.RangeChanged.{not_split}
+use Rattle.kernel_tables.proofs.SlotChanges.{page_not_large}
 use Rattle.kernel_tables.proofs.tables.Tables.protect.Goals as goal
 
 pub returns-then-grant_entry-clause-fault : goal.returns-then-grant_entry-clause-fault
@@ -22,4 +24,6 @@ returns-then-grant_entry-clause-granted c =
       granted = c.grant_entry.ensures.granted c.if-grant_entry.true;
       free = omega (arith, z, f);
       changed = λ _. c.grant_entry.ensures.changed c.if-grant_entry.true;
+      large = page_not_large c.args.self.now c.grant_entry.new.self c.args.page (c.grant_entry.ensures.larges (slot_of (c.args.page / 512)) ∙ some.1)
+          (λ n ne. c.grant_entry.ensures.larges n);
     }

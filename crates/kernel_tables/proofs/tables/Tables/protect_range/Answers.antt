@@ -2,6 +2,7 @@ use Rattle.std.proofs.Common.{◌+◌, sym, ap, arith}
 use Rattle.paging_core.specs.Pool.{free_count}
 use Rattle.kernel_tables.proofs.Changed.{none_only, flush_of}
 use Rattle.kernel_tables.proofs.RangeChanged.{HasNoChangeFault, no_change_fault, none_granted}
+use Rattle.kernel_tables.proofs.SlotChanges.{granted_then}
 use Rattle.kernel_tables.proofs.tables.Tables.protect_range.Goals as goal
 use Rattle.kernel_tables.proofs.tables.Tables.protect_range.Goals.{In-None}
 
@@ -35,6 +36,8 @@ returns-in-None-clause-granted c =
     record {
       granted = λ k lk. rw (sym (c.split_ends.ensures.none.walks (c.args.page + k))) (c.grant_all.ensures.granted k lk);
       free = omega (arith, f, g);
+      large = granted_then c.args.self.now c.split_ends.new.self c.grant_all.new.self c.args.page c.args.pages c.args.rights
+          c.split_ends.ensures.large c.grant_all.ensures.large;
     }
 
 pub returns-then-pages-eq0-clause-granted : goal.returns-then-pages-eq0-clause-granted

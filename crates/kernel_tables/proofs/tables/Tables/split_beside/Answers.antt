@@ -1,7 +1,7 @@
 use Rattle.std.proofs.Common.{◌≡◌, ◌/◌, None, refl, sym, ap, ◌∙◌, arith}
 use Rattle.paging_core.specs.Large.{slot_of}
 use Rattle.paging_core.specs.Walk.{large_of}
-use Rattle.kernel_tables.proofs.RangeChanged.{split_some}
+use Rattle.kernel_tables.proofs.RangeChanged.{split_some, unsplit_large, split_not_whole}
 use Rattle.kernel_tables.proofs.tables.Tables.split_beside.Goals as goal
 
 pub returns-then-not-is_split-clause-free : goal.returns-then-not-is_split-clause-free
@@ -22,6 +22,19 @@ returns-clause-free c =
     let e = sym c.is_split.ensures ∙ c.if-not-is_split.false in
     let split = c.split_slot.ensures.split in
     rw e split.count
+
+pub returns-then-not-is_split-clause-here : goal.returns-then-not-is_split-clause-here
+returns-then-not-is_split-clause-here c = unsplit_large c.args.self.now c.args.page c.args.pages (c.args.at / 512)
+    (sym c.is_split.ensures ∙ c.if-not-is_split.true)
+
+pub returns-clause-here : goal.returns-clause-here
+returns-clause-here c =
+    let split = c.split_slot.ensures.split in
+    let root = c.split_slot.ensures.none.place.root in
+    let cut = split_not_whole c.args.self.now c.args.page c.args.pages (c.args.at / 512) (sym c.is_split.ensures ∙ c.if-not-is_split.false) in
+    rw cut
+    (ap (λ r. large_of c.split_slot.new.self.words r (slot_of (c.args.at / 512))) root
+    ∙ (ap (λ s. large_of c.split_slot.new.self.words c.args.self.now.root (slot_of s)) (sym c.slot_at.ensures) ∙ split.no_large))
 
 pub returns-clause-larges : goal.returns-clause-larges
 returns-clause-larges c = λ n ne.

@@ -1,10 +1,14 @@
-use Rattle.std.proofs.Common.{◌≡◌, ◌+◌, ◌-◌, ◌/◌, ◌<◌, ℕ, cond, false, refl, arith}
+use Rattle.std.proofs.Common.{◌≡◌, ◌+◌, ◌-◌, ◌*◌, ◌/◌, ◌<◌, ℕ, cond, false, refl, arith}
+use Rattle.std.specs.Prelude.{IsTrue}
+use Rattle.paging_core.specs.Address.{is_canonical}
+use Rattle.paging_core.proofs.Ranges.{page_canonical}
 use Rattle.std.proofs.lemmas.Bool.{cases_eq}
 use Rattle.paging_core.specs.Large.{slot_of}
-use Rattle.kernel_tables.specs.Ranges.{is_split}
+use Rattle.kernel_tables.specs.Ranges.{is_cut, is_split}
 use Rattle.kernel_tables.proofs.RangeMapped.{slots_apart}
 use Rattle.kernel_tables.proofs.Changed.{none_none}
 use Rattle.kernel_tables.proofs.RangeChanged.{last_split, first_still, all_within, split_parts}
+use Rattle.kernel_tables.proofs.SlotChanges.{not_large_then, is_cut_at, end_not_large, cut_at_ends}
 use Rattle.kernel_tables.proofs.tables.Tables.split_ends.Goals as goal
 
 pub split_beside-requires-clause-room : goal.split_beside-requires-clause-room
@@ -44,6 +48,20 @@ returns-clause-within c =
     (λ e. slots_apart c.args.page c.args.pages (c.args.page / 512) ((c.args.page + (c.args.pages - 1)) / 512)
     c.requires.range (omega arith) (omega arith) (omega arith) (omega arith) e))
     w
+
+pub returns-clause-large : goal.returns-clause-large
+returns-clause-large c =
+    let some : 0 < c.args.pages = c.requires.range.some in
+    let a = c.after-last.ensures in
+    let last : IsTrue (is_canonical ((c.args.page + (c.args.pages - 1)) * 4096)) =
+    page_canonical c.args.page c.args.pages (c.args.pages - 1) c.requires.range (omega arith) in
+    not_large_then c.args.self.now c.split_beside.new.self c.split_beside-2.new.self (is_cut_at c.args.page c.args.pages c.args.page)
+    (is_cut_at c.args.page c.args.pages (c.args.page + (c.args.pages - 1)))
+    (is_cut c.args.page c.args.pages) (λ slot. cut_at_ends c.args.page c.args.pages slot some)
+    (end_not_large c.args.self.now c.split_beside.new.self c.args.page c.args.pages c.args.page c.requires.range.canonical
+    c.split_beside.ensures.here c.split_beside.ensures.larges)
+    (end_not_large c.split_beside.new.self c.split_beside-2.new.self c.args.page c.args.pages (c.args.page + (c.args.pages - 1)) last
+    (rw a at c.split_beside-2.ensures.here) (rw a at c.split_beside-2.ensures.larges))
 
 pub returns-clause-none : goal.returns-clause-none
 returns-clause-none c = none_none c.split_beside.ensures.none c.split_beside-2.ensures.none

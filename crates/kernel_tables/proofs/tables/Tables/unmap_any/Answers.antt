@@ -1,7 +1,9 @@
-use Rattle.std.proofs.Common.{sym, ap, arith}
+use Rattle.std.proofs.Common.{◌/◌, sym, ap, ◌∙◌, arith}
+use Rattle.paging_core.specs.Large.{slot_of}
 use Rattle.paging_core.specs.Pool.{free_count}
 use Rattle.kernel_tables.proofs.Changed.{none_only, flush_of}
 use Rattle.kernel_tables.proofs.RangeChanged.{entry_ok}
+use Rattle.kernel_tables.proofs.SlotChanges.{page_not_large, table_small}
 use Rattle.kernel_tables.proofs.tables.Tables.unmap_any.Goals as goal
 
 pub own_entry-requires : goal.own_entry-requires
@@ -26,4 +28,8 @@ returns-in-None-clause-unmapped c =
       unmapped = c.clear_page.ensures.unmapped;
       free = omega (arith, f, g);
       removed = λ zero. rw (c.own_entry.ensures.same zero) at c.clear_page.ensures.removed;
+      large = page_not_large c.args.self.now c.clear_page.new.self c.args.page
+          (c.clear_page.ensures.larges (slot_of (c.args.page / 512))
+          ∙ table_small c.own_entry.new.self.words c.own_entry.new.self.root c.args.page c.own_entry.ensures.small)
+          (λ n ne. c.clear_page.ensures.larges n ∙ c.own_entry.ensures.larges n ne);
     }

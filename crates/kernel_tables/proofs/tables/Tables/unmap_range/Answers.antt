@@ -1,7 +1,9 @@
 use Rattle.std.proofs.Common.{◌+◌, sym, ap, arith}
 use Rattle.paging_core.specs.Pool.{free_count}
+use Rattle.kernel_tables.specs.Ranges.{has_page_of, is_cut}
 use Rattle.kernel_tables.proofs.Changed.{none_only, flush_of}
 use Rattle.kernel_tables.proofs.RangeChanged.{HasNoChangeFault, no_change_fault, none_unmapped}
+use Rattle.kernel_tables.proofs.SlotChanges.{not_large_then, cut_or_has}
 use Rattle.kernel_tables.proofs.tables.Tables.unmap_range.Goals as goal
 use Rattle.kernel_tables.proofs.tables.Tables.unmap_range.Goals.{In-None}
 
@@ -35,6 +37,9 @@ returns-in-None-clause-unmapped c =
     record {
       unmapped = c.clear_all.ensures.unmapped;
       free = omega (arith, f, g);
+      large = not_large_then c.args.self.now c.split_ends.new.self c.clear_all.new.self (is_cut c.args.page c.args.pages)
+          (has_page_of c.args.page c.args.pages) (has_page_of c.args.page c.args.pages)
+          (cut_or_has c.args.page c.args.pages) c.split_ends.ensures.large c.clear_all.ensures.large;
     }
 
 pub returns-then-pages-eq0-clause-unmapped : goal.returns-then-pages-eq0-clause-unmapped
