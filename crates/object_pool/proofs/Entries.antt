@@ -183,7 +183,7 @@ length_past index (suc generation) = length-append (past_entries index generatio
     ∙ (let rest = length_past index generation in omega (arith, rest))
 
 -- no entry of the past has a later key, and none an object
-of_past : (index generation n : ℕ) → n ≤ generation → filter (is_of (key_at index generation)) (past_entries index n) ≡ []
+pub of_past : (index generation n : ℕ) → n ≤ generation → filter (is_of (key_at index generation)) (past_entries index n) ≡ []
 of_past index generation zero few = refl
 of_past index generation (suc n) few =
     let no : (index == index && n == generation) ≡ false = grind (arith, nat_tests) in

@@ -4,10 +4,10 @@ use Rattle.std.proofs.lemmas.Bool.Decides.{nat_tests}
 use Rattle.std.proofs.lemmas.List.{append-nil}
 use Rattle.object_pool.specs.declared.key.Key.{Key}
 use Rattle.object_pool.specs.declared.slots.Slot.{Slot}
-use Rattle.object_pool.specs.Lists.{Entry, Lists, empty, is_of, object_of, entries_at, index_count, with_entry_bytes, next_index, next_key, inserted, with_new_bytes, without_object, object_count}
+use Rattle.object_pool.specs.Lists.{Entry, Lists, empty, is_of, object_of, entries_at, index_count, with_entry_bytes, next_index, next_key, IsNewKey, inserted, with_new_bytes, without_object, object_count}
 use Rattle.object_pool.specs.Slots.{slot_at, IsChanged, IsTaken, IsNextSlot, IsReleased, IsKeyLive}
 use Rattle.object_pool.specs.Pool.{past_entries, present, Holds}
-use Rattle.object_pool.proofs.Entries.{entry_at, history, at_append, object_at, of_at, at_with, other_with, length_with, indexes_with, indexes_append, count_append, count_with, length_past, object_in, object_out, filter_in, with_in}
+use Rattle.object_pool.proofs.Entries.{entry_at, history, at_append, object_at, of_at, at_with, other_with, length_with, indexes_with, indexes_append, count_append, count_with, length_past, of_past, object_in, object_out, filter_in, with_in}
 use Rattle.object_pool.proofs.Numbers.{same_or_other}
 
 -- ---- the last of a list
@@ -108,8 +108,16 @@ module _ (slots : List Slot) (freed : List ℕ) (bytes : ℕ → List ℕ) (list
     generation_is = ap (λ i. length (entries_at i lists.entries)) index_is
         ∙ (ap length (before ∙ append-nil (past_entries key.index key.generation)) ∙ length_past key.index key.generation)
 
-    pub key_is : next_key lists ≡ key
+    key_is : next_key lists ≡ key
     key_is i = record { index = index_is i; generation = generation_is i }
+
+    pub key_new : IsNewKey lists key
+    key_new = record {
+      next = sym key_is;
+      never = of_at key lists.entries
+          ∙ (ap (filter (is_of key)) (before ∙ append-nil (past_entries key.index key.generation))
+          ∙ of_past key.index key.generation key.generation (omega arith));
+    }
 
     module _ (object : List ℕ) (new_bytes : ℕ → List ℕ) (here : new_bytes key.index ≡ object)
         (others : (other : ℕ) → other ≢ key.index → (slot_at slots other).used ≡ true → new_bytes other ≡ bytes other) where

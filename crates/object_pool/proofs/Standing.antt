@@ -14,7 +14,7 @@ use Rattle.dlmalloc.specs.Heap.{state_of}
 use Rattle.dlmalloc.specs.declared.heap.Dlmalloc.{Dlmalloc}
 use Rattle.object_pool.specs.declared.key.Key.{Key}
 use Rattle.object_pool.specs.declared.slots.Slot.{Slot}
-use Rattle.object_pool.specs.Lists.{Lists, empty, index_count, object_of, next_key, inserted, with_new_bytes, without_object, LacksSlot, HasAllSlots}
+use Rattle.object_pool.specs.Lists.{Lists, empty, index_count, object_of, IsNewKey, inserted, with_new_bytes, without_object, LacksSlot, HasAllSlots}
 use Rattle.object_pool.specs.Slots.{AreFreed, IsKeyLive, IsNextSlot, IsTaken, IsReleased}
 use Rattle.object_pool.specs.Pooled.{Pooled}
 use Rattle.object_pool.specs.Bytes.{byte_in, bytes_at}
@@ -25,7 +25,7 @@ use Rattle.object_pool.specs.declared.pool_fault.PoolFault.TheVariants.{Full, He
 use Rattle.object_pool.proofs.ByteRuns.{bytes_same}
 use Rattle.object_pool.proofs.Numbers.{lt_or_le, same_or_other}
 use Rattle.object_pool.proofs.SlabPlaces.{place_ends}
-use Rattle.object_pool.proofs.Histories.{holds_none, object_is, object_none, key_is, holds_inserted, holds_replaced, holds_removed}
+use Rattle.object_pool.proofs.Histories.{holds_none, object_is, object_none, key_new, holds_inserted, holds_replaced, holds_removed}
 use Rattle.object_pool.proofs.SlotLists.{used_there}
 use Rattle.object_pool.proofs.FreeAgain.{free_again}
 
@@ -98,8 +98,8 @@ module _ {A : Type 0} (word : A → ℕ → ℕ) where
     -- ---- an insert
 
     pub stands_key : (key : Key) (new : List Slot) (new_freed : List ℕ) → IsNextSlot slots freed key.index new new_freed →
-        IsTaken slots key new → next_key lists ≡ key
-    stands_key key new new_freed next taken = key_is slots freed (object_bytes_at word heap slabs size) lists stands.holds key new new_freed next taken
+        IsTaken slots key new → IsNewKey lists key
+    stands_key key new new_freed next taken = key_new slots freed (object_bytes_at word heap slabs size) lists stands.holds key new new_freed next taken
 
     pub stands_inserted : (new : Dlmalloc A) (size' : ℕ) (slabs' : List ℕ) (key : Key) (bytes : List ℕ)
         (new_slots : List Slot) (new_freed : List ℕ) → size' ≡ size → length slots ≤ 64 * length slabs →
@@ -276,11 +276,11 @@ module _ {A : Type 0} (regions : A → List Grant) (word : A → ℕ → ℕ) (f
       | inr fresh ↦ (let place = has_place fresh.0 in omega (arith, place, fresh.3))
     ]
 
-    pub made_key : (lists : Lists) → StandsForLists word old lists → key ≡ next_key lists
-    made_key lists stands = sym (stands_key word old.heap old.size old.slabs old.slots old.freed lists stands key new_slots new_freed
+    pub made_key : (lists : Lists) → StandsForLists word old lists → IsNewKey lists key
+    made_key lists stands = stands_key word old.heap old.size old.slabs old.slots old.freed lists stands key new_slots new_freed
         (subst (λ list. IsNextSlot list old.freed key.index new_slots new_freed) slots_are
         (subst (λ list. IsNextSlot slots list key.index new_slots new_freed) freed_are next))
-        (subst (λ list. IsTaken list key new_slots) slots_are taken))
+        (subst (λ list. IsTaken list key new_slots) slots_are taken)
 
     -- there are as many slabs as the slots need
     slabs_needed : (length old.slots + 63) / 64 ≡ length old.slabs → (length new_slots + 63) / 64 ≡ length slabs

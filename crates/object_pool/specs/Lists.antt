@@ -49,6 +49,11 @@ next_index lists = unwrap_or (slice_get lists.freed (length lists.freed - 1)) (i
 abbrev pub next_key : Lists → Key
 next_key lists = record { index = next_index lists; generation = length (entries_at (next_index lists) lists.entries) }
 
+-- It is the key of the next insert. No entry has it, so no object ever had it.
+pub record IsNewKey (lists : Lists) (key : Key) : Type 0 where
+  pub next : key ≡ next_key lists
+  pub never : filter (is_of key) lists.entries ≡ []
+
 -- ---- what the calls do to the lists
 
 abbrev pub inserted : List ℕ → Lists → Lists

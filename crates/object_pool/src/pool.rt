@@ -1,7 +1,7 @@
 //! The pool.
 ghost use Rattle.std.specs.Prelude.{◌≡◌, ◌≢◌, ℕ, ◌+◌, ◌-◌, ◌*◌, ◌/◌, ◌^◌, ◌<◌, ◌≤◌, Bool, true, false, if◌then◌else◌, [], ◌∷◌, ◌++◌, IfOk, IfErr, OnErr, OnOk, Some, None, Err, IsSome, IsTrue, ◌↔◌, length, vec_len, vec_capacity};
 ghost use Rattle.dlmalloc_chunks.specs.Request.{padded};
-ghost use Rattle.object_pool.specs.Lists.{Lists, empty, object_of, object_count, slab_count, next_key, keys_of, inserted, with_new_bytes, without_object, LacksSlot, HasAllSlots};
+ghost use Rattle.object_pool.specs.Lists.{Lists, empty, object_of, object_count, slab_count, IsNewKey, keys_of, inserted, with_new_bytes, without_object, LacksSlot, HasAllSlots};
 
 use crate::Bytes;
 use crate::key::Key;
@@ -76,12 +76,12 @@ impl<A: Allocator + Memory> Pool<A> {
         }
     }
 
-    /// Inserts an object, and answers its key. It uses the slot freed last, else the lowest that was never used, and takes a
+    /// Inserts an object, and answers its key, which no object had before. It uses the slot freed last, else the lowest that was never used, and takes a
     /// slab only if no slot is free. An `Err` changes nothing, unless the heap's
     /// system denied a region: what it denies next may be other.
     pub fn insert(&mut self, bytes: &[u8]) -> Result<Key, PoolFault>
         requires many { length bytes.now ≡ self.old.size }
-        ensures key { (lists : Lists) → StandsForLists A.word self.old lists → IfOk result (λ key. key ≡ next_key lists) }
+        ensures key { (lists : Lists) → StandsForLists A.word self.old lists → IfOk result (λ key. IsNewKey lists key) }
         ensures after { (lists : Lists) → StandsForLists A.word self.old lists → IfOk result (λ key. StandsForLists A.word self.new (inserted bytes.now lists)) }
         ensures slab { (lists : Lists) → StandsForLists A.word self.old lists → IfOk result (λ key. TakesSlabIfNeeded A.regions A.word A.follows self.old lists self.new) }
         ensures refused { (lists : Lists) → StandsForLists A.word self.old lists → IfErr result (λ fault. IsPoolRefused A.word A.denies self.old lists fault) }
