@@ -12,7 +12,7 @@ ghost use Rattle.dlmalloc.specs.Served.{IsCutOut};
 ghost use Rattle.dlmalloc.specs.Heap.{state_of, segments_of, IsSound, IsGranularity};
 ghost use Rattle.dlmalloc.specs.Grown.{IsFreshGrant, IsGrantJoined, IsAdmitted, IsGrown, IsAsItWas};
 ghost use Rattle.dlmalloc.specs.Order.{KeepsOrder};
-ghost use Rattle.dlmalloc.specs.Binned.{IsFreeAt, IsBinned, IsSameBins, FreeMoves};
+ghost use Rattle.dlmalloc.specs.Binned.{IsFreeAt, IsBinned, IsIntact, IsSameBins, FreeMoves};
 
 use crate::heap::{Dlmalloc, countdown_from};
 use crate::layout::{BLOCK, FOOT, HEAD, LEAST_CHUNK, OVERHEAD, PINUSE, TRIM_THRESHOLD};
@@ -44,8 +44,7 @@ impl<A: Allocator> Dlmalloc<A> {
         n: u64,
         steps: &mut Steps<L>,
     ) -> Result<Option<u64>, GrantFault>
-        requires sound { IsSound A.regions A.word self.old }
-        requires linked { IsBinned A.regions A.word self.old }
+        requires intact { IsIntact A.regions A.word self.old }
         requires none { chosen (state_of A.word self.old) n ≡ None }
         requires whole { n % 16 ≡ 0 }
         requires least { 32 ≤ n }
@@ -75,8 +74,7 @@ impl<A: Allocator> Dlmalloc<A> {
 
     /// Makes a grant part of the heap. It is put before no segment.
     fn join<L: Ledger>(&mut self, grant: &Grant, steps: &mut Steps<L>)
-        requires sound { IsSound A.regions A.word self.old }
-        requires linked { IsBinned A.regions A.word self.old }
+        requires intact { IsIntact A.regions A.word self.old }
         requires fresh { IsFreshGrant (A.regions self.old.system) (segments_of A.word self.old) grant.now }
         requires apart { is_put_before grant.now (segments_of A.word self.old) ≡ false }
         ensures joined { IsGrantJoined A.regions A.word A.follows self.old grant.now self.new }
@@ -134,8 +132,7 @@ impl<A: Allocator> Dlmalloc<A> {
     /// Makes a grant the head segment. What was the top is freed, and goes into its bin, and a record after it
     /// describes the segment that it is in.
     fn add_segment<L: Ledger>(&mut self, grant: &Grant, steps: &mut Steps<L>)
-        requires sound { IsSound A.regions A.word self.old }
-        requires linked { IsBinned A.regions A.word self.old }
+        requires intact { IsIntact A.regions A.word self.old }
         requires there { 0 < self.old.size }
         requires fresh { IsFreshGrant (A.regions self.old.system) (segments_of A.word self.old) grant.now }
         requires apart { is_put_before grant.now (segments_of A.word self.old) ≡ false }

@@ -2,7 +2,7 @@
 ghost use Rattle.std.specs.Prelude.{◌≡◌, ◌≢◌, ℕ, ◌+◌, ◌-◌, ◌%◌, ◌^◌, ◌<◌, ◌≤◌, [], ◌∷◌, None, IfOk, IfErr};
 ghost use Rattle.std.specs.Int.{IsPowerOfTwo};
 ghost use Rattle.dlmalloc.specs.Choice.{chosen};
-ghost use Rattle.dlmalloc.specs.Heap.{state_of, IsSound};
+ghost use Rattle.dlmalloc.specs.Heap.{state_of};
 ghost use Rattle.dlmalloc.specs.Grown.{IsAsItWas};
 ghost use Rattle.dlmalloc.specs.Outcome.{IsAllocated};
 ghost use Rattle.dlmalloc.specs.Requested.{asked};
@@ -95,8 +95,7 @@ impl<A: Allocator> Dlmalloc<A> {
 
     /// Cuts a chunk of `n` bytes from a free extent, or from a new region if none serves, and answers where it begins.
     fn cut<L: Ledger>(&mut self, n: u64, steps: &mut Steps<L>) -> Result<u64, GrantFault>
-        requires sound { IsSound A.regions A.word self.old }
-        requires linked { IsBinned A.regions A.word self.old }
+        requires intact { IsIntact A.regions A.word self.old }
         requires whole { n % 16 ≡ 0 }
         requires least { 32 ≤ n }
         requires small { n + 96 + self.old.granularity ≤ 2 ^ 64 }
@@ -128,8 +127,7 @@ impl<A: Allocator> Dlmalloc<A> {
     /// Cuts a chunk of `n` bytes from a new region, since no free extent serves.
     #[inline(never)]
     fn cut_new<L: Ledger>(&mut self, n: u64, steps: &mut Steps<L>) -> Result<u64, GrantFault>
-        requires sound { IsSound A.regions A.word self.old }
-        requires linked { IsBinned A.regions A.word self.old }
+        requires intact { IsIntact A.regions A.word self.old }
         requires none { chosen (state_of A.word self.old) n ≡ None }
         requires whole { n % 16 ≡ 0 }
         requires least { 32 ≤ n }

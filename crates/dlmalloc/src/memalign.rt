@@ -83,8 +83,7 @@ impl<A: Allocator> Dlmalloc<A> {
     /// Frees what is before the aligned place in the chunk of a block, and what is after `n` bytes there, and answers
     /// where they begin.
     fn align_block<L: Ledger>(&mut self, ptr: u64, align: u64, n: u64, steps: &mut Steps<L>) -> u64
-        requires sound { IsSound A.regions A.word self.old }
-        requires linked { IsBinned A.regions A.word self.old }
+        requires intact { IsIntact A.regions A.word self.old }
         requires align { IsPowerOfTwo align × (16 < align) }
         requires block { IsBlock (state_of A.word self.old) ptr (n + align + 24) }
         requires whole { n % 16 ≡ 0 }
@@ -97,8 +96,7 @@ impl<A: Allocator> Dlmalloc<A> {
         ensures others { HasOneMoved (state_of A.word self.old) (state_of A.word self.new) (ptr - 16) result }
         ensures kept { KeepsOthers (state_of A.word self.old) (ptr - 16) (A.word self.old.system) (A.word self.new.system) }
         ensures words { (k : ℕ) → IsWordOf (A.regions self.old.system) k → IsPassedOver (state_of A.word self.old) (lead_freed (state_of A.word self.old) (ptr - 16) result) (state_of A.word self.new) k → A.word self.new.system k ≡ A.word self.old.system k }
-        ensures sound { IsSound A.regions A.word self.new }
-        ensures linked { IsBinned A.regions A.word self.new }
+        ensures intact { IsIntact A.regions A.word self.new }
         ensures order { KeepsOrderThrough A.regions A.word (lead_freed (state_of A.word self.old) (ptr - 16) result) self.old self.new }
         ensures regions { A.regions self.new.system ≡ A.regions self.old.system }
         ensures follows { A.follows self.old.system [] self.new.system }
@@ -114,8 +112,7 @@ impl<A: Allocator> Dlmalloc<A> {
 
     /// Frees what is before a place in a chunk in use.
     fn free_before<L: Ledger>(&mut self, at: u64, size: u64, place: u64, steps: &mut Steps<L>)
-        requires sound { IsSound A.regions A.word self.old }
-        requires linked { IsBinned A.regions A.word self.old }
+        requires intact { IsIntact A.regions A.word self.old }
         requires chunk { extent_at at (extents_in (state_of A.word self.old)) ≡ Some (record { at = at; size = size; kind = Used }) }
         requires lead { (place ≡ at) ⊎ (at + 32 ≤ place) }
         requires whole { (place - at) % 16 ≡ 0 }
@@ -140,8 +137,7 @@ impl<A: Allocator> Dlmalloc<A> {
 
     /// Frees what is after the first `n` bytes of a chunk in use, if it is more than 32 bytes.
     fn free_behind<L: Ledger>(&mut self, at: u64, size: u64, n: u64, steps: &mut Steps<L>)
-        requires sound { IsSound A.regions A.word self.old }
-        requires linked { IsBinned A.regions A.word self.old }
+        requires intact { IsIntact A.regions A.word self.old }
         requires chunk { extent_at at (extents_in (state_of A.word self.old)) ≡ Some (record { at = at; size = size; kind = Used }) }
         requires whole { n % 16 ≡ 0 }
         requires least { 32 ≤ n }

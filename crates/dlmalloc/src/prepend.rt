@@ -9,7 +9,7 @@ ghost use Rattle.dlmalloc.specs.Heap.{state_of, segments_of, IsSound};
 ghost use Rattle.dlmalloc.specs.Grown.{IsFreshGrant, IsPrepended, IsPutBefore};
 ghost use Rattle.dlmalloc.specs.Prepended.{IsBehindAt};
 ghost use Rattle.dlmalloc.specs.Order.{KeepsOrder};
-ghost use Rattle.dlmalloc.specs.Binned.{IsBinned, IsSameBins};
+ghost use Rattle.dlmalloc.specs.Binned.{IsBinned, IsIntact, IsSameBins};
 ghost use Rattle.dlmalloc.specs.declared.prepend.Behind.TheVariants.{Head, Told};
 
 use crate::grow::may_join;
@@ -104,8 +104,7 @@ impl<A: Allocator> Dlmalloc<A> {
         behind: Behind,
         steps: &mut Steps<L>,
     )
-        requires sound { IsSound A.regions A.word self.old }
-        requires linked { IsBinned A.regions A.word self.old }
+        requires intact { IsIntact A.regions A.word self.old }
         requires fresh { IsFreshGrant (A.regions self.old.system) (segments_of A.word self.old) grant.now }
         requires behind { IsBehindAt A.word self.old grant.now behind }
         requires whole { n % 16 ≡ 0 }

@@ -7,7 +7,7 @@ ghost use Rattle.dlmalloc.specs.Resized.{grown_into, in_place, HasSameOthers};
 ghost use Rattle.dlmalloc.specs.Heap.{state_of, IsSound};
 ghost use Rattle.dlmalloc.specs.Turned.{IsMoved, IsTurned};
 ghost use Rattle.dlmalloc.specs.Order.{KeepsOrder};
-ghost use Rattle.dlmalloc.specs.Binned.{IsFreeAt, IsBinned, FreeMoves};
+ghost use Rattle.dlmalloc.specs.Binned.{IsFreeAt, IsBinned, IsIntact, FreeMoves};
 
 use crate::heap::Dlmalloc;
 use crate::layout::{HEAD, LEAST_CHUNK, PINUSE};
@@ -22,8 +22,7 @@ impl<A: Allocator> Dlmalloc<A> {
     /// free chunk after it, if both have room for them (dlmalloc: `try_realloc_chunk`). False if neither fits; then
     /// nothing is changed.
     pub(crate) fn resize_chunk<L: Ledger>(&mut self, at: u64, n: u64, steps: &mut Steps<L>) -> bool
-        requires sound { IsSound A.regions A.word self.old }
-        requires linked { IsBinned A.regions A.word self.old }
+        requires intact { IsIntact A.regions A.word self.old }
         requires chunk { (size : ℕ) × (extent_at at (extents_in (state_of A.word self.old)) ≡ Some (record { at = at; size = size; kind = Used })) }
         requires whole { n % 16 ≡ 0 }
         requires least { 32 ≤ n }
@@ -99,8 +98,7 @@ impl<A: Allocator> Dlmalloc<A> {
         n: u64,
         steps: &mut Steps<L>,
     )
-        requires sound { IsSound A.regions A.word self.old }
-        requires linked { IsBinned A.regions A.word self.old }
+        requires intact { IsIntact A.regions A.word self.old }
         requires chunk { extent_at at (extents_in (state_of A.word self.old)) ≡ Some (record { at = at; size = size; kind = Used }) }
         requires next { extent_at (at + size) (extents_in (state_of A.word self.old)) ≡ Some (record { at = at + size; size = free; kind = Free }) }
         requires whole { n % 16 ≡ 0 }

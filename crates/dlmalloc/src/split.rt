@@ -11,7 +11,7 @@ ghost use Rattle.dlmalloc.specs.Aligned.{HasOneMoved, KeepsOthers};
 ghost use Rattle.dlmalloc.specs.Heap.{state_of, IsSound};
 ghost use Rattle.dlmalloc.specs.Turned.{IsMoved, IsTurned};
 ghost use Rattle.dlmalloc.specs.Order.{KeepsOrder};
-ghost use Rattle.dlmalloc.specs.Binned.{IsBinned, FreeMoves};
+ghost use Rattle.dlmalloc.specs.Binned.{IsBinned, IsIntact, FreeMoves};
 
 use crate::heap::Dlmalloc;
 use bins::laws::index_stays;
@@ -44,8 +44,7 @@ impl<A: Allocator> Dlmalloc<A> {
 
     /// Frees what is after the first `n` bytes of a chunk in use.
     pub(crate) fn free_tail<L: Ledger>(&mut self, at: u64, size: u64, n: u64, steps: &mut Steps<L>)
-        requires sound { IsSound A.regions A.word self.old }
-        requires linked { IsBinned A.regions A.word self.old }
+        requires intact { IsIntact A.regions A.word self.old }
         requires chunk { extent_at at (extents_in (state_of A.word self.old)) ≡ Some (record { at = at; size = size; kind = Used }) }
         requires whole { n % 16 ≡ 0 }
         requires least { 32 ≤ n }
@@ -65,8 +64,7 @@ impl<A: Allocator> Dlmalloc<A> {
 
     /// Frees the first `n` bytes of a chunk in use, which are not those that stay in use.
     pub(crate) fn free_lead<L: Ledger>(&mut self, at: u64, size: u64, n: u64, steps: &mut Steps<L>)
-        requires sound { IsSound A.regions A.word self.old }
-        requires linked { IsBinned A.regions A.word self.old }
+        requires intact { IsIntact A.regions A.word self.old }
         requires chunk { extent_at at (extents_in (state_of A.word self.old)) ≡ Some (record { at = at; size = size; kind = Used }) }
         requires whole { n % 16 ≡ 0 }
         requires least { 32 ≤ n }

@@ -7,7 +7,7 @@ ghost use Rattle.dlmalloc.specs.Blocks.{HasOneMore};
 ghost use Rattle.dlmalloc.specs.Taken.{taken};
 ghost use Rattle.dlmalloc.specs.Heap.{state_of, IsSound};
 ghost use Rattle.dlmalloc.specs.Turned.{IsMoved, IsTurned};
-ghost use Rattle.dlmalloc.specs.Binned.{IsFreeAt, IsBinned, IsMember, FreeMoves};
+ghost use Rattle.dlmalloc.specs.Binned.{IsFreeAt, IsBinned, IsIntact, IsMember, FreeMoves};
 ghost use Rattle.dlmalloc.specs.Order.{KeepsOrder};
 
 use crate::heap::Dlmalloc;
@@ -23,8 +23,7 @@ impl<A: Allocator> Dlmalloc<A> {
     /// less than 32 bytes stays with them. The rest of the victim is the victim. A binned chunk leaves its bin; for less than
     /// 256 bytes its rest is the victim, and the old one goes into its bin; else the rest goes into its own.
     pub(crate) fn take<L: Ledger>(&mut self, at: u64, size: u64, n: u64, steps: &mut Steps<L>)
-        requires sound { IsSound A.regions A.word self.old }
-        requires linked { IsBinned A.regions A.word self.old }
+        requires intact { IsIntact A.regions A.word self.old }
         requires chunk { extent_at at (extents_in (state_of A.word self.old)) ≡ Some (record { at = at; size = size; kind = Free }) }
         requires whole { n % 16 ≡ 0 }
         requires least { 32 ≤ n }
@@ -47,8 +46,7 @@ impl<A: Allocator> Dlmalloc<A> {
 
     /// Cuts `n` bytes from the binned chunk that a search for that many names.
     fn take_binned<L: Ledger>(&mut self, at: u64, size: u64, n: u64, steps: &mut Steps<L>)
-        requires sound { IsSound A.regions A.word self.old }
-        requires linked { IsBinned A.regions A.word self.old }
+        requires intact { IsIntact A.regions A.word self.old }
         requires chunk { extent_at at (extents_in (state_of A.word self.old)) ≡ Some (record { at = at; size = size; kind = Free }) }
         requires other { at ≢ self.old.victim }
         requires member { IsMember A.regions A.word self.old n at }

@@ -12,8 +12,8 @@ pub returns-in-Some-Chunk-clause-cut : goal.returns-in-Some-Chunk-clause-cut
 returns-in-Some-Chunk-clause-cut g c =
     let place = c.in-Some-Chunk.place in let is = ap Some c.in-Some-Chunk.field-0-is in
     let chosen = c.in-Some-Chunk.ensures.chunk place is in
-    cut_here c.requires.sound c.args.n chosen (c.in-Some-Chunk.ensures.fits place is)
-    (free_below c.requires.sound chosen.there) c.take.ensures.state c.take.ensures.more c.take.ensures.moved
+    cut_here c.requires.intact.sound c.args.n chosen (c.in-Some-Chunk.ensures.fits place is)
+    (free_below c.requires.intact.sound chosen.there) c.take.ensures.state c.take.ensures.more c.take.ensures.moved
 
 pub returns-in-Some-Top-clause-cut : goal.returns-in-Some-Top-clause-cut
 returns-in-Some-Top-clause-cut g c =
@@ -21,7 +21,7 @@ returns-in-Some-Top-clause-cut g c =
     let chosen = c.in-Some-Top.ensures.top is in let fits = c.in-Some-Top.ensures.top_fits is in
     subst (λ k. IsCutOut g.A.Links.regions g.A.Links.word g.A.Allocator.zeros g.A.Links.follows heap c.args.n k c.take_top.new.self)
     (sym c.take_top.ensures.chunk)
-    (cut_here c.requires.sound c.args.n chosen (omega arith) (free_below c.requires.sound chosen.there)
+    (cut_here c.requires.intact.sound c.args.n chosen (omega arith) (free_below c.requires.intact.sound chosen.there)
     c.take_top.ensures.state c.take_top.ensures.more (as_turned c.take_top.ensures.moved))
 
 pub cut_new-requires-clause-none : goal.cut_new-requires-clause-none
@@ -42,10 +42,10 @@ returns-in-Some-Top-clause-member g c = λ size is. absurd (top_no_bins size (c.
 pub returns-in-Some-Top-clause-order : goal.returns-in-Some-Top-clause-order
 returns-in-Some-Top-clause-order g c = λ b.
     let e = c.take_top.ensures in
-    (binned_beside c.index_stays.ensures c.requires.sound e.moved e.bins e.free (ap (λ s. s.victim) e.state) b, order_same b.index)
+    (binned_beside c.index_stays.ensures c.requires.intact.sound e.moved e.bins e.free (ap (λ s. s.victim) e.state) b, order_same b.index)
 
 pub returns-in-Some-Top-clause-linked : goal.returns-in-Some-Top-clause-linked
-returns-in-Some-Top-clause-linked g c = (returns-in-Some-Top-clause-order g c c.requires.linked).0
+returns-in-Some-Top-clause-linked g c = (returns-in-Some-Top-clause-order g c c.requires.intact.linked).0
 
 pub returns-clause-member : goal.returns-clause-member
 returns-clause-member g c = none_member g.A.Links.regions g.A.Links.word c.args.self.now c.args.n (elim c.if-self-gt0.branch [

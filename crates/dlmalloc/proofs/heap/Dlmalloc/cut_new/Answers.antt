@@ -11,7 +11,7 @@ returns-in-None-clause-cut g c =
     let grown = c.in_ok-chunk.ensures.top c.in-None.is in let e = c.take_top.ensures in
     let events = Granted (round_up (c.args.n + 96) heap.granularity) grown.grant ∷ [] in
     subst (λ k. IsCutOut g.A.Links.regions g.A.Links.word g.A.Allocator.zeros g.A.Links.follows heap c.args.n k new) (sym c.take_top.ensures.chunk)
-    (cut_new c.requires.sound c.args.n grown e.state e.more e.moved e.head e.foot e.others c.requires.none (top_below grown.sound grown.there)
+    (cut_new c.requires.intact.sound c.args.n grown e.state e.more e.moved e.head e.foot e.others c.requires.none (top_below grown.sound grown.there)
     (g.A.Links.follows_on heap.system middle.system new.system events [] events grown.followed e.moved.followed refl))
 
 pub returns-in-Some-clause-cut : goal.returns-in-Some-clause-cut
@@ -19,7 +19,7 @@ returns-in-Some-clause-cut g c = c.in_ok-chunk.ensures.cut c.in-Some.chunk c.in-
 
 pub returns-in_err-chunk-clause-denied : goal.returns-in_err-chunk-clause-denied
 returns-in_err-chunk-clause-denied g c =
-    let full : IsFull (state_of g.A.Links.word c.args.self.now) (c.args.n + 256) = full c.requires.sound c.args.n c.requires.none in
+    let full : IsFull (state_of g.A.Links.word c.args.self.now) (c.args.n + 256) = full c.requires.intact.sound c.args.n c.requires.none in
     search rules
 
 pub returns-in-None-clause-linked : goal.returns-in-None-clause-linked

@@ -4,14 +4,17 @@ use Rattle.dlmalloc.proofs.Resizing.Split.{CanSplit, IsSplit}
 use Rattle.dlmalloc.proofs.Resizing.SplitAndFreed.{lead_state, lead_second, lead_others, lead_kept, lead_words}
 use Rattle.dlmalloc.proofs.heap.Dlmalloc.free_lead.Goals as goal
 
-pub dispose_chunk-requires-clause-linked : goal.dispose_chunk-requires-clause-linked
-dispose_chunk-requires-clause-linked g c =
+pub dispose_chunk-requires-clause-intact : goal.dispose_chunk-requires-clause-intact
+dispose_chunk-requires-clause-intact g c =
     let e = c.split.ensures in
-    binned_beside c.index_stays.ensures c.requires.sound e.moved e.bins e.free (ap (λ s. s.victim) e.state) c.requires.linked
+    record {
+      sound = e.moved.sound;
+      linked = binned_beside c.index_stays.ensures c.requires.intact.sound e.moved e.bins e.free (ap (λ s. s.victim) e.state) c.requires.intact.linked;
+    }
 
 pub returns : goal.returns
 returns g c =
-    let e = c.split.ensures in let freed = c.dispose_chunk.ensures in let sound = c.requires.sound in
+    let e = c.split.ensures in let freed = c.dispose_chunk.ensures in let sound = c.requires.intact.sound in
     let can : CanSplit g.A.Links.word c.args.self.now c.args.at c.args.size c.args.n =
     record { there = c.requires.chunk; whole = c.requires.whole; least = c.requires.least; room = c.requires.room } in
     let split : IsSplit g.A.Links.regions g.A.Links.word g.A.Links.follows c.args.self.now c.args.at c.args.size c.args.n c.split.new.self =

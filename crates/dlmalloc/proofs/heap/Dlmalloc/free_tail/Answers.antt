@@ -11,17 +11,20 @@ can g c = record { there = c.requires.chunk; whole = c.requires.whole; least = c
 
 pub overflow_add-at : goal.overflow_add-at
 overflow_add-at g c =
-    let end = end_small c.requires.sound (can g (goal.at.overflow_add-at g c).Start) in
+    let end = end_small c.requires.intact.sound (can g (goal.at.overflow_add-at g c).Start) in
     let room = c.requires.room in grind arith
 
-pub dispose_chunk-requires-clause-linked : goal.dispose_chunk-requires-clause-linked
-dispose_chunk-requires-clause-linked g c =
+pub dispose_chunk-requires-clause-intact : goal.dispose_chunk-requires-clause-intact
+dispose_chunk-requires-clause-intact g c =
     let e = c.split.ensures in
-    binned_beside c.index_stays.ensures c.requires.sound e.moved e.bins e.free (ap (λ s. s.victim) e.state) c.requires.linked
+    record {
+      sound = e.moved.sound;
+      linked = binned_beside c.index_stays.ensures c.requires.intact.sound e.moved e.bins e.free (ap (λ s. s.victim) e.state) c.requires.intact.linked;
+    }
 
 pub returns : goal.returns
 returns g c =
-    let e = c.split.ensures in let freed = c.dispose_chunk.ensures in let sound = c.requires.sound in
+    let e = c.split.ensures in let freed = c.dispose_chunk.ensures in let sound = c.requires.intact.sound in
     let can = can g (goal.at.returns g c).Start in
     let split : IsSplit g.A.Links.regions g.A.Links.word g.A.Links.follows c.args.self.now c.args.at c.args.size c.args.n c.split.new.self =
     record { state = e.state; first = e.first; second = e.second; others = e.others; words = e.words; free = e.free; moved = e.moved } in

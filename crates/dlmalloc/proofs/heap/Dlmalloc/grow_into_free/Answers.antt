@@ -13,19 +13,19 @@ can : (g : _) (c : Start g) → CanTakeFree g.A.Links.word c.args.self.now c.arg
 can g c = record { there = c.requires.chunk; behind = c.requires.next; whole = c.requires.whole; more = c.requires.more; room = c.requires.room }
 
 pub overflow_add-was_victim : goal.overflow_add-was_victim
-overflow_add-was_victim g c = let s = free_end_small c.requires.sound (can g (goal.at.overflow_add-was_victim g c).Start) in grind arith
+overflow_add-was_victim g c = let s = free_end_small c.requires.intact.sound (can g (goal.at.overflow_add-was_victim g c).Start) in grind arith
 
 pub overflow_add-rest : goal.overflow_add-rest
-overflow_add-rest g c = let s = free_end_small c.requires.sound (can g (goal.at.overflow_add-rest g c).Start) in grind arith
+overflow_add-rest g c = let s = free_end_small c.requires.intact.sound (can g (goal.at.overflow_add-rest g c).Start) in grind arith
 
 pub overflow_add-at : goal.overflow_add-at
 overflow_add-at g c =
-    let s = free_end_small c.requires.sound (can g (goal.at.overflow_add-at g c).Start) in
+    let s = free_end_small c.requires.intact.sound (can g (goal.at.overflow_add-at g c).Start) in
     let room = c.requires.room in grind arith
 
 pub overflow_add-at-2 : goal.overflow_add-at-2
 overflow_add-at-2 g c =
-    let s = free_end_small c.requires.sound (can g (goal.at.overflow_add-at-2 g c).Start) in
+    let s = free_end_small c.requires.intact.sound (can g (goal.at.overflow_add-at-2 g c).Start) in
     let room = c.requires.room in grind arith
 
 -- ---- what the two calls leave
@@ -63,7 +63,7 @@ returns-then-was_victim g c =
     let left = one.loose [] b (λ none. none) in
     let after = into_victim c.index_stays.ensures one.same.sound (joined g now) e.bins mine (none_binned left.0 (λ n free. mine)) in
     (after.0, order_left b.index left.0.index after.0.index (lessened_as c.args.free (c.args.at + c.args.size) b.index left.0.index left.1) after.1) in
-    let linked = (order c.requires.linked).0 in
+    let linked = (order c.requires.intact.linked).0 in
     record { state = state g now; held = e.held; others = others g now; moved = moved g now; linked = linked; order = order; counted = omega arith }
 
 pub returns-then-rest-lt-LEAST_CHUNK : goal.returns-then-rest-lt-LEAST_CHUNK
@@ -75,7 +75,7 @@ returns-then-rest-lt-LEAST_CHUNK g c =
       into_whole c.index_stays.ensures one.same.sound (joined g now) e.bins (other g at.Else-was_victim) left.0 (omega arith),
       order_less b.index left.0.index (lessened_as c.args.free (c.args.at + c.args.size) b.index left.0.index left.1),
     ) in
-    let linked = (order c.requires.linked).0 in
+    let linked = (order c.requires.intact.linked).0 in
     record { state = state g now; held = e.held; others = others g now; moved = moved g now; linked = linked; order = order; counted = omega arith }
 
 pub bin-requires-clause-other : goal.bin-requires-clause-other
@@ -91,7 +91,7 @@ bin-requires-clause-loose g c =
     let many = c.if-rest-lt-LEAST_CHUNK.false in let room = c.requires.room in (
       [],
       into_part c.index_stays.ensures one.same.sound (joined g at.After-join_part) c.join_part.ensures.bins
-          (other g at.Else-was_victim) (one.loose [] c.requires.linked (λ none. none)).0 (omega arith),
+          (other g at.Else-was_victim) (one.loose [] c.requires.intact.linked (λ none. none)).0 (omega arith),
     )
 
 pub returns : goal.returns
@@ -115,7 +115,7 @@ returns g c =
       held = (e.held.0, ap (λ s. extent_at c.args.at (extents_in s)) last.same.state ∙ e.held.1, e.held.2, e.held.3);
       others = subst (λ s. HasSameOthers (state_of g.A.Links.word old) s c.args.at c.args.at) (sym last.same.state) (others g now);
       moved = turned g.A.Links.regions g.A.Links.word g.A.Links.follows g.A.Links.follows_on one.same e.moved last.same;
-      linked = (order c.requires.linked).0;
+      linked = (order c.requires.intact.linked).0;
       order = order;
       counted = omega arith;
     }

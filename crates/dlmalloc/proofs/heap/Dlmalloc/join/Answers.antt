@@ -7,8 +7,8 @@ returns-then-self-eq0 g c =
     let e = c.open.ensures in
     record {
       joined = as_joined g.A.Links.regions g.A.Links.word g.A.Links.follows c.args.self.now c.args.grant.now e.joined;
-      linked = admitted_binned c.index_stays.ensures c.requires.sound e.joined e.free e.same c.requires.linked;
-      order = λ b. (admitted_binned c.index_stays.ensures c.requires.sound e.joined e.free e.same b, order_same b.index);
+      linked = admitted_binned c.index_stays.ensures c.requires.intact.sound e.joined e.free e.same c.requires.intact.linked;
+      order = λ b. (admitted_binned c.index_stays.ensures c.requires.intact.sound e.joined e.free e.same b, order_same b.index);
     }
 
 pub returns-then-is_behind : goal.returns-then-is_behind
@@ -16,6 +16,6 @@ returns-then-is_behind g c =
     let e = c.extend.ensures in
     record {
       joined = as_joined g.A.Links.regions g.A.Links.word g.A.Links.follows c.args.self.now c.args.grant.now e.joined;
-      linked = admitted_binned c.index_stays.ensures c.requires.sound e.joined e.free e.same c.requires.linked;
-      order = λ b. (admitted_binned c.index_stays.ensures c.requires.sound e.joined e.free e.same b, order_same b.index);
+      linked = admitted_binned c.index_stays.ensures c.requires.intact.sound e.joined e.free e.same c.requires.intact.linked;
+      order = λ b. (admitted_binned c.index_stays.ensures c.requires.intact.sound e.joined e.free e.same b, order_same b.index);
     }

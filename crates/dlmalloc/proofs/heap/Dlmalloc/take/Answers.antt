@@ -8,12 +8,12 @@ returns-then-at-self g c =
     let e = c.cut_chunk.ensures in
     let cut : IsChunkCut g.A.Links.regions g.A.Links.word g.A.Links.follows c.args.self.now c.args.at c.args.size c.args.n c.cut_chunk.new.self =
     record { moved = e.moved; state = e.state; free = e.free; bins = e.bins } in
-    let order = victim_taken c.index_stays.ensures c.requires.sound cut c.if-at-self.true in
+    let order = victim_taken c.index_stays.ensures c.requires.intact.sound cut c.if-at-self.true in
     record {
       state = e.state;
       more = e.more;
       moved = as_turned e.moved;
-      linked = (order c.requires.linked).0;
+      linked = (order c.requires.intact.linked).0;
       order = order;
       counted = omega arith;
     }

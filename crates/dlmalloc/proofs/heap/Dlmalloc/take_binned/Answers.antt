@@ -8,7 +8,7 @@ use Rattle.dlmalloc.proofs.Cuts.BinsMeanwhile.{IsChunkCut, whole_taken, rest_cam
 use Rattle.dlmalloc.proofs.heap.Dlmalloc.take_binned.Goals as goal
 
 pub unbin_fit-requires-clause-binned : goal.unbin_fit-requires-clause-binned
-unbin_fit-requires-clause-binned g c = ([], c.requires.linked, λ none. none)
+unbin_fit-requires-clause-binned g c = ([], c.requires.intact.linked, λ none. none)
 
 pub unbin_fit-requires-clause-member : goal.unbin_fit-requires-clause-member
 unbin_fit-requires-clause-member g c = (c.args.n, c.requires.member)
@@ -37,7 +37,7 @@ returns-then-rest-lt-LEAST_CHUNK g c =
       more = subst (λ s. HasOneMore s (state_of word new) c.args.at) one.same.state e.more;
       moved = turned regions word g.A.Links.follows g.A.Links.follows_on one.same e.moved
           (not_rebinned g.A.Links.follows e.moved.sound (g.A.Links.follows_none new.system));
-      linked = (order c.requires.linked).0;
+      linked = (order c.requires.intact.linked).0;
       order = order;
       counted = omega arith;
     }
@@ -59,7 +59,7 @@ bin_some-requires g c =
           (old_victim_free stays one.same.sound cut other (λ none. some (sym size ∙ none))));
       none = λ none n free. old_victim_none stays one.same.sound cut (size ∙ none) n (subst (λ v. IsFreeAt new v n) (sym at) free);
       other = λ some is. small_other stays one.same.sound cut other (omega arith) small (λ none. some (sym size ∙ none)) (at ∙ is);
-      loose = ([], renamed at (small_taken stays one.same.sound cut other (omega arith) small (one.loose [] c.requires.linked (λ none. none)).0));
+      loose = ([], renamed at (small_taken stays one.same.sound cut other (omega arith) small (one.loose [] c.requires.intact.linked (λ none. none)).0));
     }
 
 pub returns-then-n-lt-LEAST_LARGE : goal.returns-then-n-lt-LEAST_LARGE
@@ -84,7 +84,7 @@ returns-then-n-lt-LEAST_LARGE g c =
       more = subst (λ s. HasOneMore (state_of word old) s c.args.at) (sym last.same.state)
           (subst (λ s. HasOneMore s (state_of word c.cut_chunk.new.self) c.args.at) one.same.state e.more);
       moved = turned regions word g.A.Links.follows g.A.Links.follows_on one.same e.moved last.same;
-      linked = (order c.requires.linked).0;
+      linked = (order c.requires.intact.linked).0;
       order = order;
       counted = omega arith;
     }
@@ -93,7 +93,7 @@ returns-then-n-lt-LEAST_LARGE g c =
 
 pub overflow_add-at : goal.overflow_add-at
 overflow_add-at g c =
-    let e = end_small c.requires.sound c.requires.chunk refl in
+    let e = end_small c.requires.intact.sound c.requires.chunk refl in
     let f = c.requires.fits in grind arith
 
 pub bin-requires : goal.bin-requires
@@ -107,7 +107,7 @@ bin-requires g c =
       sound = e.moved.sound;
       free = e.rest (omega arith);
       other = large_other stays one.same.sound cut other (omega arith) many;
-      loose = ([], large_taken stays one.same.sound cut other (omega arith) many (one.loose [] c.requires.linked (λ none. none)).0);
+      loose = ([], large_taken stays one.same.sound cut other (omega arith) many (one.loose [] c.requires.intact.linked (λ none. none)).0);
     }
 
 pub returns : goal.returns
@@ -133,7 +133,7 @@ returns g c =
       more = subst (λ s. HasOneMore (state_of word old) s c.args.at) (sym last.same.state)
           (subst (λ s. HasOneMore s (state_of word c.cut_chunk.new.self) c.args.at) one.same.state e.more);
       moved = turned regions word g.A.Links.follows g.A.Links.follows_on one.same e.moved last.same;
-      linked = (order c.requires.linked).0;
+      linked = (order c.requires.intact.linked).0;
       order = order;
       counted = omega arith;
     }
