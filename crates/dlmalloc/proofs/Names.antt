@@ -52,7 +52,7 @@ pub use Rattle.dlmalloc.specs.Grown.{HasSameUsed, IsAdmitted, IsFreshGrant, IsPr
 pub use Rattle.dlmalloc.specs.Heap.{AreTold, IsGranularity, IsSound, segments_of, state_of}
 pub use Rattle.dlmalloc.specs.Moved.{IsElsewhere, IsGivenSize, IsInPlace, IsResized}
 pub use Rattle.dlmalloc.specs.Moves.{AllSpare, HasMore, IsMove, IsRunOf, IsSpared, used_of}
-pub use Rattle.dlmalloc.specs.Order.{AreInOrder, IsPart, IsReindexed, KeepsOrder, after_pass, after_trim, after_visit, after_visits}
+pub use Rattle.dlmalloc.specs.Order.{AreInOrder, IsPart, IsReindexed, KeepsBinsInOrder, KeepsOrder, after_pass, after_trim, after_visit, after_visits}
 pub use Rattle.dlmalloc.specs.Prepended.{IsHeadBehind, IsToldBehind, payload_behind}
 pub use Rattle.dlmalloc.specs.Record.{IsRecordAt}
 pub use Rattle.dlmalloc.specs.Released.{IsFreeAround, bytes_of, counted, handed_out, is_counted, is_own, is_unused, left_by_count, may_leave, passed, regions_without, releases, staying, taken_back}

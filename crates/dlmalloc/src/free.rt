@@ -15,7 +15,7 @@ ghost use Rattle.dlmalloc.specs.Disposed.{IsDisposed};
 ghost use Rattle.dlmalloc.specs.Binned.{IsBinned, IsIntact, IsBinnedBut, IsRebinned, IsJoint, IsVictimAfter, FreeMoves};
 ghost use Rattle.dlmalloc.specs.AfterFree.{IsFreed};
 ghost use Rattle.dlmalloc.specs.Counts.{pass_steps};
-ghost use Rattle.dlmalloc.specs.Order.{KeepsOrder, IsAdded};
+ghost use Rattle.dlmalloc.specs.Order.{KeepsBinsInOrder, IsAdded};
 
 use crate::heap::Dlmalloc;
 use crate::layout::{BLOCK, HEAD, PINUSE};
@@ -85,8 +85,7 @@ impl<A: Allocator> Dlmalloc<A> {
         ensures records { (one : Extent) → one.kind ≡ Record → extent_at one.at (extents_in (state_of A.word self.old)) ≡ Some one → extent_at one.at (extents_in (state_of A.word self.new)) ≡ Some one }
         ensures around { IsFreeAround (state_of A.word self.new) at result }
         ensures moved { IsTurned A.regions A.word A.follows self.old self.new }
-        ensures linked { IsBinned A.regions A.word self.new }
-        ensures order { KeepsOrder A.regions A.word self.old self.new }
+        ensures bins { KeepsBinsInOrder A.regions A.word self.old self.new }
         ensures counted { steps.new ≤ steps.old + 529 }
     {
         let from = self.free_begin(at, steps);

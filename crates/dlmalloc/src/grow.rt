@@ -11,8 +11,8 @@ ghost use Rattle.dlmalloc.specs.Choice.{chosen};
 ghost use Rattle.dlmalloc.specs.Served.{IsCutOut};
 ghost use Rattle.dlmalloc.specs.Heap.{state_of, segments_of, IsSound, IsGranularity};
 ghost use Rattle.dlmalloc.specs.Grown.{IsFreshGrant, IsGrantJoined, IsAdmitted, IsGrown, IsAsItWas};
-ghost use Rattle.dlmalloc.specs.Order.{KeepsOrder};
-ghost use Rattle.dlmalloc.specs.Binned.{IsFreeAt, IsBinned, IsIntact, IsSameBins, FreeMoves};
+ghost use Rattle.dlmalloc.specs.Order.{KeepsBinsInOrder};
+ghost use Rattle.dlmalloc.specs.Binned.{IsFreeAt, IsIntact, IsSameBins, FreeMoves};
 
 use crate::heap::{Dlmalloc, countdown_from};
 use crate::layout::{BLOCK, FOOT, HEAD, LEAST_CHUNK, OVERHEAD, PINUSE, TRIM_THRESHOLD};
@@ -53,8 +53,7 @@ impl<A: Allocator> Dlmalloc<A> {
         ensures top { IfOk result (λ chunk. chunk ≡ None → IsGrown A.regions A.word A.zeros A.follows self.old n self.new) }
         ensures err { IfErr result (λ fault. IsAsItWas A.regions A.word A.follows A.refuses (Refused (round_up (n + 96) self.old.granularity) fault ∷ []) self.old self.new) }
         ensures denied { IfErr result (λ fault. A.denies self.old.system (round_up (n + 96) self.old.granularity) fault) }
-        ensures linked { IsBinned A.regions A.word self.new }
-        ensures order { KeepsOrder A.regions A.word self.old self.new }
+        ensures bins { KeepsBinsInOrder A.regions A.word self.old self.new }
         ensures refused_counted { IfErr result (λ fault. steps.new ≡ steps.old) }
     {
         let asked = self.asked(n);
@@ -78,8 +77,7 @@ impl<A: Allocator> Dlmalloc<A> {
         requires fresh { IsFreshGrant (A.regions self.old.system) (segments_of A.word self.old) grant.now }
         requires apart { is_put_before grant.now (segments_of A.word self.old) ≡ false }
         ensures joined { IsGrantJoined A.regions A.word A.follows self.old grant.now self.new }
-        ensures linked { IsBinned A.regions A.word self.new }
-        ensures order { KeepsOrder A.regions A.word self.old self.new }
+        ensures bins { KeepsBinsInOrder A.regions A.word self.old self.new }
     {
         index_stays();
         if self.size == 0 {
@@ -138,8 +136,7 @@ impl<A: Allocator> Dlmalloc<A> {
         requires apart { is_put_before grant.now (segments_of A.word self.old) ≡ false }
         requires beside { is_behind grant.now (record { base = self.old.base; size = self.old.size; flags = self.old.flags; extents = [] }) ≡ false }
         ensures joined { IsGrantJoined A.regions A.word A.follows self.old grant.now self.new }
-        ensures linked { IsBinned A.regions A.word self.new }
-        ensures order { KeepsOrder A.regions A.word self.old self.new }
+        ensures bins { KeepsBinsInOrder A.regions A.word self.old self.new }
     {
         let top = self.top;
         let top_size = self.top_size;

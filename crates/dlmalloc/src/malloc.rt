@@ -6,8 +6,8 @@ ghost use Rattle.dlmalloc.specs.Heap.{state_of};
 ghost use Rattle.dlmalloc.specs.Grown.{IsAsItWas};
 ghost use Rattle.dlmalloc.specs.Outcome.{IsAllocated};
 ghost use Rattle.dlmalloc.specs.Requested.{asked};
-ghost use Rattle.dlmalloc.specs.Order.{KeepsOrder};
-ghost use Rattle.dlmalloc.specs.Binned.{IsBinned, IsIntact, IsMemberChosen};
+ghost use Rattle.dlmalloc.specs.Order.{KeepsBinsInOrder, KeepsOrder};
+ghost use Rattle.dlmalloc.specs.Binned.{IsIntact, IsMemberChosen};
 ghost use Rattle.dlmalloc_chunks.specs.Request.{padded, round_up};
 ghost use Rattle.heap_memory.specs.Events.{Refused};
 ghost use Rattle.dlmalloc.specs.Served.{IsDenied, IsCutOut, IsServed, IsRefusedWith};
@@ -102,8 +102,7 @@ impl<A: Allocator> Dlmalloc<A> {
         ensures cut { IfOk result (λ at. IsCutOut A.regions A.word A.zeros A.follows self.old n at self.new) }
         ensures denied { IfErr result (λ fault. IsDenied A.denies self.old.system (state_of A.word self.old) n fault) }
         ensures err { IfErr result (λ fault. IsAsItWas A.regions A.word A.follows A.refuses (Refused (round_up (n + 96) self.old.granularity) fault ∷ []) self.old self.new) }
-        ensures linked { IsBinned A.regions A.word self.new }
-        ensures order { KeepsOrder A.regions A.word self.old self.new }
+        ensures bins { KeepsBinsInOrder A.regions A.word self.old self.new }
         ensures member { IfOk result (λ at. IsMemberChosen A.regions A.word self.old n at) }
         ensures counted { chosen (state_of A.word self.old) n ≢ None → steps.new ≤ steps.old + 1024 }
         ensures refused_counted { IfErr result (λ fault. steps.new ≤ steps.old + 512) }
@@ -135,8 +134,7 @@ impl<A: Allocator> Dlmalloc<A> {
         ensures cut { IfOk result (λ at. IsCutOut A.regions A.word A.zeros A.follows self.old n at self.new) }
         ensures denied { IfErr result (λ fault. IsDenied A.denies self.old.system (state_of A.word self.old) n fault) }
         ensures err { IfErr result (λ fault. IsAsItWas A.regions A.word A.follows A.refuses (Refused (round_up (n + 96) self.old.granularity) fault ∷ []) self.old self.new) }
-        ensures linked { IsBinned A.regions A.word self.new }
-        ensures order { KeepsOrder A.regions A.word self.old self.new }
+        ensures bins { KeepsBinsInOrder A.regions A.word self.old self.new }
         ensures refused_counted { IfErr result (λ fault. steps.new ≡ steps.old) }
     {
         match self.grow(n, steps)? {

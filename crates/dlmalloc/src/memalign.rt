@@ -13,8 +13,8 @@ ghost use Rattle.dlmalloc.specs.Aligned.{aligned_place, lead_freed, tail_cut, al
 ghost use Rattle.dlmalloc.specs.Heap.{state_of, IsSound};
 ghost use Rattle.dlmalloc.specs.Turned.{IsTurned};
 ghost use Rattle.dlmalloc.specs.Served.{IsRefusedWith};
-ghost use Rattle.dlmalloc.specs.Order.{KeepsOrder, KeepsOrderThrough};
-ghost use Rattle.dlmalloc.specs.Binned.{IsBinned, IsIntact};
+ghost use Rattle.dlmalloc.specs.Order.{KeepsBinsInOrder, KeepsOrderThrough};
+ghost use Rattle.dlmalloc.specs.Binned.{IsIntact};
 ghost use Rattle.dlmalloc.specs.Requested.{IsPassedOver, IsServedAligned, IsMemberServed};
 ghost use Rattle.dlmalloc.specs.Choice.{chosen};
 
@@ -123,8 +123,7 @@ impl<A: Allocator> Dlmalloc<A> {
         ensures kept { KeepsOthers (state_of A.word self.old) at (A.word self.old.system) (A.word self.new.system) }
         ensures words { (k : ℕ) → IsWordOf (A.regions self.old.system) k → (IsOwn (state_of A.word self.old) k → ⊥) → (IsOwn (state_of A.word self.new) k → ⊥) → A.word self.new.system k ≡ A.word self.old.system k }
         ensures sound { IsSound A.regions A.word self.new }
-        ensures linked { IsBinned A.regions A.word self.new }
-        ensures order { KeepsOrder A.regions A.word self.old self.new }
+        ensures bins { KeepsBinsInOrder A.regions A.word self.old self.new }
         ensures regions { A.regions self.new.system ≡ A.regions self.old.system }
         ensures follows { A.follows self.old.system [] self.new.system }
         ensures counted { steps.new ≤ steps.old + 534 }
@@ -146,8 +145,7 @@ impl<A: Allocator> Dlmalloc<A> {
         ensures held { (rest : ℕ) × (extent_at at (extents_in (state_of A.word self.new)) ≡ Some (record { at = at; size = rest; kind = Used })) × (n ≤ rest) × (rest ≤ n + 32) }
         ensures others { HasSameOthers (state_of A.word self.old) (state_of A.word self.new) at at }
         ensures moved { IsTurned A.regions A.word A.follows self.old self.new }
-        ensures linked { IsBinned A.regions A.word self.new }
-        ensures order { KeepsOrder A.regions A.word self.old self.new }
+        ensures bins { KeepsBinsInOrder A.regions A.word self.old self.new }
         ensures counted { steps.new ≤ steps.old + 534 }
     {
         if size - n <= LEAST_CHUNK {

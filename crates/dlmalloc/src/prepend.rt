@@ -8,8 +8,8 @@ ghost use Rattle.dlmalloc.specs.Granted.{is_before, is_put_before};
 ghost use Rattle.dlmalloc.specs.Heap.{state_of, segments_of, IsSound};
 ghost use Rattle.dlmalloc.specs.Grown.{IsFreshGrant, IsPrepended, IsPutBefore};
 ghost use Rattle.dlmalloc.specs.Prepended.{IsBehindAt};
-ghost use Rattle.dlmalloc.specs.Order.{KeepsOrder};
-ghost use Rattle.dlmalloc.specs.Binned.{IsBinned, IsIntact, IsSameBins};
+ghost use Rattle.dlmalloc.specs.Order.{KeepsBinsInOrder};
+ghost use Rattle.dlmalloc.specs.Binned.{IsIntact, IsSameBins};
 ghost use Rattle.dlmalloc.specs.declared.prepend.Behind.TheVariants.{Head, Told};
 
 use crate::grow::may_join;
@@ -111,8 +111,7 @@ impl<A: Allocator> Dlmalloc<A> {
         requires least { 32 ≤ n }
         requires room { n + 96 ≤ grant.now.size }
         ensures put { IsPutBefore A.regions A.word A.follows self.old grant.now n self.new }
-        ensures linked { IsBinned A.regions A.word self.new }
-        ensures order { KeepsOrder A.regions A.word self.old self.new }
+        ensures bins { KeepsBinsInOrder A.regions A.word self.old self.new }
     {
         index_stays();
         self.prepend(grant, n, behind, steps);

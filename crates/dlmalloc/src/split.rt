@@ -10,8 +10,8 @@ ghost use Rattle.dlmalloc.specs.Resized.{exchanged, halves, tail_freed, HasSameO
 ghost use Rattle.dlmalloc.specs.Aligned.{HasOneMoved, KeepsOthers};
 ghost use Rattle.dlmalloc.specs.Heap.{state_of, IsSound};
 ghost use Rattle.dlmalloc.specs.Turned.{IsMoved, IsTurned};
-ghost use Rattle.dlmalloc.specs.Order.{KeepsOrder};
-ghost use Rattle.dlmalloc.specs.Binned.{IsBinned, IsIntact, FreeMoves};
+ghost use Rattle.dlmalloc.specs.Order.{KeepsBinsInOrder};
+ghost use Rattle.dlmalloc.specs.Binned.{IsIntact, FreeMoves};
 
 use crate::heap::Dlmalloc;
 use bins::laws::index_stays;
@@ -53,8 +53,7 @@ impl<A: Allocator> Dlmalloc<A> {
         ensures first { extent_at at (extents_in (state_of A.word self.new)) ≡ Some (record { at = at; size = n; kind = Used }) }
         ensures others { HasSameOthers (state_of A.word self.old) (state_of A.word self.new) at at }
         ensures moved { IsTurned A.regions A.word A.follows self.old self.new }
-        ensures linked { IsBinned A.regions A.word self.new }
-        ensures order { KeepsOrder A.regions A.word self.old self.new }
+        ensures bins { KeepsBinsInOrder A.regions A.word self.old self.new }
         ensures counted { steps.new ≤ steps.old + 534 }
     {
         index_stays();
@@ -77,8 +76,7 @@ impl<A: Allocator> Dlmalloc<A> {
         ensures sound { IsSound A.regions A.word self.new }
         ensures regions { A.regions self.new.system ≡ A.regions self.old.system }
         ensures follows { A.follows self.old.system [] self.new.system }
-        ensures linked { IsBinned A.regions A.word self.new }
-        ensures order { KeepsOrder A.regions A.word self.old self.new }
+        ensures bins { KeepsBinsInOrder A.regions A.word self.old self.new }
         ensures counted { steps.new ≤ steps.old + 534 }
     {
         index_stays();

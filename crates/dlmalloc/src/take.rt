@@ -7,8 +7,8 @@ ghost use Rattle.dlmalloc.specs.Blocks.{HasOneMore};
 ghost use Rattle.dlmalloc.specs.Taken.{taken};
 ghost use Rattle.dlmalloc.specs.Heap.{state_of, IsSound};
 ghost use Rattle.dlmalloc.specs.Turned.{IsMoved, IsTurned};
-ghost use Rattle.dlmalloc.specs.Binned.{IsFreeAt, IsBinned, IsIntact, IsMember, FreeMoves};
-ghost use Rattle.dlmalloc.specs.Order.{KeepsOrder};
+ghost use Rattle.dlmalloc.specs.Binned.{IsFreeAt, IsIntact, IsMember, FreeMoves};
+ghost use Rattle.dlmalloc.specs.Order.{KeepsBinsInOrder};
 
 use crate::heap::Dlmalloc;
 use crate::layout::{LEAST_CHUNK, LEAST_LARGE};
@@ -32,8 +32,7 @@ impl<A: Allocator> Dlmalloc<A> {
         ensures state { state_of A.word self.new ≡ taken (state_of A.word self.old) (record { at = at; size = size; kind = Free }) n }
         ensures more { HasOneMore (state_of A.word self.old) (state_of A.word self.new) at }
         ensures moved { IsTurned A.regions A.word A.follows self.old self.new }
-        ensures linked { IsBinned A.regions A.word self.new }
-        ensures order { KeepsOrder A.regions A.word self.old self.new }
+        ensures bins { KeepsBinsInOrder A.regions A.word self.old self.new }
         ensures counted { steps.new ≤ steps.old + 328 }
     {
         if at == self.victim {
@@ -56,8 +55,7 @@ impl<A: Allocator> Dlmalloc<A> {
         ensures state { state_of A.word self.new ≡ taken (state_of A.word self.old) (record { at = at; size = size; kind = Free }) n }
         ensures more { HasOneMore (state_of A.word self.old) (state_of A.word self.new) at }
         ensures moved { IsTurned A.regions A.word A.follows self.old self.new }
-        ensures linked { IsBinned A.regions A.word self.new }
-        ensures order { KeepsOrder A.regions A.word self.old self.new }
+        ensures bins { KeepsBinsInOrder A.regions A.word self.old self.new }
         ensures counted { steps.new ≤ steps.old + 328 }
     {
         let victim = self.victim;

@@ -1,6 +1,6 @@
 use Rattle.dlmalloc.proofs.Names.{[], KeepsOrder}
 use Rattle.dlmalloc.proofs.Grants.WithBins.{as_joined, top_not_free, little_left, top_no_victim, top_left, joined_binned, none_in_grant}
-use Rattle.dlmalloc.proofs.Bins.Order.{order_same, lessened_same, added_as, in_order}
+use Rattle.dlmalloc.proofs.Bins.Order.{order_same, lessened_same, added_as, in_order, bins_kept}
 use Rattle.dlmalloc.proofs.heap.Dlmalloc.add_segment.Goals as goal
 
 pub returns-then-top_size-lt-LEAST_CHUNK : goal.returns-then-top_size-lt-LEAST_CHUNK
@@ -8,13 +8,11 @@ returns-then-top_size-lt-LEAST_CHUNK g c =
     let e = c.change_head.ensures in
     record {
       joined = as_joined g.A.Links.regions g.A.Links.word g.A.Links.follows c.args.self.now c.args.grant.now e.joined;
-      linked = little_left c.index_stays.ensures c.requires.intact.sound c.requires.there e.joined e.free e.same c.requires.intact.linked
-          c.if-top_size-lt-LEAST_CHUNK.true;
-      order = λ b. (
+      bins = bins_kept (λ b. (
         little_left c.index_stays.ensures c.requires.intact.sound c.requires.there e.joined e.free e.same b
             c.if-top_size-lt-LEAST_CHUNK.true,
         order_same b.index,
-      );
+      )) c.requires.intact.linked;
     }
 
 pub bin-requires-clause-other : goal.bin-requires-clause-other
@@ -43,6 +41,5 @@ returns g c =
       joined = joined_binned c.index_stays.ensures c.requires.intact.sound c.requires.there e.joined e.free e.same c.requires.intact.linked
           last.same last.same.fields g.A.Links.follows_on
           (none_in_grant middle c.requires.intact.sound c.requires.there c.requires.fresh e.free many (e.rest many));
-      linked = (order c.requires.intact.linked).0;
-      order = order;
+      bins = bins_kept order c.requires.intact.linked;
     }

@@ -69,5 +69,5 @@ returns-clause-words g c = λ k inside passed.
 
 pub returns-clause-order : goal.returns-clause-order
 returns-clause-order g c = λ b.
-    let lead = c.free_before.ensures.order b in let tail = c.free_behind.ensures.order lead.0 in
+    let lead = c.free_before.ensures.bins.order b in let tail = c.free_behind.ensures.bins.order lead.0 in
     (lead.0.index, subst (λ s. HoldsBinned s lead.0.index) c.free_before.ensures.state lead.0.holds, lead.1, tail)

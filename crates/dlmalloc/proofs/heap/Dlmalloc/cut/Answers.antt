@@ -5,7 +5,7 @@ use Rattle.dlmalloc.proofs.Bins.Members.{none_member}
 use Rattle.dlmalloc.proofs.Requests.Plain.{none_chosen_empty}
 use Rattle.dlmalloc.proofs.Cuts.OneStepOrTwo.{as_turned, cut_here}
 use Rattle.dlmalloc.proofs.heap.Dlmalloc.cut.Goals.{then-self-gt0+in-None, else-self-gt0}
-use Rattle.dlmalloc.proofs.Bins.Order.{order_same}
+use Rattle.dlmalloc.proofs.Bins.Order.{order_same, bins_kept}
 use Rattle.dlmalloc.proofs.heap.Dlmalloc.cut.Goals as goal
 
 pub returns-in-Some-Chunk-clause-cut : goal.returns-in-Some-Chunk-clause-cut
@@ -39,13 +39,11 @@ returns-in-Some-Chunk-clause-member g c = λ size is.
 pub returns-in-Some-Top-clause-member : goal.returns-in-Some-Top-clause-member
 returns-in-Some-Top-clause-member g c = λ size is. absurd (top_no_bins size (c.in-Some-Top.ensures.top (ap Some c.in-Some-Top.field-0-is)) refl is)
 
-pub returns-in-Some-Top-clause-order : goal.returns-in-Some-Top-clause-order
-returns-in-Some-Top-clause-order g c = λ b.
+pub returns-in-Some-Top-clause-bins : goal.returns-in-Some-Top-clause-bins
+returns-in-Some-Top-clause-bins g c =
     let e = c.take_top.ensures in
-    (binned_beside c.index_stays.ensures c.requires.intact.sound e.moved e.bins e.free (ap (λ s. s.victim) e.state) b, order_same b.index)
-
-pub returns-in-Some-Top-clause-linked : goal.returns-in-Some-Top-clause-linked
-returns-in-Some-Top-clause-linked g c = (returns-in-Some-Top-clause-order g c c.requires.intact.linked).0
+    bins_kept (λ b. (binned_beside c.index_stays.ensures c.requires.intact.sound e.moved e.bins e.free (ap (λ s. s.victim) e.state) b, order_same b.index))
+    c.requires.intact.linked
 
 pub returns-clause-member : goal.returns-clause-member
 returns-clause-member g c = none_member g.A.Links.regions g.A.Links.word c.args.self.now c.args.n (elim c.if-self-gt0.branch [

@@ -3,6 +3,7 @@ use Rattle.dlmalloc.proofs.Extents.NoRoom.{full}
 use Rattle.dlmalloc.proofs.Bins.Changes.{binned_beside}
 use Rattle.dlmalloc.proofs.Cuts.Chosen.{top_below}
 use Rattle.dlmalloc.proofs.Cuts.OneStepOrTwo.{cut_new}
+use Rattle.dlmalloc.proofs.Bins.Order.{bins_kept}
 use Rattle.dlmalloc.proofs.heap.Dlmalloc.cut_new.Goals as goal
 
 pub returns-in-None-clause-cut : goal.returns-in-None-clause-cut
@@ -22,13 +23,8 @@ returns-in_err-chunk-clause-denied g c =
     let full : IsFull (state_of g.A.Links.word c.args.self.now) (c.args.n + 256) = full c.requires.intact.sound c.args.n c.requires.none in
     search rules
 
-pub returns-in-None-clause-linked : goal.returns-in-None-clause-linked
-returns-in-None-clause-linked g c =
+pub returns-in-None-clause-bins : goal.returns-in-None-clause-bins
+returns-in-None-clause-bins g c =
     let grown = c.in_ok-chunk.ensures.top c.in-None.is in let e = c.take_top.ensures in
-    binned_beside c.index_stays.ensures grown.sound e.moved e.bins e.free (ap (λ s. s.victim) e.state) c.grow.ensures.linked
-
-pub returns-in-None-clause-order : goal.returns-in-None-clause-order
-returns-in-None-clause-order g c = λ b.
-    let grown = c.in_ok-chunk.ensures.top c.in-None.is in let e = c.take_top.ensures in
-    let after = c.grow.ensures.order b in
-    (binned_beside c.index_stays.ensures grown.sound e.moved e.bins e.free (ap (λ s. s.victim) e.state) after.0, after.1)
+    bins_kept (λ b. (let after = c.grow.ensures.bins.order b in
+    (binned_beside c.index_stays.ensures grown.sound e.moved e.bins e.free (ap (λ s. s.victim) e.state) after.0, after.1))) c.requires.intact.linked

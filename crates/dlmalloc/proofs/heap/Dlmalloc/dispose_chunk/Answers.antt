@@ -3,7 +3,7 @@ use Rattle.dlmalloc.proofs.Frees.WhatCallsWant.{head_there, foot_there, behind_t
 use Rattle.dlmalloc.proofs.Frees.NeighboursUnbinned.{left_free, left_none, right_free, right_none}
 use Rattle.dlmalloc.proofs.Frees.OfChunkAndBins.{two, joined_other, still_there, from_still, to_still, joined_loose}
 use Rattle.dlmalloc.proofs.Segments.HeadTop.{some_segment}
-use Rattle.dlmalloc.proofs.Bins.Order.{lessened_on, in_order}
+use Rattle.dlmalloc.proofs.Bins.Order.{lessened_on, in_order, bins_kept}
 use Rattle.dlmalloc.proofs.Moves.WithBins.{rebinned_on, turned}
 use Rattle.dlmalloc.proofs.heap.Dlmalloc.dispose_chunk.Goals as goal
 
@@ -94,8 +94,7 @@ returns g c =
           ∙ e.records one is (ap (λ s. extent_at one.at (extents_in s)) left.state ∙ there);
       around = subst (λ s. IsFreeAround s c.args.at c.free_begin-from.result) (sym last.state) e.around;
       moved = turned g.A.Links.regions word g.A.Links.follows g.A.Links.follows_on left e.moved last;
-      linked = (order c.requires.intact.linked).0;
-      order = order;
+      bins = bins_kept order c.requires.intact.linked;
       counted = omega arith;
     }
 

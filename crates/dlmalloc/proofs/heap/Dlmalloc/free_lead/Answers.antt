@@ -2,6 +2,7 @@ use Rattle.dlmalloc.proofs.Names.{[], refl, ◌∙◌, ap, arith}
 use Rattle.dlmalloc.proofs.Bins.Changes.{binned_beside}
 use Rattle.dlmalloc.proofs.Resizing.Split.{CanSplit, IsSplit}
 use Rattle.dlmalloc.proofs.Resizing.SplitAndFreed.{lead_state, lead_second, lead_others, lead_kept, lead_words}
+use Rattle.dlmalloc.proofs.Bins.Order.{bins_kept}
 use Rattle.dlmalloc.proofs.heap.Dlmalloc.free_lead.Goals as goal
 
 pub dispose_chunk-requires-clause-intact : goal.dispose_chunk-requires-clause-intact
@@ -28,7 +29,7 @@ returns g c =
       sound = freed.moved.sound;
       regions = freed.moved.regions_same ∙ e.moved.regions_same;
       follows = g.A.Links.follows_on _ _ _ [] [] [] e.moved.followed freed.moved.followed refl;
-      linked = freed.linked;
-      order = λ b. freed.order (binned_beside c.index_stays.ensures sound e.moved e.bins e.free (ap (λ s. s.victim) e.state) b);
+      bins = bins_kept (λ b. freed.bins.order (binned_beside c.index_stays.ensures sound e.moved e.bins e.free (ap (λ s. s.victim) e.state) b))
+          c.requires.intact.linked;
       counted = (let told = e.counted in let more = freed.counted in omega arith);
     }

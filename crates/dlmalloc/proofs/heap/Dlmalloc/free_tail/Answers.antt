@@ -2,6 +2,7 @@ use Rattle.dlmalloc.proofs.Names.{[], refl, ◌∙◌, arith, ap}
 use Rattle.dlmalloc.proofs.Resizing.Split.{CanSplit, IsSplit, end_small}
 use Rattle.dlmalloc.proofs.Bins.Changes.{binned_beside}
 use Rattle.dlmalloc.proofs.Resizing.SplitAndFreed.{tail_state, tail_first, tail_others, tail_words}
+use Rattle.dlmalloc.proofs.Bins.Order.{bins_kept}
 use Rattle.dlmalloc.proofs.heap.Dlmalloc.free_tail.Goals as goal
 use Rattle.dlmalloc.proofs.heap.Dlmalloc.free_tail.Goals.{Start}
 
@@ -38,7 +39,7 @@ returns g c =
         regions_same = freed.moved.regions_same ∙ e.moved.regions_same;
         followed = g.A.Links.follows_on _ _ _ [] [] [] e.moved.followed freed.moved.followed refl;
       };
-      linked = freed.linked;
-      order = λ b. freed.order (binned_beside c.index_stays.ensures sound e.moved e.bins e.free (ap (λ s. s.victim) e.state) b);
+      bins = bins_kept (λ b. freed.bins.order (binned_beside c.index_stays.ensures sound e.moved e.bins e.free (ap (λ s. s.victim) e.state) b))
+          c.requires.intact.linked;
       counted = (let told = e.counted in let more = freed.counted in omega arith);
     }

@@ -6,7 +6,7 @@ use Rattle.dlmalloc.proofs.Grants.NewRegion.{granted_sound, granted_same, grante
 use Rattle.dlmalloc.proofs.Grants.CutFromStart.{cut_before}
 use Rattle.dlmalloc.proofs.Laws.{as_it_was, as_binned}
 use Rattle.dlmalloc.proofs.Requests.Plain.{if_err}
-use Rattle.dlmalloc.proofs.Bins.Order.{order_same}
+use Rattle.dlmalloc.proofs.Bins.Order.{order_same, bins_kept}
 use Rattle.dlmalloc.proofs.heap.Dlmalloc.grow.Goals as goal
 use Rattle.dlmalloc.proofs.heap.Dlmalloc.grow.Goals.{In_ok-grant}
 
@@ -113,22 +113,19 @@ returns-in-None-clause-top g c = λ is.
           ∙ given.zeros zeros k low high multiple;
     }
 
-pub returns-in_err-grant-clause-linked : goal.returns-in_err-grant-clause-linked
-returns-in_err-grant-clause-linked g c =
+pub returns-in_err-grant-clause-bins : goal.returns-in_err-grant-clause-bins
+returns-in_err-grant-clause-bins g c =
     let denied = c.in_err-grant.ensures in
-    as_binned g.A.Links.regions g.A.Links.word c.args.self.now c.requires.intact.sound c.index_stays.ensures c.alloc.new.self denied.err denied.words
-    c.requires.intact.linked
-
-pub returns-in_err-grant-clause-order : goal.returns-in_err-grant-clause-order
-returns-in_err-grant-clause-order g c = λ b.
-    let denied = c.in_err-grant.ensures in (
+    bins_kept (λ b. (
       as_binned g.A.Links.regions g.A.Links.word c.args.self.now c.requires.intact.sound c.index_stays.ensures c.alloc.new.self
           denied.err denied.words b,
       order_same b.index,
-    )
+    )) c.requires.intact.linked
 
-pub returns-in-Some-clause-order : goal.returns-in-Some-clause-order
-returns-in-Some-clause-order g c = λ b. c.put_before.ensures.order (binned g (goal.at.returns-in-Some-clause-order g c).In_ok-grant b)
+pub returns-in-Some-clause-bins : goal.returns-in-Some-clause-bins
+returns-in-Some-clause-bins g c =
+    bins_kept (λ b. c.put_before.ensures.bins.order (binned g (goal.at.returns-in-Some-clause-bins g c).In_ok-grant b)) c.requires.intact.linked
 
-pub returns-in-None-clause-order : goal.returns-in-None-clause-order
-returns-in-None-clause-order g c = λ b. c.join.ensures.order (binned g (goal.at.returns-in-None-clause-order g c).In_ok-grant b)
+pub returns-in-None-clause-bins : goal.returns-in-None-clause-bins
+returns-in-None-clause-bins g c =
+    bins_kept (λ b. c.join.ensures.bins.order (binned g (goal.at.returns-in-None-clause-bins g c).In_ok-grant b)) c.requires.intact.linked

@@ -4,7 +4,7 @@ use Rattle.dlmalloc.proofs.Resizing.IntoFree.{CanTakeFree, IsPartJoined, free_en
 use Rattle.dlmalloc.proofs.Moves.WithBins.{turned}
 use Rattle.dlmalloc.proofs.Bins.Changes.{not_rebinned, none_binned}
 use Rattle.dlmalloc.proofs.Cuts.BinsMeanwhile.{into_victim, into_whole, into_part, part_other, part_came}
-use Rattle.dlmalloc.proofs.Bins.Order.{lessened_as, added_as, order_less, order_left, in_order}
+use Rattle.dlmalloc.proofs.Bins.Order.{lessened_as, added_as, order_less, order_left, in_order, bins_kept}
 use Rattle.dlmalloc.proofs.heap.Dlmalloc.grow_into_free.Goals as goal
 use Rattle.dlmalloc.proofs.heap.Dlmalloc.grow_into_free.Goals.{Start, After-join_part, Else-was_victim}
 
@@ -63,8 +63,8 @@ returns-then-was_victim g c =
     let left = one.loose [] b (λ none. none) in
     let after = into_victim c.index_stays.ensures one.same.sound (joined g now) e.bins mine (none_binned left.0 (λ n free. mine)) in
     (after.0, order_left b.index left.0.index after.0.index (lessened_as c.args.free (c.args.at + c.args.size) b.index left.0.index left.1) after.1) in
-    let linked = (order c.requires.intact.linked).0 in
-    record { state = state g now; held = e.held; others = others g now; moved = moved g now; linked = linked; order = order; counted = omega arith }
+    let bins = bins_kept order c.requires.intact.linked in
+    record { state = state g now; held = e.held; others = others g now; moved = moved g now; bins = bins; counted = omega arith }
 
 pub returns-then-rest-lt-LEAST_CHUNK : goal.returns-then-rest-lt-LEAST_CHUNK
 returns-then-rest-lt-LEAST_CHUNK g c =
@@ -75,8 +75,8 @@ returns-then-rest-lt-LEAST_CHUNK g c =
       into_whole c.index_stays.ensures one.same.sound (joined g now) e.bins (other g at.Else-was_victim) left.0 (omega arith),
       order_less b.index left.0.index (lessened_as c.args.free (c.args.at + c.args.size) b.index left.0.index left.1),
     ) in
-    let linked = (order c.requires.intact.linked).0 in
-    record { state = state g now; held = e.held; others = others g now; moved = moved g now; linked = linked; order = order; counted = omega arith }
+    let bins = bins_kept order c.requires.intact.linked in
+    record { state = state g now; held = e.held; others = others g now; moved = moved g now; bins = bins; counted = omega arith }
 
 pub bin-requires-clause-other : goal.bin-requires-clause-other
 bin-requires-clause-other g c =
@@ -115,7 +115,6 @@ returns g c =
       held = (e.held.0, ap (λ s. extent_at c.args.at (extents_in s)) last.same.state ∙ e.held.1, e.held.2, e.held.3);
       others = subst (λ s. HasSameOthers (state_of g.A.Links.word old) s c.args.at c.args.at) (sym last.same.state) (others g now);
       moved = turned g.A.Links.regions g.A.Links.word g.A.Links.follows g.A.Links.follows_on one.same e.moved last.same;
-      linked = (order c.requires.intact.linked).0;
-      order = order;
+      bins = bins_kept order c.requires.intact.linked;
       counted = omega arith;
     }

@@ -1,5 +1,6 @@
 use Rattle.dlmalloc.proofs.Names.{[], refl}
 use Rattle.dlmalloc.proofs.Grants.CutFromStart.{prepended_binned, put_before_is}
+use Rattle.dlmalloc.proofs.Bins.Order.{bins_kept}
 use Rattle.dlmalloc.proofs.heap.Dlmalloc.put_before.Goals as goal
 
 pub dispose_chunk-requires-clause-intact : goal.dispose_chunk-requires-clause-intact
@@ -17,6 +18,6 @@ returns g c =
     record {
       put = put_before_is c.requires.least first last.state last.less last.moved last.records
           (g.A.Links.follows_on heap.system middle.system new.system [] [] [] first.followed last.moved.followed refl);
-      linked = last.linked;
-      order = λ b. last.order (prepended_binned first c.index_stays.ensures c.requires.intact.sound c.prepend.ensures.same b);
+      bins = bins_kept (λ b. last.bins.order (prepended_binned first c.index_stays.ensures c.requires.intact.sound c.prepend.ensures.same b))
+          c.requires.intact.linked;
     }

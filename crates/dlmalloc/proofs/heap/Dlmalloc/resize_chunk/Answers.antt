@@ -5,7 +5,7 @@ use Rattle.dlmalloc.proofs.Cuts.OneStepOrTwo.{as_turned}
 use Rattle.dlmalloc.proofs.Bins.Changes.{binned_beside}
 use Rattle.dlmalloc.proofs.Frees.WhatCallsWant.{head_there, behind_there, behind_small}
 use Rattle.dlmalloc.proofs.Resizing.InPlace.{shrinks, stays, grows, has_no_room, chunk_told, top_behind, free_behind, used_behind}
-use Rattle.dlmalloc.proofs.Bins.Order.{order_same}
+use Rattle.dlmalloc.proofs.Bins.Order.{order_same, bins_kept, bins_same}
 use Rattle.dlmalloc.proofs.heap.Dlmalloc.resize_chunk.Goals as goal
 use Rattle.dlmalloc.proofs.heap.Dlmalloc.resize_chunk.Goals.{After-size-free}
 
@@ -115,24 +115,20 @@ returns-then-free-more-clause-moved g c =
 pub returns-then-next-self-clause-moved : goal.returns-then-next-self-clause-moved
 returns-then-next-self-clause-moved g c = as_turned c.grow_into_top.ensures.moved
 
-pub returns-then-next-self-clause-linked : goal.returns-then-next-self-clause-linked
-returns-then-next-self-clause-linked g c =
+pub returns-then-next-self-clause-bins : goal.returns-then-next-self-clause-bins
+returns-then-next-self-clause-bins g c =
     let e = c.grow_into_top.ensures in
-    binned_beside c.index_stays.ensures c.requires.intact.sound e.moved e.bins e.free (ap (λ s. s.victim) e.state) c.requires.intact.linked
+    bins_kept (λ b. (binned_beside c.index_stays.ensures c.requires.intact.sound e.moved e.bins e.free (ap (λ s. s.victim) e.state) b, order_same b.index))
+    c.requires.intact.linked
 
-pub returns-then-next-self-clause-order : goal.returns-then-next-self-clause-order
-returns-then-next-self-clause-order g c = λ b.
-    let e = c.grow_into_top.ensures in
-    (binned_beside c.index_stays.ensures c.requires.intact.sound e.moved e.bins e.free (ap (λ s. s.victim) e.state) b, order_same b.index)
+pub returns-else-size-n-ge-LEAST_CHUNK-clause-bins : goal.returns-else-size-n-ge-LEAST_CHUNK-clause-bins
+returns-else-size-n-ge-LEAST_CHUNK-clause-bins g c = bins_same c.requires.intact.linked
 
-pub returns-else-size-n-ge-LEAST_CHUNK-clause-order : goal.returns-else-size-n-ge-LEAST_CHUNK-clause-order
-returns-else-size-n-ge-LEAST_CHUNK-clause-order g c = λ b. (b, order_same b.index)
+pub returns-then-more-self-clause-bins : goal.returns-then-more-self-clause-bins
+returns-then-more-self-clause-bins g c = bins_same c.requires.intact.linked
 
-pub returns-then-more-self-clause-order : goal.returns-then-more-self-clause-order
-returns-then-more-self-clause-order g c = λ b. (b, order_same b.index)
+pub returns-then-inuse-clause-bins : goal.returns-then-inuse-clause-bins
+returns-then-inuse-clause-bins g c = bins_same c.requires.intact.linked
 
-pub returns-then-inuse-clause-order : goal.returns-then-inuse-clause-order
-returns-then-inuse-clause-order g c = λ b. (b, order_same b.index)
-
-pub returns-then-free-more-clause-order : goal.returns-then-free-more-clause-order
-returns-then-free-more-clause-order g c = λ b. (b, order_same b.index)
+pub returns-then-free-more-clause-bins : goal.returns-then-free-more-clause-bins
+returns-then-free-more-clause-bins g c = bins_same c.requires.intact.linked

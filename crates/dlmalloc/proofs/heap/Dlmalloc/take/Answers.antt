@@ -1,6 +1,7 @@
 use Rattle.dlmalloc.proofs.Names.{arith}
 use Rattle.dlmalloc.proofs.Cuts.OneStepOrTwo.{as_turned}
 use Rattle.dlmalloc.proofs.Cuts.BinsMeanwhile.{IsChunkCut, victim_taken}
+use Rattle.dlmalloc.proofs.Bins.Order.{bins_kept}
 use Rattle.dlmalloc.proofs.heap.Dlmalloc.take.Goals as goal
 
 pub returns-then-at-self : goal.returns-then-at-self
@@ -13,7 +14,6 @@ returns-then-at-self g c =
       state = e.state;
       more = e.more;
       moved = as_turned e.moved;
-      linked = (order c.requires.intact.linked).0;
-      order = order;
+      bins = bins_kept order c.requires.intact.linked;
       counted = omega arith;
     }

@@ -3,7 +3,7 @@ use Rattle.dlmalloc.proofs.Extents.Lookup.{extent}
 use Rattle.dlmalloc.proofs.Cuts.ChunkPlace.{end_small}
 use Rattle.dlmalloc.proofs.Moves.WithBins.{turned}
 use Rattle.dlmalloc.proofs.Bins.Changes.{not_rebinned, renamed}
-use Rattle.dlmalloc.proofs.Bins.Order.{lessened_as, added_as, order_less, in_order}
+use Rattle.dlmalloc.proofs.Bins.Order.{lessened_as, added_as, order_less, in_order, bins_kept}
 use Rattle.dlmalloc.proofs.Cuts.BinsMeanwhile.{IsChunkCut, whole_taken, rest_came, small_taken, small_other, large_taken, large_other, old_victim_free, old_victim_none}
 use Rattle.dlmalloc.proofs.heap.Dlmalloc.take_binned.Goals as goal
 
@@ -37,8 +37,7 @@ returns-then-rest-lt-LEAST_CHUNK g c =
       more = subst (λ s. HasOneMore s (state_of word new) c.args.at) one.same.state e.more;
       moved = turned regions word g.A.Links.follows g.A.Links.follows_on one.same e.moved
           (not_rebinned g.A.Links.follows e.moved.sound (g.A.Links.follows_none new.system));
-      linked = (order c.requires.intact.linked).0;
-      order = order;
+      bins = bins_kept order c.requires.intact.linked;
       counted = omega arith;
     }
 
@@ -84,8 +83,7 @@ returns-then-n-lt-LEAST_LARGE g c =
       more = subst (λ s. HasOneMore (state_of word old) s c.args.at) (sym last.same.state)
           (subst (λ s. HasOneMore s (state_of word c.cut_chunk.new.self) c.args.at) one.same.state e.more);
       moved = turned regions word g.A.Links.follows g.A.Links.follows_on one.same e.moved last.same;
-      linked = (order c.requires.intact.linked).0;
-      order = order;
+      bins = bins_kept order c.requires.intact.linked;
       counted = omega arith;
     }
 
@@ -133,7 +131,6 @@ returns g c =
       more = subst (λ s. HasOneMore (state_of word old) s c.args.at) (sym last.same.state)
           (subst (λ s. HasOneMore s (state_of word c.cut_chunk.new.self) c.args.at) one.same.state e.more);
       moved = turned regions word g.A.Links.follows g.A.Links.follows_on one.same e.moved last.same;
-      linked = (order c.requires.intact.linked).0;
-      order = order;
+      bins = bins_kept order c.requires.intact.linked;
       counted = omega arith;
     }
