@@ -10,12 +10,12 @@ ghost use Rattle.dlmalloc.specs.Freed.{freed};
 ghost use Rattle.dlmalloc.specs.Blocks.{IsBlock, HasOneMore};
 ghost use Rattle.dlmalloc.specs.Released.{IsFreeAround};
 ghost use Rattle.dlmalloc.specs.Heap.{state_of, IsSound};
-ghost use Rattle.dlmalloc.specs.Turned.{IsMoved, IsTurned};
+ghost use Rattle.dlmalloc.specs.Turned.{MovesBesideBins};
 ghost use Rattle.dlmalloc.specs.Disposed.{IsDisposed};
-ghost use Rattle.dlmalloc.specs.Binned.{IsBinned, IsIntact, IsBinnedBut, IsRebinned, IsJoint, IsVictimAfter, FreeMoves};
+ghost use Rattle.dlmalloc.specs.Binned.{IsBinned, IsIntact, IsBinnedBut, IsRebinned, IsJoint, IsVictimAfter};
 ghost use Rattle.dlmalloc.specs.AfterFree.{IsFreed};
 ghost use Rattle.dlmalloc.specs.Counts.{pass_steps};
-ghost use Rattle.dlmalloc.specs.Order.{KeepsBinsInOrder, IsAdded};
+ghost use Rattle.dlmalloc.specs.Order.{IsAdded, TurnsInOrder};
 
 use crate::heap::Dlmalloc;
 use crate::layout::{BLOCK, HEAD, PINUSE};
@@ -84,8 +84,7 @@ impl<A: Allocator> Dlmalloc<A> {
         ensures less { HasOneMore (state_of A.word self.new) (state_of A.word self.old) at }
         ensures records { (one : Extent) → one.kind ≡ Record → extent_at one.at (extents_in (state_of A.word self.old)) ≡ Some one → extent_at one.at (extents_in (state_of A.word self.new)) ≡ Some one }
         ensures around { IsFreeAround (state_of A.word self.new) at result }
-        ensures moved { IsTurned A.regions A.word A.follows self.old self.new }
-        ensures bins { KeepsBinsInOrder A.regions A.word self.old self.new }
+        ensures turned { TurnsInOrder A.regions A.word A.follows self.old self.new }
         ensures counted { steps.new ≤ steps.old + 529 }
     {
         let from = self.free_begin(at, steps);
@@ -111,11 +110,9 @@ impl<A: Allocator> Dlmalloc<A> {
         ensures less { HasOneMore (state_of A.word self.new) (state_of A.word self.old) at }
         ensures records { (one : Extent) → one.kind ≡ Record → extent_at one.at (extents_in (state_of A.word self.old)) ≡ Some one → extent_at one.at (extents_in (state_of A.word self.new)) ≡ Some one }
         ensures around { IsFreeAround (state_of A.word self.new) at from }
-        ensures free { FreeMoves (state_of A.word self.old) (state_of A.word self.new) (from ∷ (at + size) ∷ []) (from ∷ []) }
         ensures joined { IsJoint (state_of A.word self.new) self.new.top from (to - from) }
         ensures victim { IsVictimAfter from to self.old.victim self.new.victim }
-        ensures bins { self.new.bins ≡ self.old.bins }
-        ensures moved { IsMoved A.regions A.word A.follows self.old self.new }
+        ensures moves { MovesBesideBins A.regions A.word A.follows self.old (from ∷ (at + size) ∷ []) (from ∷ []) self.new }
         ensures counted { steps.new ≤ steps.old + 4 }
     {
         if to == self.top {

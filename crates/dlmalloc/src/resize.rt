@@ -5,9 +5,9 @@ ghost use Rattle.dlmalloc.specs.Extents.{extent_at};
 ghost use Rattle.dlmalloc.specs.State.{extents_in};
 ghost use Rattle.dlmalloc.specs.Resized.{grown_into, in_place, HasSameOthers};
 ghost use Rattle.dlmalloc.specs.Heap.{state_of, IsSound};
-ghost use Rattle.dlmalloc.specs.Turned.{IsMoved, IsTurned};
-ghost use Rattle.dlmalloc.specs.Order.{KeepsBinsInOrder};
-ghost use Rattle.dlmalloc.specs.Binned.{IsFreeAt, IsIntact, FreeMoves};
+ghost use Rattle.dlmalloc.specs.Turned.{MovesBesideBins};
+ghost use Rattle.dlmalloc.specs.Order.{TurnsInOrder};
+ghost use Rattle.dlmalloc.specs.Binned.{IsFreeAt, IsIntact};
 
 use crate::heap::Dlmalloc;
 use crate::layout::{HEAD, LEAST_CHUNK, PINUSE};
@@ -29,8 +29,7 @@ impl<A: Allocator> Dlmalloc<A> {
         ensures resized { result ≡ true → in_place (state_of A.word self.old) at n ≡ Some (state_of A.word self.new) }
         ensures held { result ≡ true → (size : ℕ) × (extent_at at (extents_in (state_of A.word self.new)) ≡ Some (record { at = at; size = size; kind = Used })) × (n ≤ size) × (size < n + 32) }
         ensures others { HasSameOthers (state_of A.word self.old) (state_of A.word self.new) at at }
-        ensures moved { IsTurned A.regions A.word A.follows self.old self.new }
-        ensures bins { KeepsBinsInOrder A.regions A.word self.old self.new }
+        ensures turned { TurnsInOrder A.regions A.word A.follows self.old self.new }
         ensures none { result ≡ false → in_place (state_of A.word self.old) at n ≡ None }
         ensures same { result ≡ false → self.new ≡ self.old }
         ensures counted { steps.new ≤ steps.old + 535 }
@@ -75,9 +74,7 @@ impl<A: Allocator> Dlmalloc<A> {
         ensures state { state_of A.word self.new ≡ grown_into (state_of A.word self.old) (record { at = at; size = size; kind = Used }) (record { at = at + size; size = self.old.top_size; kind = Top }) n }
         ensures held { extent_at at (extents_in (state_of A.word self.new)) ≡ Some (record { at = at; size = n; kind = Used }) }
         ensures others { HasSameOthers (state_of A.word self.old) (state_of A.word self.new) at at }
-        ensures free { FreeMoves (state_of A.word self.old) (state_of A.word self.new) [] [] }
-        ensures bins { self.new.bins ≡ self.old.bins }
-        ensures moved { IsMoved A.regions A.word A.follows self.old self.new }
+        ensures moves { MovesBesideBins A.regions A.word A.follows self.old [] [] self.new }
         ensures counted { steps.new ≡ steps.old + 5 }
     {
         self.top = at + n;
@@ -106,8 +103,7 @@ impl<A: Allocator> Dlmalloc<A> {
         ensures state { state_of A.word self.new ≡ grown_into (state_of A.word self.old) (record { at = at; size = size; kind = Used }) (record { at = at + size; size = free; kind = Free }) n }
         ensures held { (whole : ℕ) × (extent_at at (extents_in (state_of A.word self.new)) ≡ Some (record { at = at; size = whole; kind = Used })) × (n ≤ whole) × (whole < n + 32) }
         ensures others { HasSameOthers (state_of A.word self.old) (state_of A.word self.new) at at }
-        ensures moved { IsTurned A.regions A.word A.follows self.old self.new }
-        ensures bins { KeepsBinsInOrder A.regions A.word self.old self.new }
+        ensures turned { TurnsInOrder A.regions A.word A.follows self.old self.new }
         ensures counted { steps.new ≤ steps.old + 331 }
     {
         let was_victim = at + size == self.victim;
@@ -136,10 +132,8 @@ impl<A: Allocator> Dlmalloc<A> {
         ensures state { state_of A.word self.new ≡ grown_into (state_of A.word self.old) (record { at = at; size = size; kind = Used }) (record { at = at + size; size = free; kind = Free }) n }
         ensures held { (whole : ℕ) × (extent_at at (extents_in (state_of A.word self.new)) ≡ Some (record { at = at; size = whole; kind = Used })) × (n ≤ whole) × (whole < n + 32) }
         ensures others { HasSameOthers (state_of A.word self.old) (state_of A.word self.new) at at }
-        ensures free { FreeMoves (state_of A.word self.old) (state_of A.word self.new) ((at + size) ∷ []) (if nat_le (n + 32) (size + free) then (at + n) ∷ [] else []) }
         ensures rest { n + 32 ≤ size + free → IsFreeAt (state_of A.word self.new) (at + n) (size + free - n) }
-        ensures bins { self.new.bins ≡ self.old.bins }
-        ensures moved { IsMoved A.regions A.word A.follows self.old self.new }
+        ensures moves { MovesBesideBins A.regions A.word A.follows self.old ((at + size) ∷ []) (if nat_le (n + 32) (size + free) then (at + n) ∷ [] else []) self.new }
         ensures counted { steps.new ≤ steps.old + 6 }
     {
         let all = size + free;

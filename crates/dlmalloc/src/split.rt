@@ -9,9 +9,9 @@ ghost use Rattle.dlmalloc.specs.Freed.{freed};
 ghost use Rattle.dlmalloc.specs.Resized.{exchanged, halves, tail_freed, HasSameOthers};
 ghost use Rattle.dlmalloc.specs.Aligned.{HasOneMoved, KeepsOthers};
 ghost use Rattle.dlmalloc.specs.Heap.{state_of, IsSound};
-ghost use Rattle.dlmalloc.specs.Turned.{IsMoved, IsTurned};
-ghost use Rattle.dlmalloc.specs.Order.{KeepsBinsInOrder};
-ghost use Rattle.dlmalloc.specs.Binned.{IsIntact, FreeMoves};
+ghost use Rattle.dlmalloc.specs.Turned.{MovesBesideBins};
+ghost use Rattle.dlmalloc.specs.Order.{KeepsBinsInOrder, TurnsInOrder};
+ghost use Rattle.dlmalloc.specs.Binned.{IsIntact};
 
 use crate::heap::Dlmalloc;
 use bins::laws::index_stays;
@@ -33,9 +33,7 @@ impl<A: Allocator> Dlmalloc<A> {
         ensures second { extent_at (at + n) (extents_in (state_of A.word self.new)) ≡ Some (record { at = at + n; size = size - n; kind = Used }) }
         ensures others { HasSameOthers (state_of A.word self.old) (state_of A.word self.new) at (at + n) }
         ensures words { (k : ℕ) → IsWordOf (A.regions self.old.system) k → k ≢ at + 8 → k ≢ at + n + 8 → A.word self.new.system k ≡ A.word self.old.system k }
-        ensures free { FreeMoves (state_of A.word self.old) (state_of A.word self.new) [] [] }
-        ensures bins { self.new.bins ≡ self.old.bins }
-        ensures moved { IsMoved A.regions A.word A.follows self.old self.new }
+        ensures moves { MovesBesideBins A.regions A.word A.follows self.old [] [] self.new }
         ensures counted { steps.new ≡ steps.old + 5 }
     {
         chunk::set_inuse(&mut self.system, at, n, steps);
@@ -52,8 +50,7 @@ impl<A: Allocator> Dlmalloc<A> {
         ensures state { state_of A.word self.new ≡ tail_freed (state_of A.word self.old) at n }
         ensures first { extent_at at (extents_in (state_of A.word self.new)) ≡ Some (record { at = at; size = n; kind = Used }) }
         ensures others { HasSameOthers (state_of A.word self.old) (state_of A.word self.new) at at }
-        ensures moved { IsTurned A.regions A.word A.follows self.old self.new }
-        ensures bins { KeepsBinsInOrder A.regions A.word self.old self.new }
+        ensures turned { TurnsInOrder A.regions A.word A.follows self.old self.new }
         ensures counted { steps.new ≤ steps.old + 534 }
     {
         index_stays();

@@ -6,9 +6,9 @@ ghost use Rattle.dlmalloc.specs.State.{extents_in};
 ghost use Rattle.dlmalloc.specs.Blocks.{HasOneMore};
 ghost use Rattle.dlmalloc.specs.Taken.{taken};
 ghost use Rattle.dlmalloc.specs.Heap.{state_of, IsSound};
-ghost use Rattle.dlmalloc.specs.Turned.{IsMoved, IsTurned};
-ghost use Rattle.dlmalloc.specs.Binned.{IsFreeAt, IsIntact, IsMember, FreeMoves};
-ghost use Rattle.dlmalloc.specs.Order.{KeepsBinsInOrder};
+ghost use Rattle.dlmalloc.specs.Turned.{MovesBesideBins};
+ghost use Rattle.dlmalloc.specs.Binned.{IsFreeAt, IsIntact, IsMember};
+ghost use Rattle.dlmalloc.specs.Order.{TurnsInOrder};
 
 use crate::heap::Dlmalloc;
 use crate::layout::{LEAST_CHUNK, LEAST_LARGE};
@@ -31,8 +31,7 @@ impl<A: Allocator> Dlmalloc<A> {
         requires member { at ≢ self.old.victim → IsMember A.regions A.word self.old n at }
         ensures state { state_of A.word self.new ≡ taken (state_of A.word self.old) (record { at = at; size = size; kind = Free }) n }
         ensures more { HasOneMore (state_of A.word self.old) (state_of A.word self.new) at }
-        ensures moved { IsTurned A.regions A.word A.follows self.old self.new }
-        ensures bins { KeepsBinsInOrder A.regions A.word self.old self.new }
+        ensures turned { TurnsInOrder A.regions A.word A.follows self.old self.new }
         ensures counted { steps.new ≤ steps.old + 328 }
     {
         if at == self.victim {
@@ -54,8 +53,7 @@ impl<A: Allocator> Dlmalloc<A> {
         requires fits { n ≤ size }
         ensures state { state_of A.word self.new ≡ taken (state_of A.word self.old) (record { at = at; size = size; kind = Free }) n }
         ensures more { HasOneMore (state_of A.word self.old) (state_of A.word self.new) at }
-        ensures moved { IsTurned A.regions A.word A.follows self.old self.new }
-        ensures bins { KeepsBinsInOrder A.regions A.word self.old self.new }
+        ensures turned { TurnsInOrder A.regions A.word A.follows self.old self.new }
         ensures counted { steps.new ≤ steps.old + 328 }
     {
         let victim = self.victim;
@@ -83,10 +81,8 @@ impl<A: Allocator> Dlmalloc<A> {
         requires fits { n ≤ size }
         ensures state { state_of A.word self.new ≡ taken (state_of A.word self.old) (record { at = at; size = size; kind = Free }) n }
         ensures more { HasOneMore (state_of A.word self.old) (state_of A.word self.new) at }
-        ensures free { FreeMoves (state_of A.word self.old) (state_of A.word self.new) (at ∷ []) (if nat_le (n + 32) size then (at + n) ∷ [] else []) }
         ensures rest { n + 32 ≤ size → IsFreeAt (state_of A.word self.new) (at + n) (size - n) }
-        ensures bins { self.new.bins ≡ self.old.bins }
-        ensures moved { IsMoved A.regions A.word A.follows self.old self.new }
+        ensures moves { MovesBesideBins A.regions A.word A.follows self.old (at ∷ []) (if nat_le (n + 32) size then (at + n) ∷ [] else []) self.new }
         ensures counted { steps.new ≤ steps.old + 3 }
     {
         let rest = size - n;

@@ -8,8 +8,7 @@ ghost use Rattle.dlmalloc.specs.Blocks.{HasOneMore};
 ghost use Rattle.dlmalloc.specs.Boundaries.{IsBoundary};
 ghost use Rattle.dlmalloc.specs.Taken.{taken};
 ghost use Rattle.dlmalloc.specs.Heap.{state_of, IsSound};
-ghost use Rattle.dlmalloc.specs.Turned.{IsMoved};
-ghost use Rattle.dlmalloc.specs.Binned.{FreeMoves};
+ghost use Rattle.dlmalloc.specs.Turned.{MovesBesideBins};
 
 use crate::heap::Dlmalloc;
 use crate::layout::{HEAD, PINUSE};
@@ -32,9 +31,7 @@ impl<A: Allocator> Dlmalloc<A> {
         ensures head { IsBoundary (state_of A.word self.new) (self.old.top + 8) }
         ensures foot { IsBoundary (state_of A.word self.new) (self.old.top + self.old.top_size + 8) }
         ensures others { (one : Extent) → one.at ≢ self.old.top → extent_at one.at (extents_in (state_of A.word self.old)) ≡ Some one → extent_at one.at (extents_in (state_of A.word self.new)) ≡ Some one }
-        ensures free { FreeMoves (state_of A.word self.old) (state_of A.word self.new) [] [] }
-        ensures bins { self.new.bins ≡ self.old.bins }
-        ensures moved { IsMoved A.regions A.word A.follows self.old self.new }
+        ensures moves { MovesBesideBins A.regions A.word A.follows self.old [] [] self.new }
         ensures counted { steps.new ≡ steps.old + 2 }
     {
         let chunk = self.top;

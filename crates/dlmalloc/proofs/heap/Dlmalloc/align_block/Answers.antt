@@ -59,15 +59,15 @@ returns-clause-others g c =
 pub returns-clause-kept : goal.returns-clause-kept
 returns-clause-kept g c =
     kept_on c.args.self.now
-    c.free_before.ensures.others c.free_before.ensures.kept c.free_before.ensures.sound c.free_behind.ensures.others c.free_behind.ensures.moved
+    c.free_before.ensures.others c.free_before.ensures.kept c.free_before.ensures.sound c.free_behind.ensures.others c.free_behind.ensures.turned.moved
 
 pub returns-clause-words : goal.returns-clause-words
 returns-clause-words g c = λ k inside passed.
     let lead = λ (own : IsOwn (state_of g.A.Links.word c.free_before.new.self) k). passed.1 (subst (λ s. IsOwn s k) c.free_before.ensures.state own) in
-    c.free_behind.ensures.moved.words k (subst (λ rs. IsWordOf rs k) (sym c.free_before.ensures.regions) inside) (λ free. lead (inr free)) passed.2
+    c.free_behind.ensures.turned.moved.words k (subst (λ rs. IsWordOf rs k) (sym c.free_before.ensures.regions) inside) (λ free. lead (inr free)) passed.2
     ∙ c.free_before.ensures.words k inside passed.0 lead
 
 pub returns-clause-order : goal.returns-clause-order
 returns-clause-order g c = λ b.
-    let lead = c.free_before.ensures.bins.order b in let tail = c.free_behind.ensures.bins.order lead.0 in
+    let lead = c.free_before.ensures.bins.order b in let tail = c.free_behind.ensures.turned.bins.order lead.0 in
     (lead.0.index, subst (λ s. HoldsBinned s lead.0.index) c.free_before.ensures.state lead.0.holds, lead.1, tail)

@@ -50,11 +50,12 @@ returns-then-at-self g c =
     record {
       state = t.take.state;
       more = t.take.more;
-      free = t.free;
       rest = t.rest;
-      bins = refl;
-      moved =
-          record { sound = t.take.sound; words = t.take.words; regions_same = e.regions; followed = e.follows };
+      moves = record {
+        moved = record { sound = t.take.sound; words = t.take.words; regions_same = e.regions; followed = e.follows };
+        free = t.free;
+        bins = refl;
+      };
       counted =
           omega arith;
     }
@@ -66,11 +67,12 @@ returns-else-at-self g c =
     record {
       state = t.take.state;
       more = t.take.more;
-      free = t.free;
       rest = t.rest;
-      bins = refl;
-      moved =
-          record { sound = t.take.sound; words = t.take.words; regions_same = e.regions; followed = e.follows };
+      moves = record {
+        moved = record { sound = t.take.sound; words = t.take.words; regions_same = e.regions; followed = e.follows };
+        free = t.free;
+        bins = refl;
+      };
       counted =
           omega arith;
     }
@@ -91,11 +93,12 @@ returns-then-at-self-2 g c =
     record {
       state = t.take.state;
       more = t.take.more;
-      free = t.free;
       rest = t.rest;
-      bins = refl;
-      moved =
-          record { sound = t.take.sound; words = t.take.words; regions_same = same; followed = search rules };
+      moves = record {
+        moved = record { sound = t.take.sound; words = t.take.words; regions_same = same; followed = search rules };
+        free = t.free;
+        bins = refl;
+      };
       counted =
           omega arith;
     }
@@ -113,11 +116,12 @@ returns-else-n-lt-LEAST_LARGE g c =
     record {
       state = t.take.state;
       more = t.take.more;
-      free = t.free;
       rest = t.rest;
-      bins = refl;
-      moved =
-          record { sound = t.take.sound; words = t.take.words; regions_same = same; followed = search rules };
+      moves = record {
+        moved = record { sound = t.take.sound; words = t.take.words; regions_same = same; followed = search rules };
+        free = t.free;
+        bins = refl;
+      };
       counted =
           omega arith;
     }

@@ -65,7 +65,7 @@ join_free-requires g c =
 -- ---- and what they are goes into its bin
 
 pub bin_joined-requires-clause-sound : goal.bin_joined-requires-clause-sound
-bin_joined-requires-clause-sound g c = c.join_free.ensures.moved.sound
+bin_joined-requires-clause-sound g c = c.join_free.ensures.moves.moved.sound
 
 pub bin_joined-requires-clause-joined : goal.bin_joined-requires-clause-joined
 bin_joined-requires-clause-joined g c = c.join_free.ensures.joined
@@ -80,7 +80,8 @@ returns g c =
     let order : KeepsOrder g.A.Links.regions word old new = λ b.
     let one = c.unbin_between.ensures.loose [] b (λ none. none) in
     let second = c.unbin_between-2.ensures.loose (from ∷ []) one.0 (two c.requires.intact.sound c.requires.chunk begin end) in
-    let joined = joined_loose c.requires.intact.sound c.requires.chunk begin end left c.index_stays.ensures second.0 e.moved e.free e.victim e.bins in
+    let joined = joined_loose c.requires.intact.sound c.requires.chunk begin end left c.index_stays.ensures second.0
+    e.moves.moved e.moves.free e.victim e.moves.bins in
     let after = c.bin_joined.ensures.binned joined in (
       after.0,
       in_order (to - from) from b.index second.0.index after.0.index (lessened_on b.index one.0.index second.0.index one.1 second.1) after.1
@@ -93,8 +94,10 @@ returns g c =
       records = λ one is there. ap (λ s. extent_at one.at (extents_in s)) last.state
           ∙ e.records one is (ap (λ s. extent_at one.at (extents_in s)) left.state ∙ there);
       around = subst (λ s. IsFreeAround s c.args.at c.free_begin-from.result) (sym last.state) e.around;
-      moved = turned g.A.Links.regions word g.A.Links.follows g.A.Links.follows_on left e.moved last;
-      bins = bins_kept order c.requires.intact.linked;
+      turned = record {
+        moved = turned g.A.Links.regions word g.A.Links.follows g.A.Links.follows_on left e.moves.moved last;
+        bins = bins_kept order c.requires.intact.linked;
+      };
       counted = omega arith;
     }
 
@@ -105,4 +108,4 @@ bin_joined-requires-clause-loose g c =
     let left = rebinned_on g.A.Links.regions g.A.Links.word g.A.Links.follows g.A.Links.follows_on first.same second.same in
     let one = first.loose [] c.requires.intact.linked (λ none. none) in
     let loose = second.loose (c.free_begin-from.result ∷ []) one.0 (two c.requires.intact.sound c.requires.chunk begin end) in
-    joined_loose c.requires.intact.sound c.requires.chunk begin end left c.index_stays.ensures loose.0 e.moved e.free e.victim e.bins
+    joined_loose c.requires.intact.sound c.requires.chunk begin end left c.index_stays.ensures loose.0 e.moves.moved e.moves.free e.victim e.moves.bins

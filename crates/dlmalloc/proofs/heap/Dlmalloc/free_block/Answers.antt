@@ -13,4 +13,4 @@ dispose_chunk-requires-clause-chunk g c = block_chunk g.A.Links.regions g.A.Link
 
 pub returns-clause-freed : goal.returns-clause-freed
 returns-clause-freed g c = freed_block c.args.ptr c.requires.intact.sound c.dispose_chunk.ensures.state
-    c.dispose_chunk.ensures.less c.dispose_chunk.ensures.moved c.dispose_chunk.ensures.bins.order
+    c.dispose_chunk.ensures.less c.dispose_chunk.ensures.turned.moved c.dispose_chunk.ensures.turned.bins.order

@@ -19,8 +19,8 @@ pub dispose_chunk-requires-clause-intact : goal.dispose_chunk-requires-clause-in
 dispose_chunk-requires-clause-intact g c =
     let e = c.split.ensures in
     record {
-      sound = e.moved.sound;
-      linked = binned_beside c.index_stays.ensures c.requires.intact.sound e.moved e.bins e.free (ap (λ s. s.victim) e.state) c.requires.intact.linked;
+      sound = e.moves.moved.sound;
+      linked = binned_beside c.index_stays.ensures c.requires.intact.sound e.moves (ap (λ s. s.victim) e.state) c.requires.intact.linked;
     }
 
 pub returns : goal.returns
@@ -28,18 +28,20 @@ returns g c =
     let e = c.split.ensures in let freed = c.dispose_chunk.ensures in let sound = c.requires.intact.sound in
     let can = can g (goal.at.returns g c).Start in
     let split : IsSplit g.A.Links.regions g.A.Links.word g.A.Links.follows c.args.self.now c.args.at c.args.size c.args.n c.split.new.self =
-    record { state = e.state; first = e.first; second = e.second; others = e.others; words = e.words; free = e.free; moved = e.moved } in
+    record { state = e.state; first = e.first; second = e.second; others = e.others; words = e.words; free = e.moves.free; moved = e.moves.moved } in
     record {
-      state = tail_state sound can split freed.moved freed.state freed.less;
-      first = tail_first sound can split freed.moved freed.state freed.less;
-      others = tail_others sound can split freed.moved freed.state freed.less;
-      moved = record {
-        sound = freed.moved.sound;
-        words = tail_words sound can split freed.moved freed.state freed.less;
-        regions_same = freed.moved.regions_same ∙ e.moved.regions_same;
-        followed = g.A.Links.follows_on _ _ _ [] [] [] e.moved.followed freed.moved.followed refl;
+      state = tail_state sound can split freed.turned.moved freed.state freed.less;
+      first = tail_first sound can split freed.turned.moved freed.state freed.less;
+      others = tail_others sound can split freed.turned.moved freed.state freed.less;
+      turned = record {
+        moved = record {
+          sound = freed.turned.moved.sound;
+          words = tail_words sound can split freed.turned.moved freed.state freed.less;
+          regions_same = freed.turned.moved.regions_same ∙ e.moves.moved.regions_same;
+          followed = g.A.Links.follows_on _ _ _ [] [] [] e.moves.moved.followed freed.turned.moved.followed refl;
+        };
+        bins = bins_kept (λ b. freed.turned.bins.order (binned_beside c.index_stays.ensures sound e.moves (ap (λ s. s.victim) e.state) b))
+            c.requires.intact.linked;
       };
-      bins = bins_kept (λ b. freed.bins.order (binned_beside c.index_stays.ensures sound e.moved e.bins e.free (ap (λ s. s.victim) e.state) b))
-          c.requires.intact.linked;
       counted = (let told = e.counted in let more = freed.counted in omega arith);
     }

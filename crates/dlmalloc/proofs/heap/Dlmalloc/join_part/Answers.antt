@@ -61,14 +61,28 @@ returns-then-was_victim g c =
     let less = c.if-rest-lt-LEAST_CHUNK.true in let room = c.requires.room in let e = c.set_inuse.ensures in
     let can = can g (goal.at.returns-then-was_victim g c).Start in
     let t = whole_victim c.requires.sound can e.regions g.A.Links.follows e.follows (omega arith) e.stored c.if-was_victim.true in
-    record { state = t.state; held = t.held; others = t.others; free = t.free; rest = t.rest; bins = refl; moved = t.moved; counted = omega arith }
+    record {
+      state = t.state;
+      held = t.held;
+      others = t.others;
+      rest = t.rest;
+      moves = record { moved = t.moved; free = t.free; bins = refl };
+      counted = omega arith;
+    }
 
 pub returns-else-was_victim : goal.returns-else-was_victim
 returns-else-was_victim g c =
     let less = c.if-rest-lt-LEAST_CHUNK.true in let room = c.requires.room in let e = c.set_inuse.ensures in
     let can = can g (goal.at.returns-else-was_victim g c).Start in
     let t = whole_binned c.requires.sound can e.regions g.A.Links.follows e.follows (omega arith) e.stored c.if-was_victim.false in
-    record { state = t.state; held = t.held; others = t.others; free = t.free; rest = t.rest; bins = refl; moved = t.moved; counted = omega arith }
+    record {
+      state = t.state;
+      held = t.held;
+      others = t.others;
+      rest = t.rest;
+      moves = record { moved = t.moved; free = t.free; bins = refl };
+      counted = omega arith;
+    }
 
 pub returns-then-was_victim-2 : goal.returns-then-was_victim-2
 returns-then-was_victim-2 g c =
@@ -78,7 +92,14 @@ returns-then-was_victim-2 g c =
     let stored = free_stores c.requires.sound can first.regions first.stored second.stored in
     let followed = g.A.Links.follows_on _ _ _ [] [] [] first.follows second.follows refl in
     let t = into_victim c.requires.sound can (second.regions ∙ first.regions) g.A.Links.follows followed (omega arith) stored c.if-was_victim-2.true in
-    record { state = t.state; held = t.held; others = t.others; free = t.free; rest = t.rest; bins = refl; moved = t.moved; counted = omega arith }
+    record {
+      state = t.state;
+      held = t.held;
+      others = t.others;
+      rest = t.rest;
+      moves = record { moved = t.moved; free = t.free; bins = refl };
+      counted = omega arith;
+    }
 
 pub returns-else-was_victim-2 : goal.returns-else-was_victim-2
 returns-else-was_victim-2 g c =
@@ -88,4 +109,11 @@ returns-else-was_victim-2 g c =
     let stored = free_stores c.requires.sound can first.regions first.stored second.stored in
     let followed = g.A.Links.follows_on _ _ _ [] [] [] first.follows second.follows refl in
     let t = into_binned c.requires.sound can (second.regions ∙ first.regions) g.A.Links.follows followed (omega arith) stored c.if-was_victim-2.false in
-    record { state = t.state; held = t.held; others = t.others; free = t.free; rest = t.rest; bins = refl; moved = t.moved; counted = omega arith }
+    record {
+      state = t.state;
+      held = t.held;
+      others = t.others;
+      rest = t.rest;
+      moves = record { moved = t.moved; free = t.free; bins = refl };
+      counted = omega arith;
+    }

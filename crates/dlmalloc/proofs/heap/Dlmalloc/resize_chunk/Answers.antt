@@ -5,7 +5,7 @@ use Rattle.dlmalloc.proofs.Cuts.OneStepOrTwo.{as_turned}
 use Rattle.dlmalloc.proofs.Bins.Changes.{binned_beside}
 use Rattle.dlmalloc.proofs.Frees.WhatCallsWant.{head_there, behind_there, behind_small}
 use Rattle.dlmalloc.proofs.Resizing.InPlace.{shrinks, stays, grows, has_no_room, chunk_told, top_behind, free_behind, used_behind}
-use Rattle.dlmalloc.proofs.Bins.Order.{order_same, bins_kept, bins_same}
+use Rattle.dlmalloc.proofs.Bins.Order.{order_same, bins_kept, turned_same}
 use Rattle.dlmalloc.proofs.heap.Dlmalloc.resize_chunk.Goals as goal
 use Rattle.dlmalloc.proofs.heap.Dlmalloc.resize_chunk.Goals.{After-size-free}
 
@@ -99,36 +99,23 @@ returns-clause-resized g c =
     let free = free_chunk g (goal.at.returns-clause-resized g c).After-size-free in
     λ yes. grows (state_of g.A.Links.word c.args.self.now) c.args.n there more free room ∙ ap Some (sym c.grow_into_free.ensures.state)
 
-pub returns-then-inuse-clause-moved : goal.returns-then-inuse-clause-moved
-returns-then-inuse-clause-moved g c = record {
-  sound = c.requires.intact.sound;
-  words = λ k inside was own. refl;
-  regions_same =
-      refl;
-  followed = g.A.Links.follows_none c.args.self.now.system;
-}
-
-pub returns-then-free-more-clause-moved : goal.returns-then-free-more-clause-moved
-returns-then-free-more-clause-moved g c =
-    record { sound = c.requires.intact.sound; words = λ k inside was own. refl; regions_same = refl; followed = g.A.Links.follows_none c.args.self.now.system }
-
-pub returns-then-next-self-clause-moved : goal.returns-then-next-self-clause-moved
-returns-then-next-self-clause-moved g c = as_turned c.grow_into_top.ensures.moved
-
-pub returns-then-next-self-clause-bins : goal.returns-then-next-self-clause-bins
-returns-then-next-self-clause-bins g c =
+pub returns-then-next-self-clause-turned : goal.returns-then-next-self-clause-turned
+returns-then-next-self-clause-turned g c =
     let e = c.grow_into_top.ensures in
-    bins_kept (λ b. (binned_beside c.index_stays.ensures c.requires.intact.sound e.moved e.bins e.free (ap (λ s. s.victim) e.state) b, order_same b.index))
-    c.requires.intact.linked
+    record {
+      moved = as_turned e.moves.moved;
+      bins = bins_kept (λ b. (binned_beside c.index_stays.ensures c.requires.intact.sound e.moves (ap (λ s. s.victim) e.state) b, order_same b.index))
+          c.requires.intact.linked;
+    }
 
-pub returns-else-size-n-ge-LEAST_CHUNK-clause-bins : goal.returns-else-size-n-ge-LEAST_CHUNK-clause-bins
-returns-else-size-n-ge-LEAST_CHUNK-clause-bins g c = bins_same c.requires.intact.linked
+pub returns-else-size-n-ge-LEAST_CHUNK-clause-turned : goal.returns-else-size-n-ge-LEAST_CHUNK-clause-turned
+returns-else-size-n-ge-LEAST_CHUNK-clause-turned g c = turned_same g.A.Links.follows c.requires.intact (g.A.Links.follows_none c.args.self.now.system)
 
-pub returns-then-more-self-clause-bins : goal.returns-then-more-self-clause-bins
-returns-then-more-self-clause-bins g c = bins_same c.requires.intact.linked
+pub returns-then-more-self-clause-turned : goal.returns-then-more-self-clause-turned
+returns-then-more-self-clause-turned g c = turned_same g.A.Links.follows c.requires.intact (g.A.Links.follows_none c.args.self.now.system)
 
-pub returns-then-inuse-clause-bins : goal.returns-then-inuse-clause-bins
-returns-then-inuse-clause-bins g c = bins_same c.requires.intact.linked
+pub returns-then-inuse-clause-turned : goal.returns-then-inuse-clause-turned
+returns-then-inuse-clause-turned g c = turned_same g.A.Links.follows c.requires.intact (g.A.Links.follows_none c.args.self.now.system)
 
-pub returns-then-free-more-clause-bins : goal.returns-then-free-more-clause-bins
-returns-then-free-more-clause-bins g c = bins_same c.requires.intact.linked
+pub returns-then-free-more-clause-turned : goal.returns-then-free-more-clause-turned
+returns-then-free-more-clause-turned g c = turned_same g.A.Links.follows c.requires.intact (g.A.Links.follows_none c.args.self.now.system)

@@ -37,8 +37,6 @@ returns g c =
       second = s.second;
       others = s.others;
       words = s.words;
-      free = s.free;
-      bins = refl;
-      moved = s.moved;
+      moves = record { moved = s.moved; free = s.free; bins = refl };
       counted = (let told = first.counted in let more = second.counted in omega arith);
     }

@@ -27,7 +27,7 @@ returns-then-rest-lt-LEAST_CHUNK g c =
     let new = c.cut_chunk.new.self in let one = c.unbin_fit.ensures in let e = c.cut_chunk.ensures in
     let less = c.if-rest-lt-LEAST_CHUNK.true in let fits = c.requires.fits in
     let cut : IsChunkCut g.A.Links.regions g.A.Links.word g.A.Links.follows c.unbin_fit.new.self c.args.at c.args.size c.args.n c.cut_chunk.new.self =
-    record { moved = e.moved; state = e.state; free = e.free; bins = e.bins } in
+    record { moved = e.moves.moved; state = e.state; free = e.moves.free; bins = e.moves.bins } in
     let order : KeepsOrder regions word old new = λ b.
     let left = one.loose [] b (λ none. none) in
     let after = whole_taken c.index_stays.ensures one.same.sound cut (λ is. c.requires.other (is ∙ ap (λ h. h.victim) one.same.fields)) left.0 (omega arith) in
@@ -35,9 +35,11 @@ returns-then-rest-lt-LEAST_CHUNK g c =
     record {
       state = e.state ∙ ap (λ s. taken s (extent c.args.at c.args.size Free) c.args.n) one.same.state;
       more = subst (λ s. HasOneMore s (state_of word new) c.args.at) one.same.state e.more;
-      moved = turned regions word g.A.Links.follows g.A.Links.follows_on one.same e.moved
-          (not_rebinned g.A.Links.follows e.moved.sound (g.A.Links.follows_none new.system));
-      bins = bins_kept order c.requires.intact.linked;
+      turned = record {
+        moved = turned regions word g.A.Links.follows g.A.Links.follows_on one.same e.moves.moved
+            (not_rebinned g.A.Links.follows e.moves.moved.sound (g.A.Links.follows_none new.system));
+        bins = bins_kept order c.requires.intact.linked;
+      };
       counted = omega arith;
     }
 
@@ -49,11 +51,11 @@ bin_some-requires g c =
     let at = ap (λ h. h.victim) one.same.fields in let size = ap (λ h. h.victim_size) one.same.fields in
     let more = c.if-rest-lt-LEAST_CHUNK.false in let fits = c.requires.fits in let small = c.if-n-lt-LEAST_LARGE.true in
     let cut : IsChunkCut g.A.Links.regions g.A.Links.word g.A.Links.follows c.unbin_fit.new.self c.args.at c.args.size c.args.n c.cut_chunk.new.self =
-    record { moved = e.moved; state = e.state; free = e.free; bins = e.bins } in
+    record { moved = e.moves.moved; state = e.state; free = e.moves.free; bins = e.moves.bins } in
     let other : c.args.at ≢ c.unbin_fit.new.self.victim = λ is. c.requires.other (is ∙ at) in
     let new = state_of g.A.Links.word c.cut_chunk.new.self in
     record {
-      sound = e.moved.sound;
+      sound = e.moves.moved.sound;
       free = λ some. subst (λ v. IsFreeAt new v c.args.self.now.victim_size) at (subst (λ n. IsFreeAt new c.unbin_fit.new.self.victim n) size
           (old_victim_free stays one.same.sound cut other (λ none. some (sym size ∙ none))));
       none = λ none n free. old_victim_none stays one.same.sound cut (size ∙ none) n (subst (λ v. IsFreeAt new v n) (sym at) free);
@@ -68,7 +70,7 @@ returns-then-n-lt-LEAST_LARGE g c =
     let last = c.bin_some.ensures in let at = ap (λ h. h.victim) one.same.fields in
     let more = c.if-rest-lt-LEAST_CHUNK.false in let fits = c.requires.fits in
     let cut : IsChunkCut g.A.Links.regions g.A.Links.word g.A.Links.follows c.unbin_fit.new.self c.args.at c.args.size c.args.n c.cut_chunk.new.self =
-    record { moved = e.moved; state = e.state; free = e.free; bins = e.bins } in
+    record { moved = e.moves.moved; state = e.state; free = e.moves.free; bins = e.moves.bins } in
     let order : KeepsOrder regions word old c.bin_some.new.self = λ b.
     let left = one.loose [] b (λ none. none) in
     let loose = renamed at (small_taken c.index_stays.ensures one.same.sound cut (λ is. c.requires.other (is ∙ at)) (omega arith) c.if-n-lt-LEAST_LARGE.true
@@ -82,8 +84,10 @@ returns-then-n-lt-LEAST_LARGE g c =
       state = last.same.state ∙ (e.state ∙ ap (λ s. taken s (extent c.args.at c.args.size Free) c.args.n) one.same.state);
       more = subst (λ s. HasOneMore (state_of word old) s c.args.at) (sym last.same.state)
           (subst (λ s. HasOneMore s (state_of word c.cut_chunk.new.self) c.args.at) one.same.state e.more);
-      moved = turned regions word g.A.Links.follows g.A.Links.follows_on one.same e.moved last.same;
-      bins = bins_kept order c.requires.intact.linked;
+      turned = record {
+        moved = turned regions word g.A.Links.follows g.A.Links.follows_on one.same e.moves.moved last.same;
+        bins = bins_kept order c.requires.intact.linked;
+      };
       counted = omega arith;
     }
 
@@ -99,10 +103,10 @@ bin-requires g c =
     let one = c.unbin_fit.ensures in let e = c.cut_chunk.ensures in let stays = c.index_stays.ensures in
     let more = c.if-rest-lt-LEAST_CHUNK.false in let fits = c.requires.fits in let many = c.if-n-lt-LEAST_LARGE.false in
     let cut : IsChunkCut g.A.Links.regions g.A.Links.word g.A.Links.follows c.unbin_fit.new.self c.args.at c.args.size c.args.n c.cut_chunk.new.self =
-    record { moved = e.moved; state = e.state; free = e.free; bins = e.bins } in
+    record { moved = e.moves.moved; state = e.state; free = e.moves.free; bins = e.moves.bins } in
     let other : c.args.at ≢ c.unbin_fit.new.self.victim = λ is. c.requires.other (is ∙ ap (λ h. h.victim) one.same.fields) in
     record {
-      sound = e.moved.sound;
+      sound = e.moves.moved.sound;
       free = e.rest (omega arith);
       other = large_other stays one.same.sound cut other (omega arith) many;
       loose = ([], large_taken stays one.same.sound cut other (omega arith) many (one.loose [] c.requires.intact.linked (λ none. none)).0);
@@ -115,7 +119,7 @@ returns g c =
     let more = c.if-rest-lt-LEAST_CHUNK.false in let fits = c.requires.fits in let rest = c.args.at + c.args.n in
     let other : c.args.at ≢ c.unbin_fit.new.self.victim = λ is. c.requires.other (is ∙ ap (λ h. h.victim) one.same.fields) in
     let cut : IsChunkCut g.A.Links.regions g.A.Links.word g.A.Links.follows c.unbin_fit.new.self c.args.at c.args.size c.args.n c.cut_chunk.new.self =
-    record { moved = e.moved; state = e.state; free = e.free; bins = e.bins } in
+    record { moved = e.moves.moved; state = e.state; free = e.moves.free; bins = e.moves.bins } in
     let order : KeepsOrder regions word old c.bin.new.self = λ b.
     let left = one.loose [] b (λ none. none) in
     let loose = large_taken c.index_stays.ensures one.same.sound cut other (omega arith) c.if-n-lt-LEAST_LARGE.false left.0 in
@@ -130,7 +134,9 @@ returns g c =
       state = last.same.state ∙ (e.state ∙ ap (λ s. taken s (extent c.args.at c.args.size Free) c.args.n) one.same.state);
       more = subst (λ s. HasOneMore (state_of word old) s c.args.at) (sym last.same.state)
           (subst (λ s. HasOneMore s (state_of word c.cut_chunk.new.self) c.args.at) one.same.state e.more);
-      moved = turned regions word g.A.Links.follows g.A.Links.follows_on one.same e.moved last.same;
-      bins = bins_kept order c.requires.intact.linked;
+      turned = record {
+        moved = turned regions word g.A.Links.follows g.A.Links.follows_on one.same e.moves.moved last.same;
+        bins = bins_kept order c.requires.intact.linked;
+      };
       counted = omega arith;
     }

@@ -24,9 +24,11 @@ returns g c =
       head = head_boundary c.requires.sound c.requires.there c.args.n c.requires.whole c.requires.least c.requires.fits system same stored;
       foot = foot_boundary c.requires.sound c.requires.there c.args.n c.requires.whole c.requires.least c.requires.fits system same stored;
       others = others_still c.requires.sound c.requires.there c.args.n c.requires.whole c.requires.least c.requires.fits system same stored;
-      free = top_free c.requires.sound c.requires.there c.args.n c.requires.whole c.requires.least c.requires.fits system same stored;
-      bins = refl;
-      moved = record { sound = t.sound; words = t.words; regions_same = same; followed = search rules };
+      moves = record {
+        moved = record { sound = t.sound; words = t.words; regions_same = same; followed = search rules };
+        free = top_free c.requires.sound c.requires.there c.args.n c.requires.whole c.requires.least c.requires.fits system same stored;
+        bins = refl;
+      };
       counted = omega arith;
     }
 
