@@ -43,7 +43,7 @@ pub use Rattle.dlmalloc.specs.Boundaries.{IsBoundary, IsInFree, IsInRecord, IsOw
 pub use Rattle.dlmalloc.specs.Chained.{HaveLeft, IsChained, IsLinked, IsVisited}
 pub use Rattle.dlmalloc.specs.Choice.{IsChosen, OfBins, TheTop, TheVictim, choose, chosen, least_fit, least_from}
 pub use Rattle.dlmalloc.specs.Counts.{pass_steps}
-pub use Rattle.dlmalloc.specs.Extents.{HasChunk, MayStand, Tiles, extent_at, is_used, kind_of, last_kind, told_size}
+pub use Rattle.dlmalloc.specs.Extents.{HasChunk, IsChunkSize, MayStand, Tiles, extent_at, is_used, kind_of, last_kind, told_size}
 unfoldable pub use Rattle.dlmalloc.specs.Extents.{chunks_from}
 pub use Rattle.dlmalloc.specs.Freed.{before, freed, freed_in, has, victim_in}
 pub use Rattle.dlmalloc.specs.GivenBack.{AreGivenBack, IsCounted, IsPassed, told_of}

@@ -1,6 +1,7 @@
 // Requests for blocks.
-ghost use Rattle.std.specs.Prelude.{◌≡◌, ◌≢◌, ℕ, ◌+◌, ◌-◌, ◌%◌, ◌^◌, ◌<◌, ◌≤◌, [], ◌∷◌, None, IfOk, IfErr};
+ghost use Rattle.std.specs.Prelude.{◌≡◌, ◌≢◌, ℕ, ◌+◌, ◌-◌, ◌^◌, ◌<◌, ◌≤◌, [], ◌∷◌, None, IfOk, IfErr};
 ghost use Rattle.std.specs.Int.{IsPowerOfTwo};
+ghost use Rattle.dlmalloc.specs.Extents.{IsChunkSize};
 ghost use Rattle.dlmalloc.specs.Choice.{chosen};
 ghost use Rattle.dlmalloc.specs.Heap.{state_of};
 ghost use Rattle.dlmalloc.specs.Grown.{IsAsItWas};
@@ -96,8 +97,7 @@ impl<A: Allocator> Dlmalloc<A> {
     /// Cuts a chunk of `n` bytes from a free extent, or from a new region if none serves, and answers where it begins.
     fn cut<L: Ledger>(&mut self, n: u64, steps: &mut Steps<L>) -> Result<u64, GrantFault>
         requires intact { IsIntact A.regions A.word self.old }
-        requires whole { n % 16 ≡ 0 }
-        requires least { 32 ≤ n }
+        requires bytes { IsChunkSize n }
         requires small { n + 96 + self.old.granularity ≤ 2 ^ 64 }
         ensures cut { IfOk result (λ at. IsCutOut A.regions A.word A.zeros A.follows self.old n at self.new) }
         ensures denied { IfErr result (λ fault. IsDenied A.denies self.old.system (state_of A.word self.old) n fault) }
@@ -128,8 +128,7 @@ impl<A: Allocator> Dlmalloc<A> {
     fn cut_new<L: Ledger>(&mut self, n: u64, steps: &mut Steps<L>) -> Result<u64, GrantFault>
         requires intact { IsIntact A.regions A.word self.old }
         requires none { chosen (state_of A.word self.old) n ≡ None }
-        requires whole { n % 16 ≡ 0 }
-        requires least { 32 ≤ n }
+        requires bytes { IsChunkSize n }
         requires small { n + 96 + self.old.granularity ≤ 2 ^ 64 }
         ensures cut { IfOk result (λ at. IsCutOut A.regions A.word A.zeros A.follows self.old n at self.new) }
         ensures denied { IfErr result (λ fault. IsDenied A.denies self.old.system (state_of A.word self.old) n fault) }

@@ -4,7 +4,7 @@ ghost use Rattle.std.specs.Int.{IsPowerOfTwo};
 ghost use Rattle.heap_memory.specs.Regions.{IsWordOf};
 ghost use Rattle.dlmalloc_chunks.specs.Request.{enlarged, padded};
 ghost use Rattle.dlmalloc_chunks.specs.declared.extent.Kind.TheVariants.{Used};
-ghost use Rattle.dlmalloc.specs.Extents.{extent_at};
+ghost use Rattle.dlmalloc.specs.Extents.{extent_at, IsChunkSize};
 ghost use Rattle.dlmalloc.specs.State.{extents_in};
 ghost use Rattle.dlmalloc.specs.Blocks.{IsBlock};
 ghost use Rattle.dlmalloc.specs.Boundaries.{IsOwn};
@@ -85,8 +85,7 @@ impl<A: Allocator> Dlmalloc<A> {
         requires intact { IsIntact A.regions A.word self.old }
         requires align { IsPowerOfTwo align × (16 < align) }
         requires block { IsBlock (state_of A.word self.old) ptr (n + align + 24) }
-        requires whole { n % 16 ≡ 0 }
-        requires least { 32 ≤ n }
+        requires bytes { IsChunkSize n }
         ensures place { result ≡ aligned_place (ptr - 16) align }
         ensures multiple { (result + 16) % align ≡ 0 }
         ensures small { result + 16 < 2 ^ 64 }
@@ -137,8 +136,7 @@ impl<A: Allocator> Dlmalloc<A> {
     fn free_behind<L: Ledger>(&mut self, at: u64, size: u64, n: u64, steps: &mut Steps<L>)
         requires intact { IsIntact A.regions A.word self.old }
         requires chunk { extent_at at (extents_in (state_of A.word self.old)) ≡ Some (record { at = at; size = size; kind = Used }) }
-        requires whole { n % 16 ≡ 0 }
-        requires least { 32 ≤ n }
+        requires bytes { IsChunkSize n }
         requires room { n ≤ size }
         ensures state { state_of A.word self.new ≡ tail_cut (state_of A.word self.old) at n }
         ensures held { (rest : ℕ) × (extent_at at (extents_in (state_of A.word self.new)) ≡ Some (record { at = at; size = rest; kind = Used })) × (n ≤ rest) × (rest ≤ n + 32) }

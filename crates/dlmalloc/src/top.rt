@@ -1,8 +1,8 @@
 // Cutting a chunk from the top of the heap.
-ghost use Rattle.std.specs.Prelude.{◌≡◌, ◌≢◌, ℕ, ◌+◌, ◌%◌, ◌<◌, ◌≤◌, [], Some};
+ghost use Rattle.std.specs.Prelude.{◌≡◌, ◌≢◌, ℕ, ◌+◌, ◌<◌, ◌≤◌, [], Some};
 ghost use Rattle.dlmalloc_chunks.specs.declared.extent.Extent.{Extent};
 ghost use Rattle.dlmalloc_chunks.specs.declared.extent.Kind.TheVariants.{Top};
-ghost use Rattle.dlmalloc.specs.Extents.{extent_at};
+ghost use Rattle.dlmalloc.specs.Extents.{extent_at, IsChunkSize};
 ghost use Rattle.dlmalloc.specs.State.{extents_in};
 ghost use Rattle.dlmalloc.specs.Blocks.{HasOneMore};
 ghost use Rattle.dlmalloc.specs.Boundaries.{IsBoundary};
@@ -22,8 +22,7 @@ impl<A: Allocator> Dlmalloc<A> {
     pub(crate) fn take_top<L: Ledger>(&mut self, n: u64, steps: &mut Steps<L>) -> u64
         requires sound { IsSound A.regions A.word self.old }
         requires there { 0 < self.old.size }
-        requires whole { n % 16 ≡ 0 }
-        requires least { 32 ≤ n }
+        requires bytes { IsChunkSize n }
         requires fits { n < self.old.top_size }
         ensures chunk { result ≡ self.old.top }
         ensures state { state_of A.word self.new ≡ taken (state_of A.word self.old) (record { at = self.old.top; size = self.old.top_size; kind = Top }) n }

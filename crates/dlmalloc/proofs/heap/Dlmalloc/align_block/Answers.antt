@@ -12,14 +12,14 @@ size-size-requires g c = record {
 }
 
 pub aligned_place-place-requires-clause-small : goal.aligned_place-place-requires-clause-small
-aligned_place-place-requires-clause-small g c = chunk_small c.requires.intact.sound c.args.n c.args.align c.requires.block c.requires.least
+aligned_place-place-requires-clause-small g c = chunk_small c.requires.intact.sound c.args.n c.args.align c.requires.block c.requires.bytes.least
 
 pub aligned_place-place-requires-clause-whole : goal.aligned_place-place-requires-clause-whole
 aligned_place-place-requires-clause-whole g c = chunk_whole c.requires.intact.sound c.args.n c.args.align c.requires.block
 
 -- where the aligned place lies in the chunk
 placed : (g : _) (c : After-aligned_place-place g) → HasAlignedPlace c.args.align (c.args.ptr - 16) c.size-size.result c.args.n c.aligned_place-place.result
-placed g c = place_here c.requires.intact.sound c.args.n c.args.align c.requires.block c.requires.align.0 c.requires.align.1 c.requires.least
+placed g c = place_here c.requires.intact.sound c.args.n c.args.align c.requires.block c.requires.align.0 c.requires.align.1 c.requires.bytes.least
     c.size-size.ensures.value c.aligned_place-place.ensures.place
 
 pub free_before-requires : goal.free_before-requires

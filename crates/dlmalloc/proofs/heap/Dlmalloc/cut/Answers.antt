@@ -28,7 +28,7 @@ pub cut_new-requires-clause-none : goal.cut_new-requires-clause-none
 cut_new-requires-clause-none g c = elim c.if-self-gt0.branch [
   | then-self-gt0+in-None w ↦ w.in-None.ensures.none refl
   | else-self-gt0 w ↦ none_chosen_empty g.A.Links.regions g.A.Links.word c.args.self.now
-      (let none = w.if-self-gt0.false in omega arith) c.args.n c.requires.least
+      (let none = w.if-self-gt0.false in omega arith) c.args.n c.requires.bytes.least
 ]
 
 pub returns-in-Some-Chunk-clause-member : goal.returns-in-Some-Chunk-clause-member
@@ -49,14 +49,14 @@ pub returns-clause-member : goal.returns-clause-member
 returns-clause-member g c = none_member g.A.Links.regions g.A.Links.word c.args.self.now c.args.n (elim c.if-self-gt0.branch [
   | then-self-gt0+in-None w ↦ w.in-None.ensures.none refl
   | else-self-gt0 w ↦ none_chosen_empty g.A.Links.regions g.A.Links.word c.args.self.now
-      (let none = w.if-self-gt0.false in omega arith) c.args.n c.requires.least
+      (let none = w.if-self-gt0.false in omega arith) c.args.n c.requires.bytes.least
 ]) c.cut_new.result
 
 pub returns-clause-counted : goal.returns-clause-counted
 returns-clause-counted g c = λ some. absurd (some (elim c.if-self-gt0.branch [
   | then-self-gt0+in-None w ↦ w.in-None.ensures.none refl
   | else-self-gt0 w ↦ none_chosen_empty g.A.Links.regions g.A.Links.word c.args.self.now
-      (let none = w.if-self-gt0.false in omega arith) c.args.n c.requires.least
+      (let none = w.if-self-gt0.false in omega arith) c.args.n c.requires.bytes.least
 ]))
 
 pub take-requires-clause-member : goal.take-requires-clause-member

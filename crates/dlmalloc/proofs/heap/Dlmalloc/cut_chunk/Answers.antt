@@ -33,7 +33,7 @@ pub set_size_and_pinuse_of_free_chunk-requires : goal.set_size_and_pinuse_of_fre
 set_size_and_pinuse_of_free_chunk-requires g c =
     let m = at_whole c.requires.sound c.args.n c.requires.chunk in
     let w = size_whole c.requires.sound c.args.n c.requires.chunk in
-    let n_whole = c.requires.whole in let fits = c.requires.fits in
+    let n_whole = c.requires.bytes.whole in let fits = c.requires.fits in
     let same = sym c.set_size_and_pinuse_of_inuse_chunk.ensures.regions in
     record {
       size = omega arith;
@@ -85,7 +85,7 @@ returns-then-at-self-2 g c =
     let second = c.set_size_and_pinuse_of_free_chunk.ensures in let more = c.if-rest-lt-LEAST_CHUNK.false in
     let fits = c.requires.fits in let same = second.regions ∙ first.regions in
     let stored = stores c.requires.sound c.args.n c.requires.chunk middle system first.regions fits first.stored second.stored in
-    let t = split_victim c.requires.sound c.args.n c.requires.chunk system same c.requires.whole c.requires.least (omega arith) stored
+    let t = split_victim c.requires.sound c.args.n c.requires.chunk system same c.requires.bytes.whole c.requires.bytes.least (omega arith) stored
     (elim c.then-at-self-2.branch [
       | then-at-self-2-via-then-at-self-2 w ↦ inl w.if-at-self-2.true
       | then-at-self-2-via-else-at-self-2+then-n-lt-LEAST_LARGE w ↦ inr w.if-n-lt-LEAST_LARGE.true
@@ -111,7 +111,7 @@ returns-else-n-lt-LEAST_LARGE g c =
     let second = c.set_size_and_pinuse_of_free_chunk.ensures in let more = c.if-rest-lt-LEAST_CHUNK.false in
     let fits = c.requires.fits in let same = second.regions ∙ first.regions in
     let stored = stores c.requires.sound c.args.n c.requires.chunk middle system first.regions fits first.stored second.stored in
-    let t = split_other c.requires.sound c.args.n c.requires.chunk system same c.requires.whole c.requires.least (omega arith) stored
+    let t = split_other c.requires.sound c.args.n c.requires.chunk system same c.requires.bytes.whole c.requires.bytes.least (omega arith) stored
     c.if-at-self-2.false c.if-n-lt-LEAST_LARGE.false in
     record {
       state = t.take.state;

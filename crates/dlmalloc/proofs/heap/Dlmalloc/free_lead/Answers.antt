@@ -17,7 +17,7 @@ pub returns : goal.returns
 returns g c =
     let e = c.split.ensures in let freed = c.dispose_chunk.ensures in let sound = c.requires.intact.sound in
     let can : CanSplit g.A.Links.word c.args.self.now c.args.at c.args.size c.args.n =
-    record { there = c.requires.chunk; whole = c.requires.whole; least = c.requires.least; room = c.requires.room } in
+    record { there = c.requires.chunk; whole = c.requires.bytes.whole; least = c.requires.bytes.least; room = c.requires.room } in
     let split : IsSplit g.A.Links.regions g.A.Links.word g.A.Links.follows c.args.self.now c.args.at c.args.size c.args.n c.split.new.self =
     record { state = e.state; first = e.first; second = e.second; others = e.others; words = e.words; free = e.moves.free; moved = e.moves.moved } in
     record {

@@ -8,7 +8,7 @@ use Rattle.dlmalloc.proofs.heap.Dlmalloc.free_tail.Goals.{Start}
 
 -- the chunk can be split after its first n bytes
 can : (g : _) (c : Start g) → CanSplit g.A.Links.word c.args.self.now c.args.at c.args.size c.args.n
-can g c = record { there = c.requires.chunk; whole = c.requires.whole; least = c.requires.least; room = c.requires.room }
+can g c = record { there = c.requires.chunk; whole = c.requires.bytes.whole; least = c.requires.bytes.least; room = c.requires.room }
 
 pub overflow_add-at : goal.overflow_add-at
 overflow_add-at g c =

@@ -23,7 +23,7 @@ returns-in_err-grant-clause-err g c =
 
 -- what is asked for has room for a chunk and the end of a segment
 long : (g : _) (c : In_ok-grant g) → 128 ≤ c.asked-asked.result
-long g c = let enough = c.asked-asked.ensures.enough in let least = c.requires.least in omega arith
+long g c = let enough = c.asked-asked.ensures.enough in let least = c.requires.bytes.least in omega arith
 
 sound : (g : _) (c : In_ok-grant g) → IsSound g.A.Links.regions g.A.Links.word (record c.args.self.now { system = c.alloc.new.self })
 sound g c =
@@ -55,11 +55,12 @@ put_before-requires g c =
     let now = (goal.at.put_before-requires g c).In_ok-grant in
     record {
       intact = record { sound = sound g now; linked = binned g now c.requires.intact.linked };
-      fresh = fresh g now;
+      grant = record {
+        fresh = fresh g now;
+        bytes = c.requires.bytes;
+        room = (let e = c.asked-asked.ensures.enough in let long = c.in_ok-grant.ensures.good.long in omega arith);
+      };
       behind = c.in-Some.ensures.found;
-      whole = c.requires.whole;
-      least = c.requires.least;
-      room = (let e = c.asked-asked.ensures.enough in let long = c.in_ok-grant.ensures.good.long in omega arith);
     }
 
 pub join-requires : goal.join-requires
@@ -80,7 +81,7 @@ returns-in-Some-clause-cut g c = λ at is.
     (Granted asked grant ∷ []) given.follows put.followed refl in
     let at_is : grant.base ≡ at = ap (λ o. unwrap_or o grant.base) is in
     subst (λ a. IsCutOut regions word g.A.Allocator.zeros g.A.Links.follows heap c.args.n a new) at_is
-    (cut_before c.requires.intact.sound c.requires.least c.asked-asked.ensures.enough c.requires.none given.good given.apart given.regions given.words
+    (cut_before c.requires.intact.sound c.requires.bytes.least c.asked-asked.ensures.enough c.requires.none given.good given.apart given.regions given.words
     given.zeros c.in-Some.ensures.some put (subst (λ bytes. g.A.Links.follows heap.system (Granted bytes grant ∷ []) new.system)
     c.asked-asked.ensures.asked followed))
 
@@ -89,7 +90,7 @@ returns-in-None-clause-top g c = λ is.
     let regions = g.A.Links.regions in let word = g.A.Links.word in let heap = c.args.self.now in
     let grant = c.in_ok-grant.grant in let given = c.in_ok-grant.ensures in let asked = c.asked-asked.result in
     let enough : c.args.n + 96 ≤ asked = c.asked-asked.ensures.enough in
-    let least = c.requires.least in let middle = c.alloc.new.self in let new = c.join.new.self in
+    let least = c.requires.bytes.least in let middle = c.alloc.new.self in let new = c.join.new.self in
     let joined = c.join.ensures.joined in let long = given.good.long in let room = joined.room in
     let same = same g (goal.at.returns-in-None-clause-top g c).In_ok-grant in
     let followed = g.A.Links.follows_on heap.system middle new.system (Granted asked grant ∷ []) []

@@ -5,7 +5,7 @@ use Rattle.dlmalloc.proofs.heap.Dlmalloc.split.Goals.{Start}
 
 -- the chunk can be split after its first n bytes
 can : (g : _) (c : Start g) → CanSplit g.A.Links.word c.args.self.now c.args.at c.args.size c.args.n
-can g c = record { there = c.requires.chunk; whole = c.requires.whole; least = c.requires.least; room = c.requires.room }
+can g c = record { there = c.requires.chunk; whole = c.requires.bytes.whole; least = c.requires.bytes.least; room = c.requires.room }
 
 pub set_inuse-requires-clause-head : goal.set_inuse-requires-clause-head
 set_inuse-requires-clause-head g c = first_head c.requires.sound (can g (goal.at.set_inuse-requires-clause-head g c).Start)

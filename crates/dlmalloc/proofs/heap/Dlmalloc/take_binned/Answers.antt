@@ -128,7 +128,7 @@ returns g c =
       after.0,
       in_order (c.args.size - c.args.n) rest b.index left.0.index after.0.index (lessened_as c.args.size c.args.at b.index left.0.index left.1)
           (added_as (c.args.size - c.args.n) rest left.0.index after.0.index after.1) (λ is. new_one (c.args.size - c.args.n) (subst (λ s. IsFreeAt s rest
-          (c.args.size - c.args.n)) (sym one.same.state) (b.holds.free rest (c.args.size - c.args.n) is)) (let least = c.requires.least in omega arith)),
+          (c.args.size - c.args.n)) (sym one.same.state) (b.holds.free rest (c.args.size - c.args.n) is)) (let least = c.requires.bytes.least in omega arith)),
     ) in
     record {
       state = last.same.state ∙ (e.state ∙ ap (λ s. taken s (extent c.args.at c.args.size Free) c.args.n) one.same.state);
