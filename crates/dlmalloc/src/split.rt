@@ -2,11 +2,11 @@
 ghost use Rattle.std.specs.Prelude.{◌≡◌, ◌≢◌, ℕ, ◌+◌, ◌-◌, ◌<◌, ◌≤◌, [], Some};
 ghost use Rattle.heap_memory.specs.Regions.{IsWordOf};
 ghost use Rattle.dlmalloc_chunks.specs.declared.extent.Kind.TheVariants.{Used};
-ghost use Rattle.dlmalloc.specs.Extents.{extent_at, IsChunkSize};
+ghost use Rattle.dlmalloc.specs.Extents.{extent_at};
 ghost use Rattle.dlmalloc.specs.State.{extents_in};
 ghost use Rattle.dlmalloc.specs.Boundaries.{IsInFree, IsOwn};
 ghost use Rattle.dlmalloc.specs.Freed.{freed};
-ghost use Rattle.dlmalloc.specs.Resized.{exchanged, halves, tail_freed, HasSameOthers};
+ghost use Rattle.dlmalloc.specs.Resized.{exchanged, halves, tail_freed, HasSameOthers, CanSplit};
 ghost use Rattle.dlmalloc.specs.Aligned.{HasOneMoved, KeepsOthers};
 ghost use Rattle.dlmalloc.specs.Heap.{state_of, IsSound};
 ghost use Rattle.dlmalloc.specs.Turned.{MovesBesideBins};
@@ -24,9 +24,7 @@ impl<A: Allocator> Dlmalloc<A> {
     /// Makes two chunks in use of one: its first `n` bytes, and the rest.
     pub(crate) fn split<L: Ledger>(&mut self, at: u64, size: u64, n: u64, steps: &mut Steps<L>)
         requires sound { IsSound A.regions A.word self.old }
-        requires chunk { extent_at at (extents_in (state_of A.word self.old)) ≡ Some (record { at = at; size = size; kind = Used }) }
-        requires bytes { IsChunkSize n }
-        requires room { n + 32 ≤ size }
+        requires split { CanSplit (state_of A.word self.old) at size n }
         ensures state { state_of A.word self.new ≡ exchanged (state_of A.word self.old) at (halves n) }
         ensures first { extent_at at (extents_in (state_of A.word self.new)) ≡ Some (record { at = at; size = n; kind = Used }) }
         ensures second { extent_at (at + n) (extents_in (state_of A.word self.new)) ≡ Some (record { at = at + n; size = size - n; kind = Used }) }
@@ -42,9 +40,7 @@ impl<A: Allocator> Dlmalloc<A> {
     /// Frees what is after the first `n` bytes of a chunk in use.
     pub(crate) fn free_tail<L: Ledger>(&mut self, at: u64, size: u64, n: u64, steps: &mut Steps<L>)
         requires intact { IsIntact A.regions A.word self.old }
-        requires chunk { extent_at at (extents_in (state_of A.word self.old)) ≡ Some (record { at = at; size = size; kind = Used }) }
-        requires bytes { IsChunkSize n }
-        requires room { n + 32 ≤ size }
+        requires split { CanSplit (state_of A.word self.old) at size n }
         ensures state { state_of A.word self.new ≡ tail_freed (state_of A.word self.old) at n }
         ensures first { extent_at at (extents_in (state_of A.word self.new)) ≡ Some (record { at = at; size = n; kind = Used }) }
         ensures others { HasSameOthers (state_of A.word self.old) (state_of A.word self.new) at at }
@@ -59,9 +55,7 @@ impl<A: Allocator> Dlmalloc<A> {
     /// Frees the first `n` bytes of a chunk in use, which are not those that stay in use.
     pub(crate) fn free_lead<L: Ledger>(&mut self, at: u64, size: u64, n: u64, steps: &mut Steps<L>)
         requires intact { IsIntact A.regions A.word self.old }
-        requires chunk { extent_at at (extents_in (state_of A.word self.old)) ≡ Some (record { at = at; size = size; kind = Used }) }
-        requires bytes { IsChunkSize n }
-        requires room { n + 32 ≤ size }
+        requires split { CanSplit (state_of A.word self.old) at size n }
         ensures state { state_of A.word self.new ≡ freed (exchanged (state_of A.word self.old) at (halves n)) at }
         ensures second { extent_at (at + n) (extents_in (state_of A.word self.new)) ≡ Some (record { at = at + n; size = size - n; kind = Used }) }
         ensures others { HasOneMoved (state_of A.word self.old) (state_of A.word self.new) at (at + n) }

@@ -1,10 +1,7 @@
 // Cutting a free chunk for a request.
 ghost use Rattle.std.specs.Prelude.{◌≡◌, ◌≢◌, ℕ, ◌+◌, ◌-◌, ◌<◌, ◌≤◌, nat_le, if◌then◌else◌, [], ◌∷◌, Some};
 ghost use Rattle.dlmalloc_chunks.specs.declared.extent.Kind.TheVariants.{Free};
-ghost use Rattle.dlmalloc.specs.Extents.{extent_at, IsChunkSize};
-ghost use Rattle.dlmalloc.specs.State.{extents_in};
-ghost use Rattle.dlmalloc.specs.Blocks.{HasOneMore};
-ghost use Rattle.dlmalloc.specs.Taken.{taken};
+ghost use Rattle.dlmalloc.specs.Taken.{CanCut, IsTaken};
 ghost use Rattle.dlmalloc.specs.Heap.{state_of, IsSound};
 ghost use Rattle.dlmalloc.specs.Turned.{MovesBesideBins};
 ghost use Rattle.dlmalloc.specs.Binned.{IsFreeAt, IsIntact, IsMember};
@@ -24,12 +21,9 @@ impl<A: Allocator> Dlmalloc<A> {
     /// 256 bytes its rest is the victim, and the old one goes into its bin; else the rest goes into its own.
     pub(crate) fn take<L: Ledger>(&mut self, at: u64, size: u64, n: u64, steps: &mut Steps<L>)
         requires intact { IsIntact A.regions A.word self.old }
-        requires chunk { extent_at at (extents_in (state_of A.word self.old)) ≡ Some (record { at = at; size = size; kind = Free }) }
-        requires bytes { IsChunkSize n }
-        requires fits { n ≤ size }
+        requires cut { CanCut (state_of A.word self.old) at size n }
         requires member { at ≢ self.old.victim → IsMember A.regions A.word self.old n at }
-        ensures state { state_of A.word self.new ≡ taken (state_of A.word self.old) (record { at = at; size = size; kind = Free }) n }
-        ensures more { HasOneMore (state_of A.word self.old) (state_of A.word self.new) at }
+        ensures taken { IsTaken (state_of A.word self.old) (record { at = at; size = size; kind = Free }) n (state_of A.word self.new) }
         ensures turned { TurnsInOrder A.regions A.word A.follows self.old self.new }
         ensures counted { steps.new ≤ steps.old + 328 }
     {
@@ -44,13 +38,10 @@ impl<A: Allocator> Dlmalloc<A> {
     /// Cuts `n` bytes from the binned chunk that a search for that many names.
     fn take_binned<L: Ledger>(&mut self, at: u64, size: u64, n: u64, steps: &mut Steps<L>)
         requires intact { IsIntact A.regions A.word self.old }
-        requires chunk { extent_at at (extents_in (state_of A.word self.old)) ≡ Some (record { at = at; size = size; kind = Free }) }
+        requires cut { CanCut (state_of A.word self.old) at size n }
         requires other { at ≢ self.old.victim }
         requires member { IsMember A.regions A.word self.old n at }
-        requires bytes { IsChunkSize n }
-        requires fits { n ≤ size }
-        ensures state { state_of A.word self.new ≡ taken (state_of A.word self.old) (record { at = at; size = size; kind = Free }) n }
-        ensures more { HasOneMore (state_of A.word self.old) (state_of A.word self.new) at }
+        ensures taken { IsTaken (state_of A.word self.old) (record { at = at; size = size; kind = Free }) n (state_of A.word self.new) }
         ensures turned { TurnsInOrder A.regions A.word A.follows self.old self.new }
         ensures counted { steps.new ≤ steps.old + 328 }
     {
@@ -73,11 +64,8 @@ impl<A: Allocator> Dlmalloc<A> {
     /// Cuts `n` bytes from a free chunk other than the top that is in no bin.
     fn cut_chunk<L: Ledger>(&mut self, at: u64, size: u64, n: u64, steps: &mut Steps<L>)
         requires sound { IsSound A.regions A.word self.old }
-        requires chunk { extent_at at (extents_in (state_of A.word self.old)) ≡ Some (record { at = at; size = size; kind = Free }) }
-        requires bytes { IsChunkSize n }
-        requires fits { n ≤ size }
-        ensures state { state_of A.word self.new ≡ taken (state_of A.word self.old) (record { at = at; size = size; kind = Free }) n }
-        ensures more { HasOneMore (state_of A.word self.old) (state_of A.word self.new) at }
+        requires cut { CanCut (state_of A.word self.old) at size n }
+        ensures taken { IsTaken (state_of A.word self.old) (record { at = at; size = size; kind = Free }) n (state_of A.word self.new) }
         ensures rest { n + 32 ≤ size → IsFreeAt (state_of A.word self.new) (at + n) (size - n) }
         ensures moves { MovesBesideBins A.regions A.word A.follows self.old (at ∷ []) (if nat_le (n + 32) size then (at + n) ∷ [] else []) self.new }
         ensures counted { steps.new ≤ steps.old + 3 }

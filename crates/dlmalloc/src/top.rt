@@ -4,9 +4,8 @@ ghost use Rattle.dlmalloc_chunks.specs.declared.extent.Extent.{Extent};
 ghost use Rattle.dlmalloc_chunks.specs.declared.extent.Kind.TheVariants.{Top};
 ghost use Rattle.dlmalloc.specs.Extents.{extent_at, IsChunkSize};
 ghost use Rattle.dlmalloc.specs.State.{extents_in};
-ghost use Rattle.dlmalloc.specs.Blocks.{HasOneMore};
 ghost use Rattle.dlmalloc.specs.Boundaries.{IsBoundary};
-ghost use Rattle.dlmalloc.specs.Taken.{taken};
+ghost use Rattle.dlmalloc.specs.Taken.{IsTaken};
 ghost use Rattle.dlmalloc.specs.Heap.{state_of, IsSound};
 ghost use Rattle.dlmalloc.specs.Turned.{MovesBesideBins};
 
@@ -25,8 +24,7 @@ impl<A: Allocator> Dlmalloc<A> {
         requires bytes { IsChunkSize n }
         requires fits { n < self.old.top_size }
         ensures chunk { result ≡ self.old.top }
-        ensures state { state_of A.word self.new ≡ taken (state_of A.word self.old) (record { at = self.old.top; size = self.old.top_size; kind = Top }) n }
-        ensures more { HasOneMore (state_of A.word self.old) (state_of A.word self.new) self.old.top }
+        ensures taken { IsTaken (state_of A.word self.old) (record { at = self.old.top; size = self.old.top_size; kind = Top }) n (state_of A.word self.new) }
         ensures head { IsBoundary (state_of A.word self.new) (self.old.top + 8) }
         ensures foot { IsBoundary (state_of A.word self.new) (self.old.top + self.old.top_size + 8) }
         ensures others { (one : Extent) → one.at ≢ self.old.top → extent_at one.at (extents_in (state_of A.word self.old)) ≡ Some one → extent_at one.at (extents_in (state_of A.word self.new)) ≡ Some one }

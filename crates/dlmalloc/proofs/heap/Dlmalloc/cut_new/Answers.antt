@@ -12,8 +12,8 @@ returns-in-None-clause-cut g c =
     let grown = c.in_ok-chunk.ensures.top c.in-None.is in let e = c.take_top.ensures in
     let events = Granted (round_up (c.args.n + 96) heap.granularity) grown.grant ∷ [] in
     subst (λ k. IsCutOut g.A.Links.regions g.A.Links.word g.A.Allocator.zeros g.A.Links.follows heap c.args.n k new) (sym c.take_top.ensures.chunk)
-    (cut_new c.requires.intact.sound c.args.n grown e.state e.more e.moves.moved e.head e.foot e.others c.requires.none (top_below grown.sound grown.there)
-    (g.A.Links.follows_on heap.system middle.system new.system events [] events grown.followed e.moves.moved.followed refl))
+    (cut_new c.requires.intact.sound c.args.n grown e.taken.state e.taken.more e.moves.moved e.head e.foot e.others c.requires.none
+    (top_below grown.sound grown.there) (g.A.Links.follows_on heap.system middle.system new.system events [] events grown.followed e.moves.moved.followed refl))
 
 pub returns-in-Some-clause-cut : goal.returns-in-Some-clause-cut
 returns-in-Some-clause-cut g c = c.in_ok-chunk.ensures.cut c.in-Some.chunk c.in-Some.is
@@ -27,4 +27,4 @@ pub returns-in-None-clause-bins : goal.returns-in-None-clause-bins
 returns-in-None-clause-bins g c =
     let grown = c.in_ok-chunk.ensures.top c.in-None.is in let e = c.take_top.ensures in
     bins_kept (λ b. (let after = c.grow.ensures.bins.order b in
-    (binned_beside c.index_stays.ensures grown.sound e.moves (ap (λ s. s.victim) e.state) after.0, after.1))) c.requires.intact.linked
+    (binned_beside c.index_stays.ensures grown.sound e.moves (ap (λ s. s.victim) e.taken.state) after.0, after.1))) c.requires.intact.linked

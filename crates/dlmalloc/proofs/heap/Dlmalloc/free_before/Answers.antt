@@ -1,4 +1,4 @@
-use Rattle.dlmalloc.proofs.Names.{inl, inr, refl, sym, subst, Used, IsBoundary, state_of}
+use Rattle.dlmalloc.proofs.Names.{inl, inr, refl, sym, subst, arith, Used, IsBoundary, state_of}
 use Rattle.dlmalloc.proofs.Extents.Lookup.{extent}
 use Rattle.dlmalloc.proofs.Bins.Order.{bins_same}
 use Rattle.dlmalloc.proofs.heap.Dlmalloc.free_before.Goals as goal
@@ -11,3 +11,10 @@ returns-clause-words g c k is was now =
 
 pub returns-then-place-at-clause-bins : goal.returns-then-place-at-clause-bins
 returns-then-place-at-clause-bins g c = bins_same c.requires.intact.linked
+
+pub free_lead-requires-clause-split : goal.free_lead-requires-clause-split
+free_lead-requires-clause-split g c = record {
+  chunk = c.requires.chunk;
+  bytes = record { whole = c.requires.whole; least = elim c.requires.lead [ inl same ↦ absurd (c.if-place-at.false same) | inr after ↦ omega arith ] };
+  room = c.requires.room;
+}

@@ -1,6 +1,6 @@
 use Rattle.dlmalloc.proofs.Names.{[], refl, ◌∙◌, ap, arith}
 use Rattle.dlmalloc.proofs.Bins.Changes.{binned_beside}
-use Rattle.dlmalloc.proofs.Resizing.Split.{CanSplit, IsSplit}
+use Rattle.dlmalloc.proofs.Resizing.Split.{IsSplit}
 use Rattle.dlmalloc.proofs.Resizing.SplitAndFreed.{lead_state, lead_second, lead_others, lead_kept, lead_words}
 use Rattle.dlmalloc.proofs.Bins.Order.{bins_kept}
 use Rattle.dlmalloc.proofs.heap.Dlmalloc.free_lead.Goals as goal
@@ -16,8 +16,7 @@ dispose_chunk-requires-clause-intact g c =
 pub returns : goal.returns
 returns g c =
     let e = c.split.ensures in let freed = c.dispose_chunk.ensures in let sound = c.requires.intact.sound in
-    let can : CanSplit g.A.Links.word c.args.self.now c.args.at c.args.size c.args.n =
-    record { there = c.requires.chunk; whole = c.requires.bytes.whole; least = c.requires.bytes.least; room = c.requires.room } in
+    let can = c.requires.split in
     let split : IsSplit g.A.Links.regions g.A.Links.word g.A.Links.follows c.args.self.now c.args.at c.args.size c.args.n c.split.new.self =
     record { state = e.state; first = e.first; second = e.second; others = e.others; words = e.words; free = e.moves.free; moved = e.moves.moved } in
     record {

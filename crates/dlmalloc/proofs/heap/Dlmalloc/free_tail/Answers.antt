@@ -1,19 +1,14 @@
 use Rattle.dlmalloc.proofs.Names.{[], refl, ◌∙◌, arith, ap}
-use Rattle.dlmalloc.proofs.Resizing.Split.{CanSplit, IsSplit, end_small}
+use Rattle.dlmalloc.proofs.Resizing.Split.{IsSplit, end_small}
 use Rattle.dlmalloc.proofs.Bins.Changes.{binned_beside}
 use Rattle.dlmalloc.proofs.Resizing.SplitAndFreed.{tail_state, tail_first, tail_others, tail_words}
 use Rattle.dlmalloc.proofs.Bins.Order.{bins_kept}
 use Rattle.dlmalloc.proofs.heap.Dlmalloc.free_tail.Goals as goal
-use Rattle.dlmalloc.proofs.heap.Dlmalloc.free_tail.Goals.{Start}
-
--- the chunk can be split after its first n bytes
-can : (g : _) (c : Start g) → CanSplit g.A.Links.word c.args.self.now c.args.at c.args.size c.args.n
-can g c = record { there = c.requires.chunk; whole = c.requires.bytes.whole; least = c.requires.bytes.least; room = c.requires.room }
 
 pub overflow_add-at : goal.overflow_add-at
 overflow_add-at g c =
-    let end = end_small c.requires.intact.sound (can g (goal.at.overflow_add-at g c).Start) in
-    let room = c.requires.room in grind arith
+    let end = end_small c.requires.intact.sound c.requires.split in
+    let room = c.requires.split.room in grind arith
 
 pub dispose_chunk-requires-clause-intact : goal.dispose_chunk-requires-clause-intact
 dispose_chunk-requires-clause-intact g c =
@@ -26,7 +21,7 @@ dispose_chunk-requires-clause-intact g c =
 pub returns : goal.returns
 returns g c =
     let e = c.split.ensures in let freed = c.dispose_chunk.ensures in let sound = c.requires.intact.sound in
-    let can = can g (goal.at.returns g c).Start in
+    let can = c.requires.split in
     let split : IsSplit g.A.Links.regions g.A.Links.word g.A.Links.follows c.args.self.now c.args.at c.args.size c.args.n c.split.new.self =
     record { state = e.state; first = e.first; second = e.second; others = e.others; words = e.words; free = e.moves.free; moved = e.moves.moved } in
     record {

@@ -12,8 +12,12 @@ use Rattle.dlmalloc.proofs.heap.Dlmalloc.resize_chunk.Goals.{After-size-free}
 pub size-size-requires : goal.size-size-requires
 size-size-requires g c = record { head = head_there c.requires.intact.sound c.requires.chunk.1 }
 
-pub free_tail-requires-clause-chunk : goal.free_tail-requires-clause-chunk
-free_tail-requires-clause-chunk g c = chunk_told c.requires.intact.sound c.requires.chunk.1 c.size-size.ensures.value
+pub free_tail-requires-clause-split : goal.free_tail-requires-clause-split
+free_tail-requires-clause-split g c = record {
+  chunk = chunk_told c.requires.intact.sound c.requires.chunk.1 c.size-size.ensures.value;
+  bytes = c.requires.bytes;
+  room = (let fits = c.if-n-size.true in let rest = c.if-size-n-ge-LEAST_CHUNK.true in omega arith);
+}
 
 pub returns-then-size-n-ge-LEAST_CHUNK-clause-resized : goal.returns-then-size-n-ge-LEAST_CHUNK-clause-resized
 returns-then-size-n-ge-LEAST_CHUNK-clause-resized g c =

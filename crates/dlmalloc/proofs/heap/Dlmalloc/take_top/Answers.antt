@@ -19,8 +19,7 @@ returns g c =
     let t = top_taken c.requires.sound c.requires.there c.args.n c.requires.bytes.whole c.requires.bytes.least c.requires.fits system same stored in
     record {
       chunk = search rules;
-      state = t.state;
-      more = t.more;
+      taken = record { state = t.state; more = t.more };
       head = head_boundary c.requires.sound c.requires.there c.args.n c.requires.bytes.whole c.requires.bytes.least c.requires.fits system same stored;
       foot = foot_boundary c.requires.sound c.requires.there c.args.n c.requires.bytes.whole c.requires.bytes.least c.requires.fits system same stored;
       others = others_still c.requires.sound c.requires.there c.args.n c.requires.bytes.whole c.requires.bytes.least c.requires.fits system same stored;
