@@ -57,7 +57,7 @@ pub use Rattle.dlmalloc.specs.Prepended.{IsHeadBehind, IsToldBehind, payload_beh
 pub use Rattle.dlmalloc.specs.Record.{IsRecordAt}
 pub use Rattle.dlmalloc.specs.Released.{IsFreeAround, bytes_of, counted, handed_out, is_counted, is_own, is_unused, left_by_count, may_leave, passed, regions_without, releases, staying, taken_back}
 pub use Rattle.dlmalloc.specs.Requested.{IsFound, IsHandedOut, IsMemberServed, IsServedAligned, IsServedAt, asked, spans}
-pub use Rattle.dlmalloc.specs.Resized.{CanSplit, HasSameOthers, exchanged, grown_into, halves, has_room, in_place, joined, replaced_both, tail_freed}
+pub use Rattle.dlmalloc.specs.Resized.{CanSplit, CanTakeFree, HasSameOthers, exchanged, grown_into, halves, has_room, in_place, joined, replaced_both, tail_freed}
 pub use Rattle.dlmalloc.specs.Segments.{AreApart, AreRecords, AreSegments, IsApartFrom, IsFlaggedRun, IsSegment, IsWithin, has_byte_in, record_of}
 unfoldable pub use Rattle.dlmalloc.specs.Segments.{records_from}
 pub use Rattle.dlmalloc.specs.Listed.{AreSpans}

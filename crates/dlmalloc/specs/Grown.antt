@@ -94,6 +94,11 @@ pub record IsPrepended {A : Type 0} (regions : A → List Grant) (word : A → �
   pub words : (k : ℕ) → IsWordOf (regions old.system) k → (k < grant.base) ⊎ (grant.base + grant.size ≤ k) → (IsInRecord (state_of word new) k → ⊥) → word new.system k ≡ word old.system k
   pub new_words : (k : ℕ) → IsWordOf (regions old.system) k → grant.base ≤ k → k < grant.base + grant.size → k ≢ grant.base + 8 → k ≢ grant.base + n + 8 → word new.system k ≡ word old.system k
 
+-- A grant was put so before a segment beside the bins: nothing was done to them.
+pub record IsPrependedBesideBins {A : Type 0} (regions : A → List Grant) (word : A → ℕ → ℕ) (follows : A → List Event → A → Type 0) (old : Dlmalloc A) (grant : Grant) (n : ℕ) (new : Dlmalloc A) : Type 0 where
+  pub prepended : IsPrepended regions word follows old grant n new
+  pub same : IsSameBins old new
+
 -- Of such a grant the first part is a block's, and the other was freed.
 pub record IsPutBefore {A : Type 0} (regions : A → List Grant) (word : A → ℕ → ℕ) (follows : A → List Event → A → Type 0) (old : Dlmalloc A) (grant : Grant) (n : ℕ) (new : Dlmalloc A) : Type 0 where
   pub state : state_of word new ≡ freed (prepended grant n (state_of word old)) (grant.base + n)

@@ -39,6 +39,11 @@ OneOrder = (old one two : List ℕ) → AreDistinct old → IsInOrder old one �
 abbrev pub KeepsOrder : {A : Type 0} → (A → List Grant) → (A → ℕ → ℕ) → Dlmalloc A → Dlmalloc A → Type 0
 KeepsOrder regions word old new = (before : IsBinned regions word old) → (after : IsBinned regions word new) × AreInOrder before.index after.index
 
+-- The same of a call in two steps, between which the heap is in a state.
+abbrev pub KeepsOrderThrough : {A : Type 0} → (A → List Grant) → (A → ℕ → ℕ) → HeapState → Dlmalloc A → Dlmalloc A → Type 0
+KeepsOrderThrough regions word state old new = (before : IsBinned regions word old) →
+    (middle : ℕ → List ℕ) × HoldsBinned state middle × AreInOrder before.index middle × ((after : IsBinned regions word new) × AreInOrder middle after.index)
+
 -- The bins hold what they should, and chunks of one size keep their order.
 pub record KeepsBinsInOrder {A : Type 0} (regions : A → List Grant) (word : A → ℕ → ℕ) (old new : Dlmalloc A) : Type 0 where
   pub linked : IsBinned regions word new
@@ -48,11 +53,6 @@ pub record KeepsBinsInOrder {A : Type 0} (regions : A → List Grant) (word : A 
 pub record TurnsInOrder {A : Type 0} (regions : A → List Grant) (word : A → ℕ → ℕ) (follows : A → List Event → A → Type 0) (old new : Dlmalloc A) : Type 0 where
   pub moved : IsTurned regions word follows old new
   pub bins : KeepsBinsInOrder regions word old new
-
--- The same order of a call in two steps, between which the heap is in a state.
-abbrev pub KeepsOrderThrough : {A : Type 0} → (A → List Grant) → (A → ℕ → ℕ) → HeapState → Dlmalloc A → Dlmalloc A → Type 0
-KeepsOrderThrough regions word state old new = (before : IsBinned regions word old) →
-    (middle : ℕ → List ℕ) × HoldsBinned state middle × AreInOrder before.index middle × ((after : IsBinned regions word new) × AreInOrder middle after.index)
 
 -- ---- a release pass
 

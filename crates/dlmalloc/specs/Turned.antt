@@ -15,16 +15,16 @@ pub record IsMoved {A : Type 0} (regions : A → List Grant) (word : A → ℕ �
   pub regions_same : regions new.system ≡ regions old.system
   pub followed : follows old.system [] new.system
 
--- It moved so beside its bins: nothing was done to them, and the free extents at some addresses gave way to those at
--- others.
-pub record MovesBesideBins {A : Type 0} (regions : A → List Grant) (word : A → ℕ → ℕ) (follows : A → List Event → A → Type 0) (old : Dlmalloc A) (less more : List ℕ) (new : Dlmalloc A) : Type 0 where
-  pub moved : IsMoved regions word follows old new
-  pub free : FreeMoves (state_of word old) (state_of word new) less more
-  pub bins : new.bins ≡ old.bins
-
--- It moved so with its bins: of the granted words only its own changed, those in free extents among them.
+-- The same with its bins: of the granted words only its own changed, those in free extents among them.
 pub record IsTurned {A : Type 0} (regions : A → List Grant) (word : A → ℕ → ℕ) (follows : A → List Event → A → Type 0) (old new : Dlmalloc A) : Type 0 where
   pub sound : IsSound regions word new
   pub words : OnlyOwnChange (regions old.system) (state_of word old) (state_of word new) (word old.system) (word new.system)
   pub regions_same : regions new.system ≡ regions old.system
   pub followed : follows old.system [] new.system
+
+-- The heap moved beside its bins: nothing was done to them, and the free extents at some addresses gave way to those at
+-- others.
+pub record MovesBesideBins {A : Type 0} (regions : A → List Grant) (word : A → ℕ → ℕ) (follows : A → List Event → A → Type 0) (old : Dlmalloc A) (less more : List ℕ) (new : Dlmalloc A) : Type 0 where
+  pub moved : IsMoved regions word follows old new
+  pub free : FreeMoves (state_of word old) (state_of word new) less more
+  pub bins : new.bins ≡ old.bins

@@ -6,10 +6,10 @@ ghost use Rattle.dlmalloc_chunks.specs.Chunk.{HasHead};
 ghost use Rattle.dlmalloc_chunks.specs.Head.{head_of};
 ghost use Rattle.dlmalloc.specs.Granted.{is_before, is_put_before};
 ghost use Rattle.dlmalloc.specs.Heap.{state_of, segments_of, IsSound};
-ghost use Rattle.dlmalloc.specs.Grown.{IsPrepended, IsPutBefore, HasRoomFor};
+ghost use Rattle.dlmalloc.specs.Grown.{IsPutBefore, HasRoomFor, IsPrependedBesideBins};
 ghost use Rattle.dlmalloc.specs.Prepended.{IsBehindAt};
 ghost use Rattle.dlmalloc.specs.Order.{KeepsBinsInOrder};
-ghost use Rattle.dlmalloc.specs.Binned.{IsIntact, IsSameBins};
+ghost use Rattle.dlmalloc.specs.Binned.{IsIntact};
 ghost use Rattle.dlmalloc.specs.declared.prepend.Behind.TheVariants.{Head, Told};
 
 use crate::grow::may_join;
@@ -120,8 +120,7 @@ impl<A: Allocator> Dlmalloc<A> {
         requires sound { IsSound A.regions A.word self.old }
         requires grant { HasRoomFor n (A.regions self.old.system) (segments_of A.word self.old) grant.now }
         requires behind { IsBehindAt A.word self.old grant.now behind }
-        ensures prepended { IsPrepended A.regions A.word A.follows self.old grant.now n self.new }
-        ensures same { IsSameBins self.old self.new }
+        ensures put { IsPrependedBesideBins A.regions A.word A.follows self.old grant.now n self.new }
     {
         match behind {
             Behind::Head => self.prepend_head(grant, n, steps),
@@ -134,8 +133,7 @@ impl<A: Allocator> Dlmalloc<A> {
         requires sound { IsSound A.regions A.word self.old }
         requires grant { HasRoomFor n (A.regions self.old.system) (segments_of A.word self.old) grant.now }
         requires behind { IsBehindAt A.word self.old grant.now Head }
-        ensures prepended { IsPrepended A.regions A.word A.follows self.old grant.now n self.new }
-        ensures same { IsSameBins self.old self.new }
+        ensures put { IsPrependedBesideBins A.regions A.word A.follows self.old grant.now n self.new }
     {
         self.base = grant.base;
         self.size += grant.size;
@@ -147,8 +145,7 @@ impl<A: Allocator> Dlmalloc<A> {
         requires sound { IsSound A.regions A.word self.old }
         requires grant { HasRoomFor n (A.regions self.old.system) (segments_of A.word self.old) grant.now }
         requires behind { IsBehindAt A.word self.old grant.now (Told payload) }
-        ensures prepended { IsPrepended A.regions A.word A.follows self.old grant.now n self.new }
-        ensures same { IsSameBins self.old self.new }
+        ensures put { IsPrependedBesideBins A.regions A.word A.follows self.old grant.now n self.new }
     {
         let size = self.system.load_counted(payload + 8, steps);
         self.system.store_counted(payload, grant.base, steps);

@@ -3,7 +3,7 @@ ghost use Rattle.std.specs.Prelude.{◌≡◌, ◌≢◌, ℕ, ◌+◌, ◌-◌,
 ghost use Rattle.dlmalloc_chunks.specs.declared.extent.Kind.TheVariants.{Used, Free, Top};
 ghost use Rattle.dlmalloc.specs.Extents.{extent_at, IsChunkSize};
 ghost use Rattle.dlmalloc.specs.State.{extents_in};
-ghost use Rattle.dlmalloc.specs.Resized.{grown_into, in_place, HasSameOthers};
+ghost use Rattle.dlmalloc.specs.Resized.{grown_into, in_place, HasSameOthers, CanTakeFree};
 ghost use Rattle.dlmalloc.specs.Heap.{state_of, IsSound};
 ghost use Rattle.dlmalloc.specs.Turned.{MovesBesideBins};
 ghost use Rattle.dlmalloc.specs.Order.{TurnsInOrder};
@@ -94,11 +94,7 @@ impl<A: Allocator> Dlmalloc<A> {
         steps: &mut Steps<L>,
     )
         requires intact { IsIntact A.regions A.word self.old }
-        requires chunk { extent_at at (extents_in (state_of A.word self.old)) ≡ Some (record { at = at; size = size; kind = Used }) }
-        requires next { extent_at (at + size) (extents_in (state_of A.word self.old)) ≡ Some (record { at = at + size; size = free; kind = Free }) }
-        requires whole { n % 16 ≡ 0 }
-        requires more { size < n }
-        requires room { n ≤ size + free }
+        requires take { CanTakeFree (state_of A.word self.old) at size free n }
         ensures state { state_of A.word self.new ≡ grown_into (state_of A.word self.old) (record { at = at; size = size; kind = Used }) (record { at = at + size; size = free; kind = Free }) n }
         ensures held { (whole : ℕ) × (extent_at at (extents_in (state_of A.word self.new)) ≡ Some (record { at = at; size = whole; kind = Used })) × (n ≤ whole) × (whole < n + 32) }
         ensures others { HasSameOthers (state_of A.word self.old) (state_of A.word self.new) at at }
@@ -123,11 +119,7 @@ impl<A: Allocator> Dlmalloc<A> {
     /// them; any other stays free, and is the victim if the free chunk was.
     fn join_part<L: Ledger>(&mut self, at: u64, size: u64, free: u64, n: u64, steps: &mut Steps<L>)
         requires sound { IsSound A.regions A.word self.old }
-        requires chunk { extent_at at (extents_in (state_of A.word self.old)) ≡ Some (record { at = at; size = size; kind = Used }) }
-        requires next { extent_at (at + size) (extents_in (state_of A.word self.old)) ≡ Some (record { at = at + size; size = free; kind = Free }) }
-        requires whole { n % 16 ≡ 0 }
-        requires more { size < n }
-        requires room { n ≤ size + free }
+        requires take { CanTakeFree (state_of A.word self.old) at size free n }
         ensures state { state_of A.word self.new ≡ grown_into (state_of A.word self.old) (record { at = at; size = size; kind = Used }) (record { at = at + size; size = free; kind = Free }) n }
         ensures held { (whole : ℕ) × (extent_at at (extents_in (state_of A.word self.new)) ≡ Some (record { at = at; size = whole; kind = Used })) × (n ≤ whole) × (whole < n + 32) }
         ensures others { HasSameOthers (state_of A.word self.old) (state_of A.word self.new) at at }

@@ -1,32 +1,28 @@
 use Rattle.dlmalloc.proofs.Names.{◌≡◌, ◌+◌, ◌-◌, ◌≢◌, [], sym, ◌∙◌, ap, subst, arith, Used, Free, extents_in, extent_at, grown_into, HasSameOthers, IsTurned, state_of, IsFreeAt, KeepsOrder}
 use Rattle.dlmalloc.proofs.Extents.Lookup.{extent}
-use Rattle.dlmalloc.proofs.Resizing.IntoFree.{CanTakeFree, IsPartJoined, free_end_small}
+use Rattle.dlmalloc.proofs.Resizing.IntoFree.{IsPartJoined, free_end_small}
 use Rattle.dlmalloc.proofs.Moves.WithBins.{turned}
 use Rattle.dlmalloc.proofs.Bins.Changes.{not_rebinned, none_binned}
 use Rattle.dlmalloc.proofs.Cuts.BinsMeanwhile.{into_victim, into_whole, into_part, part_other, part_came}
 use Rattle.dlmalloc.proofs.Bins.Order.{lessened_as, added_as, order_less, order_left, in_order, bins_kept}
 use Rattle.dlmalloc.proofs.heap.Dlmalloc.grow_into_free.Goals as goal
-use Rattle.dlmalloc.proofs.heap.Dlmalloc.grow_into_free.Goals.{Start, After-join_part, Else-was_victim}
-
--- the chunk can take n bytes with those of the free one after it
-can : (g : _) (c : Start g) → CanTakeFree g.A.Links.word c.args.self.now c.args.at c.args.size c.args.free c.args.n
-can g c = record { there = c.requires.chunk; behind = c.requires.next; whole = c.requires.whole; more = c.requires.more; room = c.requires.room }
+use Rattle.dlmalloc.proofs.heap.Dlmalloc.grow_into_free.Goals.{After-join_part, Else-was_victim}
 
 pub overflow_add-was_victim : goal.overflow_add-was_victim
-overflow_add-was_victim g c = let s = free_end_small c.requires.intact.sound (can g (goal.at.overflow_add-was_victim g c).Start) in grind arith
+overflow_add-was_victim g c = let s = free_end_small c.requires.intact.sound c.requires.take in grind arith
 
 pub overflow_add-rest : goal.overflow_add-rest
-overflow_add-rest g c = let s = free_end_small c.requires.intact.sound (can g (goal.at.overflow_add-rest g c).Start) in grind arith
+overflow_add-rest g c = let s = free_end_small c.requires.intact.sound c.requires.take in grind arith
 
 pub overflow_add-at : goal.overflow_add-at
 overflow_add-at g c =
-    let s = free_end_small c.requires.intact.sound (can g (goal.at.overflow_add-at g c).Start) in
-    let room = c.requires.room in grind arith
+    let s = free_end_small c.requires.intact.sound c.requires.take in
+    let room = c.requires.take.room in grind arith
 
 pub overflow_add-at-2 : goal.overflow_add-at-2
 overflow_add-at-2 g c =
-    let s = free_end_small c.requires.intact.sound (can g (goal.at.overflow_add-at-2 g c).Start) in
-    let room = c.requires.room in grind arith
+    let s = free_end_small c.requires.intact.sound c.requires.take in
+    let room = c.requires.take.room in grind arith
 
 -- ---- what the two calls leave
 
@@ -69,7 +65,7 @@ returns-then-was_victim g c =
 pub returns-then-rest-lt-LEAST_CHUNK : goal.returns-then-rest-lt-LEAST_CHUNK
 returns-then-rest-lt-LEAST_CHUNK g c =
     let at = goal.at.returns-then-rest-lt-LEAST_CHUNK g c in let now = at.After-join_part in
-    let one = c.unbin.ensures in let e = c.join_part.ensures in let little = c.if-rest-lt-LEAST_CHUNK.true in let room = c.requires.room in
+    let one = c.unbin.ensures in let e = c.join_part.ensures in let little = c.if-rest-lt-LEAST_CHUNK.true in let room = c.requires.take.room in
     let order : KeepsOrder g.A.Links.regions g.A.Links.word c.args.self.now c.join_part.new.self = λ b.
     let left = one.loose [] b (λ none. none) in (
       into_whole c.index_stays.ensures one.same.sound (joined g now) e.moves.bins (other g at.Else-was_victim) left.0 (omega arith),
@@ -81,14 +77,14 @@ returns-then-rest-lt-LEAST_CHUNK g c =
 pub bin-requires-clause-other : goal.bin-requires-clause-other
 bin-requires-clause-other g c =
     let at = goal.at.bin-requires-clause-other g c in
-    let many = c.if-rest-lt-LEAST_CHUNK.false in let more = c.requires.more in let room = c.requires.room in
+    let many = c.if-rest-lt-LEAST_CHUNK.false in let more = c.requires.take.more in let room = c.requires.take.room in
     part_other c.index_stays.ensures c.unbin.ensures.same.sound (joined g at.After-join_part) c.join_part.ensures.moves.bins
     (other g at.Else-was_victim) (omega arith) (omega arith)
 
 pub bin-requires-clause-loose : goal.bin-requires-clause-loose
 bin-requires-clause-loose g c =
     let at = goal.at.bin-requires-clause-loose g c in let one = c.unbin.ensures in
-    let many = c.if-rest-lt-LEAST_CHUNK.false in let room = c.requires.room in (
+    let many = c.if-rest-lt-LEAST_CHUNK.false in let room = c.requires.take.room in (
       [],
       into_part c.index_stays.ensures one.same.sound (joined g at.After-join_part) c.join_part.ensures.moves.bins
           (other g at.Else-was_victim) (one.loose [] c.requires.intact.linked (λ none. none)).0 (omega arith),
@@ -98,7 +94,7 @@ pub returns : goal.returns
 returns g c =
     let at = goal.at.returns g c in let now = at.After-join_part in let old = c.args.self.now in let new = c.bin.new.self in
     let one = c.unbin.ensures in let e = c.join_part.ensures in let last = c.bin.ensures in
-    let many = c.if-rest-lt-LEAST_CHUNK.false in let room = c.requires.room in let rest = c.args.at + c.args.n in
+    let many = c.if-rest-lt-LEAST_CHUNK.false in let room = c.requires.take.room in let rest = c.args.at + c.args.n in
     let rest_size = c.args.size + c.args.free - c.args.n in
     let order : KeepsOrder g.A.Links.regions g.A.Links.word old new = λ b.
     let left = one.loose [] b (λ none. none) in
@@ -108,7 +104,7 @@ returns g c =
       in_order rest_size rest b.index left.0.index after.0.index (lessened_as c.args.free (c.args.at + c.args.size) b.index left.0.index left.1)
           (added_as rest_size rest left.0.index after.0.index after.1)
           (λ is. part_came c.index_stays.ensures one.same.sound (joined g now) e.moves.bins (other g at.Else-was_victim) (omega arith)
-          (let m = c.requires.more in omega arith) (subst (λ s. IsFreeAt s rest rest_size) (sym one.same.state) (b.holds.free rest rest_size is))),
+          (let m = c.requires.take.more in omega arith) (subst (λ s. IsFreeAt s rest rest_size) (sym one.same.state) (b.holds.free rest rest_size is))),
     ) in
     record {
       state = last.same.state ∙ state g now;

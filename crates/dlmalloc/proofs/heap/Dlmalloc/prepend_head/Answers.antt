@@ -34,4 +34,6 @@ returns g c =
       second = put.second;
       followed = put.follows;
     } in
-    record { prepended = before_head c.requires.sound halves c.requires.behind put.elsewhere; same = record { bins = refl; victim = refl } }
+    record {
+      put = record { prepended = before_head c.requires.sound halves c.requires.behind put.elsewhere; same = record { bins = refl; victim = refl } };
+    }

@@ -70,8 +70,10 @@ returns g c =
           (g.A.Links.follows_on heap.system at_first at_second [] [] [] one.follows two.follows refl) put.follows refl;
     } in
     record {
-      prepended = before_told c.requires.sound halves c.requires.behind base size
-          (λ k inside not_first not_second not_base not_size. put.elsewhere k (into k inside) not_first not_second
-          ∙ (two.stored.elsewhere k (onto k inside) not_size ∙ one.stored.elsewhere k inside not_base));
-      same = record { bins = refl; victim = refl };
+      put = record {
+        prepended = before_told c.requires.sound halves c.requires.behind base size
+            (λ k inside not_first not_second not_base not_size. put.elsewhere k (into k inside) not_first not_second
+            ∙ (two.stored.elsewhere k (onto k inside) not_size ∙ one.stored.elsewhere k inside not_base));
+        same = record { bins = refl; victim = refl };
+      };
     }

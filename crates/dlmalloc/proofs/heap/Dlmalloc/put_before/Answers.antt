@@ -5,19 +5,19 @@ use Rattle.dlmalloc.proofs.heap.Dlmalloc.put_before.Goals as goal
 
 pub dispose_chunk-requires-clause-intact : goal.dispose_chunk-requires-clause-intact
 dispose_chunk-requires-clause-intact g c =
-    let first = c.prepend.ensures.prepended in
+    let first = c.prepend.ensures.put.prepended in
     record {
       sound = first.sound;
-      linked = prepended_binned first c.index_stays.ensures c.requires.intact.sound c.prepend.ensures.same c.requires.intact.linked;
+      linked = prepended_binned first c.index_stays.ensures c.requires.intact.sound c.prepend.ensures.put.same c.requires.intact.linked;
     }
 
 pub returns : goal.returns
 returns g c =
     let heap = c.args.self.now in let middle = c.prepend.new.self in let new = c.dispose_chunk.new.self in
-    let first = c.prepend.ensures.prepended in let last = c.dispose_chunk.ensures in
+    let first = c.prepend.ensures.put.prepended in let last = c.dispose_chunk.ensures in
     record {
       put = put_before_is c.requires.grant.bytes.least first last.state last.less last.turned.moved last.records
           (g.A.Links.follows_on heap.system middle.system new.system [] [] [] first.followed last.turned.moved.followed refl);
-      bins = bins_kept (λ b. last.turned.bins.order (prepended_binned first c.index_stays.ensures c.requires.intact.sound c.prepend.ensures.same b))
+      bins = bins_kept (λ b. last.turned.bins.order (prepended_binned first c.index_stays.ensures c.requires.intact.sound c.prepend.ensures.put.same b))
           c.requires.intact.linked;
     }

@@ -1,4 +1,4 @@
-use Rattle.dlmalloc.proofs.Names.{◌≡◌, ◌+◌, true, false, nat_le, nat_lt, Some, refl, sym, ◌∙◌, ap, arith, nat_tests, Free, extent_at, extents_in, state_of}
+use Rattle.dlmalloc.proofs.Names.{◌≡◌, ◌+◌, true, false, nat_le, nat_lt, Some, sym, ◌∙◌, ap, arith, nat_tests, Free, extent_at, extents_in, state_of}
 use Rattle.dlmalloc.proofs.Extents.Lookup.{extent}
 use Rattle.std.proofs.lemmas.Bool.{not-false, not-true}
 use Rattle.dlmalloc.proofs.Cuts.OneStepOrTwo.{as_turned}
@@ -89,11 +89,14 @@ returns-then-free-more-clause-none g c =
     let free = free_chunk g (goal.at.returns-then-free-more-clause-none g c).After-size-free in
     λ no. has_no_room (state_of g.A.Links.word c.args.self.now) c.args.n there more free room
 
-pub grow_into_free-requires-clause-chunk : goal.grow_into_free-requires-clause-chunk
-grow_into_free-requires-clause-chunk g c = chunk_told c.requires.intact.sound c.requires.chunk.1 c.size-size.ensures.value
-
-pub grow_into_free-requires-clause-next : goal.grow_into_free-requires-clause-next
-grow_into_free-requires-clause-next g c = free_chunk g (goal.at.grow_into_free-requires-clause-next g c).After-size-free
+pub grow_into_free-requires-clause-take : goal.grow_into_free-requires-clause-take
+grow_into_free-requires-clause-take g c = record {
+  chunk = chunk_told c.requires.intact.sound c.requires.chunk.1 c.size-size.ensures.value;
+  next = free_chunk g (goal.at.grow_into_free-requires-clause-take g c).After-size-free;
+  whole = c.requires.bytes.whole;
+  more = c.if-n-size.false;
+  room = (let more = c.if-n-size.false in let much = c.if-free-more.false in omega arith);
+}
 
 pub returns-clause-resized : goal.returns-clause-resized
 returns-clause-resized g c =
