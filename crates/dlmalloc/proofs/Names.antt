@@ -37,13 +37,13 @@ pub use Rattle.bins.specs.Linked.{OnlyLinksChange}
 pub use Rattle.bins.specs.declared.bins.Bins.{Bins}
 pub use Rattle.dlmalloc.specs.AfterFree.{IsFreed, IsSettled, is_above_check}
 pub use Rattle.dlmalloc.specs.Aligned.{HasOneMoved, KeepsOthers, aligned, aligned_place, lead_freed, tail_cut}
-pub use Rattle.dlmalloc.specs.Binned.{FreeMoves, HoldsBinned, HoldsBut, IsBinned, IsBinnedBut, IsFreeAt, IsMember, IsRebinned, IsSameBins, IsVictimAfter, OnlyFreeChange}
+pub use Rattle.dlmalloc.specs.Binned.{FreeMoves, HoldsBinned, HoldsBut, IsBinned, IsBinnedBut, IsFreeAt, IsIntact, IsMember, IsRebinned, IsSameBins, IsVictimAfter, OnlyFreeChange}
 pub use Rattle.dlmalloc.specs.Blocks.{HasOneMore, IsBlock, IsFull, IsInside, KeepsBlocks}
 pub use Rattle.dlmalloc.specs.Boundaries.{IsBoundary, IsInFree, IsInRecord, IsOwn, OnlyBoundariesChange, OnlyOwnChange, OnlyOwnOrTagsChange, OnlyTagsChange}
 pub use Rattle.dlmalloc.specs.Chained.{HaveLeft, IsChained, IsLinked, IsVisited}
 pub use Rattle.dlmalloc.specs.Choice.{IsChosen, OfBins, TheTop, TheVictim, choose, chosen, least_fit, least_from}
 pub use Rattle.dlmalloc.specs.Counts.{pass_steps}
-pub use Rattle.dlmalloc.specs.Extents.{HasChunk, MayStand, Tiles, extent_at, is_used, kind_of, last_kind, told_size}
+pub use Rattle.dlmalloc.specs.Extents.{HasChunk, IsChunkSize, MayStand, Tiles, extent_at, is_used, kind_of, last_kind, told_size}
 unfoldable pub use Rattle.dlmalloc.specs.Extents.{chunks_from}
 pub use Rattle.dlmalloc.specs.Freed.{before, freed, freed_in, has, victim_in}
 pub use Rattle.dlmalloc.specs.GivenBack.{AreGivenBack, IsCounted, IsPassed, told_of}
@@ -52,18 +52,18 @@ pub use Rattle.dlmalloc.specs.Grown.{HasSameUsed, IsAdmitted, IsFreshGrant, IsPr
 pub use Rattle.dlmalloc.specs.Heap.{AreTold, IsGranularity, IsSound, segments_of, state_of}
 pub use Rattle.dlmalloc.specs.Moved.{IsElsewhere, IsGivenSize, IsInPlace, IsResized}
 pub use Rattle.dlmalloc.specs.Moves.{AllSpare, HasMore, IsMove, IsRunOf, IsSpared, used_of}
-pub use Rattle.dlmalloc.specs.Order.{AreInOrder, IsPart, IsReindexed, KeepsOrder, after_pass, after_trim, after_visit, after_visits}
+pub use Rattle.dlmalloc.specs.Order.{AreInOrder, IsPart, IsReindexed, KeepsBinsInOrder, KeepsOrder, TurnsInOrder, after_pass, after_trim, after_visit, after_visits}
 pub use Rattle.dlmalloc.specs.Prepended.{IsHeadBehind, IsToldBehind, payload_behind}
 pub use Rattle.dlmalloc.specs.Record.{IsRecordAt}
 pub use Rattle.dlmalloc.specs.Released.{IsFreeAround, bytes_of, counted, handed_out, is_counted, is_own, is_unused, left_by_count, may_leave, passed, regions_without, releases, staying, taken_back}
 pub use Rattle.dlmalloc.specs.Requested.{IsFound, IsHandedOut, IsMemberServed, IsServedAligned, IsServedAt, asked, spans}
-pub use Rattle.dlmalloc.specs.Resized.{HasSameOthers, exchanged, grown_into, halves, has_room, in_place, joined, replaced_both, tail_freed}
+pub use Rattle.dlmalloc.specs.Resized.{CanSplit, CanTakeFree, HasSameOthers, exchanged, grown_into, halves, has_room, in_place, joined, replaced_both, tail_freed}
 pub use Rattle.dlmalloc.specs.Segments.{AreApart, AreRecords, AreSegments, IsApartFrom, IsFlaggedRun, IsSegment, IsWithin, has_byte_in, record_of}
 unfoldable pub use Rattle.dlmalloc.specs.Segments.{records_from}
 pub use Rattle.dlmalloc.specs.Listed.{AreSpans}
 pub use Rattle.dlmalloc.specs.Served.{IsBehindTop, IsCutOut, IsObtained, IsServed, IsTakenFromGrant}
 pub use Rattle.dlmalloc.specs.Disposed.{IsDisposed}
-pub use Rattle.dlmalloc.specs.Turned.{IsMoved, IsTurned}
+pub use Rattle.dlmalloc.specs.Turned.{IsMoved, IsTurned, MovesBesideBins}
 pub use Rattle.dlmalloc.specs.Resting.{KeepsRegions, OnlyBlocksChange, regions_in}
 pub use Rattle.dlmalloc.specs.Shortened.{IsCutBack, IsShortened, IsTrimmed}
 pub use Rattle.dlmalloc.specs.State.{HeapState, Segment, by_address, countdown_from, extents_in, is_binned, is_free_below_top, is_victim, shown, size_where, trim_threshold, with_item}

@@ -70,3 +70,8 @@ Tiles words before at (extent ∷ extents) end =
 abbrev pub last_kind : Kind → List Extent → Kind
 last_kind before [] = before
 last_kind before (extent ∷ extents) = last_kind extent.kind extents
+
+-- a number of bytes that a chunk may have: whole units of 16, and at least 32
+pub record IsChunkSize (n : ℕ) : Type 0 where
+  pub whole : n % 16 ≡ 0
+  pub least : 32 ≤ n

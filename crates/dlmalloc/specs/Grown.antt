@@ -7,7 +7,7 @@ use Rattle.heap_memory.specs.Events.{Event, Granted}
 use Rattle.dlmalloc_chunks.specs.Request.{round_up}
 use Rattle.dlmalloc_chunks.specs.declared.extent.Extent.{Extent}
 use Rattle.dlmalloc_chunks.specs.declared.extent.Kind.TheVariants.{Used}
-use Rattle.dlmalloc.specs.Extents.{extent_at}
+use Rattle.dlmalloc.specs.Extents.{extent_at, IsChunkSize}
 use Rattle.dlmalloc.specs.State.{HeapState, Segment, extents_in}
 use Rattle.dlmalloc.specs.Boundaries.{IsInRecord, OnlyTagsChange, IsInFree, IsOwn, OnlyOwnOrTagsChange}
 use Rattle.dlmalloc.specs.Granted.{opened, is_behind, is_put_before, prepended, granted}
@@ -16,6 +16,7 @@ use Rattle.dlmalloc.specs.Blocks.{HasOneMore}
 use Rattle.dlmalloc.specs.Segments.{IsFlaggedRun, IsApartFrom}
 use Rattle.dlmalloc.specs.Heap.{state_of, IsSound}
 use Rattle.dlmalloc.specs.Order.{KeepsIndex}
+use Rattle.dlmalloc.specs.Binned.{IsSameBins, FreeMoves}
 use Rattle.dlmalloc.specs.declared.heap.Dlmalloc.{Dlmalloc}
 
 -- A grant is a region that no segment has.
@@ -27,6 +28,12 @@ pub record IsFreshGrant (regions : List Grant) (segments : List Segment) (grant 
   pub size_aligned : grant.size % 16 ≡ 0
   pub low : 4096 ≤ grant.base
   pub high : grant.base + grant.size < 2 ^ 64
+
+-- A fresh grant has room for a chunk of n bytes, and for the end of a segment.
+pub record HasRoomFor (n : ℕ) (regions : List Grant) (segments : List Segment) (grant : Grant) : Type 0 where
+  pub fresh : IsFreshGrant regions segments grant
+  pub bytes : IsChunkSize n
+  pub room : n + 96 ≤ grant.size
 
 -- the same extents are in use
 pub record HasSameUsed (old new : HeapState) : Type 0 where
@@ -66,6 +73,12 @@ pub record IsAdmitted {A : Type 0} (regions : A → List Grant) (word : A → �
   -- of the grant only the heads of the top and of its foot are written
   pub new_words : (k : ℕ) → IsWordOf (regions old.system) k → grant.base ≤ k → k < grant.base + grant.size → k ≢ new.top + 8 → k ≢ new.top + new.top_size + 8 → word new.system k ≡ word old.system k
 
+-- A grant was admitted so beside the bins: nothing was done to them, and free extents came at some addresses.
+pub record IsAdmittedBesideBins {A : Type 0} (regions : A → List Grant) (word : A → ℕ → ℕ) (follows : A → List Event → A → Type 0) (old : Dlmalloc A) (grant : Grant) (more : List ℕ) (new : Dlmalloc A) : Type 0 where
+  pub joined : IsAdmitted regions word follows old grant new
+  pub free : FreeMoves (state_of word old) (state_of word new) [] more
+  pub same : IsSameBins old new
+
 -- A grant stands before a segment of a heap, in two parts that are in use.
 pub record IsPrepended {A : Type 0} (regions : A → List Grant) (word : A → ℕ → ℕ) (follows : A → List Event → A → Type 0) (old : Dlmalloc A) (grant : Grant) (n : ℕ) (new : Dlmalloc A) : Type 0 where
   pub state : state_of word new ≡ prepended grant n (state_of word old)
@@ -80,6 +93,11 @@ pub record IsPrepended {A : Type 0} (regions : A → List Grant) (word : A → �
   pub apart : (one : Extent) → extent_at one.at (extents_in (state_of word old)) ≡ Some one → (one.at ≢ grant.base) × (one.at ≢ grant.base + n)
   pub words : (k : ℕ) → IsWordOf (regions old.system) k → (k < grant.base) ⊎ (grant.base + grant.size ≤ k) → (IsInRecord (state_of word new) k → ⊥) → word new.system k ≡ word old.system k
   pub new_words : (k : ℕ) → IsWordOf (regions old.system) k → grant.base ≤ k → k < grant.base + grant.size → k ≢ grant.base + 8 → k ≢ grant.base + n + 8 → word new.system k ≡ word old.system k
+
+-- A grant was put so before a segment beside the bins: nothing was done to them.
+pub record IsPrependedBesideBins {A : Type 0} (regions : A → List Grant) (word : A → ℕ → ℕ) (follows : A → List Event → A → Type 0) (old : Dlmalloc A) (grant : Grant) (n : ℕ) (new : Dlmalloc A) : Type 0 where
+  pub prepended : IsPrepended regions word follows old grant n new
+  pub same : IsSameBins old new
 
 -- Of such a grant the first part is a block's, and the other was freed.
 pub record IsPutBefore {A : Type 0} (regions : A → List Grant) (word : A → ℕ → ℕ) (follows : A → List Event → A → Type 0) (old : Dlmalloc A) (grant : Grant) (n : ℕ) (new : Dlmalloc A) : Type 0 where

@@ -1,11 +1,13 @@
 -- In what order a call leaves the chunks of each size in the bins (dlmalloc: `insert_chunk`, `unlink_chunk`).
 use Rattle.std.specs.Prelude.{◌≡◌, ℕ, ◌≤◌, ◌⊎◌, List, [], ◌∷◌, ◌++◌, length, Bool, ◌&&◌, nat_le, ◌-◌, if◌then◌else◌}
 use Rattle.heap_memory.specs.declared.grant.Grant.{Grant}
+use Rattle.heap_memory.specs.Events.{Event}
 use Rattle.bins.specs.Index.{IsIn, AreDistinct, with_chunk, without_chunk}
 use Rattle.dlmalloc.specs.State.{HeapState, Segment}
 use Rattle.dlmalloc.specs.Released.{may_leave, is_counted}
 use Rattle.dlmalloc.specs.Trimmed.{is_trimmed}
 use Rattle.dlmalloc.specs.Binned.{HoldsBinned, IsBinned}
+use Rattle.dlmalloc.specs.Turned.{IsTurned}
 use Rattle.dlmalloc.specs.declared.heap.Dlmalloc.{Dlmalloc}
 
 -- chunks are some of others, in the order in which they stand there
@@ -41,6 +43,16 @@ KeepsOrder regions word old new = (before : IsBinned regions word old) → (afte
 abbrev pub KeepsOrderThrough : {A : Type 0} → (A → List Grant) → (A → ℕ → ℕ) → HeapState → Dlmalloc A → Dlmalloc A → Type 0
 KeepsOrderThrough regions word state old new = (before : IsBinned regions word old) →
     (middle : ℕ → List ℕ) × HoldsBinned state middle × AreInOrder before.index middle × ((after : IsBinned regions word new) × AreInOrder middle after.index)
+
+-- The bins hold what they should, and chunks of one size keep their order.
+pub record KeepsBinsInOrder {A : Type 0} (regions : A → List Grant) (word : A → ℕ → ℕ) (old new : Dlmalloc A) : Type 0 where
+  pub linked : IsBinned regions word new
+  pub order : KeepsOrder regions word old new
+
+-- The heap moved with its bins, and they are in order.
+pub record TurnsInOrder {A : Type 0} (regions : A → List Grant) (word : A → ℕ → ℕ) (follows : A → List Event → A → Type 0) (old new : Dlmalloc A) : Type 0 where
+  pub moved : IsTurned regions word follows old new
+  pub bins : KeepsBinsInOrder regions word old new
 
 -- ---- a release pass
 

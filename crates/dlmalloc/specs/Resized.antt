@@ -1,8 +1,8 @@
 -- A block gets another size where it stands (dlmalloc: `try_realloc_chunk`).
-use Rattle.std.specs.Prelude.{◌≡◌, ◌≢◌, ℕ, ◌+◌, ◌-◌, Bool, ◌&&◌, ◌==◌, nat_le, nat_lt, if◌then◌else◌, List, [], ◌∷◌, ◌++◌, Option, Some, None}
+use Rattle.std.specs.Prelude.{◌≡◌, ◌≢◌, ℕ, ◌+◌, ◌-◌, ◌%◌, ◌<◌, ◌≤◌, Bool, ◌&&◌, ◌==◌, nat_le, nat_lt, if◌then◌else◌, List, [], ◌∷◌, ◌++◌, Option, Some, None}
 use Rattle.dlmalloc_chunks.specs.declared.extent.Extent.{Extent}
-use Rattle.dlmalloc_chunks.specs.declared.extent.Kind.TheVariants.{Used}
-use Rattle.dlmalloc.specs.Extents.{extent_at, is_free}
+use Rattle.dlmalloc_chunks.specs.declared.extent.Kind.TheVariants.{Used, Free}
+use Rattle.dlmalloc.specs.Extents.{extent_at, is_free, IsChunkSize}
 use Rattle.dlmalloc.specs.State.{HeapState, extents_in, is_top, is_victim}
 use Rattle.dlmalloc.specs.Taken.{replaced, in_segments, leaves_rest, cut}
 use Rattle.dlmalloc.specs.Freed.{freed}
@@ -14,6 +14,12 @@ exchanged heap at others = record heap { segments = in_segments (replaced at oth
 -- an extent in use as two: its first n bytes, and the rest
 abbrev pub halves : ℕ → Extent → List Extent
 halves n extent = (record { at = extent.at; size = n; kind = Used }) ∷ (record { at = extent.at + n; size = extent.size - n; kind = Used }) ∷ []
+
+-- A chunk in use can be split after its first n bytes.
+pub record CanSplit (heap : HeapState) (at size n : ℕ) : Type 0 where
+  pub chunk : extent_at at (extents_in heap) ≡ Some (record { at = at; size = size; kind = Used })
+  pub bytes : IsChunkSize n
+  pub room : n + 32 ≤ size
 
 -- n bytes of the extent in use at an address stay in use, and the rest is freed
 abbrev pub tail_freed : HeapState → ℕ → ℕ → HeapState
@@ -37,6 +43,14 @@ joined extent next = record { at = extent.at; size = extent.size + next.size; ki
 -- whether an extent is free, and n bytes can be cut from it: the top is never used up
 abbrev pub has_room : ℕ → Extent → Bool
 has_room n extent = if is_top extent.kind then nat_lt n extent.size else is_free extent.kind && nat_le n extent.size
+
+-- A chunk in use stands before a free one, and together they have n bytes.
+pub record CanTakeFree (heap : HeapState) (at size free n : ℕ) : Type 0 where
+  pub chunk : extent_at at (extents_in heap) ≡ Some (record { at = at; size = size; kind = Used })
+  pub next : extent_at (at + size) (extents_in heap) ≡ Some (record { at = at + size; size = free; kind = Free })
+  pub whole : n % 16 ≡ 0
+  pub more : size < n
+  pub room : n ≤ size + free
 
 -- An extent in use takes n bytes, those of the free one after it among them. A rest of less than 32 stays with it, but
 -- for the top's; any other rest is what the free one was: the top, the victim or in a bin.

@@ -1,8 +1,10 @@
 -- A free extent is cut for a request (dlmalloc: `malloc_small`, `malloc_large`).
-use Rattle.std.specs.Prelude.{ℕ, ◌+◌, ◌-◌, Bool, ◌&&◌, ◌||◌, ◌==◌, nat_le, nat_lt, if◌then◌else◌, List, [], ◌∷◌, map, flat_map}
+use Rattle.std.specs.Prelude.{◌≡◌, ℕ, ◌+◌, ◌-◌, ◌≤◌, Bool, ◌&&◌, ◌||◌, ◌==◌, nat_le, nat_lt, if◌then◌else◌, List, [], ◌∷◌, map, flat_map, Some}
 use Rattle.dlmalloc_chunks.specs.declared.extent.Extent.{Extent}
-use Rattle.dlmalloc_chunks.specs.declared.extent.Kind.TheVariants.{Used}
-use Rattle.dlmalloc.specs.State.{HeapState, Segment, is_top}
+use Rattle.dlmalloc_chunks.specs.declared.extent.Kind.TheVariants.{Used, Free}
+use Rattle.dlmalloc.specs.Extents.{extent_at, IsChunkSize}
+use Rattle.dlmalloc.specs.State.{HeapState, Segment, extents_in, is_top}
+use Rattle.dlmalloc.specs.Blocks.{HasOneMore}
 
 -- the extents, with others for the one at an address
 abbrev pub replaced : ℕ → (Extent → List Extent) → List Extent → List Extent
@@ -34,3 +36,14 @@ taken heap extent n = record heap {
   segments = in_segments (replaced extent.at (cut n)) heap.segments;
   victim = victim_after heap n extent;
 }
+
+-- A free chunk can be cut for n bytes.
+pub record CanCut (heap : HeapState) (at size n : ℕ) : Type 0 where
+  pub chunk : extent_at at (extents_in heap) ≡ Some (record { at = at; size = size; kind = Free })
+  pub bytes : IsChunkSize n
+  pub fits : n ≤ size
+
+-- Bytes were taken from an extent: one more is in use, where it begins.
+pub record IsTaken (old : HeapState) (extent : Extent) (n : ℕ) (new : HeapState) : Type 0 where
+  pub state : new ≡ taken old extent n
+  pub more : HasOneMore old new extent.at

@@ -10,12 +10,12 @@ ghost use Rattle.dlmalloc.specs.Freed.{freed};
 ghost use Rattle.dlmalloc.specs.Blocks.{IsBlock, HasOneMore};
 ghost use Rattle.dlmalloc.specs.Released.{IsFreeAround};
 ghost use Rattle.dlmalloc.specs.Heap.{state_of, IsSound};
-ghost use Rattle.dlmalloc.specs.Turned.{IsMoved, IsTurned};
+ghost use Rattle.dlmalloc.specs.Turned.{MovesBesideBins};
 ghost use Rattle.dlmalloc.specs.Disposed.{IsDisposed};
-ghost use Rattle.dlmalloc.specs.Binned.{IsBinned, IsBinnedBut, IsRebinned, IsJoint, IsVictimAfter, FreeMoves};
+ghost use Rattle.dlmalloc.specs.Binned.{IsBinned, IsIntact, IsBinnedBut, IsRebinned, IsJoint, IsVictimAfter};
 ghost use Rattle.dlmalloc.specs.AfterFree.{IsFreed};
 ghost use Rattle.dlmalloc.specs.Counts.{pass_steps};
-ghost use Rattle.dlmalloc.specs.Order.{KeepsOrder, IsAdded};
+ghost use Rattle.dlmalloc.specs.Order.{IsAdded, TurnsInOrder};
 
 use crate::heap::Dlmalloc;
 use crate::layout::{BLOCK, HEAD, PINUSE};
@@ -32,8 +32,7 @@ impl<A: Allocator> Dlmalloc<A> {
     /// chunk's head has its size. At most 1024 words are loaded or stored, and 512 more for each segment if a release
     /// pass is made.
     pub fn free<L: Ledger>(&mut self, ptr: u64, size: u64, align: u64, steps: &mut Steps<L>)
-        requires sound { IsSound A.regions A.word self.old }
-        requires linked { IsBinned A.regions A.word self.old }
+        requires intact { IsIntact A.regions A.word self.old }
         requires block { IsBlock (state_of A.word self.old) ptr size }
         ensures freed { IsFreed A.regions A.word A.follows (A.frees self.old.system) (A.parts self.old.system) (A.unit self.old.system) self.old ptr self.new }
         ensures linked { IsBinned A.regions A.word self.new }
@@ -44,13 +43,11 @@ impl<A: Allocator> Dlmalloc<A> {
 
     /// Frees a block whose size is not given; does nothing if there is none (dlmalloc: `c_free`).
     pub fn c_free<L: Ledger>(&mut self, ptr: Option<u64>, steps: &mut Steps<L>)
-        requires sound { IsSound A.regions A.word self.old }
-        requires linked { IsBinned A.regions A.word self.old }
+        requires intact { IsIntact A.regions A.word self.old }
         requires block { IfSome ptr (λ address. (size : ℕ) × IsBlock (state_of A.word self.old) address size) }
         ensures freed { IfSome ptr (λ address. IsFreed A.regions A.word A.follows (A.frees self.old.system) (A.parts self.old.system) (A.unit self.old.system) self.old address self.new) }
         ensures none { IfNone ptr (self.new ≡ self.old) }
-        ensures sound { IsSound A.regions A.word self.new }
-        ensures linked { IsBinned A.regions A.word self.new }
+        ensures intact { IsIntact A.regions A.word self.new }
         ensures counted { steps.new ≤ steps.old + 1024 + pass_steps (state_of A.word self.old) }
     {
         if let Some(address) = ptr {
@@ -60,8 +57,7 @@ impl<A: Allocator> Dlmalloc<A> {
 
     /// Frees the chunk of a block of some size, and answers where the free chunk that it is then part of begins.
     pub(crate) fn free_block<L: Ledger>(&mut self, ptr: u64, steps: &mut Steps<L>) -> u64
-        requires sound { IsSound A.regions A.word self.old }
-        requires linked { IsBinned A.regions A.word self.old }
+        requires intact { IsIntact A.regions A.word self.old }
         requires block { (size : ℕ) × IsBlock (state_of A.word self.old) ptr size }
         ensures freed { IsDisposed A.regions A.word A.follows self.old ptr self.new }
         ensures around { IsFreeAround (state_of A.word self.new) (ptr - 16) result }
@@ -82,16 +78,13 @@ impl<A: Allocator> Dlmalloc<A> {
         size: u64,
         steps: &mut Steps<L>,
     ) -> u64
-        requires sound { IsSound A.regions A.word self.old }
-        requires linked { IsBinned A.regions A.word self.old }
+        requires intact { IsIntact A.regions A.word self.old }
         requires chunk { extent_at at (extents_in (state_of A.word self.old)) ≡ Some (record { at = at; size = size; kind = Used }) }
         ensures state { state_of A.word self.new ≡ freed (state_of A.word self.old) at }
         ensures less { HasOneMore (state_of A.word self.new) (state_of A.word self.old) at }
         ensures records { (one : Extent) → one.kind ≡ Record → extent_at one.at (extents_in (state_of A.word self.old)) ≡ Some one → extent_at one.at (extents_in (state_of A.word self.new)) ≡ Some one }
         ensures around { IsFreeAround (state_of A.word self.new) at result }
-        ensures moved { IsTurned A.regions A.word A.follows self.old self.new }
-        ensures linked { IsBinned A.regions A.word self.new }
-        ensures order { KeepsOrder A.regions A.word self.old self.new }
+        ensures turned { TurnsInOrder A.regions A.word A.follows self.old self.new }
         ensures counted { steps.new ≤ steps.old + 529 }
     {
         let from = self.free_begin(at, steps);
@@ -117,11 +110,9 @@ impl<A: Allocator> Dlmalloc<A> {
         ensures less { HasOneMore (state_of A.word self.new) (state_of A.word self.old) at }
         ensures records { (one : Extent) → one.kind ≡ Record → extent_at one.at (extents_in (state_of A.word self.old)) ≡ Some one → extent_at one.at (extents_in (state_of A.word self.new)) ≡ Some one }
         ensures around { IsFreeAround (state_of A.word self.new) at from }
-        ensures free { FreeMoves (state_of A.word self.old) (state_of A.word self.new) (from ∷ (at + size) ∷ []) (from ∷ []) }
         ensures joined { IsJoint (state_of A.word self.new) self.new.top from (to - from) }
         ensures victim { IsVictimAfter from to self.old.victim self.new.victim }
-        ensures bins { self.new.bins ≡ self.old.bins }
-        ensures moved { IsMoved A.regions A.word A.follows self.old self.new }
+        ensures moves { MovesBesideBins A.regions A.word A.follows self.old (from ∷ (at + size) ∷ []) (from ∷ []) self.new }
         ensures counted { steps.new ≤ steps.old + 4 }
     {
         if to == self.top {

@@ -5,14 +5,15 @@ ghost use Rattle.dlmalloc_chunks.specs.Request.{round_up};
 ghost use Rattle.heap_memory.specs.Events.{Refused};
 ghost use Rattle.heap_memory.specs.Regions.{IsWordOf};
 ghost use Rattle.dlmalloc_chunks.specs.Chunk.{HasFoot};
+ghost use Rattle.dlmalloc.specs.Extents.{IsChunkSize};
 ghost use Rattle.dlmalloc.specs.State.{trim_threshold};
 ghost use Rattle.dlmalloc.specs.Granted.{is_behind, is_put_before};
 ghost use Rattle.dlmalloc.specs.Choice.{chosen};
 ghost use Rattle.dlmalloc.specs.Served.{IsCutOut};
 ghost use Rattle.dlmalloc.specs.Heap.{state_of, segments_of, IsSound, IsGranularity};
-ghost use Rattle.dlmalloc.specs.Grown.{IsFreshGrant, IsGrantJoined, IsAdmitted, IsGrown, IsAsItWas};
-ghost use Rattle.dlmalloc.specs.Order.{KeepsOrder};
-ghost use Rattle.dlmalloc.specs.Binned.{IsFreeAt, IsBinned, IsSameBins, FreeMoves};
+ghost use Rattle.dlmalloc.specs.Grown.{IsFreshGrant, IsGrantJoined, IsGrown, IsAsItWas, IsAdmittedBesideBins};
+ghost use Rattle.dlmalloc.specs.Order.{KeepsBinsInOrder};
+ghost use Rattle.dlmalloc.specs.Binned.{IsFreeAt, IsIntact};
 
 use crate::heap::{Dlmalloc, countdown_from};
 use crate::layout::{BLOCK, FOOT, HEAD, LEAST_CHUNK, OVERHEAD, PINUSE, TRIM_THRESHOLD};
@@ -44,18 +45,15 @@ impl<A: Allocator> Dlmalloc<A> {
         n: u64,
         steps: &mut Steps<L>,
     ) -> Result<Option<u64>, GrantFault>
-        requires sound { IsSound A.regions A.word self.old }
-        requires linked { IsBinned A.regions A.word self.old }
+        requires intact { IsIntact A.regions A.word self.old }
         requires none { chosen (state_of A.word self.old) n ≡ None }
-        requires whole { n % 16 ≡ 0 }
-        requires least { 32 ≤ n }
+        requires bytes { IsChunkSize n }
         requires small { n + 96 + self.old.granularity ≤ 2 ^ 64 }
         ensures cut { IfOk result (λ chunk. (at : ℕ) → chunk ≡ Some at → IsCutOut A.regions A.word A.zeros A.follows self.old n at self.new) }
         ensures top { IfOk result (λ chunk. chunk ≡ None → IsGrown A.regions A.word A.zeros A.follows self.old n self.new) }
         ensures err { IfErr result (λ fault. IsAsItWas A.regions A.word A.follows A.refuses (Refused (round_up (n + 96) self.old.granularity) fault ∷ []) self.old self.new) }
         ensures denied { IfErr result (λ fault. A.denies self.old.system (round_up (n + 96) self.old.granularity) fault) }
-        ensures linked { IsBinned A.regions A.word self.new }
-        ensures order { KeepsOrder A.regions A.word self.old self.new }
+        ensures bins { KeepsBinsInOrder A.regions A.word self.old self.new }
         ensures refused_counted { IfErr result (λ fault. steps.new ≡ steps.old) }
     {
         let asked = self.asked(n);
@@ -75,13 +73,11 @@ impl<A: Allocator> Dlmalloc<A> {
 
     /// Makes a grant part of the heap. It is put before no segment.
     fn join<L: Ledger>(&mut self, grant: &Grant, steps: &mut Steps<L>)
-        requires sound { IsSound A.regions A.word self.old }
-        requires linked { IsBinned A.regions A.word self.old }
+        requires intact { IsIntact A.regions A.word self.old }
         requires fresh { IsFreshGrant (A.regions self.old.system) (segments_of A.word self.old) grant.now }
         requires apart { is_put_before grant.now (segments_of A.word self.old) ≡ false }
         ensures joined { IsGrantJoined A.regions A.word A.follows self.old grant.now self.new }
-        ensures linked { IsBinned A.regions A.word self.new }
-        ensures order { KeepsOrder A.regions A.word self.old self.new }
+        ensures bins { KeepsBinsInOrder A.regions A.word self.old self.new }
     {
         index_stays();
         if self.size == 0 {
@@ -107,9 +103,7 @@ impl<A: Allocator> Dlmalloc<A> {
         requires sound { IsSound A.regions A.word self.old }
         requires none { self.old.size ≡ 0 }
         requires fresh { IsFreshGrant (A.regions self.old.system) (segments_of A.word self.old) grant.now }
-        ensures joined { IsAdmitted A.regions A.word A.follows self.old grant.now self.new }
-        ensures free { FreeMoves (state_of A.word self.old) (state_of A.word self.new) [] [] }
-        ensures same { IsSameBins self.old self.new }
+        ensures admitted { IsAdmittedBesideBins A.regions A.word A.follows self.old grant.now [] self.new }
     {
         self.next = 0;
         self.countdown = countdown_from(self.rate);
@@ -122,9 +116,7 @@ impl<A: Allocator> Dlmalloc<A> {
         requires there { 0 < self.old.size }
         requires fresh { IsFreshGrant (A.regions self.old.system) (segments_of A.word self.old) grant.now }
         requires behind { is_behind grant.now (record { base = self.old.base; size = self.old.size; flags = self.old.flags; extents = [] }) ≡ true }
-        ensures joined { IsAdmitted A.regions A.word A.follows self.old grant.now self.new }
-        ensures free { FreeMoves (state_of A.word self.old) (state_of A.word self.new) [] [] }
-        ensures same { IsSameBins self.old self.new }
+        ensures admitted { IsAdmittedBesideBins A.regions A.word A.follows self.old grant.now [] self.new }
     {
         self.size += grant.size;
         self.trim_check = TRIM_THRESHOLD;
@@ -134,15 +126,13 @@ impl<A: Allocator> Dlmalloc<A> {
     /// Makes a grant the head segment. What was the top is freed, and goes into its bin, and a record after it
     /// describes the segment that it is in.
     fn add_segment<L: Ledger>(&mut self, grant: &Grant, steps: &mut Steps<L>)
-        requires sound { IsSound A.regions A.word self.old }
-        requires linked { IsBinned A.regions A.word self.old }
+        requires intact { IsIntact A.regions A.word self.old }
         requires there { 0 < self.old.size }
         requires fresh { IsFreshGrant (A.regions self.old.system) (segments_of A.word self.old) grant.now }
         requires apart { is_put_before grant.now (segments_of A.word self.old) ≡ false }
         requires beside { is_behind grant.now (record { base = self.old.base; size = self.old.size; flags = self.old.flags; extents = [] }) ≡ false }
         ensures joined { IsGrantJoined A.regions A.word A.follows self.old grant.now self.new }
-        ensures linked { IsBinned A.regions A.word self.new }
-        ensures order { KeepsOrder A.regions A.word self.old self.new }
+        ensures bins { KeepsBinsInOrder A.regions A.word self.old self.new }
     {
         let top = self.top;
         let top_size = self.top_size;
@@ -162,10 +152,8 @@ impl<A: Allocator> Dlmalloc<A> {
         requires fresh { IsFreshGrant (A.regions self.old.system) (segments_of A.word self.old) grant.now }
         requires apart { is_put_before grant.now (segments_of A.word self.old) ≡ false }
         requires beside { is_behind grant.now (record { base = self.old.base; size = self.old.size; flags = self.old.flags; extents = [] }) ≡ false }
-        ensures joined { IsAdmitted A.regions A.word A.follows self.old grant.now self.new }
-        ensures free { FreeMoves (state_of A.word self.old) (state_of A.word self.new) [] (if nat_le 32 self.old.top_size then self.old.top ∷ [] else []) }
+        ensures admitted { IsAdmittedBesideBins A.regions A.word A.follows self.old grant.now (if nat_le 32 self.old.top_size then self.old.top ∷ [] else []) self.new }
         ensures rest { 32 ≤ self.old.top_size → IsFreeAt (state_of A.word self.new) self.old.top self.old.top_size }
-        ensures same { IsSameBins self.old self.new }
     {
         let record = self.leave_top(steps);
         let told = SegmentRecord {

@@ -1,13 +1,14 @@
 // Requests for blocks.
-ghost use Rattle.std.specs.Prelude.{◌≡◌, ◌≢◌, ℕ, ◌+◌, ◌-◌, ◌%◌, ◌^◌, ◌<◌, ◌≤◌, [], ◌∷◌, None, IfOk, IfErr};
+ghost use Rattle.std.specs.Prelude.{◌≡◌, ◌≢◌, ℕ, ◌+◌, ◌-◌, ◌^◌, ◌<◌, ◌≤◌, [], ◌∷◌, None, IfOk, IfErr};
 ghost use Rattle.std.specs.Int.{IsPowerOfTwo};
+ghost use Rattle.dlmalloc.specs.Extents.{IsChunkSize};
 ghost use Rattle.dlmalloc.specs.Choice.{chosen};
-ghost use Rattle.dlmalloc.specs.Heap.{state_of, IsSound};
+ghost use Rattle.dlmalloc.specs.Heap.{state_of};
 ghost use Rattle.dlmalloc.specs.Grown.{IsAsItWas};
 ghost use Rattle.dlmalloc.specs.Outcome.{IsAllocated};
 ghost use Rattle.dlmalloc.specs.Requested.{asked};
-ghost use Rattle.dlmalloc.specs.Order.{KeepsOrder};
-ghost use Rattle.dlmalloc.specs.Binned.{IsBinned, IsIntact, IsMemberChosen};
+ghost use Rattle.dlmalloc.specs.Order.{KeepsBinsInOrder, KeepsOrder};
+ghost use Rattle.dlmalloc.specs.Binned.{IsIntact, IsMemberChosen};
 ghost use Rattle.dlmalloc_chunks.specs.Request.{padded, round_up};
 ghost use Rattle.heap_memory.specs.Events.{Refused};
 ghost use Rattle.dlmalloc.specs.Served.{IsDenied, IsCutOut, IsServed, IsRefusedWith};
@@ -95,16 +96,13 @@ impl<A: Allocator> Dlmalloc<A> {
 
     /// Cuts a chunk of `n` bytes from a free extent, or from a new region if none serves, and answers where it begins.
     fn cut<L: Ledger>(&mut self, n: u64, steps: &mut Steps<L>) -> Result<u64, GrantFault>
-        requires sound { IsSound A.regions A.word self.old }
-        requires linked { IsBinned A.regions A.word self.old }
-        requires whole { n % 16 ≡ 0 }
-        requires least { 32 ≤ n }
+        requires intact { IsIntact A.regions A.word self.old }
+        requires bytes { IsChunkSize n }
         requires small { n + 96 + self.old.granularity ≤ 2 ^ 64 }
         ensures cut { IfOk result (λ at. IsCutOut A.regions A.word A.zeros A.follows self.old n at self.new) }
         ensures denied { IfErr result (λ fault. IsDenied A.denies self.old.system (state_of A.word self.old) n fault) }
         ensures err { IfErr result (λ fault. IsAsItWas A.regions A.word A.follows A.refuses (Refused (round_up (n + 96) self.old.granularity) fault ∷ []) self.old self.new) }
-        ensures linked { IsBinned A.regions A.word self.new }
-        ensures order { KeepsOrder A.regions A.word self.old self.new }
+        ensures bins { KeepsBinsInOrder A.regions A.word self.old self.new }
         ensures member { IfOk result (λ at. IsMemberChosen A.regions A.word self.old n at) }
         ensures counted { chosen (state_of A.word self.old) n ≢ None → steps.new ≤ steps.old + 1024 }
         ensures refused_counted { IfErr result (λ fault. steps.new ≤ steps.old + 512) }
@@ -128,17 +126,14 @@ impl<A: Allocator> Dlmalloc<A> {
     /// Cuts a chunk of `n` bytes from a new region, since no free extent serves.
     #[inline(never)]
     fn cut_new<L: Ledger>(&mut self, n: u64, steps: &mut Steps<L>) -> Result<u64, GrantFault>
-        requires sound { IsSound A.regions A.word self.old }
-        requires linked { IsBinned A.regions A.word self.old }
+        requires intact { IsIntact A.regions A.word self.old }
         requires none { chosen (state_of A.word self.old) n ≡ None }
-        requires whole { n % 16 ≡ 0 }
-        requires least { 32 ≤ n }
+        requires bytes { IsChunkSize n }
         requires small { n + 96 + self.old.granularity ≤ 2 ^ 64 }
         ensures cut { IfOk result (λ at. IsCutOut A.regions A.word A.zeros A.follows self.old n at self.new) }
         ensures denied { IfErr result (λ fault. IsDenied A.denies self.old.system (state_of A.word self.old) n fault) }
         ensures err { IfErr result (λ fault. IsAsItWas A.regions A.word A.follows A.refuses (Refused (round_up (n + 96) self.old.granularity) fault ∷ []) self.old self.new) }
-        ensures linked { IsBinned A.regions A.word self.new }
-        ensures order { KeepsOrder A.regions A.word self.old self.new }
+        ensures bins { KeepsBinsInOrder A.regions A.word self.old self.new }
         ensures refused_counted { IfErr result (λ fault. steps.new ≡ steps.old) }
     {
         match self.grow(n, steps)? {

@@ -4,17 +4,16 @@ ghost use Rattle.std.specs.Int.{IsPowerOfTwo};
 ghost use Rattle.heap_memory.specs.Regions.{IsWordOf};
 ghost use Rattle.dlmalloc_chunks.specs.Request.{enlarged, padded};
 ghost use Rattle.dlmalloc_chunks.specs.declared.extent.Kind.TheVariants.{Used};
-ghost use Rattle.dlmalloc.specs.Extents.{extent_at};
+ghost use Rattle.dlmalloc.specs.Extents.{extent_at, IsChunkSize};
 ghost use Rattle.dlmalloc.specs.State.{extents_in};
 ghost use Rattle.dlmalloc.specs.Blocks.{IsBlock};
 ghost use Rattle.dlmalloc.specs.Boundaries.{IsOwn};
 ghost use Rattle.dlmalloc.specs.Resized.{HasSameOthers};
 ghost use Rattle.dlmalloc.specs.Aligned.{aligned_place, lead_freed, tail_cut, aligned, HasOneMoved, KeepsOthers};
 ghost use Rattle.dlmalloc.specs.Heap.{state_of, IsSound};
-ghost use Rattle.dlmalloc.specs.Turned.{IsTurned};
 ghost use Rattle.dlmalloc.specs.Served.{IsRefusedWith};
-ghost use Rattle.dlmalloc.specs.Order.{KeepsOrder, KeepsOrderThrough};
-ghost use Rattle.dlmalloc.specs.Binned.{IsBinned, IsIntact};
+ghost use Rattle.dlmalloc.specs.Order.{KeepsBinsInOrder, KeepsOrderThrough, TurnsInOrder};
+ghost use Rattle.dlmalloc.specs.Binned.{IsIntact};
 ghost use Rattle.dlmalloc.specs.Requested.{IsPassedOver, IsServedAligned, IsMemberServed};
 ghost use Rattle.dlmalloc.specs.Choice.{chosen};
 
@@ -83,12 +82,10 @@ impl<A: Allocator> Dlmalloc<A> {
     /// Frees what is before the aligned place in the chunk of a block, and what is after `n` bytes there, and answers
     /// where they begin.
     fn align_block<L: Ledger>(&mut self, ptr: u64, align: u64, n: u64, steps: &mut Steps<L>) -> u64
-        requires sound { IsSound A.regions A.word self.old }
-        requires linked { IsBinned A.regions A.word self.old }
+        requires intact { IsIntact A.regions A.word self.old }
         requires align { IsPowerOfTwo align × (16 < align) }
         requires block { IsBlock (state_of A.word self.old) ptr (n + align + 24) }
-        requires whole { n % 16 ≡ 0 }
-        requires least { 32 ≤ n }
+        requires bytes { IsChunkSize n }
         ensures place { result ≡ aligned_place (ptr - 16) align }
         ensures multiple { (result + 16) % align ≡ 0 }
         ensures small { result + 16 < 2 ^ 64 }
@@ -97,8 +94,7 @@ impl<A: Allocator> Dlmalloc<A> {
         ensures others { HasOneMoved (state_of A.word self.old) (state_of A.word self.new) (ptr - 16) result }
         ensures kept { KeepsOthers (state_of A.word self.old) (ptr - 16) (A.word self.old.system) (A.word self.new.system) }
         ensures words { (k : ℕ) → IsWordOf (A.regions self.old.system) k → IsPassedOver (state_of A.word self.old) (lead_freed (state_of A.word self.old) (ptr - 16) result) (state_of A.word self.new) k → A.word self.new.system k ≡ A.word self.old.system k }
-        ensures sound { IsSound A.regions A.word self.new }
-        ensures linked { IsBinned A.regions A.word self.new }
+        ensures intact { IsIntact A.regions A.word self.new }
         ensures order { KeepsOrderThrough A.regions A.word (lead_freed (state_of A.word self.old) (ptr - 16) result) self.old self.new }
         ensures regions { A.regions self.new.system ≡ A.regions self.old.system }
         ensures follows { A.follows self.old.system [] self.new.system }
@@ -114,8 +110,7 @@ impl<A: Allocator> Dlmalloc<A> {
 
     /// Frees what is before a place in a chunk in use.
     fn free_before<L: Ledger>(&mut self, at: u64, size: u64, place: u64, steps: &mut Steps<L>)
-        requires sound { IsSound A.regions A.word self.old }
-        requires linked { IsBinned A.regions A.word self.old }
+        requires intact { IsIntact A.regions A.word self.old }
         requires chunk { extent_at at (extents_in (state_of A.word self.old)) ≡ Some (record { at = at; size = size; kind = Used }) }
         requires lead { (place ≡ at) ⊎ (at + 32 ≤ place) }
         requires whole { (place - at) % 16 ≡ 0 }
@@ -126,8 +121,7 @@ impl<A: Allocator> Dlmalloc<A> {
         ensures kept { KeepsOthers (state_of A.word self.old) at (A.word self.old.system) (A.word self.new.system) }
         ensures words { (k : ℕ) → IsWordOf (A.regions self.old.system) k → (IsOwn (state_of A.word self.old) k → ⊥) → (IsOwn (state_of A.word self.new) k → ⊥) → A.word self.new.system k ≡ A.word self.old.system k }
         ensures sound { IsSound A.regions A.word self.new }
-        ensures linked { IsBinned A.regions A.word self.new }
-        ensures order { KeepsOrder A.regions A.word self.old self.new }
+        ensures bins { KeepsBinsInOrder A.regions A.word self.old self.new }
         ensures regions { A.regions self.new.system ≡ A.regions self.old.system }
         ensures follows { A.follows self.old.system [] self.new.system }
         ensures counted { steps.new ≤ steps.old + 534 }
@@ -140,18 +134,14 @@ impl<A: Allocator> Dlmalloc<A> {
 
     /// Frees what is after the first `n` bytes of a chunk in use, if it is more than 32 bytes.
     fn free_behind<L: Ledger>(&mut self, at: u64, size: u64, n: u64, steps: &mut Steps<L>)
-        requires sound { IsSound A.regions A.word self.old }
-        requires linked { IsBinned A.regions A.word self.old }
+        requires intact { IsIntact A.regions A.word self.old }
         requires chunk { extent_at at (extents_in (state_of A.word self.old)) ≡ Some (record { at = at; size = size; kind = Used }) }
-        requires whole { n % 16 ≡ 0 }
-        requires least { 32 ≤ n }
+        requires bytes { IsChunkSize n }
         requires room { n ≤ size }
         ensures state { state_of A.word self.new ≡ tail_cut (state_of A.word self.old) at n }
         ensures held { (rest : ℕ) × (extent_at at (extents_in (state_of A.word self.new)) ≡ Some (record { at = at; size = rest; kind = Used })) × (n ≤ rest) × (rest ≤ n + 32) }
         ensures others { HasSameOthers (state_of A.word self.old) (state_of A.word self.new) at at }
-        ensures moved { IsTurned A.regions A.word A.follows self.old self.new }
-        ensures linked { IsBinned A.regions A.word self.new }
-        ensures order { KeepsOrder A.regions A.word self.old self.new }
+        ensures turned { TurnsInOrder A.regions A.word A.follows self.old self.new }
         ensures counted { steps.new ≤ steps.old + 534 }
     {
         if size - n <= LEAST_CHUNK {

@@ -6,10 +6,10 @@ ghost use Rattle.dlmalloc_chunks.specs.Chunk.{HasHead};
 ghost use Rattle.dlmalloc_chunks.specs.Head.{head_of};
 ghost use Rattle.dlmalloc.specs.Granted.{is_before, is_put_before};
 ghost use Rattle.dlmalloc.specs.Heap.{state_of, segments_of, IsSound};
-ghost use Rattle.dlmalloc.specs.Grown.{IsFreshGrant, IsPrepended, IsPutBefore};
+ghost use Rattle.dlmalloc.specs.Grown.{IsPutBefore, HasRoomFor, IsPrependedBesideBins};
 ghost use Rattle.dlmalloc.specs.Prepended.{IsBehindAt};
-ghost use Rattle.dlmalloc.specs.Order.{KeepsOrder};
-ghost use Rattle.dlmalloc.specs.Binned.{IsBinned, IsSameBins};
+ghost use Rattle.dlmalloc.specs.Order.{KeepsBinsInOrder};
+ghost use Rattle.dlmalloc.specs.Binned.{IsIntact};
 ghost use Rattle.dlmalloc.specs.declared.prepend.Behind.TheVariants.{Head, Told};
 
 use crate::grow::may_join;
@@ -104,16 +104,11 @@ impl<A: Allocator> Dlmalloc<A> {
         behind: Behind,
         steps: &mut Steps<L>,
     )
-        requires sound { IsSound A.regions A.word self.old }
-        requires linked { IsBinned A.regions A.word self.old }
-        requires fresh { IsFreshGrant (A.regions self.old.system) (segments_of A.word self.old) grant.now }
+        requires intact { IsIntact A.regions A.word self.old }
+        requires grant { HasRoomFor n (A.regions self.old.system) (segments_of A.word self.old) grant.now }
         requires behind { IsBehindAt A.word self.old grant.now behind }
-        requires whole { n % 16 ≡ 0 }
-        requires least { 32 ≤ n }
-        requires room { n + 96 ≤ grant.now.size }
         ensures put { IsPutBefore A.regions A.word A.follows self.old grant.now n self.new }
-        ensures linked { IsBinned A.regions A.word self.new }
-        ensures order { KeepsOrder A.regions A.word self.old self.new }
+        ensures bins { KeepsBinsInOrder A.regions A.word self.old self.new }
     {
         index_stays();
         self.prepend(grant, n, behind, steps);
@@ -123,13 +118,9 @@ impl<A: Allocator> Dlmalloc<A> {
     /// Puts a grant before a segment, in two chunks that are in use.
     fn prepend<L: Ledger>(&mut self, grant: &Grant, n: u64, behind: Behind, steps: &mut Steps<L>)
         requires sound { IsSound A.regions A.word self.old }
-        requires fresh { IsFreshGrant (A.regions self.old.system) (segments_of A.word self.old) grant.now }
+        requires grant { HasRoomFor n (A.regions self.old.system) (segments_of A.word self.old) grant.now }
         requires behind { IsBehindAt A.word self.old grant.now behind }
-        requires whole { n % 16 ≡ 0 }
-        requires least { 32 ≤ n }
-        requires room { n + 96 ≤ grant.now.size }
-        ensures prepended { IsPrepended A.regions A.word A.follows self.old grant.now n self.new }
-        ensures same { IsSameBins self.old self.new }
+        ensures put { IsPrependedBesideBins A.regions A.word A.follows self.old grant.now n self.new }
     {
         match behind {
             Behind::Head => self.prepend_head(grant, n, steps),
@@ -140,13 +131,9 @@ impl<A: Allocator> Dlmalloc<A> {
     /// Puts a grant before the head segment, in two chunks that are in use.
     fn prepend_head<L: Ledger>(&mut self, grant: &Grant, n: u64, steps: &mut Steps<L>)
         requires sound { IsSound A.regions A.word self.old }
-        requires fresh { IsFreshGrant (A.regions self.old.system) (segments_of A.word self.old) grant.now }
+        requires grant { HasRoomFor n (A.regions self.old.system) (segments_of A.word self.old) grant.now }
         requires behind { IsBehindAt A.word self.old grant.now Head }
-        requires whole { n % 16 ≡ 0 }
-        requires least { 32 ≤ n }
-        requires room { n + 96 ≤ grant.now.size }
-        ensures prepended { IsPrepended A.regions A.word A.follows self.old grant.now n self.new }
-        ensures same { IsSameBins self.old self.new }
+        ensures put { IsPrependedBesideBins A.regions A.word A.follows self.old grant.now n self.new }
     {
         self.base = grant.base;
         self.size += grant.size;
@@ -156,13 +143,9 @@ impl<A: Allocator> Dlmalloc<A> {
     /// Puts a grant before the segment that a record describes, in two chunks that are in use.
     fn prepend_told<L: Ledger>(&mut self, payload: u64, grant: &Grant, n: u64, steps: &mut Steps<L>)
         requires sound { IsSound A.regions A.word self.old }
-        requires fresh { IsFreshGrant (A.regions self.old.system) (segments_of A.word self.old) grant.now }
+        requires grant { HasRoomFor n (A.regions self.old.system) (segments_of A.word self.old) grant.now }
         requires behind { IsBehindAt A.word self.old grant.now (Told payload) }
-        requires whole { n % 16 ≡ 0 }
-        requires least { 32 ≤ n }
-        requires room { n + 96 ≤ grant.now.size }
-        ensures prepended { IsPrepended A.regions A.word A.follows self.old grant.now n self.new }
-        ensures same { IsSameBins self.old self.new }
+        ensures put { IsPrependedBesideBins A.regions A.word A.follows self.old grant.now n self.new }
     {
         let size = self.system.load_counted(payload + 8, steps);
         self.system.store_counted(payload, grant.base, steps);

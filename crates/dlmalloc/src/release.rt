@@ -8,7 +8,7 @@ ghost use Rattle.dlmalloc.specs.Heap.{state_of, segments_of, IsSound};
 ghost use Rattle.dlmalloc.specs.State.{countdown_from};
 ghost use Rattle.dlmalloc.specs.Released.{is_own, may_leave, taken_back, IsFreeAround, is_counted};
 ghost use Rattle.dlmalloc.specs.Chained.{IsChained, IsVisited};
-ghost use Rattle.dlmalloc.specs.Binned.{IsBinned, FreeMoves};
+ghost use Rattle.dlmalloc.specs.Binned.{IsBinned, IsIntact, FreeMoves};
 ghost use Rattle.dlmalloc.specs.Boundaries.{IsInRecord};
 ghost use Rattle.dlmalloc.specs.Order.{after_visit, IsReindexed};
 ghost use Rattle.dlmalloc.specs.GivenBack.{IsPassed, IsCounted, AreGivenBack, told_of};
@@ -81,8 +81,7 @@ impl<A: Allocator> Dlmalloc<A> {
     /// Hands to the system each segment after the head that is free up to its record and is the heap's to give back. It
     /// answers the bytes of those that the system took (dlmalloc: `release_unused_segments`).
     pub(crate) fn release_unused_segments<L: Ledger>(&mut self, steps: &mut Steps<L>) -> u64
-        requires sound { IsSound A.regions A.word self.old }
-        requires linked { IsBinned A.regions A.word self.old }
+        requires intact { IsIntact A.regions A.word self.old }
         requires there { 0 < self.old.size }
         ensures passed { IsPassed A.regions A.word A.follows (A.frees self.old.system) (A.parts self.old.system) self.old result self.new }
         ensures linked { IsBinned A.regions A.word self.new }
@@ -109,8 +108,7 @@ impl<A: Allocator> Dlmalloc<A> {
     /// Counts a freed chunk, given the address of the free chunk that it became part of: if that is large and in a bin,
     /// the countdown falls by one, and at 0 a release pass is made (dlmalloc: `Dlmalloc::free`).
     pub(crate) fn count_free<L: Ledger>(&mut self, chunk: u64, steps: &mut Steps<L>)
-        requires sound { IsSound A.regions A.word self.old }
-        requires linked { IsBinned A.regions A.word self.old }
+        requires intact { IsIntact A.regions A.word self.old }
         requires free { (at : ℕ) × IsFreeAround (state_of A.word self.old) at chunk }
         ensures linked { IsBinned A.regions A.word self.new }
         ensures counted { (at : ℕ) → IsFreeAround (state_of A.word self.old) at chunk → IsCounted A.regions A.word A.follows (A.frees self.old.system) (A.parts self.old.system) self.old at self.new }
@@ -159,8 +157,7 @@ impl<A: Allocator> Dlmalloc<A> {
         told: &SegmentRecord,
         steps: &mut Steps<L>,
     ) -> bool
-        requires sound { IsSound A.regions A.word self.old }
-        requires linked { IsBinned A.regions A.word self.old }
+        requires intact { IsIntact A.regions A.word self.old }
         requires there { 0 < self.old.size }
         requires chained { IsChained A.word self.old before told.now }
         ensures answer { (c : IsChained A.word self.old before told.now) → result ≡ (A.frees self.old.system && may_leave (A.parts self.old.system) c.segment) }

@@ -1,13 +1,13 @@
 // Resizing a chunk where it stands.
 ghost use Rattle.std.specs.Prelude.{◌≡◌, ◌≢◌, ℕ, ◌+◌, ◌-◌, ◌%◌, ◌<◌, ◌≤◌, nat_le, if◌then◌else◌, [], ◌∷◌, true, false, None, Some};
 ghost use Rattle.dlmalloc_chunks.specs.declared.extent.Kind.TheVariants.{Used, Free, Top};
-ghost use Rattle.dlmalloc.specs.Extents.{extent_at};
+ghost use Rattle.dlmalloc.specs.Extents.{extent_at, IsChunkSize};
 ghost use Rattle.dlmalloc.specs.State.{extents_in};
-ghost use Rattle.dlmalloc.specs.Resized.{grown_into, in_place, HasSameOthers};
+ghost use Rattle.dlmalloc.specs.Resized.{grown_into, in_place, HasSameOthers, CanTakeFree};
 ghost use Rattle.dlmalloc.specs.Heap.{state_of, IsSound};
-ghost use Rattle.dlmalloc.specs.Turned.{IsMoved, IsTurned};
-ghost use Rattle.dlmalloc.specs.Order.{KeepsOrder};
-ghost use Rattle.dlmalloc.specs.Binned.{IsFreeAt, IsBinned, FreeMoves};
+ghost use Rattle.dlmalloc.specs.Turned.{MovesBesideBins};
+ghost use Rattle.dlmalloc.specs.Order.{TurnsInOrder};
+ghost use Rattle.dlmalloc.specs.Binned.{IsFreeAt, IsIntact};
 
 use crate::heap::Dlmalloc;
 use crate::layout::{HEAD, LEAST_CHUNK, PINUSE};
@@ -22,17 +22,13 @@ impl<A: Allocator> Dlmalloc<A> {
     /// free chunk after it, if both have room for them (dlmalloc: `try_realloc_chunk`). False if neither fits; then
     /// nothing is changed.
     pub(crate) fn resize_chunk<L: Ledger>(&mut self, at: u64, n: u64, steps: &mut Steps<L>) -> bool
-        requires sound { IsSound A.regions A.word self.old }
-        requires linked { IsBinned A.regions A.word self.old }
+        requires intact { IsIntact A.regions A.word self.old }
         requires chunk { (size : ℕ) × (extent_at at (extents_in (state_of A.word self.old)) ≡ Some (record { at = at; size = size; kind = Used })) }
-        requires whole { n % 16 ≡ 0 }
-        requires least { 32 ≤ n }
+        requires bytes { IsChunkSize n }
         ensures resized { result ≡ true → in_place (state_of A.word self.old) at n ≡ Some (state_of A.word self.new) }
         ensures held { result ≡ true → (size : ℕ) × (extent_at at (extents_in (state_of A.word self.new)) ≡ Some (record { at = at; size = size; kind = Used })) × (n ≤ size) × (size < n + 32) }
         ensures others { HasSameOthers (state_of A.word self.old) (state_of A.word self.new) at at }
-        ensures moved { IsTurned A.regions A.word A.follows self.old self.new }
-        ensures linked { IsBinned A.regions A.word self.new }
-        ensures order { KeepsOrder A.regions A.word self.old self.new }
+        ensures turned { TurnsInOrder A.regions A.word A.follows self.old self.new }
         ensures none { result ≡ false → in_place (state_of A.word self.old) at n ≡ None }
         ensures same { result ≡ false → self.new ≡ self.old }
         ensures counted { steps.new ≤ steps.old + 535 }
@@ -77,9 +73,7 @@ impl<A: Allocator> Dlmalloc<A> {
         ensures state { state_of A.word self.new ≡ grown_into (state_of A.word self.old) (record { at = at; size = size; kind = Used }) (record { at = at + size; size = self.old.top_size; kind = Top }) n }
         ensures held { extent_at at (extents_in (state_of A.word self.new)) ≡ Some (record { at = at; size = n; kind = Used }) }
         ensures others { HasSameOthers (state_of A.word self.old) (state_of A.word self.new) at at }
-        ensures free { FreeMoves (state_of A.word self.old) (state_of A.word self.new) [] [] }
-        ensures bins { self.new.bins ≡ self.old.bins }
-        ensures moved { IsMoved A.regions A.word A.follows self.old self.new }
+        ensures moves { MovesBesideBins A.regions A.word A.follows self.old [] [] self.new }
         ensures counted { steps.new ≡ steps.old + 5 }
     {
         self.top = at + n;
@@ -99,19 +93,12 @@ impl<A: Allocator> Dlmalloc<A> {
         n: u64,
         steps: &mut Steps<L>,
     )
-        requires sound { IsSound A.regions A.word self.old }
-        requires linked { IsBinned A.regions A.word self.old }
-        requires chunk { extent_at at (extents_in (state_of A.word self.old)) ≡ Some (record { at = at; size = size; kind = Used }) }
-        requires next { extent_at (at + size) (extents_in (state_of A.word self.old)) ≡ Some (record { at = at + size; size = free; kind = Free }) }
-        requires whole { n % 16 ≡ 0 }
-        requires more { size < n }
-        requires room { n ≤ size + free }
+        requires intact { IsIntact A.regions A.word self.old }
+        requires take { CanTakeFree (state_of A.word self.old) at size free n }
         ensures state { state_of A.word self.new ≡ grown_into (state_of A.word self.old) (record { at = at; size = size; kind = Used }) (record { at = at + size; size = free; kind = Free }) n }
         ensures held { (whole : ℕ) × (extent_at at (extents_in (state_of A.word self.new)) ≡ Some (record { at = at; size = whole; kind = Used })) × (n ≤ whole) × (whole < n + 32) }
         ensures others { HasSameOthers (state_of A.word self.old) (state_of A.word self.new) at at }
-        ensures moved { IsTurned A.regions A.word A.follows self.old self.new }
-        ensures linked { IsBinned A.regions A.word self.new }
-        ensures order { KeepsOrder A.regions A.word self.old self.new }
+        ensures turned { TurnsInOrder A.regions A.word A.follows self.old self.new }
         ensures counted { steps.new ≤ steps.old + 331 }
     {
         let was_victim = at + size == self.victim;
@@ -132,18 +119,12 @@ impl<A: Allocator> Dlmalloc<A> {
     /// them; any other stays free, and is the victim if the free chunk was.
     fn join_part<L: Ledger>(&mut self, at: u64, size: u64, free: u64, n: u64, steps: &mut Steps<L>)
         requires sound { IsSound A.regions A.word self.old }
-        requires chunk { extent_at at (extents_in (state_of A.word self.old)) ≡ Some (record { at = at; size = size; kind = Used }) }
-        requires next { extent_at (at + size) (extents_in (state_of A.word self.old)) ≡ Some (record { at = at + size; size = free; kind = Free }) }
-        requires whole { n % 16 ≡ 0 }
-        requires more { size < n }
-        requires room { n ≤ size + free }
+        requires take { CanTakeFree (state_of A.word self.old) at size free n }
         ensures state { state_of A.word self.new ≡ grown_into (state_of A.word self.old) (record { at = at; size = size; kind = Used }) (record { at = at + size; size = free; kind = Free }) n }
         ensures held { (whole : ℕ) × (extent_at at (extents_in (state_of A.word self.new)) ≡ Some (record { at = at; size = whole; kind = Used })) × (n ≤ whole) × (whole < n + 32) }
         ensures others { HasSameOthers (state_of A.word self.old) (state_of A.word self.new) at at }
-        ensures free { FreeMoves (state_of A.word self.old) (state_of A.word self.new) ((at + size) ∷ []) (if nat_le (n + 32) (size + free) then (at + n) ∷ [] else []) }
         ensures rest { n + 32 ≤ size + free → IsFreeAt (state_of A.word self.new) (at + n) (size + free - n) }
-        ensures bins { self.new.bins ≡ self.old.bins }
-        ensures moved { IsMoved A.regions A.word A.follows self.old self.new }
+        ensures moves { MovesBesideBins A.regions A.word A.follows self.old ((at + size) ∷ []) (if nat_le (n + 32) (size + free) then (at + n) ∷ [] else []) self.new }
         ensures counted { steps.new ≤ steps.old + 6 }
     {
         let all = size + free;

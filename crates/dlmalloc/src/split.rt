@@ -1,17 +1,17 @@
 // Splitting a chunk in use, and freeing a part of it.
-ghost use Rattle.std.specs.Prelude.{◌≡◌, ◌≢◌, ℕ, ◌+◌, ◌-◌, ◌%◌, ◌<◌, ◌≤◌, [], Some};
+ghost use Rattle.std.specs.Prelude.{◌≡◌, ◌≢◌, ℕ, ◌+◌, ◌-◌, ◌<◌, ◌≤◌, [], Some};
 ghost use Rattle.heap_memory.specs.Regions.{IsWordOf};
 ghost use Rattle.dlmalloc_chunks.specs.declared.extent.Kind.TheVariants.{Used};
 ghost use Rattle.dlmalloc.specs.Extents.{extent_at};
 ghost use Rattle.dlmalloc.specs.State.{extents_in};
 ghost use Rattle.dlmalloc.specs.Boundaries.{IsInFree, IsOwn};
 ghost use Rattle.dlmalloc.specs.Freed.{freed};
-ghost use Rattle.dlmalloc.specs.Resized.{exchanged, halves, tail_freed, HasSameOthers};
+ghost use Rattle.dlmalloc.specs.Resized.{exchanged, halves, tail_freed, HasSameOthers, CanSplit};
 ghost use Rattle.dlmalloc.specs.Aligned.{HasOneMoved, KeepsOthers};
 ghost use Rattle.dlmalloc.specs.Heap.{state_of, IsSound};
-ghost use Rattle.dlmalloc.specs.Turned.{IsMoved, IsTurned};
-ghost use Rattle.dlmalloc.specs.Order.{KeepsOrder};
-ghost use Rattle.dlmalloc.specs.Binned.{IsBinned, FreeMoves};
+ghost use Rattle.dlmalloc.specs.Turned.{MovesBesideBins};
+ghost use Rattle.dlmalloc.specs.Order.{KeepsBinsInOrder, TurnsInOrder};
+ghost use Rattle.dlmalloc.specs.Binned.{IsIntact};
 
 use crate::heap::Dlmalloc;
 use bins::laws::index_stays;
@@ -24,18 +24,13 @@ impl<A: Allocator> Dlmalloc<A> {
     /// Makes two chunks in use of one: its first `n` bytes, and the rest.
     pub(crate) fn split<L: Ledger>(&mut self, at: u64, size: u64, n: u64, steps: &mut Steps<L>)
         requires sound { IsSound A.regions A.word self.old }
-        requires chunk { extent_at at (extents_in (state_of A.word self.old)) ≡ Some (record { at = at; size = size; kind = Used }) }
-        requires whole { n % 16 ≡ 0 }
-        requires least { 32 ≤ n }
-        requires room { n + 32 ≤ size }
+        requires split { CanSplit (state_of A.word self.old) at size n }
         ensures state { state_of A.word self.new ≡ exchanged (state_of A.word self.old) at (halves n) }
         ensures first { extent_at at (extents_in (state_of A.word self.new)) ≡ Some (record { at = at; size = n; kind = Used }) }
         ensures second { extent_at (at + n) (extents_in (state_of A.word self.new)) ≡ Some (record { at = at + n; size = size - n; kind = Used }) }
         ensures others { HasSameOthers (state_of A.word self.old) (state_of A.word self.new) at (at + n) }
         ensures words { (k : ℕ) → IsWordOf (A.regions self.old.system) k → k ≢ at + 8 → k ≢ at + n + 8 → A.word self.new.system k ≡ A.word self.old.system k }
-        ensures free { FreeMoves (state_of A.word self.old) (state_of A.word self.new) [] [] }
-        ensures bins { self.new.bins ≡ self.old.bins }
-        ensures moved { IsMoved A.regions A.word A.follows self.old self.new }
+        ensures moves { MovesBesideBins A.regions A.word A.follows self.old [] [] self.new }
         ensures counted { steps.new ≡ steps.old + 5 }
     {
         chunk::set_inuse(&mut self.system, at, n, steps);
@@ -44,18 +39,12 @@ impl<A: Allocator> Dlmalloc<A> {
 
     /// Frees what is after the first `n` bytes of a chunk in use.
     pub(crate) fn free_tail<L: Ledger>(&mut self, at: u64, size: u64, n: u64, steps: &mut Steps<L>)
-        requires sound { IsSound A.regions A.word self.old }
-        requires linked { IsBinned A.regions A.word self.old }
-        requires chunk { extent_at at (extents_in (state_of A.word self.old)) ≡ Some (record { at = at; size = size; kind = Used }) }
-        requires whole { n % 16 ≡ 0 }
-        requires least { 32 ≤ n }
-        requires room { n + 32 ≤ size }
+        requires intact { IsIntact A.regions A.word self.old }
+        requires split { CanSplit (state_of A.word self.old) at size n }
         ensures state { state_of A.word self.new ≡ tail_freed (state_of A.word self.old) at n }
         ensures first { extent_at at (extents_in (state_of A.word self.new)) ≡ Some (record { at = at; size = n; kind = Used }) }
         ensures others { HasSameOthers (state_of A.word self.old) (state_of A.word self.new) at at }
-        ensures moved { IsTurned A.regions A.word A.follows self.old self.new }
-        ensures linked { IsBinned A.regions A.word self.new }
-        ensures order { KeepsOrder A.regions A.word self.old self.new }
+        ensures turned { TurnsInOrder A.regions A.word A.follows self.old self.new }
         ensures counted { steps.new ≤ steps.old + 534 }
     {
         index_stays();
@@ -65,12 +54,8 @@ impl<A: Allocator> Dlmalloc<A> {
 
     /// Frees the first `n` bytes of a chunk in use, which are not those that stay in use.
     pub(crate) fn free_lead<L: Ledger>(&mut self, at: u64, size: u64, n: u64, steps: &mut Steps<L>)
-        requires sound { IsSound A.regions A.word self.old }
-        requires linked { IsBinned A.regions A.word self.old }
-        requires chunk { extent_at at (extents_in (state_of A.word self.old)) ≡ Some (record { at = at; size = size; kind = Used }) }
-        requires whole { n % 16 ≡ 0 }
-        requires least { 32 ≤ n }
-        requires room { n + 32 ≤ size }
+        requires intact { IsIntact A.regions A.word self.old }
+        requires split { CanSplit (state_of A.word self.old) at size n }
         ensures state { state_of A.word self.new ≡ freed (exchanged (state_of A.word self.old) at (halves n)) at }
         ensures second { extent_at (at + n) (extents_in (state_of A.word self.new)) ≡ Some (record { at = at + n; size = size - n; kind = Used }) }
         ensures others { HasOneMoved (state_of A.word self.old) (state_of A.word self.new) at (at + n) }
@@ -79,8 +64,7 @@ impl<A: Allocator> Dlmalloc<A> {
         ensures sound { IsSound A.regions A.word self.new }
         ensures regions { A.regions self.new.system ≡ A.regions self.old.system }
         ensures follows { A.follows self.old.system [] self.new.system }
-        ensures linked { IsBinned A.regions A.word self.new }
-        ensures order { KeepsOrder A.regions A.word self.old self.new }
+        ensures bins { KeepsBinsInOrder A.regions A.word self.old self.new }
         ensures counted { steps.new ≤ steps.old + 534 }
     {
         index_stays();

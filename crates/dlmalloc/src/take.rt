@@ -1,14 +1,11 @@
 // Cutting a free chunk for a request.
-ghost use Rattle.std.specs.Prelude.{◌≡◌, ◌≢◌, ℕ, ◌+◌, ◌-◌, ◌%◌, ◌<◌, ◌≤◌, nat_le, if◌then◌else◌, [], ◌∷◌, Some};
+ghost use Rattle.std.specs.Prelude.{◌≡◌, ◌≢◌, ℕ, ◌+◌, ◌-◌, ◌<◌, ◌≤◌, nat_le, if◌then◌else◌, [], ◌∷◌, Some};
 ghost use Rattle.dlmalloc_chunks.specs.declared.extent.Kind.TheVariants.{Free};
-ghost use Rattle.dlmalloc.specs.Extents.{extent_at};
-ghost use Rattle.dlmalloc.specs.State.{extents_in};
-ghost use Rattle.dlmalloc.specs.Blocks.{HasOneMore};
-ghost use Rattle.dlmalloc.specs.Taken.{taken};
+ghost use Rattle.dlmalloc.specs.Taken.{CanCut, IsTaken};
 ghost use Rattle.dlmalloc.specs.Heap.{state_of, IsSound};
-ghost use Rattle.dlmalloc.specs.Turned.{IsMoved, IsTurned};
-ghost use Rattle.dlmalloc.specs.Binned.{IsFreeAt, IsBinned, IsMember, FreeMoves};
-ghost use Rattle.dlmalloc.specs.Order.{KeepsOrder};
+ghost use Rattle.dlmalloc.specs.Turned.{MovesBesideBins};
+ghost use Rattle.dlmalloc.specs.Binned.{IsFreeAt, IsIntact, IsMember};
+ghost use Rattle.dlmalloc.specs.Order.{TurnsInOrder};
 
 use crate::heap::Dlmalloc;
 use crate::layout::{LEAST_CHUNK, LEAST_LARGE};
@@ -23,18 +20,11 @@ impl<A: Allocator> Dlmalloc<A> {
     /// less than 32 bytes stays with them. The rest of the victim is the victim. A binned chunk leaves its bin; for less than
     /// 256 bytes its rest is the victim, and the old one goes into its bin; else the rest goes into its own.
     pub(crate) fn take<L: Ledger>(&mut self, at: u64, size: u64, n: u64, steps: &mut Steps<L>)
-        requires sound { IsSound A.regions A.word self.old }
-        requires linked { IsBinned A.regions A.word self.old }
-        requires chunk { extent_at at (extents_in (state_of A.word self.old)) ≡ Some (record { at = at; size = size; kind = Free }) }
-        requires whole { n % 16 ≡ 0 }
-        requires least { 32 ≤ n }
-        requires fits { n ≤ size }
+        requires intact { IsIntact A.regions A.word self.old }
+        requires cut { CanCut (state_of A.word self.old) at size n }
         requires member { at ≢ self.old.victim → IsMember A.regions A.word self.old n at }
-        ensures state { state_of A.word self.new ≡ taken (state_of A.word self.old) (record { at = at; size = size; kind = Free }) n }
-        ensures more { HasOneMore (state_of A.word self.old) (state_of A.word self.new) at }
-        ensures moved { IsTurned A.regions A.word A.follows self.old self.new }
-        ensures linked { IsBinned A.regions A.word self.new }
-        ensures order { KeepsOrder A.regions A.word self.old self.new }
+        ensures taken { IsTaken (state_of A.word self.old) (record { at = at; size = size; kind = Free }) n (state_of A.word self.new) }
+        ensures turned { TurnsInOrder A.regions A.word A.follows self.old self.new }
         ensures counted { steps.new ≤ steps.old + 328 }
     {
         if at == self.victim {
@@ -47,19 +37,12 @@ impl<A: Allocator> Dlmalloc<A> {
 
     /// Cuts `n` bytes from the binned chunk that a search for that many names.
     fn take_binned<L: Ledger>(&mut self, at: u64, size: u64, n: u64, steps: &mut Steps<L>)
-        requires sound { IsSound A.regions A.word self.old }
-        requires linked { IsBinned A.regions A.word self.old }
-        requires chunk { extent_at at (extents_in (state_of A.word self.old)) ≡ Some (record { at = at; size = size; kind = Free }) }
+        requires intact { IsIntact A.regions A.word self.old }
+        requires cut { CanCut (state_of A.word self.old) at size n }
         requires other { at ≢ self.old.victim }
         requires member { IsMember A.regions A.word self.old n at }
-        requires whole { n % 16 ≡ 0 }
-        requires least { 32 ≤ n }
-        requires fits { n ≤ size }
-        ensures state { state_of A.word self.new ≡ taken (state_of A.word self.old) (record { at = at; size = size; kind = Free }) n }
-        ensures more { HasOneMore (state_of A.word self.old) (state_of A.word self.new) at }
-        ensures moved { IsTurned A.regions A.word A.follows self.old self.new }
-        ensures linked { IsBinned A.regions A.word self.new }
-        ensures order { KeepsOrder A.regions A.word self.old self.new }
+        ensures taken { IsTaken (state_of A.word self.old) (record { at = at; size = size; kind = Free }) n (state_of A.word self.new) }
+        ensures turned { TurnsInOrder A.regions A.word A.follows self.old self.new }
         ensures counted { steps.new ≤ steps.old + 328 }
     {
         let victim = self.victim;
@@ -81,16 +64,10 @@ impl<A: Allocator> Dlmalloc<A> {
     /// Cuts `n` bytes from a free chunk other than the top that is in no bin.
     fn cut_chunk<L: Ledger>(&mut self, at: u64, size: u64, n: u64, steps: &mut Steps<L>)
         requires sound { IsSound A.regions A.word self.old }
-        requires chunk { extent_at at (extents_in (state_of A.word self.old)) ≡ Some (record { at = at; size = size; kind = Free }) }
-        requires whole { n % 16 ≡ 0 }
-        requires least { 32 ≤ n }
-        requires fits { n ≤ size }
-        ensures state { state_of A.word self.new ≡ taken (state_of A.word self.old) (record { at = at; size = size; kind = Free }) n }
-        ensures more { HasOneMore (state_of A.word self.old) (state_of A.word self.new) at }
-        ensures free { FreeMoves (state_of A.word self.old) (state_of A.word self.new) (at ∷ []) (if nat_le (n + 32) size then (at + n) ∷ [] else []) }
+        requires cut { CanCut (state_of A.word self.old) at size n }
+        ensures taken { IsTaken (state_of A.word self.old) (record { at = at; size = size; kind = Free }) n (state_of A.word self.new) }
         ensures rest { n + 32 ≤ size → IsFreeAt (state_of A.word self.new) (at + n) (size - n) }
-        ensures bins { self.new.bins ≡ self.old.bins }
-        ensures moved { IsMoved A.regions A.word A.follows self.old self.new }
+        ensures moves { MovesBesideBins A.regions A.word A.follows self.old (at ∷ []) (if nat_le (n + 32) size then (at + n) ∷ [] else []) self.new }
         ensures counted { steps.new ≤ steps.old + 3 }
     {
         let rest = size - n;

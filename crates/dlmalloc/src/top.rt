@@ -1,15 +1,13 @@
 // Cutting a chunk from the top of the heap.
-ghost use Rattle.std.specs.Prelude.{◌≡◌, ◌≢◌, ℕ, ◌+◌, ◌%◌, ◌<◌, ◌≤◌, [], Some};
+ghost use Rattle.std.specs.Prelude.{◌≡◌, ◌≢◌, ℕ, ◌+◌, ◌<◌, ◌≤◌, [], Some};
 ghost use Rattle.dlmalloc_chunks.specs.declared.extent.Extent.{Extent};
 ghost use Rattle.dlmalloc_chunks.specs.declared.extent.Kind.TheVariants.{Top};
-ghost use Rattle.dlmalloc.specs.Extents.{extent_at};
+ghost use Rattle.dlmalloc.specs.Extents.{extent_at, IsChunkSize};
 ghost use Rattle.dlmalloc.specs.State.{extents_in};
-ghost use Rattle.dlmalloc.specs.Blocks.{HasOneMore};
 ghost use Rattle.dlmalloc.specs.Boundaries.{IsBoundary};
-ghost use Rattle.dlmalloc.specs.Taken.{taken};
+ghost use Rattle.dlmalloc.specs.Taken.{IsTaken};
 ghost use Rattle.dlmalloc.specs.Heap.{state_of, IsSound};
-ghost use Rattle.dlmalloc.specs.Turned.{IsMoved};
-ghost use Rattle.dlmalloc.specs.Binned.{FreeMoves};
+ghost use Rattle.dlmalloc.specs.Turned.{MovesBesideBins};
 
 use crate::heap::Dlmalloc;
 use crate::layout::{HEAD, PINUSE};
@@ -23,18 +21,14 @@ impl<A: Allocator> Dlmalloc<A> {
     pub(crate) fn take_top<L: Ledger>(&mut self, n: u64, steps: &mut Steps<L>) -> u64
         requires sound { IsSound A.regions A.word self.old }
         requires there { 0 < self.old.size }
-        requires whole { n % 16 ≡ 0 }
-        requires least { 32 ≤ n }
+        requires bytes { IsChunkSize n }
         requires fits { n < self.old.top_size }
         ensures chunk { result ≡ self.old.top }
-        ensures state { state_of A.word self.new ≡ taken (state_of A.word self.old) (record { at = self.old.top; size = self.old.top_size; kind = Top }) n }
-        ensures more { HasOneMore (state_of A.word self.old) (state_of A.word self.new) self.old.top }
+        ensures taken { IsTaken (state_of A.word self.old) (record { at = self.old.top; size = self.old.top_size; kind = Top }) n (state_of A.word self.new) }
         ensures head { IsBoundary (state_of A.word self.new) (self.old.top + 8) }
         ensures foot { IsBoundary (state_of A.word self.new) (self.old.top + self.old.top_size + 8) }
         ensures others { (one : Extent) → one.at ≢ self.old.top → extent_at one.at (extents_in (state_of A.word self.old)) ≡ Some one → extent_at one.at (extents_in (state_of A.word self.new)) ≡ Some one }
-        ensures free { FreeMoves (state_of A.word self.old) (state_of A.word self.new) [] [] }
-        ensures bins { self.new.bins ≡ self.old.bins }
-        ensures moved { IsMoved A.regions A.word A.follows self.old self.new }
+        ensures moves { MovesBesideBins A.regions A.word A.follows self.old [] [] self.new }
         ensures counted { steps.new ≡ steps.old + 2 }
     {
         let chunk = self.top;

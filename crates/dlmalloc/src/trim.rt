@@ -4,7 +4,7 @@ ghost use Rattle.heap_memory.specs.Runs.{is_in_units};
 ghost use Rattle.dlmalloc.specs.Trimmed.{cut_of, may_go, is_cut};
 ghost use Rattle.dlmalloc.specs.Shortened.{IsShortened, IsCutBack, IsTrimmed};
 ghost use Rattle.dlmalloc.specs.Order.{KeepsIndex};
-ghost use Rattle.dlmalloc.specs.Binned.{IsBinned};
+ghost use Rattle.dlmalloc.specs.Binned.{IsBinned, IsIntact};
 ghost use Rattle.dlmalloc.specs.Counts.{pass_steps};
 ghost use Rattle.dlmalloc.specs.Heap.{state_of, IsSound};
 
@@ -23,8 +23,7 @@ impl<A: Allocator> Dlmalloc<A> {
     /// `pad` is too large for a request, or there is no segment, nothing is done. At most 2 words are loaded or stored
     /// besides those of the release pass, 512 for each segment.
     pub fn trim<L: Ledger>(&mut self, pad: u64, steps: &mut Steps<L>) -> bool
-        requires sound { IsSound A.regions A.word self.old }
-        requires linked { IsBinned A.regions A.word self.old }
+        requires intact { IsIntact A.regions A.word self.old }
         ensures trimmed { IsTrimmed A.regions A.word A.follows (A.frees self.old.system) (A.parts self.old.system) (A.unit self.old.system) self.old pad result self.new }
         ensures linked { IsBinned A.regions A.word self.new }
         ensures counted { steps.new ≤ steps.old + 2 + pass_steps (state_of A.word self.old) }
@@ -52,8 +51,7 @@ impl<A: Allocator> Dlmalloc<A> {
 
     /// Cuts the top as a trim does. True exactly if bytes went back.
     fn trim_top<L: Ledger>(&mut self, pad: u64, steps: &mut Steps<L>) -> bool
-        requires sound { IsSound A.regions A.word self.old }
-        requires linked { IsBinned A.regions A.word self.old }
+        requires intact { IsIntact A.regions A.word self.old }
         requires there { 0 < self.old.size }
         requires small { pad + 81 < 2 ^ 64 }
         ensures answer { result ≡ is_cut (A.parts self.old.system) (A.unit self.old.system) pad (state_of A.word self.old) }

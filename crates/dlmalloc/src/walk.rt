@@ -8,11 +8,11 @@ ghost use Rattle.dlmalloc.specs.Extents.{extent_at};
 ghost use Rattle.dlmalloc.specs.State.{is_free_below_top, shown, extents_in, is_binned};
 ghost use Rattle.dlmalloc.specs.Choice.{least_fit, goes_first, chosen, IsChosen};
 ghost use Rattle.dlmalloc.specs.Walk.{chunk_told, chunks_between, IsChunkRun};
-ghost use Rattle.dlmalloc.specs.Binned.{IsBinned, IsMember};
+ghost use Rattle.dlmalloc.specs.Binned.{IsIntact, IsMember};
 ghost use Rattle.dlmalloc.specs.declared.walk.Place.{Place};
 ghost use Rattle.dlmalloc.specs.declared.walk.Choice.TheVariants.{Chunk, Top as OfTop};
 ghost use Rattle.dlmalloc.specs.declared.walk.Tail.TheVariants.{OneRecord};
-ghost use Rattle.dlmalloc.specs.Heap.{state_of, IsSound};
+ghost use Rattle.dlmalloc.specs.Heap.{state_of};
 
 use crate::heap::Dlmalloc;
 use crate::layout::{BLOCK, LEAST_LARGE};
@@ -113,8 +113,7 @@ impl<A: Allocator> Dlmalloc<A> {
 
     /// The least chunk in a bin that has at least `n` bytes.
     pub(crate) fn find_free<L: Ledger>(&self, n: u64, steps: &mut Steps<L>) -> Option<Place>
-        requires sound { IsSound A.regions A.word self.now }
-        requires linked { IsBinned A.regions A.word self.now }
+        requires intact { IsIntact A.regions A.word self.now }
         ensures least { least_fit (state_of A.word self.now) n ≡ option_map (λ place. place.size) result }
         ensures there { IfSome result (λ place. extent_at place.at (extents_in (state_of A.word self.now)) ≡ Some (record { at = place.at; size = place.size; kind = Free })) }
         ensures other { IfSome result (λ place. place.at ≢ self.now.victim) }
@@ -146,8 +145,7 @@ impl<A: Allocator> Dlmalloc<A> {
 
     /// What serves a request of `n` bytes (dlmalloc: `malloc`).
     pub(crate) fn choose<L: Ledger>(&self, n: u64, steps: &mut Steps<L>) -> Option<Choice>
-        requires sound { IsSound A.regions A.word self.now }
-        requires linked { IsBinned A.regions A.word self.now }
+        requires intact { IsIntact A.regions A.word self.now }
         requires there { 0 < self.now.size }
         requires least { 32 ≤ n }
         ensures none { result ≡ None → chosen (state_of A.word self.now) n ≡ None }

@@ -1,5 +1,5 @@
 -- Chunks go into bins and leave them, and the heap moves.
-use Rattle.dlmalloc.proofs.Names.{◌≡◌, ◌≢◌, ℕ, ◌+◌, ◌<◌, ◌≤◌, ◌⊎◌, inl, inr, List, [], ◌∷◌, Some, IsTrue, refl, sym, ◌∙◌, ap, subst, arith, list_any, AllByRecursion, Grant, IsWordOf, Event, Extent, Free, Record, Bins, IsIn, with_chunk, without_chunk, OnlyLinksChange, IndexStays, extent_at, Segment, extents_in, IsFlaggedRun, has_byte_in, segments_of, state_of, IsSound, IsFreeAt, HoldsBut, IsBinnedBut, IsBinned, OnlyFreeChange, IsRebinned, FreeMoves, IsMoved, Dlmalloc}
+use Rattle.dlmalloc.proofs.Names.{◌≡◌, ◌≢◌, ℕ, ◌+◌, ◌<◌, ◌≤◌, ◌⊎◌, inl, inr, List, [], ◌∷◌, Some, IsTrue, refl, sym, ◌∙◌, ap, subst, arith, list_any, AllByRecursion, Grant, IsWordOf, Event, Extent, Free, Record, Bins, IsIn, with_chunk, without_chunk, OnlyLinksChange, IndexStays, extent_at, Segment, extents_in, IsFlaggedRun, has_byte_in, segments_of, state_of, IsSound, IsFreeAt, HoldsBut, IsBinnedBut, IsBinned, OnlyFreeChange, IsRebinned, FreeMoves, MovesBesideBins, Dlmalloc}
 use Rattle.bins.specs.Linked.{IsLinked, IsFreshChunk}
 use Rattle.dlmalloc.proofs.Words.Telling.{IsTelling, sound_told, state_told}
 use Rattle.dlmalloc.proofs.Bins.Held.{AreAccounted, binned_one, unbinned_one, still_free, holds_moved, looser, tighter}
@@ -161,9 +161,10 @@ binned_same stays sound sound' others same moves victim b = binned_moved stays s
 
 -- so they do if the heap moved with no region more
 abbrev pub binned_beside : IndexStays → {A : Type 0} {regions : A → List Grant} {word : A → ℕ → ℕ} {follows : A → List Event → A → Type 0}
-    {old new : Dlmalloc A} → IsSound regions word old → IsMoved regions word follows old new → new.bins ≡ old.bins →
-    FreeMoves (state_of word old) (state_of word new) [] [] → new.victim ≡ old.victim → IsBinned regions word old → IsBinned regions word new
-binned_beside stays sound moved = binned_same stays sound moved.sound (λ k was is boundary tag tag'. moved.words k was boundary)
+    {old new : Dlmalloc A} → IsSound regions word old → MovesBesideBins regions word follows old [] [] new → new.victim ≡ old.victim →
+    IsBinned regions word old → IsBinned regions word new
+binned_beside stays sound m =
+    binned_same stays sound m.moved.sound (λ k was is boundary tag tag'. m.moved.words k was boundary) m.bins m.free
 
 -- the countdown and the trim check do not matter
 abbrev pub same_bins : {A : Type 0} {regions : A → List Grant} {word : A → ℕ → ℕ} {heap : Dlmalloc A} (countdown : ℕ) →

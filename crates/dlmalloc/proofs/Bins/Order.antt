@@ -1,5 +1,5 @@
 -- The order of the chunks of each size.
-use Rattle.dlmalloc.proofs.Names.{◌≡◌, ℕ, ◌⊎◌, inl, inr, Bool, true, false, ◌==◌, if◌then◌else◌, List, [], ◌∷◌, ◌++◌, refl, sym, ◌∙◌, ap, subst, arith, append-nil, IsIn, removed, with_chunk, without_chunk, IsPart, AreInOrder}
+use Rattle.dlmalloc.proofs.Names.{◌≡◌, ℕ, ◌⊎◌, inl, inr, Bool, true, false, ◌==◌, if◌then◌else◌, List, [], ◌∷◌, ◌++◌, refl, sym, ◌∙◌, ap, subst, arith, append-nil, IsIn, removed, with_chunk, without_chunk, IsPart, AreInOrder, Grant, Dlmalloc, IsBinned, KeepsOrder, KeepsBinsInOrder, TurnsInOrder, IsIntact, Event}
 use Rattle.dlmalloc.specs.Order.{IsLessened, IsAdded}
 use Rattle.dlmalloc.proofs.Extents.Lookup.{nat_is}
 
@@ -101,4 +101,23 @@ order_left old middle new less same n = record {
   part = less n;
   others = λ k none was. none;
   few = omega arith;
+}
+
+-- ---- bins that a call leaves in order
+
+-- linked bins whose order is kept are linked
+pub bins_kept : {A : Type 0} {regions : A → List Grant} {word : A → ℕ → ℕ} {old new : Dlmalloc A} →
+    KeepsOrder regions word old new → IsBinned regions word old → KeepsBinsInOrder regions word old new
+bins_kept order linked = record { linked = (order linked).0; order = order }
+
+-- nothing was done
+pub bins_same : {A : Type 0} {regions : A → List Grant} {word : A → ℕ → ℕ} {heap : Dlmalloc A} →
+    IsBinned regions word heap → KeepsBinsInOrder regions word heap heap
+bins_same linked = record { linked = linked; order = λ b. (b, order_same b.index) }
+
+pub turned_same : {A : Type 0} {regions : A → List Grant} {word : A → ℕ → ℕ} (follows : A → List Event → A → Type 0) {heap : Dlmalloc A} →
+    IsIntact regions word heap → follows heap.system [] heap.system → TurnsInOrder regions word follows heap heap
+turned_same follows intact followed = record {
+  moved = record { sound = intact.sound; words = λ k inside was own. refl; regions_same = refl; followed = followed };
+  bins = bins_same intact.linked;
 }

@@ -1,5 +1,5 @@
 -- A chunk in use takes bytes of a free chunk after it, or all of them.
-use Rattle.dlmalloc.proofs.Names.{◌≡◌, ◌≢◌, ℕ, ◌+◌, ◌-◌, ◌%◌, ◌^◌, ◌<◌, ◌≤◌, inl, inr, Bool, true, false, ◌==◌, nat_le, if◌then◌else◌, List, [], ◌∷◌, ◌++◌, None, Some, refl, sym, ◌∙◌, ap, subst, arith, nat_tests, Grant, Event, AreStored, HasHead, HasFoot, Extent, Used, Free, Top, Record, pinuse_of, head_of, with_pinuse, extent_at, Tiles, last_kind, extents_in, HasSameOthers, IsMoved, IsMove, IsRunOf, grown_into, segments_of, state_of, IsSound, Dlmalloc, IsFreeAt, FreeMoves}
+use Rattle.dlmalloc.proofs.Names.{◌≡◌, ◌≢◌, ℕ, ◌+◌, ◌-◌, ◌%◌, ◌^◌, ◌<◌, ◌≤◌, inl, inr, Bool, true, false, ◌==◌, nat_le, if◌then◌else◌, List, [], ◌∷◌, ◌++◌, None, Some, refl, sym, ◌∙◌, ap, subst, arith, nat_tests, Grant, Event, AreStored, HasHead, HasFoot, Extent, Used, Free, Top, Record, pinuse_of, head_of, with_pinuse, extent_at, Tiles, last_kind, extents_in, CanTakeFree, HasSameOthers, IsMoved, IsMove, IsRunOf, grown_into, segments_of, state_of, IsSound, Dlmalloc, IsFreeAt, FreeMoves}
 use Rattle.dlmalloc.proofs.Extents.Lookup.{extent, the_extent, nat_isnt, found_here, found_either, the_one}
 use Rattle.dlmalloc.proofs.Extents.Tiling.{sized, tiles_le}
 use Rattle.dlmalloc.proofs.Resizing.TwoExtents.{differ, no_kind, no_other, only_second, found_second, second_there}
@@ -12,14 +12,6 @@ use Rattle.dlmalloc.proofs.Moves.OfHeaps.{IsStep, found_new, found_again}
 use Rattle.dlmalloc.proofs.Extents.RunReplaced.{step_beside, HasNext, has_next, with_next, behind, run_word}
 use Rattle.dlmalloc.proofs.Frees.Behind.{next_there, place}
 
--- A chunk in use stands before a free one, and together they have n bytes.
-pub record CanTakeFree {A : Type 0} (word : A → ℕ → ℕ) (heap : Dlmalloc A) (at size length n : ℕ) : Type 0 where
-  pub there : extent_at at (extents_in (state_of word heap)) ≡ Some (extent at size Used)
-  pub behind : extent_at (at + size) (extents_in (state_of word heap)) ≡ Some (extent (at + size) length Free)
-  pub whole : n % 16 ≡ 0
-  pub more : size < n
-  pub room : n ≤ size + length
-
 -- The chunk has taken bytes of the free one: those up to n, or all if less than 32 would be left.
 pub record IsPartJoined {A : Type 0} (regions : A → List Grant) (word : A → ℕ → ℕ) (follows : A → List Event → A → Type 0)
     (old : Dlmalloc A) (at size length n : ℕ) (new : Dlmalloc A) : Type 0 where
@@ -31,7 +23,7 @@ pub record IsPartJoined {A : Type 0} (regions : A → List Grant) (word : A → 
   pub moved : IsMoved regions word follows old new
 
 module _ {A : Type 0} {regions : A → List Grant} {word : A → ℕ → ℕ} {heap : Dlmalloc A} (sound : IsSound regions word heap) {at size length n : ℕ}
-    (can : CanTakeFree word heap at size length n) where
+    (can : CanTakeFree (state_of word heap) at size length n) where
   abbrev words : ℕ → ℕ
   words = word heap.system
 
@@ -41,11 +33,11 @@ module _ {A : Type 0} {regions : A → List Grant} {word : A → ℕ → ℕ} {h
   abbrev free : Extent
   free = extent (at + size) length Free
 
-  next_is : (next sound can.there).next ≡ free
-  next_is = the_extent (sym (next_there sound can.there) ∙ (ap (λ a. extent_at a (extents_in (state_of word heap))) (place sound can.there) ∙ can.behind))
+  next_is : (next sound can.chunk).next ≡ free
+  next_is = the_extent (sym (next_there sound can.chunk) ∙ (ap (λ a. extent_at a (extents_in (state_of word heap))) (place sound can.chunk) ∙ can.next))
 
   abbrev both : IsRunOf words (segments_of word heap) at (at + size + length) (chunk ∷ free ∷ [])
-  both = two sound can.there next_is
+  both = two sound can.chunk next_is
 
   least : 32 ≤ n
   least = omega (arith, both.here.1.size.1)
@@ -64,7 +56,7 @@ module _ {A : Type 0} {regions : A → List Grant} {word : A → ℕ → ℕ} {h
   end_room = let long = (sized third.next.kind third.next.size stands_third.1.size).1 in omega (arith, below)
 
   pub free_end_small : at + size + length + 16 < 2 ^ 64
-  free_end_small = omega (arith, end_room, end_small sound can.there next_is)
+  free_end_small = omega (arith, end_room, end_small sound can.chunk next_is)
 
   pub free_at_whole : at % 16 ≡ 0
   free_at_whole = both.here.1.whole
@@ -73,13 +65,13 @@ module _ {A : Type 0} {regions : A → List Grant} {word : A → ℕ → ℕ} {h
   free_sizes_whole = omega (arith, both.here.1.size.0, both.here.2.1.size.0)
 
   pub free_head_there : (k : ℕ) → at ≤ k → k ≤ at + size + length → k % 8 ≡ 0 → HasHead (regions heap.system) k
-  free_head_there k above under m = head_there sound can.there next_is k above (omega (arith, end_room)) m
+  free_head_there k above under m = head_there sound can.chunk next_is k above (omega (arith, end_room)) m
 
   pub free_foot_there : (k : ℕ) → at ≤ k → k ≤ at + size + length → k % 8 ≡ 0 → HasFoot (regions heap.system) k
   free_foot_there k above under m = record {
     aligned = m;
     small = omega (arith, free_end_small);
-    granted = run_word (regions heap.system) sound.segments both k (omega (arith, low sound can.there next_is)) (omega (arith, end_room)) m;
+    granted = run_word (regions heap.system) sound.segments both k (omega (arith, low sound can.chunk next_is)) (omega (arith, end_room)) m;
   }
 
   -- the victim is neither of the two, if the free one is not the victim
@@ -123,7 +115,7 @@ module _ {A : Type 0} {regions : A → List Grant} {word : A → ℕ → ℕ} {h
           IsPartJoined regions word follows heap at size length n (after victim victim_size)
       part {victim} {victim_size} left =
           let step = part_step victim victim_size in
-          let taken = enlarged sound can.there next_is {n = n} {whole = n} same parts step refl (rw has_rest refl) (record {
+          let taken = enlarged sound can.chunk next_is {n = n} {whole = n} same parts step refl (rw has_rest refl) (record {
             held = found_here (extent at n Used) (rest ∷ []);
             kept = λ used is other found. absurd (no_other chunk free (λ is. cc) is other found);
             only = λ used is other found. absurd (no_other (extent at n Used) rest (λ is. cc) is other found);
@@ -189,7 +181,7 @@ module _ {A : Type 0} {regions : A → List Grant} {word : A → ℕ → ℕ} {h
                 else words (at + (size + length) + 8)),
           ) ∷ []) (word system)) some stored)
           (λ k above under m. run_word (regions heap.system) sound.segments both k
-          (omega (arith, low sound can.there next_is)) (omega (arith, below)) m)
+          (omega (arith, low sound can.chunk next_is)) (omega (arith, below)) m)
 
       -- what is found among the three, and is neither of the two that are one now, still is
       still : (k : ℕ) {tail : Extent} → (extent_at k (chunk ∷ free ∷ []) ≡ Some tail → ⊥) → extent_at k three ≡ Some tail → extent_at k all ≡ Some tail
@@ -231,7 +223,7 @@ module _ {A : Type 0} {regions : A → List Grant} {word : A → ℕ → ℕ} {h
           IsPartJoined regions word follows heap at size length n (after victim victim_size)
       whole {victim} {victim_size} left =
           let step = whole_step victim victim_size in
-          let taken = enlarged sound can.there next_is {n = n} {whole = size + length} same (extent at (size + length) Used ∷ []) step
+          let taken = enlarged sound can.chunk next_is {n = n} {whole = size + length} same (extent at (size + length) Used ∷ []) step
           (ap (λ es. both.front ++ with_extents both.segment (both.first ++ (extent at (size + length) Used ∷ es)) ∷ both.back) (sym third.is))
           (rw no_rest refl) (record {
             held = found_here (extent at (size + length) Used) (last ∷ []);

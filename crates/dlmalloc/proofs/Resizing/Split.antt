@@ -1,5 +1,5 @@
 -- A chunk in use is split into two.
-use Rattle.dlmalloc.proofs.Names.{◌≡◌, ◌≢◌, ℕ, ◌+◌, ◌-◌, ◌%◌, ◌^◌, ◌<◌, ◌≤◌, inl, inr, true, List, [], ◌∷◌, Some, refl, sym, ◌∙◌, ap, subst, arith, Grant, Event, IsWordOf, IsStored, AreStored, HasHead, Extent, Kind, Used, Free, Top, Record, pinuse_of, head_of, pinuse_of-head_of, extent_at, is_used, HasChunk, extents_in, exchanged, halves, HasSameOthers, IsMoved, IsMove, IsRunOf, segments_of, state_of, IsSound, Dlmalloc, FreeMoves}
+use Rattle.dlmalloc.proofs.Names.{◌≡◌, ◌≢◌, ℕ, ◌+◌, ◌-◌, ◌%◌, ◌^◌, ◌<◌, ◌≤◌, inl, inr, true, List, [], ◌∷◌, Some, refl, sym, ◌∙◌, ap, subst, arith, Grant, Event, IsWordOf, IsStored, AreStored, HasHead, Extent, Kind, Used, Free, Top, Record, pinuse_of, head_of, pinuse_of-head_of, extent_at, is_used, HasChunk, extents_in, exchanged, halves, CanSplit, HasSameOthers, IsMoved, IsMove, IsRunOf, segments_of, state_of, IsSound, Dlmalloc, FreeMoves}
 use Rattle.dlmalloc.proofs.Extents.Lookup.{extent, found_here, the_one}
 use Rattle.dlmalloc.proofs.Cuts.FreeExtent.{stored_over}
 use Rattle.dlmalloc.proofs.Extents.Tiling.{tiles_le, plain_chunk}
@@ -31,13 +31,6 @@ split_used {old} {before} at size n stands whole least room stored =
       kept = λ k word more. stored.elsewhere k word (more.0, (more.1.0, tt));
     }
 
--- A chunk in use can be split after its first n bytes.
-pub record CanSplit {A : Type 0} (word : A → ℕ → ℕ) (heap : Dlmalloc A) (at size n : ℕ) : Type 0 where
-  pub there : extent_at at (extents_in (state_of word heap)) ≡ Some (extent at size Used)
-  pub whole : n % 16 ≡ 0
-  pub least : 32 ≤ n
-  pub room : n + 32 ≤ size
-
 -- What a split leaves: two chunks in use, and all else as it was.
 pub record IsSplit {A : Type 0} (regions : A → List Grant) (word : A → ℕ → ℕ) (follows : A → List Event → A → Type 0)
     (old : Dlmalloc A) (at size n : ℕ) (new : Dlmalloc A) : Type 0 where
@@ -50,12 +43,12 @@ pub record IsSplit {A : Type 0} (regions : A → List Grant) (word : A → ℕ �
   pub moved : IsMoved regions word follows old new
 
 module _ {A : Type 0} {regions : A → List Grant} {word : A → ℕ → ℕ} {heap : Dlmalloc A} (sound : IsSound regions word heap) {at size n : ℕ}
-    (can : CanSplit word heap at size n) where
+    (can : CanSplit (state_of word heap) at size n) where
   abbrev chunk : Extent
   chunk = extent at size Used
 
   abbrev run : IsRunOf (word heap.system) (segments_of word heap) at (at + size) (chunk ∷ [])
-  run = run_of (regions heap.system) (word heap.system) (segments_of word heap) sound.segments can.there
+  run = run_of (regions heap.system) (word heap.system) (segments_of word heap) sound.segments can.chunk
 
   high : at + size ≤ run.segment.base + run.segment.size
   high = tiles_le (word heap.system) Used (at + size) run.last (run.segment.base + run.segment.size) run.last_stand
@@ -108,7 +101,7 @@ module _ {A : Type 0} {regions : A → List Grant} {word : A → ℕ → ℕ} {h
     place_one k there = ap (λ e. e.at) (the_one k chunk there)
 
     abbrev step : IsStep regions word heap after (chunk ∷ []) both
-    step = step_beside after sound same run (split_used at size n run.here.1 can.whole can.least can.room stores) refl
+    step = step_beside after sound same run (split_used at size n run.here.1 can.bytes.whole can.bytes.least can.room stores) refl
         (λ k tail found is. absurd (let no : Used ≡ Record = used_one k found ∙ is in cc)) refl
         (record { base = refl; size = refl; flags = refl; top = refl; top_size = refl })
         (λ k tail found is. absurd (let no : Used ≡ Top = used_one k found ∙ is in cc))

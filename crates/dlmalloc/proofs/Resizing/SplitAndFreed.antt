@@ -1,13 +1,13 @@
 -- A chunk in use is split, and one of the two is freed.
-use Rattle.dlmalloc.proofs.Names.{◌≡◌, ◌≢◌, ℕ, ◌+◌, ◌-◌, inl, inr, List, Some, refl, sym, ◌∙◌, ap, subst, arith, Grant, Event, IsWordOf, Extent, Used, extent_at, extents_in, HasOneMore, IsBoundary, IsInFree, IsOwn, OnlyOwnChange, freed, exchanged, halves, tail_freed, HasSameOthers, HasOneMoved, KeepsOthers, state_of, IsSound, IsTurned, Dlmalloc}
+use Rattle.dlmalloc.proofs.Names.{◌≡◌, ◌≢◌, ℕ, ◌+◌, ◌-◌, inl, inr, List, Some, refl, sym, ◌∙◌, ap, subst, arith, Grant, Event, IsWordOf, Extent, Used, extent_at, extents_in, HasOneMore, IsBoundary, IsInFree, IsOwn, OnlyOwnChange, freed, exchanged, halves, tail_freed, CanSplit, HasSameOthers, HasOneMoved, KeepsOthers, state_of, IsSound, IsTurned, Dlmalloc}
 use Rattle.dlmalloc.proofs.Extents.Lookup.{extent}
 use Rattle.dlmalloc.proofs.Laws.{used_apart}
 use Rattle.dlmalloc.proofs.Frees.Behind.{next_boundary}
-use Rattle.dlmalloc.proofs.Resizing.Split.{CanSplit, IsSplit}
+use Rattle.dlmalloc.proofs.Resizing.Split.{IsSplit}
 use Rattle.dlmalloc.proofs.Blocks.WordsKept.{blocks_law, keeps_on}
 
 module _ {A : Type 0} {regions : A → List Grant} {word : A → ℕ → ℕ} {follows : A → List Event → A → Type 0} {heap middle new : Dlmalloc A}
-    (sound : IsSound regions word heap) {at size n : ℕ} (can : CanSplit word heap at size n)
+    (sound : IsSound regions word heap) {at size n : ℕ} (can : CanSplit (state_of word heap) at size n)
     (split : IsSplit regions word follows heap at size n middle) (moved : IsTurned regions word follows middle new) where
   -- a word that is granted before is granted after the split
   still : (k : ℕ) → IsWordOf (regions heap.system) k → IsWordOf (regions middle.system) k
@@ -20,8 +20,8 @@ module _ {A : Type 0} {regions : A → List Grant} {word : A → ℕ → ℕ} {f
   -- no other extent in use begins in the chunk
   inside : {used : Extent} → used.at ≢ at → extent_at used.at (extents_in (state_of word heap)) ≡ Some used → used.at ≢ at + n
   inside {used} other found same =
-      elim (used_apart regions word heap sound used (extent at size Used) found can.there other) [
-        | inl before ↦ (let e : used.at ≡ at + n = same in let l = can.least in omega arith)
+      elim (used_apart regions word heap sound used (extent at size Used) found can.chunk other) [
+        | inl before ↦ (let e : used.at ≡ at + n = same in let l = can.bytes.least in omega arith)
         | inr behind ↦ (let e : used.at ≡ at + n = same in let r = can.room in omega arith)
       ]
 

@@ -7,28 +7,27 @@ use Rattle.dlmalloc.proofs.heap.Dlmalloc.align_block.Goals.{After-aligned_place-
 
 pub size-size-requires : goal.size-size-requires
 size-size-requires g c = record {
-  head = block_head g.A.Links.regions g.A.Links.word c.args.self.now c.requires.sound
+  head = block_head g.A.Links.regions g.A.Links.word c.args.self.now c.requires.intact.sound
       c.args.ptr (c.args.n + c.args.align + 24) c.requires.block;
 }
 
 pub aligned_place-place-requires-clause-small : goal.aligned_place-place-requires-clause-small
-aligned_place-place-requires-clause-small g c = chunk_small c.requires.sound c.args.n c.args.align c.requires.block c.requires.least
+aligned_place-place-requires-clause-small g c = chunk_small c.requires.intact.sound c.args.n c.args.align c.requires.block c.requires.bytes.least
 
 pub aligned_place-place-requires-clause-whole : goal.aligned_place-place-requires-clause-whole
-aligned_place-place-requires-clause-whole g c = chunk_whole c.requires.sound c.args.n c.args.align c.requires.block
+aligned_place-place-requires-clause-whole g c = chunk_whole c.requires.intact.sound c.args.n c.args.align c.requires.block
 
 -- where the aligned place lies in the chunk
 placed : (g : _) (c : After-aligned_place-place g) → HasAlignedPlace c.args.align (c.args.ptr - 16) c.size-size.result c.args.n c.aligned_place-place.result
-placed g c = place_here c.requires.sound c.args.n c.args.align c.requires.block c.requires.align.0 c.requires.align.1 c.requires.least
+placed g c = place_here c.requires.intact.sound c.args.n c.args.align c.requires.block c.requires.align.0 c.requires.align.1 c.requires.bytes.least
     c.size-size.ensures.value c.aligned_place-place.ensures.place
 
 pub free_before-requires : goal.free_before-requires
 free_before-requires g c =
     let p = placed g (goal.at.free_before-requires g c).After-aligned_place-place in
     record {
-      sound = c.requires.sound;
-      linked = c.requires.linked;
-      chunk = block_chunk g.A.Links.regions g.A.Links.word c.args.self.now c.requires.sound c.args.ptr (c.args.n + c.args.align + 24) c.requires.block
+      intact = c.requires.intact;
+      chunk = block_chunk g.A.Links.regions g.A.Links.word c.args.self.now c.requires.intact.sound c.args.ptr (c.args.n + c.args.align + 24) c.requires.block
           c.size-size.result c.size-size.ensures.value;
       lead = p.lead;
       whole = p.whole;
@@ -60,15 +59,15 @@ returns-clause-others g c =
 pub returns-clause-kept : goal.returns-clause-kept
 returns-clause-kept g c =
     kept_on c.args.self.now
-    c.free_before.ensures.others c.free_before.ensures.kept c.free_before.ensures.sound c.free_behind.ensures.others c.free_behind.ensures.moved
+    c.free_before.ensures.others c.free_before.ensures.kept c.free_before.ensures.sound c.free_behind.ensures.others c.free_behind.ensures.turned.moved
 
 pub returns-clause-words : goal.returns-clause-words
 returns-clause-words g c = λ k inside passed.
     let lead = λ (own : IsOwn (state_of g.A.Links.word c.free_before.new.self) k). passed.1 (subst (λ s. IsOwn s k) c.free_before.ensures.state own) in
-    c.free_behind.ensures.moved.words k (subst (λ rs. IsWordOf rs k) (sym c.free_before.ensures.regions) inside) (λ free. lead (inr free)) passed.2
+    c.free_behind.ensures.turned.moved.words k (subst (λ rs. IsWordOf rs k) (sym c.free_before.ensures.regions) inside) (λ free. lead (inr free)) passed.2
     ∙ c.free_before.ensures.words k inside passed.0 lead
 
 pub returns-clause-order : goal.returns-clause-order
 returns-clause-order g c = λ b.
-    let lead = c.free_before.ensures.order b in let tail = c.free_behind.ensures.order lead.0 in
+    let lead = c.free_before.ensures.bins.order b in let tail = c.free_behind.ensures.turned.bins.order lead.0 in
     (lead.0.index, subst (λ s. HoldsBinned s lead.0.index) c.free_before.ensures.state lead.0.holds, lead.1, tail)

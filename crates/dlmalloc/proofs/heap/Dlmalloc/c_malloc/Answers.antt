@@ -15,7 +15,7 @@ pub returns-in-Ok-clause-served : goal.returns-in-Ok-clause-served
 returns-in-Ok-clause-served g c =
     let e = c.request2size.ensures in
     let less : c.args.size < limit c.args.self.now.granularity = (let not = c.if-size-max_request.false in let is = c.max_request.ensures.is in omega arith) in
-    served c.args.size e.is (omega arith) (omega arith) less c.in-Ok.ensures.cut c.cut.ensures.order
+    served c.args.size e.is (omega arith) (omega arith) less c.in-Ok.ensures.cut c.cut.ensures.bins.order
 
 pub returns-in-Ok-clause-member : goal.returns-in-Ok-clause-member
 returns-in-Ok-clause-member g c = member_behind g.A.Links.regions g.A.Links.word c.args.self.now c.args.size c.in-Ok.chunk

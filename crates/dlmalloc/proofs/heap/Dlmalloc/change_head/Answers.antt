@@ -100,8 +100,10 @@ returns g c =
     (g.A.Links.follows_on heap.system middle.system system [] [] [] left.follows put.follows refl) made.follows refl) in
     let is = made.fields ∙ ap (λ h. new_head h grant new.system at) left.fields in
     record {
-      joined = subst (λ h. IsAdmitted regions word g.A.Links.follows heap grant h) (sym is) added.0;
-      free = subst (λ h. FreeMoves (state_of word heap) (state_of word h) [] (if nat_le 32 heap.top_size then heap.top ∷ [] else [])) (sym is) added.1;
+      admitted = record {
+        joined = subst (λ h. IsAdmitted regions word g.A.Links.follows heap grant h) (sym is) added.0;
+        free = subst (λ h. FreeMoves (state_of word heap) (state_of word h) [] (if nat_le 32 heap.top_size then heap.top ∷ [] else [])) (sym is) added.1;
+        same = subst (λ h. IsSameBins heap h) (sym is) (record { bins = refl; victim = refl });
+      };
       rest = λ many. subst (λ h. IsFreeAt (state_of word h) heap.top heap.top_size) (sym is) (added.2 many);
-      same = subst (λ h. IsSameBins heap h) (sym is) (record { bins = refl; victim = refl });
     }

@@ -3,6 +3,7 @@ use Rattle.dlmalloc.proofs.Extents.NoRoom.{full}
 use Rattle.dlmalloc.proofs.Bins.Changes.{binned_beside}
 use Rattle.dlmalloc.proofs.Cuts.Chosen.{top_below}
 use Rattle.dlmalloc.proofs.Cuts.OneStepOrTwo.{cut_new}
+use Rattle.dlmalloc.proofs.Bins.Order.{bins_kept}
 use Rattle.dlmalloc.proofs.heap.Dlmalloc.cut_new.Goals as goal
 
 pub returns-in-None-clause-cut : goal.returns-in-None-clause-cut
@@ -11,24 +12,19 @@ returns-in-None-clause-cut g c =
     let grown = c.in_ok-chunk.ensures.top c.in-None.is in let e = c.take_top.ensures in
     let events = Granted (round_up (c.args.n + 96) heap.granularity) grown.grant ∷ [] in
     subst (λ k. IsCutOut g.A.Links.regions g.A.Links.word g.A.Allocator.zeros g.A.Links.follows heap c.args.n k new) (sym c.take_top.ensures.chunk)
-    (cut_new c.requires.sound c.args.n grown e.state e.more e.moved e.head e.foot e.others c.requires.none (top_below grown.sound grown.there)
-    (g.A.Links.follows_on heap.system middle.system new.system events [] events grown.followed e.moved.followed refl))
+    (cut_new c.requires.intact.sound c.args.n grown e.taken.state e.taken.more e.moves.moved e.head e.foot e.others c.requires.none
+    (top_below grown.sound grown.there) (g.A.Links.follows_on heap.system middle.system new.system events [] events grown.followed e.moves.moved.followed refl))
 
 pub returns-in-Some-clause-cut : goal.returns-in-Some-clause-cut
 returns-in-Some-clause-cut g c = c.in_ok-chunk.ensures.cut c.in-Some.chunk c.in-Some.is
 
 pub returns-in_err-chunk-clause-denied : goal.returns-in_err-chunk-clause-denied
 returns-in_err-chunk-clause-denied g c =
-    let full : IsFull (state_of g.A.Links.word c.args.self.now) (c.args.n + 256) = full c.requires.sound c.args.n c.requires.none in
+    let full : IsFull (state_of g.A.Links.word c.args.self.now) (c.args.n + 256) = full c.requires.intact.sound c.args.n c.requires.none in
     search rules
 
-pub returns-in-None-clause-linked : goal.returns-in-None-clause-linked
-returns-in-None-clause-linked g c =
+pub returns-in-None-clause-bins : goal.returns-in-None-clause-bins
+returns-in-None-clause-bins g c =
     let grown = c.in_ok-chunk.ensures.top c.in-None.is in let e = c.take_top.ensures in
-    binned_beside c.index_stays.ensures grown.sound e.moved e.bins e.free (ap (λ s. s.victim) e.state) c.grow.ensures.linked
-
-pub returns-in-None-clause-order : goal.returns-in-None-clause-order
-returns-in-None-clause-order g c = λ b.
-    let grown = c.in_ok-chunk.ensures.top c.in-None.is in let e = c.take_top.ensures in
-    let after = c.grow.ensures.order b in
-    (binned_beside c.index_stays.ensures grown.sound e.moved e.bins e.free (ap (λ s. s.victim) e.state) after.0, after.1)
+    bins_kept (λ b. (let after = c.grow.ensures.bins.order b in
+    (binned_beside c.index_stays.ensures grown.sound e.moves (ap (λ s. s.victim) e.taken.state) after.0, after.1))) c.requires.intact.linked

@@ -3,31 +3,31 @@ use Rattle.dlmalloc.proofs.Frees.WhatCallsWant.{head_there, foot_there, behind_t
 use Rattle.dlmalloc.proofs.Frees.NeighboursUnbinned.{left_free, left_none, right_free, right_none}
 use Rattle.dlmalloc.proofs.Frees.OfChunkAndBins.{two, joined_other, still_there, from_still, to_still, joined_loose}
 use Rattle.dlmalloc.proofs.Segments.HeadTop.{some_segment}
-use Rattle.dlmalloc.proofs.Bins.Order.{lessened_on, in_order}
+use Rattle.dlmalloc.proofs.Bins.Order.{lessened_on, in_order, bins_kept}
 use Rattle.dlmalloc.proofs.Moves.WithBins.{rebinned_on, turned}
 use Rattle.dlmalloc.proofs.heap.Dlmalloc.dispose_chunk.Goals as goal
 
 pub free_begin-from-requires : goal.free_begin-from-requires
 free_begin-from-requires g c = record {
-  head = head_there c.requires.sound c.requires.chunk;
-  foot = foot_there c.requires.sound c.requires.chunk;
-  fits = foot_fits c.requires.sound c.requires.chunk refl;
+  head = head_there c.requires.intact.sound c.requires.chunk;
+  foot = foot_there c.requires.intact.sound c.requires.chunk;
+  fits = foot_fits c.requires.intact.sound c.requires.chunk refl;
 }
 
 pub overflow_add-at : goal.overflow_add-at
-overflow_add-at g c = let small = behind_small c.requires.sound c.requires.chunk in omega arith
+overflow_add-at g c = let small = behind_small c.requires.intact.sound c.requires.chunk in omega arith
 
 pub free_end-to-requires : goal.free_end-to-requires
-free_end-to-requires g c = record { head = behind_there c.requires.sound c.requires.chunk; fits = end_below c.requires.sound c.requires.chunk }
+free_end-to-requires g c = record { head = behind_there c.requires.intact.sound c.requires.chunk; fits = end_below c.requires.intact.sound c.requires.chunk }
 
 -- ---- the free chunks beside it leave their bins
 
 pub unbin_between-requires : goal.unbin_between-requires
 unbin_between-requires g c = record {
-  sound = c.requires.sound;
-  free = left_free c.requires.sound c.requires.chunk c.free_begin-from.ensures.value;
-  none = left_none c.requires.sound c.requires.chunk c.free_begin-from.ensures.value;
-  binned = ([], c.requires.linked, λ none. none);
+  sound = c.requires.intact.sound;
+  free = left_free c.requires.intact.sound c.requires.chunk c.free_begin-from.ensures.value;
+  none = left_none c.requires.intact.sound c.requires.chunk c.free_begin-from.ensures.value;
+  binned = ([], c.requires.intact.linked, λ none. none);
 }
 
 pub unbin_between-requires-2 : goal.unbin_between-requires-2
@@ -37,13 +37,13 @@ unbin_between-requires-2 g c =
     record {
       sound = c.unbin_between.ensures.same.sound;
       free = λ more. subst (λ s. IsFreeAt s (c.args.at + c.args.size) (c.free_end-to.result - (c.args.at + c.args.size))) (sym state)
-          (right_free c.requires.sound c.requires.chunk begin end there more);
-      none = λ less n free. right_none c.requires.sound c.requires.chunk begin end there less n
+          (right_free c.requires.intact.sound c.requires.chunk begin end there more);
+      none = λ less n free. right_none c.requires.intact.sound c.requires.chunk begin end there less n
           (subst (λ s. IsFreeAt s (c.args.at + c.args.size) n) state free);
       binned = (
         c.free_begin-from.result ∷ [],
-        (c.unbin_between.ensures.loose [] c.requires.linked (λ none. none)).0,
-        two c.requires.sound c.requires.chunk
+        (c.unbin_between.ensures.loose [] c.requires.intact.linked (λ none. none)).0,
+        two c.requires.intact.sound c.requires.chunk
             begin end,
       );
     }
@@ -57,15 +57,15 @@ join_free-requires g c =
     c.unbin_between-2.ensures.same in
     record {
       sound = left.sound;
-      chunk = still_there c.requires.sound c.requires.chunk begin end left;
-      from = from_still c.requires.sound c.requires.chunk begin end left;
-      to = to_still c.requires.sound c.requires.chunk begin end left;
+      chunk = still_there c.requires.intact.sound c.requires.chunk begin end left;
+      from = from_still c.requires.intact.sound c.requires.chunk begin end left;
+      to = to_still c.requires.intact.sound c.requires.chunk begin end left;
     }
 
 -- ---- and what they are goes into its bin
 
 pub bin_joined-requires-clause-sound : goal.bin_joined-requires-clause-sound
-bin_joined-requires-clause-sound g c = c.join_free.ensures.moved.sound
+bin_joined-requires-clause-sound g c = c.join_free.ensures.moves.moved.sound
 
 pub bin_joined-requires-clause-joined : goal.bin_joined-requires-clause-joined
 bin_joined-requires-clause-joined g c = c.join_free.ensures.joined
@@ -79,12 +79,13 @@ returns g c =
     let end = c.free_end-to.ensures.value in
     let order : KeepsOrder g.A.Links.regions word old new = λ b.
     let one = c.unbin_between.ensures.loose [] b (λ none. none) in
-    let second = c.unbin_between-2.ensures.loose (from ∷ []) one.0 (two c.requires.sound c.requires.chunk begin end) in
-    let joined = joined_loose c.requires.sound c.requires.chunk begin end left c.index_stays.ensures second.0 e.moved e.free e.victim e.bins in
+    let second = c.unbin_between-2.ensures.loose (from ∷ []) one.0 (two c.requires.intact.sound c.requires.chunk begin end) in
+    let joined = joined_loose c.requires.intact.sound c.requires.chunk begin end left c.index_stays.ensures second.0
+    e.moves.moved e.moves.free e.victim e.moves.bins in
     let after = c.bin_joined.ensures.binned joined in (
       after.0,
       in_order (to - from) from b.index second.0.index after.0.index (lessened_on b.index one.0.index second.0.index one.1 second.1) after.1
-          (λ is. joined_other c.requires.sound c.requires.chunk begin end (b.holds.free from (to - from) is)),
+          (λ is. joined_other c.requires.intact.sound c.requires.chunk begin end (b.holds.free from (to - from) is)),
     ) in
     record {
       state = last.state ∙ (e.state ∙ ap (λ s. freed s c.args.at) left.state);
@@ -93,9 +94,10 @@ returns g c =
       records = λ one is there. ap (λ s. extent_at one.at (extents_in s)) last.state
           ∙ e.records one is (ap (λ s. extent_at one.at (extents_in s)) left.state ∙ there);
       around = subst (λ s. IsFreeAround s c.args.at c.free_begin-from.result) (sym last.state) e.around;
-      moved = turned g.A.Links.regions word g.A.Links.follows g.A.Links.follows_on left e.moved last;
-      linked = (order c.requires.linked).0;
-      order = order;
+      turned = record {
+        moved = turned g.A.Links.regions word g.A.Links.follows g.A.Links.follows_on left e.moves.moved last;
+        bins = bins_kept order c.requires.intact.linked;
+      };
       counted = omega arith;
     }
 
@@ -104,6 +106,6 @@ bin_joined-requires-clause-loose g c =
     let first = c.unbin_between.ensures in let second = c.unbin_between-2.ensures in let e = c.join_free.ensures in
     let begin = c.free_begin-from.ensures.value in let end = c.free_end-to.ensures.value in
     let left = rebinned_on g.A.Links.regions g.A.Links.word g.A.Links.follows g.A.Links.follows_on first.same second.same in
-    let one = first.loose [] c.requires.linked (λ none. none) in
-    let loose = second.loose (c.free_begin-from.result ∷ []) one.0 (two c.requires.sound c.requires.chunk begin end) in
-    joined_loose c.requires.sound c.requires.chunk begin end left c.index_stays.ensures loose.0 e.moved e.free e.victim e.bins
+    let one = first.loose [] c.requires.intact.linked (λ none. none) in
+    let loose = second.loose (c.free_begin-from.result ∷ []) one.0 (two c.requires.intact.sound c.requires.chunk begin end) in
+    joined_loose c.requires.intact.sound c.requires.chunk begin end left c.index_stays.ensures loose.0 e.moves.moved e.moves.free e.victim e.moves.bins

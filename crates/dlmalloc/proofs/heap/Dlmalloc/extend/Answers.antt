@@ -57,18 +57,20 @@ returns g c =
     } in
     let is : new ≡ extended_heap heap grant new.system = closed.fields in
     record {
-      joined = subst (λ h. IsAdmitted regions word g.A.Links.follows heap grant h) (sym is) (record {
-        state = extended_state c.requires.sound stored;
-        sound = extended_sound c.requires.sound stored;
-        there = some;
-        room = omega arith;
-        begins = inr (there, c.requires.behind, refl);
-        regions_same = closed.regions;
-        followed = closed.follows;
-        used = extended_used c.requires.sound stored;
-        words = extended_words c.requires.sound stored;
-        new_words = λ k inside low high a b. closed.elsewhere k inside a (λ at_foot. b (omega arith));
-      });
-      free = subst (λ h. FreeMoves (state_of word heap) (state_of word h) [] []) (sym is) (extended_free c.requires.sound stored);
-      same = subst (λ h. IsSameBins heap h) (sym is) (record { bins = refl; victim = refl });
+      admitted = record {
+        joined = subst (λ h. IsAdmitted regions word g.A.Links.follows heap grant h) (sym is) (record {
+          state = extended_state c.requires.sound stored;
+          sound = extended_sound c.requires.sound stored;
+          there = some;
+          room = omega arith;
+          begins = inr (there, c.requires.behind, refl);
+          regions_same = closed.regions;
+          followed = closed.follows;
+          used = extended_used c.requires.sound stored;
+          words = extended_words c.requires.sound stored;
+          new_words = λ k inside low high a b. closed.elsewhere k inside a (λ at_foot. b (omega arith));
+        });
+        free = subst (λ h. FreeMoves (state_of word heap) (state_of word h) [] []) (sym is) (extended_free c.requires.sound stored);
+        same = subst (λ h. IsSameBins heap h) (sym is) (record { bins = refl; victim = refl });
+      };
     }

@@ -8,7 +8,7 @@ returns-clause-freed g c =
     let old = c.args.self.now in let middle = c.free_block-chunk.new.self in let new = c.settle.new.self in
     let at = c.args.ptr - 16 in let disposed = c.free_block-chunk.ensures.freed in
     let fixed = g.met.A.Allocator.fixed old.system middle.system _ disposed.followed in
-    freed_whole g.A.Links.follows_on c.requires.sound disposed c.free_block-chunk.ensures.around
+    freed_whole g.A.Links.follows_on c.requires.intact.sound disposed c.free_block-chunk.ensures.around
     (by_rules g.A.Allocator.zeros g.A.Allocator.frees g.A.Allocator.parts g.A.Allocator.unit fixed (λ frees parts unit. IsSettled g.A.Links.regions
     g.A.Links.word g.A.Links.follows frees parts unit middle at new) (c.settle.ensures.settled at c.free_block-chunk.ensures.around))
 

@@ -1,41 +1,42 @@
 use Rattle.dlmalloc.proofs.Names.{[], refl, ◌∙◌, arith, ap}
-use Rattle.dlmalloc.proofs.Resizing.Split.{CanSplit, IsSplit, end_small}
+use Rattle.dlmalloc.proofs.Resizing.Split.{IsSplit, end_small}
 use Rattle.dlmalloc.proofs.Bins.Changes.{binned_beside}
 use Rattle.dlmalloc.proofs.Resizing.SplitAndFreed.{tail_state, tail_first, tail_others, tail_words}
+use Rattle.dlmalloc.proofs.Bins.Order.{bins_kept}
 use Rattle.dlmalloc.proofs.heap.Dlmalloc.free_tail.Goals as goal
-use Rattle.dlmalloc.proofs.heap.Dlmalloc.free_tail.Goals.{Start}
-
--- the chunk can be split after its first n bytes
-can : (g : _) (c : Start g) → CanSplit g.A.Links.word c.args.self.now c.args.at c.args.size c.args.n
-can g c = record { there = c.requires.chunk; whole = c.requires.whole; least = c.requires.least; room = c.requires.room }
 
 pub overflow_add-at : goal.overflow_add-at
 overflow_add-at g c =
-    let end = end_small c.requires.sound (can g (goal.at.overflow_add-at g c).Start) in
-    let room = c.requires.room in grind arith
+    let end = end_small c.requires.intact.sound c.requires.split in
+    let room = c.requires.split.room in grind arith
 
-pub dispose_chunk-requires-clause-linked : goal.dispose_chunk-requires-clause-linked
-dispose_chunk-requires-clause-linked g c =
+pub dispose_chunk-requires-clause-intact : goal.dispose_chunk-requires-clause-intact
+dispose_chunk-requires-clause-intact g c =
     let e = c.split.ensures in
-    binned_beside c.index_stays.ensures c.requires.sound e.moved e.bins e.free (ap (λ s. s.victim) e.state) c.requires.linked
+    record {
+      sound = e.moves.moved.sound;
+      linked = binned_beside c.index_stays.ensures c.requires.intact.sound e.moves (ap (λ s. s.victim) e.state) c.requires.intact.linked;
+    }
 
 pub returns : goal.returns
 returns g c =
-    let e = c.split.ensures in let freed = c.dispose_chunk.ensures in let sound = c.requires.sound in
-    let can = can g (goal.at.returns g c).Start in
+    let e = c.split.ensures in let freed = c.dispose_chunk.ensures in let sound = c.requires.intact.sound in
+    let can = c.requires.split in
     let split : IsSplit g.A.Links.regions g.A.Links.word g.A.Links.follows c.args.self.now c.args.at c.args.size c.args.n c.split.new.self =
-    record { state = e.state; first = e.first; second = e.second; others = e.others; words = e.words; free = e.free; moved = e.moved } in
+    record { state = e.state; first = e.first; second = e.second; others = e.others; words = e.words; free = e.moves.free; moved = e.moves.moved } in
     record {
-      state = tail_state sound can split freed.moved freed.state freed.less;
-      first = tail_first sound can split freed.moved freed.state freed.less;
-      others = tail_others sound can split freed.moved freed.state freed.less;
-      moved = record {
-        sound = freed.moved.sound;
-        words = tail_words sound can split freed.moved freed.state freed.less;
-        regions_same = freed.moved.regions_same ∙ e.moved.regions_same;
-        followed = g.A.Links.follows_on _ _ _ [] [] [] e.moved.followed freed.moved.followed refl;
+      state = tail_state sound can split freed.turned.moved freed.state freed.less;
+      first = tail_first sound can split freed.turned.moved freed.state freed.less;
+      others = tail_others sound can split freed.turned.moved freed.state freed.less;
+      turned = record {
+        moved = record {
+          sound = freed.turned.moved.sound;
+          words = tail_words sound can split freed.turned.moved freed.state freed.less;
+          regions_same = freed.turned.moved.regions_same ∙ e.moves.moved.regions_same;
+          followed = g.A.Links.follows_on _ _ _ [] [] [] e.moves.moved.followed freed.turned.moved.followed refl;
+        };
+        bins = bins_kept (λ b. freed.turned.bins.order (binned_beside c.index_stays.ensures sound e.moves (ap (λ s. s.victim) e.state) b))
+            c.requires.intact.linked;
       };
-      linked = freed.linked;
-      order = λ b. freed.order (binned_beside c.index_stays.ensures sound e.moved e.bins e.free (ap (λ s. s.victim) e.state) b);
       counted = (let told = e.counted in let more = freed.counted in omega arith);
     }

@@ -6,7 +6,7 @@ use Rattle.dlmalloc.proofs.Grants.NewRegion.{granted_sound, granted_same, grante
 use Rattle.dlmalloc.proofs.Grants.CutFromStart.{cut_before}
 use Rattle.dlmalloc.proofs.Laws.{as_it_was, as_binned}
 use Rattle.dlmalloc.proofs.Requests.Plain.{if_err}
-use Rattle.dlmalloc.proofs.Bins.Order.{order_same}
+use Rattle.dlmalloc.proofs.Bins.Order.{order_same, bins_kept}
 use Rattle.dlmalloc.proofs.heap.Dlmalloc.grow.Goals as goal
 use Rattle.dlmalloc.proofs.heap.Dlmalloc.grow.Goals.{In_ok-grant}
 
@@ -17,35 +17,35 @@ returns-in_err-grant-clause-err g c =
     let followed = subst (λ bytes. g.A.Links.follows heap.system (events bytes c.in_err-grant.field-0.0) c.alloc.new.self)
     c.asked-asked.ensures.asked denied.err_follows in
     if_err c.from_residual.result _ c.from_residual.ensures.1
-    (as_it_was g.A.Links.regions g.A.Links.word heap c.requires.sound c.index_stays.ensures denied.err denied.words followed denied.err_refuses)
+    (as_it_was g.A.Links.regions g.A.Links.word heap c.requires.intact.sound c.index_stays.ensures denied.err denied.words followed denied.err_refuses)
 
 -- ---- the heap is as it was, with a fresh grant beside it
 
 -- what is asked for has room for a chunk and the end of a segment
 long : (g : _) (c : In_ok-grant g) → 128 ≤ c.asked-asked.result
-long g c = let enough = c.asked-asked.ensures.enough in let least = c.requires.least in omega arith
+long g c = let enough = c.asked-asked.ensures.enough in let least = c.requires.bytes.least in omega arith
 
 sound : (g : _) (c : In_ok-grant g) → IsSound g.A.Links.regions g.A.Links.word (record c.args.self.now { system = c.alloc.new.self })
 sound g c =
     let given = c.in_ok-grant.ensures in
-    granted_sound c.requires.sound c.alloc.new.self (long g c) given.good given.apart given.regions given.words
+    granted_sound c.requires.intact.sound c.alloc.new.self (long g c) given.good given.apart given.regions given.words
 
 same : (g : _) (c : In_ok-grant g) → state_of g.A.Links.word (record c.args.self.now { system = c.alloc.new.self }) ≡ state_of g.A.Links.word c.args.self.now
 same g c =
     let given = c.in_ok-grant.ensures in
-    granted_same c.requires.sound c.alloc.new.self (long g c) given.good given.apart given.regions given.words
+    granted_same c.requires.intact.sound c.alloc.new.self (long g c) given.good given.apart given.regions given.words
 
 abbrev binned : (g : _) (c : In_ok-grant g) → IsBinned g.A.Links.regions g.A.Links.word c.args.self.now →
     IsBinned g.A.Links.regions g.A.Links.word (record c.args.self.now { system = c.alloc.new.self })
 binned g c =
     let given = c.in_ok-grant.ensures in
-    granted_binned c.requires.sound c.alloc.new.self (long g c) given.good given.apart given.regions given.words c.index_stays.ensures
+    granted_binned c.requires.intact.sound c.alloc.new.self (long g c) given.good given.apart given.regions given.words c.index_stays.ensures
 
 fresh : (g : _) (c : In_ok-grant g) →
     IsFreshGrant (g.A.Links.regions c.alloc.new.self) (segments_of g.A.Links.word (record c.args.self.now { system = c.alloc.new.self })) c.in_ok-grant.grant
 fresh g c =
     let given = c.in_ok-grant.ensures in
-    fresh_grant c.requires.sound c.alloc.new.self (long g c) given.good given.apart given.regions given.words
+    fresh_grant c.requires.intact.sound c.alloc.new.self (long g c) given.good given.apart given.regions given.words
 
 pub segment_behind-requires : goal.segment_behind-requires
 segment_behind-requires g c = record { sound = sound g (goal.at.segment_behind-requires g c).In_ok-grant; high = c.in_ok-grant.ensures.good.high }
@@ -54,19 +54,23 @@ pub put_before-requires : goal.put_before-requires
 put_before-requires g c =
     let now = (goal.at.put_before-requires g c).In_ok-grant in
     record {
-      sound = sound g now;
-      linked = binned g now c.requires.linked;
-      fresh = fresh g now;
+      intact = record { sound = sound g now; linked = binned g now c.requires.intact.linked };
+      grant = record {
+        fresh = fresh g now;
+        bytes = c.requires.bytes;
+        room = (let e = c.asked-asked.ensures.enough in let long = c.in_ok-grant.ensures.good.long in omega arith);
+      };
       behind = c.in-Some.ensures.found;
-      whole = c.requires.whole;
-      least = c.requires.least;
-      room = (let e = c.asked-asked.ensures.enough in let long = c.in_ok-grant.ensures.good.long in omega arith);
     }
 
 pub join-requires : goal.join-requires
 join-requires g c =
     let now = (goal.at.join-requires g c).In_ok-grant in
-    record { sound = sound g now; linked = binned g now c.requires.linked; fresh = fresh g now; apart = c.in-None.ensures.none refl }
+    record {
+      intact = record { sound = sound g now; linked = binned g now c.requires.intact.linked };
+      fresh = fresh g now;
+      apart = c.in-None.ensures.none refl;
+    }
 
 pub returns-in-Some-clause-cut : goal.returns-in-Some-clause-cut
 returns-in-Some-clause-cut g c = λ at is.
@@ -77,15 +81,16 @@ returns-in-Some-clause-cut g c = λ at is.
     (Granted asked grant ∷ []) given.follows put.followed refl in
     let at_is : grant.base ≡ at = ap (λ o. unwrap_or o grant.base) is in
     subst (λ a. IsCutOut regions word g.A.Allocator.zeros g.A.Links.follows heap c.args.n a new) at_is
-    (cut_before c.requires.sound c.requires.least c.asked-asked.ensures.enough c.requires.none given.good given.apart given.regions given.words given.zeros
-    c.in-Some.ensures.some put (subst (λ bytes. g.A.Links.follows heap.system (Granted bytes grant ∷ []) new.system) c.asked-asked.ensures.asked followed))
+    (cut_before c.requires.intact.sound c.requires.bytes.least c.asked-asked.ensures.enough c.requires.none given.good given.apart given.regions given.words
+    given.zeros c.in-Some.ensures.some put (subst (λ bytes. g.A.Links.follows heap.system (Granted bytes grant ∷ []) new.system)
+    c.asked-asked.ensures.asked followed))
 
 pub returns-in-None-clause-top : goal.returns-in-None-clause-top
 returns-in-None-clause-top g c = λ is.
     let regions = g.A.Links.regions in let word = g.A.Links.word in let heap = c.args.self.now in
     let grant = c.in_ok-grant.grant in let given = c.in_ok-grant.ensures in let asked = c.asked-asked.result in
     let enough : c.args.n + 96 ≤ asked = c.asked-asked.ensures.enough in
-    let least = c.requires.least in let middle = c.alloc.new.self in let new = c.join.new.self in
+    let least = c.requires.bytes.least in let middle = c.alloc.new.self in let new = c.join.new.self in
     let joined = c.join.ensures.joined in let long = given.good.long in let room = joined.room in
     let same = same g (goal.at.returns-in-None-clause-top g c).In_ok-grant in
     let followed = g.A.Links.follows_on heap.system middle new.system (Granted asked grant ∷ []) []
@@ -109,21 +114,19 @@ returns-in-None-clause-top g c = λ is.
           ∙ given.zeros zeros k low high multiple;
     }
 
-pub returns-in_err-grant-clause-linked : goal.returns-in_err-grant-clause-linked
-returns-in_err-grant-clause-linked g c =
+pub returns-in_err-grant-clause-bins : goal.returns-in_err-grant-clause-bins
+returns-in_err-grant-clause-bins g c =
     let denied = c.in_err-grant.ensures in
-    as_binned g.A.Links.regions g.A.Links.word c.args.self.now c.requires.sound c.index_stays.ensures c.alloc.new.self denied.err denied.words c.requires.linked
-
-pub returns-in_err-grant-clause-order : goal.returns-in_err-grant-clause-order
-returns-in_err-grant-clause-order g c = λ b.
-    let denied = c.in_err-grant.ensures in (
-      as_binned g.A.Links.regions g.A.Links.word c.args.self.now c.requires.sound c.index_stays.ensures c.alloc.new.self
+    bins_kept (λ b. (
+      as_binned g.A.Links.regions g.A.Links.word c.args.self.now c.requires.intact.sound c.index_stays.ensures c.alloc.new.self
           denied.err denied.words b,
       order_same b.index,
-    )
+    )) c.requires.intact.linked
 
-pub returns-in-Some-clause-order : goal.returns-in-Some-clause-order
-returns-in-Some-clause-order g c = λ b. c.put_before.ensures.order (binned g (goal.at.returns-in-Some-clause-order g c).In_ok-grant b)
+pub returns-in-Some-clause-bins : goal.returns-in-Some-clause-bins
+returns-in-Some-clause-bins g c =
+    bins_kept (λ b. c.put_before.ensures.bins.order (binned g (goal.at.returns-in-Some-clause-bins g c).In_ok-grant b)) c.requires.intact.linked
 
-pub returns-in-None-clause-order : goal.returns-in-None-clause-order
-returns-in-None-clause-order g c = λ b. c.join.ensures.order (binned g (goal.at.returns-in-None-clause-order g c).In_ok-grant b)
+pub returns-in-None-clause-bins : goal.returns-in-None-clause-bins
+returns-in-None-clause-bins g c =
+    bins_kept (λ b. c.join.ensures.bins.order (binned g (goal.at.returns-in-None-clause-bins g c).In_ok-grant b)) c.requires.intact.linked

@@ -35,13 +35,15 @@ returns g c =
       state = t.state;
       held = t.held;
       others = t.others;
-      free = into_top_free sound can first.regions second.regions rest_is first.stored second.stored;
-      bins = refl;
-      moved = record {
-        sound = t.sound;
-        words = t.words;
-        regions_same = second.regions ∙ first.regions;
-        followed = g.A.Links.follows_on _ _ _ [] [] [] first.follows second.follows refl;
+      moves = record {
+        moved = record {
+          sound = t.sound;
+          words = t.words;
+          regions_same = second.regions ∙ first.regions;
+          followed = g.A.Links.follows_on _ _ _ [] [] [] first.follows second.follows refl;
+        };
+        free = into_top_free sound can first.regions second.regions rest_is first.stored second.stored;
+        bins = refl;
       };
       counted = (let told = first.counted in let stored = second.counted in omega arith);
     }

@@ -1,21 +1,21 @@
 use Rattle.dlmalloc.proofs.Grants.WithBins.{as_joined, admitted_binned}
-use Rattle.dlmalloc.proofs.Bins.Order.{order_same}
+use Rattle.dlmalloc.proofs.Bins.Order.{order_same, bins_kept}
 use Rattle.dlmalloc.proofs.heap.Dlmalloc.join.Goals as goal
 
 pub returns-then-self-eq0 : goal.returns-then-self-eq0
 returns-then-self-eq0 g c =
-    let e = c.open.ensures in
+    let e = c.open.ensures.admitted in
     record {
       joined = as_joined g.A.Links.regions g.A.Links.word g.A.Links.follows c.args.self.now c.args.grant.now e.joined;
-      linked = admitted_binned c.index_stays.ensures c.requires.sound e.joined e.free e.same c.requires.linked;
-      order = λ b. (admitted_binned c.index_stays.ensures c.requires.sound e.joined e.free e.same b, order_same b.index);
+      bins = bins_kept (λ b. (admitted_binned c.index_stays.ensures c.requires.intact.sound e.joined e.free e.same b, order_same b.index))
+          c.requires.intact.linked;
     }
 
 pub returns-then-is_behind : goal.returns-then-is_behind
 returns-then-is_behind g c =
-    let e = c.extend.ensures in
+    let e = c.extend.ensures.admitted in
     record {
       joined = as_joined g.A.Links.regions g.A.Links.word g.A.Links.follows c.args.self.now c.args.grant.now e.joined;
-      linked = admitted_binned c.index_stays.ensures c.requires.sound e.joined e.free e.same c.requires.linked;
-      order = λ b. (admitted_binned c.index_stays.ensures c.requires.sound e.joined e.free e.same b, order_same b.index);
+      bins = bins_kept (λ b. (admitted_binned c.index_stays.ensures c.requires.intact.sound e.joined e.free e.same b, order_same b.index))
+          c.requires.intact.linked;
     }

@@ -40,11 +40,13 @@ returns-then-self-to g c =
       less = o.less;
       records = o.records;
       around = o.around;
-      free = o.free;
       joined = o.joined;
       victim = inr (c.if-from-self.true, c.if-self-to.true, inl refl);
-      bins = refl;
-      moved = record { sound = o.sound; words = o.words; regions_same = search rules; followed = search rules };
+      moves = record {
+        moved = record { sound = o.sound; words = o.words; regions_same = search rules; followed = search rules };
+        free = o.free;
+        bins = refl;
+      };
       counted = omega arith;
     }
 
@@ -62,11 +64,13 @@ returns-else-from-self g c =
       less = o.less;
       records = o.records;
       around = o.around;
-      free = o.free;
       joined = o.joined;
       victim = inl refl;
-      bins = refl;
-      moved = record { sound = o.sound; words = o.words; regions_same = search rules; followed = search rules };
+      moves = record {
+        moved = record { sound = o.sound; words = o.words; regions_same = search rules; followed = search rules };
+        free = o.free;
+        bins = refl;
+      };
       counted = omega arith;
     }
 
@@ -81,11 +85,13 @@ returns-then-self-to-2 g c =
       less = o.less;
       records = o.records;
       around = o.around;
-      free = o.free;
       joined = o.joined;
       victim = inr (c.if-from-self-2.true, c.if-self-to-2.true, inr refl);
-      bins = refl;
-      moved = record { sound = o.sound; words = o.words; regions_same = search rules; followed = search rules };
+      moves = record {
+        moved = record { sound = o.sound; words = o.words; regions_same = search rules; followed = search rules };
+        free = o.free;
+        bins = refl;
+      };
       counted = omega arith;
     }
 
@@ -104,10 +110,12 @@ returns-else-from-self-2 g c =
       less = o.less;
       records = o.records;
       around = o.around;
-      free = o.free;
       joined = o.joined;
       victim = inl refl;
-      bins = refl;
-      moved = record { sound = o.sound; words = o.words; regions_same = search rules; followed = search rules };
+      moves = record {
+        moved = record { sound = o.sound; words = o.words; regions_same = search rules; followed = search rules };
+        free = o.free;
+        bins = refl;
+      };
       counted = omega arith;
     }

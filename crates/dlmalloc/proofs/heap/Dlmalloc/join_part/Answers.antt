@@ -1,21 +1,16 @@
 use Rattle.dlmalloc.proofs.Names.{◌+◌, ◌-◌, [], sym, subst, ◌∙◌, arith, refl, HasHead, HasFoot}
-use Rattle.dlmalloc.proofs.Resizing.IntoFree.{CanTakeFree, free_end_small, free_at_whole, free_sizes_whole, free_head_there, free_foot_there, free_stores, into_victim, into_binned, whole_victim, whole_binned}
+use Rattle.dlmalloc.proofs.Resizing.IntoFree.{free_end_small, free_at_whole, free_sizes_whole, free_head_there, free_foot_there, free_stores, into_victim, into_binned, whole_victim, whole_binned}
 use Rattle.dlmalloc.proofs.heap.Dlmalloc.join_part.Goals as goal
-use Rattle.dlmalloc.proofs.heap.Dlmalloc.join_part.Goals.{Start}
-
--- the chunk can take n bytes with those of the free one after it
-can : (g : _) (c : Start g) → CanTakeFree g.A.Links.word c.args.self.now c.args.at c.args.size c.args.free c.args.n
-can g c = record { there = c.requires.chunk; behind = c.requires.next; whole = c.requires.whole; more = c.requires.more; room = c.requires.room }
 
 pub overflow_add-all : goal.overflow_add-all
-overflow_add-all g c = let s = free_end_small c.requires.sound (can g (goal.at.overflow_add-all g c).Start) in grind arith
+overflow_add-all g c = let s = free_end_small c.requires.sound c.requires.take in grind arith
 
 pub overflow_add-was_victim : goal.overflow_add-was_victim
-overflow_add-was_victim g c = let s = free_end_small c.requires.sound (can g (goal.at.overflow_add-was_victim g c).Start) in grind arith
+overflow_add-was_victim g c = let s = free_end_small c.requires.sound c.requires.take in grind arith
 
 pub set_inuse-requires : goal.set_inuse-requires
 set_inuse-requires g c =
-    let can = can g (goal.at.set_inuse-requires g c).Start in let sound = c.requires.sound in
+    let can = c.requires.take in let sound = c.requires.sound in
     let m = free_at_whole sound can in let w = free_sizes_whole sound can in
     record {
       size = omega arith;
@@ -25,8 +20,8 @@ set_inuse-requires g c =
 
 pub set_inuse-requires-else-rest-lt-LEAST_CHUNK : goal.set_inuse-requires-else-rest-lt-LEAST_CHUNK
 set_inuse-requires-else-rest-lt-LEAST_CHUNK g c =
-    let can = can g (goal.at.set_inuse-requires-else-rest-lt-LEAST_CHUNK g c).Start in let sound = c.requires.sound in
-    let m = free_at_whole sound can in let whole = c.requires.whole in let room = c.requires.room in
+    let can = c.requires.take in let sound = c.requires.sound in
+    let m = free_at_whole sound can in let whole = c.requires.take.whole in let room = c.requires.take.room in
     record {
       size = omega arith;
       head = free_head_there sound can c.args.at (omega arith) (omega arith) (omega arith);
@@ -35,14 +30,14 @@ set_inuse-requires-else-rest-lt-LEAST_CHUNK g c =
 
 pub overflow_add-at : goal.overflow_add-at
 overflow_add-at g c =
-    let s = free_end_small c.requires.sound (can g (goal.at.overflow_add-at g c).Start) in
-    let room = c.requires.room in grind arith
+    let s = free_end_small c.requires.sound c.requires.take in
+    let room = c.requires.take.room in grind arith
 
 pub set_size_and_pinuse_of_free_chunk-requires : goal.set_size_and_pinuse_of_free_chunk-requires
 set_size_and_pinuse_of_free_chunk-requires g c =
-    let can = can g (goal.at.set_size_and_pinuse_of_free_chunk-requires g c).Start in let sound = c.requires.sound in
+    let can = c.requires.take in let sound = c.requires.sound in
     let m = free_at_whole sound can in let w = free_sizes_whole sound can in
-    let whole = c.requires.whole in let room = c.requires.room in
+    let whole = c.requires.take.whole in let room = c.requires.take.room in
     let same = sym c.set_inuse-else-rest-lt-LEAST_CHUNK.ensures.regions in
     let rest = c.args.at + c.args.n in let end = rest + (c.args.size + c.args.free - c.args.n) in
     record {
@@ -53,39 +48,67 @@ set_size_and_pinuse_of_free_chunk-requires g c =
 
 pub overflow_add-self : goal.overflow_add-self
 overflow_add-self g c =
-    let s = free_end_small c.requires.sound (can g (goal.at.overflow_add-self g c).Start) in
-    let room = c.requires.room in grind arith
+    let s = free_end_small c.requires.sound c.requires.take in
+    let room = c.requires.take.room in grind arith
 
 pub returns-then-was_victim : goal.returns-then-was_victim
 returns-then-was_victim g c =
-    let less = c.if-rest-lt-LEAST_CHUNK.true in let room = c.requires.room in let e = c.set_inuse.ensures in
-    let can = can g (goal.at.returns-then-was_victim g c).Start in
+    let less = c.if-rest-lt-LEAST_CHUNK.true in let room = c.requires.take.room in let e = c.set_inuse.ensures in
+    let can = c.requires.take in
     let t = whole_victim c.requires.sound can e.regions g.A.Links.follows e.follows (omega arith) e.stored c.if-was_victim.true in
-    record { state = t.state; held = t.held; others = t.others; free = t.free; rest = t.rest; bins = refl; moved = t.moved; counted = omega arith }
+    record {
+      state = t.state;
+      held = t.held;
+      others = t.others;
+      rest = t.rest;
+      moves = record { moved = t.moved; free = t.free; bins = refl };
+      counted = omega arith;
+    }
 
 pub returns-else-was_victim : goal.returns-else-was_victim
 returns-else-was_victim g c =
-    let less = c.if-rest-lt-LEAST_CHUNK.true in let room = c.requires.room in let e = c.set_inuse.ensures in
-    let can = can g (goal.at.returns-else-was_victim g c).Start in
+    let less = c.if-rest-lt-LEAST_CHUNK.true in let room = c.requires.take.room in let e = c.set_inuse.ensures in
+    let can = c.requires.take in
     let t = whole_binned c.requires.sound can e.regions g.A.Links.follows e.follows (omega arith) e.stored c.if-was_victim.false in
-    record { state = t.state; held = t.held; others = t.others; free = t.free; rest = t.rest; bins = refl; moved = t.moved; counted = omega arith }
+    record {
+      state = t.state;
+      held = t.held;
+      others = t.others;
+      rest = t.rest;
+      moves = record { moved = t.moved; free = t.free; bins = refl };
+      counted = omega arith;
+    }
 
 pub returns-then-was_victim-2 : goal.returns-then-was_victim-2
 returns-then-was_victim-2 g c =
-    let more = c.if-rest-lt-LEAST_CHUNK.false in let room = c.requires.room in
+    let more = c.if-rest-lt-LEAST_CHUNK.false in let room = c.requires.take.room in
     let first = c.set_inuse-else-rest-lt-LEAST_CHUNK.ensures in let second = c.set_size_and_pinuse_of_free_chunk.ensures in
-    let can = can g (goal.at.returns-then-was_victim-2 g c).Start in
+    let can = c.requires.take in
     let stored = free_stores c.requires.sound can first.regions first.stored second.stored in
     let followed = g.A.Links.follows_on _ _ _ [] [] [] first.follows second.follows refl in
     let t = into_victim c.requires.sound can (second.regions ∙ first.regions) g.A.Links.follows followed (omega arith) stored c.if-was_victim-2.true in
-    record { state = t.state; held = t.held; others = t.others; free = t.free; rest = t.rest; bins = refl; moved = t.moved; counted = omega arith }
+    record {
+      state = t.state;
+      held = t.held;
+      others = t.others;
+      rest = t.rest;
+      moves = record { moved = t.moved; free = t.free; bins = refl };
+      counted = omega arith;
+    }
 
 pub returns-else-was_victim-2 : goal.returns-else-was_victim-2
 returns-else-was_victim-2 g c =
-    let more = c.if-rest-lt-LEAST_CHUNK.false in let room = c.requires.room in
+    let more = c.if-rest-lt-LEAST_CHUNK.false in let room = c.requires.take.room in
     let first = c.set_inuse-else-rest-lt-LEAST_CHUNK.ensures in let second = c.set_size_and_pinuse_of_free_chunk.ensures in
-    let can = can g (goal.at.returns-else-was_victim-2 g c).Start in
+    let can = c.requires.take in
     let stored = free_stores c.requires.sound can first.regions first.stored second.stored in
     let followed = g.A.Links.follows_on _ _ _ [] [] [] first.follows second.follows refl in
     let t = into_binned c.requires.sound can (second.regions ∙ first.regions) g.A.Links.follows followed (omega arith) stored c.if-was_victim-2.false in
-    record { state = t.state; held = t.held; others = t.others; free = t.free; rest = t.rest; bins = refl; moved = t.moved; counted = omega arith }
+    record {
+      state = t.state;
+      held = t.held;
+      others = t.others;
+      rest = t.rest;
+      moves = record { moved = t.moved; free = t.free; bins = refl };
+      counted = omega arith;
+    }

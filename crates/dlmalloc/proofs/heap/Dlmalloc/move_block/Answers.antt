@@ -19,9 +19,11 @@ free_and_settle-requires g c =
     let count = c.words_in.ensures ∙ ap words_in c.min.ensures in let e = c.copy_counted.ensures in
     let sound = c.requires.intact.sound in let block = c.requires.block.1 in let handed = c.in-Ok.ensures.allocated.handed in
     record {
-      sound = (copied_heap c.args.held sound block c.requires.held handed count e.regions e.follows e.copied).sound;
-      linked = copied_binned c.args.held sound block c.requires.held handed count e.regions e.follows e.copied
-          c.index_stays.ensures c.malloc.ensures.intact.linked;
+      intact = record {
+        sound = (copied_heap c.args.held sound block c.requires.held handed count e.regions e.follows e.copied).sound;
+        linked = copied_binned c.args.held sound block c.requires.held handed count e.regions e.follows e.copied
+            c.index_stays.ensures c.malloc.ensures.intact.linked;
+      };
       block = (block.extent.size - 8, copied_block c.args.held sound block c.requires.held handed count e.regions e.follows e.copied);
     }
 

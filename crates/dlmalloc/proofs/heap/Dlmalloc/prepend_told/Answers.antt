@@ -27,14 +27,14 @@ overflow_add-grant g c =
 
 pub put_two-requires-clause-head : goal.put_two-requires-clause-head
 put_two-requires-clause-head g c =
-    let f = c.requires.fresh in
+    let f = c.requires.grant.fresh in
     subst (λ rs. HasHead rs c.args.grant.now.base) (sym (c.store_counted-2.ensures.regions ∙ c.store_counted.ensures.regions))
     (part_head f c.args.grant.now.base (omega arith) (omega arith) f.base_aligned)
 
 pub put_two-requires-clause-behind : goal.put_two-requires-clause-behind
 put_two-requires-clause-behind g c =
-    let f = c.requires.fresh in
-    let whole = c.requires.whole in let room = c.requires.room in let least = c.requires.least in
+    let f = c.requires.grant.fresh in
+    let whole = c.requires.grant.bytes.whole in let room = c.requires.grant.room in let least = c.requires.grant.bytes.least in
     subst (λ rs. HasHead rs (c.args.grant.now.base + c.args.n)) (sym (c.store_counted-2.ensures.regions ∙ c.store_counted.ensures.regions))
     (part_head f (c.args.grant.now.base + c.args.n) (omega arith) (omega arith) (omega arith))
 
@@ -48,7 +48,7 @@ returns g c =
     let system = c.put_two.new.memory in let same = two.regions ∙ one.regions in
     let into : (k : ℕ) → IsWordOf (regions heap.system) k → IsWordOf (regions at_second) k = λ k inside. subst (λ rs. IsWordOf rs k) (sym same) inside in
     let onto : (k : ℕ) → IsWordOf (regions heap.system) k → IsWordOf (regions at_first) k = λ k inside. subst (λ rs. IsWordOf rs k) (sym one.regions) inside in
-    let room = c.requires.room in
+    let room = c.requires.grant.room in
     let base : word system payload ≡ grant.base =
     put.elsewhere payload (into payload p.base_word) (λ is. p.apart payload (omega arith) (omega arith) (omega arith) (omega arith))
     (λ is. p.apart payload (omega arith) (omega arith) (omega arith) (omega arith))
@@ -58,10 +58,10 @@ returns g c =
     (λ is. p.apart (payload + 8) (omega arith) (omega arith) (omega arith) (omega arith))
     ∙ (two.stored.here ∙ (λ i. grant.size + c.load_counted-size.ensures.value i)) in
     let halves : IsInTwo regions word g.A.Links.follows heap grant c.args.n system = record {
-      fresh = c.requires.fresh;
-      multiple = c.requires.whole;
-      least = c.requires.least;
-      room = c.requires.room;
+      fresh = c.requires.grant.fresh;
+      multiple = c.requires.grant.bytes.whole;
+      least = c.requires.grant.bytes.least;
+      room = c.requires.grant.room;
       whole = whole_each (regions heap.system) (g.A.Links.whole heap.system);
       same = put.regions ∙ same;
       first = put.first;
@@ -70,8 +70,10 @@ returns g c =
           (g.A.Links.follows_on heap.system at_first at_second [] [] [] one.follows two.follows refl) put.follows refl;
     } in
     record {
-      prepended = before_told c.requires.sound halves c.requires.behind base size
-          (λ k inside not_first not_second not_base not_size. put.elsewhere k (into k inside) not_first not_second
-          ∙ (two.stored.elsewhere k (onto k inside) not_size ∙ one.stored.elsewhere k inside not_base));
-      same = record { bins = refl; victim = refl };
+      put = record {
+        prepended = before_told c.requires.sound halves c.requires.behind base size
+            (λ k inside not_first not_second not_base not_size. put.elsewhere k (into k inside) not_first not_second
+            ∙ (two.stored.elsewhere k (onto k inside) not_size ∙ one.stored.elsewhere k inside not_base));
+        same = record { bins = refl; victim = refl };
+      };
     }

@@ -1,18 +1,23 @@
 use Rattle.dlmalloc.proofs.Names.{[], refl}
 use Rattle.dlmalloc.proofs.Grants.CutFromStart.{prepended_binned, put_before_is}
+use Rattle.dlmalloc.proofs.Bins.Order.{bins_kept}
 use Rattle.dlmalloc.proofs.heap.Dlmalloc.put_before.Goals as goal
 
-pub dispose_chunk-requires-clause-linked : goal.dispose_chunk-requires-clause-linked
-dispose_chunk-requires-clause-linked g c =
-    prepended_binned c.prepend.ensures.prepended c.index_stays.ensures c.requires.sound c.prepend.ensures.same c.requires.linked
+pub dispose_chunk-requires-clause-intact : goal.dispose_chunk-requires-clause-intact
+dispose_chunk-requires-clause-intact g c =
+    let first = c.prepend.ensures.put.prepended in
+    record {
+      sound = first.sound;
+      linked = prepended_binned first c.index_stays.ensures c.requires.intact.sound c.prepend.ensures.put.same c.requires.intact.linked;
+    }
 
 pub returns : goal.returns
 returns g c =
     let heap = c.args.self.now in let middle = c.prepend.new.self in let new = c.dispose_chunk.new.self in
-    let first = c.prepend.ensures.prepended in let last = c.dispose_chunk.ensures in
+    let first = c.prepend.ensures.put.prepended in let last = c.dispose_chunk.ensures in
     record {
-      put = put_before_is c.requires.least first last.state last.less last.moved last.records
-          (g.A.Links.follows_on heap.system middle.system new.system [] [] [] first.followed last.moved.followed refl);
-      linked = last.linked;
-      order = λ b. last.order (prepended_binned first c.index_stays.ensures c.requires.sound c.prepend.ensures.same b);
+      put = put_before_is c.requires.grant.bytes.least first last.state last.less last.turned.moved last.records
+          (g.A.Links.follows_on heap.system middle.system new.system [] [] [] first.followed last.turned.moved.followed refl);
+      bins = bins_kept (λ b. last.turned.bins.order (prepended_binned first c.index_stays.ensures c.requires.intact.sound c.prepend.ensures.put.same b))
+          c.requires.intact.linked;
     }

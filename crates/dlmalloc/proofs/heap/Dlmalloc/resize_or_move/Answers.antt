@@ -16,7 +16,7 @@ returns-then-resize_chunk-clause-resized g c =
       c.requires.least,
       refl,
       stays_there c.requires.intact.sound c.requires.block.1 c.requires.held small request.is request.holds request.near
-          (done.resized yes) (done.held yes) done.others done.moved done.order,
+          (done.resized yes) (done.held yes) done.others done.turned.moved done.turned.bins.order,
     )
 
 pub returns-then-size-max_request-clause-refused : goal.returns-then-size-max_request-clause-refused

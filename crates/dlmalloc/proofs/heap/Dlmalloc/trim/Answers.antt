@@ -7,7 +7,7 @@ use Rattle.dlmalloc.proofs.heap.Dlmalloc.trim.Goals as goal
 
 pub trim_top-is_cut-requires-clause-small : goal.trim_top-is_cut-requires-clause-small
 trim_top-is_cut-requires-clause-small g c =
-    let few = limit_small c.args.self.now.granularity c.requires.sound.granularity.1 in
+    let few = limit_small c.args.self.now.granularity c.requires.intact.sound.granularity.1 in
     let is = c.max_request.ensures.is in let below = c.if-pad-max_request.false in
     grind (arith, nat_tests)
 
@@ -49,7 +49,7 @@ pub returns-then-pad-max_request-clause-trimmed : goal.returns-then-pad-max_requ
 returns-then-pad-max_request-clause-trimmed g c =
     let heap = c.args.self.now in let is = c.max_request.ensures.is in
     untouched g.A.Links.word heap c.args.pad g.A.Links.follows (g.A.Allocator.frees heap.system) (g.A.Allocator.parts heap.system) (g.A.Allocator.unit
-    heap.system) c.requires.sound (g.A.Links.follows_none heap.system) (is_not_made g.A.Links.word heap c.args.pad (elim c.then-pad-max_request.branch [
+    heap.system) c.requires.intact.sound (g.A.Links.follows_none heap.system) (is_not_made g.A.Links.word heap c.args.pad (elim c.then-pad-max_request.branch [
       | then-pad-max_request-via-then-pad-max_request w ↦ inl (let more = w.if-pad-max_request.true in omega arith)
       | then-pad-max_request-via-else-pad-max_request+then-self-eq0 w ↦ inr w.if-self-eq0.true
     ]))
