@@ -4,7 +4,7 @@ use Rattle.heap_memory.specs.declared.grant.Grant.{Grant}
 use Rattle.heap_memory.specs.Words.{IsStored}
 use Rattle.bins.specs.Index.{IsIn, removed, without_chunk, without_size}
 use Rattle.bins.specs.Tries.{slot, low_at, width, IsTrie}
-use Rattle.bins.specs.Below.{IsHeld, OnlyHeldChanges}
+use Rattle.bins.specs.Below.{IsHeld, OnlyHeldChanges, HasLeft}
 use Rattle.bins.proofs.Frame.{in_without, in_half, trie_kept}
 use Rattle.bins.proofs.Reindexed.{trie_reindexed}
 use Rattle.bins.proofs.Widths.{wide}
@@ -83,12 +83,12 @@ module _ {regions : List Grant} {old : ℕ → ℕ} {index : ℕ → List ℕ} {
         | inr behind ↦ inl (omega (arith, s.1.1.1, s.1.1.0))
       ])
 
-  pub b_kept : (mid : ℕ → ℕ) {low' : ℕ} → low' ≡ low_at side low half →
+  pub b_kept : (mid : ℕ → ℕ) {low' left : ℕ} → low' ≡ low_at side low half →
       ((index' : ℕ → List ℕ) → IsHeld regions old index' bin at low' (levels - 1) child → IsIn chunk (index' size) →
-      OnlyHeldChanges regions index' low' (low' + width (levels - 1)) old mid) → IsStored regions mid place child mid
-  b_kept mid low_is words =
+      HasLeft regions old mid index' bin at low' (levels - 1) size chunk left) → IsStored regions mid place child mid
+  b_kept mid low_is left =
       let there = subst (λ l. IsHeld regions old rest bin at l (levels - 1) child) (sym low_is) b_held in
-      let own = subst (λ l. OnlyHeldChanges regions rest l (l + width (levels - 1)) old mid) low_is (words rest there b_in) in record {
+      let own = subst (λ l. OnlyHeldChanges regions rest l (l + width (levels - 1)) old mid) low_is (left rest there b_in).words in record {
         here = ap mid leaves.step.place_is ∙ (kids_kept mid own side ∙ sym child_at);
         elsewhere = λ p is far. refl;
       }
@@ -161,10 +161,8 @@ module _ {regions : List Grant} {old : ℕ → ℕ} {index : ℕ → List ℕ} {
         out m c h.0 (omega (arith, h.1, w)) (in_without q.node.size index m c c_in))
 
   module _ {mid new : ℕ → ℕ} {low' left : ℕ} (low_is : low' ≡ low_at side low half)
-      (trie : (index' : ℕ → List ℕ) → IsHeld regions old index' bin at low' (levels - 1) child → IsIn chunk (index' size) →
-      IsTrie mid (without_chunk size chunk index') bin at low' (levels - 1) left)
-      (words : (index' : ℕ → List ℕ) → IsHeld regions old index' bin at low' (levels - 1) child → IsIn chunk (index' size) →
-      OnlyHeldChanges regions index' low' (low' + width (levels - 1)) old mid)
+      (has_left : (index' : ℕ → List ℕ) → IsHeld regions old index' bin at low' (levels - 1) child → IsIn chunk (index' size) →
+      HasLeft regions old mid index' bin at low' (levels - 1) size chunk left)
       (stored' : IsStored regions mid place left new) where
     stored : IsStored regions mid (at + slot side) left new
     stored = subst (λ p. IsStored regions mid p left new) leaves.step.place_is stored'
@@ -176,13 +174,10 @@ module _ {regions : List Grant} {old : ℕ → ℕ} {index : ℕ → List ℕ} {
     held_there = subst (λ l. IsHeld regions old rest bin at l (levels - 1) child) (sym low_is) b_held
 
     trie_there : IsTrie mid (without_chunk size chunk rest) bin at under (levels - 1) left
-    trie_there = subst (λ l. IsTrie mid (without_chunk size chunk rest) bin at l (levels - 1) left) low_same (trie rest held_there b_in)
+    trie_there = subst (λ l. IsTrie mid (without_chunk size chunk rest) bin at l (levels - 1) left) low_same (has_left rest held_there b_in).trie
 
     words_there : OnlyHeldChanges regions rest under (under + width (levels - 1)) old mid
-    words_there = subst (λ l. OnlyHeldChanges regions rest l (l + width (levels - 1)) old mid) low_same (words rest held_there b_in)
+    words_there = subst (λ l. OnlyHeldChanges regions rest l (l + width (levels - 1)) old mid) low_same (has_left rest held_there b_in).words
 
-    pub b_trie : IsTrie new (without_chunk size chunk index) bin parent low levels at
-    b_trie = one_trie mid new left trie_there words_there stored
-
-    pub b_words : OnlyHeldChanges regions index low (low + width levels) old new
-    b_words = one_words mid new left trie_there words_there stored
+    pub b_left : HasLeft regions old new index bin parent low levels size chunk at
+    b_left = record { trie = one_trie mid new left trie_there words_there stored; words = one_words mid new left trie_there words_there stored }

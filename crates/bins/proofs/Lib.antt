@@ -1,3 +1,4 @@
+pub mod Asks
 pub mod Frame
 pub mod Stays
 pub mod Bits

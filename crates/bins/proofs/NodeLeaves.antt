@@ -10,7 +10,7 @@ use Rattle.bins.specs.Index.{IsIn, first_or, without_chunk, from}
 use Rattle.bins.specs.Tries.{slot, width, IsTrie}
 use Rattle.bins.specs.Linked.{IsLinked, OnlyLinksChange, low_of, levels_of}
 use Rattle.bins.specs.Stores.{IsWordPlace, HasRoot}
-use Rattle.bins.specs.Below.{IsHeld, OnlyHeldChanges}
+use Rattle.bins.specs.Below.{IsHeld, OnlyHeldChanges, HasLeft}
 use Rattle.bins.proofs.TreeRanges.{levels_few, from_same}
 use Rattle.bins.proofs.Taking.{o}
 use Rattle.bins.proofs.TreeEntry.{IsTop, t_above, t_below, t_held, t_in, t_real, t_unlinked, t_unlinked_words}
@@ -30,10 +30,8 @@ root_words some held = ((o some held).node.parent_is, (o some held).node.bin_is)
 
 -- A node of a trie was taken out of it, and another stands in its place, or none.
 pub record IsReplaced (regions : List Grant) (old mid : ℕ → ℕ) (chunk parent bin left : ℕ) : Type 0 where
-  pub trie : (own : ℕ → List ℕ) (low deep size : ℕ) → deep ≤ 61 → IsHeld regions old own bin parent low deep chunk → IsIn chunk (own size) →
-      IsTrie mid (without_chunk size chunk own) bin parent low deep left
-  pub words : (own : ℕ → List ℕ) (low deep size : ℕ) → deep ≤ 61 → IsHeld regions old own bin parent low deep chunk → IsIn chunk (own size) →
-      OnlyHeldChanges regions own low (low + width deep) old mid
+  pub left_is : (own : ℕ → List ℕ) (low deep size : ℕ) → deep ≤ 61 → IsHeld regions old own bin parent low deep chunk → IsIn chunk (own size) →
+      HasLeft regions old mid own bin parent low deep size chunk left
 
 module _ {regions : List Grant} {old : ℕ → ℕ} {bins : Bins} {index : ℕ → List ℕ} (size : ℕ) {chunk : ℕ} (large : 256 ≤ size)
     (linked : IsLinked regions old bins index)
@@ -137,10 +135,10 @@ module _ {regions : List Grant} {old : ℕ → ℕ} {bins : Bins} {index : ℕ �
         root_trie : IsTrie mid (without_chunk size chunk (from (least_size bin) index)) bin (128 + bin) (low_of bin) (levels_of bin) left
         root_trie =
             subst (λ p. IsTrie mid (without_chunk size chunk (from (least_size bin) index)) bin p (low_of bin) (levels_of bin) left) (is_root (root_at low))
-            (replaced.trie (from (least_size bin) index) (low_of bin) (levels_of bin) size few (root_held (root_at low)) root_in)
+            (replaced.left_is (from (least_size bin) index) (low_of bin) (levels_of bin) size few (root_held (root_at low)) root_in).trie
 
         root_words_kept : OnlyHeldChanges regions (from (least_size bin) index) (low_of bin) (low_of bin + width (levels_of bin)) old mid
-        root_words_kept = replaced.words (from (least_size bin) index) (low_of bin) (levels_of bin) size few (root_held (root_at low)) root_in
+        root_words_kept = (replaced.left_is (from (least_size bin) index) (low_of bin) (levels_of bin) size few (root_held (root_at low)) root_in).words
 
         pub n_root : IsLinked regions mid bins' (without_chunk size chunk index)
         n_root = t_unlinked linked (at_top n_bin) chunk chunk_in mid root_trie root_words_kept rooted
@@ -154,10 +152,10 @@ module _ {regions : List Grant} {old : ℕ → ℕ} {bins : Bins} {index : ℕ �
         u = below_at high
 
         own_trie : IsTrie mid (without_chunk size chunk u.own) bin parent u.from u.deep left
-        own_trie = replaced.trie u.own u.from u.deep size (let l = u.less in let f = few in omega arith) u.held u.is_in
+        own_trie = (replaced.left_is u.own u.from u.deep size (let l = u.less in let f = few in omega arith) u.held u.is_in).trie
 
         own_words : OnlyHeldChanges regions u.own u.from (u.from + width u.deep) old mid
-        own_words = replaced.words u.own u.from u.deep size (let l = u.less in let f = few in omega arith) u.held u.is_in
+        own_words = (replaced.left_is u.own u.from u.deep size (let l = u.less in let f = few in omega arith) u.held u.is_in).words
 
         pub n_places : (side : Bool) → IsWordPlace regions (parent + slot side)
         n_places = u.places

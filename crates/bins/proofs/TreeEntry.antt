@@ -7,7 +7,7 @@ use Rattle.heap_memory.specs.Regions.{IsWordOf}
 use Rattle.dlmalloc_chunks.specs.Bins.{least_size, IsTreeIndex}
 use Rattle.bins.specs.declared.bins.Bins.{Bins}
 use Rattle.bins.specs.Index.{IsIn, AreDistinct, removed, with_chunk, without_chunk, from}
-use Rattle.bins.specs.Tries.{width, IsTrie}
+use Rattle.bins.specs.Tries.{width, IsInRange, IsTrie}
 use Rattle.bins.specs.Linked.{AreChunks, IsFreshChunk, IsLinked, OnlyLinksChange, low_of, levels_of}
 use Rattle.bins.specs.Stores.{HasRoot}
 use Rattle.bins.specs.Below.{IsHeld, OnlyRangeChanges, OnlyHeldChanges}
@@ -57,6 +57,9 @@ module _ {regions : List Grant} {old : ℕ → ℕ} {bins : Bins} {index : ℕ �
 
   pub t_fits : low + width levels ≤ 2 ^ 64
   t_fits = let e = end_fits bin top.in_bin.within in rw (top.low_is, top.levels_is) e
+
+  pub t_range : IsInRange low levels size
+  t_range = record { few = t_few; above = t_above; below = t_below; fits = t_fits }
 
   pub t_whole : low * 2 ^ (61 - levels) % 2 ^ 64 ≡ 0
   t_whole = let e = low_scaled bin top.in_bin.within in rw (top.low_is, top.levels_is) e

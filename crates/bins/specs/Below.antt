@@ -1,9 +1,9 @@
 -- What a call on the part of a trie below a node needs, and what it changes.
-use Rattle.std.specs.Prelude.{◌≡◌, ℕ, ◌%◌, ◌<◌, ◌≤◌, List}
+use Rattle.std.specs.Prelude.{◌≡◌, ℕ, ◌+◌, ◌%◌, ◌<◌, ◌≤◌, List}
 use Rattle.heap_memory.specs.declared.grant.Grant.{Grant}
 use Rattle.heap_memory.specs.Regions.{IsWordOf}
-use Rattle.bins.specs.Index.{IsIn}
-use Rattle.bins.specs.Tries.{IsTrie}
+use Rattle.bins.specs.Index.{IsIn, without_chunk}
+use Rattle.bins.specs.Tries.{width, IsTrie}
 use Rattle.bins.specs.Linked.{AreChunks, IsNoLink}
 
 -- the trie at an address holds the chunks of its range, all of at least 256 bytes
@@ -22,3 +22,9 @@ OnlyRangeChanges regions index low high size chunk old new =
 abbrev pub OnlyHeldChanges : List Grant → (ℕ → List ℕ) → (low high : ℕ) → (old new : ℕ → ℕ) → Type 0
 OnlyHeldChanges regions index low high old new =
     (at : ℕ) → IsWordOf regions at → ((n other : ℕ) → low ≤ n → n < high → IsIn other (index n) → IsNoLink n other at) → new at ≡ old at
+
+-- A chunk left a trie, and no other: the rest stands at an address, 0 if nothing is left. Of the granted words only link
+-- words of the trie's chunks changed.
+pub record HasLeft (regions : List Grant) (old new : ℕ → ℕ) (index : ℕ → List ℕ) (bin parent low levels size chunk at : ℕ) : Type 0 where
+  pub trie : IsTrie new (without_chunk size chunk index) bin parent low levels at
+  pub words : OnlyHeldChanges regions index low (low + width levels) old new

@@ -1,7 +1,9 @@
+pub mod Asks
 pub mod Index
 pub mod Rings
 pub mod Tries
 pub mod Linked
+pub mod Changes
 pub mod Stores
 pub mod Below
 pub mod Fits

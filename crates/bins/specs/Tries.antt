@@ -1,6 +1,6 @@
 -- Tries of chunks in the memory. A node is the oldest chunk of a size; its ring has the others. The sizes of a trie lie in
 -- a range, those of its child0 in the lower half and those of its child1 in the upper.
-use Rattle.std.specs.Prelude.{◌≡◌, ℕ, zero, suc, ◌+◌, ◌*◌, ◌<◌, ◌≤◌, ◌⊎◌, Bool, true, false, List, ◌∷◌}
+use Rattle.std.specs.Prelude.{◌≡◌, ℕ, zero, suc, ◌+◌, ◌*◌, ◌^◌, ◌<◌, ◌≤◌, ◌⊎◌, Bool, true, false, List, ◌∷◌}
 use Rattle.dlmalloc_chunks.specs.Head.{size_of}
 use Rattle.bins.specs.Index.{without_size, IsNone}
 use Rattle.bins.specs.Rings.{IsRing}
@@ -9,6 +9,13 @@ use Rattle.bins.specs.Rings.{IsRing}
 abbrev pub width : ℕ → ℕ
 width zero = 8
 width (suc levels) = 2 * width levels
+
+-- A size lies in the range of a trie, which has at most 61 levels and ends at 2 ^ 64 or before.
+pub record IsInRange (low levels size : ℕ) : Type 0 where
+  pub few : levels ≤ 61
+  pub above : low ≤ size
+  pub below : size < low + width levels
+  pub fits : low + width levels ≤ 2 ^ 64
 
 -- the place of a child's word in a chunk: child0 has the lower half of the range, child1 the upper
 abbrev pub slot : Bool → ℕ

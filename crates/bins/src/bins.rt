@@ -1,6 +1,7 @@
 // The bins, and the calls on chunks of all sizes.
 ghost use Rattle.std.specs.Prelude.{◌≡◌, ℕ, ◌+◌, ◌^◌, ◌≤◌, List, [], MatchOption};
-ghost use Rattle.bins.specs.Index.{IsIn, IsNone, IsLeastFit, first_or, with_chunk, without_chunk};
+ghost use Rattle.bins.specs.Asks.{AsksNothing};
+ghost use Rattle.bins.specs.Index.{IsIn, IsNone, IsLeastFit, first_or};
 
 use crate::words::{LEAST_LARGE, SMALL_TAG};
 use heap_memory::Links;
@@ -28,7 +29,8 @@ pub struct Bins {
 
 impl Bins {
     ghost use Rattle.heap_memory.specs.declared.grant.Grant.{Grant};
-    ghost use Rattle.bins.specs.Linked.{IsLinked, IsFreshChunk, OnlyLinksChange};
+    ghost use Rattle.bins.specs.Linked.{IsLinked, IsFreshChunk};
+    ghost use Rattle.bins.specs.Changes.{IsInserted, IsUnlinked};
 
     /// Bins without a chunk, for any memory.
     pub fn new() -> Bins
@@ -61,12 +63,8 @@ impl Bins {
         steps: &mut Steps<L>,
     )
         requires linked { (index : ℕ → List ℕ) × IsLinked (M.regions memory.old) (M.word memory.old) self.old index × IsFreshChunk (M.regions memory.old) (M.word memory.old) index size chunk }
-        ensures linked { (index : ℕ → List ℕ) → IsLinked (M.regions memory.old) (M.word memory.old) self.old index → IsFreshChunk (M.regions memory.old) (M.word memory.old) index size chunk →
-            IsLinked (M.regions memory.new) (M.word memory.new) self.new (with_chunk size chunk index) }
-        ensures words { (index : ℕ → List ℕ) → IsLinked (M.regions memory.old) (M.word memory.old) self.old index → IsFreshChunk (M.regions memory.old) (M.word memory.old) index size chunk →
-            OnlyLinksChange (M.regions memory.old) index size chunk (M.word memory.old) (M.word memory.new) }
-        ensures regions { M.regions memory.new ≡ M.regions memory.old }
-        ensures follows { M.follows memory.old [] memory.new }
+        ensures inserted { IsInserted M.regions M.word size chunk self.old memory.old self.new memory.new }
+        ensures asks { AsksNothing M.regions M.follows memory.old memory.new }
         ensures counted { steps.new ≤ steps.old + 129 }
     {
         if size < LEAST_LARGE {
@@ -88,12 +86,8 @@ impl Bins {
         steps: &mut Steps<L>,
     )
         requires linked { (index : ℕ → List ℕ) × IsLinked (M.regions memory.old) (M.word memory.old) self.old index × IsIn chunk (index size) }
-        ensures linked { (index : ℕ → List ℕ) → IsLinked (M.regions memory.old) (M.word memory.old) self.old index → IsIn chunk (index size) →
-            IsLinked (M.regions memory.new) (M.word memory.new) self.new (without_chunk size chunk index) }
-        ensures words { (index : ℕ → List ℕ) → IsLinked (M.regions memory.old) (M.word memory.old) self.old index → IsIn chunk (index size) →
-            OnlyLinksChange (M.regions memory.old) index size chunk (M.word memory.old) (M.word memory.new) }
-        ensures regions { M.regions memory.new ≡ M.regions memory.old }
-        ensures follows { M.follows memory.old [] memory.new }
+        ensures unlinked { IsUnlinked M.regions M.word size chunk self.old memory.old self.new memory.new }
+        ensures asks { AsksNothing M.regions M.follows memory.old memory.new }
         ensures counted { steps.new ≤ steps.old + 196 }
     {
         if size < LEAST_LARGE {
@@ -116,12 +110,8 @@ impl Bins {
         steps: &mut Steps<L>,
     )
         requires linked { (index : ℕ → List ℕ) × IsLinked (M.regions memory.old) (M.word memory.old) self.old index × IsIn chunk (index size) × (256 ≤ size → chunk ≡ first_or 0 (index size)) }
-        ensures linked { (index : ℕ → List ℕ) → IsLinked (M.regions memory.old) (M.word memory.old) self.old index → IsIn chunk (index size) →
-            IsLinked (M.regions memory.new) (M.word memory.new) self.new (without_chunk size chunk index) }
-        ensures words { (index : ℕ → List ℕ) → IsLinked (M.regions memory.old) (M.word memory.old) self.old index → IsIn chunk (index size) →
-            OnlyLinksChange (M.regions memory.old) index size chunk (M.word memory.old) (M.word memory.new) }
-        ensures regions { M.regions memory.new ≡ M.regions memory.old }
-        ensures follows { M.follows memory.old [] memory.new }
+        ensures unlinked { IsUnlinked M.regions M.word size chunk self.old memory.old self.new memory.new }
+        ensures asks { AsksNothing M.regions M.follows memory.old memory.new }
         ensures counted { steps.new ≤ steps.old + 196 }
     {
         if size < LEAST_LARGE {

@@ -1,9 +1,11 @@
 // The bins of large chunks.
-ghost use Rattle.std.specs.Prelude.{◌≡◌, ◌≢◌, ℕ, ◌+◌, ◌*◌, ◌^◌, ◌<◌, ◌≤◌, List, [], MatchOption, slice_index};
+ghost use Rattle.std.specs.Prelude.{◌≡◌, ◌≢◌, ℕ, ◌+◌, ◌*◌, ◌^◌, ◌<◌, ◌≤◌, List, MatchOption, slice_index};
 ghost use Rattle.std.specs.Int.{bit_at};
 ghost use Rattle.dlmalloc_chunks.specs.Bins.{least_size};
-ghost use Rattle.bins.specs.Index.{IsIn, IsNone, IsLeastFit, first_or, with_chunk, without_chunk};
+ghost use Rattle.bins.specs.Asks.{AsksNothing};
+ghost use Rattle.bins.specs.Index.{IsIn, IsNone, IsLeastFit, first_or, without_chunk};
 ghost use Rattle.bins.specs.Linked.{IsLinked, IsFreshChunk, OnlyLinksChange, low_of, levels_of};
+ghost use Rattle.bins.specs.Changes.{IsInserted, IsUnlinked};
 ghost use Rattle.bins.specs.Stores.{HasRoot};
 
 use crate::bins::Bins;
@@ -85,12 +87,8 @@ impl Bins {
     )
         requires large { 256 ≤ size }
         requires linked { (index : ℕ → List ℕ) × IsLinked (M.regions memory.old) (M.word memory.old) self.old index × IsIn chunk (index size) }
-        ensures linked { (index : ℕ → List ℕ) → IsLinked (M.regions memory.old) (M.word memory.old) self.old index → IsIn chunk (index size) →
-            IsLinked (M.regions memory.new) (M.word memory.new) self.new (without_chunk size chunk index) }
-        ensures words { (index : ℕ → List ℕ) → IsLinked (M.regions memory.old) (M.word memory.old) self.old index → IsIn chunk (index size) →
-            OnlyLinksChange (M.regions memory.old) index size chunk (M.word memory.old) (M.word memory.new) }
-        ensures regions { M.regions memory.new ≡ M.regions memory.old }
-        ensures follows { M.follows memory.old [] memory.new }
+        ensures unlinked { IsUnlinked M.regions M.word size chunk self.old memory.old self.new memory.new }
+        ensures asks { AsksNothing M.regions M.follows memory.old memory.new }
         ensures counted { steps.new ≤ steps.old + 196 }
     {
         let bin = compute_tree_index(size) as usize;
@@ -125,8 +123,7 @@ impl Bins {
             IsLinked (M.regions memory.new) (M.word memory.new) self.new (without_chunk size chunk index) }
         ensures words { (index : ℕ → List ℕ) (size : ℕ) → 256 ≤ size → IsLinked (M.regions memory.old) (M.word memory.old) self.old index → IsIn chunk (index size) → chunk ≡ first_or 0 (index size) →
             OnlyLinksChange (M.regions memory.old) index size chunk (M.word memory.old) (M.word memory.new) }
-        ensures regions { M.regions memory.new ≡ M.regions memory.old }
-        ensures follows { M.follows memory.old [] memory.new }
+        ensures asks { AsksNothing M.regions M.follows memory.old memory.new }
         ensures counted { steps.new ≤ steps.old + 196 }
     {
         let parent = memory.load_counted(chunk + PARENT, steps);
@@ -150,12 +147,8 @@ impl Bins {
     )
         requires large { 256 ≤ size }
         requires linked { (index : ℕ → List ℕ) × IsLinked (M.regions memory.old) (M.word memory.old) self.old index × IsFreshChunk (M.regions memory.old) (M.word memory.old) index size chunk }
-        ensures linked { (index : ℕ → List ℕ) → IsLinked (M.regions memory.old) (M.word memory.old) self.old index → IsFreshChunk (M.regions memory.old) (M.word memory.old) index size chunk →
-            IsLinked (M.regions memory.new) (M.word memory.new) self.new (with_chunk size chunk index) }
-        ensures words { (index : ℕ → List ℕ) → IsLinked (M.regions memory.old) (M.word memory.old) self.old index → IsFreshChunk (M.regions memory.old) (M.word memory.old) index size chunk →
-            OnlyLinksChange (M.regions memory.old) index size chunk (M.word memory.old) (M.word memory.new) }
-        ensures regions { M.regions memory.new ≡ M.regions memory.old }
-        ensures follows { M.follows memory.old [] memory.new }
+        ensures inserted { IsInserted M.regions M.word size chunk self.old memory.old self.new memory.new }
+        ensures asks { AsksNothing M.regions M.follows memory.old memory.new }
         ensures counted { steps.new ≤ steps.old + 129 }
     {
         let bin = compute_tree_index(size) as usize;

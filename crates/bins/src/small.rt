@@ -1,8 +1,10 @@
 // The rings of small chunks.
-ghost use Rattle.std.specs.Prelude.{◌≡◌, ◌≢◌, ℕ, ◌+◌, ◌%◌, ◌^◌, ◌<◌, ◌≤◌, List, [], MatchOption};
-ghost use Rattle.bins.specs.Index.{IsIn, with_chunk, without_chunk, IsNone, IsLeastFit};
-ghost use Rattle.bins.specs.Linked.{IsLinked, IsFreshChunk, OnlyLinksChange};
-ghost use Rattle.bins.specs.Stores.{IsWordPlace, HasPushed, HasNewest, HasPulled, HasLess};
+ghost use Rattle.std.specs.Prelude.{◌≢◌, ℕ, ◌+◌, ◌%◌, ◌^◌, ◌<◌, ◌≤◌, List, MatchOption};
+ghost use Rattle.bins.specs.Asks.{AsksNothing};
+ghost use Rattle.bins.specs.Index.{IsIn, IsNone, IsLeastFit};
+ghost use Rattle.bins.specs.Linked.{IsLinked, IsFreshChunk};
+ghost use Rattle.bins.specs.Changes.{IsInserted, IsUnlinked};
+ghost use Rattle.bins.specs.Stores.{IsWordPlace, HasLinkPlaces, HasPushed, HasNewest, HasPulled, HasLess};
 
 use crate::bins::Bins;
 use crate::map;
@@ -13,13 +15,11 @@ use step_count::Steps;
 
 /// Puts a chunk after the last of a ring, which is the ring's tag if it is empty.
 fn push<M: Links, L: Ledger>(memory: &mut M, last: u64, tag: u64, chunk: u64, steps: &mut Steps<L>)
-    requires prev { IsWordPlace (M.regions memory.old) (chunk + 16) }
-    requires next { IsWordPlace (M.regions memory.old) (chunk + 24) }
+    requires links { HasLinkPlaces (M.regions memory.old) chunk }
     requires behind { last ≢ tag → IsWordPlace (M.regions memory.old) (last + 24) }
     requires other { last ≢ tag → (last + 24 ≢ chunk + 16) × (last + 24 ≢ chunk + 24) }
     ensures pushed { HasPushed (M.regions memory.old) (M.word memory.old) last tag chunk (M.word memory.new) }
-    ensures regions { M.regions memory.new ≡ M.regions memory.old }
-    ensures follows { M.follows memory.old [] memory.new }
+    ensures asks { AsksNothing M.regions M.follows memory.old memory.new }
     ensures counted { steps.new ≤ steps.old + 3 }
 {
     memory.store_counted(chunk + PREV, last, steps);
@@ -41,8 +41,7 @@ pub(crate) fn pull<M: Links, L: Ledger>(
     requires back { next ≢ tag → IsWordPlace (M.regions memory.old) (next + 16) }
     requires other { prev ≢ tag → next ≢ tag → prev + 24 ≢ next + 16 }
     ensures pulled { HasPulled (M.regions memory.old) (M.word memory.old) prev next tag (M.word memory.new) }
-    ensures regions { M.regions memory.new ≡ M.regions memory.old }
-    ensures follows { M.follows memory.old [] memory.new }
+    ensures asks { AsksNothing M.regions M.follows memory.old memory.new }
     ensures counted { steps.new ≤ steps.old + 2 }
 {
     if prev != tag {
@@ -65,12 +64,8 @@ impl Bins {
     )
         requires small { size < 256 }
         requires linked { (index : ℕ → List ℕ) × IsLinked (M.regions memory.old) (M.word memory.old) self.old index × IsFreshChunk (M.regions memory.old) (M.word memory.old) index size chunk }
-        ensures linked { (index : ℕ → List ℕ) → IsLinked (M.regions memory.old) (M.word memory.old) self.old index → IsFreshChunk (M.regions memory.old) (M.word memory.old) index size chunk →
-            IsLinked (M.regions memory.new) (M.word memory.new) self.new (with_chunk size chunk index) }
-        ensures words { (index : ℕ → List ℕ) → IsLinked (M.regions memory.old) (M.word memory.old) self.old index → IsFreshChunk (M.regions memory.old) (M.word memory.old) index size chunk →
-            OnlyLinksChange (M.regions memory.old) index size chunk (M.word memory.old) (M.word memory.new) }
-        ensures regions { M.regions memory.new ≡ M.regions memory.old }
-        ensures follows { M.follows memory.old [] memory.new }
+        ensures inserted { IsInserted M.regions M.word size chunk self.old memory.old self.new memory.new }
+        ensures asks { AsksNothing M.regions M.follows memory.old memory.new }
         ensures counted { steps.new ≤ steps.old + 3 }
     {
         let bin = (size >> 3) as usize;
@@ -103,12 +98,8 @@ impl Bins {
     )
         requires small { size < 256 }
         requires linked { (index : ℕ → List ℕ) × IsLinked (M.regions memory.old) (M.word memory.old) self.old index × IsIn chunk (index size) }
-        ensures linked { (index : ℕ → List ℕ) → IsLinked (M.regions memory.old) (M.word memory.old) self.old index → IsIn chunk (index size) →
-            IsLinked (M.regions memory.new) (M.word memory.new) self.new (without_chunk size chunk index) }
-        ensures words { (index : ℕ → List ℕ) → IsLinked (M.regions memory.old) (M.word memory.old) self.old index → IsIn chunk (index size) →
-            OnlyLinksChange (M.regions memory.old) index size chunk (M.word memory.old) (M.word memory.new) }
-        ensures regions { M.regions memory.new ≡ M.regions memory.old }
-        ensures follows { M.follows memory.old [] memory.new }
+        ensures unlinked { IsUnlinked M.regions M.word size chunk self.old memory.old self.new memory.new }
+        ensures asks { AsksNothing M.regions M.follows memory.old memory.new }
         ensures counted { steps.new ≤ steps.old + 4 }
     {
         let bin = (size >> 3) as usize;

@@ -1,9 +1,10 @@
 // The tries of large chunks.
-ghost use Rattle.std.specs.Prelude.{◌≡◌, ◌≢◌, ℕ, ◌+◌, ◌-◌, ◌*◌, ◌%◌, ◌^◌, ◌<◌, ◌≤◌, ◌⊎◌, List, []};
+ghost use Rattle.std.specs.Prelude.{◌≡◌, ◌≢◌, ℕ, ◌+◌, ◌-◌, ◌*◌, ◌%◌, ◌^◌, ◌<◌, ◌≤◌, ◌⊎◌, List};
+ghost use Rattle.bins.specs.Asks.{AsksNothing};
 ghost use Rattle.bins.specs.Index.{IsIn, with_chunk};
-ghost use Rattle.bins.specs.Tries.{width, slot, low_at, IsTrie};
+ghost use Rattle.bins.specs.Tries.{width, slot, low_at, IsTrie, IsInRange};
 ghost use Rattle.bins.specs.Linked.{IsFreshChunk};
-ghost use Rattle.bins.specs.Stores.{IsWordPlace, HasJoined, HasLinks, HasNode, HasLeaf};
+ghost use Rattle.bins.specs.Stores.{IsWordPlace, HasLinkPlaces, HasJoined, HasLinks, HasNode, HasLeaf};
 ghost use Rattle.bins.specs.Below.{IsHeld, OnlyRangeChanges};
 
 use crate::words::{CHILD0, CHILD1, INDEX, NEXT, PARENT, PREV};
@@ -70,14 +71,12 @@ pub(crate) fn low_of(low: u64, half: u64, is_upper: bool) -> u64
 
 /// Puts a chunk after the last of a node's ring.
 fn join_ring<M: Links, L: Ledger>(memory: &mut M, at: u64, chunk: u64, steps: &mut Steps<L>)
-    requires prev { IsWordPlace (M.regions memory.old) (chunk + 16) }
-    requires next { IsWordPlace (M.regions memory.old) (chunk + 24) }
+    requires links { HasLinkPlaces (M.regions memory.old) chunk }
     requires here { IsWordPlace (M.regions memory.old) (at + 16) }
     requires behind { IsWordPlace (M.regions memory.old) (M.word memory.old (at + 16) + 24) }
     requires apart { (at + 16 ≢ chunk + 16) × (at + 16 ≢ chunk + 24) × (M.word memory.old (at + 16) + 24 ≢ chunk + 16) × (M.word memory.old (at + 16) + 24 ≢ chunk + 24) × (M.word memory.old (at + 16) + 24 ≢ at + 16) }
     ensures joined { HasJoined (M.regions memory.old) (M.word memory.old) at chunk (M.word memory.new) }
-    ensures regions { M.regions memory.new ≡ M.regions memory.old }
-    ensures follows { M.follows memory.old [] memory.new }
+    ensures asks { AsksNothing M.regions M.follows memory.old memory.new }
     ensures counted { steps.new ≡ steps.old + 5 }
 {
     let last = memory.load_counted(at + PREV, steps);
@@ -97,8 +96,7 @@ fn set_links<M: Links, L: Ledger>(
 )
     requires { (k : ℕ) → 1 < k → k < 8 → IsWordPlace (M.regions memory.old) (chunk + 8 * k) }
     ensures links { HasLinks (M.regions memory.old) (M.word memory.old) chunk prev next (M.word memory.new) }
-    ensures regions { M.regions memory.new ≡ M.regions memory.old }
-    ensures follows { M.follows memory.old [] memory.new }
+    ensures asks { AsksNothing M.regions M.follows memory.old memory.new }
     ensures counted { steps.new ≡ steps.old + 2 }
 {
     memory.store_counted(chunk + PREV, prev, steps);
@@ -117,8 +115,7 @@ pub(crate) fn set_node<M: Links, L: Ledger>(
 )
     requires { (k : ℕ) → 1 < k → k < 8 → IsWordPlace (M.regions memory.old) (chunk + 8 * k) }
     ensures node { HasNode (M.regions memory.old) (M.word memory.old) chunk child0 child1 parent bin (M.word memory.new) }
-    ensures regions { M.regions memory.new ≡ M.regions memory.old }
-    ensures follows { M.follows memory.old [] memory.new }
+    ensures asks { AsksNothing M.regions M.follows memory.old memory.new }
     ensures counted { steps.new ≡ steps.old + 4 }
 {
     memory.store_counted(chunk + CHILD0, child0, steps);
@@ -140,8 +137,7 @@ fn make_leaf<M: Links, L: Ledger>(
     requires own { (k : ℕ) → 1 < k → k < 8 → IsWordPlace (M.regions memory.old) (chunk + 8 * k) }
     requires apart { (place < chunk + 16) ⊎ (chunk + 64 ≤ place) }
     ensures leaf { HasLeaf (M.regions memory.old) (M.word memory.old) place parent bin chunk (M.word memory.new) }
-    ensures regions { M.regions memory.new ≡ M.regions memory.old }
-    ensures follows { M.follows memory.old [] memory.new }
+    ensures asks { AsksNothing M.regions M.follows memory.old memory.new }
     ensures counted { steps.new ≡ steps.old + 7 }
 {
     set_links(memory, chunk, chunk, chunk, steps);
@@ -162,19 +158,15 @@ pub(crate) fn insert_below<M: Links, L: Ledger>(
     steps: &mut Steps<L>,
 )
     requires some { 0 < at }
-    requires few { levels ≤ 61 }
-    requires above { low ≤ size }
-    requires below { size < low + width levels }
+    requires range { IsInRange low levels size }
     requires bits { bits ≡ (size - low) * 2 ^ (61 - levels) }
-    requires fits { low + width levels ≤ 2 ^ 64 }
     requires large { 256 ≤ size }
     requires held { (index : ℕ → List ℕ) × ((parent : ℕ) × (IsHeld (M.regions memory.old) (M.word memory.old) index bin parent low levels at × IsFreshChunk (M.regions memory.old) (M.word memory.old) index size chunk)) }
     ensures trie { (index : ℕ → List ℕ) → (parent : ℕ) → IsHeld (M.regions memory.old) (M.word memory.old) index bin parent low levels at →
         IsFreshChunk (M.regions memory.old) (M.word memory.old) index size chunk → IsTrie (M.word memory.new) (with_chunk size chunk index) bin parent low levels at }
     ensures words { (index : ℕ → List ℕ) → (parent : ℕ) → IsHeld (M.regions memory.old) (M.word memory.old) index bin parent low levels at →
         IsFreshChunk (M.regions memory.old) (M.word memory.old) index size chunk → OnlyRangeChanges (M.regions memory.old) index low (low + width levels) size chunk (M.word memory.old) (M.word memory.new) }
-    ensures regions { M.regions memory.new ≡ M.regions memory.old }
-    ensures follows { M.follows memory.old [] memory.new }
+    ensures asks { AsksNothing M.regions M.follows memory.old memory.new }
     ensures counted { steps.new ≤ steps.old + 2 * levels + 7 }
 {
     let here = chunk::size(memory, at, steps);
@@ -216,19 +208,15 @@ pub(crate) fn plant<M: Links, L: Ledger>(
     steps: &mut Steps<L>,
 ) -> u64
     requires deep { 0 < levels }
-    requires few { levels ≤ 61 }
-    requires above { low ≤ size }
-    requires below { size < low + width levels }
+    requires range { IsInRange low levels size }
     requires whole { low * 2 ^ (61 - levels) % 2 ^ 64 ≡ 0 }
-    requires fits { low + width levels ≤ 2 ^ 64 }
     requires large { 256 ≤ size }
     requires held { (index : ℕ → List ℕ) × (IsHeld (M.regions memory.old) (M.word memory.old) index bin parent low levels root × IsFreshChunk (M.regions memory.old) (M.word memory.old) index size chunk) }
     ensures trie { (index : ℕ → List ℕ) → IsHeld (M.regions memory.old) (M.word memory.old) index bin parent low levels root →
         IsFreshChunk (M.regions memory.old) (M.word memory.old) index size chunk → IsTrie (M.word memory.new) (with_chunk size chunk index) bin parent low levels result }
     ensures words { (index : ℕ → List ℕ) → IsHeld (M.regions memory.old) (M.word memory.old) index bin parent low levels root →
         IsFreshChunk (M.regions memory.old) (M.word memory.old) index size chunk → OnlyRangeChanges (M.regions memory.old) index low (low + width levels) size chunk (M.word memory.old) (M.word memory.new) }
-    ensures regions { M.regions memory.new ≡ M.regions memory.old }
-    ensures follows { M.follows memory.old [] memory.new }
+    ensures asks { AsksNothing M.regions M.follows memory.old memory.new }
     ensures counted { steps.new ≤ steps.old + 2 * levels + 7 }
 {
     if root == 0 {

@@ -2,10 +2,10 @@ use Rattle.std.proofs.Common.{◌≢◌, ◌+◌, ◌≤◌, ◌^◌, ◌≡◌,
 use Rattle.dlmalloc_chunks.specs.Head.{size_of}
 use Rattle.bins.specs.Index.{IsIn}
 use Rattle.bins.specs.Below.{IsHeld}
-use Rattle.bins.specs.Tries.{low_at, width}
+use Rattle.bins.specs.Tries.{low_at, width, IsInRange}
 use Rattle.bins.proofs.Taking.{t_levels, t_slot, t_head, t_here}
 use Rattle.bins.proofs.Scaled.{half_scaled, next_is}
-use Rattle.bins.proofs.LeaveBelow.{LeavesBelow, rest, b_in, b_real, b_fits, b_held, b_kept, b_trie, b_words}
+use Rattle.bins.proofs.LeaveBelow.{LeavesBelow, rest, b_in, b_real, b_fits, b_held, b_kept, b_left}
 use Rattle.bins.proofs.leave.+unlink_under.Goals as goal
 use Rattle.bins.proofs.leave.+unlink_under.Goals.{After-load_counted-child}
 
@@ -51,12 +51,14 @@ unlink_under-requires g t c κs within =
     let below = c.is_in_upper-is_upper.ensures.below in
     let low = c.low_of-child_low.ensures in
     let half = c.half_width-half.ensures in
-    let bits = next_is c.args.low c.args.size c.args.levels c.is_in_upper-is_upper.result levels c.requires.few half
-    c.requires.above c.requires.below c.requires.bits low above below c.next_bits.ensures in
+    let bits = next_is c.args.low c.args.size c.args.levels c.is_in_upper-is_upper.result levels c.requires.range.few half
+    c.requires.range.above c.requires.range.below c.requires.bits low above below c.next_bits.ensures in
     let fits = b_fits l in
     let held = b_held l in
-    let in_range : c.args.size < c.low_of-child_low.result + width (c.args.levels - 1) = omega (arith, low, below, half) in
-    let room : c.low_of-child_low.result + width (c.args.levels - 1) ≤ 2 ^ 64 = omega (arith, low, fits, c.requires.fits) in
+    let under : c.args.size < c.low_of-child_low.result + width (c.args.levels - 1) = omega (arith, low, below, half) in
+    let room : c.low_of-child_low.result + width (c.args.levels - 1) ≤ 2 ^ 64 = omega (arith, low, fits, c.requires.range.fits) in
+    let in_range : IsInRange c.low_of-child_low.result (c.args.levels - 1) c.args.size =
+    record { few = omega arith; above = rw low above; below = under; fits = room } in
     let other : size_of (g.M.Links.word c.args.memory.now (c.load_counted-child.result + 8)) ≢ c.args.size =
     λ e. c.if-below-size.true (c.size-below.ensures.value ∙ e) in (
       omega (arith, c.decreases, levels),
@@ -66,45 +68,19 @@ unlink_under-requires g t c κs within =
           search rules,
           (
             real,
-            (
-              omega arith,
-              (
-                rw low above,
-                (
-                  in_range,
-                  (
-                    bits,
-                    (
-                      room,
-                      (
-                        other,
-                        (rest l, (c.args.at, (rw low held, b_in l))),
-                      ),
-                    ),
-                  ),
-                ),
-              ),
-            ),
+            (in_range, (bits, (other, (rest l, (c.args.at, (rw low held, b_in l)))))),
           ),
         ),
       ),
     )
 
-pub returns-then-below-size-clause-trie : goal.returns-then-below-size-clause-trie
-returns-then-below-size-clause-trie g t c = λ index parent held chunk_in.
-    let l = leaves g t (goal.at.returns-then-below-size-clause-trie g t c).After-load_counted-child index parent held chunk_in in
+pub returns-then-below-size-clause-left : goal.returns-then-below-size-clause-left
+returns-then-below-size-clause-left g t c = λ index parent held chunk_in.
+    let l = leaves g t (goal.at.returns-then-below-size-clause-left g t c).After-load_counted-child index parent held chunk_in in
     let done = c.unlink_under.ensures in
     let low = c.low_of-child_low.ensures in
-    let kept = b_kept l (g.M.Links.word c.unlink_under.new.memory) low (λ i. done.words i c.args.at) in
-    b_trie l low (λ i. done.trie i c.args.at) (λ i. done.words i c.args.at) kept
-
-pub returns-then-below-size-clause-words : goal.returns-then-below-size-clause-words
-returns-then-below-size-clause-words g t c = λ index parent held chunk_in.
-    let l = leaves g t (goal.at.returns-then-below-size-clause-words g t c).After-load_counted-child index parent held chunk_in in
-    let done = c.unlink_under.ensures in
-    let low = c.low_of-child_low.ensures in
-    let kept = b_kept l (g.M.Links.word c.unlink_under.new.memory) low (λ i. done.words i c.args.at) in
-    b_words l low (λ i. done.trie i c.args.at) (λ i. done.words i c.args.at) kept
+    let kept = b_kept l (g.M.Links.word c.unlink_under.new.memory) low (λ i. done.left i c.args.at) in
+    b_left l low (λ i. done.left i c.args.at) kept
 
 pub unlink_here-left-requires-clause-some : goal.unlink_here-left-requires-clause-some
 unlink_here-left-requires-clause-some g t c =
@@ -122,31 +98,19 @@ unlink_here-left-requires-clause-held g t c =
 pub store_counted-requires : goal.store_counted-requires
 store_counted-requires g t c =
     let r = c.requires.held in
-    rw (c.unlink_here-left.ensures.regions, c.slot_of-place.ensures) ((t_slot c.requires.some r.1.1.0 c.is_in_upper-is_upper.result).word)
+    rw (c.unlink_here-left.ensures.asks.regions_same, c.slot_of-place.ensures) ((t_slot c.requires.some r.1.1.0 c.is_in_upper-is_upper.result).word)
 
-pub returns-else-below-size-clause-trie : goal.returns-else-below-size-clause-trie
-returns-else-below-size-clause-trie g t c = λ index parent held chunk_in.
-    let l = leaves g t (goal.at.returns-else-below-size-clause-trie g t c).After-load_counted-child index parent held chunk_in in
+pub returns-else-below-size-clause-left : goal.returns-else-below-size-clause-left
+returns-else-below-size-clause-left g t c = λ index parent held chunk_in.
+    let l = leaves g t (goal.at.returns-else-below-size-clause-left g t c).After-load_counted-child index parent held chunk_in in
     let same : c.size-below.result ≡ c.args.size = omega (arith, c.if-below-size.false) in
     let is = sym c.size-below.ensures.value ∙ same in
     let done = c.unlink_here-left.ensures in
     let low = c.low_of-child_low.result in
-    let stored = rw done.regions at c.store_counted.ensures.stored in
-    b_trie l c.low_of-child_low.ensures (λ i h. done.trie i low c.args.size h (t_here (b_real l) h is))
-    (λ i h. done.words i low c.args.size h (t_here (b_real l) h is)) stored
-
-pub returns-else-below-size-clause-words : goal.returns-else-below-size-clause-words
-returns-else-below-size-clause-words g t c = λ index parent held chunk_in.
-    let l = leaves g t (goal.at.returns-else-below-size-clause-words g t c).After-load_counted-child index parent held chunk_in in
-    let same : c.size-below.result ≡ c.args.size = omega (arith, c.if-below-size.false) in
-    let is = sym c.size-below.ensures.value ∙ same in
-    let done = c.unlink_here-left.ensures in
-    let low = c.low_of-child_low.result in
-    let stored = rw done.regions at c.store_counted.ensures.stored in
-    b_words l c.low_of-child_low.ensures (λ i h. done.trie i low c.args.size h (t_here (b_real l) h is))
-    (λ i h. done.words i low c.args.size h (t_here (b_real l) h is)) stored
+    let stored = rw done.asks.regions_same at c.store_counted.ensures.stored in
+    b_left l c.low_of-child_low.ensures (λ i h. done.left i low c.args.size h (t_here (b_real l) h is)) stored
 
 pub is_in_upper-is_upper-requires-clause-bits : goal.is_in_upper-is_upper-requires-clause-bits
 is_in_upper-is_upper-requires-clause-bits g t c =
     let levels = t_levels c.requires.some c.requires.held.1.1.0 in
-    (2 ^ (61 - c.args.levels), (half_scaled c.args.levels levels c.requires.few c.half_width-half.ensures, c.requires.bits))
+    (2 ^ (61 - c.args.levels), (half_scaled c.args.levels levels c.requires.range.few c.half_width-half.ensures, c.requires.bits))

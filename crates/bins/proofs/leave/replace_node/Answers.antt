@@ -18,11 +18,13 @@ load_counted-heir-requires g c =
     let held = r.1.1.1.1.1.0 in
     (chunk_place held.chunks held.large r.1.1.1.0 c.args.at 3 r.1.1.1.1.1.1 (omega arith) (omega arith)).word
 
-pub returns-then-heir-at-clause-trie : goal.returns-then-heir-at-clause-trie
-returns-then-heir-at-clause-trie g c = λ index low deep size less held at_in.
-    let one = u_alone c.requires.some held size at_in (sym c.load_counted-heir.ensures.value ∙ c.if-heir-at.true) in
-    u_left (g.M.Links.word c.give_to_leaf.new.memory) index c.args.bin c.args.parent low deep c.args.at size
-    c.give_to_leaf.result one (c.give_to_leaf.ensures.trie index low deep less held size one)
+pub returns-then-heir-at-clause-left : goal.returns-then-heir-at-clause-left
+returns-then-heir-at-clause-left g c = λ index low deep size less held at_in.
+    let one = u_alone c.requires.some held size at_in (sym c.load_counted-heir.ensures.value ∙ c.if-heir-at.true) in record {
+      trie = u_left (g.M.Links.word c.give_to_leaf.new.memory) index c.args.bin c.args.parent low deep c.args.at size
+          c.give_to_leaf.result one (c.give_to_leaf.ensures.trie index low deep less held size one);
+      words = c.give_to_leaf.ensures.words index low deep less held;
+    }
 
 pub give_to_heir-requires-clause-here : goal.give_to_heir-requires-clause-here
 give_to_heir-requires-clause-here g c =
@@ -59,16 +61,11 @@ give_to_heir-requires-clause-two g c =
     let held = c.requires.held.1.1.1.1.1.0 in
     h_two held.chunks held.large (o c.requires.some held) c.load_counted-heir.ensures.value c.if-heir-at.false
 
-pub returns-clause-trie : goal.returns-clause-trie
-returns-clause-trie g c = λ index low deep size less held at_in.
-    u_heir c.requires.some held size at_in c.load_counted-heir.ensures.value c.if-heir-at.false c.give_to_heir.ensures.given
-
-pub returns-clause-words : goal.returns-clause-words
-returns-clause-words g c = λ index low deep size less held at_in.
-    u_heir_words c.requires.some held size at_in c.load_counted-heir.ensures.value c.if-heir-at.false c.give_to_heir.ensures.given
+pub returns-clause-left : goal.returns-clause-left
+returns-clause-left g c = λ index low deep size less held at_in. record {
+  trie = u_heir c.requires.some held size at_in c.load_counted-heir.ensures.value c.if-heir-at.false c.give_to_heir.ensures.given;
+  words = u_heir_words c.requires.some held size at_in c.load_counted-heir.ensures.value c.if-heir-at.false c.give_to_heir.ensures.given;
+}
 
 pub give_to_leaf-requires-clause-held : goal.give_to_leaf-requires-clause-held
 give_to_leaf-requires-clause-held g c = let r = c.requires.held in (r.0, (r.1.0, (r.1.1.0, (r.1.1.1.1.0, r.1.1.1.1.1.0))))
-
-pub returns-then-heir-at-clause-words : goal.returns-then-heir-at-clause-words
-returns-then-heir-at-clause-words g c = λ index low deep size less held at_in. c.give_to_leaf.ensures.words index low deep less held

@@ -1,21 +1,16 @@
 use Rattle.std.proofs.Common.{◌≡◌, subst, arith}
-use Rattle.bins.specs.Tries.{IsTrie}
-use Rattle.bins.specs.Index.{without_chunk}
+use Rattle.bins.specs.Below.{HasLeft}
 use Rattle.bins.proofs.Chunks.{chunk_place}
 use Rattle.bins.proofs.LeaveHere.{u_front, u_back, u_apart, u_pulled, u_pulled_words}
 use Rattle.bins.proofs.leave.unlink_here.Goals as goal
 
-pub leave_ring-requires-clause-prev : goal.leave_ring-requires-clause-prev
-leave_ring-requires-clause-prev g c =
+pub leave_ring-requires-clause-links : goal.leave_ring-requires-clause-links
+leave_ring-requires-clause-links g c =
     let r = c.requires.held in
-    let held = r.1.1.1.0 in
-    chunk_place held.chunks held.large r.1.1.0 c.args.chunk 2 r.1.1.1.1.1 (omega arith) (omega arith)
-
-pub leave_ring-requires-clause-next : goal.leave_ring-requires-clause-next
-leave_ring-requires-clause-next g c =
-    let r = c.requires.held in
-    let held = r.1.1.1.0 in
-    chunk_place held.chunks held.large r.1.1.0 c.args.chunk 3 r.1.1.1.1.1 (omega arith) (omega arith)
+    let held = r.1.1.1.0 in record {
+      prev = chunk_place held.chunks held.large r.1.1.0 c.args.chunk 2 r.1.1.1.1.1 (omega arith) (omega arith);
+      next = chunk_place held.chunks held.large r.1.1.0 c.args.chunk 3 r.1.1.1.1.1 (omega arith) (omega arith);
+    }
 
 pub leave_ring-requires-clause-front : goal.leave_ring-requires-clause-front
 leave_ring-requires-clause-front g c =
@@ -32,25 +27,20 @@ leave_ring-requires-clause-other g c =
     let r = c.requires.held in
     u_apart c.requires.some r.1.1.1.0 r.1.1.0 r.1.1.1.1.0 c.args.chunk r.1.1.1.1.1 c.if-chunk-at.true
 
-pub returns-then-chunk-at-clause-trie : goal.returns-then-chunk-at-clause-trie
-returns-then-chunk-at-clause-trie g c = λ index low size held at_in chunk_in.
-    u_pulled c.requires.some held size at_in c.args.chunk chunk_in c.if-chunk-at.true c.leave_ring.ensures.pulled
-
-pub returns-then-chunk-at-clause-words : goal.returns-then-chunk-at-clause-words
-returns-then-chunk-at-clause-words g c = λ index low size held at_in chunk_in.
-    u_pulled_words c.requires.some held size at_in c.args.chunk chunk_in c.if-chunk-at.true c.leave_ring.ensures.pulled
+pub returns-then-chunk-at-clause-left : goal.returns-then-chunk-at-clause-left
+returns-then-chunk-at-clause-left g c = λ index low size held at_in chunk_in. record {
+  trie = u_pulled c.requires.some held size at_in c.args.chunk chunk_in c.if-chunk-at.true c.leave_ring.ensures.pulled;
+  words = u_pulled_words c.requires.some held size at_in c.args.chunk chunk_in c.if-chunk-at.true c.leave_ring.ensures.pulled;
+}
 
 pub replace_node-requires-clause-held : goal.replace_node-requires-clause-held
 replace_node-requires-clause-held g c =
     let r = c.requires.held in
     (r.0, (r.1.0, (c.args.levels, (r.1.1.0, (omega arith, (r.1.1.1.0, r.1.1.1.1.0))))))
 
-pub returns-clause-trie : goal.returns-clause-trie
-returns-clause-trie g c = λ index low size held at_in chunk_in.
+pub returns-clause-left : goal.returns-clause-left
+returns-clause-left g c = λ index low size held at_in chunk_in.
     let same : c.args.at ≡ c.args.chunk = omega (arith, c.if-chunk-at.false) in
-    subst (λ x. IsTrie (g.M.Links.word c.replace_node.new.memory) (without_chunk size x index) c.args.bin c.args.parent low
-    c.args.levels c.replace_node.result) same
-    (c.replace_node.ensures.trie index low c.args.levels size (omega arith) held at_in)
-
-pub returns-clause-words : goal.returns-clause-words
-returns-clause-words g c = λ index low size held at_in chunk_in. c.replace_node.ensures.words index low c.args.levels size (omega arith) held at_in
+    subst (λ x. HasLeft (g.M.Links.regions c.args.memory.now) (g.M.Links.word c.args.memory.now) (g.M.Links.word c.replace_node.new.memory)
+    index c.args.bin c.args.parent low c.args.levels size x c.replace_node.result) same
+    (c.replace_node.ensures.left index low c.args.levels size (omega arith) held at_in)

@@ -1,6 +1,6 @@
 use Rattle.std.proofs.Common.{◌+◌, ◌≤◌, ◌-◌, ◌^◌, ◌<◌, ◌∙◌, inl, inr, true, refl, sym, ap, rules, arith}
 use Rattle.bins.specs.Index.{without_size}
-use Rattle.bins.specs.Tries.{width}
+use Rattle.bins.specs.Tries.{width, IsInRange}
 use Rattle.bins.proofs.Descent.{IsDescent}
 use Rattle.bins.proofs.Opened.{none_in}
 use Rattle.bins.proofs.Searching.{s_levels, q, s_head, s_slot, s_child, s_high, high_fits}
@@ -16,7 +16,7 @@ pub returns-then-at-eq0-clause-fit : goal.returns-then-at-eq0-clause-fit
 returns-then-at-eq0-clause-fit g t c = λ index read other beside_low beside_read apart.
     inl (
       (λ m a b. none_in (g.M.Links.word c.args.memory.now) index read.bin read.parent c.args.low c.args.levels c.if-at-eq0.true read.trie m
-          (omega (arith, c.requires.above)) b),
+          (omega (arith, c.requires.range.above)) b),
       c.least_of.ensures.fit other beside_low beside_read,
     )
 
@@ -86,13 +86,15 @@ fit_below-requires g t c κs within =
     let step = step g t (goal.at.fit_below-requires g t c).After-load_counted-child in
     let low = c.low_of.ensures in
     let side = c.is_in_upper-is_upper.result in
-    let bits = next_is c.args.low c.args.size c.args.levels side levels c.requires.few step.half_is
-    c.requires.above c.requires.below c.requires.bits low step.above step.below c.next_bits.ensures in
+    let bits = next_is c.args.low c.args.size c.args.levels side levels c.requires.range.few step.half_is
+    c.requires.range.above c.requires.range.below c.requires.bits low step.above step.below c.next_bits.ensures in
     let next = next_read real read (next g t (goal.at.fit_below-requires g t c).After-behind-next) c.requires.deep c.requires.beside in
     let high = s_high real read in
-    let in_range : c.args.size < c.low_of.result + width (c.args.levels - 1) = omega (arith, low, step.below, step.half_is) in
+    let below : c.args.size < c.low_of.result + width (c.args.levels - 1) = omega (arith, low, step.below, step.half_is) in
     let room : c.low_of.result + width (c.args.levels - 1) ≤ 2 ^ 64 =
-    omega (arith, low, step.half_is, high, high_fits side c.args.low c.half_width-half.result, c.requires.fits) in
+    omega (arith, low, step.half_is, high, high_fits side c.args.low c.half_width-half.result, c.requires.range.fits) in
+    let in_range : IsInRange c.low_of.result (c.args.levels - 1) c.args.size =
+    record { few = omega arith; above = rw low step.above; below = below; fits = room } in
     let child = s_child real read side (step.child_is ∙ ap (g.M.Links.word c.args.memory.now) step.place_is) step.half_is in
     let known = c.or_less-lesser.ensures.enough c.requires.known in
     let rest = without_size (q real read).node.size r.0 in (
@@ -101,25 +103,7 @@ fit_below-requires g t c κs within =
         search rules,
         (
           search rules,
-          (
-            omega arith,
-            (
-              rw low step.above,
-              (
-                in_range,
-                (
-                  bits,
-                  (
-                    room,
-                    (
-                      known,
-                      (next.0, ((rest, rw low child), next.1.1)),
-                    ),
-                  ),
-                ),
-              ),
-            ),
-          ),
+          (in_range, (bits, (known, (next.0, ((rest, rw low child), next.1.1))))),
         ),
       ),
     )
@@ -130,7 +114,7 @@ returns-clause-fit g t c = λ index read other beside_low beside_read apart.
     let step = step g t (goal.at.returns-clause-fit g t c).After-load_counted-child in
     let carried = carried g t (goal.at.returns-clause-fit g t c).After-or_less-lesser in
     let next = next g t (goal.at.returns-clause-fit g t c).After-behind-next in
-    fit_search real read carried c.fit_below.result c.requires.above step c.low_of.ensures next c.fit_below.ensures.fit beside_read apart
+    fit_search real read carried c.fit_below.result c.requires.range.above step c.low_of.ensures next c.fit_below.ensures.fit beside_read apart
 
 pub returns-clause-counted : goal.returns-clause-counted
 returns-clause-counted g t c =
@@ -146,4 +130,4 @@ is_in_upper-is_upper-requires-clause-bits g t c =
     let read = c.requires.readable.1 in
     let real : 0 < c.args.at = omega arith in
     let levels = s_levels real read in
-    (2 ^ (61 - c.args.levels), (half_scaled c.args.levels levels c.requires.few c.half_width-half.ensures, c.requires.bits))
+    (2 ^ (61 - c.args.levels), (half_scaled c.args.levels levels c.requires.range.few c.half_width-half.ensures, c.requires.bits))

@@ -1,5 +1,5 @@
 use Rattle.std.proofs.Common.{◌+◌, ◌≤◌, ◌-◌, ◌^◌, ◌<◌, ◌∙◌, true, sym, subst, rules, arith}
-use Rattle.bins.specs.Tries.{width}
+use Rattle.bins.specs.Tries.{width, IsInRange}
 use Rattle.bins.specs.Stores.{IsWordPlace}
 use Rattle.bins.proofs.Descent.{IsDescent}
 use Rattle.bins.proofs.Taking.{t_levels, t_head, t_slot, t_rest}
@@ -71,10 +71,12 @@ insert_below-requires g t c κs within =
     let held = e_held c.requires.some r.1.1.0 r.1.1.1 c.requires.large step real in
     let fresh = e_fresh c.requires.some r.1.1.0 r.1.1.1 c.requires.large step in
     let low = c.low_of.ensures in
-    let bits = next_is c.args.low c.args.size c.args.levels c.is_in_upper-is_upper.result levels c.requires.few step.half_is
-    c.requires.above c.requires.below c.requires.bits low step.above step.below c.next_bits.ensures in
-    let in_range : c.args.size < c.low_of.result + width (c.args.levels - 1) = omega (arith, low, step.below, step.half_is) in
-    let room : c.low_of.result + width (c.args.levels - 1) ≤ 2 ^ 64 = omega (arith, low, fits, c.requires.fits) in (
+    let bits = next_is c.args.low c.args.size c.args.levels c.is_in_upper-is_upper.result levels c.requires.range.few step.half_is
+    c.requires.range.above c.requires.range.below c.requires.bits low step.above step.below c.next_bits.ensures in
+    let below : c.args.size < c.low_of.result + width (c.args.levels - 1) = omega (arith, low, step.below, step.half_is) in
+    let room : c.low_of.result + width (c.args.levels - 1) ≤ 2 ^ 64 = omega (arith, low, fits, c.requires.range.fits) in
+    let in_range : IsInRange c.low_of.result (c.args.levels - 1) c.args.size =
+    record { few = omega arith; above = rw low step.above; below = below; fits = room } in (
       omega (arith, c.decreases, levels),
       (
         search rules,
@@ -82,22 +84,7 @@ insert_below-requires g t c κs within =
           search rules,
           (
             real,
-            (
-              omega arith,
-              (
-                rw low step.above,
-                (
-                  in_range,
-                  (
-                    bits,
-                    (
-                      room,
-                      (c.requires.large, (t_rest c.requires.some r.1.1.0, (c.args.at, (rw low held, fresh)))),
-                    ),
-                  ),
-                ),
-              ),
-            ),
+            (in_range, (bits, (c.requires.large, (t_rest c.requires.some r.1.1.0, (c.args.at, (rw low held, fresh)))))),
           ),
         ),
       ),
@@ -128,4 +115,4 @@ returns-else-child-eq0-clause-words g t c = λ index parent held fresh.
 pub is_in_upper-is_upper-requires-clause-bits : goal.is_in_upper-is_upper-requires-clause-bits
 is_in_upper-is_upper-requires-clause-bits g t c =
     let levels : 0 < c.args.levels = t_levels c.requires.some c.requires.held.1.1.0 in
-    (2 ^ (61 - c.args.levels), (half_scaled c.args.levels levels c.requires.few c.half_width-half.ensures, c.requires.bits))
+    (2 ^ (61 - c.args.levels), (half_scaled c.args.levels levels c.requires.range.few c.half_width-half.ensures, c.requires.bits))

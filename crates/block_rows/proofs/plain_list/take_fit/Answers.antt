@@ -30,6 +30,6 @@ returns g c =
     let entry = c.remove-entry.result in
     let place = c.in-Some-place_of.place in
     let within : place < length items = search rules in
-    let done = c.unlink_fit.ensures.linked (index_of items) c.requires.linked (entry_in items place entry entry within c.remove-entry.ensures.value) in
-    beside_at _ _ _ _ _ _ c.unlink_fit.ensures.regions c.remove-entry.ensures.items
-    (beside_less _ _ _ items place entry c.requires within c.remove-entry.ensures.value _ _ (linked_at _ _ _ _ _ (sym c.unlink_fit.ensures.regions) done))
+    let done = c.unlink_fit.ensures.unlinked.linked (index_of items) c.requires.linked (entry_in items place entry entry within c.remove-entry.ensures.value) in
+    beside_at _ _ _ _ _ _ c.unlink_fit.ensures.asks.regions_same c.remove-entry.ensures.items
+    (beside_less _ _ _ items place entry c.requires within c.remove-entry.ensures.value _ _ (linked_at _ _ _ _ _ (sym c.unlink_fit.ensures.asks.regions_same) done))

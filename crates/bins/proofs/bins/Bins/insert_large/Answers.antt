@@ -1,6 +1,6 @@
 use Rattle.std.proofs.Common.{refl}
 use Rattle.std.specs.Prelude.{slice_index}
-use Rattle.bins.proofs.TreeEntry.{IsTop, top_index, t_deep, t_below, t_whole, t_fits, t_held, t_fresh, t_inserted, t_inserted_words}
+use Rattle.bins.proofs.TreeEntry.{IsTop, top_index, t_deep, t_range, t_whole, t_held, t_fresh, t_inserted, t_inserted_words}
 use Rattle.bins.proofs.bins.Bins.insert_large.Goals as goal
 use Rattle.bins.proofs.bins.Bins.insert_large.Goals.{After-bin_levels-levels}
 
@@ -21,20 +21,15 @@ plant-planted-requires-clause-deep g c =
     let r = c.requires.linked in
     t_deep r.1 (top g (goal.at.plant-planted-requires-clause-deep g c).After-bin_levels-levels)
 
-pub plant-planted-requires-clause-below : goal.plant-planted-requires-clause-below
-plant-planted-requires-clause-below g c =
+pub plant-planted-requires-clause-range : goal.plant-planted-requires-clause-range
+plant-planted-requires-clause-range g c =
     let r = c.requires.linked in
-    t_below r.1 (top g (goal.at.plant-planted-requires-clause-below g c).After-bin_levels-levels)
+    t_range r.1 (top g (goal.at.plant-planted-requires-clause-range g c).After-bin_levels-levels)
 
 pub plant-planted-requires-clause-whole : goal.plant-planted-requires-clause-whole
 plant-planted-requires-clause-whole g c =
     let r = c.requires.linked in
     t_whole r.1 (top g (goal.at.plant-planted-requires-clause-whole g c).After-bin_levels-levels)
-
-pub plant-planted-requires-clause-fits : goal.plant-planted-requires-clause-fits
-plant-planted-requires-clause-fits g c =
-    let r = c.requires.linked in
-    t_fits r.1 (top g (goal.at.plant-planted-requires-clause-fits g c).After-bin_levels-levels)
 
 pub plant-planted-requires-clause-held : goal.plant-planted-requires-clause-held
 plant-planted-requires-clause-held g c =
@@ -48,23 +43,23 @@ set_root-requires-clause-marked g c = (c.requires.linked.1.large c.compute_tree_
 pub set_root-requires-clause-clear : goal.set_root-requires-clause-clear
 set_root-requires-clause-clear g c = (c.requires.linked.1.large c.compute_tree_index-bin.result c.compute_tree_index-bin.ensures.within).clear
 
-pub returns-clause-linked : goal.returns-clause-linked
-returns-clause-linked g c = λ index linked fresh.
-    let top = top g (goal.at.returns-clause-linked g c).After-bin_levels-levels in
-    let done = c.plant-planted.ensures in
-    let held = t_held linked top in
-    let own = t_fresh linked top fresh in
-    let trie = done.trie (top_index linked top) held own in
-    let words = done.words (top_index linked top) held own in
-    let linked = t_inserted linked top fresh (g.M.Links.word c.plant-planted.new.memory) trie words c.set_root.ensures in
-    rw done.regions linked
-
-pub returns-clause-words : goal.returns-clause-words
-returns-clause-words g c = λ index linked fresh.
-    let top = top g (goal.at.returns-clause-words g c).After-bin_levels-levels in
-    let done = c.plant-planted.ensures in
-    let held = t_held linked top in
-    let own = t_fresh linked top fresh in
-    let trie = done.trie (top_index linked top) held own in
-    let words = done.words (top_index linked top) held own in
-    t_inserted_words linked top fresh (g.M.Links.word c.plant-planted.new.memory) trie words c.set_root.ensures
+pub returns-clause-inserted : goal.returns-clause-inserted
+returns-clause-inserted g c = record {
+  linked = λ index linked fresh.
+      let top = top g (goal.at.returns-clause-inserted g c).After-bin_levels-levels in
+      let done = c.plant-planted.ensures in
+      let held = t_held linked top in
+      let own = t_fresh linked top fresh in
+      let trie = done.trie (top_index linked top) held own in
+      let words = done.words (top_index linked top) held own in
+      let linked = t_inserted linked top fresh (g.M.Links.word c.plant-planted.new.memory) trie words c.set_root.ensures in
+      rw done.asks.regions_same linked;
+  words = λ index linked fresh.
+      let top = top g (goal.at.returns-clause-inserted g c).After-bin_levels-levels in
+      let done = c.plant-planted.ensures in
+      let held = t_held linked top in
+      let own = t_fresh linked top fresh in
+      let trie = done.trie (top_index linked top) held own in
+      let words = done.words (top_index linked top) held own in
+      t_inserted_words linked top fresh (g.M.Links.word c.plant-planted.new.memory) trie words c.set_root.ensures;
+}

@@ -10,10 +10,10 @@ pub push-requires-clause-other : goal.push-requires-clause-other
 push-requires-clause-other g c = let r = c.requires.linked in
     λ not. (start_place r.1 r.2 c.requires.small refl refl not).1
 
-pub returns-clause-linked : goal.returns-clause-linked
-returns-clause-linked g c = λ index linked fresh.
-    rw c.push.ensures.regions (small_inserted linked fresh c.requires.small refl refl c.push.ensures.pushed c.set_newest.ensures)
-
-pub returns-clause-words : goal.returns-clause-words
-returns-clause-words g c = λ index linked fresh.
-    small_words linked fresh c.requires.small refl refl c.push.ensures.pushed c.set_newest.ensures
+pub returns-clause-inserted : goal.returns-clause-inserted
+returns-clause-inserted g c = record {
+  linked = λ index linked fresh.
+      rw c.push.ensures.asks.regions_same (small_inserted linked fresh c.requires.small refl refl c.push.ensures.pushed c.set_newest.ensures);
+  words = λ index linked fresh.
+      small_words linked fresh c.requires.small refl refl c.push.ensures.pushed c.set_newest.ensures;
+}

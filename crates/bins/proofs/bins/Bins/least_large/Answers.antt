@@ -5,7 +5,7 @@ use Rattle.bins.specs.Index.{from}
 use Rattle.bins.specs.Tries.{width}
 use Rattle.bins.specs.Linked.{IsLinked}
 use Rattle.bins.proofs.TreeRanges.{end_normal, end_last}
-use Rattle.bins.proofs.TreeEntry.{IsTop, t_below, t_whole, t_fits}
+use Rattle.bins.proofs.TreeEntry.{IsTop, t_below, t_range, t_whole}
 use Rattle.bins.proofs.LeastLarge.{IsFoundAlone, read, none_from, lesser_fit, alone_some, alone_none, nothing_read, match_further}
 use Rattle.bins.proofs.bins.Bins.least_large.Goals as goal
 use Rattle.bins.proofs.bins.Bins.least_large.Goals.{After-bin_levels-levels, After-fit_below-fit}
@@ -32,15 +32,10 @@ path_bits-bits-requires-clause-whole g c =
     let r = c.requires.linked in
     t_whole r.1 (top g (goal.at.path_bits-bits-requires-clause-whole g c).After-bin_levels-levels)
 
-pub fit_below-fit-requires-clause-below : goal.fit_below-fit-requires-clause-below
-fit_below-fit-requires-clause-below g c =
+pub fit_below-fit-requires-clause-range : goal.fit_below-fit-requires-clause-range
+fit_below-fit-requires-clause-range g c =
     let r = c.requires.linked in
-    t_below r.1 (top g (goal.at.fit_below-fit-requires-clause-below g c).After-bin_levels-levels)
-
-pub fit_below-fit-requires-clause-fits : goal.fit_below-fit-requires-clause-fits
-fit_below-fit-requires-clause-fits g c =
-    let r = c.requires.linked in
-    t_fits r.1 (top g (goal.at.fit_below-fit-requires-clause-fits g c).After-bin_levels-levels)
+    t_range r.1 (top g (goal.at.fit_below-fit-requires-clause-range g c).After-bin_levels-levels)
 
 pub fit_below-fit-requires-clause-readable : goal.fit_below-fit-requires-clause-readable
 fit_below-fit-requires-clause-readable g c =

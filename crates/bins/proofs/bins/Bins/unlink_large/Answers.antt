@@ -1,6 +1,6 @@
 use Rattle.std.proofs.Common.{refl}
 use Rattle.std.specs.Prelude.{slice_index}
-use Rattle.bins.proofs.TreeEntry.{IsTop, top_index, t_below, t_whole, t_fits, t_held, t_in, t_real, t_unlinked, t_unlinked_words}
+use Rattle.bins.proofs.TreeEntry.{IsTop, top_index, t_range, t_whole, t_held, t_in, t_real, t_unlinked, t_unlinked_words}
 use Rattle.bins.proofs.bins.Bins.unlink_large.Goals as goal
 use Rattle.bins.proofs.bins.Bins.unlink_large.Goals.{After-bin_levels-levels}
 
@@ -21,20 +21,15 @@ unlink_below-left-requires-clause-some g c =
     let r = c.requires.linked in
     t_real r.1 (top g (goal.at.unlink_below-left-requires-clause-some g c).After-bin_levels-levels) c.args.chunk r.2
 
-pub unlink_below-left-requires-clause-below : goal.unlink_below-left-requires-clause-below
-unlink_below-left-requires-clause-below g c =
+pub unlink_below-left-requires-clause-range : goal.unlink_below-left-requires-clause-range
+unlink_below-left-requires-clause-range g c =
     let r = c.requires.linked in
-    t_below r.1 (top g (goal.at.unlink_below-left-requires-clause-below g c).After-bin_levels-levels)
+    t_range r.1 (top g (goal.at.unlink_below-left-requires-clause-range g c).After-bin_levels-levels)
 
 pub unlink_below-left-requires-clause-whole : goal.unlink_below-left-requires-clause-whole
 unlink_below-left-requires-clause-whole g c =
     let r = c.requires.linked in
     t_whole r.1 (top g (goal.at.unlink_below-left-requires-clause-whole g c).After-bin_levels-levels)
-
-pub unlink_below-left-requires-clause-fits : goal.unlink_below-left-requires-clause-fits
-unlink_below-left-requires-clause-fits g c =
-    let r = c.requires.linked in
-    t_fits r.1 (top g (goal.at.unlink_below-left-requires-clause-fits g c).After-bin_levels-levels)
 
 pub unlink_below-left-requires-clause-held : goal.unlink_below-left-requires-clause-held
 unlink_below-left-requires-clause-held g c =
@@ -48,23 +43,21 @@ set_root-requires-clause-marked g c = (c.requires.linked.1.large c.compute_tree_
 pub set_root-requires-clause-clear : goal.set_root-requires-clause-clear
 set_root-requires-clause-clear g c = (c.requires.linked.1.large c.compute_tree_index-bin.result c.compute_tree_index-bin.ensures.within).clear
 
-pub returns-clause-linked : goal.returns-clause-linked
-returns-clause-linked g c = λ index linked is.
-    let top = top g (goal.at.returns-clause-linked g c).After-bin_levels-levels in
-    let done = c.unlink_below-left.ensures in
-    let held = t_held linked top in
-    let own = t_in linked top c.args.chunk is in
-    let trie = done.trie (top_index linked top) held own in
-    let words = done.words (top_index linked top) held own in
-    let linked = t_unlinked linked top c.args.chunk is (g.M.Links.word c.unlink_below-left.new.memory) trie words c.set_root.ensures in
-    rw done.regions linked
-
-pub returns-clause-words : goal.returns-clause-words
-returns-clause-words g c = λ index linked is.
-    let top = top g (goal.at.returns-clause-words g c).After-bin_levels-levels in
-    let done = c.unlink_below-left.ensures in
-    let held = t_held linked top in
-    let own = t_in linked top c.args.chunk is in
-    let trie = done.trie (top_index linked top) held own in
-    let words = done.words (top_index linked top) held own in
-    t_unlinked_words linked top c.args.chunk is (g.M.Links.word c.unlink_below-left.new.memory) trie words c.set_root.ensures
+pub returns-clause-unlinked : goal.returns-clause-unlinked
+returns-clause-unlinked g c = record {
+  linked = λ index linked is.
+      let top = top g (goal.at.returns-clause-unlinked g c).After-bin_levels-levels in
+      let done = c.unlink_below-left.ensures in
+      let held = t_held linked top in
+      let own = t_in linked top c.args.chunk is in
+      let left = done.left (top_index linked top) held own in
+      let linked = t_unlinked linked top c.args.chunk is (g.M.Links.word c.unlink_below-left.new.memory) left.trie left.words c.set_root.ensures in
+      rw done.asks.regions_same linked;
+  words = λ index linked is.
+      let top = top g (goal.at.returns-clause-unlinked g c).After-bin_levels-levels in
+      let done = c.unlink_below-left.ensures in
+      let held = t_held linked top in
+      let own = t_in linked top c.args.chunk is in
+      let left = done.left (top_index linked top) held own in
+      t_unlinked_words linked top c.args.chunk is (g.M.Links.word c.unlink_below-left.new.memory) left.trie left.words c.set_root.ensures;
+}

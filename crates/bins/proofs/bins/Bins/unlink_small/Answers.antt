@@ -28,12 +28,12 @@ pub pull-requires-clause-other : goal.pull-requires-clause-other
 pull-requires-clause-other g c = let r = c.requires.linked in
     λ p n. places_apart c.args.size c.args.chunk r.1 r.2 c.requires.small c.load_counted-prev.ensures.value c.load_counted-next.ensures.value refl p n
 
-pub returns-clause-linked : goal.returns-clause-linked
-returns-clause-linked g c = λ index linked is.
-    rw c.pull.ensures.regions (small_unlinked c.args.size c.args.chunk linked is c.requires.small
-    c.load_counted-prev.ensures.value c.load_counted-next.ensures.value refl c.pull.ensures.pulled c.set_less.ensures)
-
-pub returns-clause-words : goal.returns-clause-words
-returns-clause-words g c = λ index linked is.
-    pulled_words c.args.size c.args.chunk linked is c.requires.small
-    c.load_counted-prev.ensures.value c.load_counted-next.ensures.value refl c.pull.ensures.pulled c.set_less.ensures
+pub returns-clause-unlinked : goal.returns-clause-unlinked
+returns-clause-unlinked g c = record {
+  linked = λ index linked is.
+      rw c.pull.ensures.asks.regions_same (small_unlinked c.args.size c.args.chunk linked is c.requires.small
+      c.load_counted-prev.ensures.value c.load_counted-next.ensures.value refl c.pull.ensures.pulled c.set_less.ensures);
+  words = λ index linked is.
+      pulled_words c.args.size c.args.chunk linked is c.requires.small
+      c.load_counted-prev.ensures.value c.load_counted-next.ensures.value refl c.pull.ensures.pulled c.set_less.ensures;
+}

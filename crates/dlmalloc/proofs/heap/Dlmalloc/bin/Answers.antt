@@ -10,10 +10,10 @@ insert-requires g c =
 pub returns-clause-same : goal.returns-clause-same
 returns-clause-same g c =
     let b = c.requires.loose.1 in let e = c.insert.ensures in
-    relinked c.requires.sound c.requires.free b c.insert.new.memory c.insert.new.self e.regions
-    (e.words b.index b.linked (fresh c.requires.sound c.requires.free b)) e.follows
+    relinked c.requires.sound c.requires.free b c.insert.new.memory c.insert.new.self e.asks.regions_same
+    (e.inserted.words b.index b.linked (fresh c.requires.sound c.requires.free b)) e.asks.followed
 
 pub returns-clause-binned : goal.returns-clause-binned
 returns-clause-binned g c = λ loose b apart.
-    let linked = c.insert.ensures.linked b.index b.linked (fresh c.requires.sound c.requires.free b) in
+    let linked = c.insert.ensures.inserted.linked b.index b.linked (fresh c.requires.sound c.requires.free b) in
     (now_binned c.requires.sound c.requires.free b c.insert.new.memory linked (returns-clause-same g c).state c.requires.other apart, λ n. refl)
