@@ -145,8 +145,8 @@ uint32_t limzhur_map_range(struct limzhur_tables *tables, uint64_t address, uint
 /* Ends the mapping of the pages, which are to be flushed. A large page that lies in part in the range is split first. */
 uint32_t limzhur_unmap_range(struct limzhur_tables *tables, uint64_t address, uint64_t pages, uint64_t *told);
 
-/* Gives the pages other rights; each keeps its frame. They are to be flushed. A large page that lies in part in the range is split
- * first. */
+/* Gives the pages other rights; each keeps its frame. They are to be flushed. A large page that lies whole in the range stays one;
+ * one that lies in part in it is split first. */
 uint32_t limzhur_protect_range(struct limzhur_tables *tables, uint64_t address, uint64_t pages, bool write, bool user, bool fetch, uint64_t *told);
 
 #ifdef __cplusplus
