@@ -1,10 +1,9 @@
 // A system that counts the words that are loaded and stored in it.
 ghost use Rattle.std.specs.Prelude.{◌≡◌, ℕ, List, refl};
 
-use heap_memory::{Allocator, Grant, GrantFault, Links};
+use heap_memory::{Allocator, Grant, GrantFault, Links, Steps};
 use std::cell::Cell;
 use std::sync::ledger::Ledger;
-use step_count::Steps;
 
 /// Another system, and how many of its words were loaded and stored. What is loaded is counted in a cell, since a load
 /// changes nothing else.

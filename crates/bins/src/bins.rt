@@ -4,9 +4,8 @@ ghost use Rattle.bins.specs.Asks.{AsksNothing};
 ghost use Rattle.bins.specs.Index.{IsIn, IsNone, IsLeastFit, first_or};
 
 use crate::words::{LEAST_LARGE, SMALL_TAG};
-use heap_memory::Links;
+use heap_memory::{Links, Steps};
 use std::sync::ledger::Ledger;
-use step_count::Steps;
 
 /// The bins of free chunks by size.
 ///

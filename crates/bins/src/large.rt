@@ -15,9 +15,8 @@ use crate::search::{fit_below, least_of};
 use crate::trie::{path_bits, plant};
 use crate::words::{INDEX, LEAST_ADDRESS, PARENT, TREE_TAG};
 use dlmalloc_chunks::compute_tree_index;
-use heap_memory::Links;
+use heap_memory::{Links, Steps};
 use std::sync::ledger::Ledger;
-use step_count::Steps;
 
 /// Where the range of the sizes of a tree bin begins.
 pub(crate) fn bin_low(bin: usize) -> u64

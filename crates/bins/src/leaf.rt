@@ -9,9 +9,8 @@ ghost use Rattle.bins.specs.Fits.{IsTakenOut};
 
 use crate::trie::{set_node, slot_of};
 use crate::words::{CHILD0, CHILD1, PARENT};
-use heap_memory::Links;
+use heap_memory::{Links, Steps};
 use std::sync::ledger::Ledger;
-use step_count::Steps;
 
 /// A child of a node.
 #[derive(Clone, Copy)]

@@ -13,9 +13,8 @@ use crate::small::pull;
 use crate::trie::{half_width, is_in_upper, low_of, next_bits, path_bits, slot_of};
 use crate::words::{CHILD0, CHILD1, NEXT, PREV};
 use dlmalloc_chunks::chunk;
-use heap_memory::Links;
+use heap_memory::{Links, Steps};
 use std::sync::ledger::Ledger;
-use step_count::Steps;
 
 /// Takes a chunk that is not the oldest out of the ring of a node.
 fn leave_ring<M: Links, L: Ledger>(memory: &mut M, chunk: u64, steps: &mut Steps<L>)

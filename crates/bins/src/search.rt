@@ -9,9 +9,8 @@ use crate::leaf::first_child;
 use crate::trie::{half_width, is_in_upper, low_of, next_bits, slot_of};
 use crate::words::CHILD1;
 use dlmalloc_chunks::chunk;
-use heap_memory::Links;
+use heap_memory::{Links, Steps};
 use std::sync::ledger::Ledger;
-use step_count::Steps;
 
 /// The lesser of a known chunk and the least chunk of a trie: down its leftmost path.
 ///

@@ -9,9 +9,8 @@ ghost use Rattle.bins.specs.Stores.{IsWordPlace, HasLinkPlaces, HasPushed, HasNe
 use crate::bins::Bins;
 use crate::map;
 use crate::words::{NEXT, PREV, SMALL_TAG};
-use heap_memory::Links;
+use heap_memory::{Links, Steps};
 use std::sync::ledger::Ledger;
-use step_count::Steps;
 
 /// Puts a chunk after the last of a ring, which is the ring's tag if it is empty.
 fn push<M: Links, L: Ledger>(memory: &mut M, last: u64, tag: u64, chunk: u64, steps: &mut Steps<L>)

@@ -9,9 +9,8 @@ ghost use Rattle.bins.specs.Below.{IsHeld, OnlyRangeChanges};
 
 use crate::words::{CHILD0, CHILD1, INDEX, NEXT, PARENT, PREV};
 use dlmalloc_chunks::chunk;
-use heap_memory::Links;
+use heap_memory::{Links, Steps};
 use std::sync::ledger::Ledger;
-use step_count::Steps;
 
 /// Half the bytes of the range of a trie with `levels` levels.
 pub(crate) fn half_width(levels: u32) -> u64

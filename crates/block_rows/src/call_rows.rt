@@ -7,13 +7,12 @@ use crate::calls::{
 };
 use crate::checks::same;
 use dlmalloc::{Dlmalloc, Kind, MallocError};
-use heap_memory::{FlatStep, FlatSystem, GrantFault, Links};
+use heap_memory::{FlatStep, FlatSystem, GrantFault, Links, Steps};
 use std::alloc::{AllocError, Global};
 use std::marker::Brand;
 use std::process::Abort;
 use std::sync::ledger::{Blank, Ledger};
 use std::test::Fail;
-use step_count::Steps;
 
 /// Calls of a new heap that leave a victim of 976 bytes, and chunks of 208, 512 and 976 bytes in bins.
 const BINS: &[Call] = &[

@@ -8,12 +8,11 @@ ghost use Rattle.dlmalloc.specs.Heap.{state_of, IsSound};
 
 use crate::checks::same;
 use dlmalloc::{Dlmalloc, Extent, ExtentList, Kind, MallocError};
-use heap_memory::{FlatStep, FlatSystem, GrantFault, Links};
+use heap_memory::{FlatStep, FlatSystem, GrantFault, Links, Steps};
 use std::alloc::{AllocError, Global};
 use std::process::Abort;
 use std::sync::ledger::{Blank, Ledger};
 use std::test::Fail;
-use step_count::Steps;
 
 /// A heap whose system gives one region, of 65536 bytes at 0x400000.
 pub(crate) fn flat_heap(alloc: Global) -> Result<Dlmalloc<FlatSystem>, AllocError>

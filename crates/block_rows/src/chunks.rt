@@ -3,12 +3,11 @@ ghost use Rattle.heap_memory.specs.Regions.{is_granted};
 
 use crate::checks::same;
 use dlmalloc_chunks::{chunk, compute_tree_index, max_request, request2size, small_index};
-use heap_memory::{Allocator, FlatStep, FlatSystem, Links, Memory};
+use heap_memory::{Allocator, FlatStep, FlatSystem, Links, Memory, Steps};
 use std::marker::Brand;
 use std::process::Abort;
 use std::sync::ledger::{Blank, Ledger};
 use std::test::Fail;
-use step_count::Steps;
 
 /// The numbers are those of the formulas of the Rust crate.
 #[test]

@@ -7,13 +7,12 @@ use crate::calls::{Call, Run, apply, expect_extents};
 use crate::checks::same;
 use crate::scripted::{Give, script_of, scripted_heap};
 use dlmalloc::{Dlmalloc, Kind, MallocError};
-use heap_memory::{FlatStep, FlatSystem, GrantFault, Links};
+use heap_memory::{FlatStep, FlatSystem, GrantFault, Links, Steps};
 use std::alloc::Global;
 use std::marker::Brand;
 use std::process::Abort;
 use std::sync::ledger::{Blank, Ledger};
 use std::test::Fail;
-use step_count::Steps;
 
 /// A call that is granted a region, the extents after it, and the countdown.
 #[derive(Clone, Copy)]

@@ -6,13 +6,12 @@ ghost use Rattle.dlmalloc.specs.Heap.{IsSound};
 use crate::calls::{Call, apply, flat_heap};
 use crate::checks::same;
 use dlmalloc::Dlmalloc;
-use heap_memory::{FlatSystem, Links};
+use heap_memory::{FlatSystem, Links, Steps};
 use std::alloc::Global;
 use std::marker::Brand;
 use std::process::Abort;
 use std::sync::ledger::{Blank, Ledger};
 use std::test::Fail;
-use step_count::Steps;
 
 /// What is done at places. They are 1024 bytes apart, from the start of a region on. Each begins with a block of the
 /// row's size; one of 24 bytes follows, and one of all the rest.

@@ -5,13 +5,12 @@ ghost use Rattle.block_rows.specs.Plain.{is_apart, HasPlace, AreBeside};
 
 use crate::checks::same;
 use bins::Bins;
-use heap_memory::{Allocator, FlatStep, FlatSystem, Links, Memory};
+use heap_memory::{Allocator, FlatStep, FlatSystem, Links, Memory, Steps};
 use std::alloc::{AllocError, Global};
 use std::marker::Brand;
 use std::process::Abort;
 use std::sync::ledger::{Blank, Ledger};
 use std::test::Fail;
-use step_count::Steps;
 
 /// The memory of the tests.
 const BASE: u64 = 0x10000;

@@ -5,12 +5,11 @@ ghost use Rattle.dlmalloc.specs.Heap.{IsSound};
 
 use crate::calls::{Call, Run, apply_all, expect_extents};
 use dlmalloc::Dlmalloc;
-use heap_memory::{FlatStep, FlatSystem, Links};
+use heap_memory::{FlatStep, FlatSystem, Links, Steps};
 use std::alloc::{AllocError, Global};
 use std::process::Abort;
 use std::sync::ledger::{Blank, Ledger};
 use std::test::Fail;
-use step_count::Steps;
 
 /// What a system gives: where it begins, how many bytes, and its flags.
 pub(crate) type Give = (u64, u64, u32);

@@ -3,12 +3,11 @@ ghost use Rattle.heap_memory.specs.Regions.{IsWordOf};
 ghost use Rattle.heap_memory.specs.Words.{AreWordsOf};
 
 use crate::checks::same;
-use heap_memory::{Allocator, FlatStep, FlatSystem, Grant, GrantFault, Links, Memory};
+use heap_memory::{Allocator, FlatStep, FlatSystem, Grant, GrantFault, Links, Memory, Steps};
 use std::alloc::{AllocError, Global};
 use std::marker::Brand;
 use std::sync::ledger::{Blank, Ledger};
 use std::test::Fail;
-use step_count::Steps;
 
 const FIRST: FlatStep = FlatStep::Give {
     base: 0x10000,

@@ -6,9 +6,8 @@ ghost use Rattle.dlmalloc.specs.Order.{IsLessened, IsAdded};
 ghost use Rattle.dlmalloc.specs.Heap.{state_of, IsSound};
 
 use crate::heap::Dlmalloc;
-use heap_memory::Allocator;
+use heap_memory::{Allocator, Steps};
 use std::sync::ledger::Ledger;
-use step_count::Steps;
 
 impl<A: Allocator> Dlmalloc<A> {
     /// Puts a free chunk that is neither the top nor the victim into its bin.

@@ -13,9 +13,8 @@ ghost use Rattle.dlmalloc.specs.Written.{words_in};
 use crate::heap::Dlmalloc;
 use crate::malloc_error::MallocError;
 use bins::laws::index_stays;
-use heap_memory::Allocator;
+use heap_memory::{Allocator, Steps};
 use std::sync::ledger::Ledger;
-use step_count::Steps;
 
 /// The number of words that hold `n` bytes.
 pub(crate) fn words_in(n: u64) -> u64

@@ -21,9 +21,8 @@ use crate::heap::Dlmalloc;
 use crate::layout::{BLOCK, HEAD, PINUSE};
 use bins::laws::index_stays;
 use dlmalloc_chunks::chunk;
-use heap_memory::{Allocator, Links};
+use heap_memory::{Allocator, Links, Steps};
 use std::sync::ledger::Ledger;
-use step_count::Steps;
 
 impl<A: Allocator> Dlmalloc<A> {
     /// Frees the block at an address, of the bytes that were asked for (dlmalloc: `Dlmalloc::free`). Its chunk joins

@@ -20,9 +20,8 @@ use crate::layout::{BLOCK, FOOT, HEAD, LEAST_CHUNK, OVERHEAD, PINUSE, TRIM_THRES
 use crate::record::{SegmentRecord, put_record};
 use bins::laws::index_stays;
 use dlmalloc_chunks::chunk;
-use heap_memory::{Allocator, Grant, GrantFault};
+use heap_memory::{Allocator, Grant, GrantFault, Steps};
 use std::sync::ledger::Ledger;
-use step_count::Steps;
 
 impl<A: Allocator> Dlmalloc<A> {
     /// How many bytes the system is asked for, so that a chunk of `n` bytes can be cut from the top that they make.

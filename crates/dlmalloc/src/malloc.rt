@@ -19,9 +19,8 @@ use crate::malloc_error::MallocError;
 use crate::walk::Choice;
 use bins::laws::index_stays;
 use dlmalloc_chunks::{max_request, request2size};
-use heap_memory::{Allocator, GrantFault};
+use heap_memory::{Allocator, GrantFault, Steps};
 use std::sync::ledger::Ledger;
-use step_count::Steps;
 
 impl<A: Allocator> Dlmalloc<A> {
     /// Asks for a block of `size` bytes at a multiple of `align`, and answers its address (dlmalloc:

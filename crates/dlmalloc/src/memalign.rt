@@ -21,9 +21,8 @@ use crate::heap::Dlmalloc;
 use crate::layout::{BLOCK, LEAST_CHUNK};
 use crate::malloc_error::MallocError;
 use dlmalloc_chunks::{chunk, max_request, request2size};
-use heap_memory::Allocator;
+use heap_memory::{Allocator, Steps};
 use std::sync::ledger::Ledger;
-use step_count::Steps;
 
 /// What is asked for besides the chunk and the alignment, so that it has an aligned place with no short lead.
 const ALIGNED_OVERHEAD: u64 = 24;

@@ -16,9 +16,8 @@ use crate::grow::may_join;
 use crate::heap::Dlmalloc;
 use bins::laws::index_stays;
 use dlmalloc_chunks::chunk;
-use heap_memory::{Allocator, Grant, Links};
+use heap_memory::{Allocator, Grant, Links, Steps};
 use std::sync::ledger::Ledger;
-use step_count::Steps;
 
 /// A segment that a grant is put before.
 #[derive(Clone, Copy)]

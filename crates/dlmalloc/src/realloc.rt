@@ -22,9 +22,8 @@ use crate::layout::{BLOCK, HEAD, LEAST_ALIGN};
 use crate::malloc_error::MallocError;
 use bins::laws::index_stays;
 use dlmalloc_chunks::{chunk, max_request, request2size};
-use heap_memory::{Allocator, Links};
+use heap_memory::{Allocator, Links, Steps};
 use std::sync::ledger::Ledger;
-use step_count::Steps;
 
 impl<A: Allocator> Dlmalloc<A> {
     /// Gives a block another size, and answers where it is then. It keeps its alignment, and as many of its bytes as

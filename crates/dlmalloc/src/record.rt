@@ -6,9 +6,8 @@ ghost use Rattle.dlmalloc_chunks.specs.Chunk.{AreStored};
 ghost use Rattle.dlmalloc.specs.Record.{IsRecordAt};
 
 use crate::layout::{BLOCK, CINUSE, FENCE, FENCES, HEAD, PINUSE, RECORD_CHUNK};
-use heap_memory::Links;
+use heap_memory::{Links, Steps};
 use std::sync::ledger::Ledger;
-use step_count::Steps;
 
 /// What a record says (dlmalloc: `Segment`).
 #[derive(Clone, Copy)]

@@ -19,9 +19,8 @@ use crate::layout::{FOOT, LEAST_LARGE};
 use crate::record::SegmentRecord;
 use bins::laws::index_stays;
 use dlmalloc_chunks::chunk;
-use heap_memory::{Allocator, Links};
+use heap_memory::{Allocator, Links, Steps};
 use std::sync::ledger::Ledger;
-use step_count::Steps;
 
 /// The flags of a segment are below this number.
 const FLAGS: u64 = 1 << 32;

@@ -13,9 +13,8 @@ use crate::heap::Dlmalloc;
 use crate::layout::{HEAD, LEAST_CHUNK, PINUSE};
 use bins::laws::index_stays;
 use dlmalloc_chunks::chunk;
-use heap_memory::{Allocator, Links};
+use heap_memory::{Allocator, Links, Steps};
 use std::sync::ledger::Ledger;
-use step_count::Steps;
 
 impl<A: Allocator> Dlmalloc<A> {
     /// Gives a chunk in use a size of `n` bytes where it stands: it keeps them if it has them, and else takes in the

@@ -9,9 +9,8 @@ ghost use Rattle.dlmalloc.specs.Counts.{pass_steps};
 ghost use Rattle.dlmalloc.specs.Heap.{state_of};
 
 use crate::heap::Dlmalloc;
-use heap_memory::Allocator;
+use heap_memory::{Allocator, Steps};
 use std::sync::ledger::Ledger;
-use step_count::Steps;
 
 impl<A: Allocator> Dlmalloc<A> {
     /// Frees a block of some size, and does what a free does further.

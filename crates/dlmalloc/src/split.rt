@@ -16,9 +16,8 @@ ghost use Rattle.dlmalloc.specs.Binned.{IsIntact};
 use crate::heap::Dlmalloc;
 use bins::laws::index_stays;
 use dlmalloc_chunks::chunk;
-use heap_memory::Allocator;
+use heap_memory::{Allocator, Steps};
 use std::sync::ledger::Ledger;
-use step_count::Steps;
 
 impl<A: Allocator> Dlmalloc<A> {
     /// Makes two chunks in use of one: its first `n` bytes, and the rest.

@@ -11,9 +11,8 @@ use crate::heap::Dlmalloc;
 use crate::layout::{LEAST_CHUNK, LEAST_LARGE};
 use bins::laws::index_stays;
 use dlmalloc_chunks::chunk;
-use heap_memory::Allocator;
+use heap_memory::{Allocator, Steps};
 use std::sync::ledger::Ledger;
-use step_count::Steps;
 
 impl<A: Allocator> Dlmalloc<A> {
     /// Cuts `n` bytes from a free chunk other than the top: the victim, or the one that a search of the bins names. A rest of

@@ -12,9 +12,8 @@ ghost use Rattle.dlmalloc.specs.Turned.{MovesBesideBins};
 use crate::heap::Dlmalloc;
 use crate::layout::{HEAD, PINUSE};
 use dlmalloc_chunks::chunk;
-use heap_memory::Allocator;
+use heap_memory::{Allocator, Steps};
 use std::sync::ledger::Ledger;
-use step_count::Steps;
 
 impl<A: Allocator> Dlmalloc<A> {
     /// Cuts `n` bytes from the top, and answers where they begin.

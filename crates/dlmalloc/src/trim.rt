@@ -12,9 +12,8 @@ use crate::heap::Dlmalloc;
 use crate::layout::{FOOT, TRIM_THRESHOLD};
 use bins::laws::index_stays;
 use dlmalloc_chunks::max_request;
-use heap_memory::Allocator;
+use heap_memory::{Allocator, Steps};
 use std::sync::ledger::Ledger;
-use step_count::Steps;
 
 impl<A: Allocator> Dlmalloc<A> {
     /// Gives memory that no block needs back to the system (dlmalloc: `Dlmalloc::trim`). As many granularities are cut

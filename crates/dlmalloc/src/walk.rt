@@ -17,9 +17,8 @@ ghost use Rattle.dlmalloc.specs.Heap.{state_of};
 use crate::heap::Dlmalloc;
 use crate::layout::{BLOCK, LEAST_LARGE};
 use dlmalloc_chunks::{Extent, Kind, chunk};
-use heap_memory::Allocator;
+use heap_memory::{Allocator, Steps};
 use std::sync::ledger::Ledger;
-use step_count::Steps;
 
 /// A free chunk before the top.
 #[derive(Clone, Copy)]

@@ -9,9 +9,8 @@ ghost use Rattle.dlmalloc_chunks.specs.Head.{size_of, pinuse_of, cinuse_of, free
 ghost use Rattle.dlmalloc_chunks.specs.Chunk.{HasHead, HasFoot, AreStored};
 
 use crate::head;
-use heap_memory::Links;
+use heap_memory::{Links, Steps};
 use std::sync::ledger::Ledger;
-use step_count::Steps;
 
 /// The place of the head in a chunk.
 const HEAD: u64 = 8;

@@ -5,9 +5,8 @@ ghost use Rattle.heap_arena.specs.Grants.{grants, are_between};
 
 use crate::table::Table;
 use crate::words::{put_word, with_byte, word_at};
-use heap_memory::{Links, Memory};
+use heap_memory::{Links, Memory, Steps};
 use std::sync::ledger::Ledger;
-use step_count::Steps;
 
 /// Words that the caller gives, at addresses from `base` on.
 ///

@@ -4,9 +4,8 @@ ghost use Rattle.std.specs.Prelude.{◌≡◌, ◌+◌, ◌-◌, ◌*◌, ◌%�
 use crate::among::{load_among, store_among};
 use crate::arenas::Arenas;
 use crate::words::with_byte;
-use heap_memory::{Links, Memory};
+use heap_memory::{Links, Memory, Steps};
 use std::sync::ledger::Ledger;
-use step_count::Steps;
 
 impl<'a, const N: usize> Links for Arenas<'a, N> {
     ghost use Rattle.heap_memory.specs.Regions.{IsWordOf};

@@ -12,10 +12,10 @@ use crate::flat_release::give_back;
 use crate::flat_script::{FlatStep, Script};
 use crate::flat_words::{FlatWords, Stretch};
 use crate::grant::{Grant, GrantFault};
+use crate::steps::Steps;
 use crate::{Allocator, Links, Memory};
 use std::alloc::{AllocError, Global};
 use std::sync::ledger::Ledger;
-use step_count::Steps;
 
 /// A system whose grants stand in a script: each request takes its next step. Its words are zero until they are stored,
 /// and are made with the system, so no request needs memory.

@@ -13,6 +13,7 @@ mod flat_words;
 mod grant;
 mod links;
 mod memory;
+mod steps;
 
 pub use allocator::Allocator;
 pub use flat_script::FlatStep;
@@ -20,3 +21,4 @@ pub use flat_system::FlatSystem;
 pub use grant::{Grant, GrantFault};
 pub use links::Links;
 pub use memory::Memory;
+pub use steps::Steps;

@@ -4,8 +4,8 @@ ghost use Rattle.heap_memory.specs.Events.{Event};
 ghost use Rattle.heap_memory.specs.Regions.{IsWordOf};
 ghost use Rattle.heap_memory.specs.Words.{IsStored, AreWordsOf, AreFilled, AreCopied};
 
+use crate::steps::Steps;
 use std::sync::ledger::Ledger;
-use step_count::Steps;
 
 /// Words at the multiples of 8 of the granted regions. Each load and store of them is counted.
 pub trait Links {

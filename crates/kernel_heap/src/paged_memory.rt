@@ -3,9 +3,8 @@ ghost use Rattle.std.specs.Prelude.{◌≡◌, ℕ, ◌+◌, ◌*◌, ◌%◌, �
 ghost use Rattle.kernel_heap.specs.System.{paged};
 
 use crate::paged_system::PagedSystem;
-use heap_memory::{Links, Memory};
+use heap_memory::{Links, Memory, Steps};
 use std::sync::ledger::Ledger;
-use step_count::Steps;
 
 impl Links for PagedSystem {
     ghost use Rattle.kernel_heap.specs.Follows.{Follows, still_none, follows_on as paged_follows_on};

@@ -8,11 +8,10 @@ ghost use Rattle.kernel_heap.specs.Twin.{IsTwin, IsTwin-prop};
 
 use crate::flat_window::FlatWindow;
 use crate::paged_system::{PagedSystem, pages_in};
-use heap_memory::{Allocator, Grant, GrantFault, Links, Memory};
+use heap_memory::{Allocator, Grant, GrantFault, Links, Memory, Steps};
 use paging_core::{PageSize, Size4KiB};
 use std::alloc::{AllocError, Global};
 use std::sync::ledger::Ledger;
-use step_count::Steps;
 
 /// A paged system, and flat words that are those of its granted regions: every store writes both, and a load is the word
 /// of both.

@@ -16,10 +16,9 @@ ghost use Rattle.sound_heap.specs.Heap.{IsBlockHandedOut};
 
 use dlmalloc::{Dlmalloc, ExtentList, MallocError};
 use dlmalloc_chunks::chunk;
-use heap_memory::Allocator;
+use heap_memory::{Allocator, Steps};
 use std::alloc::{AllocError, Global};
 use std::sync::ledger::{Blank, Ledger};
-use step_count::Steps;
 
 /// Whether blocks may be asked for at multiples of a number.
 pub(crate) fn is_alignment(align: u64) -> bool

@@ -2,7 +2,6 @@
 //!
 //! A bound on the steps of a call is a clause on the counter that is handed to it: whoever takes a step counts it,
 //! and nobody can take one back.
-#![tactic(auto)]
 
 ghost use Rattle.std.specs.Prelude.{◌≡◌, ℕ, ◌+◌, ◌<◌};
 
