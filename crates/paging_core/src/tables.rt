@@ -35,34 +35,8 @@ pub fn make_root<M: PhysicalMemory, P: TableFrames>(
     Some(root)
 }
 
-/// Takes a free frame for a table, clears it, and names it by the entry: in this order, so that nobody finds what it
-/// held.
-fn make_table<M: PhysicalMemory, P: TableFrames>(
-    frames: &mut M,
-    pool: &mut P,
-    table: PhysFrame,
-    index: u16,
-) -> PhysFrame
-    requires index { index < 512 }
-    requires inside { in_area (M.area frames.old) table ≡ true }
-    requires table { table < frame_count (M.words frames.old) }
-    requires known { FreeIn (M.area frames.old) (P.free pool.old) (frame_count (M.words frames.old)) }
-    requires room { 0 < free_count (P.free pool.old) }
-    requires before { (now : List ℕ) (frame : ℕ) → is_frame_free (P.free pool.old) frame ≡ true → IsChangedIn (M.words frames.old) now frame → M.allows now }
-    requires seen { (now : List ℕ) (free : List Bool) (made : ℕ) → IsTableMade (M.words frames.old) now (P.free pool.old) free table index made → M.allows now }
-    ensures area { M.area frames.new ≡ M.area frames.old }
-    ensures made { IsTableMade (M.words frames.old) (M.words frames.new) (P.free pool.old) (P.free pool.new) table index result }
-{
-    let Some(frame) = pool.take_frame() else {
-        unreachable!()
-    };
-    let entry = PageTableEntry::to_table(frame);
-    frames.clear_frame(frame);
-    frames.set_word(table, index, entry.bits());
-    frame
-}
-
-/// The table that the entry names, made if it is missing.
+/// The table that the entry names. If there is none, one is made: a free frame is taken and cleared, and then the entry
+/// names it, in this order, so that nobody finds what the frame held.
 fn ensure_table<M: PhysicalMemory, P: TableFrames>(
     frames: &mut M,
     pool: &mut P,
@@ -82,7 +56,15 @@ fn ensure_table<M: PhysicalMemory, P: TableFrames>(
 {
     match next(frames, level, Mapped::full(table), index) {
         Some(met) => met.frame,
-        None => make_table(frames, pool, table, index),
+        None => {
+            let Some(frame) = pool.take_frame() else {
+                unreachable!()
+            };
+            let entry = PageTableEntry::to_table(frame);
+            frames.clear_frame(frame);
+            frames.set_word(table, index, entry.bits());
+            frame
+        }
     }
 }
 
