@@ -9,9 +9,9 @@ ghost use Rattle.dlmalloc.specs.Extents.{IsChunkSize};
 ghost use Rattle.dlmalloc.specs.State.{trim_threshold};
 ghost use Rattle.dlmalloc.specs.Granted.{is_behind, is_put_before};
 ghost use Rattle.dlmalloc.specs.Choice.{chosen};
-ghost use Rattle.dlmalloc.specs.Served.{IsCutOut};
+ghost use Rattle.dlmalloc.specs.Served.{IsCutOut, IsDenied};
 ghost use Rattle.dlmalloc.specs.Heap.{state_of, segments_of, IsSound, IsGranularity};
-ghost use Rattle.dlmalloc.specs.Grown.{IsFreshGrant, IsGrantJoined, IsGrown, IsAsItWas, IsAdmittedBesideBins};
+ghost use Rattle.dlmalloc.specs.Grown.{IsFreshGrant, IsGrantJoined, IsAsItWas, IsAdmittedBesideBins};
 ghost use Rattle.dlmalloc.specs.Order.{KeepsBinsInOrder};
 ghost use Rattle.dlmalloc.specs.Binned.{IsFreeAt, IsIntact};
 
@@ -36,22 +36,22 @@ impl<A: Allocator> Dlmalloc<A> {
         (n + OVERHEAD + (self.granularity - 1)) / self.granularity * self.granularity
     }
 
-    /// Asks the system for a region with room for a chunk of `n` bytes. If it is put before a segment, the chunk is cut
-    /// from its start, and that is answered; else it becomes part of the top or the new head segment. An `Err` leaves
-    /// the heap as it was.
-    pub(crate) fn grow<L: Ledger>(
+    /// Cuts a chunk of `n` bytes from a new region, since no free extent serves, and answers where it begins. If the
+    /// region is put before a segment, the chunk is cut from its start; else the region becomes part of the top or the
+    /// new head segment, and the chunk is cut from the top. An `Err` leaves the heap as it was.
+    #[inline(never)]
+    pub(crate) fn cut_new<L: Ledger>(
         &mut self,
         n: u64,
         steps: &mut Steps<L>,
-    ) -> Result<Option<u64>, GrantFault>
+    ) -> Result<u64, GrantFault>
         requires intact { IsIntact A.regions A.word self.old }
         requires none { chosen (state_of A.word self.old) n ≡ None }
         requires bytes { IsChunkSize n }
         requires small { n + 96 + self.old.granularity ≤ 2 ^ 64 }
-        ensures cut { IfOk result (λ chunk. (at : ℕ) → chunk ≡ Some at → IsCutOut A.regions A.word A.zeros A.follows self.old n at self.new) }
-        ensures top { IfOk result (λ chunk. chunk ≡ None → IsGrown A.regions A.word A.zeros A.follows self.old n self.new) }
+        ensures cut { IfOk result (λ at. IsCutOut A.regions A.word A.zeros A.follows self.old n at self.new) }
+        ensures denied { IfErr result (λ fault. IsDenied A.denies self.old.system (state_of A.word self.old) n fault) }
         ensures err { IfErr result (λ fault. IsAsItWas A.regions A.word A.follows A.refuses (Refused (round_up (n + 96) self.old.granularity) fault ∷ []) self.old self.new) }
-        ensures denied { IfErr result (λ fault. A.denies self.old.system (round_up (n + 96) self.old.granularity) fault) }
         ensures bins { KeepsBinsInOrder A.regions A.word self.old self.new }
         ensures refused_counted { IfErr result (λ fault. steps.new ≡ steps.old) }
     {
@@ -61,11 +61,12 @@ impl<A: Allocator> Dlmalloc<A> {
         match self.segment_behind(&grant, steps) {
             Some(behind) => {
                 self.put_before(&grant, n, behind, steps);
-                Ok(Some(grant.base))
+                Ok(grant.base)
             }
             None => {
                 self.join(&grant, steps);
-                Ok(None)
+                index_stays();
+                Ok(self.take_top(n, steps))
             }
         }
     }

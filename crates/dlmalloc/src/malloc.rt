@@ -121,26 +121,4 @@ impl<A: Allocator> Dlmalloc<A> {
         }
         self.cut_new(n, steps)
     }
-
-    /// Cuts a chunk of `n` bytes from a new region, since no free extent serves.
-    #[inline(never)]
-    fn cut_new<L: Ledger>(&mut self, n: u64, steps: &mut Steps<L>) -> Result<u64, GrantFault>
-        requires intact { IsIntact A.regions A.word self.old }
-        requires none { chosen (state_of A.word self.old) n ≡ None }
-        requires bytes { IsChunkSize n }
-        requires small { n + 96 + self.old.granularity ≤ 2 ^ 64 }
-        ensures cut { IfOk result (λ at. IsCutOut A.regions A.word A.zeros A.follows self.old n at self.new) }
-        ensures denied { IfErr result (λ fault. IsDenied A.denies self.old.system (state_of A.word self.old) n fault) }
-        ensures err { IfErr result (λ fault. IsAsItWas A.regions A.word A.follows A.refuses (Refused (round_up (n + 96) self.old.granularity) fault ∷ []) self.old self.new) }
-        ensures bins { KeepsBinsInOrder A.regions A.word self.old self.new }
-        ensures refused_counted { IfErr result (λ fault. steps.new ≡ steps.old) }
-    {
-        match self.grow(n, steps)? {
-            Some(chunk) => Ok(chunk),
-            None => {
-                index_stays();
-                Ok(self.take_top(n, steps))
-            }
-        }
-    }
 }

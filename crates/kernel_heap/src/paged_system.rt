@@ -152,15 +152,6 @@ impl PagedSystem {
         Ok(place)
     }
 
-    /// Grants this number of pages at their place. An `Err` changes nothing.
-    fn grant(&mut self, pages: u64, place: u64) -> Result<(), AllocError>
-        requires can { CanGrant (paged self.old) pages place }
-        ensures ok { OnOk result (IsGranted (paged self.old) (paged self.new) pages place) }
-        ensures err { OnErr result (paged self.new ≡ paged self.old) }
-    {
-        self.regions.join(heap_region(place, pages))
-    }
-
     /// Grants the pages that hold this number of bytes. An `Err` changes nothing.
     pub(crate) fn grant_bytes(&mut self, size: u64) -> Result<Grant, GrantFault>
         requires some { 0 < size }
@@ -170,7 +161,7 @@ impl PagedSystem {
     {
         let pages = pages_in(size);
         let place = self.plan(pages)?;
-        match self.grant(pages, place) {
+        match self.regions.join(heap_region(place, pages)) {
             Ok(()) => Ok(Grant {
                 base: place,
                 size: pages * Size4KiB::SIZE,
