@@ -13,6 +13,10 @@ use Rattle.heap_cells.specs.Bars.{bars_of}
 abbrev pub drawn_band : Band → Band
 drawn_band band = record { low = min band.low (2 ^ 80); high = min band.high (2 ^ 80); folded = band.folded; y = min band.y (2 ^ 40); height = min band.height (2 ^ 40) }
 
+-- a band as it may be drawn, with numbers as small
+abbrev pub IsDrawn : Band → Type 0
+IsDrawn band = (band.low ≤ 2 ^ 80) × (band.high ≤ 2 ^ 80) × (band.y ≤ 2 ^ 40) × (band.height ≤ 2 ^ 40)
+
 -- the number of its rows
 abbrev pub rows_of : Scale → Band → ℕ
 rows_of scale band = band.height / scale.side

@@ -1,6 +1,7 @@
 // The rows of cells of bands.
 ghost use Rattle.std.specs.Prelude.{◌≡◌, ◌<◌, ◌≤◌, ◌+◌, ◌^◌, ◌++◌, OnOk, IfOk};
-ghost use Rattle.heap_cells.specs.Rows.{drawn_band, rows_of, row_start, row_at, row_bars, rows_from, band_bars, all_bars};
+ghost use Rattle.heap_cells.specs.Shades.{IsScale};
+ghost use Rattle.heap_cells.specs.Rows.{IsDrawn, drawn_band, rows_of, row_start, row_at, row_bars, rows_from, band_bars, all_bars};
 
 use crate::bars::{Bar, push_bars};
 use crate::scale::{Row, Scale};
@@ -31,7 +32,7 @@ fn drawn_band(band: Band) -> Band
 // The number of rows of a band.
 #[tactic(auto, using(crate::proofs::Numbers::quotient_least))]
 fn rows_of(scale: Scale, band: Band) -> u128
-    requires side { (2 ≤ scale.side) × (scale.side ≤ 8) }
+    requires scale { IsScale scale }
     requires height { band.height ≤ 2 ^ 40 }
     ensures value { result ≡ rows_of scale band }
     ensures few { result ≤ 2 ^ 40 }
@@ -41,8 +42,8 @@ fn rows_of(scale: Scale, band: Band) -> u128
 
 // The address at which a row begins.
 fn row_start(scale: Scale, band: Band, row: u128) -> u128
-    requires side { (2 ≤ scale.side) × (scale.side ≤ 8) }
-    requires band { (band.low ≤ 2 ^ 80) × (band.high ≤ 2 ^ 80) × (band.height ≤ 2 ^ 40) }
+    requires scale { IsScale scale }
+    requires band { IsDrawn band }
     requires row { row ≤ rows_of scale band }
     requires some { 1 ≤ rows_of scale band }
     ensures value { result ≡ row_start scale band row }
@@ -56,9 +57,8 @@ fn row_start(scale: Scale, band: Band, row: u128) -> u128
 // A row of a band.
 #[tactic(auto, using(crate::proofs::Numbers::row_within))]
 fn row_at(scale: Scale, band: Band, row: u128) -> Row
-    requires side { (2 ≤ scale.side) × (scale.side ≤ 8) }
-    requires band { (band.low ≤ 2 ^ 80) × (band.high ≤ 2 ^ 80) × (band.height ≤ 2 ^ 40) }
-    requires y { band.y ≤ 2 ^ 40 }
+    requires scale { IsScale scale }
+    requires band { IsDrawn band }
     requires row { row < rows_of scale band }
     ensures value { result ≡ row_at scale band row }
     ensures some { (result.low < result.high) × (result.high < 2 ^ 100) }
@@ -81,8 +81,7 @@ fn push_row(
     row: Row,
     spans: &[Span],
 ) -> Result<(), AllocError>
-    requires calls { 0 < scale.calls }
-    requires side { (2 ≤ scale.side) × (scale.side ≤ 8) }
+    requires scale { IsScale scale }
     requires shades { shades ≤ 4 }
     requires row { (row.low < row.high) × (row.high < 2 ^ 100) }
     ensures { OnOk result (bars.new.items ≡ bars.old.items ++ row_bars scale shades row spans.now) }
@@ -103,11 +102,9 @@ fn push_rows(
     first: u128,
     number: u128,
 ) -> Result<(), AllocError>
-    requires calls { 0 < scale.calls }
-    requires side { (2 ≤ scale.side) × (scale.side ≤ 8) }
+    requires scale { IsScale scale }
     requires shades { shades ≤ 4 }
-    requires band { (band.low ≤ 2 ^ 80) × (band.high ≤ 2 ^ 80) × (band.height ≤ 2 ^ 40) }
-    requires y { band.y ≤ 2 ^ 40 }
+    requires band { IsDrawn band }
     requires rows { first + number ≤ rows_of scale band }
     ensures { OnOk result (bars.new.items ≡ bars.old.items ++ rows_from scale shades spans.now band first number) }
 {
@@ -137,8 +134,7 @@ fn push_band(
     spans: &[Span],
     whole: Band,
 ) -> Result<(), AllocError>
-    requires calls { 0 < scale.calls }
-    requires side { (2 ≤ scale.side) × (scale.side ≤ 8) }
+    requires scale { IsScale scale }
     requires shades { shades ≤ 4 }
     ensures { OnOk result (bars.new.items ≡ bars.old.items ++ band_bars scale shades spans.now whole) }
 {
@@ -155,8 +151,7 @@ pub fn all_bars(
     spans: &[Span],
     bands: &[Band],
 ) -> Result<Vec<Bar>, AllocError>
-    requires calls { 0 < scale.calls }
-    requires side { (2 ≤ scale.side) × (scale.side ≤ 8) }
+    requires scale { IsScale scale }
     requires shades { shades ≤ 4 }
     ensures { IfOk result (λ bars. bars.items ≡ all_bars scale shades spans.now bands.now) }
 {

@@ -45,7 +45,7 @@ overflow_sub-since c =
     let went = next_before c.args.scale Goes c.args.row c.args.spans.now c.in_ok-went.went.items column c.loop-column.until
     c.index-in-loop-column.result.now c.loop-column.invariant.until within' c.index-in-loop-column.ensures
     (c.in_ok-went.ensures.each column inside) in
-    let all = shown_in c.args.scale c.args.row c.args.spans.now column c.requires.calls wide in
+    let all = shown_in c.args.scale c.args.row c.args.spans.now column c.requires.scale.0 wide in
     omega (arith, came, went, all)
 
 pub loop-column-preserved : goal.loop-column-preserved
@@ -63,7 +63,7 @@ loop-column-preserved c =
     let went = next_before scale Goes row spans c.in_ok-went.went.items column c.loop-column.until
     c.index-in-loop-column.result.now c.loop-column.invariant.until within' c.index-in-loop-column.ensures
     (c.in_ok-went.ensures.each column inside) in
-    let one = shade_is scale c.args.shades row spans column _ _ c.requires.calls wide came went in
+    let one = shade_is scale c.args.shades row spans column _ _ c.requires.scale.0 wide came went in
     record {
       all = c.in_ok-push.ensures.items
           ∙ ap (λ (n : ℕ). c.loop-column.all.items ++ n ∷ []) (c.shade_of.ensures ∙ one)
