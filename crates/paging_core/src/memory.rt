@@ -62,7 +62,7 @@ fn clear_quarter(words: &mut Vec<u64>, start: usize)
     words[start..start + 128].copy_from_slice(&[0; 128]);
 }
 
-/// Makes the words of the frame 0 that begins at `base`.
+/// Makes each word of the frame 0. The frame's words begin at `base`.
 ///
 /// It does so by quarters: `memset` of the C library clears 2 KiB or more by `rep stosb`, which is slower than its
 /// vector stores while the frame is in the cache.
