@@ -2,6 +2,7 @@ pub mod Address
 pub mod Align
 pub mod Field
 pub mod Memory
+pub mod LateFrames
 pub mod Moments
 pub mod Area
 pub mod EntryPlace
