@@ -2,8 +2,10 @@ pub mod Address
 pub mod Align
 pub mod Field
 pub mod Memory
+pub mod LateFrames
 pub mod Moments
 pub mod Area
+pub mod EntryPlace
 pub mod Entry
 pub mod PageTableFlags
 pub mod Prefix
@@ -24,5 +26,6 @@ pub mod PageChanges
 pub mod WalkEnd
 pub mod Large
 pub mod LargeChanges
+pub mod Premises
 pub mod Outcomes
 pub mod Laws

@@ -1,9 +1,10 @@
-ghost use Rattle.std.specs.Prelude.{◌≡◌, ℕ, ◌+◌, ◌-◌, ◌*◌, ◌/◌, ◌%◌, ◌<◌, ◌≤◌, IsSome, IfSome, Some, length, List, Bool, set, IsTrue, slice_index};
+ghost use Rattle.std.specs.Prelude.{◌≡◌, ℕ, ◌+◌, ◌-◌, ◌*◌, ◌/◌, ◌%◌, ◌<◌, ◌≤◌, IfSome, Some, length, List, Bool, set, IsTrue, slice_index};
 ghost use Rattle.paging_core.specs.Address.{is_canonical};
-ghost use Rattle.paging_core.specs.Memory.{frame_count, word_at, byte_of, IsFrameCopied, AreWordsWritten, AreFrameWords};
+ghost use Rattle.paging_core.specs.Memory.{word_at, byte_of, IsFrameCopied, AreWordsWritten, AreFrameWords};
 ghost use Rattle.paging_core.specs.Walk.{walk_of, reached};
 ghost use Rattle.paging_core.specs.Stores.{KeepsTables, IsWordPut};
 ghost use Rattle.paging_core.specs.Tree.{IsTree};
+ghost use Rattle.paging_core.specs.Premises.{IsMappedPage};
 
 use crate::addr::VirtAddr;
 use crate::memory::Frames;
@@ -24,9 +25,8 @@ fn word_index(address: VirtAddr) -> u16
 ///
 /// The address is a multiple of 8, and its page is mapped.
 pub fn load_word(frames: &Frames, root: PhysFrame, address: VirtAddr) -> u64
-    requires root { root < frame_count frames.now }
+    requires page { IsMappedPage frames.now root (address / 4096) }
     requires aligned { address % 8 ≡ 0 }
-    requires mapped { IsSome (walk_of frames.now root (address / 4096)) }
     ensures word { IfSome (walk_of frames.now root (address / 4096)) (λ place. result ≡ word_at frames.now place.frame (address % 4096 / 8)) }
     ensures bytes { (k : ℕ) → k < 8 → reached frames.now root (address + k) ≡ Some (byte_of result k) }
 {
@@ -40,9 +40,8 @@ pub fn load_word(frames: &Frames, root: PhysFrame, address: VirtAddr) -> u64
 ///
 /// The address is a multiple of 8, and its page is mapped.
 pub fn store_word(frames: &mut Frames, root: PhysFrame, address: VirtAddr, value: u64)
-    requires root { root < frame_count frames.old }
+    requires page { IsMappedPage frames.old root (address / 4096) }
     requires aligned { address % 8 ≡ 0 }
-    requires mapped { IsSome (walk_of frames.old root (address / 4096)) }
     ensures word { IfSome (walk_of frames.old root (address / 4096)) (λ place. frames.new ≡ set frames.old (512 * place.frame + address % 4096 / 8) value) }
     ensures kept { KeepsTables frames.old frames.new root }
     ensures put { IsWordPut frames.old frames.new root address value }
@@ -57,8 +56,7 @@ pub fn store_word(frames: &mut Frames, root: PhysFrame, address: VirtAddr, value
 ///
 /// The page is mapped, and has that many words from `index` on.
 pub fn load_words(frames: &Frames, root: PhysFrame, page: Page, index: u16, words: &mut [u64])
-    requires root { root < frame_count frames.now }
-    requires mapped { IsSome (walk_of frames.now root page) }
+    requires page { IsMappedPage frames.now root page }
     requires fits { index + length words.old ≤ 512 }
     ensures words { IfSome (walk_of frames.now root page) (λ place. AreFrameWords frames.now place.frame index words.new) }
     ensures length { length words.new ≡ length words.old }
@@ -73,8 +71,7 @@ pub fn load_words(frames: &Frames, root: PhysFrame, page: Page, index: u16, word
 ///
 /// The page is mapped, and has that many words from `index` on.
 pub fn store_words(frames: &mut Frames, root: PhysFrame, page: Page, index: u16, words: &[u64])
-    requires root { root < frame_count frames.old }
-    requires mapped { IsSome (walk_of frames.old root page) }
+    requires page { IsMappedPage frames.old root page }
     requires fits { index + length words.now ≤ 512 }
     ensures words { IfSome (walk_of frames.old root page) (λ place. AreWordsWritten frames.old frames.new place.frame index words.now) }
     ensures kept { KeepsTables frames.old frames.new root }
@@ -91,9 +88,8 @@ pub fn store_words(frames: &mut Frames, root: PhysFrame, page: Page, index: u16,
 ///
 /// Both are mapped.
 pub fn copy_page(frames: &mut Frames, root: PhysFrame, from: Page, to: Page)
-    requires root { root < frame_count frames.old }
-    requires source { IsSome (walk_of frames.old root from) }
-    requires target { IsSome (walk_of frames.old root to) }
+    requires source { IsMappedPage frames.old root from }
+    requires target { IsMappedPage frames.old root to }
     ensures words { IfSome (walk_of frames.old root from) (λ source. IfSome (walk_of frames.old root to) (λ target. IsFrameCopied frames.old frames.new source.frame target.frame)) }
     ensures kept { KeepsTables frames.old frames.new root }
     ensures bytes { (free : List Bool) → IsTree frames.old root free → (k : ℕ) → k < 4096 → reached frames.new root (4096 * to + k) ≡ reached frames.old root (4096 * from + k) }

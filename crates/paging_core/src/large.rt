@@ -1,17 +1,16 @@
-ghost use Rattle.std.specs.Prelude.{◌≡◌, ℕ, ◌+◌, ◌*◌, ◌/◌, ◌^◌, ◌<◌, ◌≤◌, ◌↔◌, IsSome, IfSome, IsTrue, List, Bool, None, Some, true, false, length, IsFalse};
+ghost use Rattle.std.specs.Prelude.{◌≡◌, ℕ, ◌+◌, ◌*◌, ◌^◌, ◌<◌, ◌≤◌, ◌↔◌, IsSome, IfSome, IsTrue, List, Bool, Some, true, false, length, IsFalse};
 ghost use Rattle.std.specs.Option.{option_map};
-ghost use Rattle.paging_core.specs.Address.{is_canonical, IsCanonicalRange};
+ghost use Rattle.paging_core.specs.Address.{is_canonical};
 ghost use Rattle.paging_core.specs.Area.{in_area, Whole};
-ghost use Rattle.paging_core.specs.Memory.{frame_count, word_at};
-ghost use Rattle.paging_core.specs.Entry.{page_entry};
-ghost use Rattle.paging_core.specs.Walk.{reach, large_of, walk_of, reached, mapped_place};
-ghost use Rattle.paging_core.specs.Pool.{is_frame_free, free_count, FreeBelow, FreeIn, IsOut};
+ghost use Rattle.paging_core.specs.Memory.{frame_count};
+ghost use Rattle.paging_core.specs.Walk.{reach, large_of, mapped_place};
+ghost use Rattle.paging_core.specs.Pool.{is_frame_free, free_count, IsOut};
 ghost use Rattle.paging_core.specs.Runs.{IsRunFree};
-ghost use Rattle.paging_core.specs.Tree.{IsTree, IsTreeIn, IsRunUnmet};
-ghost use Rattle.paging_core.specs.Missing.{missing_of};
 ghost use Rattle.paging_core.specs.Moments.{IsChangedIn, IsStill};
-ghost use Rattle.paging_core.specs.Large.{slot_of, missing_above, IsSlotEmpty, IsLargeAdded, AreFramesCleared, IsLargeEntry, IsLargeCleared, IsLargeCut};
-ghost use Rattle.paging_core.specs.Outcomes.{IsTreeAndPool, KeepsOtherSlots, IsSlotMapped, IsLargeTakenOut};
+ghost use Rattle.paging_core.specs.Large.{slot_of, missing_above, IsSlotEmpty, IsLargeAdded, AreFramesCleared, IsLargeEntry, IsLargeCleared};
+ghost use Rattle.paging_core.specs.Outcomes.{IsTreeAndPool, KeepsOtherSlots, IsSlotMapped, IsTreeAndFlags, IsSlotPut, IsSlotCleared, IsSlotCut, IsTableFilled};
+ghost use Rattle.paging_core.specs.EntryPlace.{IsEntryIn, IsRoot};
+ghost use Rattle.paging_core.specs.Premises.{IsLargePage, IsSlotMappable};
 
 use crate::frame_allocator::{FrameAllocator, FrameDeallocator};
 use crate::memory::Frames;
@@ -54,24 +53,13 @@ pub fn map_large<M: PhysicalMemory, P: TableFrames>(
     frame: PhysFrame<Size2MiB>,
     rights: Rights,
 )
-    requires root { root < frame_count (M.words frames.old) }
-    requires known { FreeIn (M.area frames.old) (P.free pool.old) (frame_count (M.words frames.old)) }
-    requires tree { IsTreeIn (M.area frames.old) (M.words frames.old) root (P.free pool.old) }
-    requires empty { IsSlotEmpty (M.words frames.old) root page }
-    requires frame { 512 * frame + 511 < frame_count (M.words frames.old) }
+    requires standing { IsTreeAndPool (M.area frames.old) (M.words frames.old) root (P.free pool.old) }
+    requires mappable { IsSlotMappable (M.area frames.old) (M.words frames.old) root page frame }
     requires used { (k : ℕ) → k < 512 → is_frame_free (P.free pool.old) (512 * frame + k) ≡ false }
-    requires unmet { IsRunUnmet (M.area frames.old) (M.words frames.old) root (512 * frame) }
     requires room { missing_above (M.words frames.old) root page ≤ free_count (P.free pool.old) }
     requires before { (now : List ℕ) → IsStill (M.area frames.old) (M.words frames.old) root now → M.allows now }
     requires seen { (now : List ℕ) (free : List Bool) → IsLargeAdded (M.words frames.old) now (P.free pool.old) free root page frame rights → M.allows now }
-    ensures standing { IsTreeAndPool (M.area frames.new) (M.words frames.new) root (P.free pool.new) }
-    ensures area { M.area frames.new ≡ M.area frames.old }
-    ensures others { KeepsOtherSlots (M.words frames.old) (M.words frames.new) root page }
-    ensures added { IsLargeAdded (M.words frames.old) (M.words frames.new) (P.free pool.old) (P.free pool.new) root page frame rights }
-
-    // A range of pages with the slot no longer misses the tables above it. The slot's own still counts as missing.
-    ensures missing { (first pages : ℕ) → IsCanonicalRange first pages → first ≤ 512 * page → 512 * page + 512 ≤ first + pages →
-        missing_of (M.words frames.new) root first pages + missing_above (M.words frames.old) root page ≡ missing_of (M.words frames.old) root first pages }
+    ensures put { IsSlotPut (M.area frames.old) (M.area frames.new) (M.words frames.old) (M.words frames.new) (P.free pool.old) (P.free pool.new) root page frame rights }
 {
     let first = first_page(page);
     let table = ensure_tables(frames, pool, root, first, 2);
@@ -101,9 +89,7 @@ pub fn map_slot(
     page: Page<Size2MiB>,
     rights: Rights,
 ) -> bool
-    requires root { root < frame_count frames.old }
-    requires known { FreeBelow pool.old (frame_count frames.old) }
-    requires tree { IsTree frames.old root pool.old }
+    requires standing { IsTreeAndPool Whole frames.old root pool.old }
     requires empty { IsSlotEmpty frames.old root page }
     requires room { 512 + missing_above frames.old root page ≤ free_count pool.old }
     ensures standing { IsTreeAndPool Whole frames.new root pool.new }
@@ -126,7 +112,7 @@ pub fn large_page<M: PhysicalMemory>(
     root: PhysFrame,
     page: Page<Size2MiB>,
 ) -> Option<Mapped>
-    requires root { root < frame_count (M.words frames.now) }
+    requires root { IsRoot (M.words frames.now) root }
     ensures { option_map mapped_place result ≡ large_of (M.words frames.now) root (slot_of page) }
 {
     let first = first_page(page);
@@ -136,7 +122,7 @@ pub fn large_page<M: PhysicalMemory>(
 
 /// Whether the slot has a table, whose entries map its pages.
 pub fn has_table<M: PhysicalMemory>(frames: &M, root: PhysFrame, page: Page<Size2MiB>) -> bool
-    requires root { root < frame_count (M.words frames.now) }
+    requires root { IsRoot (M.words frames.now) root }
     ensures { IsTrue result ↔ IsSome (reach (M.words frames.now) root 3 (slot_of page)) }
 {
     descend(frames, root, first_page(page), 3).is_some()
@@ -156,12 +142,9 @@ pub(crate) fn large_entry<M: PhysicalMemory>(
     root: PhysFrame,
     page: Page<Size2MiB>,
 ) -> LargeEntry
-    requires root { root < frame_count (M.words frames.now) }
-    requires large { IsSome (large_of (M.words frames.now) root (slot_of page)) }
+    requires page { IsLargePage (M.words frames.now) root page }
     ensures entry { IsLargeEntry (M.words frames.now) root page result.table result.index (mapped_place result.large) }
-    ensures inside { in_area (M.area frames.now) result.table ≡ true }
-    ensures table { result.table < frame_count (M.words frames.now) }
-    ensures index { result.index < 512 }
+    ensures place { IsEntryIn (M.area frames.now) (M.words frames.now) result.table result.index }
     ensures bounded { result.large.frame + 512 < 2 ^ 40 }
     ensures canonical { IsTrue (is_canonical (512 * page * 4096)) }
 {
@@ -190,17 +173,11 @@ pub fn unmap_large<M: PhysicalMemory>(
     root: PhysFrame,
     page: Page<Size2MiB>,
 ) -> PhysFrame<Size2MiB>
-    requires root { root < frame_count (M.words frames.old) }
-    requires large { IsSome (large_of (M.words frames.old) root (slot_of page)) }
+    requires page { IsLargePage (M.words frames.old) root page }
     requires seen { (now : List ℕ) → IsLargeCleared (M.words frames.old) now root page → M.allows now }
     ensures frame { IfSome (large_of (M.words frames.old) root (slot_of page)) (λ large. 512 * result ≡ large.frame) }
     ensures below { 512 * result + 511 < frame_count (M.words frames.new) }
-    ensures cleared { IsLargeCleared (M.words frames.old) (M.words frames.new) root page }
-    ensures area { M.area frames.new ≡ M.area frames.old }
-
-    // If the tables are a tree, they stay one, and no other page's walk is changed.
-    ensures gone { (free : List Bool) → IsTreeIn (M.area frames.old) (M.words frames.old) root free →
-        IsLargeTakenOut (M.area frames.new) (M.words frames.old) (M.words frames.new) root free page }
+    ensures cleared { IsSlotCleared (M.area frames.old) (M.area frames.new) (M.words frames.old) (M.words frames.new) root page }
 {
     let LargeEntry {
         table,
@@ -224,10 +201,8 @@ pub(crate) fn fill_table<M: PhysicalMemory>(
     requires count { count ≤ 512 }
     requires first { first + 512 < 2 ^ 40 }
     requires seen { (now : List ℕ) → IsChangedIn (M.words frames.old) now table → M.allows now }
-    ensures size { length (M.words frames.new) ≡ length (M.words frames.old) }
     ensures area { M.area frames.new ≡ M.area frames.old }
-    ensures filled { (k : ℕ) → k < count → word_at (M.words frames.new) table k ≡ page_entry (first + k) rights }
-    ensures others { (f i : ℕ) → i < 512 → (f ≡ table → i < count → ⊥) → word_at (M.words frames.new) f i ≡ word_at (M.words frames.old) f i }
+    ensures filled { IsTableFilled (M.words frames.old) (M.words frames.new) table first count rights }
 {
     for index in 0..count {
         let entry = PageTableEntry::to_page(first.after(u64::from(index)), rights);
@@ -260,17 +235,11 @@ pub fn cut_large(
     page: Page<Size2MiB>,
     keep: u16,
 )
-    requires root { root < frame_count frames.old }
-    requires flags { frame_count frames.old ≤ length pool.old }
-    requires tree { IsTree frames.old root pool.old }
-    requires large { IsSome (large_of frames.old root (slot_of page)) }
+    requires standing { IsTreeAndFlags frames.old root pool.old }
+    requires page { IsLargePage frames.old root page }
     requires some { 0 < keep }
     requires part { keep < 512 }
-    ensures tree { IsTree frames.new root pool.new }
-    ensures bytes { (address : ℕ) → IsSome (walk_of frames.new root (address / 4096)) → reached frames.new root address ≡ reached frames.old root address }
-    ensures cut { IsLargeCut frames.old frames.new pool.old pool.new root page keep }
-    ensures known { FreeBelow pool.old (frame_count frames.old) → FreeBelow pool.new (frame_count frames.new) }
-    ensures elsewhere { (other : ℕ) → IsTrue (is_canonical (other * 4096)) → (other / 512 ≡ page → ⊥) → walk_of frames.new root other ≡ walk_of frames.old root other }
+    ensures cut { IsSlotCut frames.old frames.new pool.old pool.new root page keep }
 {
     let LargeEntry {
         table,

@@ -1,16 +1,13 @@
-ghost use Rattle.std.specs.Prelude.{◌≡◌, ℕ, ◌+◌, ◌*◌, ◌/◌, ◌^◌, ◌<◌, ◌≤◌, None, List, Bool, true, false, IsTrue, set};
-ghost use Rattle.paging_core.specs.Address.{is_canonical, IsCanonicalRange};
-ghost use Rattle.paging_core.specs.Area.{in_area};
+ghost use Rattle.std.specs.Prelude.{◌≡◌, ℕ, ◌+◌, ◌*◌, ◌^◌, ◌<◌, ◌≤◌, List, Bool, false, set};
 ghost use Rattle.paging_core.specs.Entry.{page_entry};
 ghost use Rattle.paging_core.specs.Memory.{frame_count};
-ghost use Rattle.paging_core.specs.Walk.{walk_of};
 ghost use Rattle.paging_core.specs.Pool.{is_frame_free, free_count, FreeIn};
-ghost use Rattle.paging_core.specs.Tree.{IsTreeIn, IsUnmet};
+ghost use Rattle.paging_core.specs.Tree.{IsTreeIn};
 ghost use Rattle.paging_core.specs.Missing.{missing_of};
 ghost use Rattle.paging_core.specs.Moments.{IsStill};
 ghost use Rattle.paging_core.specs.Mapping.{IsPageAdded};
-ghost use Rattle.paging_core.specs.WalkEnd.{IsEntryOf};
-ghost use Rattle.paging_core.specs.Outcomes.{IsTreeAndPool, IsPagePut};
+ghost use Rattle.paging_core.specs.Outcomes.{IsTreeAndPool, IsPagePut, IsPagePutWithTables};
+ghost use Rattle.paging_core.specs.Premises.{IsPageEntry, IsMappable};
 
 use crate::page_table::{PageTableEntry, Rights};
 use crate::pages::{Page, index_after};
@@ -34,14 +31,8 @@ pub fn map_at<M: PhysicalMemory>(
     frame: PhysFrame,
     rights: Rights,
 )
-    requires root { root < frame_count (M.words frames.old) }
-    requires entry { IsEntryOf (M.words frames.old) root page table index }
-    requires inside { in_area (M.area frames.old) table ≡ true }
-    requires table { table < frame_count (M.words frames.old) }
-    requires index { index < 512 }
-    requires unmapped { walk_of (M.words frames.old) root page ≡ None }
-    requires frame { frame < frame_count (M.words frames.old) }
-    requires unmet { IsUnmet (M.area frames.old) (M.words frames.old) root frame }
+    requires place { IsPageEntry (M.area frames.old) (M.words frames.old) root page table index }
+    requires mappable { IsMappable (M.area frames.old) (M.words frames.old) root page frame }
     requires seen { frame < 2 ^ 40 → M.allows (set (M.words frames.old) (512 * table + index) (page_entry frame rights)) }
     ensures fits { frame < 2 ^ 40 }
     ensures words { M.words frames.new ≡ set (M.words frames.old) (512 * table + index) (page_entry frame rights) }
@@ -70,24 +61,13 @@ pub fn map_page<M: PhysicalMemory, P: TableFrames>(
     frame: PhysFrame,
     rights: Rights,
 )
-    requires root { root < frame_count (M.words frames.old) }
-    requires known { FreeIn (M.area frames.old) (P.free pool.old) (frame_count (M.words frames.old)) }
-    requires tree { IsTreeIn (M.area frames.old) (M.words frames.old) root (P.free pool.old) }
-    requires unmapped { walk_of (M.words frames.old) root page ≡ None }
-    requires frame { frame < frame_count (M.words frames.old) }
+    requires standing { IsTreeAndPool (M.area frames.old) (M.words frames.old) root (P.free pool.old) }
+    requires mappable { IsMappable (M.area frames.old) (M.words frames.old) root page frame }
     requires used { is_frame_free (P.free pool.old) frame ≡ false }
-    requires unmet { IsUnmet (M.area frames.old) (M.words frames.old) root frame }
     requires room { missing_of (M.words frames.old) root page 1 ≤ free_count (P.free pool.old) }
     requires before { (now : List ℕ) → IsStill (M.area frames.old) (M.words frames.old) root now → M.allows now }
     requires seen { (now : List ℕ) (free : List Bool) → IsPageAdded (M.words frames.old) now (P.free pool.old) free root page frame rights → M.allows now }
-    ensures standing { IsTreeAndPool (M.area frames.new) (M.words frames.new) root (P.free pool.new) }
-    ensures area { M.area frames.new ≡ M.area frames.old }
-    ensures elsewhere { (other : ℕ) → IsTrue (is_canonical (other * 4096)) → (other ≡ page → ⊥) → walk_of (M.words frames.new) root other ≡ walk_of (M.words frames.old) root other }
-    ensures added { IsPageAdded (M.words frames.old) (M.words frames.new) (P.free pool.old) (P.free pool.new) root page frame rights }
-
-    // A range of pages with the page no longer misses its tables.
-    ensures missing { (first pages : ℕ) → IsCanonicalRange first pages → first ≤ page → page < first + pages →
-        missing_of (M.words frames.new) root first pages + missing_of (M.words frames.old) root page 1 ≡ missing_of (M.words frames.old) root first pages }
+    ensures put { IsPagePutWithTables (M.area frames.old) (M.area frames.new) (M.words frames.old) (M.words frames.new) (P.free pool.old) (P.free pool.new) root page frame rights }
 {
     let table = ensure_tables(frames, pool, root, page, 3);
     let index = index_after(page, 3);

@@ -1,5 +1,6 @@
-ghost use Rattle.std.specs.Prelude.{◌≡◌, ℕ, ◌+◌, ◌-◌, ◌*◌, ◌/◌, ◌%◌, ◌^◌, ◌<◌, ◌≤◌, ◌++◌, IfOk, length, replicate, List, set};
+ghost use Rattle.std.specs.Prelude.{◌≡◌, ℕ, ◌+◌, ◌-◌, ◌*◌, ◌/◌, ◌%◌, ◌<◌, ◌≤◌, ◌++◌, IfOk, length, replicate, List, set};
 ghost use Rattle.std.specs.Vec.{vec_len, vec_capacity};
+ghost use Rattle.paging_core.specs.LateFrames.{HasRoomTo, HasFramesTo};
 ghost use Rattle.paging_core.specs.Memory.{word_at, frame_count, with_zeros, cleared, IsFrameCopied, AreWordsWritten, AreFrameWords};
 
 use crate::phys_frames::PhysFrame;
@@ -29,10 +30,8 @@ impl Model for Frames {
 #[inline(never)]
 fn make_frames(words: &mut Vec<u64>, place: usize)
     requires missing { vec_len words.old ≤ place }
-    requires whole { vec_len words.old % 512 ≡ 0 }
-    requires room { 512 * (place / 512) + 512 ≤ vec_capacity words.old }
-    ensures words { words.new.items ≡ words.old.items ++ replicate (512 * (place / 512) + 512 - vec_len words.old) 0 }
-    ensures room { vec_capacity words.old ≤ vec_capacity words.new }
+    requires room { HasRoomTo words.old place }
+    ensures { HasFramesTo words.old words.new place }
 {
     for _ in words.len() / 128..4 * (place / 512) + 4 {
         let _made = words.extend_from_slice(&[0; 128]);
@@ -42,10 +41,8 @@ fn make_frames(words: &mut Vec<u64>, place: usize)
 /// Makes the frames up to the one with the word at `place`, if it is not there.
 #[inline(always)]
 fn reach(words: &mut Vec<u64>, place: usize)
-    requires whole { vec_len words.old % 512 ≡ 0 }
-    requires room { 512 * (place / 512) + 512 ≤ vec_capacity words.old }
-    ensures words { words.new.items ≡ words.old.items ++ replicate (512 * (place / 512) + 512 - vec_len words.old) 0 }
-    ensures room { vec_capacity words.old ≤ vec_capacity words.new }
+    requires { HasRoomTo words.old place }
+    ensures { HasFramesTo words.old words.new place }
 {
     if words.len() <= place {
         make_frames(words, place);
@@ -62,7 +59,7 @@ fn clear_quarter(words: &mut Vec<u64>, start: usize)
     words[start..start + 128].copy_from_slice(&[0; 128]);
 }
 
-/// Makes the words of the frame 0 that begins at `base`.
+/// Makes each word of the frame 0. The frame's words begin at `base`.
 ///
 /// It does so by quarters: `memset` of the C library clears 2 KiB or more by `rep stosb`, which is slower than its
 /// vector stores while the frame is in the cache.

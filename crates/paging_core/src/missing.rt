@@ -1,9 +1,10 @@
-ghost use Rattle.std.specs.Prelude.{◌≡◌, ℕ, ◌+◌, ◌-◌, ◌*◌, ◌/◌, ◌%◌, ◌^◌, ◌<◌, ◌≤◌, None, IsSome, if◌then◌else◌, count_by};
+ghost use Rattle.std.specs.Prelude.{◌≡◌, ◌+◌, ◌-◌, ◌*◌, ◌/◌, ◌%◌, ◌^◌, ◌<◌, ◌≤◌, None, IsSome, if◌then◌else◌, count_by};
 ghost use Rattle.paging_core.specs.Address.{IsCanonicalRange};
-ghost use Rattle.paging_core.specs.Memory.{frame_count};
-ghost use Rattle.paging_core.specs.Prefix.{prefix_of, prefixes_from};
-ghost use Rattle.paging_core.specs.Walk.{step, reach};
+ghost use Rattle.paging_core.specs.Prefix.{prefixes_from};
+ghost use Rattle.paging_core.specs.Walk.{reach};
 ghost use Rattle.paging_core.specs.Missing.{is_missing, missing_of};
+ghost use Rattle.paging_core.specs.Premises.{ArePrefixes};
+ghost use Rattle.paging_core.specs.EntryPlace.{IsRoot};
 
 use crate::page_walk::{Mapped, next};
 use crate::phys_frames::PhysFrame;
@@ -11,7 +12,7 @@ use crate::physical_memory::PhysicalMemory;
 
 /// How many tables the walk along the prefix meets below the root before one is missing.
 fn depth<M: PhysicalMemory>(frames: &M, root: PhysFrame, level: u32, prefix: u64) -> u32
-    requires root { root < frame_count (M.words frames.now) }
+    requires root { IsRoot (M.words frames.now) root }
     requires level { level < 4 }
     requires prefix { prefix < 2 ^ (9 * level) }
     ensures bounded { result ≤ level }
@@ -38,10 +39,7 @@ struct Run {
 
 /// The run that begins at the prefix: as far as one missing table above it shows.
 fn run_from<M: PhysicalMemory>(frames: &M, root: PhysFrame, level: u32, from: u64, last: u64) -> Run
-    requires root { root < frame_count (M.words frames.now) }
-    requires level { level < 4 }
-    requires from { from ≤ last }
-    requires last { last < 2 ^ (9 * level) }
+    requires prefixes { ArePrefixes (M.words frames.now) root level from last }
     ensures more { from < result.end }
     ensures within { result.end ≤ last + 1 }
     ensures count { count_by (is_missing (M.words frames.now) root) (prefixes_from level from (result.end - from)) ≡ (if result.is_missing then result.end - from else 0) }
@@ -70,10 +68,7 @@ fn missing_of_level<M: PhysicalMemory>(
     first: u64,
     last: u64,
 ) -> u64
-    requires root { root < frame_count (M.words frames.now) }
-    requires level { level < 4 }
-    requires first { first ≤ last }
-    requires last { last < 2 ^ (9 * level) }
+    requires prefixes { ArePrefixes (M.words frames.now) root level first last }
     ensures count { result ≡ count_by (is_missing (M.words frames.now) root) (prefixes_from level first (last + 1 - first)) }
     ensures bounded { result ≤ last + 1 - first }
 {
@@ -92,7 +87,7 @@ fn missing_of_level<M: PhysicalMemory>(
 /// How many tables are missing for the pages with these numbers: for how many index prefixes of one,
 /// two and three indices the walk meets no table. The cost is that of the tables that are there.
 pub fn missing_tables<M: PhysicalMemory>(frames: &M, root: PhysFrame, first: u64, pages: u64) -> u64
-    requires root { root < frame_count (M.words frames.now) }
+    requires root { IsRoot (M.words frames.now) root }
     requires range { IsCanonicalRange first pages }
     requires pages { pages ≤ 2 ^ 32 }
     ensures count { result ≡ missing_of (M.words frames.now) root first pages }

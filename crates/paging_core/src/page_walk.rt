@@ -1,4 +1,4 @@
-ghost use Rattle.std.specs.Prelude.{◌≡◌, ℕ, ◌+◌, ◌*◌, ◌/◌, ◌%◌, ◌^◌, ◌<◌, ◌≤◌, IsSome, IfSome, IsTrue, true, if◌then◌else◌, Some, None};
+ghost use Rattle.std.specs.Prelude.{◌≡◌, ◌+◌, ◌*◌, ◌%◌, ◌^◌, ◌<◌, ◌≤◌, IfSome, IsTrue, true, if◌then◌else◌, Some, None};
 ghost use Rattle.std.specs.Option.{option_map};
 ghost use Rattle.paging_core.specs.Area.{in_area};
 ghost use Rattle.paging_core.specs.Memory.{frame_count};
@@ -6,6 +6,8 @@ ghost use Rattle.paging_core.specs.Prefix.{prefix_of};
 ghost use Rattle.paging_core.specs.Walk.{is_present, is_run, named, step, large_step, page_in, reach, walk_of, mapped_place};
 ghost use Rattle.paging_core.specs.Address.{is_canonical};
 ghost use Rattle.paging_core.specs.PageChanges.{IsFrameOf, IsLastEntry};
+ghost use Rattle.paging_core.specs.EntryPlace.{IsEntryIn, IsRoot};
+ghost use Rattle.paging_core.specs.Premises.{IsMappedPage, IsSmallPage};
 
 use crate::memory::Frames;
 use crate::page_table::{PageTableEntry, Rights};
@@ -158,7 +160,7 @@ pub(crate) fn descend<M: PhysicalMemory>(
     page: Page,
     levels: u32,
 ) -> Option<Mapped>
-    requires root { root < frame_count (M.words frames.now) }
+    requires root { IsRoot (M.words frames.now) root }
     requires levels { levels ≤ 3 }
     ensures reach { option_map mapped_place result ≡ reach (M.words frames.now) root levels (prefix_of page levels) }
     ensures below { IfSome result (λ at. at.frame < frame_count (M.words frames.now)) }
@@ -173,7 +175,7 @@ pub(crate) fn descend<M: PhysicalMemory>(
 /// Where the page is mapped. The walk reads three entries if the third maps a large page, and else four. None if one of
 /// them is not present, or the frames of the large page are not there.
 pub fn walk<M: PhysicalMemory>(frames: &M, root: PhysFrame, page: Page) -> Option<Mapped>
-    requires { root < frame_count (M.words frames.now) }
+    requires { IsRoot (M.words frames.now) root }
     ensures found { option_map mapped_place result ≡ walk_of (M.words frames.now) root page }
     ensures below { IfSome result (λ mapped. mapped.frame < frame_count (M.words frames.now)) }
 {
@@ -186,8 +188,7 @@ pub fn walk<M: PhysicalMemory>(frames: &M, root: PhysFrame, page: Page) -> Optio
 
 /// The frame of the page, which is mapped.
 pub(crate) fn frame_of_page(frames: &Frames, root: PhysFrame, page: Page) -> PhysFrame
-    requires root { root < frame_count frames.now }
-    requires mapped { IsSome (walk_of frames.now root page) }
+    requires page { IsMappedPage frames.now root page }
     ensures place { IsFrameOf frames.now root page result }
     ensures frame { result < frame_count frames.now }
     ensures canonical { IsTrue (is_canonical (page * 4096)) }
@@ -209,13 +210,9 @@ pub(crate) struct LastEntry {
 
 /// The last entry of the page, which is mapped by one: its slot has a table.
 pub(crate) fn last_entry<M: PhysicalMemory>(frames: &M, root: PhysFrame, page: Page) -> LastEntry
-    requires root { root < frame_count (M.words frames.now) }
-    requires mapped { IsSome (walk_of (M.words frames.now) root page) }
-    requires small { IsSome (reach (M.words frames.now) root 3 (prefix_of page 3)) }
+    requires page { IsSmallPage (M.words frames.now) root page }
     ensures entry { IsLastEntry (M.words frames.now) root page result.table result.index result.frame }
-    ensures inside { in_area (M.area frames.now) result.table ≡ true }
-    ensures table { result.table < frame_count (M.words frames.now) }
-    ensures index { result.index < 512 }
+    ensures place { IsEntryIn (M.area frames.now) (M.words frames.now) result.table result.index }
     ensures frame { result.frame < frame_count (M.words frames.now) }
     ensures canonical { IsTrue (is_canonical (page * 4096)) }
 {

@@ -11,6 +11,7 @@ pub trait PhysicalMemory: Drop {
     ghost use Rattle.std.specs.Prelude.{◌≡◌, ℕ, ◌+◌, ◌*◌, ◌<◌, ◌≤◌, ◌^◌, ◌≢◌, true, set, List, ⊤};
     ghost use Rattle.paging_core.specs.Moments.{IsChangedIn};
     ghost use Rattle.paging_core.specs.Area.{Area, in_area};
+    ghost use Rattle.paging_core.specs.EntryPlace.{IsEntryIn};
     ghost use Rattle.paging_core.specs.Memory.{word_at, frame_count, cleared};
 
     /// The words of all frames below the limit, 512 per frame. Those outside the area are 0 here, whatever the machine
@@ -40,9 +41,7 @@ pub trait PhysicalMemory: Drop {
 
     /// Writes the word of the frame, which lies in the area.
     fn set_word(&mut self, frame: PhysFrame, index: u16, value: u64)
-        requires inside { in_area (area self.old) frame ≡ true }
-        requires frame { frame < frame_count (words self.old) }
-        requires index { index < 512 }
+        requires entry { IsEntryIn (area self.old) (words self.old) frame index }
         requires seen { allows (set (words self.old) (512 * frame + index) value) }
         ensures words { words self.new ≡ set (words self.old) (512 * frame + index) value }
         ensures area { area self.new ≡ area self.old };

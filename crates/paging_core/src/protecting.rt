@@ -1,14 +1,9 @@
-ghost use Rattle.std.specs.Prelude.{◌≡◌, ℕ, ◌+◌, ◌*◌, ◌/◌, ◌<◌, IsSome, List, Bool, true, set};
-ghost use Rattle.paging_core.specs.Address.{IsCanonicalRange};
-ghost use Rattle.paging_core.specs.Area.{in_area};
+ghost use Rattle.std.specs.Prelude.{◌≡◌, ℕ, ◌+◌, ◌*◌, ◌<◌, List, Bool, set};
 ghost use Rattle.paging_core.specs.Entry.{page_entry};
-ghost use Rattle.paging_core.specs.Memory.{frame_count};
-ghost use Rattle.paging_core.specs.Prefix.{prefix_of};
-ghost use Rattle.paging_core.specs.Walk.{reach, walk_of, place_with};
 ghost use Rattle.paging_core.specs.Tree.{IsTreeIn, HasTreeIn};
 ghost use Rattle.paging_core.specs.PageChanges.{regrant, IsFrameOf, IsPageChanged, ArePagesChanged, among};
-ghost use Rattle.paging_core.specs.WalkEnd.{IsEntryOf};
-ghost use Rattle.paging_core.specs.Outcomes.{IsPageRegranted, IsRangeRegranted};
+ghost use Rattle.paging_core.specs.Outcomes.{IsRangeRegranted, IsPageGranted};
+ghost use Rattle.paging_core.specs.Premises.{IsPageEntry, IsSmallPage, AreSmallPages};
 
 use crate::page_table::{PageTableEntry, Rights};
 use crate::page_walk::{LastEntry, last_entry};
@@ -30,19 +25,10 @@ pub fn protect_at<M: PhysicalMemory>(
     frame: PhysFrame,
     rights: Rights,
 )
-    requires root { root < frame_count (M.words frames.old) }
-    requires entry { IsEntryOf (M.words frames.old) root page table index }
-    requires inside { in_area (M.area frames.old) table ≡ true }
-    requires table { table < frame_count (M.words frames.old) }
-    requires index { index < 512 }
+    requires place { IsPageEntry (M.area frames.old) (M.words frames.old) root page table index }
     requires frame { IsFrameOf (M.words frames.old) root page frame }
     requires seen { M.allows (set (M.words frames.old) (512 * table + index) (page_entry frame rights)) }
-    ensures changed { IsPageChanged (M.words frames.old) (M.words frames.new) root page (regrant rights) }
-    ensures area { M.area frames.new ≡ M.area frames.old }
-
-    // If the tables are a tree, they stay one; no other page's walk is changed, and no byte of any page.
-    ensures granted { (free : List Bool) → IsTreeIn (M.area frames.old) (M.words frames.old) root free →
-        IsPageRegranted (M.area frames.new) (M.words frames.old) (M.words frames.new) root free page rights }
+    ensures granted { IsPageGranted (M.area frames.old) (M.area frames.new) (M.words frames.old) (M.words frames.new) root page rights }
 {
     let _canonical = page.number();
     let entry = PageTableEntry::to_page(frame, rights);
@@ -54,16 +40,9 @@ pub fn protect_at<M: PhysicalMemory>(
 ///
 /// The page is mapped by an entry of a last table, and not in a large page.
 pub fn protect_page<M: PhysicalMemory>(frames: &mut M, root: PhysFrame, page: Page, rights: Rights)
-    requires root { root < frame_count (M.words frames.old) }
-    requires mapped { IsSome (walk_of (M.words frames.old) root page) }
-    requires small { IsSome (reach (M.words frames.old) root 3 (prefix_of page 3)) }
+    requires page { IsSmallPage (M.words frames.old) root page }
     requires seen { (now : List ℕ) → IsPageChanged (M.words frames.old) now root page (regrant rights) → M.allows now }
-    ensures changed { IsPageChanged (M.words frames.old) (M.words frames.new) root page (regrant rights) }
-    ensures area { M.area frames.new ≡ M.area frames.old }
-
-    // If the tables are a tree, they stay one; no other page's walk is changed, and no byte of any page.
-    ensures granted { (free : List Bool) → IsTreeIn (M.area frames.old) (M.words frames.old) root free →
-        IsPageRegranted (M.area frames.new) (M.words frames.old) (M.words frames.new) root free page rights }
+    ensures granted { IsPageGranted (M.area frames.old) (M.area frames.new) (M.words frames.old) (M.words frames.new) root page rights }
 {
     let LastEntry {
         table,
@@ -83,11 +62,8 @@ pub fn protect_range<M: PhysicalMemory>(
     pages: u64,
     rights: Rights,
 )
-    requires root { root < frame_count (M.words frames.old) }
     requires tree { HasTreeIn (M.area frames.old) (M.words frames.old) root }
-    requires range { IsCanonicalRange first pages }
-    requires mapped { (k : ℕ) → k < pages → IsSome (walk_of (M.words frames.old) root (first + k)) }
-    requires small { (k : ℕ) → k < pages → IsSome (reach (M.words frames.old) root 3 (prefix_of (first + k) 3)) }
+    requires pages { AreSmallPages (M.words frames.old) root first pages }
     requires seen { (before now : List ℕ) (done : ℕ) → done < pages → ArePagesChanged (M.words frames.old) before root (regrant rights) (among first done) →
         IsPageChanged before now root (first + done) (regrant rights) → M.allows now }
     ensures changed { ArePagesChanged (M.words frames.old) (M.words frames.new) root (regrant rights) (among first pages) }

@@ -1,12 +1,12 @@
-ghost use Rattle.std.specs.Prelude.{◌≡◌, ℕ, ◌+◌, ◌/◌, ◌<◌, ◌≤◌, None, Some};
-ghost use Rattle.paging_core.specs.Address.{IsCanonicalRange};
+ghost use Rattle.std.specs.Prelude.{◌≡◌, ◌+◌, ◌≤◌, None, Some};
 ghost use Rattle.paging_core.specs.Memory.{frame_count};
 ghost use Rattle.paging_core.specs.Walk.{walk_of};
 ghost use Rattle.paging_core.specs.Pool.{free_count, FreeBelow};
-ghost use Rattle.paging_core.specs.Tree.{IsTree};
 ghost use Rattle.paging_core.specs.Missing.{missing_of};
 ghost use Rattle.paging_core.specs.Mapping.{IsRangeAdded};
-ghost use Rattle.paging_core.specs.Outcomes.{AddsClearPages};
+ghost use Rattle.paging_core.specs.Outcomes.{AddsClearPages, IsTreeAndPool};
+ghost use Rattle.paging_core.specs.Area.{Whole};
+ghost use Rattle.paging_core.specs.Premises.{IsRangeMappable};
 
 use crate::frame_allocator::FrameAllocator;
 use crate::mapping::map_page;
@@ -24,9 +24,7 @@ fn map_new_page(
     page: Page,
     rights: Rights,
 )
-    requires root { root < frame_count frames.old }
-    requires known { FreeBelow pool.old (frame_count frames.old) }
-    requires tree { IsTree frames.old root pool.old }
+    requires standing { IsTreeAndPool Whole frames.old root pool.old }
     requires unmapped { walk_of frames.old root page ≡ None }
     requires room { 1 + missing_of frames.old root page 1 ≤ free_count pool.old }
     ensures { IsRangeAdded frames.old frames.new pool.old pool.new root page 1 rights }
@@ -51,12 +49,8 @@ pub fn map_range(
     pages: u64,
     rights: Rights,
 )
-    requires root { root < frame_count frames.old }
-    requires known { FreeBelow pool.old (frame_count frames.old) }
-    requires tree { IsTree frames.old root pool.old }
-    requires range { IsCanonicalRange first pages }
-    requires unmapped { (k : ℕ) → k < pages → walk_of frames.old root (first + k) ≡ None }
-    requires room { pages + missing_of frames.old root first pages ≤ free_count pool.old }
+    requires standing { IsTreeAndPool Whole frames.old root pool.old }
+    requires mappable { IsRangeMappable frames.old root pool.old first pages }
     ensures added { IsRangeAdded frames.old frames.new pool.old pool.new root first pages rights }
     ensures known { FreeBelow pool.new (frame_count frames.new) }
     ensures clear { AddsClearPages frames.old frames.new root first pages }

@@ -1,12 +1,11 @@
-ghost use Rattle.std.specs.Prelude.{◌≡◌, ℕ, ◌/◌, ◌<◌, IsSome, List, Bool};
-ghost use Rattle.paging_core.specs.Memory.{frame_count};
-ghost use Rattle.paging_core.specs.Walk.{large_of, walk_of, reached};
-ghost use Rattle.paging_core.specs.Pool.{free_count, FreeIn};
+ghost use Rattle.std.specs.Prelude.{ℕ, ◌<◌, IsSome, List};
+ghost use Rattle.paging_core.specs.Walk.{large_of};
+ghost use Rattle.paging_core.specs.Pool.{free_count};
 ghost use Rattle.paging_core.specs.Moments.{IsStill};
-ghost use Rattle.paging_core.specs.Tree.{IsTreeIn};
 ghost use Rattle.paging_core.specs.Large.{slot_of};
-ghost use Rattle.paging_core.specs.LargeChanges.{IsLargeSplit, IsLargeRegranted};
-ghost use Rattle.paging_core.specs.Outcomes.{IsTreeAndPool, IsSlotRegranted};
+ghost use Rattle.paging_core.specs.LargeChanges.{IsLargeRegranted};
+ghost use Rattle.paging_core.specs.Outcomes.{IsTreeAndPool, IsSlotSplit, IsSlotGranted};
+ghost use Rattle.paging_core.specs.Premises.{IsLargePage};
 
 use crate::large::{LargeEntry, fill_table, large_entry};
 use crate::page_table::{PageTableEntry, Rights};
@@ -28,19 +27,11 @@ pub fn split_large<M: PhysicalMemory, P: TableFrames>(
     root: PhysFrame,
     page: Page<Size2MiB>,
 )
-    requires root { root < frame_count (M.words frames.old) }
-    requires known { FreeIn (M.area frames.old) (P.free pool.old) (frame_count (M.words frames.old)) }
-    requires tree { IsTreeIn (M.area frames.old) (M.words frames.old) root (P.free pool.old) }
+    requires standing { IsTreeAndPool (M.area frames.old) (M.words frames.old) root (P.free pool.old) }
     requires large { IsSome (large_of (M.words frames.old) root (slot_of page)) }
     requires room { 0 < free_count (P.free pool.old) }
     requires seen { (now : List ℕ) → IsStill (M.area frames.old) (M.words frames.old) root now → M.allows now }
-    ensures standing { IsTreeAndPool (M.area frames.new) (M.words frames.new) root (P.free pool.new) }
-    ensures area { M.area frames.new ≡ M.area frames.old }
-    ensures split { IsLargeSplit (M.words frames.old) (M.words frames.new) (P.free pool.old) (P.free pool.new) root page }
-
-    // No page's walk is changed, not even those of the slot, and no byte of any page.
-    ensures walks { (other : ℕ) → walk_of (M.words frames.new) root other ≡ walk_of (M.words frames.old) root other }
-    ensures bytes { (address : ℕ) → reached (M.words frames.new) root address ≡ reached (M.words frames.old) root address }
+    ensures split { IsSlotSplit (M.area frames.old) (M.area frames.new) (M.words frames.old) (M.words frames.new) (P.free pool.old) (P.free pool.new) root page }
 {
     let LargeEntry {
         table,
@@ -64,15 +55,9 @@ pub fn protect_large<M: PhysicalMemory>(
     page: Page<Size2MiB>,
     rights: Rights,
 )
-    requires root { root < frame_count (M.words frames.old) }
-    requires large { IsSome (large_of (M.words frames.old) root (slot_of page)) }
+    requires page { IsLargePage (M.words frames.old) root page }
     requires seen { (now : List ℕ) → IsLargeRegranted (M.words frames.old) now root page rights → M.allows now }
-    ensures regranted { IsLargeRegranted (M.words frames.old) (M.words frames.new) root page rights }
-    ensures area { M.area frames.new ≡ M.area frames.old }
-
-    // If the tables are a tree, they stay one; no other page's walk is changed, and no byte of any page.
-    ensures granted { (free : List Bool) → IsTreeIn (M.area frames.old) (M.words frames.old) root free →
-        IsSlotRegranted (M.area frames.new) (M.words frames.old) (M.words frames.new) root free page rights }
+    ensures granted { IsSlotGranted (M.area frames.old) (M.area frames.new) (M.words frames.old) (M.words frames.new) root page rights }
 {
     let LargeEntry {
         table,

@@ -1,5 +1,4 @@
-ghost use Rattle.std.specs.Prelude.{◌≡◌, ℕ, ◌+◌, ◌/◌, ◌<◌, ◌≤◌, None, Some, IfSome, MatchOption, true, List, Bool};
-ghost use Rattle.paging_core.specs.Area.{in_area};
+ghost use Rattle.std.specs.Prelude.{◌≡◌, ℕ, ◌+◌, ◌<◌, ◌≤◌, None, Some, IfSome, MatchOption, true, List, Bool};
 ghost use Rattle.paging_core.specs.Memory.{frame_count, cleared};
 ghost use Rattle.paging_core.specs.Prefix.{prefix_of};
 ghost use Rattle.paging_core.specs.Walk.{step, large_of, reach, top};
@@ -7,7 +6,8 @@ ghost use Rattle.paging_core.specs.Pool.{is_frame_free, free_count, FreeIn};
 ghost use Rattle.paging_core.specs.Moments.{IsChangedIn, IsStill};
 ghost use Rattle.paging_core.specs.Tree.{IsTreeIn};
 ghost use Rattle.paging_core.specs.Tables.{IsTableMade, IsEnsured, IsPrepared, missing_past};
-ghost use Rattle.paging_core.specs.Outcomes.{IsLowestFrameTaken, IsRootMade};
+ghost use Rattle.paging_core.specs.Outcomes.{IsLowestFrameTaken, IsRootMade, IsTreeAndPool};
+ghost use Rattle.paging_core.specs.Premises.{IsReadyForTable};
 
 use crate::page_table::PageTableEntry;
 use crate::page_walk::{Mapped, next};
@@ -44,12 +44,8 @@ fn ensure_table<M: PhysicalMemory, P: TableFrames>(
     table: PhysFrame,
     index: u16,
 ) -> PhysFrame
-    requires index { index < 512 }
-    requires inside { in_area (M.area frames.old) table ≡ true }
-    requires table { table < frame_count (M.words frames.old) }
-    requires known { FreeIn (M.area frames.old) (P.free pool.old) (frame_count (M.words frames.old)) }
+    requires ready { IsReadyForTable (M.area frames.old) (M.words frames.old) (P.free pool.old) M.allows table index }
     requires room { step (M.words frames.old) level (top table) index ≡ None → 0 < free_count (P.free pool.old) }
-    requires before { (now : List ℕ) (frame : ℕ) → is_frame_free (P.free pool.old) frame ≡ true → IsChangedIn (M.words frames.old) now frame → M.allows now }
     requires seen { step (M.words frames.old) level (top table) index ≡ None → (now : List ℕ) (free : List Bool) (made : ℕ) → IsTableMade (M.words frames.old) now (P.free pool.old) free table index made → M.allows now }
     ensures area { M.area frames.new ≡ M.area frames.old }
     ensures ensured { IsEnsured (step (M.words frames.old) level (top table) index) (M.words frames.old) (M.words frames.new) (P.free pool.old) (P.free pool.new) table index result }
@@ -76,9 +72,7 @@ pub(crate) fn ensure_tables<M: PhysicalMemory, P: TableFrames>(
     page: Page,
     levels: u32,
 ) -> PhysFrame
-    requires root { root < frame_count (M.words frames.old) }
-    requires known { FreeIn (M.area frames.old) (P.free pool.old) (frame_count (M.words frames.old)) }
-    requires tree { IsTreeIn (M.area frames.old) (M.words frames.old) root (P.free pool.old) }
+    requires standing { IsTreeAndPool (M.area frames.old) (M.words frames.old) root (P.free pool.old) }
     requires levels { levels ≤ 3 }
     requires small { levels ≡ 3 → large_of (M.words frames.old) root (prefix_of page 3) ≡ None }
     requires room { missing_past (M.words frames.old) root page 0 ≤ free_count (P.free pool.old) + missing_past (M.words frames.old) root page levels }

@@ -1,7 +1,8 @@
-ghost use Rattle.std.specs.Prelude.{◌≡◌, ℕ, ◌<◌};
+ghost use Rattle.std.specs.Prelude.{◌<◌};
 ghost use Rattle.paging_core.specs.Memory.{frame_count};
 ghost use Rattle.paging_core.specs.Walk.{mapped_place};
 ghost use Rattle.paging_core.specs.WalkEnd.{IsWalkEnd, IsEndFrom, IsEndWithin};
+ghost use Rattle.paging_core.specs.EntryPlace.{IsRoot};
 
 use crate::page_table::PageTableEntry;
 use crate::page_walk::{Mapped, follow, in_run, next};
@@ -67,7 +68,7 @@ fn end_from<M: PhysicalMemory>(frames: &M, at: Mapped, index: u16, last: u16) ->
 /// Where the walk to the page ends. It reads each entry on the way once.
 #[inline(always)]
 pub fn end_of_walk<M: PhysicalMemory>(frames: &M, root: PhysFrame, page: Page) -> WalkEnd
-    requires { root < frame_count (M.words frames.now) }
+    requires { IsRoot (M.words frames.now) root }
     ensures end { IsWalkEnd (M.words frames.now) root page result }
     ensures within { IsEndWithin (M.area frames.now) (frame_count (M.words frames.now)) result }
 {

@@ -7,7 +7,7 @@ use Rattle.paging_core.proofs.access.load_word.Goals as goal
 
 pub unreachable-requires : goal.unreachable-requires
 unreachable-requires c =
-    not_mapped c.args.frames.now c.args.root (c.args.address / 4096) c.requires.mapped
+    not_mapped c.args.frames.now c.args.root (c.args.address / 4096) c.requires.page.mapped
     (ap (walk_of c.args.frames.now c.args.root) (sym c.containing_address.ensures) ∙ (sym c.walk.ensures.found ∙ ap (option_map mapped_place) c.in_default.is))
 
 pub returns-clause-word : goal.returns-clause-word

@@ -14,8 +14,12 @@ loop-index-init g c = record {
   others = λ f i li ne. refl;
 }
 
-pub set_word-requires-clause-frame : goal.set_word-requires-clause-frame
-set_word-requires-clause-frame g c = let s = c.loop-index.invariant.size in omega (arith, c.requires.table)
+pub set_word-requires-clause-entry : goal.set_word-requires-clause-entry
+set_word-requires-clause-entry g c = record {
+  inside = ap (λ a. in_area a c.args.table) c.loop-index.invariant.area ∙ c.requires.inside;
+  below = let s = c.loop-index.invariant.size in omega (arith, c.requires.table);
+  bounded = omega (arith, c.requires.count);
+}
 
 pub loop-index-preserved : goal.loop-index-preserved
 loop-index-preserved g c =
@@ -49,9 +53,6 @@ loop-index-preserved g c =
       others = λ f i li ne.
           other f i li (λ e x. ne e (omega arith)) ∙ c.loop-index.invariant.others f i li (λ e lt. ne e (omega arith));
     }
-
-pub set_word-requires-clause-inside : goal.set_word-requires-clause-inside
-set_word-requires-clause-inside g c = ap (λ a. in_area a c.args.table) c.loop-index.invariant.area ∙ c.requires.inside
 
 pub set_word-requires-clause-seen : goal.set_word-requires-clause-seen
 set_word-requires-clause-seen g c =

@@ -39,17 +39,22 @@ returns-clause-below g c =
     ∙ length-set (g.M.PhysicalMemory.words c.args.frames.now) (512 * c.large_entry-table.result.table + c.large_entry-table.result.index) 0 in
     omega (arith, b.1)
 
-pub returns-clause-gone : goal.returns-clause-gone
-returns-clause-gone g c = λ free tree.
+pub returns-clause-cleared : goal.returns-clause-cleared
+returns-clause-cleared g c =
     let old = g.M.PhysicalMemory.words c.args.frames.now in
     let new = g.M.PhysicalMemory.words c.set_word.new.self in
     record {
-      tree = tree_moved (g.M.PhysicalMemory.area c.args.frames.now) (g.M.PhysicalMemory.area c.set_word.new.self) new c.args.root
-          free c.set_word.ensures.area (gone_tree old new c.args.root c.args.page c.requires.root (cleared g c) free tree);
-      bytes = gone_bytes old new c.args.root c.args.page c.requires.root (cleared g c) free tree;
-      removed = large_removed old new c.args.root c.args.page c.requires.root (cleared g c) free tree;
-      elsewhere = λ other canonical ne. gone_elsewhere old new c.args.root c.args.page c.requires.root (cleared g c) free tree other
-          (λ e. ne (same_slot other c.args.page canonical c.large_entry-table.ensures.canonical e));
+      same_area = c.set_word.ensures.area;
+      cleared = cleared g c;
+      gone = λ free tree.
+          record {
+            tree = tree_moved (g.M.PhysicalMemory.area c.args.frames.now) (g.M.PhysicalMemory.area c.set_word.new.self) new c.args.root
+                free c.set_word.ensures.area (gone_tree old new c.args.root c.args.page c.requires.page.rooted (cleared g c) free tree);
+            bytes = gone_bytes old new c.args.root c.args.page c.requires.page.rooted (cleared g c) free tree;
+            removed = large_removed old new c.args.root c.args.page c.requires.page.rooted (cleared g c) free tree;
+            elsewhere = λ other canonical ne. gone_elsewhere old new c.args.root c.args.page c.requires.page.rooted (cleared g c) free tree other
+                (λ e. ne (same_slot other c.args.page canonical c.large_entry-table.ensures.canonical e));
+          };
     }
 
 pub set_word-requires-clause-seen : goal.set_word-requires-clause-seen

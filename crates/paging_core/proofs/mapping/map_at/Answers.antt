@@ -33,7 +33,7 @@ met : (g : Over) (c : goal.After-set_word g) (free : List Bool) → IsTreeIn (g.
     (g.M.PhysicalMemory.words c.args.frames.now) c.args.root free →
     reach (g.M.PhysicalMemory.words c.args.frames.now) c.args.root 3 (prefix_of c.args.page 3) ≡ Some (top c.args.table)
 met g c free tree =
-    let e = c.requires.entry in
+    let e = c.requires.place.entry in
     let full : e.met ≡ top e.met.frame = tree.rights 3 (prefix_of c.args.page 3) e.met (omega arith) e.reached in
     e.reached ∙ ap Some (full ∙ ap top e.in_table)
 
@@ -41,16 +41,16 @@ pub returns-clause-mapped : goal.returns-clause-mapped
 returns-clause-mapped g c = λ free tree used.
     let old = g.M.PhysicalMemory.words c.args.frames.now in
     let new = g.M.PhysicalMemory.words c.set_word.new.self in
-    let unmet = unmet_at (g.M.PhysicalMemory.area c.args.frames.now) old c.args.root c.args.frame c.requires.unmet in
+    let unmet = unmet_at (g.M.PhysicalMemory.area c.args.frames.now) old c.args.root c.args.frame c.requires.mappable.unmet in
     let all = prepared_all old free c.args.root c.args.page (top c.args.table) (met g c free tree) in
     let added = mapped_page old old new free free c.args.root c.args.page c.args.table c.args.index c.args.frame c.args.rights
-    c.requires.root c.requires.unmapped c.to_page-entry.ensures.fits c.requires.frame used unmet c.requires.entry.at_index
+    c.requires.place.rooted c.requires.mappable.unmapped c.to_page-entry.ensures.fits c.requires.mappable.below used unmet c.requires.place.entry.at_index
     tree (met g c free tree) all (returns-clause-words g c) in
     record {
       tree = tree_moved (g.M.PhysicalMemory.area c.args.frames.now) (g.M.PhysicalMemory.area c.set_word.new.self) new c.args.root
           free c.set_word.ensures.area
           (mapped_tree old old new free free c.args.root c.args.page c.args.table c.args.index c.args.frame c.args.rights
-          c.requires.root c.requires.unmapped c.to_page-entry.ensures.fits c.requires.frame used unmet c.requires.entry.at_index
+          c.requires.place.rooted c.requires.mappable.unmapped c.to_page-entry.ensures.fits c.requires.mappable.below used unmet c.requires.place.entry.at_index
           tree (met g c free tree) all (returns-clause-words g c));
       added = added;
       elsewhere = λ other canonical ne. added.pages other

@@ -14,6 +14,6 @@ returns-clause-count g c =
     let b = one_shl (9 * (c.args.level - (c.depth-met.result + 1))) 64 (omega arith) in
     let r = run_end c.args.from c.args.last (2 ^ (9 * (c.args.level - (c.depth-met.result + 1))))
     (1 * 2 ^ (9 * (c.args.level - (c.depth-met.result + 1))) % 2 ^ 64) c.min.result
-    b (pow_pos (9 * (c.args.level - (c.depth-met.result + 1)))) c.requires.from c.min.ensures in
+    b (pow_pos (9 * (c.args.level - (c.depth-met.result + 1)))) c.requires.prefixes.ordered c.min.ensures in
     absent_block (g.M.PhysicalMemory.words c.args.frames.now) c.args.root c.args.level c.depth-met.result c.args.from
     c.min.result (omega arith) lt (c.depth-met.ensures.absent lt) r.0 r.1

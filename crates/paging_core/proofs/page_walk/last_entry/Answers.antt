@@ -10,7 +10,7 @@ pub unreachable-requires : goal.unreachable-requires
 unreachable-requires g c =
     let none : reach (g.M.PhysicalMemory.words c.args.frames.now) c.args.root 3 (prefix_of c.args.page 3) ≡ None =
     sym c.descend.ensures.reach ∙ ap (option_map mapped_place) c.in_default.is in
-    some_not_none (reach (g.M.PhysicalMemory.words c.args.frames.now) c.args.root 3 (prefix_of c.args.page 3)) c.requires.small none
+    some_not_none (reach (g.M.PhysicalMemory.words c.args.frames.now) c.args.root 3 (prefix_of c.args.page 3)) c.requires.page.small none
 
 -- the walk is one step from the last table
 last_step : (words : List ℕ) (root page index : ℕ) (at : Place) → reach words root 3 (prefix_of page 3) ≡ Some at → index ≡ prefix_of page 4 % 512 →
@@ -19,7 +19,7 @@ last_step words root page index at met ix = walk_reach words root page ∙ (reac
 
 pub unreachable-requires-in_default-next : goal.unreachable-requires-in_default-next
 unreachable-requires-in_default-next g c =
-    not_mapped (g.M.PhysicalMemory.words c.args.frames.now) c.args.root c.args.page c.requires.mapped
+    not_mapped (g.M.PhysicalMemory.words c.args.frames.now) c.args.root c.args.page c.requires.page.mapped
     (last_step (g.M.PhysicalMemory.words c.args.frames.now) c.args.root c.args.page c.index_after-index.result
     (mapped_place c.in-Some.at) (sym c.in-Some.ensures.reach) c.index_after-index.ensures.value
     ∙ (sym c.next.ensures.step ∙ ap (option_map mapped_place) c.in_default-next.is))
@@ -35,4 +35,11 @@ returns-clause-entry g c = record {
   in_table = refl;
   at_index = c.index_after-index.ensures.value;
   to_frame = refl;
+}
+
+pub returns-clause-place : goal.returns-clause-place
+returns-clause-place g c = record {
+  inside = c.in-Some-next.ensures.inside;
+  below = c.in-Some.ensures.below;
+  bounded = c.index_after-index.ensures.bounded;
 }

@@ -5,10 +5,13 @@ use Rattle.paging_core.specs.PageChanges.{regrant}
 use Rattle.paging_core.proofs.PageChanged.{entry_written}
 use Rattle.paging_core.proofs.protecting.protect_page.Goals as goal
 
-pub protect_at-requires-clause-entry : goal.protect_at-requires-clause-entry
-protect_at-requires-clause-entry g c =
-    as_entry (g.M.PhysicalMemory.words c.args.frames.now) c.args.root c.args.page c.last_entry-table.result.table
-    c.last_entry-table.result.index c.last_entry-table.result.frame c.last_entry-table.ensures.entry
+pub protect_at-requires-clause-place : goal.protect_at-requires-clause-place
+protect_at-requires-clause-place g c = record {
+  rooted = c.requires.page.rooted;
+  entry = as_entry (g.M.PhysicalMemory.words c.args.frames.now) c.args.root c.args.page c.last_entry-table.result.table
+      c.last_entry-table.result.index c.last_entry-table.result.frame c.last_entry-table.ensures.entry;
+  place = c.last_entry-table.ensures.place;
+}
 
 pub protect_at-requires-clause-frame : goal.protect_at-requires-clause-frame
 protect_at-requires-clause-frame g c =

@@ -12,28 +12,24 @@ pub loop-step-init : goal.loop-step-init
 loop-step-init g c = record { area = refl; changed = range_begun (g.M.PhysicalMemory.words c.args.frames.now) c.args.root c.args.first (regrant c.args.rights) }
 
 pub after-requires : goal.after-requires
-after-requires g c = page_canonical c.args.first c.args.pages c.loop-step.step c.requires.range (omega arith)
+after-requires g c = page_canonical c.args.first c.args.pages c.loop-step.step c.requires.pages.range (omega arith)
 
-pub protect_page-requires-clause-root : goal.protect_page-requires-clause-root
-protect_page-requires-clause-root g c = let s = c.loop-step.invariant.changed.size in omega (arith, c.requires.root)
-
-pub protect_page-requires-clause-mapped : goal.protect_page-requires-clause-mapped
-protect_page-requires-clause-mapped g c =
-    rw (
-      c.after.ensures,
-      next_mapped (g.M.PhysicalMemory.words c.args.frames.now) (g.M.PhysicalMemory.words c.loop-step.frames) c.args.root
-          c.args.first c.args.pages c.loop-step.step (regrant c.args.rights)
-          c.requires.range c.loop-step.invariant.changed c.loop-step-test.true,
-    )
-    (c.requires.mapped c.loop-step.step c.loop-step-test.true)
-
-pub protect_page-requires-clause-small : goal.protect_page-requires-clause-small
-protect_page-requires-clause-small g c =
-    rw (
-      c.after.ensures,
-      c.loop-step.invariant.changed.stayed 3 (prefix_of (c.args.first + c.loop-step.step) 3) (omega arith) (λ e. absurd (omega arith)),
-    )
-    (c.requires.small c.loop-step.step c.loop-step-test.true)
+pub protect_page-requires-clause-page : goal.protect_page-requires-clause-page
+protect_page-requires-clause-page g c = record {
+  rooted = let s = c.loop-step.invariant.changed.size in omega (arith, c.requires.pages.rooted);
+  mapped = rw (
+    c.after.ensures,
+    next_mapped (g.M.PhysicalMemory.words c.args.frames.now) (g.M.PhysicalMemory.words c.loop-step.frames) c.args.root
+        c.args.first c.args.pages c.loop-step.step (regrant c.args.rights)
+        c.requires.pages.range c.loop-step.invariant.changed c.loop-step-test.true,
+  )
+      (c.requires.pages.mapped c.loop-step.step c.loop-step-test.true);
+  small = rw (
+    c.after.ensures,
+    c.loop-step.invariant.changed.stayed 3 (prefix_of (c.args.first + c.loop-step.step) 3) (omega arith) (λ e. absurd (omega arith)),
+  )
+      (c.requires.pages.small c.loop-step.step c.loop-step-test.true);
+}
 
 pub loop-step-preserved : goal.loop-step-preserved
 loop-step-preserved g c =
@@ -43,12 +39,12 @@ loop-step-preserved g c =
     let still = tree_moved (g.M.PhysicalMemory.area c.args.frames.now) (g.M.PhysicalMemory.area c.loop-step.frames)
     (g.M.PhysicalMemory.words c.loop-step.frames) c.args.root c.requires.tree.0 c.loop-step.invariant.area t in
     record {
-      area = c.protect_page.ensures.area ∙ c.loop-step.invariant.area;
+      area = c.protect_page.ensures.granted.same_area ∙ c.loop-step.invariant.area;
       changed = next_changed (g.M.PhysicalMemory.words c.args.frames.now) (g.M.PhysicalMemory.words c.loop-step.frames)
           c.args.root c.args.first c.args.pages c.loop-step.step (regrant c.args.rights)
-          c.requires.range c.loop-step.invariant.changed c.loop-step-test.true
+          c.requires.pages.range c.loop-step.invariant.changed c.loop-step-test.true
           (g.M.PhysicalMemory.words c.protect_page.new.frames) c.requires.tree.0 c.requires.tree.1
-          (rw c.after.ensures at (c.protect_page.ensures.granted c.requires.tree.0 still).pages);
+          (rw c.after.ensures at (c.protect_page.ensures.granted.granted c.requires.tree.0 still).pages);
     }
 
 pub returns-clause-tree : goal.returns-clause-tree
@@ -71,11 +67,11 @@ returns-clause-granted g c =
     let changed = c.loop-step.invariant.changed in
     record {
       granted = λ k lt.
-          let p = some_place (walk_of old c.args.root (c.args.first + k)) (c.requires.mapped k lt) in
+          let p = some_place (walk_of old c.args.root (c.args.first + k)) (c.requires.pages.mapped k lt) in
           rw p.1
-          (range_leads old new c.args.root c.args.first c.args.pages c.loop-step.step (regrant c.args.rights) c.requires.range
+          (range_leads old new c.args.root c.args.first c.args.pages c.loop-step.step (regrant c.args.rights) c.requires.pages.range
           changed (omega arith) k (omega arith) p.0 p.1);
-      elsewhere = range_rest old new c.args.root c.args.first c.args.pages c.loop-step.step (regrant c.args.rights) c.requires.range
+      elsewhere = range_rest old new c.args.root c.args.first c.args.pages c.loop-step.step (regrant c.args.rights) c.requires.pages.range
           changed (omega arith);
       bytes = regranted_bytes old new c.args.root c.args.rights (among c.args.first c.loop-step.step) c.requires.tree.0 changed c.requires.tree.1;
     }

@@ -11,61 +11,51 @@ unreachable-requires c =
     let some : 0 < free_count c.args.pool.now = omega (arith, c.requires.room) in
     some_free c.args.pool.now some t.1
 
-pub map_page-requires-clause-root : goal.map_page-requires-clause-root
-map_page-requires-clause-root c =
-    let s = fresh_size c.args.frames.now c.clear_frame.new.self c.args.pool.now c.allocate_frame.new.self c.in-Some.frame
-    c.requires.known c.in-Some.ensures.taken.0 c.in-Some.ensures.taken.1 c.clear_frame.ensures in
-    omega (arith, c.requires.root)
+pub map_page-requires-clause-standing : goal.map_page-requires-clause-standing
+map_page-requires-clause-standing c = record {
+  rooted = let s = fresh_size c.args.frames.now c.clear_frame.new.self c.args.pool.now c.allocate_frame.new.self c.in-Some.frame
+      c.requires.standing.known c.in-Some.ensures.taken.0 c.in-Some.ensures.taken.1 c.clear_frame.ensures in
+      omega (arith, c.requires.standing.rooted);
+  tree = mid_tree c.args.frames.now c.clear_frame.new.self c.args.pool.now c.allocate_frame.new.self c.args.root c.in-Some.frame
+      c.requires.standing.rooted c.requires.standing.known c.requires.standing.tree c.in-Some.ensures.taken.0 c.in-Some.ensures.lowest
+      c.in-Some.ensures.taken.1 c.clear_frame.ensures;
+  known = fresh_known c.args.frames.now c.clear_frame.new.self c.args.pool.now c.allocate_frame.new.self c.in-Some.frame
+      c.requires.standing.known c.in-Some.ensures.taken.0 c.in-Some.ensures.taken.1 c.clear_frame.ensures;
+}
 
-pub map_page-requires-clause-known : goal.map_page-requires-clause-known
-map_page-requires-clause-known c =
-    fresh_known c.args.frames.now c.clear_frame.new.self c.args.pool.now c.allocate_frame.new.self c.in-Some.frame
-    c.requires.known c.in-Some.ensures.taken.0 c.in-Some.ensures.taken.1 c.clear_frame.ensures
-
-pub map_page-requires-clause-tree : goal.map_page-requires-clause-tree
-map_page-requires-clause-tree c =
-    mid_tree c.args.frames.now c.clear_frame.new.self c.args.pool.now c.allocate_frame.new.self c.args.root c.in-Some.frame
-    c.requires.root c.requires.known c.requires.tree c.in-Some.ensures.taken.0 c.in-Some.ensures.lowest
-    c.in-Some.ensures.taken.1 c.clear_frame.ensures
-
-pub map_page-requires-clause-unmapped : goal.map_page-requires-clause-unmapped
-map_page-requires-clause-unmapped c =
-    mid_walk c.args.frames.now c.clear_frame.new.self c.args.pool.now c.allocate_frame.new.self c.args.root c.in-Some.frame
-    c.requires.root c.requires.known c.requires.tree c.in-Some.ensures.taken.0 c.in-Some.ensures.lowest
-    c.in-Some.ensures.taken.1 c.clear_frame.ensures c.args.page
-    ∙ c.requires.unmapped
-
-pub map_page-requires-clause-frame : goal.map_page-requires-clause-frame
-map_page-requires-clause-frame c =
-    let s = fresh_size c.args.frames.now c.clear_frame.new.self c.args.pool.now c.allocate_frame.new.self c.in-Some.frame
-    c.requires.known c.in-Some.ensures.taken.0 c.in-Some.ensures.taken.1 c.clear_frame.ensures in
-    let f = fresh_in c.args.frames.now c.clear_frame.new.self c.args.pool.now c.allocate_frame.new.self c.in-Some.frame
-    c.requires.known c.in-Some.ensures.taken.0 c.in-Some.ensures.taken.1 c.clear_frame.ensures in
-    omega arith
+pub map_page-requires-clause-mappable : goal.map_page-requires-clause-mappable
+map_page-requires-clause-mappable c = record {
+  unmapped = mid_walk c.args.frames.now c.clear_frame.new.self c.args.pool.now c.allocate_frame.new.self c.args.root c.in-Some.frame
+      c.requires.standing.rooted c.requires.standing.known c.requires.standing.tree c.in-Some.ensures.taken.0 c.in-Some.ensures.lowest
+      c.in-Some.ensures.taken.1 c.clear_frame.ensures c.args.page
+      ∙ c.requires.unmapped;
+  below = let s = fresh_size c.args.frames.now c.clear_frame.new.self c.args.pool.now c.allocate_frame.new.self c.in-Some.frame
+      c.requires.standing.known c.in-Some.ensures.taken.0 c.in-Some.ensures.taken.1 c.clear_frame.ensures in
+      let f = fresh_in c.args.frames.now c.clear_frame.new.self c.args.pool.now c.allocate_frame.new.self c.in-Some.frame
+      c.requires.standing.known c.in-Some.ensures.taken.0 c.in-Some.ensures.taken.1 c.clear_frame.ensures in
+      omega arith;
+  unmet = mid_unmet_now c.args.frames.now c.clear_frame.new.self c.args.pool.now c.allocate_frame.new.self c.args.root
+      c.in-Some.frame c.requires.standing.rooted c.requires.standing.known c.requires.standing.tree c.in-Some.ensures.taken.0 c.in-Some.ensures.lowest
+      c.in-Some.ensures.taken.1 c.clear_frame.ensures;
+}
 
 pub map_page-requires-clause-used : goal.map_page-requires-clause-used
 map_page-requires-clause-used c =
     fresh_used c.args.frames.now c.clear_frame.new.self c.args.pool.now c.allocate_frame.new.self c.in-Some.frame
-    c.requires.known c.in-Some.ensures.taken.0 c.in-Some.ensures.taken.1 c.clear_frame.ensures
-
-pub map_page-requires-clause-unmet : goal.map_page-requires-clause-unmet
-map_page-requires-clause-unmet c =
-    mid_unmet_now c.args.frames.now c.clear_frame.new.self c.args.pool.now c.allocate_frame.new.self c.args.root
-    c.in-Some.frame c.requires.root c.requires.known c.requires.tree c.in-Some.ensures.taken.0 c.in-Some.ensures.lowest
-    c.in-Some.ensures.taken.1 c.clear_frame.ensures
+    c.requires.standing.known c.in-Some.ensures.taken.0 c.in-Some.ensures.taken.1 c.clear_frame.ensures
 
 pub map_page-requires-clause-room : goal.map_page-requires-clause-room
 map_page-requires-clause-room c =
     let m = mid_missing c.args.frames.now c.clear_frame.new.self c.args.pool.now c.allocate_frame.new.self c.args.root
-    c.in-Some.frame c.requires.root c.requires.known c.requires.tree c.in-Some.ensures.taken.0 c.in-Some.ensures.lowest
+    c.in-Some.frame c.requires.standing.rooted c.requires.standing.known c.requires.standing.tree c.in-Some.ensures.taken.0 c.in-Some.ensures.lowest
     c.in-Some.ensures.taken.1 c.clear_frame.ensures c.args.page in
     let n = fresh_count c.args.frames.now c.clear_frame.new.self c.args.pool.now c.allocate_frame.new.self c.in-Some.frame
-    c.requires.known c.in-Some.ensures.taken.0 c.in-Some.ensures.taken.1 c.clear_frame.ensures in
+    c.requires.standing.known c.in-Some.ensures.taken.0 c.in-Some.ensures.taken.1 c.clear_frame.ensures in
     omega (arith, c.requires.room)
 
 pub returns : goal.returns
 returns c =
     new_page c.args.frames.now c.clear_frame.new.self c.args.pool.now c.allocate_frame.new.self c.args.root c.in-Some.frame
-    c.requires.root c.requires.known c.requires.tree c.in-Some.ensures.taken.0 c.in-Some.ensures.lowest
+    c.requires.standing.rooted c.requires.standing.known c.requires.standing.tree c.in-Some.ensures.taken.0 c.in-Some.ensures.lowest
     c.in-Some.ensures.taken.1 c.clear_frame.ensures
-    c.map_page.new.frames c.map_page.new.pool c.args.page c.args.rights c.requires.unmapped c.map_page.ensures.added c.map_page.ensures.standing.tree
+    c.map_page.new.frames c.map_page.new.pool c.args.page c.args.rights c.requires.unmapped c.map_page.ensures.put.added c.map_page.ensures.put.standing.tree

@@ -16,26 +16,26 @@ unreachable-requires g c =
 
 pub clear_frame-requires-clause-inside : goal.clear_frame-requires-clause-inside
 clear_frame-requires-clause-inside g c = free_inside (g.M.PhysicalMemory.area c.args.frames.now)
-    (g.P.TableFrames.free c.args.pool.now) (frame_count (g.M.PhysicalMemory.words c.args.frames.now)) c.requires.known
+    (g.P.TableFrames.free c.args.pool.now) (frame_count (g.M.PhysicalMemory.words c.args.frames.now)) c.requires.ready.known
     c.in-Some-take_frame.frame c.in-Some-take_frame.ensures.taken.0
 
 pub clear_frame-requires-clause-frame : goal.clear_frame-requires-clause-frame
 clear_frame-requires-clause-frame g c = free_below (g.M.PhysicalMemory.area c.args.frames.now)
-    (g.P.TableFrames.free c.args.pool.now) (frame_count (g.M.PhysicalMemory.words c.args.frames.now)) c.requires.known
+    (g.P.TableFrames.free c.args.pool.now) (frame_count (g.M.PhysicalMemory.words c.args.frames.now)) c.requires.ready.known
     c.in-Some-take_frame.frame c.in-Some-take_frame.ensures.taken.0
 
-pub set_word-requires-clause-inside : goal.set_word-requires-clause-inside
-set_word-requires-clause-inside g c = ap (λ a. in_area a c.args.table) c.clear_frame.ensures.area ∙ c.requires.inside
-
-pub set_word-requires-clause-frame : goal.set_word-requires-clause-frame
-set_word-requires-clause-frame g c =
-    let b : c.in-Some-take_frame.frame < frame_count (g.M.PhysicalMemory.words c.args.frames.now) =
-    (free_below (g.M.PhysicalMemory.area c.args.frames.now) (g.P.TableFrames.free c.args.pool.now)
-    (frame_count (g.M.PhysicalMemory.words c.args.frames.now)) c.requires.known) c.in-Some-take_frame.frame
-    c.in-Some-take_frame.ensures.taken.0 in
-    let e : length (g.M.PhysicalMemory.words c.clear_frame.new.self) ≡ length (g.M.PhysicalMemory.words c.args.frames.now) =
-    ap length c.clear_frame.ensures.words ∙ length_cleared (g.M.PhysicalMemory.words c.args.frames.now) c.in-Some-take_frame.frame b in
-    omega arith
+pub set_word-requires-clause-entry : goal.set_word-requires-clause-entry
+set_word-requires-clause-entry g c = record {
+  inside = ap (λ a. in_area a c.args.table) c.clear_frame.ensures.area ∙ c.requires.ready.entry.inside;
+  below = let b : c.in-Some-take_frame.frame < frame_count (g.M.PhysicalMemory.words c.args.frames.now) =
+      (free_below (g.M.PhysicalMemory.area c.args.frames.now) (g.P.TableFrames.free c.args.pool.now)
+      (frame_count (g.M.PhysicalMemory.words c.args.frames.now)) c.requires.ready.known) c.in-Some-take_frame.frame
+      c.in-Some-take_frame.ensures.taken.0 in
+      let e : length (g.M.PhysicalMemory.words c.clear_frame.new.self) ≡ length (g.M.PhysicalMemory.words c.args.frames.now) =
+      ap length c.clear_frame.ensures.words ∙ length_cleared (g.M.PhysicalMemory.words c.args.frames.now) c.in-Some-take_frame.frame b in
+      omega (arith, c.requires.ready.entry.below);
+  bounded = c.requires.ready.entry.bounded;
+}
 
 pub returns-in-Some-clause-ensured : goal.returns-in-Some-clause-ensured
 returns-in-Some-clause-ensured g c =
