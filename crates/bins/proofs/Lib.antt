@@ -1,4 +1,3 @@
-pub mod Asks
 pub mod Frame
 pub mod Stays
 pub mod Bits

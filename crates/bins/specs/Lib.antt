@@ -1,4 +1,3 @@
-pub mod Asks
 pub mod Index
 pub mod Rings
 pub mod Tries

@@ -2,7 +2,7 @@
 ghost use Rattle.std.specs.Prelude.{◌≡◌, ◌≢◌, ℕ, ◌+◌, ◌*◌, ◌^◌, ◌<◌, ◌≤◌, List, MatchOption, slice_index};
 ghost use Rattle.std.specs.Int.{bit_at};
 ghost use Rattle.dlmalloc_chunks.specs.Bins.{least_size};
-ghost use Rattle.bins.specs.Asks.{AsksNothing};
+ghost use Rattle.heap_memory.specs.Asks.{AsksNothing};
 ghost use Rattle.bins.specs.Index.{IsIn, IsNone, IsLeastFit, first_or, without_chunk};
 ghost use Rattle.bins.specs.Linked.{IsLinked, IsFreshChunk, OnlyLinksChange, low_of, levels_of};
 ghost use Rattle.bins.specs.Changes.{IsInserted, IsUnlinked};
@@ -87,7 +87,7 @@ impl Bins {
         requires large { 256 ≤ size }
         requires linked { (index : ℕ → List ℕ) × IsLinked (M.regions memory.old) (M.word memory.old) self.old index × IsIn chunk (index size) }
         ensures unlinked { IsUnlinked M.regions M.word size chunk self.old memory.old self.new memory.new }
-        ensures asks { AsksNothing M.regions M.follows memory.old memory.new }
+        ensures asks { AsksNothing M.Links memory.old memory.new }
         ensures counted { steps.new ≤ steps.old + 196 }
     {
         let bin = compute_tree_index(size) as usize;
@@ -122,7 +122,7 @@ impl Bins {
             IsLinked (M.regions memory.new) (M.word memory.new) self.new (without_chunk size chunk index) }
         ensures words { (index : ℕ → List ℕ) (size : ℕ) → 256 ≤ size → IsLinked (M.regions memory.old) (M.word memory.old) self.old index → IsIn chunk (index size) → chunk ≡ first_or 0 (index size) →
             OnlyLinksChange (M.regions memory.old) index size chunk (M.word memory.old) (M.word memory.new) }
-        ensures asks { AsksNothing M.regions M.follows memory.old memory.new }
+        ensures asks { AsksNothing M.Links memory.old memory.new }
         ensures counted { steps.new ≤ steps.old + 196 }
     {
         let parent = memory.load_counted(chunk + PARENT, steps);
@@ -147,7 +147,7 @@ impl Bins {
         requires large { 256 ≤ size }
         requires linked { (index : ℕ → List ℕ) × IsLinked (M.regions memory.old) (M.word memory.old) self.old index × IsFreshChunk (M.regions memory.old) (M.word memory.old) index size chunk }
         ensures inserted { IsInserted M.regions M.word size chunk self.old memory.old self.new memory.new }
-        ensures asks { AsksNothing M.regions M.follows memory.old memory.new }
+        ensures asks { AsksNothing M.Links memory.old memory.new }
         ensures counted { steps.new ≤ steps.old + 129 }
     {
         let bin = compute_tree_index(size) as usize;

@@ -1,7 +1,7 @@
 // Leaves of a trie.
 ghost use Rattle.std.specs.Prelude.{◌≡◌, ℕ, ◌+◌, ◌*◌, ◌^◌, ◌<◌, ◌≤◌, ◌≢◌, ◌⊎◌, Bool, List, false, true};
 ghost use Rattle.heap_memory.specs.Regions.{IsWordOf};
-ghost use Rattle.bins.specs.Asks.{AsksNothing};
+ghost use Rattle.heap_memory.specs.Asks.{AsksNothing};
 ghost use Rattle.bins.specs.Tries.{slot, both};
 ghost use Rattle.bins.specs.Stores.{IsWordPlace, HasPlaced};
 ghost use Rattle.bins.specs.Below.{IsHeld};
@@ -48,7 +48,7 @@ fn adopt<M: Links, L: Ledger>(memory: &mut M, child: u64, chunk: u64, steps: &mu
     requires { 0 < child → IsWordPlace (M.regions memory.old) (child + 48) }
     ensures named { 0 < child → M.word memory.new (child + 48) ≡ chunk }
     ensures elsewhere { (at : ℕ) → IsWordOf (M.regions memory.old) at → (0 < child → at ≢ child + 48) → M.word memory.new at ≡ M.word memory.old at }
-    ensures asks { AsksNothing M.regions M.follows memory.old memory.new }
+    ensures asks { AsksNothing M.Links memory.old memory.new }
     ensures counted { steps.new ≤ steps.old + 1 }
 {
     if child != 0 {
@@ -71,7 +71,7 @@ pub(crate) fn place_node<M: Links, L: Ledger>(
     requires apart { (side : Bool) → 0 < both child0 child1 side → (both child0 child1 side + 48 < chunk + 32) ⊎ (chunk + 64 ≤ both child0 child1 side + 48) }
     requires two { 0 < child0 → 0 < child1 → child0 ≢ child1 }
     ensures placed { HasPlaced (M.regions memory.old) (M.word memory.old) chunk (both child0 child1) parent bin (M.word memory.new) }
-    ensures asks { AsksNothing M.regions M.follows memory.old memory.new }
+    ensures asks { AsksNothing M.Links memory.old memory.new }
     ensures counted { steps.new ≤ steps.old + 6 }
 {
     set_node(memory, chunk, child0, child1, parent, bin, steps);
@@ -98,7 +98,7 @@ fn take_under<M: Links, L: Ledger>(
     ensures taken { (index : ℕ → List ℕ) (bin parent low deep : ℕ) → deep ≤ levels → IsHeld (M.regions memory.old) (M.word memory.old) index bin parent low deep at →
         IsTakenOut (M.regions memory.old) (M.word memory.old) (M.word memory.new) index bin parent low deep at result }
     ensures other { result ≢ at }
-    ensures asks { AsksNothing M.regions M.follows memory.old memory.new }
+    ensures asks { AsksNothing M.Links memory.old memory.new }
     ensures counted { steps.new + 2 ≤ steps.old + 3 * levels }
 {
     let next = first_child(memory, child, steps);
@@ -120,7 +120,7 @@ pub(crate) fn take_leaf<M: Links, L: Ledger>(
     requires held { (index : ℕ → List ℕ) × ((bin : ℕ) × ((parent : ℕ) × ((low : ℕ) × ((deep : ℕ) × ((deep ≤ levels) × IsHeld (M.regions memory.old) (M.word memory.old) index bin parent low deep at))))) }
     ensures taken { (index : ℕ → List ℕ) (bin parent low deep : ℕ) → deep ≤ levels → IsHeld (M.regions memory.old) (M.word memory.old) index bin parent low deep at →
         IsTakenOut (M.regions memory.old) (M.word memory.old) (M.word memory.new) index bin parent low deep at result }
-    ensures asks { AsksNothing M.regions M.follows memory.old memory.new }
+    ensures asks { AsksNothing M.Links memory.old memory.new }
     ensures counted { steps.new ≤ steps.old + 3 * levels }
 {
     let child = first_child(memory, at, steps);

@@ -2,7 +2,7 @@
 ghost use Rattle.std.specs.Prelude.{◌≡◌, ◌≢◌, ℕ, ◌+◌, ◌-◌, ◌*◌, ◌%◌, ◌^◌, ◌<◌, ◌≤◌, ◌⊎◌, Bool, not, List, [], ◌∷◌};
 ghost use Rattle.heap_memory.specs.Words.{IsStored};
 ghost use Rattle.dlmalloc_chunks.specs.Head.{size_of};
-ghost use Rattle.bins.specs.Asks.{AsksNothing};
+ghost use Rattle.heap_memory.specs.Asks.{AsksNothing};
 ghost use Rattle.bins.specs.Index.{IsIn, without_size};
 ghost use Rattle.bins.specs.Tries.{both, slot, width, IsTrie, IsInRange};
 ghost use Rattle.bins.specs.Below.{IsHeld, OnlyHeldChanges, HasLeft};
@@ -23,7 +23,7 @@ fn leave_ring<M: Links, L: Ledger>(memory: &mut M, chunk: u64, steps: &mut Steps
     requires back { IsWordPlace (M.regions memory.old) (M.word memory.old (chunk + 24) + 16) }
     requires other { M.word memory.old (chunk + 16) + 24 ≢ M.word memory.old (chunk + 24) + 16 }
     ensures pulled { HasPulled (M.regions memory.old) (M.word memory.old) (M.word memory.old (chunk + 16)) (M.word memory.old (chunk + 24)) 0 (M.word memory.new) }
-    ensures asks { AsksNothing M.regions M.follows memory.old memory.new }
+    ensures asks { AsksNothing M.Links memory.old memory.new }
     ensures counted { steps.new ≤ steps.old + 4 }
 {
     let prev = memory.load_counted(chunk + PREV, steps);
@@ -37,7 +37,7 @@ fn turn_heir<M: Links, L: Ledger>(memory: &mut M, heir: u64, last: u64, steps: &
     requires behind { IsWordPlace (M.regions memory.old) (last + 24) }
     requires other { heir + 16 ≢ last + 24 }
     ensures turned { HasHeirLinks (M.regions memory.old) (M.word memory.old) heir last (M.word memory.new) }
-    ensures asks { AsksNothing M.regions M.follows memory.old memory.new }
+    ensures asks { AsksNothing M.Links memory.old memory.new }
     ensures counted { steps.new ≡ steps.old + 2 }
 {
     memory.store_counted(heir + PREV, last, steps);
@@ -62,7 +62,7 @@ fn give_to_heir<M: Links, L: Ledger>(
     requires two { 0 < M.word memory.old (at + 32) → 0 < M.word memory.old (at + 40) → M.word memory.old (at + 32) ≢ M.word memory.old (at + 40) }
     ensures given { (mid : ℕ → ℕ) × (HasHeirLinks (M.regions memory.old) (M.word memory.old) heir (M.word memory.old (at + 16)) mid
         × HasPlaced (M.regions memory.old) mid heir (both (M.word memory.old (at + 32)) (M.word memory.old (at + 40))) parent bin (M.word memory.new)) }
-    ensures asks { AsksNothing M.regions M.follows memory.old memory.new }
+    ensures asks { AsksNothing M.Links memory.old memory.new }
     ensures counted { steps.new ≤ steps.old + 11 }
 {
     let last = memory.load_counted(at + PREV, steps);
@@ -108,7 +108,7 @@ fn raise_leaf<M: Links, L: Ledger>(
         (size : ℕ) → index size ≡ at ∷ [] → IsTrie (M.word memory.new) (without_size size index) bin parent low deep result }
     ensures words { (index : ℕ → List ℕ) (low deep : ℕ) → deep ≤ levels → IsHeld (M.regions memory.old) (M.word memory.old) index bin parent low deep at →
         OnlyHeldChanges (M.regions memory.old) index low (low + width deep) (M.word memory.old) (M.word memory.new) }
-    ensures asks { AsksNothing M.regions M.follows memory.old memory.new }
+    ensures asks { AsksNothing M.Links memory.old memory.new }
     ensures counted { steps.new ≤ steps.old + 3 * levels + 4 }
 {
     let other = memory.load_counted(slot_of(at, !is_upper), steps);
@@ -137,7 +137,7 @@ fn give_to_leaf<M: Links, L: Ledger>(
         (size : ℕ) → index size ≡ at ∷ [] → IsTrie (M.word memory.new) (without_size size index) bin parent low deep result }
     ensures words { (index : ℕ → List ℕ) (low deep : ℕ) → deep ≤ levels → IsHeld (M.regions memory.old) (M.word memory.old) index bin parent low deep at →
         OnlyHeldChanges (M.regions memory.old) index low (low + width deep) (M.word memory.old) (M.word memory.new) }
-    ensures asks { AsksNothing M.regions M.follows memory.old memory.new }
+    ensures asks { AsksNothing M.Links memory.old memory.new }
     ensures counted { steps.new ≤ steps.old + 3 * levels + 6 }
 {
     let child = first_child(memory, at, steps);
@@ -171,7 +171,7 @@ pub(crate) fn replace_node<M: Links, L: Ledger>(
     requires held { (index : ℕ → List ℕ) × ((low : ℕ) × ((deep : ℕ) × ((size : ℕ) × ((deep ≤ levels) × (IsHeld (M.regions memory.old) (M.word memory.old) index bin parent low deep at × IsIn at (index size)))))) }
     ensures left { (index : ℕ → List ℕ) (low deep size : ℕ) → deep ≤ levels → IsHeld (M.regions memory.old) (M.word memory.old) index bin parent low deep at → IsIn at (index size) →
         HasLeft (M.regions memory.old) (M.word memory.old) (M.word memory.new) index bin parent low deep size at result }
-    ensures asks { AsksNothing M.regions M.follows memory.old memory.new }
+    ensures asks { AsksNothing M.Links memory.old memory.new }
     ensures counted { steps.new ≤ steps.old + 3 * levels + 9 }
 {
     let heir = memory.load_counted(at + NEXT, steps);
@@ -194,7 +194,7 @@ pub(crate) fn swap_child<M: Links, L: Ledger>(
     requires was { (side : Bool) × ((M.word memory.old (parent + slot side) ≡ was) × (M.word memory.old (parent + slot (not side)) ≢ was)) }
     ensures stored { (side : Bool) → M.word memory.old (parent + slot side) ≡ was → M.word memory.old (parent + slot (not side)) ≢ was →
         IsStored (M.regions memory.old) (M.word memory.old) (parent + slot side) child (M.word memory.new) }
-    ensures asks { AsksNothing M.regions M.follows memory.old memory.new }
+    ensures asks { AsksNothing M.Links memory.old memory.new }
     ensures counted { steps.new ≡ steps.old + 2 }
 {
     let lower = memory.load_counted(parent + CHILD0, steps);
@@ -216,7 +216,7 @@ fn unlink_here<M: Links, L: Ledger>(
     requires held { (index : ℕ → List ℕ) × ((low : ℕ) × ((size : ℕ) × (IsHeld (M.regions memory.old) (M.word memory.old) index bin parent low levels at × (IsIn at (index size) × IsIn chunk (index size))))) }
     ensures left { (index : ℕ → List ℕ) (low size : ℕ) → IsHeld (M.regions memory.old) (M.word memory.old) index bin parent low levels at → IsIn at (index size) → IsIn chunk (index size) →
         HasLeft (M.regions memory.old) (M.word memory.old) (M.word memory.new) index bin parent low levels size chunk result }
-    ensures asks { AsksNothing M.regions M.follows memory.old memory.new }
+    ensures asks { AsksNothing M.Links memory.old memory.new }
     ensures counted { steps.new ≤ steps.old + 3 * levels + 12 }
 {
     if chunk != at {
@@ -247,7 +247,7 @@ fn unlink_under<M: Links, L: Ledger>(
     requires held { (index : ℕ → List ℕ) × ((parent : ℕ) × (IsHeld (M.regions memory.old) (M.word memory.old) index bin parent low levels at × IsIn chunk (index size))) }
     ensures left { (index : ℕ → List ℕ) (parent : ℕ) → IsHeld (M.regions memory.old) (M.word memory.old) index bin parent low levels at → IsIn chunk (index size) →
         HasLeft (M.regions memory.old) (M.word memory.old) (M.word memory.new) index bin parent low levels size chunk at }
-    ensures asks { AsksNothing M.regions M.follows memory.old memory.new }
+    ensures asks { AsksNothing M.Links memory.old memory.new }
     ensures counted { steps.new ≤ steps.old + 3 * levels + 12 }
 {
     let half = half_width(levels);
@@ -292,7 +292,7 @@ pub(crate) fn unlink_below<M: Links, L: Ledger>(
     requires held { (index : ℕ → List ℕ) × (IsHeld (M.regions memory.old) (M.word memory.old) index bin parent low levels at × IsIn chunk (index size)) }
     ensures left { (index : ℕ → List ℕ) → IsHeld (M.regions memory.old) (M.word memory.old) index bin parent low levels at → IsIn chunk (index size) →
         HasLeft (M.regions memory.old) (M.word memory.old) (M.word memory.new) index bin parent low levels size chunk result }
-    ensures asks { AsksNothing M.regions M.follows memory.old memory.new }
+    ensures asks { AsksNothing M.Links memory.old memory.new }
     ensures counted { steps.new ≤ steps.old + 3 * levels + 13 }
 {
     let here = chunk::size(memory, at, steps);

@@ -1,6 +1,6 @@
 // The rings of small chunks.
 ghost use Rattle.std.specs.Prelude.{◌≢◌, ℕ, ◌+◌, ◌%◌, ◌^◌, ◌<◌, ◌≤◌, List, MatchOption};
-ghost use Rattle.bins.specs.Asks.{AsksNothing};
+ghost use Rattle.heap_memory.specs.Asks.{AsksNothing};
 ghost use Rattle.bins.specs.Index.{IsIn, IsNone, IsLeastFit};
 ghost use Rattle.bins.specs.Linked.{IsLinked, IsFreshChunk};
 ghost use Rattle.bins.specs.Changes.{IsInserted, IsUnlinked};
@@ -18,7 +18,7 @@ fn push<M: Links, L: Ledger>(memory: &mut M, last: u64, tag: u64, chunk: u64, st
     requires behind { last ≢ tag → IsWordPlace (M.regions memory.old) (last + 24) }
     requires other { last ≢ tag → (last + 24 ≢ chunk + 16) × (last + 24 ≢ chunk + 24) }
     ensures pushed { HasPushed (M.regions memory.old) (M.word memory.old) last tag chunk (M.word memory.new) }
-    ensures asks { AsksNothing M.regions M.follows memory.old memory.new }
+    ensures asks { AsksNothing M.Links memory.old memory.new }
     ensures counted { steps.new ≤ steps.old + 3 }
 {
     memory.store_counted(chunk + PREV, last, steps);
@@ -40,7 +40,7 @@ pub(crate) fn pull<M: Links, L: Ledger>(
     requires back { next ≢ tag → IsWordPlace (M.regions memory.old) (next + 16) }
     requires other { prev ≢ tag → next ≢ tag → prev + 24 ≢ next + 16 }
     ensures pulled { HasPulled (M.regions memory.old) (M.word memory.old) prev next tag (M.word memory.new) }
-    ensures asks { AsksNothing M.regions M.follows memory.old memory.new }
+    ensures asks { AsksNothing M.Links memory.old memory.new }
     ensures counted { steps.new ≤ steps.old + 2 }
 {
     if prev != tag {
@@ -64,7 +64,7 @@ impl Bins {
         requires small { size < 256 }
         requires linked { (index : ℕ → List ℕ) × IsLinked (M.regions memory.old) (M.word memory.old) self.old index × IsFreshChunk (M.regions memory.old) (M.word memory.old) index size chunk }
         ensures inserted { IsInserted M.regions M.word size chunk self.old memory.old self.new memory.new }
-        ensures asks { AsksNothing M.regions M.follows memory.old memory.new }
+        ensures asks { AsksNothing M.Links memory.old memory.new }
         ensures counted { steps.new ≤ steps.old + 3 }
     {
         let bin = (size >> 3) as usize;
@@ -98,7 +98,7 @@ impl Bins {
         requires small { size < 256 }
         requires linked { (index : ℕ → List ℕ) × IsLinked (M.regions memory.old) (M.word memory.old) self.old index × IsIn chunk (index size) }
         ensures unlinked { IsUnlinked M.regions M.word size chunk self.old memory.old self.new memory.new }
-        ensures asks { AsksNothing M.regions M.follows memory.old memory.new }
+        ensures asks { AsksNothing M.Links memory.old memory.new }
         ensures counted { steps.new ≤ steps.old + 4 }
     {
         let bin = (size >> 3) as usize;

@@ -1,6 +1,6 @@
 // The tries of large chunks.
 ghost use Rattle.std.specs.Prelude.{◌≡◌, ◌≢◌, ℕ, ◌+◌, ◌-◌, ◌*◌, ◌%◌, ◌^◌, ◌<◌, ◌≤◌, ◌⊎◌, List};
-ghost use Rattle.bins.specs.Asks.{AsksNothing};
+ghost use Rattle.heap_memory.specs.Asks.{AsksNothing};
 ghost use Rattle.bins.specs.Index.{IsIn, with_chunk};
 ghost use Rattle.bins.specs.Tries.{width, slot, low_at, IsTrie, IsInRange};
 ghost use Rattle.bins.specs.Linked.{IsFreshChunk};
@@ -75,7 +75,7 @@ fn join_ring<M: Links, L: Ledger>(memory: &mut M, at: u64, chunk: u64, steps: &m
     requires behind { IsWordPlace (M.regions memory.old) (M.word memory.old (at + 16) + 24) }
     requires apart { (at + 16 ≢ chunk + 16) × (at + 16 ≢ chunk + 24) × (M.word memory.old (at + 16) + 24 ≢ chunk + 16) × (M.word memory.old (at + 16) + 24 ≢ chunk + 24) × (M.word memory.old (at + 16) + 24 ≢ at + 16) }
     ensures joined { HasJoined (M.regions memory.old) (M.word memory.old) at chunk (M.word memory.new) }
-    ensures asks { AsksNothing M.regions M.follows memory.old memory.new }
+    ensures asks { AsksNothing M.Links memory.old memory.new }
     ensures counted { steps.new ≡ steps.old + 5 }
 {
     let last = memory.load_counted(at + PREV, steps);
@@ -95,7 +95,7 @@ fn set_links<M: Links, L: Ledger>(
 )
     requires { (k : ℕ) → 1 < k → k < 8 → IsWordPlace (M.regions memory.old) (chunk + 8 * k) }
     ensures links { HasLinks (M.regions memory.old) (M.word memory.old) chunk prev next (M.word memory.new) }
-    ensures asks { AsksNothing M.regions M.follows memory.old memory.new }
+    ensures asks { AsksNothing M.Links memory.old memory.new }
     ensures counted { steps.new ≡ steps.old + 2 }
 {
     memory.store_counted(chunk + PREV, prev, steps);
@@ -114,7 +114,7 @@ pub(crate) fn set_node<M: Links, L: Ledger>(
 )
     requires { (k : ℕ) → 1 < k → k < 8 → IsWordPlace (M.regions memory.old) (chunk + 8 * k) }
     ensures node { HasNode (M.regions memory.old) (M.word memory.old) chunk child0 child1 parent bin (M.word memory.new) }
-    ensures asks { AsksNothing M.regions M.follows memory.old memory.new }
+    ensures asks { AsksNothing M.Links memory.old memory.new }
     ensures counted { steps.new ≡ steps.old + 4 }
 {
     memory.store_counted(chunk + CHILD0, child0, steps);
@@ -136,7 +136,7 @@ fn make_leaf<M: Links, L: Ledger>(
     requires own { (k : ℕ) → 1 < k → k < 8 → IsWordPlace (M.regions memory.old) (chunk + 8 * k) }
     requires apart { (place < chunk + 16) ⊎ (chunk + 64 ≤ place) }
     ensures leaf { HasLeaf (M.regions memory.old) (M.word memory.old) place parent bin chunk (M.word memory.new) }
-    ensures asks { AsksNothing M.regions M.follows memory.old memory.new }
+    ensures asks { AsksNothing M.Links memory.old memory.new }
     ensures counted { steps.new ≡ steps.old + 7 }
 {
     set_links(memory, chunk, chunk, chunk, steps);
@@ -165,7 +165,7 @@ pub(crate) fn insert_below<M: Links, L: Ledger>(
         IsFreshChunk (M.regions memory.old) (M.word memory.old) index size chunk → IsTrie (M.word memory.new) (with_chunk size chunk index) bin parent low levels at }
     ensures words { (index : ℕ → List ℕ) → (parent : ℕ) → IsHeld (M.regions memory.old) (M.word memory.old) index bin parent low levels at →
         IsFreshChunk (M.regions memory.old) (M.word memory.old) index size chunk → OnlyRangeChanges (M.regions memory.old) index low (low + width levels) size chunk (M.word memory.old) (M.word memory.new) }
-    ensures asks { AsksNothing M.regions M.follows memory.old memory.new }
+    ensures asks { AsksNothing M.Links memory.old memory.new }
     ensures counted { steps.new ≤ steps.old + 2 * levels + 7 }
 {
     let here = chunk::size(memory, at, steps);
@@ -215,7 +215,7 @@ pub(crate) fn plant<M: Links, L: Ledger>(
         IsFreshChunk (M.regions memory.old) (M.word memory.old) index size chunk → IsTrie (M.word memory.new) (with_chunk size chunk index) bin parent low levels result }
     ensures words { (index : ℕ → List ℕ) → IsHeld (M.regions memory.old) (M.word memory.old) index bin parent low levels root →
         IsFreshChunk (M.regions memory.old) (M.word memory.old) index size chunk → OnlyRangeChanges (M.regions memory.old) index low (low + width levels) size chunk (M.word memory.old) (M.word memory.new) }
-    ensures asks { AsksNothing M.regions M.follows memory.old memory.new }
+    ensures asks { AsksNothing M.Links memory.old memory.new }
     ensures counted { steps.new ≤ steps.old + 2 * levels + 7 }
 {
     if root == 0 {

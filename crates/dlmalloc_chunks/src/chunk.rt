@@ -4,9 +4,9 @@
 //! are granted. No call changes a granted region, or a word that it does not name.
 ghost use Rattle.std.specs.Prelude.{◌≡◌, ℕ, ◌+◌, ◌-◌, ◌%◌, ◌^◌, ◌<◌, ◌≤◌, ◌==◌, true, false, not, if◌then◌else◌, [], ◌∷◌};
 ghost use Rattle.heap_memory.specs.Regions.{IsWordOf};
-ghost use Rattle.heap_memory.specs.Words.{IsStored};
+ghost use Rattle.heap_memory.specs.Asks.{StoresWord};
 ghost use Rattle.dlmalloc_chunks.specs.Head.{size_of, pinuse_of, cinuse_of, free_of, head_of, with_pinuse, without_pinuse};
-ghost use Rattle.dlmalloc_chunks.specs.Chunk.{HasHead, HasFoot, AreStored};
+ghost use Rattle.dlmalloc_chunks.specs.Chunk.{HasHead, HasFoot, HasHeads, HasHeadAndFoot, StoresWords};
 
 use crate::head;
 use heap_memory::{Links, Steps};
@@ -17,7 +17,7 @@ const HEAD: u64 = 8;
 
 /// The size of the chunk.
 pub fn size<M: Links, L: Ledger>(memory: &M, chunk: u64, steps: &mut Steps<L>) -> u64
-    requires head { HasHead (M.regions memory.now) chunk }
+    requires { HasHead (M.regions memory.now) chunk }
     ensures value { result ≡ size_of (M.word memory.now (chunk + 8)) }
     ensures counted { steps.new ≡ steps.old + 1 }
 {
@@ -46,7 +46,7 @@ pub fn prev<M: Links, L: Ledger>(memory: &M, chunk: u64, steps: &mut Steps<L>) -
 
 /// Whether the chunk is in use, by bit 1 of its head.
 pub fn cinuse<M: Links, L: Ledger>(memory: &M, chunk: u64, steps: &mut Steps<L>) -> bool
-    requires head { HasHead (M.regions memory.now) chunk }
+    requires { HasHead (M.regions memory.now) chunk }
     ensures value { result ≡ cinuse_of (M.word memory.now (chunk + 8)) }
     ensures counted { steps.new ≡ steps.old + 1 }
 {
@@ -55,7 +55,7 @@ pub fn cinuse<M: Links, L: Ledger>(memory: &M, chunk: u64, steps: &mut Steps<L>)
 
 /// Whether the chunk before it is in use, by bit 0 of its head.
 pub fn pinuse<M: Links, L: Ledger>(memory: &M, chunk: u64, steps: &mut Steps<L>) -> bool
-    requires head { HasHead (M.regions memory.now) chunk }
+    requires { HasHead (M.regions memory.now) chunk }
     ensures value { result ≡ pinuse_of (M.word memory.now (chunk + 8)) }
     ensures counted { steps.new ≡ steps.old + 1 }
 {
@@ -64,7 +64,7 @@ pub fn pinuse<M: Links, L: Ledger>(memory: &M, chunk: u64, steps: &mut Steps<L>)
 
 /// Whether the chunk is not free: it is free exactly if bit 0 of its head is set and bit 1 is clear.
 pub fn inuse<M: Links, L: Ledger>(memory: &M, chunk: u64, steps: &mut Steps<L>) -> bool
-    requires head { HasHead (M.regions memory.now) chunk }
+    requires { HasHead (M.regions memory.now) chunk }
     ensures value { result ≡ not (free_of (M.word memory.now (chunk + 8))) }
     ensures counted { steps.new ≡ steps.old + 1 }
 {
@@ -74,10 +74,8 @@ pub fn inuse<M: Links, L: Ledger>(memory: &M, chunk: u64, steps: &mut Steps<L>) 
 
 /// Clears bit 0 of the head.
 pub fn clear_pinuse<M: Links, L: Ledger>(memory: &mut M, chunk: u64, steps: &mut Steps<L>)
-    requires head { HasHead (M.regions memory.old) chunk }
-    ensures stored { IsStored (M.regions memory.old) (M.word memory.old) (chunk + 8) (without_pinuse (M.word memory.old (chunk + 8))) (M.word memory.new) }
-    ensures regions { M.regions memory.new ≡ M.regions memory.old }
-    ensures follows { M.follows memory.old [] memory.new }
+    requires { HasHead (M.regions memory.old) chunk }
+    ensures stores { StoresWord M.Links (chunk + 8) (without_pinuse (M.word memory.old (chunk + 8))) memory.old memory.new }
     ensures counted { steps.new ≡ steps.old + 2 }
 {
     let head = memory.load_counted(chunk + HEAD, steps);
@@ -86,10 +84,8 @@ pub fn clear_pinuse<M: Links, L: Ledger>(memory: &mut M, chunk: u64, steps: &mut
 
 /// Sets bit 0 of the head.
 fn set_pinuse<M: Links, L: Ledger>(memory: &mut M, chunk: u64, steps: &mut Steps<L>)
-    requires head { HasHead (M.regions memory.old) chunk }
-    ensures stored { IsStored (M.regions memory.old) (M.word memory.old) (chunk + 8) (with_pinuse (M.word memory.old (chunk + 8))) (M.word memory.new) }
-    ensures regions { M.regions memory.new ≡ M.regions memory.old }
-    ensures follows { M.follows memory.old [] memory.new }
+    requires { HasHead (M.regions memory.old) chunk }
+    ensures stores { StoresWord M.Links (chunk + 8) (with_pinuse (M.word memory.old (chunk + 8))) memory.old memory.new }
     ensures counted { steps.new ≡ steps.old + 2 }
 {
     let head = memory.load_counted(chunk + HEAD, steps);
@@ -99,15 +95,11 @@ fn set_pinuse<M: Links, L: Ledger>(memory: &mut M, chunk: u64, steps: &mut Steps
 /// Makes a chunk of this size that is in use, as the chunk after it then says; bit 0 of its head stays. (With size 0
 /// the chunk itself is the one after it.)
 pub fn set_inuse<M: Links, L: Ledger>(memory: &mut M, chunk: u64, size: u64, steps: &mut Steps<L>)
-    requires size { size % 8 ≡ 0 }
-    requires head { HasHead (M.regions memory.old) chunk }
-    requires next { HasHead (M.regions memory.old) (chunk + size) }
-    ensures stored { AreStored (M.regions memory.old) (M.word memory.old)
+    requires { HasHeads (M.regions memory.old) chunk size }
+    ensures stores { StoresWords M.Links
         ((chunk + 8, head_of size (pinuse_of (M.word memory.old (chunk + 8))) true)
         ∷ (chunk + size + 8, with_pinuse (if size == 0 then head_of size (pinuse_of (M.word memory.old (chunk + 8))) true else M.word memory.old (chunk + size + 8)))
-        ∷ []) (M.word memory.new) }
-    ensures regions { M.regions memory.new ≡ M.regions memory.old }
-    ensures follows { M.follows memory.old [] memory.new }
+        ∷ []) memory.old memory.new }
     ensures counted { steps.new ≡ steps.old + 4 }
 {
     let pinuse = pinuse(memory, chunk, steps);
@@ -123,15 +115,11 @@ pub fn set_inuse_and_pinuse<M: Links, L: Ledger>(
     size: u64,
     steps: &mut Steps<L>,
 )
-    requires size { size % 8 ≡ 0 }
-    requires head { HasHead (M.regions memory.old) chunk }
-    requires next { HasHead (M.regions memory.old) (chunk + size) }
-    ensures stored { AreStored (M.regions memory.old) (M.word memory.old)
+    requires { HasHeads (M.regions memory.old) chunk size }
+    ensures stores { StoresWords M.Links
         ((chunk + 8, head_of size true true)
         ∷ (chunk + size + 8, with_pinuse (if size == 0 then head_of size true true else M.word memory.old (chunk + size + 8)))
-        ∷ []) (M.word memory.new) }
-    ensures regions { M.regions memory.new ≡ M.regions memory.old }
-    ensures follows { M.follows memory.old [] memory.new }
+        ∷ []) memory.old memory.new }
     ensures counted { steps.new ≡ steps.old + 3 }
 {
     set_size_and_pinuse_of_inuse_chunk(memory, chunk, size, steps);
@@ -147,9 +135,7 @@ pub fn set_size_and_pinuse_of_inuse_chunk<M: Links, L: Ledger>(
 )
     requires size { size % 8 ≡ 0 }
     requires head { HasHead (M.regions memory.old) chunk }
-    ensures stored { IsStored (M.regions memory.old) (M.word memory.old) (chunk + 8) (head_of size true true) (M.word memory.new) }
-    ensures regions { M.regions memory.new ≡ M.regions memory.old }
-    ensures follows { M.follows memory.old [] memory.new }
+    ensures stores { StoresWord M.Links (chunk + 8) (head_of size true true) memory.old memory.new }
     ensures counted { steps.new ≡ steps.old + 1 }
 {
     memory.store_counted(chunk + HEAD, head::used_head(size, true), steps);
@@ -157,10 +143,8 @@ pub fn set_size_and_pinuse_of_inuse_chunk<M: Links, L: Ledger>(
 
 /// Puts the size of a free chunk into the prev_foot of the chunk after it.
 pub fn set_foot<M: Links, L: Ledger>(memory: &mut M, chunk: u64, size: u64, steps: &mut Steps<L>)
-    requires foot { HasFoot (M.regions memory.old) (chunk + size) }
-    ensures stored { IsStored (M.regions memory.old) (M.word memory.old) (chunk + size) size (M.word memory.new) }
-    ensures regions { M.regions memory.new ≡ M.regions memory.old }
-    ensures follows { M.follows memory.old [] memory.new }
+    requires { HasFoot (M.regions memory.old) (chunk + size) }
+    ensures stores { StoresWord M.Links (chunk + size) size memory.old memory.new }
     ensures counted { steps.new ≡ steps.old + 1 }
 {
     memory.store_counted(chunk + size, size, steps);
@@ -173,13 +157,9 @@ pub fn set_size_and_pinuse_of_free_chunk<M: Links, L: Ledger>(
     size: u64,
     steps: &mut Steps<L>,
 )
-    requires size { size % 8 ≡ 0 }
-    requires head { HasHead (M.regions memory.old) chunk }
-    requires foot { HasFoot (M.regions memory.old) (chunk + size) }
-    ensures stored { AreStored (M.regions memory.old) (M.word memory.old)
-        ((chunk + 8, head_of size true false) ∷ (chunk + size, size) ∷ []) (M.word memory.new) }
-    ensures regions { M.regions memory.new ≡ M.regions memory.old }
-    ensures follows { M.follows memory.old [] memory.new }
+    requires { HasHeadAndFoot (M.regions memory.old) chunk size }
+    ensures stores { StoresWords M.Links
+        ((chunk + 8, head_of size true false) ∷ (chunk + size, size) ∷ []) memory.old memory.new }
     ensures counted { steps.new ≡ steps.old + 2 }
 {
     memory.store_counted(chunk + HEAD, head::free_head(size), steps);
@@ -194,14 +174,10 @@ pub fn set_free_with_pinuse<M: Links, L: Ledger>(
     next: u64,
     steps: &mut Steps<L>,
 )
-    requires size { size % 8 ≡ 0 }
-    requires head { HasHead (M.regions memory.old) chunk }
-    requires foot { HasFoot (M.regions memory.old) (chunk + size) }
+    requires own { HasHeadAndFoot (M.regions memory.old) chunk size }
     requires next { HasHead (M.regions memory.old) next }
-    ensures stored { AreStored (M.regions memory.old) (M.word memory.old)
-        ((next + 8, without_pinuse (M.word memory.old (next + 8))) ∷ (chunk + 8, head_of size true false) ∷ (chunk + size, size) ∷ []) (M.word memory.new) }
-    ensures regions { M.regions memory.new ≡ M.regions memory.old }
-    ensures follows { M.follows memory.old [] memory.new }
+    ensures stores { StoresWords M.Links
+        ((next + 8, without_pinuse (M.word memory.old (next + 8))) ∷ (chunk + 8, head_of size true false) ∷ (chunk + size, size) ∷ []) memory.old memory.new }
     ensures counted { steps.new ≡ steps.old + 4 }
 {
     clear_pinuse(memory, next, steps);

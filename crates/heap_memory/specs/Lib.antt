@@ -4,6 +4,8 @@ pub mod RegionLaws
 pub mod Runs
 pub mod RunLaws
 pub mod Events
+pub mod Asks
+pub mod AskLaws
 pub mod Allocator
 pub mod FlatScript
 pub mod FlatWords

@@ -39,13 +39,13 @@ pub place_node-requires-clause-own : goal.place_node-requires-clause-own
 place_node-requires-clause-own g c =
     let r = c.requires.held in
     let raises = raises g (goal.at.place_node-requires-clause-own g c).After-pick-child1 r.1.1.0 r.1.1.1.0 in
-    rw c.take_leaf-leaf.ensures.asks.regions_same (l_own c.requires.some r.1.1.1.1 raises)
+    rw c.take_leaf-leaf.ensures.asks.regions (l_own c.requires.some r.1.1.1.1 raises)
 
 pub place_node-requires-clause-places : goal.place_node-requires-clause-places
 place_node-requires-clause-places g c =
     let r = c.requires.held in
     let raises = raises g (goal.at.place_node-requires-clause-places g c).After-pick-child1 r.1.1.0 r.1.1.1.0 in
-    rw c.take_leaf-leaf.ensures.asks.regions_same (l_place c.requires.some r.1.1.1.1 raises)
+    rw c.take_leaf-leaf.ensures.asks.regions (l_place c.requires.some r.1.1.1.1 raises)
 
 pub place_node-requires-clause-apart : goal.place_node-requires-clause-apart
 place_node-requires-clause-apart g c =
@@ -61,10 +61,10 @@ place_node-requires-clause-two g c =
 
 pub returns-clause-trie : goal.returns-clause-trie
 returns-clause-trie g c = λ index low deep less held.
-    let placed = rw c.take_leaf-leaf.ensures.asks.regions_same at c.place_node.ensures.placed in
+    let placed = rw c.take_leaf-leaf.ensures.asks.regions at c.place_node.ensures.placed in
     l_trie c.requires.some held (raises g (goal.at.returns-clause-trie g c).After-pick-child1 deep less) placed
 
 pub returns-clause-words : goal.returns-clause-words
 returns-clause-words g c = λ index low deep less held.
-    let placed = rw c.take_leaf-leaf.ensures.asks.regions_same at c.place_node.ensures.placed in
+    let placed = rw c.take_leaf-leaf.ensures.asks.regions at c.place_node.ensures.placed in
     l_words c.requires.some held (raises g (goal.at.returns-clause-words g c).After-pick-child1 deep less) placed

@@ -3,7 +3,7 @@ use Rattle.bins.proofs.Taking.{t_head, t_here}
 use Rattle.bins.proofs.leave.unlink_below.Goals as goal
 
 pub size-here-requires : goal.size-here-requires
-size-here-requires g c = let r = c.requires.held in record { head = t_head c.requires.some r.1.0 }
+size-here-requires g c = let r = c.requires.held in t_head c.requires.some r.1.0
 
 pub unlink_here-requires-clause-held : goal.unlink_here-requires-clause-held
 unlink_here-requires-clause-held g c =

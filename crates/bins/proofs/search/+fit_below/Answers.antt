@@ -24,7 +24,7 @@ pub size-requires : goal.size-requires
 size-requires g t c =
     let read = c.requires.readable.1 in
     let real : 0 < c.args.at = omega arith in
-    record { head = s_head real read }
+    s_head real read
 
 pub returns-then-own-size-clause-fit : goal.returns-then-own-size-clause-fit
 returns-then-own-size-clause-fit g t c = λ index read other beside_low beside_read apart.

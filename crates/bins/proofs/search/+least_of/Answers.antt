@@ -15,7 +15,7 @@ pub size-requires : goal.size-requires
 size-requires g t c =
     let read = c.requires.readable.1.1 in
     let real : 0 < c.args.at = omega arith in
-    record { head = s_head real read }
+    s_head real read
 
 pub first_child-child-requires-clause-left : goal.first_child-child-requires-clause-left
 first_child-child-requires-clause-left g t c =

@@ -21,7 +21,7 @@ step g t c = record {
 }
 
 pub size-here-requires : goal.size-here-requires
-size-here-requires g t c = record { head = t_head c.requires.some c.requires.held.1.1.0 }
+size-here-requires g t c = t_head c.requires.some c.requires.held.1.1.0
 
 pub join_ring-requires-clause-here : goal.join_ring-requires-clause-here
 join_ring-requires-clause-here g t c = let r = c.requires.held in

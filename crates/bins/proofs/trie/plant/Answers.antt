@@ -5,14 +5,14 @@ pub set_links-requires : goal.set_links-requires
 set_links-requires g c = let r = c.requires.held in r_own r.1.0 r.1.1 c.requires.large
 
 pub set_node-requires : goal.set_node-requires
-set_node-requires g c = let r = c.requires.held in rw c.set_links.ensures.asks.regions_same (r_own r.1.0 r.1.1 c.requires.large)
+set_node-requires g c = let r = c.requires.held in rw c.set_links.ensures.asks.regions (r_own r.1.0 r.1.1 c.requires.large)
 
 pub returns-then-root-eq0-clause-trie : goal.returns-then-root-eq0-clause-trie
-returns-then-root-eq0-clause-trie g c = λ index held fresh. let node = rw c.set_links.ensures.asks.regions_same at c.set_node.ensures.node in
+returns-then-root-eq0-clause-trie g c = λ index held fresh. let node = rw c.set_links.ensures.asks.regions at c.set_node.ensures.node in
     r_trie held fresh c.requires.large c.if-root-eq0.true c.requires.deep c.requires.range.above c.requires.range.below c.set_links.ensures.links node
 
 pub returns-then-root-eq0-clause-words : goal.returns-then-root-eq0-clause-words
-returns-then-root-eq0-clause-words g c = λ index held fresh. let node = rw c.set_links.ensures.asks.regions_same at c.set_node.ensures.node in
+returns-then-root-eq0-clause-words g c = λ index held fresh. let node = rw c.set_links.ensures.asks.regions at c.set_node.ensures.node in
     r_words held fresh c.requires.large c.if-root-eq0.true c.requires.deep c.requires.range.above c.requires.range.below c.set_links.ensures.links node
 
 pub insert_below-requires-clause-held : goal.insert_below-requires-clause-held

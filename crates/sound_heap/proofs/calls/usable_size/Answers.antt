@@ -10,7 +10,7 @@ use Rattle.sound_heap.proofs.calls.usable_size.Goals as goal
 pub size-requires : goal.size-requires
 size-requires g c =
     let block = c.requires.block in
-    rw c.allocator.ensures (record { head = block_head g.A.Links.regions g.A.Links.word c.args.heap.now c.requires.sound c.args.address block.0 block.1 })
+    rw c.allocator.ensures (block_head g.A.Links.regions g.A.Links.word c.args.heap.now c.requires.sound c.args.address block.0 block.1)
 
 pub overflow_sub-result : goal.overflow_sub-result
 overflow_sub-result g c =

@@ -53,7 +53,7 @@ returns-clause-inserted g c = record {
       let trie = done.trie (top_index linked top) held own in
       let words = done.words (top_index linked top) held own in
       let linked = t_inserted linked top fresh (g.M.Links.word c.plant-planted.new.memory) trie words c.set_root.ensures in
-      rw done.asks.regions_same linked;
+      rw done.asks.regions linked;
   words = λ index linked fresh.
       let top = top g (goal.at.returns-clause-inserted g c).After-bin_levels-levels in
       let done = c.plant-planted.ensures in

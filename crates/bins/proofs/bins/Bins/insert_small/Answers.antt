@@ -13,7 +13,7 @@ push-requires-clause-other g c = let r = c.requires.linked in
 pub returns-clause-inserted : goal.returns-clause-inserted
 returns-clause-inserted g c = record {
   linked = λ index linked fresh.
-      rw c.push.ensures.asks.regions_same (small_inserted linked fresh c.requires.small refl refl c.push.ensures.pushed c.set_newest.ensures);
+      rw c.push.ensures.asks.regions (small_inserted linked fresh c.requires.small refl refl c.push.ensures.pushed c.set_newest.ensures);
   words = λ index linked fresh.
       small_words linked fresh c.requires.small refl refl c.push.ensures.pushed c.set_newest.ensures;
 }

@@ -62,7 +62,7 @@ swap_child-requires-clause-places g c =
     let bin = c.load_counted-bin in
     let left = c.replace_node-left in
     let replaced = replaced g (goal.at.swap_child-requires-clause-places g c).After-replace_node-left in
-    rw left.ensures.asks.regions_same (n_places r.1.0 r.1.1.0 r.1.1.1.0 r.1.1.1.1.0 r.1.1.1.1.1 parent.ensures.value bin.ensures.value
+    rw left.ensures.asks.regions (n_places r.1.0 r.1.1.0 r.1.1.1.0 r.1.1.1.1.0 r.1.1.1.1.1 parent.ensures.value bin.ensures.value
     replaced c.if-parent-lt-LEAST_ADDRESS.false)
 
 pub swap_child-requires-clause-was : goal.swap_child-requires-clause-was
@@ -79,7 +79,7 @@ returns-then-parent-lt-LEAST_ADDRESS-clause-linked g c = λ index size large lin
     let bin = c.load_counted-bin in
     let left = c.replace_node-left in
     let replaced = replaced g (goal.at.returns-then-parent-lt-LEAST_ADDRESS-clause-linked g c).After-replace_node-left in
-    rw left.ensures.asks.regions_same (n_root size large linked is_in oldest parent.ensures.value bin.ensures.value replaced
+    rw left.ensures.asks.regions (n_root size large linked is_in oldest parent.ensures.value bin.ensures.value replaced
     c.if-parent-lt-LEAST_ADDRESS.true c.swap_root.ensures)
 
 pub returns-then-parent-lt-LEAST_ADDRESS-clause-words : goal.returns-then-parent-lt-LEAST_ADDRESS-clause-words
@@ -95,8 +95,8 @@ returns-else-parent-lt-LEAST_ADDRESS-clause-linked g c = λ index size large lin
     let bin = c.load_counted-bin in
     let left = c.replace_node-left in
     let replaced = replaced g (goal.at.returns-else-parent-lt-LEAST_ADDRESS-clause-linked g c).After-replace_node-left in
-    let stored = rw left.ensures.asks.regions_same at c.swap_child.ensures.stored in
-    rw (c.swap_child.ensures.asks.regions_same, left.ensures.asks.regions_same) (n_below size large linked is_in oldest parent.ensures.value
+    let stored = rw left.ensures.asks.regions at c.swap_child.ensures.stored in
+    rw (c.swap_child.ensures.asks.regions, left.ensures.asks.regions) (n_below size large linked is_in oldest parent.ensures.value
     bin.ensures.value replaced c.if-parent-lt-LEAST_ADDRESS.false (g.M.Links.word c.swap_child.new.memory) stored)
 
 pub returns-else-parent-lt-LEAST_ADDRESS-clause-words : goal.returns-else-parent-lt-LEAST_ADDRESS-clause-words
@@ -105,6 +105,6 @@ returns-else-parent-lt-LEAST_ADDRESS-clause-words g c = λ index size large link
     let bin = c.load_counted-bin in
     let left = c.replace_node-left in
     let replaced = replaced g (goal.at.returns-else-parent-lt-LEAST_ADDRESS-clause-words g c).After-replace_node-left in
-    let stored = rw left.ensures.asks.regions_same at c.swap_child.ensures.stored in
+    let stored = rw left.ensures.asks.regions at c.swap_child.ensures.stored in
     n_below_words size large linked is_in oldest parent.ensures.value bin.ensures.value replaced
     c.if-parent-lt-LEAST_ADDRESS.false (g.M.Links.word c.swap_child.new.memory) stored

@@ -31,7 +31,7 @@ pull-requires-clause-other g c = let r = c.requires.linked in
 pub returns-clause-unlinked : goal.returns-clause-unlinked
 returns-clause-unlinked g c = record {
   linked = λ index linked is.
-      rw c.pull.ensures.asks.regions_same (small_unlinked c.args.size c.args.chunk linked is c.requires.small
+      rw c.pull.ensures.asks.regions (small_unlinked c.args.size c.args.chunk linked is c.requires.small
       c.load_counted-prev.ensures.value c.load_counted-next.ensures.value refl c.pull.ensures.pulled c.set_less.ensures);
   words = λ index linked is.
       pulled_words c.args.size c.args.chunk linked is c.requires.small

@@ -6,10 +6,8 @@ use Rattle.dlmalloc.proofs.heap.Dlmalloc.align_block.Goals as goal
 use Rattle.dlmalloc.proofs.heap.Dlmalloc.align_block.Goals.{After-aligned_place-place}
 
 pub size-size-requires : goal.size-size-requires
-size-size-requires g c = record {
-  head = block_head g.A.Links.regions g.A.Links.word c.args.self.now c.requires.intact.sound
-      c.args.ptr (c.args.n + c.args.align + 24) c.requires.block;
-}
+size-size-requires g c = block_head g.A.Links.regions g.A.Links.word c.args.self.now c.requires.intact.sound
+    c.args.ptr (c.args.n + c.args.align + 24) c.requires.block
 
 pub aligned_place-place-requires-clause-small : goal.aligned_place-place-requires-clause-small
 aligned_place-place-requires-clause-small g c = chunk_small c.requires.intact.sound c.args.n c.args.align c.requires.block c.requires.bytes.least

@@ -31,7 +31,7 @@ long g c =
 pub size-size-requires : goal.size-size-requires
 size-size-requires g c =
     let block = block g (goal.at.size-size-requires g c).In-Some in
-    record { head = block_head g.A.Links.regions g.A.Links.word c.args.self.now c.requires.intact.sound c.in-Some.address block.0 block.1 }
+    block_head g.A.Links.regions g.A.Links.word c.args.self.now c.requires.intact.sound c.in-Some.address block.0 block.1
 
 pub overflow_sub-size : goal.overflow_sub-size
 overflow_sub-size g c = long g (goal.at.overflow_sub-size g c).After-size-size

@@ -34,7 +34,7 @@ set_size_and_pinuse_of_free_chunk-requires g c =
     let m = at_whole c.requires.sound c.args.n c.requires.cut.chunk in
     let w = size_whole c.requires.sound c.args.n c.requires.cut.chunk in
     let n_whole = c.requires.cut.bytes.whole in let fits = c.requires.cut.fits in
-    let same = sym c.set_size_and_pinuse_of_inuse_chunk.ensures.regions in
+    let same = sym c.set_size_and_pinuse_of_inuse_chunk.ensures.stores.regions in
     record {
       size = omega arith;
       head = subst (λ rs. HasHead rs (c.args.at + c.args.n)) same
@@ -45,7 +45,7 @@ set_size_and_pinuse_of_free_chunk-requires g c =
 
 pub returns-then-at-self : goal.returns-then-at-self
 returns-then-at-self g c =
-    let less = c.if-rest-lt-LEAST_CHUNK.true in let e = c.set_inuse_and_pinuse.ensures in
+    let less = c.if-rest-lt-LEAST_CHUNK.true in let e = c.set_inuse_and_pinuse.ensures.stores in
     let t = whole_victim c.requires.sound c.args.n c.requires.cut.chunk c.set_inuse_and_pinuse.new.memory e.regions (omega arith) e.stored c.if-at-self.true in
     record {
       taken = record { state = t.take.state; more = t.take.more };
@@ -61,7 +61,7 @@ returns-then-at-self g c =
 
 pub returns-else-at-self : goal.returns-else-at-self
 returns-else-at-self g c =
-    let less = c.if-rest-lt-LEAST_CHUNK.true in let e = c.set_inuse_and_pinuse.ensures in
+    let less = c.if-rest-lt-LEAST_CHUNK.true in let e = c.set_inuse_and_pinuse.ensures.stores in
     let t = whole_other c.requires.sound c.args.n c.requires.cut.chunk c.set_inuse_and_pinuse.new.memory e.regions (omega arith) e.stored c.if-at-self.false in
     record {
       taken = record { state = t.take.state; more = t.take.more };
@@ -79,8 +79,8 @@ pub returns-then-at-self-2 : goal.returns-then-at-self-2
 returns-then-at-self-2 g c =
     let middle = c.set_size_and_pinuse_of_inuse_chunk.new.memory in
     let system = c.set_size_and_pinuse_of_free_chunk.new.memory in
-    let first = c.set_size_and_pinuse_of_inuse_chunk.ensures in
-    let second = c.set_size_and_pinuse_of_free_chunk.ensures in let more = c.if-rest-lt-LEAST_CHUNK.false in
+    let first = c.set_size_and_pinuse_of_inuse_chunk.ensures.stores in
+    let second = c.set_size_and_pinuse_of_free_chunk.ensures.stores in let more = c.if-rest-lt-LEAST_CHUNK.false in
     let fits = c.requires.cut.fits in let same = second.regions ∙ first.regions in
     let stored = stores c.requires.sound c.args.n c.requires.cut.chunk middle system first.regions fits first.stored second.stored in
     let t = split_victim c.requires.sound c.args.n c.requires.cut.chunk system same c.requires.cut.bytes.whole c.requires.cut.bytes.least (omega arith) stored
@@ -104,8 +104,8 @@ pub returns-else-n-lt-LEAST_LARGE : goal.returns-else-n-lt-LEAST_LARGE
 returns-else-n-lt-LEAST_LARGE g c =
     let middle = c.set_size_and_pinuse_of_inuse_chunk.new.memory in
     let system = c.set_size_and_pinuse_of_free_chunk.new.memory in
-    let first = c.set_size_and_pinuse_of_inuse_chunk.ensures in
-    let second = c.set_size_and_pinuse_of_free_chunk.ensures in let more = c.if-rest-lt-LEAST_CHUNK.false in
+    let first = c.set_size_and_pinuse_of_inuse_chunk.ensures.stores in
+    let second = c.set_size_and_pinuse_of_free_chunk.ensures.stores in let more = c.if-rest-lt-LEAST_CHUNK.false in
     let fits = c.requires.cut.fits in let same = second.regions ∙ first.regions in
     let stored = stores c.requires.sound c.args.n c.requires.cut.chunk middle system first.regions fits first.stored second.stored in
     let t = split_other c.requires.sound c.args.n c.requires.cut.chunk system same c.requires.cut.bytes.whole c.requires.cut.bytes.least (omega arith) stored

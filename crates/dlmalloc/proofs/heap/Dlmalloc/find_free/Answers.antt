@@ -9,7 +9,7 @@ least_fit-requires g c = let b = c.requires.intact.linked in (b.index, b.linked)
 pub size-requires : goal.size-requires
 size-requires g c =
     let b = c.requires.intact.linked in let fit = c.in-Some.ensures.fit b.index b.linked in
-    record { head = free_has_head c.requires.intact.sound (fit_free c.requires.intact.sound b c.args.n fit) }
+    free_has_head c.requires.intact.sound (fit_free c.requires.intact.sound b c.args.n fit)
 
 pub returns-in-Some : goal.returns-in-Some
 returns-in-Some g c =

@@ -10,22 +10,23 @@ can g c = record { there = c.requires.chunk; touch = c.requires.next; whole = c.
 pub overflow_add-self : goal.overflow_add-self
 overflow_add-self g c = let s = (top_rest_head c.requires.sound (can g (goal.at.overflow_add-self g c).Start)).small in grind arith
 
-pub set_inuse-requires-clause-head : goal.set_inuse-requires-clause-head
-set_inuse-requires-clause-head g c = top_first_head c.requires.sound (can g (goal.at.set_inuse-requires-clause-head g c).Start)
-
-pub set_inuse-requires-clause-next : goal.set_inuse-requires-clause-next
-set_inuse-requires-clause-next g c = top_rest_head c.requires.sound (can g (goal.at.set_inuse-requires-clause-next g c).Start)
+pub set_inuse-requires : goal.set_inuse-requires
+set_inuse-requires g c = let can = can g (goal.at.set_inuse-requires g c).Start in record {
+  size = omega (arith, c.requires.whole);
+  head = top_first_head c.requires.sound can;
+  next = top_rest_head c.requires.sound can;
+}
 
 pub overflow_add-self-2 : goal.overflow_add-self-2
 overflow_add-self-2 g c = let s = (top_rest_head c.requires.sound (can g (goal.at.overflow_add-self-2 g c).Start)).small in grind arith
 
 pub store_counted-requires : goal.store_counted-requires
-store_counted-requires g c = subst (λ rs. IsWordOf rs (c.args.at + c.args.n + 8)) (sym c.set_inuse.ensures.regions)
+store_counted-requires g c = subst (λ rs. IsWordOf rs (c.args.at + c.args.n + 8)) (sym c.set_inuse.ensures.stores.regions)
     (top_rest_head c.requires.sound (can g (goal.at.store_counted-requires g c).Start)).granted
 
 pub returns : goal.returns
 returns g c =
-    let first = c.set_inuse.ensures in let second = c.store_counted.ensures in let less = c.requires.more in
+    let first = c.set_inuse.ensures.stores in let second = c.store_counted.ensures in let less = c.requires.more in
     let room = c.requires.room in let sound = c.requires.sound in
     let can = can g (goal.at.returns g c).Start in
     let rest = c.args.self.now.top_size - (c.args.n - c.args.size) in
@@ -45,5 +46,5 @@ returns g c =
         free = into_top_free sound can first.regions second.regions rest_is first.stored second.stored;
         bins = refl;
       };
-      counted = (let told = first.counted in let stored = second.counted in omega arith);
+      counted = (let told = c.set_inuse.ensures.counted in let stored = second.counted in omega arith);
     }

@@ -2,7 +2,7 @@ use Rattle.dlmalloc.proofs.Frees.Counted.{around_head, top_told, victim_told, si
 use Rattle.dlmalloc.proofs.heap.Dlmalloc.is_counted.Goals as goal
 
 pub size-requires : goal.size-requires
-size-requires g c = record { head = around_head c.requires.sound c.requires.free.1 }
+size-requires g c = around_head c.requires.sound c.requires.free.1
 
 pub returns-then-chunk-self-clause-told : goal.returns-then-chunk-self-clause-told
 returns-then-chunk-self-clause-told g c = λ at around. top_told c.requires.sound around c.if-chunk-self.true

@@ -38,7 +38,7 @@ set_size_and_pinuse_of_free_chunk-requires g c =
     let can = c.requires.take in let sound = c.requires.sound in
     let m = free_at_whole sound can in let w = free_sizes_whole sound can in
     let whole = c.requires.take.whole in let room = c.requires.take.room in
-    let same = sym c.set_inuse-else-rest-lt-LEAST_CHUNK.ensures.regions in
+    let same = sym c.set_inuse-else-rest-lt-LEAST_CHUNK.ensures.stores.regions in
     let rest = c.args.at + c.args.n in let end = rest + (c.args.size + c.args.free - c.args.n) in
     record {
       size = omega arith;
@@ -53,7 +53,7 @@ overflow_add-self g c =
 
 pub returns-then-was_victim : goal.returns-then-was_victim
 returns-then-was_victim g c =
-    let less = c.if-rest-lt-LEAST_CHUNK.true in let room = c.requires.take.room in let e = c.set_inuse.ensures in
+    let less = c.if-rest-lt-LEAST_CHUNK.true in let room = c.requires.take.room in let e = c.set_inuse.ensures.stores in
     let can = c.requires.take in
     let t = whole_victim c.requires.sound can e.regions g.A.Links.follows e.follows (omega arith) e.stored c.if-was_victim.true in
     record {
@@ -67,7 +67,7 @@ returns-then-was_victim g c =
 
 pub returns-else-was_victim : goal.returns-else-was_victim
 returns-else-was_victim g c =
-    let less = c.if-rest-lt-LEAST_CHUNK.true in let room = c.requires.take.room in let e = c.set_inuse.ensures in
+    let less = c.if-rest-lt-LEAST_CHUNK.true in let room = c.requires.take.room in let e = c.set_inuse.ensures.stores in
     let can = c.requires.take in
     let t = whole_binned c.requires.sound can e.regions g.A.Links.follows e.follows (omega arith) e.stored c.if-was_victim.false in
     record {
@@ -82,7 +82,7 @@ returns-else-was_victim g c =
 pub returns-then-was_victim-2 : goal.returns-then-was_victim-2
 returns-then-was_victim-2 g c =
     let more = c.if-rest-lt-LEAST_CHUNK.false in let room = c.requires.take.room in
-    let first = c.set_inuse-else-rest-lt-LEAST_CHUNK.ensures in let second = c.set_size_and_pinuse_of_free_chunk.ensures in
+    let first = c.set_inuse-else-rest-lt-LEAST_CHUNK.ensures.stores in let second = c.set_size_and_pinuse_of_free_chunk.ensures.stores in
     let can = c.requires.take in
     let stored = free_stores c.requires.sound can first.regions first.stored second.stored in
     let followed = g.A.Links.follows_on _ _ _ [] [] [] first.follows second.follows refl in
@@ -99,7 +99,7 @@ returns-then-was_victim-2 g c =
 pub returns-else-was_victim-2 : goal.returns-else-was_victim-2
 returns-else-was_victim-2 g c =
     let more = c.if-rest-lt-LEAST_CHUNK.false in let room = c.requires.take.room in
-    let first = c.set_inuse-else-rest-lt-LEAST_CHUNK.ensures in let second = c.set_size_and_pinuse_of_free_chunk.ensures in
+    let first = c.set_inuse-else-rest-lt-LEAST_CHUNK.ensures.stores in let second = c.set_size_and_pinuse_of_free_chunk.ensures.stores in
     let can = c.requires.take in
     let stored = free_stores c.requires.sound can first.regions first.stored second.stored in
     let followed = g.A.Links.follows_on _ _ _ [] [] [] first.follows second.follows refl in

@@ -10,7 +10,7 @@ use Rattle.dlmalloc.proofs.heap.Dlmalloc.resize_chunk.Goals as goal
 use Rattle.dlmalloc.proofs.heap.Dlmalloc.resize_chunk.Goals.{After-size-free}
 
 pub size-size-requires : goal.size-size-requires
-size-size-requires g c = record { head = head_there c.requires.intact.sound c.requires.chunk.1 }
+size-size-requires g c = head_there c.requires.intact.sound c.requires.chunk.1
 
 pub free_tail-requires-clause-split : goal.free_tail-requires-clause-split
 free_tail-requires-clause-split g c = record {
@@ -63,7 +63,7 @@ returns-then-next-self-clause-resized g c =
 pub inuse-requires : goal.inuse-requires
 inuse-requires g c =
     let there = chunk_told c.requires.intact.sound c.requires.chunk.1 c.size-size.ensures.value in
-    record { head = behind_there c.requires.intact.sound there }
+    behind_there c.requires.intact.sound there
 
 pub returns-then-inuse-clause-none : goal.returns-then-inuse-clause-none
 returns-then-inuse-clause-none g c =
@@ -79,7 +79,7 @@ free_chunk g c = free_behind c.requires.intact.sound (chunk_told c.requires.inta
 pub size-free-requires : goal.size-free-requires
 size-free-requires g c =
     let there = chunk_told c.requires.intact.sound c.requires.chunk.1 c.size-size.ensures.value in
-    record { head = behind_there c.requires.intact.sound there }
+    behind_there c.requires.intact.sound there
 
 pub returns-then-free-more-clause-none : goal.returns-then-free-more-clause-none
 returns-then-free-more-clause-none g c =

@@ -2,11 +2,12 @@ use Rattle.dlmalloc.proofs.Names.{◌+◌, [], sym, subst, arith, refl, HasHead}
 use Rattle.dlmalloc.proofs.Resizing.Split.{end_small, first_head, second_head, rest_whole, is_split}
 use Rattle.dlmalloc.proofs.heap.Dlmalloc.split.Goals as goal
 
-pub set_inuse-requires-clause-head : goal.set_inuse-requires-clause-head
-set_inuse-requires-clause-head g c = first_head c.requires.sound c.requires.split
-
-pub set_inuse-requires-clause-next : goal.set_inuse-requires-clause-next
-set_inuse-requires-clause-next g c = second_head c.requires.sound c.requires.split
+pub set_inuse-requires : goal.set_inuse-requires
+set_inuse-requires g c = record {
+  size = (let whole = c.requires.split.bytes.whole in omega arith);
+  head = first_head c.requires.sound c.requires.split;
+  next = second_head c.requires.sound c.requires.split;
+}
 
 pub overflow_add-at : goal.overflow_add-at
 overflow_add-at g c =
@@ -18,12 +19,12 @@ set_size_and_pinuse_of_inuse_chunk-requires g c =
     let can = c.requires.split in
     record {
       size = rest_whole c.requires.sound can;
-      head = subst (λ rs. HasHead rs (c.args.at + c.args.n)) (sym c.set_inuse.ensures.regions) (second_head c.requires.sound can);
+      head = subst (λ rs. HasHead rs (c.args.at + c.args.n)) (sym c.set_inuse.ensures.stores.regions) (second_head c.requires.sound can);
     }
 
 pub returns : goal.returns
 returns g c =
-    let first = c.set_inuse.ensures in let second = c.set_size_and_pinuse_of_inuse_chunk.ensures in
+    let first = c.set_inuse.ensures.stores in let second = c.set_size_and_pinuse_of_inuse_chunk.ensures.stores in
     let followed = g.A.Links.follows_on _ _ _ [] [] [] first.follows second.follows refl in
     let s = is_split c.requires.sound c.requires.split first.regions second.regions first.stored second.stored followed in
     record {
@@ -33,5 +34,5 @@ returns g c =
       others = s.others;
       words = s.words;
       moves = record { moved = s.moved; free = s.free; bins = refl };
-      counted = (let told = first.counted in let more = second.counted in omega arith);
+      counted = (let told = c.set_inuse.ensures.counted in let more = c.set_size_and_pinuse_of_inuse_chunk.ensures.counted in omega arith);
     }

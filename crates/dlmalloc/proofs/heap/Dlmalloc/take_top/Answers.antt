@@ -7,12 +7,12 @@ set_size_and_pinuse_of_inuse_chunk-requires-clause-head g c = top_head c.require
     c.requires.bytes.whole c.requires.bytes.least c.requires.fits
 
 pub store_counted-requires : goal.store_counted-requires
-store_counted-requires g c = subst (λ rs. IsWordOf rs (c.args.self.now.top + c.args.n + 8)) (sym c.set_size_and_pinuse_of_inuse_chunk.ensures.regions)
+store_counted-requires g c = subst (λ rs. IsWordOf rs (c.args.self.now.top + c.args.n + 8)) (sym c.set_size_and_pinuse_of_inuse_chunk.ensures.stores.regions)
     (rest_head c.requires.sound c.requires.there c.args.n c.requires.bytes.whole c.requires.bytes.least c.requires.fits).granted
 
 pub returns : goal.returns
 returns g c =
-    let system = c.store_counted.new.self in let first = c.set_size_and_pinuse_of_inuse_chunk.ensures in
+    let system = c.store_counted.new.self in let first = c.set_size_and_pinuse_of_inuse_chunk.ensures.stores in
     let second = c.store_counted.ensures in let same = second.regions ∙ first.regions in
     let stored = stores c.requires.sound c.requires.there c.args.n c.requires.bytes.whole c.requires.bytes.least c.requires.fits
     c.set_size_and_pinuse_of_inuse_chunk.new.memory system first.regions first.stored second.stored in
