@@ -16,7 +16,7 @@ pub(crate) fn delete_below<T: Ord + Clone, V: Drop>(
     tree: Subtree<T, V>,
     interval: &Interval<T>,
 ) -> Subtree<T, V>
-    requires clones { ClonesItself T.is_clone T.is_infallible }
+    requires clones { ClonesItself T.Clone }
     requires recorded { IsRecorded T.cmp tree }
     requires balanced { IsBalanced (tree_of tree) }
     requires ordered { IsOrdered (by_ends T.cmp) (entries (tree_of tree)) }
@@ -43,7 +43,7 @@ pub(crate) fn delete_below<T: Ord + Clone, V: Drop>(
 
 /// One tree of the two subtrees of a node.
 fn join<T: Ord + Clone, V: Drop>(left: Subtree<T, V>, right: Subtree<T, V>) -> Subtree<T, V>
-    requires clones { ClonesItself T.is_clone T.is_infallible }
+    requires clones { ClonesItself T.Clone }
     requires left { IsRecorded T.cmp left × IsBalanced (tree_of left) }
     requires right { IsRecorded T.cmp right × IsBalanced (tree_of right) }
     requires near { DifferByAtMost 1 (levels (tree_of left)) (levels (tree_of right)) }
@@ -67,7 +67,7 @@ fn join<T: Ord + Clone, V: Drop>(left: Subtree<T, V>, right: Subtree<T, V>) -> S
 pub(crate) fn take_least<T: Ord + Clone, V: Drop>(
     node: Box<Node<T, V>>,
 ) -> (Box<Node<T, V>>, Subtree<T, V>)
-    requires clones { ClonesItself T.is_clone T.is_infallible }
+    requires clones { ClonesItself T.Clone }
     requires recorded { IsRecordedNode T.cmp node.value }
     requires balanced { IsBalanced (tree_of_node node.value) }
     requires room { length (entries (tree_of_node node.value)) ≤ 2 ^ 63 }
@@ -91,7 +91,7 @@ pub(crate) fn take_least<T: Ord + Clone, V: Drop>(
 pub(crate) fn take_greatest<T: Ord + Clone, V: Drop>(
     node: Box<Node<T, V>>,
 ) -> (Subtree<T, V>, Box<Node<T, V>>)
-    requires clones { ClonesItself T.is_clone T.is_infallible }
+    requires clones { ClonesItself T.Clone }
     requires recorded { IsRecordedNode T.cmp node.value }
     requires balanced { IsBalanced (tree_of_node node.value) }
     requires room { length (entries (tree_of_node node.value)) ≤ 2 ^ 63 }

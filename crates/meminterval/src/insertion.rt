@@ -33,7 +33,7 @@ pub(crate) fn insert_below<T: Ord + Clone, V: Drop>(
     interval: Interval<T>,
     value: V,
 ) -> Insertion<T, V>
-    requires clones { ClonesItself T.is_clone T.is_infallible }
+    requires clones { ClonesItself T.Clone }
     requires recorded { IsRecorded T.cmp tree }
     requires balanced { IsBalanced (tree_of tree) }
     requires ordered { IsOrdered (by_ends T.cmp) (entries (tree_of tree)) }

@@ -77,7 +77,7 @@ impl<T: Ord, V> Subtree<T, V> {
 impl<T: Ord + Clone, V> Node<T, V> {
     /// A pair with no subtrees.
     pub(crate) fn new(interval: Interval<T>, value: V) -> Self
-        requires { ClonesItself T.is_clone T.is_infallible }
+        requires { ClonesItself T.Clone }
         ensures interval { result.interval ≡ interval }
         ensures value { result.value ≡ value }
         ensures left { result.left ≡ Subtree.Empty }
@@ -129,7 +129,7 @@ pub(crate) fn fork<T: Ord + Clone, V: Drop>(
     mut node: Box<Node<T, V>>,
     right: Subtree<T, V>,
 ) -> Subtree<T, V>
-    requires clones { ClonesItself T.is_clone T.is_infallible }
+    requires clones { ClonesItself T.Clone }
     requires left { IsRecorded T.cmp left }
     requires right { IsRecorded T.cmp right }
     requires room { length (entries (tree_of left)) + length (entries (tree_of right)) < 2 ^ 63 }
@@ -149,7 +149,7 @@ pub(crate) fn clone_below<T: Ord + Clone, V: Clone>(
     alloc: Global,
     tree: &Subtree<T, V>,
 ) -> Result<Subtree<T, V>, AllocError>
-    requires keys { ClonesItself T.is_clone T.is_infallible }
+    requires keys { ClonesItself T.Clone }
     requires values { ClonesEqual V.is_clone }
     requires recorded { IsRecorded T.cmp tree.now }
     ensures tree { IfOk result (λ copy. tree_of copy ≡ tree_of tree.now) }

@@ -14,7 +14,7 @@ pub(crate) fn balance<T: Ord + Clone, V: Drop>(
     node: Box<Node<T, V>>,
     right: Subtree<T, V>,
 ) -> Subtree<T, V>
-    requires clones { ClonesItself T.is_clone T.is_infallible }
+    requires clones { ClonesItself T.Clone }
     requires left { IsRecorded T.cmp left × IsBalanced (tree_of left) }
     requires right { IsRecorded T.cmp right × IsBalanced (tree_of right) }
     requires near { DifferByAtMost 2 (levels (tree_of left)) (levels (tree_of right)) }
@@ -38,7 +38,7 @@ fn rotate_right<T: Ord + Clone, V: Drop>(
     node: Box<Node<T, V>>,
     right: Subtree<T, V>,
 ) -> Subtree<T, V>
-    requires clones { ClonesItself T.is_clone T.is_infallible }
+    requires clones { ClonesItself T.Clone }
     requires left { IsRecorded T.cmp left × IsBalanced (tree_of left) }
     requires right { IsRecorded T.cmp right × IsBalanced (tree_of right) }
     requires two_higher { levels (tree_of left) ≡ levels (tree_of right) + 2 }
@@ -66,7 +66,7 @@ fn rotate_left<T: Ord + Clone, V: Drop>(
     node: Box<Node<T, V>>,
     right: Subtree<T, V>,
 ) -> Subtree<T, V>
-    requires clones { ClonesItself T.is_clone T.is_infallible }
+    requires clones { ClonesItself T.Clone }
     requires left { IsRecorded T.cmp left × IsBalanced (tree_of left) }
     requires right { IsRecorded T.cmp right × IsBalanced (tree_of right) }
     requires two_higher { levels (tree_of right) ≡ levels (tree_of left) + 2 }

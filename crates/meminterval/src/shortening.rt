@@ -15,7 +15,7 @@ pub(crate) fn shorten_below<T: Ord + Clone, V: Drop>(
     interval: &Interval<T>,
     end: T,
 ) -> Subtree<T, V>
-    requires clones { ClonesItself T.is_clone T.is_infallible }
+    requires clones { ClonesItself T.Clone }
     requires recorded { IsRecorded T.cmp tree }
     requires ordered { IsOrdered (by_ends T.cmp) (entries (tree_of tree)) }
     requires room { length (entries (tree_of tree)) ≤ 2 ^ 63 }
