@@ -3,7 +3,7 @@ ghost use Rattle.std.specs.Prelude.{◌≡◌, ◌+◌, ◌<◌, ◌^◌, length
 ghost use Rattle.std.specs.Ordering.{is_lt};
 ghost use Rattle.meminterval.specs.Interval.{ClonesEqual, ClonesItself};
 ghost use Rattle.meminterval.specs.Tree.{Fork, Leaf, entries, levels, IsBalanced};
-ghost use Rattle.meminterval.specs.Subtree.{tree_of, raised, greatest_end, IsRecorded};
+ghost use Rattle.meminterval.specs.Subtree.{tree_of, raised, greatest_end, single, IsRecorded, IsSplit};
 
 use crate::interval::{Interval, copied};
 use std::alloc::{AllocError, Global};
@@ -78,13 +78,7 @@ impl<T: Ord + Clone, V> Node<T, V> {
     /// A pair with no subtrees.
     pub(crate) fn new(interval: Interval<T>, value: V) -> Self
         requires { ClonesItself T.Clone }
-        ensures interval { result.interval ≡ interval }
-        ensures value { result.value ≡ value }
-        ensures left { result.left ≡ Subtree.Empty }
-        ensures right { result.right ≡ Subtree.Empty }
-        ensures greatest { result.greatest ≡ interval.end }
-        ensures levels { result.levels ≡ 1 }
-        ensures size { result.size ≡ 1 }
+        ensures { result ≡ single interval value }
     {
         let greatest = copied(&interval.end);
         Node {
@@ -112,10 +106,7 @@ impl<T: Ord, V> Node<T, V> {
 pub(crate) fn split<T: Ord, V>(
     mut node: Box<Node<T, V>>,
 ) -> (Subtree<T, V>, Box<Node<T, V>>, Subtree<T, V>)
-    ensures left { result.0 ≡ node.value.left }
-    ensures interval { result.1.value.interval ≡ node.value.interval }
-    ensures value { result.1.value.value ≡ node.value.value }
-    ensures right { result.2 ≡ node.value.right }
+    ensures { IsSplit node.value result }
 {
     let left = mem::replace(&mut node.left, Subtree::Empty);
     let right = mem::replace(&mut node.right, Subtree::Empty);

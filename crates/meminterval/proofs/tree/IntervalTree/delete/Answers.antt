@@ -9,8 +9,8 @@ pub invariant_of-self : goal.invariant_of-self
 invariant_of-self g c =
     let few = c.self.invariant.few in
     record {
-      recorded = c.delete_below.ensures.recorded;
-      balanced = c.delete_below.ensures.balanced;
+      recorded = c.delete_below.ensures.rest.recorded;
+      balanced = c.delete_below.ensures.rest.balanced;
       ordered = rw (c.delete_below.ensures.pairs, c.replace-root.ensures.value)
           (ordered_without (by_ends g.T.Ord.cmp) c.args.interval.now _ c.self.invariant.ordered);
       few = rw (c.delete_below.ensures.pairs, c.replace-root.ensures.value)
