@@ -51,15 +51,8 @@ pub returns-in-Less-clause-pairs : goal.returns-in-Less-clause-pairs
 returns-in-Less-clause-pairs g t c =
     let s = rw c.in-Fork.is at c.requires.sound.ordered in
     let h = rw c.deref.ensures at (sym c.cmp-order.ensures ∙ c.in-Less.is) in
-    rw (
-      c.balance.ensures.pairs,
-      c.delete_below.ensures.pairs,
-      c.split-left.ensures.left,
-      c.split-left.ensures.interval,
-      c.split-left.ensures.value,
-      c.split-left.ensures.right,
-      c.in-Fork.is,
-    )
+    let parts = c.split-left.ensures in
+    rw (c.balance.ensures.pairs, c.delete_below.ensures.pairs, parts.left, parts.interval, parts.value, parts.right, c.in-Fork.is)
     (sym (without_left (by_ends g.T.Ord.cmp) (by_ends-total g.met.T.Ord.total) _ _ _ s _ h))
 
 pub returns-in-Equal-clause-pairs : goal.returns-in-Equal-clause-pairs
@@ -73,13 +66,6 @@ pub returns-in-Greater-clause-pairs : goal.returns-in-Greater-clause-pairs
 returns-in-Greater-clause-pairs g t c =
     let s = rw c.in-Fork.is at c.requires.sound.ordered in
     let h = rw c.deref.ensures at (sym c.cmp-order.ensures ∙ c.in-Greater.is) in
-    rw (
-      c.balance-in-Greater.ensures.pairs,
-      c.delete_below-in-Greater.ensures.pairs,
-      c.split-left.ensures.left,
-      c.split-left.ensures.interval,
-      c.split-left.ensures.value,
-      c.split-left.ensures.right,
-      c.in-Fork.is,
-    )
+    let parts = c.split-left.ensures in
+    rw (c.balance-in-Greater.ensures.pairs, c.delete_below-in-Greater.ensures.pairs, parts.left, parts.interval, parts.value, parts.right, c.in-Fork.is)
     (sym (without_right (by_ends g.T.Ord.cmp) (by_ends-total g.met.T.Ord.total) _ _ _ s _ h))
