@@ -10,11 +10,12 @@ use Rattle.meminterval.specs.declared.interval.Interval.{Interval}
 use Rattle.meminterval.specs.declared.node.Node.{Node}
 use Rattle.meminterval.specs.declared.node.Subtree.{Subtree}
 use Rattle.meminterval.specs.declared.node.Subtree.TheVariants.{Fork}
+use Rattle.meminterval.specs.Balance.{IsRestored}
 use Rattle.meminterval.specs.Entries.{IsOrdered, value_at}
 use Rattle.meminterval.specs.Insertion.{IsAdded, IsPresent, IsInsertRefused}
 use Rattle.meminterval.specs.Interval.{by_ends}
-use Rattle.meminterval.specs.Subtree.{tree_of, IsRecorded}
-use Rattle.meminterval.specs.Tree.{entries, levels, DifferByAtMost, IsBalanced, IsRestored}
+use Rattle.meminterval.specs.Subtree.{tree_of}
+use Rattle.meminterval.specs.Tree.{entries, levels, DifferByAtMost, IsBalanced}
 use Rattle.meminterval.proofs.Ordered.{by_ends-total, with_left, with_right, value_left, value_middle, value_right}
 
 -- how high a tree is whose left subtree became at most one level higher
@@ -40,9 +41,8 @@ heights_right l r r' t near low high lower upper same = elim (cases_lt (l + 1) r
 module _ {T V : Type 0} (cmp : T → T → Ordering) (total : IsTotalOrder cmp) (x : Interval T × V) (b : Box (Node T V) Global)
     (s : IsOrdered (by_ends cmp) (entries (tree_of (Fork b)))) where
   pub added_left : (below after : Subtree T V) → by_ends cmp x.0 b.value.interval ≡ Less → IsBalanced (tree_of (Fork b)) → IsAdded cmp x b.value.left below
-      → IsRestored (tree_of below) (b.value.interval, b.value.value) (tree_of b.value.right) (tree_of after) →
-      IsRecorded cmp after → IsAdded cmp x (Fork b) after
-  added_left below after h balanced a restored recorded =
+      → IsRestored cmp below (b.value.interval, b.value.value) b.value.right after → IsAdded cmp x (Fork b) after
+  added_left below after h balanced a restored =
       let high = heights_left (levels (tree_of b.value.left)) (levels (tree_of b.value.right)) (levels (tree_of below))
       (levels (tree_of after)) balanced.2 a.not_lower a.not_higher restored.not_lower restored.not_higher
       restored.in_balance in
@@ -50,16 +50,15 @@ module _ {T V : Type 0} (cmp : T → T → Ordering) (total : IsTotalOrder cmp) 
         absent = value_left (by_ends cmp) (by_ends-total total) _ _ _ s _ h ∙ a.absent;
         pairs = restored.pairs ∙ ap (λ es. es ++ (b.value.interval, b.value.value) ∷ entries (tree_of b.value.right))
             a.pairs ∙ sym (with_left (by_ends cmp) x _ _ _ h);
-        recorded = recorded;
+        recorded = restored.recorded;
         balanced = restored.balanced;
         not_lower = high.0;
         not_higher = high.1;
       }
 
   pub added_right : (below after : Subtree T V) → by_ends cmp x.0 b.value.interval ≡ Greater → IsBalanced (tree_of (Fork b)) → IsAdded cmp x b.value.right below
-      → IsRestored (tree_of b.value.left) (b.value.interval, b.value.value) (tree_of below) (tree_of after) →
-      IsRecorded cmp after → IsAdded cmp x (Fork b) after
-  added_right below after h balanced a restored recorded =
+      → IsRestored cmp b.value.left (b.value.interval, b.value.value) below after → IsAdded cmp x (Fork b) after
+  added_right below after h balanced a restored =
       let high = heights_right (levels (tree_of b.value.left)) (levels (tree_of b.value.right)) (levels (tree_of below))
       (levels (tree_of after)) balanced.2 a.not_lower a.not_higher restored.not_lower restored.not_higher
       restored.in_balance in
@@ -67,7 +66,7 @@ module _ {T V : Type 0} (cmp : T → T → Ordering) (total : IsTotalOrder cmp) 
         absent = value_right (by_ends cmp) (by_ends-total total) _ _ _ s _ h ∙ a.absent;
         pairs = restored.pairs ∙ ap (λ es. entries (tree_of b.value.left) ++ (b.value.interval, b.value.value) ∷ es) a.pairs
             ∙ sym (with_right (by_ends cmp) (by_ends-total total) _ _ _ s x h);
-        recorded = recorded;
+        recorded = restored.recorded;
         balanced = restored.balanced;
         not_lower = high.0;
         not_higher = high.1;

@@ -2,6 +2,7 @@ pub mod Ends
 pub mod Insertions
 pub mod Ordered
 pub mod Overlap
+pub mod Parts
 pub mod Trees
 pub mod Places
 pub mod Search

@@ -2,6 +2,7 @@
 use Rattle.std.specs.Prelude.{◌≡◌, ℕ, Bool, cond, not, Option, Some, None, List, ◌++◌, codes, refl}
 use Rattle.std.specs.Coded.{Coded, code_by, coded×}
 use Rattle.std.specs.Option.{option_map, option_and_then}
+use Rattle.std.specs.declared.clone.Clone.{Ghosts as Clone}
 use Rattle.std.specs.declared.cmp.Ordering.{Ordering}
 use Rattle.std.specs.declared.cmp.Ordering.TheVariants.{Equal}
 use Rattle.std.specs.Ordering.{is_eq, is_lt, ordering_then, ord_max, ord_min}
@@ -12,9 +13,9 @@ abbrev pub ClonesEqual : {V : Type 0} → (V → V → Type 0) → Type 0
 ClonesEqual {V} is_clone = (x y : V) → is_clone x y → y ≡ x
 
 -- a clone is the value itself, and is always made
-pub record ClonesItself {T : Type 0} (is_clone : T → T → Type 0) (is_infallible : T → Type 0) : Type 0 where
-  pub same : (x y : T) → is_clone x y → y ≡ x
-  pub always : (x : T) → is_infallible x
+pub record ClonesItself {T : Type 0} (clone : Clone T) : Type 0 where
+  pub same : (x y : T) → clone.is_clone x y → y ≡ x
+  pub always : (x : T) → clone.is_infallible x
 
 abbrev pub interval_code : {T : Type 0} → Coded T → Coded (Interval T)
 interval_code {T} c = code_by (T × T) (coded× c c) (λ i. (i.start, i.end)) (λ p. record { start = p.0; end = p.1 }) (λ _. refl)

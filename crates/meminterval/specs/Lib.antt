@@ -1,3 +1,4 @@
+pub mod Balance
 pub mod Descent
 pub mod DescentLending
 pub mod Entries

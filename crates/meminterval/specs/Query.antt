@@ -1,8 +1,9 @@
 -- The pairs of a tree that overlap an interval, and what a search for them has left to look at.
-use Rattle.std.specs.Prelude.{ℕ, ◌+◌, ◌≤◌, List, [], ◌∷◌, ◌++◌}
+use Rattle.std.specs.Prelude.{ℕ, ◌+◌, ◌≤◌, List, [], ◌∷◌, ◌++◌, vec_capacity}
 use Rattle.std.specs.List.{filter}
 use Rattle.std.specs.declared.cmp.Ordering.{Ordering}
 use Rattle.std.specs.Borrow.{Bor}
+use Rattle.std.specs.declared.vec.Vec.{Vec}
 use Rattle.meminterval.specs.declared.interval.Interval.{Interval}
 use Rattle.meminterval.specs.declared.node.Node.{Node}
 use Rattle.meminterval.specs.Entries.{IsOrdered}
@@ -29,3 +30,7 @@ module _ {T V : Type 0} where
     abbrev pub IsWalk : ℕ → ℕ → List (Bor (Node T V)) → Type 0
     IsWalk places k [] = Unit {0}
     IsWalk places k (n ∷ ns) = IsSoundNode n.now × (levels (tree_of_node n.now) + k ≤ places) × IsWalk places (k + 1) ns
+
+    -- the nodes of a vector are such a walk, in which its capacity is the number of places
+    abbrev pub IsWalkOf : {A : Type 0} → Vec (Bor (Node T V)) A → Type 0
+    IsWalkOf nodes = IsWalk (vec_capacity nodes) 0 nodes.items

@@ -1,6 +1,7 @@
 -- A cursor over the pairs that overlap an interval, which replaces their values.
-use Rattle.std.specs.Prelude.{ℕ, zero, suc, ◌+◌, List, drop, Option, Some, None}
+use Rattle.std.specs.Prelude.{◌≡◌, ℕ, zero, suc, ◌+◌, List, drop, Option, Some, None}
 use Rattle.std.specs.List.{filter, slice_get}
+use Rattle.std.specs.Borrow.{MutBor}
 use Rattle.std.specs.declared.cmp.Ordering.{Ordering}
 use Rattle.meminterval.specs.declared.interval.Interval.{Interval}
 use Rattle.meminterval.specs.declared.iterators_mut.IntervalTreeIteratorMut.{IntervalTreeIteratorMut}
@@ -22,6 +23,13 @@ map_last f t zero = t
 map_last f t (suc k) = map_at f t k
 
 module _ {T V : Type 0} where
+  -- a cursor over the tree that was lent, before its first pair
+  pub record IsBefore (t : MutBor (Tree (Interval T × V))) (i : Interval T) (c : Cursor T V) : Type 0 where
+    pub same : c.tree.ghost_name ≡ t.ghost_name
+    pub tree : c.tree.now ≡ t.now
+    pub interval : c.interval ≡ i
+    pub passed : c.passed ≡ 0
+
   -- the pair that was passed last
   abbrev pub last_passed : Cursor T V → Option (Interval T × V)
   last_passed c = last_of (visited c.tree.now) c.passed

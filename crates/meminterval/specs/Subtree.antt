@@ -1,5 +1,7 @@
 -- What a node with its two subtrees is seen as, and that what it records of them is right.
 use Rattle.std.specs.Prelude.{◌≡◌, ◌≤◌, ◌^◌, length, Option, Some, None}
+use Rattle.std.specs.declared.alloc.Global.{Global}
+use Rattle.std.specs.declared.boxed.Box.{Box}
 use Rattle.std.specs.declared.cmp.Ordering.{Ordering}
 use Rattle.std.specs.Ordering.{ord_max}
 use Rattle.meminterval.specs.declared.interval.Interval.{Interval}
@@ -24,6 +26,17 @@ module _ {T V : Type 0} where
   abbrev pub tree_of_node : Node T V → Tree (Interval T × V)
   tree_of_node n = Fork (tree_of n.left) (n.interval, n.value) (tree_of n.right)
 
+  -- a pair with no subtrees
+  abbrev pub single : Interval T → V → Node T V
+  single i v = record { left = Empty; interval = i; value = v; greatest = i.end; levels = 1; size = 1; right = Empty }
+
+  -- the two subtrees of a node, and its pair
+  pub record IsSplit (n : Node T V) (parts : Subtree T V × Box (Node T V) Global × Subtree T V) : Type 0 where
+    pub left : parts.0 ≡ n.left
+    pub interval : parts.1.value.interval ≡ n.interval
+    pub value : parts.1.value.value ≡ n.value
+    pub right : parts.2 ≡ n.right
+
   module _ (cmp : T → T → Ordering) where
     -- the greatest end of the pairs
     abbrev pub greatest_end : Tree (Interval T × V) → Option T
@@ -44,6 +57,12 @@ module _ {T V : Type 0} where
         × (Some n.greatest ≡ greatest_end (tree_of_node n))
         × (n.levels ≡ levels (tree_of_node n))
         × (n.size ≡ length (entries (tree_of_node n)))
+
+    -- what is recorded is right, the pairs are in order, and there are at most 2^63
+    pub record IsSearchable (t : Subtree T V) : Type 0 where
+      pub recorded : IsRecorded t
+      pub ordered : IsOrdered (by_ends cmp) (entries (tree_of t))
+      pub few : length (entries (tree_of t)) ≤ 2 ^ 63
 
     -- what is recorded is right, the tree is balanced, its pairs are in order, and there are at most 2^63
     pub record IsSound (t : Subtree T V) : Type 0 where

@@ -42,14 +42,6 @@ abbrev pub height : {E : Type 0} → Tree E → ℤ
 height Leaf = negsuc 0
 height (Fork l e r) = pos (max (levels l) (levels r))
 
--- t has the pairs of l, e and r in that order, is balanced, and is as high as the higher of l and r or one level higher
-pub record IsRestored {E : Type 0} (l : Tree E) (e : E) (r : Tree E) (t : Tree E) : Type 0 where
-  pub pairs : entries t ≡ entries l ++ e ∷ entries r
-  pub balanced : IsBalanced t
-  pub not_lower : max (levels l) (levels r) ≤ levels t
-  pub not_higher : levels t ≤ max (levels l) (levels r) + 1
-  pub in_balance : DifferByAtMost 1 (levels l) (levels r) → levels t ≡ max (levels l) (levels r) + 1
-
 -- F(1) = F(2) = 1
 abbrev pub fibonacci : ℕ → ℕ
 fibonacci zero = 0

@@ -1,10 +1,11 @@
 //! Pairs that leave. No call here needs memory: if a node has two subtrees, the least node of the
 //! right one takes its place.
-ghost use Rattle.std.specs.Prelude.{◌≡◌, ◌+◌, ◌<◌, ◌≤◌, ◌^◌, max, [], ◌∷◌, ◌++◌, length};
-ghost use Rattle.meminterval.specs.Entries.{IsOrdered, without_key};
+ghost use Rattle.std.specs.Prelude.{◌≡◌, ◌+◌, max, [], ◌∷◌, ◌++◌};
+ghost use Rattle.meminterval.specs.Balance.{AreSides, HasLostAtMostALevel, IsSoundBelow};
+ghost use Rattle.meminterval.specs.Entries.{without_key};
 ghost use Rattle.meminterval.specs.Interval.{ClonesItself, by_ends};
-ghost use Rattle.meminterval.specs.Tree.{entries, levels, DifferByAtMost, IsBalanced};
-ghost use Rattle.meminterval.specs.Subtree.{tree_of, tree_of_node, IsRecorded, IsRecordedNode};
+ghost use Rattle.meminterval.specs.Tree.{entries, levels, DifferByAtMost};
+ghost use Rattle.meminterval.specs.Subtree.{tree_of, tree_of_node, IsSound};
 
 use crate::interval::Interval;
 use crate::node::{Node, Subtree, split};
@@ -16,16 +17,10 @@ pub(crate) fn delete_below<T: Ord + Clone, V: Drop>(
     tree: Subtree<T, V>,
     interval: &Interval<T>,
 ) -> Subtree<T, V>
-    requires clones { ClonesItself T.is_clone T.is_infallible }
-    requires recorded { IsRecorded T.cmp tree }
-    requires balanced { IsBalanced (tree_of tree) }
-    requires ordered { IsOrdered (by_ends T.cmp) (entries (tree_of tree)) }
-    requires room { length (entries (tree_of tree)) ≤ 2 ^ 63 }
+    requires clones { ClonesItself T.Clone }
+    requires sound { IsSound T.cmp tree }
     ensures pairs { entries (tree_of result) ≡ without_key (by_ends T.cmp) interval.now (entries (tree_of tree)) }
-    ensures recorded { IsRecorded T.cmp result }
-    ensures balanced { IsBalanced (tree_of result) }
-    ensures not_higher { levels (tree_of result) ≤ levels (tree_of tree) }
-    ensures not_lower { levels (tree_of tree) ≤ levels (tree_of result) + 1 }
+    ensures rest { HasLostAtMostALevel T.cmp (levels (tree_of tree)) result }
 {
     match tree {
         Subtree::Empty => Subtree::Empty,
@@ -43,16 +38,11 @@ pub(crate) fn delete_below<T: Ord + Clone, V: Drop>(
 
 /// One tree of the two subtrees of a node.
 fn join<T: Ord + Clone, V: Drop>(left: Subtree<T, V>, right: Subtree<T, V>) -> Subtree<T, V>
-    requires clones { ClonesItself T.is_clone T.is_infallible }
-    requires left { IsRecorded T.cmp left × IsBalanced (tree_of left) }
-    requires right { IsRecorded T.cmp right × IsBalanced (tree_of right) }
+    requires clones { ClonesItself T.Clone }
+    requires sides { AreSides T.cmp left right }
     requires near { DifferByAtMost 1 (levels (tree_of left)) (levels (tree_of right)) }
-    requires room { length (entries (tree_of left)) + length (entries (tree_of right)) < 2 ^ 63 }
     ensures pairs { entries (tree_of result) ≡ entries (tree_of left) ++ entries (tree_of right) }
-    ensures recorded { IsRecorded T.cmp result }
-    ensures balanced { IsBalanced (tree_of result) }
-    ensures not_higher { levels (tree_of result) ≤ max (levels (tree_of left)) (levels (tree_of right)) + 1 }
-    ensures not_lower { max (levels (tree_of left)) (levels (tree_of right)) ≤ levels (tree_of result) }
+    ensures rest { HasLostAtMostALevel T.cmp (max (levels (tree_of left)) (levels (tree_of right)) + 1) result }
 {
     match right {
         Subtree::Empty => left,
@@ -67,15 +57,10 @@ fn join<T: Ord + Clone, V: Drop>(left: Subtree<T, V>, right: Subtree<T, V>) -> S
 pub(crate) fn take_least<T: Ord + Clone, V: Drop>(
     node: Box<Node<T, V>>,
 ) -> (Box<Node<T, V>>, Subtree<T, V>)
-    requires clones { ClonesItself T.is_clone T.is_infallible }
-    requires recorded { IsRecordedNode T.cmp node.value }
-    requires balanced { IsBalanced (tree_of_node node.value) }
-    requires room { length (entries (tree_of_node node.value)) ≤ 2 ^ 63 }
+    requires clones { ClonesItself T.Clone }
+    requires sound { IsSoundBelow T.cmp node.value }
     ensures pairs { (result.0.value.interval, result.0.value.value) ∷ entries (tree_of result.1) ≡ entries (tree_of_node node.value) }
-    ensures recorded { IsRecorded T.cmp result.1 }
-    ensures balanced { IsBalanced (tree_of result.1) }
-    ensures not_higher { levels (tree_of result.1) ≤ levels (tree_of_node node.value) }
-    ensures not_lower { levels (tree_of_node node.value) ≤ levels (tree_of result.1) + 1 }
+    ensures rest { HasLostAtMostALevel T.cmp (levels (tree_of_node node.value)) result.1 }
 {
     let (left, node, right) = split(node);
     match left {
@@ -91,15 +76,10 @@ pub(crate) fn take_least<T: Ord + Clone, V: Drop>(
 pub(crate) fn take_greatest<T: Ord + Clone, V: Drop>(
     node: Box<Node<T, V>>,
 ) -> (Subtree<T, V>, Box<Node<T, V>>)
-    requires clones { ClonesItself T.is_clone T.is_infallible }
-    requires recorded { IsRecordedNode T.cmp node.value }
-    requires balanced { IsBalanced (tree_of_node node.value) }
-    requires room { length (entries (tree_of_node node.value)) ≤ 2 ^ 63 }
+    requires clones { ClonesItself T.Clone }
+    requires sound { IsSoundBelow T.cmp node.value }
     ensures pairs { entries (tree_of result.0) ++ (result.1.value.interval, result.1.value.value) ∷ [] ≡ entries (tree_of_node node.value) }
-    ensures recorded { IsRecorded T.cmp result.0 }
-    ensures balanced { IsBalanced (tree_of result.0) }
-    ensures not_higher { levels (tree_of result.0) ≤ levels (tree_of_node node.value) }
-    ensures not_lower { levels (tree_of_node node.value) ≤ levels (tree_of result.0) + 1 }
+    ensures rest { HasLostAtMostALevel T.cmp (levels (tree_of_node node.value)) result.0 }
 {
     let (left, node, right) = split(node);
     match right {

@@ -1,10 +1,9 @@
 //! A new pair below the nodes that are there.
 ghost use Rattle.std.specs.Prelude.{◌<◌, ◌^◌, length};
-ghost use Rattle.meminterval.specs.Entries.{IsOrdered};
 ghost use Rattle.meminterval.specs.Insertion.{IsInsertion};
-ghost use Rattle.meminterval.specs.Interval.{ClonesItself, by_ends};
-ghost use Rattle.meminterval.specs.Tree.{entries, IsBalanced};
-ghost use Rattle.meminterval.specs.Subtree.{tree_of, IsRecorded};
+ghost use Rattle.meminterval.specs.Interval.{ClonesItself};
+ghost use Rattle.meminterval.specs.Tree.{entries};
+ghost use Rattle.meminterval.specs.Subtree.{tree_of, IsSound};
 
 use crate::interval::Interval;
 use crate::node::{Node, Subtree, split};
@@ -33,10 +32,8 @@ pub(crate) fn insert_below<T: Ord + Clone, V: Drop>(
     interval: Interval<T>,
     value: V,
 ) -> Insertion<T, V>
-    requires clones { ClonesItself T.is_clone T.is_infallible }
-    requires recorded { IsRecorded T.cmp tree }
-    requires balanced { IsBalanced (tree_of tree) }
-    requires ordered { IsOrdered (by_ends T.cmp) (entries (tree_of tree)) }
+    requires clones { ClonesItself T.Clone }
+    requires sound { IsSound T.cmp tree }
     requires room { length (entries (tree_of tree)) < 2 ^ 63 }
     ensures { IsInsertion T.cmp (interval, value) tree result }
 {

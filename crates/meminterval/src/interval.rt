@@ -67,7 +67,7 @@ impl<T: Ord> Interval<T> {
     pub fn intersect(&self, other: &Self) -> Option<Self>
     where
         T: Clone,
-        requires { ClonesItself T.is_clone T.is_infallible }
+        requires { ClonesItself T.Clone }
         ensures { result ≡ intersection T.cmp self.now other.now }
     {
         if !self.overlaps(other) {
@@ -116,7 +116,7 @@ impl<T: Ord> Interval<T> {
 
 /// A value's clone, if that is the value itself and is always made.
 pub(crate) fn copied<T: Clone>(value: &T) -> T
-    requires { ClonesItself T.is_clone T.is_infallible }
+    requires { ClonesItself T.Clone }
     ensures { result ≡ value.now }
 {
     match value.clone() {

@@ -5,7 +5,7 @@ ghost use Rattle.std.specs.List.{filter};
 ghost use Rattle.meminterval.specs.Entries.{IsOrdered};
 ghost use Rattle.meminterval.specs.Entry.{pair_of};
 ghost use Rattle.meminterval.specs.Interval.{by_ends, overlaps};
-ghost use Rattle.meminterval.specs.Query.{overlapping, to_visit, IsSoundNode, IsWalk};
+ghost use Rattle.meminterval.specs.Query.{overlapping, to_visit, IsSoundNode, IsWalkOf};
 ghost use Rattle.meminterval.specs.Subtree.{tree_of, tree_of_node, IsRecorded};
 ghost use Rattle.meminterval.specs.Tree.{entries, levels, visited};
 
@@ -25,18 +25,18 @@ pub struct IntervalTreeIterator<'a, T: Ord + Clone, V> {
 }
 
 impl<'a, T: Ord + Clone, V> Model for IntervalTreeIterator<'a, T, V> {
-    ghost use Rattle.std.specs.Prelude.{List, vec_capacity};
+    ghost use Rattle.std.specs.Prelude.{List};
     ghost use Rattle.std.specs.List.{filter};
     ghost use Rattle.meminterval.specs.Interval.{overlaps};
     ghost use Rattle.meminterval.specs.declared.interval.Interval.{Interval};
 
     ghost Value = { List (Interval T × V) };
 
-    ghost use Rattle.meminterval.specs.Query.{to_visit, IsWalk};
+    ghost use Rattle.meminterval.specs.Query.{to_visit, IsWalkOf};
 
     ghost view = { λ it. filter (λ e. overlaps T.cmp e.0 it.interval) (to_visit it.nodes.items) };
 
-    ghost invariant = { λ it. IsWalk T.cmp (vec_capacity it.nodes) 0 it.nodes.items };
+    ghost invariant = { λ it. IsWalkOf T.cmp it.nodes };
 }
 
 impl<'a, T: Ord + Clone, V> IntervalTreeIterator<'a, T, V> {
@@ -78,8 +78,8 @@ fn next_node<'a, T: Ord, V>(
     nodes: &mut Vec<&'a Node<T, V>>,
     interval: &Interval<T>,
 ) -> Option<&'a Node<T, V>>
-    requires { IsWalk T.cmp (vec_capacity nodes.old) 0 nodes.old.items }
-    ensures walk { IsWalk T.cmp (vec_capacity nodes.new) 0 nodes.new.items }
+    requires { IsWalkOf T.cmp nodes.old }
+    ensures walk { IsWalkOf T.cmp nodes.new }
     ensures pairs { MatchOption result
         ((filter (λ e. overlaps T.cmp e.0 interval.now) (to_visit nodes.old.items) ≡ []) × (filter (λ e. overlaps T.cmp e.0 interval.now) (to_visit nodes.new.items) ≡ []))
         (λ n. filter (λ e. overlaps T.cmp e.0 interval.now) (to_visit nodes.old.items) ≡ (n.now.interval, n.now.value) ∷ filter (λ e. overlaps T.cmp e.0 interval.now) (to_visit nodes.new.items)) }
@@ -101,11 +101,11 @@ fn look_at<'a, T: Ord, V>(
     interval: &Interval<T>,
 ) -> bool
     requires sound { IsSoundNode T.cmp node.now }
-    requires walk { IsWalk T.cmp (vec_capacity nodes.old) 0 nodes.old.items }
+    requires walk { IsWalkOf T.cmp nodes.old }
     requires room { levels (tree_of_node node.now) + vec_len nodes.old ≤ vec_capacity nodes.old }
     ensures pairs { filter (λ e. overlaps T.cmp e.0 interval.now) (visited (tree_of_node node.now) ++ to_visit nodes.old.items)
         ≡ (if result then (node.now.interval, node.now.value) ∷ filter (λ e. overlaps T.cmp e.0 interval.now) (to_visit nodes.new.items) else filter (λ e. overlaps T.cmp e.0 interval.now) (to_visit nodes.new.items)) }
-    ensures walk { IsWalk T.cmp (vec_capacity nodes.new) 0 nodes.new.items }
+    ensures walk { IsWalkOf T.cmp nodes.new }
     ensures fewer { length (to_visit nodes.new.items) < length (visited (tree_of_node node.now)) + length (to_visit nodes.old.items) }
 {
     if node.ends_up_to(&interval.start) {
@@ -123,10 +123,10 @@ fn look_at<'a, T: Ord, V>(
 fn put<'a, T: Ord, V>(nodes: &mut Vec<&'a Node<T, V>>, tree: &'a Subtree<T, V>)
     requires recorded { IsRecorded T.cmp tree.now }
     requires ordered { IsOrdered (by_ends T.cmp) (entries (tree_of tree.now)) }
-    requires walk { IsWalk T.cmp (vec_capacity nodes.old) 0 nodes.old.items }
+    requires walk { IsWalkOf T.cmp nodes.old }
     requires room { levels (tree_of tree.now) + vec_len nodes.old ≤ vec_capacity nodes.old }
     ensures pairs { to_visit nodes.new.items ≡ visited (tree_of tree.now) ++ to_visit nodes.old.items }
-    ensures walk { IsWalk T.cmp (vec_capacity nodes.new) 0 nodes.new.items }
+    ensures walk { IsWalkOf T.cmp nodes.new }
     ensures capacity { vec_capacity nodes.old ≤ vec_capacity nodes.new }
     ensures len { vec_len nodes.new ≤ vec_len nodes.old + 1 }
 {

@@ -2,15 +2,14 @@
 ghost use Rattle.std.specs.Prelude.{◌≡◌, ◌≤◌, ◌^◌, ◌==◌, ◌&&◌, ◌∷◌, length, false, None, [], ◌+◌, ◌<◌, IfSome, IsSome, IsTrue, MatchOption, Some, ◌↔◌};
 ghost use Rattle.std.specs.Option.{option_map};
 ghost use Rattle.std.specs.Borrow.{sem};
-ghost use Rattle.meminterval.specs.Entries.{IsOrdered};
 ghost use Rattle.meminterval.specs.Entry.{pair_of};
-ghost use Rattle.meminterval.specs.Interval.{by_ends, overlaps};
+ghost use Rattle.meminterval.specs.Interval.{overlaps};
 ghost use Rattle.meminterval.specs.Lending.{LendsLast, ends_moved};
 ghost use Rattle.meminterval.specs.Place.{place_from};
 ghost use Rattle.meminterval.specs.Query.{IsSoundNode};
-ghost use Rattle.meminterval.specs.QueryMut.{last_passed, left_of, moved, with_value_there};
-ghost use Rattle.meminterval.specs.Subtree.{tree_of, tree_of_node, IsRecorded};
-ghost use Rattle.meminterval.specs.Tree.{entries, visited};
+ghost use Rattle.meminterval.specs.QueryMut.{last_passed, left_of, moved, with_value_there, IsBefore};
+ghost use Rattle.meminterval.specs.Subtree.{tree_of, tree_of_node, IsSearchable};
+ghost use Rattle.meminterval.specs.Tree.{visited};
 
 use crate::entry::Entry;
 use crate::interval::Interval;
@@ -41,10 +40,7 @@ pub struct IntervalTreeIteratorMut<'a, T: Ord + Clone, V> {
 impl<'a, T: Ord + Clone, V> IntervalTreeIteratorMut<'a, T, V> {
     /// A cursor before the first pair.
     pub(crate) fn new(tree: &'a mut IntervalTree<T, V>, interval: Interval<T>) -> Self
-        ensures same { result.tree.ghost_name ≡ tree.entry.ghost_name }
-        ensures tree { result.tree.now ≡ tree.old }
-        ensures interval { result.interval ≡ interval }
-        ensures passed { result.passed ≡ 0 }
+        ensures { IsBefore tree.entry interval result }
     {
         IntervalTreeIteratorMut {
             tree,
@@ -120,9 +116,7 @@ pub(crate) fn place_below<T: Ord, V>(
     passed: usize,
     interval: &Interval<T>,
 ) -> Option<usize>
-    requires recorded { IsRecorded T.cmp tree.now }
-    requires ordered { IsOrdered (by_ends T.cmp) (entries (tree_of tree.now)) }
-    requires few { length (entries (tree_of tree.now)) ≤ 2 ^ 63 }
+    requires { IsSearchable T.cmp tree.now }
     ensures { result ≡ place_from (λ e. overlaps T.cmp e.0 interval.now) passed (visited (tree_of tree.now)) }
 {
     let Subtree::Fork(node) = tree else {

@@ -3,7 +3,7 @@ ghost use Rattle.std.specs.Prelude.{◌≡◌, ◌+◌, ◌<◌, ◌^◌, length
 ghost use Rattle.std.specs.Ordering.{is_lt};
 ghost use Rattle.meminterval.specs.Interval.{ClonesEqual, ClonesItself};
 ghost use Rattle.meminterval.specs.Tree.{Fork, Leaf, entries, levels, IsBalanced};
-ghost use Rattle.meminterval.specs.Subtree.{tree_of, raised, greatest_end, IsRecorded};
+ghost use Rattle.meminterval.specs.Subtree.{tree_of, raised, greatest_end, single, IsRecorded, IsSplit};
 
 use crate::interval::{Interval, copied};
 use std::alloc::{AllocError, Global};
@@ -77,14 +77,8 @@ impl<T: Ord, V> Subtree<T, V> {
 impl<T: Ord + Clone, V> Node<T, V> {
     /// A pair with no subtrees.
     pub(crate) fn new(interval: Interval<T>, value: V) -> Self
-        requires { ClonesItself T.is_clone T.is_infallible }
-        ensures interval { result.interval ≡ interval }
-        ensures value { result.value ≡ value }
-        ensures left { result.left ≡ Subtree.Empty }
-        ensures right { result.right ≡ Subtree.Empty }
-        ensures greatest { result.greatest ≡ interval.end }
-        ensures levels { result.levels ≡ 1 }
-        ensures size { result.size ≡ 1 }
+        requires { ClonesItself T.Clone }
+        ensures { result ≡ single interval value }
     {
         let greatest = copied(&interval.end);
         Node {
@@ -112,10 +106,7 @@ impl<T: Ord, V> Node<T, V> {
 pub(crate) fn split<T: Ord, V>(
     mut node: Box<Node<T, V>>,
 ) -> (Subtree<T, V>, Box<Node<T, V>>, Subtree<T, V>)
-    ensures left { result.0 ≡ node.value.left }
-    ensures interval { result.1.value.interval ≡ node.value.interval }
-    ensures value { result.1.value.value ≡ node.value.value }
-    ensures right { result.2 ≡ node.value.right }
+    ensures { IsSplit node.value result }
 {
     let left = mem::replace(&mut node.left, Subtree::Empty);
     let right = mem::replace(&mut node.right, Subtree::Empty);
@@ -129,7 +120,7 @@ pub(crate) fn fork<T: Ord + Clone, V: Drop>(
     mut node: Box<Node<T, V>>,
     right: Subtree<T, V>,
 ) -> Subtree<T, V>
-    requires clones { ClonesItself T.is_clone T.is_infallible }
+    requires clones { ClonesItself T.Clone }
     requires left { IsRecorded T.cmp left }
     requires right { IsRecorded T.cmp right }
     requires room { length (entries (tree_of left)) + length (entries (tree_of right)) < 2 ^ 63 }
@@ -149,7 +140,7 @@ pub(crate) fn clone_below<T: Ord + Clone, V: Clone>(
     alloc: Global,
     tree: &Subtree<T, V>,
 ) -> Result<Subtree<T, V>, AllocError>
-    requires keys { ClonesItself T.is_clone T.is_infallible }
+    requires keys { ClonesItself T.Clone }
     requires values { ClonesEqual V.is_clone }
     requires recorded { IsRecorded T.cmp tree.now }
     ensures tree { IfOk result (λ copy. tree_of copy ≡ tree_of tree.now) }

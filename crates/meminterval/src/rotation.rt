@@ -1,8 +1,9 @@
 //! The single and double rotations that restore the balance of a tree.
-ghost use Rattle.std.specs.Prelude.{◌≡◌, ◌+◌, ◌<◌, ◌^◌, length};
+ghost use Rattle.std.specs.Prelude.{◌≡◌, ◌+◌};
+ghost use Rattle.meminterval.specs.Balance.{AreSides, IsRestored};
 ghost use Rattle.meminterval.specs.Interval.{ClonesItself};
-ghost use Rattle.meminterval.specs.Tree.{entries, levels, DifferByAtMost, IsBalanced, IsRestored};
-ghost use Rattle.meminterval.specs.Subtree.{tree_of, IsRecorded};
+ghost use Rattle.meminterval.specs.Tree.{levels, DifferByAtMost};
+ghost use Rattle.meminterval.specs.Subtree.{tree_of};
 
 use crate::node::{Node, Subtree, fork, split};
 
@@ -14,13 +15,10 @@ pub(crate) fn balance<T: Ord + Clone, V: Drop>(
     node: Box<Node<T, V>>,
     right: Subtree<T, V>,
 ) -> Subtree<T, V>
-    requires clones { ClonesItself T.is_clone T.is_infallible }
-    requires left { IsRecorded T.cmp left × IsBalanced (tree_of left) }
-    requires right { IsRecorded T.cmp right × IsBalanced (tree_of right) }
+    requires clones { ClonesItself T.Clone }
+    requires sides { AreSides T.cmp left right }
     requires near { DifferByAtMost 2 (levels (tree_of left)) (levels (tree_of right)) }
-    requires room { length (entries (tree_of left)) + length (entries (tree_of right)) < 2 ^ 63 }
-    ensures restored { IsRestored (tree_of left) (node.value.interval, node.value.value) (tree_of right) (tree_of result) }
-    ensures recorded { IsRecorded T.cmp result }
+    ensures { IsRestored T.cmp left (node.value.interval, node.value.value) right result }
 {
     let (left_levels, right_levels) = (left.levels(), right.levels());
     if left_levels > right_levels + 1 {
@@ -38,13 +36,10 @@ fn rotate_right<T: Ord + Clone, V: Drop>(
     node: Box<Node<T, V>>,
     right: Subtree<T, V>,
 ) -> Subtree<T, V>
-    requires clones { ClonesItself T.is_clone T.is_infallible }
-    requires left { IsRecorded T.cmp left × IsBalanced (tree_of left) }
-    requires right { IsRecorded T.cmp right × IsBalanced (tree_of right) }
+    requires clones { ClonesItself T.Clone }
+    requires sides { AreSides T.cmp left right }
     requires two_higher { levels (tree_of left) ≡ levels (tree_of right) + 2 }
-    requires room { length (entries (tree_of left)) + length (entries (tree_of right)) < 2 ^ 63 }
-    ensures restored { IsRestored (tree_of left) (node.value.interval, node.value.value) (tree_of right) (tree_of result) }
-    ensures recorded { IsRecorded T.cmp result }
+    ensures { IsRestored T.cmp left (node.value.interval, node.value.value) right result }
 {
     let Subtree::Fork(top) = left else {
         unreachable!()
@@ -66,13 +61,10 @@ fn rotate_left<T: Ord + Clone, V: Drop>(
     node: Box<Node<T, V>>,
     right: Subtree<T, V>,
 ) -> Subtree<T, V>
-    requires clones { ClonesItself T.is_clone T.is_infallible }
-    requires left { IsRecorded T.cmp left × IsBalanced (tree_of left) }
-    requires right { IsRecorded T.cmp right × IsBalanced (tree_of right) }
+    requires clones { ClonesItself T.Clone }
+    requires sides { AreSides T.cmp left right }
     requires two_higher { levels (tree_of right) ≡ levels (tree_of left) + 2 }
-    requires room { length (entries (tree_of left)) + length (entries (tree_of right)) < 2 ^ 63 }
-    ensures restored { IsRestored (tree_of left) (node.value.interval, node.value.value) (tree_of right) (tree_of result) }
-    ensures recorded { IsRecorded T.cmp result }
+    ensures { IsRestored T.cmp left (node.value.interval, node.value.value) right result }
 {
     let Subtree::Fork(top) = right else {
         unreachable!()

@@ -1,9 +1,8 @@
 //! A pair that gets another end.
-ghost use Rattle.std.specs.Prelude.{◌≡◌, ◌≤◌, ◌^◌, length};
-ghost use Rattle.meminterval.specs.Entries.{IsOrdered};
-ghost use Rattle.meminterval.specs.Interval.{ClonesItself, by_ends, with_end};
-ghost use Rattle.meminterval.specs.Tree.{entries, map_pairs};
-ghost use Rattle.meminterval.specs.Subtree.{tree_of, IsRecorded};
+ghost use Rattle.std.specs.Prelude.{◌≡◌};
+ghost use Rattle.meminterval.specs.Interval.{ClonesItself, with_end};
+ghost use Rattle.meminterval.specs.Tree.{map_pairs};
+ghost use Rattle.meminterval.specs.Subtree.{tree_of, IsRecorded, IsSearchable};
 
 use crate::interval::Interval;
 use crate::node::{Subtree, fork, split};
@@ -15,10 +14,8 @@ pub(crate) fn shorten_below<T: Ord + Clone, V: Drop>(
     interval: &Interval<T>,
     end: T,
 ) -> Subtree<T, V>
-    requires clones { ClonesItself T.is_clone T.is_infallible }
-    requires recorded { IsRecorded T.cmp tree }
-    requires ordered { IsOrdered (by_ends T.cmp) (entries (tree_of tree)) }
-    requires room { length (entries (tree_of tree)) ≤ 2 ^ 63 }
+    requires clones { ClonesItself T.Clone }
+    requires searchable { IsSearchable T.cmp tree }
     ensures tree { tree_of result ≡ map_pairs (with_end T.cmp interval.now end) (tree_of tree) }
     ensures recorded { IsRecorded T.cmp result }
 {

@@ -241,7 +241,7 @@ impl<T: Ord + Clone, V> IntervalTree<T, V> {
     ) -> Result<(), AllocError>
     where
         V: Drop,
-        requires clones { ClonesItself T.is_clone T.is_infallible }
+        requires clones { ClonesItself T.Clone }
         requires room { length (entries self.old) < 2 ^ 63 }
         ensures ok { OnOk result (entries self.new ≡ with_entry (by_ends T.cmp) (interval, value) (entries self.old)) }
         ensures err { OnErr result (self.new ≡ self.old) }
@@ -268,7 +268,7 @@ impl<T: Ord + Clone, V> IntervalTree<T, V> {
     pub fn delete(&mut self, interval: &Interval<T>)
     where
         V: Drop,
-        requires { ClonesItself T.is_clone T.is_infallible }
+        requires { ClonesItself T.Clone }
         ensures { entries self.new ≡ without_key (by_ends T.cmp) interval.now (entries self.old) }
     {
         let root = mem::replace(&mut self.root, Subtree::Empty);
@@ -279,7 +279,7 @@ impl<T: Ord + Clone, V> IntervalTree<T, V> {
     pub fn delete_min(&mut self)
     where
         V: Drop,
-        requires { ClonesItself T.is_clone T.is_infallible }
+        requires { ClonesItself T.Clone }
         ensures { entries self.new ≡ drop 1 (entries self.old) }
     {
         if let Subtree::Fork(node) = mem::replace(&mut self.root, Subtree::Empty) {
@@ -292,7 +292,7 @@ impl<T: Ord + Clone, V> IntervalTree<T, V> {
     pub fn delete_max(&mut self)
     where
         V: Drop,
-        requires { ClonesItself T.is_clone T.is_infallible }
+        requires { ClonesItself T.Clone }
         ensures { entries self.new ≡ take (length (entries self.old) - 1) (entries self.old) }
     {
         if let Subtree::Fork(node) = mem::replace(&mut self.root, Subtree::Empty) {
@@ -314,7 +314,7 @@ impl<T: Ord + Clone, V> IntervalTree<T, V> {
     pub fn shorten(&mut self, interval: &Interval<T>, end: T)
     where
         V: Drop,
-        requires clones { ClonesItself T.is_clone T.is_infallible }
+        requires clones { ClonesItself T.Clone }
         requires alone { AllItems (HasOwnStart T.cmp interval.now) (entries self.old) }
         ensures pairs { entries self.new ≡ map (with_end T.cmp interval.now end) (entries self.old) }
         ensures tree { self.new ≡ map_pairs (with_end T.cmp interval.now end) self.old }
@@ -328,7 +328,7 @@ impl<T: Ord + Clone, V> IntervalTree<T, V> {
     pub fn from_pairs(alloc: Global, pairs: Vec<(Interval<T>, V)>) -> Result<Self, AllocError>
     where
         V: Drop,
-        requires clones { ClonesItself T.is_clone T.is_infallible }
+        requires clones { ClonesItself T.Clone }
         requires room { length pairs.items ≤ 2 ^ 63 }
         ensures { IfOk result (λ tree. entries tree ≡ with_entries (by_ends T.cmp) pairs.items []) }
     {
@@ -343,7 +343,7 @@ impl<T: Ord + Clone, V> IntervalTree<T, V> {
     pub fn clone(&self, alloc: Global) -> Result<Self, AllocError>
     where
         V: Clone,
-        requires keys { ClonesItself T.is_clone T.is_infallible }
+        requires keys { ClonesItself T.Clone }
         requires values { ClonesEqual V.is_clone }
         ensures { IfOk result (λ tree. tree ≡ self.now) }
     {

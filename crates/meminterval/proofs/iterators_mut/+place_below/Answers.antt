@@ -1,23 +1,18 @@
-use Rattle.std.proofs.Common.{◌≡◌, ◌+◌, ◌-◌, ◌≤◌, ◌^◌, length, sym, ap, ◌∙◌, rules, arith}
+use Rattle.std.proofs.Common.{◌≡◌, ◌+◌, ◌-◌, ◌^◌, length, sym, ap, ◌∙◌, rules, arith}
 use Rattle.std.specs.Option.{option_map}
-use Rattle.meminterval.specs.Entries.{IsOrdered}
-use Rattle.meminterval.specs.Interval.{by_ends, overlaps}
+use Rattle.meminterval.specs.Interval.{overlaps}
 use Rattle.meminterval.specs.Subtree.{tree_of}
-use Rattle.meminterval.specs.Tree.{entries, visited}
-use Rattle.meminterval.proofs.Ordered.{ordered_front, ordered_after}
+use Rattle.meminterval.specs.Tree.{visited}
+use Rattle.meminterval.proofs.Parts.{searchable_left, searchable_right}
 use Rattle.meminterval.proofs.Search.{not_here, place_first, place_second, place_within, places_fit}
 use Rattle.meminterval.proofs.Trees.{length_fork, length_visited}
 use Rattle.meminterval.proofs.iterators_mut.+place_below.Goals as goal
 
 pub place_below-requires : goal.place_below-requires
 place_below-requires g t c =
-    let s = rw c.in-Fork.is at c.requires.ordered in
-    let few = rw (c.in-Fork.is, length_fork) at c.requires.few in
+    let s = rw c.in-Fork.is at c.requires in
     let higher = rw c.in-Fork.is at c.decreases in
-    let ordered : IsOrdered (by_ends g.T.Ord.cmp) (entries (tree_of c.deref-4.result.now.right)) =
-    rw c.deref-4.ensures (ordered_after (by_ends g.T.Ord.cmp) _ _ _ s) in
-    let room : length (entries (tree_of c.deref-4.result.now.right)) ≤ 2 ^ 63 = rw c.deref-4.ensures (omega (arith, few)) in
-    λ κs h. (rw c.deref-4.ensures (omega (arith, higher)), (search rules, (search rules, (search rules, (ordered, room)))))
+    λ κs h. rw c.deref-4.ensures (omega (arith, higher), (search rules, (search rules, searchable_right g.T.Ord.cmp c.in-Fork.node s)))
 
 pub overflow_add-result : goal.overflow_add-result
 overflow_add-result g t c =
@@ -39,13 +34,9 @@ returns-in-Some g t c =
 
 pub place_below-place-requires : goal.place_below-place-requires
 place_below-place-requires g t c =
-    let s = rw c.in-Fork.is at c.requires.ordered in
-    let few = rw (c.in-Fork.is, length_fork) at c.requires.few in
+    let s = rw c.in-Fork.is at c.requires in
     let higher = rw c.in-Fork.is at c.decreases in
-    let ordered : IsOrdered (by_ends g.T.Ord.cmp) (entries (tree_of c.deref-6.result.now.left)) =
-    rw c.deref-6.ensures (ordered_front (by_ends g.T.Ord.cmp) _ _ s) in
-    let room : length (entries (tree_of c.deref-6.result.now.left)) ≤ 2 ^ 63 = rw c.deref-6.ensures (omega (arith, few)) in
-    λ κs h. (rw c.deref-6.ensures (omega (arith, higher)), (search rules, (search rules, (search rules, (ordered, room)))))
+    λ κs h. rw c.deref-6.ensures (omega (arith, higher), (search rules, (search rules, searchable_left g.T.Ord.cmp c.in-Fork.node s)))
 
 pub moved_by-requires : goal.moved_by-requires
 moved_by-requires g t c =

@@ -1,46 +1,40 @@
-use Rattle.std.proofs.Common.{◌≤◌, ◌^◌, length, sym, ◌∙◌, rules, arith}
-use Rattle.meminterval.specs.Entries.{IsOrdered}
-use Rattle.meminterval.specs.Interval.{by_ends}
-use Rattle.meminterval.specs.Tree.{entries}
-use Rattle.meminterval.specs.Subtree.{tree_of}
+use Rattle.std.proofs.Common.{sym, ◌∙◌, rules, arith}
 use Rattle.meminterval.proofs.Ends.{ends_left, ends_middle, ends_right, length_mapped}
-use Rattle.meminterval.proofs.Ordered.{ordered_front, ordered_after}
+use Rattle.meminterval.proofs.Parts.{searchable_left, searchable_right}
 use Rattle.meminterval.proofs.Trees.{length_fork}
 use Rattle.meminterval.proofs.shortening.+shorten_below.Goals as goal
 
 pub shorten_below-requires : goal.shorten_below-requires
 shorten_below-requires g t c =
-    let s = rw c.in-Fork.is at c.requires.ordered in
-    let few = rw (c.in-Fork.is, length_fork) at c.requires.room in
+    let s = rw c.in-Fork.is at c.requires.searchable in
     let higher = rw c.in-Fork.is at c.decreases in
-    let ordered : IsOrdered (by_ends g.T.Ord.cmp) (entries (tree_of c.split-left.result.0)) =
-    rw c.split-left.ensures.left (ordered_front (by_ends g.T.Ord.cmp) _ _ s) in
-    let room : length (entries (tree_of c.split-left.result.0)) ≤ 2 ^ 63 = rw c.split-left.ensures.left (omega (arith, few)) in
-    λ κs h. (rw c.split-left.ensures.left (omega (arith, higher)), (search rules, (search rules, (c.requires.clones, (search rules, (ordered, room))))))
+    λ κs h. rw c.split-left.ensures.left (
+      omega (arith, higher),
+      (search rules, (search rules, (c.requires.clones, searchable_left g.T.Ord.cmp c.in-Fork.node s))),
+    )
 
 pub shorten_below-requires-in-Greater : goal.shorten_below-requires-in-Greater
 shorten_below-requires-in-Greater g t c =
-    let s = rw c.in-Fork.is at c.requires.ordered in
-    let few = rw (c.in-Fork.is, length_fork) at c.requires.room in
+    let s = rw c.in-Fork.is at c.requires.searchable in
     let higher = rw c.in-Fork.is at c.decreases in
-    let ordered : IsOrdered (by_ends g.T.Ord.cmp) (entries (tree_of c.split-left.result.2)) =
-    rw c.split-left.ensures.right (ordered_after (by_ends g.T.Ord.cmp) _ _ _ s) in
-    let room : length (entries (tree_of c.split-left.result.2)) ≤ 2 ^ 63 = rw c.split-left.ensures.right (omega (arith, few)) in
-    λ κs h. (rw c.split-left.ensures.right (omega (arith, higher)), (search rules, (search rules, (c.requires.clones, (search rules, (ordered, room))))))
+    λ κs h. rw c.split-left.ensures.right (
+      omega (arith, higher),
+      (search rules, (search rules, (c.requires.clones, searchable_right g.T.Ord.cmp c.in-Fork.node s))),
+    )
 
 pub fork-requires-clause-room : goal.fork-requires-clause-room
 fork-requires-clause-room g t c =
-    let few = rw (c.in-Fork.is, length_fork) at c.requires.room in
+    let few = rw (c.in-Fork.is, length_fork) at c.requires.searchable.few in
     rw (c.shorten_below.ensures.tree, c.split-left.ensures.left, c.split-left.ensures.right, length_mapped) (omega (arith, few))
 
 pub fork-requires-in-Greater-clause-room : goal.fork-requires-in-Greater-clause-room
 fork-requires-in-Greater-clause-room g t c =
-    let few = rw (c.in-Fork.is, length_fork) at c.requires.room in
+    let few = rw (c.in-Fork.is, length_fork) at c.requires.searchable.few in
     rw (c.shorten_below-in-Greater.ensures.tree, c.split-left.ensures.left, c.split-left.ensures.right, length_mapped) (omega (arith, few))
 
 pub returns-in-Less-clause-tree : goal.returns-in-Less-clause-tree
 returns-in-Less-clause-tree g t c =
-    let s = rw c.in-Fork.is at c.requires.ordered in
+    let s = rw c.in-Fork.is at c.requires.searchable.ordered in
     let h = rw c.deref.ensures at (sym c.cmp-order.ensures ∙ c.in-Less.is) in
     rw (
       c.fork.ensures.tree,
@@ -55,7 +49,7 @@ returns-in-Less-clause-tree g t c =
 
 pub returns-in-Equal-clause-tree : goal.returns-in-Equal-clause-tree
 returns-in-Equal-clause-tree g t c =
-    let s = rw c.in-Fork.is at c.requires.ordered in
+    let s = rw c.in-Fork.is at c.requires.searchable.ordered in
     let h = rw c.deref.ensures at (sym c.cmp-order.ensures ∙ c.in-Equal.is) in
     rw (
       c.fork-in-Equal.ensures.tree,
@@ -70,7 +64,7 @@ returns-in-Equal-clause-tree g t c =
 
 pub returns-in-Greater-clause-tree : goal.returns-in-Greater-clause-tree
 returns-in-Greater-clause-tree g t c =
-    let s = rw c.in-Fork.is at c.requires.ordered in
+    let s = rw c.in-Fork.is at c.requires.searchable.ordered in
     let h = rw c.deref.ensures at (sym c.cmp-order.ensures ∙ c.in-Greater.is) in
     rw (
       c.fork-in-Greater.ensures.tree,

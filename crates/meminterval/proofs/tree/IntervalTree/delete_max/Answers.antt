@@ -10,8 +10,8 @@ invariant_of-self g c =
     let s = rw (← c.in-Fork.ensures.value, ← c.take_greatest-rest.ensures.pairs) at c.self.invariant.ordered in
     let few = rw (← c.in-Fork.ensures.value, ← c.take_greatest-rest.ensures.pairs, length-append) at c.self.invariant.few in
     record {
-      recorded = c.take_greatest-rest.ensures.recorded;
-      balanced = c.take_greatest-rest.ensures.balanced;
+      recorded = c.take_greatest-rest.ensures.rest.recorded;
+      balanced = c.take_greatest-rest.ensures.rest.balanced;
       ordered = ordered_front (by_ends g.T.Ord.cmp) (entries (tree_of c.take_greatest-rest.result.0)) _ s;
       few = omega (arith, few);
     }
