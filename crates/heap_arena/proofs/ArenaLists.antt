@@ -10,12 +10,12 @@ use Rattle.heap_memory.specs.Events.{Granted, Refused, Released}
 use Rattle.heap_memory.specs.Words.{IsStored}
 use borrow.Rule.Slice.PartMut.{put_mid}
 use Rattle.heap_arena.specs.Grants.{are_between}
-use Rattle.heap_arena.specs.Arena.{regions_of, word_of, end_of, has_room, top_without, IsSameArena, IsArenaAfter, IsTakenBack, KeepsOthers}
-use Rattle.heap_arena.specs.Arenas.{are_in_order, regions_of_all, word_among, place_for, overlaps, AreAfter, IsOnlyWritten, IsAdded}
+use Rattle.heap_arena.specs.Arena.{regions_of, word_of, end_of, has_room, top_without, IsSameArena, IsArenaAfter, IsTakenBack, IsWrittenAt, KeepsOthers}
+use Rattle.heap_arena.specs.Arenas.{are_in_order, regions_of_all, word_among, place_for, overlaps, AreAfter, IsOnlyWritten, AreWrittenAt, IsAdded}
 use Rattle.heap_arena.specs.declared.arena.Arena.{Arena}
 use Rattle.heap_arena.proofs.GrantLemmas.{granted_between}
-use Rattle.heap_arena.specs.ArenaLaws.{after_other}
-use Rattle.heap_arena.specs.ArenasLaws.{inside, order_rest, rest_behind, all_after_refused}
+use Rattle.heap_arena.specs.ArenaLaws.{after_none, after_other}
+use Rattle.heap_arena.specs.ArenasLaws.{inside, order_rest, rest_behind, all_after_none, all_after_refused, all_after_on}
 
 -- ---- grants, and others after them
 
@@ -206,6 +206,27 @@ stored_rest (arena ∷ arenas) d news at value some order past given =
     go other true is_b rest = refl
     go other false is_b rest = rest (grind (arith, nat_tests))
 
+pub written_first : (arenas : List Arena) (d new : Arena) (at : ℕ) → 0 < length arenas → IsWrittenAt at 1 (slice_index_or arenas 0 d) new →
+    AreWrittenAt at 1 arenas (slice_set arenas 0 new)
+written_first [] d new at some written = absurd (omega (arith, some))
+written_first (arena ∷ arenas) d new at some written = record {
+  only = zip_first (λ x y. KeepsOthers at 1 x y × (y.top ≡ x.top) × (y.peak ≡ x.peak)) (λ x. (λ i beside. refl, refl, refl))
+      (arena ∷ arenas) d new some (written.others, written.top, written.peak);
+  regions = ap (λ (gs : List Grant). gs ++ regions_of_all arenas) written.regions;
+  follows = zip_first (λ x y. IsArenaAfter x [] y) after_none (arena ∷ arenas) d new some written.follows;
+}
+
+pub written_rest : (arenas news : List Arena) (at : ℕ) → 0 < length arenas → AreWrittenAt at 1 (rest_of arenas) news →
+    AreWrittenAt at 1 arenas (put_mid 1 (length arenas - 1) arenas news)
+written_rest [] news at some given = absurd (omega (arith, some))
+written_rest (arena ∷ arenas) news at some given =
+    let written = subst (λ (xs : List Arena). AreWrittenAt at 1 xs news) (rest_is arena arenas) given in
+    rw (put_rest arena arenas news) (record {
+      only = ((λ i beside. refl, refl, refl), written.only);
+      regions = ap (λ (gs : List Grant). regions_of arena ++ gs) written.regions;
+      follows = (after_none arena, written.follows);
+    })
+
 -- ---- a grant
 
 -- where it is, of arenas that begin after an address
@@ -306,7 +327,7 @@ module _ (grant : Grant) (size : ℕ) where
 
 -- ---- words that are written one after the other
 
-pub only_none : (at : ℕ) (arenas : List Arena) → IsOnlyWritten at 0 arenas arenas
+only_none : (at : ℕ) (arenas : List Arena) → IsOnlyWritten at 0 arenas arenas
 only_none at [] = tt
 only_none at (arena ∷ arenas) = ((λ i beside. refl, refl, refl), only_none at arenas)
 
@@ -315,7 +336,7 @@ keeps_more at i x y z base first second = λ k beside.
     second k (elim beside [ inl low ↦ inl (omega (arith, base, low)) | inr high ↦ inr (omega (arith, base, high)) ])
     ∙ first k (elim beside [ inl low ↦ inl low | inr high ↦ inr (omega (arith, high)) ])
 
-pub only_more : (at i : ℕ) (xs ys zs : List Arena) → AreAfter xs [] ys → IsOnlyWritten at i xs ys →
+only_more : (at i : ℕ) (xs ys zs : List Arena) → AreAfter xs [] ys → IsOnlyWritten at i xs ys →
     IsOnlyWritten (at + 8 * i) 1 ys zs → IsOnlyWritten at (i + 1) xs zs
 only_more at i [] [] [] after first second = tt
 only_more at i [] [] (z ∷ zs) after first second = elim second [ ]
@@ -326,6 +347,16 @@ only_more at i (x ∷ xs) (y ∷ ys) (z ∷ zs) after first second = (
   (keeps_more at i x y z after.0.same.base first.0.0 second.0.0, second.0.1 ∙ first.0.1, second.0.2 ∙ first.0.2),
   only_more at i xs ys zs after.1 first.1 second.1,
 )
+
+pub written_none : (at : ℕ) (arenas : List Arena) → AreWrittenAt at 0 arenas arenas
+written_none at arenas = record { only = only_none at arenas; regions = refl; follows = all_after_none arenas }
+
+pub written_more : (at i : ℕ) (xs ys zs : List Arena) → AreWrittenAt at i xs ys → AreWrittenAt (at + 8 * i) 1 ys zs → AreWrittenAt at (i + 1) xs zs
+written_more at i xs ys zs first second = record {
+  only = only_more at i xs ys zs first.follows first.only second.only;
+  regions = second.regions ∙ first.regions;
+  follows = all_after_on xs ys zs [] [] [] first.follows second.follows refl;
+}
 
 -- ---- a further arena
 

@@ -4,7 +4,7 @@ use Rattle.std.proofs.Common.{◌∙◌, ap, arith, inl, inr, get_or, take, drop
 use borrow.Rule.Slice.PartMut.{post_of, put_mid}
 use Rattle.std.proofs.lemmas.List.{get_or-take, get_or-drop, get_or_append_left, get_or-append_right, length-take-le}
 use Rattle.heap_memory.specs.Words.{AreWordsOf}
-use Rattle.heap_arena.specs.Arena.{regions_of, IsSameArena, IsArenaAfter, KeepsOthers}
+use Rattle.heap_arena.specs.Arena.{regions_of, IsSameArena, IsWrittenAt, KeepsOthers}
 use Rattle.heap_arena.specs.declared.arena.Arena.{Arena}
 use Rattle.heap_arena.proofs.GrantLemmas.{granted_between}
 
@@ -30,17 +30,23 @@ module _ (arena : Arena) (at count : ℕ) (some : 0 < count) (run : AreWordsOf (
       (run.granted (at + 8 * count - 1) (omega (arith, some)) (omega (arith, some))) in
       omega (arith, last.1, some)
 
--- a call that changes no words but some below the top leaves an arena as it was
-pub kept_after : (old new : Arena) (at count : ℕ) → IsSameArena old new → new.top ≡ old.top → new.peak ≡ old.peak →
-    at + 8 * count ≤ old.top → KeepsOthers at count old new → IsArenaAfter old [] new
-kept_after old new at count same top peak below others =
+-- a call that changes no words but some below the top, and neither the grants nor where they end
+pub written_below : (old new : Arena) (at count : ℕ) → IsSameArena old new → regions_of new ≡ regions_of old → new.top ≡ old.top → new.peak ≡ old.peak →
+    at + 8 * count ≤ old.top → KeepsOthers at count old new → IsWrittenAt at count old new
+written_below old new at count same regions top peak below others =
     let risen = old.risen in
     record {
-      same = same;
+      others = others;
+      regions = regions;
+      follows = record {
+        same = same;
+        top = top;
+        peak = peak;
+        placed = tt;
+        untouched = λ i behind. let base = same.base in others i (inr (omega (arith, below, risen, peak, base, behind)));
+      };
       top = top;
       peak = peak;
-      placed = tt;
-      untouched = λ i behind. let base = same.base in others i (inr (omega (arith, below, risen, peak, base, behind)));
     }
 
 -- a list in which a part was put in the place of as many

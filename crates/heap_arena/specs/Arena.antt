@@ -1,5 +1,5 @@
 -- What an arena shows: its regions, its words, and what it denies (own).
-use Rattle.std.specs.Prelude.{◌≡◌, ℕ, ◌+◌, ◌-◌, ◌*◌, ◌/◌, ◌<◌, ◌≤◌, ⊤, max, Bool, true, false, ◌&&◌, nat_le, nat_lt, if◌then◌else◌, List, [], ◌∷◌, IsTrue, refl, length, slice_index}
+use Rattle.std.specs.Prelude.{◌≡◌, ℕ, ◌+◌, ◌-◌, ◌*◌, ◌/◌, ◌<◌, ◌≤◌, ⊤, max, Bool, true, false, ◌&&◌, nat_le, nat_lt, if◌then◌else◌, List, [], ◌∷◌, IsTrue, refl, length, slice_index, slice_set}
 use Rattle.heap_memory.specs.declared.grant.Grant.{Grant}
 use Rattle.heap_memory.specs.declared.grant.GrantFault.{GrantFault}
 use Rattle.heap_memory.specs.declared.grant.GrantFault.TheVariants.{NoSpace}
@@ -7,7 +7,7 @@ use Rattle.heap_memory.specs.Allocator.{IsFixed}
 use Rattle.heap_memory.specs.Events.{Event, Granted, Refused, Released}
 use Rattle.heap_memory.specs.Regions.{is_granted}
 use Rattle.heap_memory.specs.Runs.{begins_in, without_run}
-use Rattle.heap_memory.specs.Words.{IsBeside}
+use Rattle.heap_memory.specs.Words.{IsBeside, IsStored}
 use Rattle.heap_arena.specs.Grants.{grants}
 use Rattle.heap_arena.specs.declared.arena.Arena.{Arena}
 
@@ -83,6 +83,21 @@ pub record IsTakenBack (low high : ℕ) (old new : Arena) : Type 0 where
 -- its words are as they were, granted or not, but for `count` of them from an address on
 abbrev pub KeepsOthers : (at count : ℕ) → Arena → Arena → Type 0
 KeepsOthers at count old new = (i : ℕ) → IsBeside at count (old.base + 8 * i) → slice_index new.words.now i ≡ slice_index old.words.now i
+
+-- Of its words only `count` from an address on may have changed, granted or not. Nothing was granted, and nothing was given
+-- back.
+pub record IsWrittenAt (at count : ℕ) (old new : Arena) : Type 0 where
+  pub others : KeepsOthers at count old new
+  pub regions : regions_of new ≡ regions_of old
+  pub follows : IsArenaAfter old [] new
+  pub top : new.top ≡ old.top
+  pub peak : new.peak ≡ old.peak
+
+-- A word was put at an address, and nothing else changed.
+pub record IsWordPut (at value : ℕ) (old new : Arena) : Type 0 where
+  pub stored : IsStored (regions_of old) (word_of old) at value (word_of new)
+  pub words : new.words.now ≡ slice_set old.words.now ((at - old.base) / 8) value
+  pub written : IsWrittenAt at 1 old new
 
 pub same_fixed : (x y : Arena) → IsFixed (λ arena. false) (λ arena. true) (λ arena. true) (λ arena. 1) x y
 same_fixed x y = record { zeros_same = refl; frees_same = refl; parts_same = refl; unit_same = refl }

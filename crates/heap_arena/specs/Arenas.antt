@@ -6,6 +6,7 @@ use Rattle.heap_memory.specs.declared.grant.GrantFault.{GrantFault}
 use Rattle.heap_memory.specs.declared.grant.GrantFault.TheVariants.{NoSpace}
 use Rattle.heap_memory.specs.Events.{Event}
 use Rattle.heap_memory.specs.Regions.{IsWordOf}
+use Rattle.heap_memory.specs.Words.{IsStored}
 use Rattle.heap_arena.specs.declared.arena.Arena.{Arena}
 use Rattle.heap_arena.specs.declared.add_fault.AddFault.{AddFault}
 use Rattle.heap_arena.specs.declared.add_fault.AddFault.TheVariants.{InUse, Overlaps, NoPlace}
@@ -47,6 +48,18 @@ IsGrantedByOne address size old new = AllZip (λ x y. (y ≡ x) ⊎ ((x.top ≡ 
 -- given back.
 abbrev pub IsOnlyWritten : (at count : ℕ) → List Arena → List Arena → Type 0
 IsOnlyWritten at count old new = AllZip (λ x y. KeepsOthers at count x y × (y.top ≡ x.top) × (y.peak ≡ x.peak)) old new
+
+-- Of their words only `count` from an address on may have changed, granted or not. Nothing was granted, and nothing was
+-- given back.
+pub record AreWrittenAt (at count : ℕ) (old new : List Arena) : Type 0 where
+  pub only : IsOnlyWritten at count old new
+  pub regions : regions_of_all new ≡ regions_of_all old
+  pub follows : AreAfter old [] new
+
+-- A word was put at an address, and nothing else changed.
+pub record IsWordPutAmong (at value : ℕ) (old new : List Arena) : Type 0 where
+  pub stored : IsStored (regions_of_all old) (word_among old) at value (word_among new)
+  pub written : AreWrittenAt at 1 old new
 
 -- a request is denied if no arena has room for it
 abbrev pub IsDeniedByAll : List Arena → ℕ → GrantFault → Type 0

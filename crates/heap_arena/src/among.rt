@@ -4,9 +4,8 @@ ghost use Rattle.std.specs.List.{AllByRecursion, AllZip, list_any};
 ghost use Rattle.heap_memory.specs.Events.{Granted};
 ghost use Rattle.heap_memory.specs.Regions.{IsWordOf, IsApart, IsGoodGrant, with_grant};
 ghost use Rattle.heap_memory.specs.Runs.{without_run};
-ghost use Rattle.heap_memory.specs.Words.{IsStored};
 ghost use Rattle.heap_arena.specs.Arena.{IsSameArena, IsTakenBack};
-ghost use Rattle.heap_arena.specs.Arenas.{are_in_order, regions_of_all, word_among, place_for, overlaps, AreAfter, AreUnwritten, IsGrantedByOne, IsOnlyWritten, IsDeniedByAll};
+ghost use Rattle.heap_arena.specs.Arenas.{are_in_order, regions_of_all, word_among, place_for, overlaps, AreAfter, AreUnwritten, IsGrantedByOne, IsWordPutAmong, IsDeniedByAll};
 
 use crate::arena::Arena;
 use heap_memory::{Allocator, Grant, GrantFault, Memory};
@@ -33,10 +32,7 @@ pub(crate) fn load_among<'a>(arenas: &[Arena<'a>], at: u64) -> u64
 pub(crate) fn store_among<'a>(arenas: &mut [Arena<'a>], at: u64, value: u64)
     requires word { IsWordOf (regions_of_all arenas.old) at }
     requires order { IsTrue (are_in_order arenas.old) }
-    ensures stored { IsStored (regions_of_all arenas.old) (word_among arenas.old) at value (word_among arenas.new) }
-    ensures only { IsOnlyWritten at 1 arenas.old arenas.new }
-    ensures regions { regions_of_all arenas.new ≡ regions_of_all arenas.old }
-    ensures after { AreAfter arenas.old [] arenas.new }
+    ensures { IsWordPutAmong at value arenas.old arenas.new }
 {
     if arenas.is_empty() {
         return;

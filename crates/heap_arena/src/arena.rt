@@ -146,8 +146,8 @@ impl<'a> Default for Arena<'a> {
 
 impl<'a> Links for Arena<'a> {
     ghost use Rattle.heap_memory.specs.Regions.{IsWordOf};
-    ghost use Rattle.heap_memory.specs.Words.{AreCopied, AreFilled, AreWordsOf, IsStored};
-    ghost use Rattle.heap_arena.specs.Arena.{regions_of, word_of, KeepsOthers, IsArenaAfter};
+    ghost use Rattle.heap_memory.specs.Words.{AreCopied, AreFilled, AreWordsOf};
+    ghost use Rattle.heap_arena.specs.Arena.{regions_of, word_of, IsArenaAfter, IsWrittenAt, IsWordPut};
     ghost use Rattle.heap_arena.specs.ArenaLaws.{after_none, after_on};
 
     ghost regions = { λ arena. regions_of arena };
@@ -170,13 +170,7 @@ impl<'a> Links for Arena<'a> {
     /// Puts a word at an address, and changes no other, granted or not.
     fn store_counted<L: Ledger>(&mut self, at: u64, value: u64, steps: &mut Steps<L>)
         requires { IsWordOf (regions_of self.old) at }
-        ensures stored { IsStored (regions_of self.old) (word_of self.old) at value (word_of self.new) }
-        ensures regions { regions_of self.new ≡ regions_of self.old }
-        ensures follows { IsArenaAfter self.old [] self.new }
-        ensures words { self.new.words.now ≡ slice_set self.old.words.now ((at - self.old.base) / 8) value }
-        ensures others { KeepsOthers at 1 self.old self.new }
-        ensures top { self.new.top ≡ self.old.top }
-        ensures peak { self.new.peak ≡ self.old.peak }
+        ensures put { IsWordPut at value self.old self.new }
         ensures counted { steps.new ≡ steps.old + 1 }
     {
         self.store(at, value);
@@ -187,11 +181,7 @@ impl<'a> Links for Arena<'a> {
     fn fill_counted<L: Ledger>(&mut self, at: u64, count: u64, value: u64, steps: &mut Steps<L>)
         requires { AreWordsOf (regions_of self.old) at count }
         ensures filled { AreFilled (regions_of self.old) (word_of self.old) at count value (word_of self.new) }
-        ensures others { KeepsOthers at count self.old self.new }
-        ensures regions { regions_of self.new ≡ regions_of self.old }
-        ensures follows { IsArenaAfter self.old [] self.new }
-        ensures top { self.new.top ≡ self.old.top }
-        ensures peak { self.new.peak ≡ self.old.peak }
+        ensures written { IsWrittenAt at count self.old self.new }
         ensures counted { steps.new ≡ steps.old + count }
     {
         if count == 0 {
@@ -208,11 +198,7 @@ impl<'a> Links for Arena<'a> {
         requires to { AreWordsOf (regions_of self.old) to count }
         requires apart { (from + 8 * count ≤ to) ⊎ (to + 8 * count ≤ from) }
         ensures copied { AreCopied (regions_of self.old) (word_of self.old) from to count (word_of self.new) }
-        ensures others { KeepsOthers to count self.old self.new }
-        ensures regions { regions_of self.new ≡ regions_of self.old }
-        ensures follows { IsArenaAfter self.old [] self.new }
-        ensures top { self.new.top ≡ self.old.top }
-        ensures peak { self.new.peak ≡ self.old.peak }
+        ensures written { IsWrittenAt to count self.old self.new }
         ensures counted { steps.new ≡ steps.old + 2 * count }
     {
         if count == 0 {
@@ -229,8 +215,8 @@ impl<'a> Links for Arena<'a> {
 
 impl<'a> Memory for Arena<'a> {
     ghost use Rattle.heap_memory.specs.Regions.{IsWordOf};
-    ghost use Rattle.heap_memory.specs.Words.{IsStored, with_byte};
-    ghost use Rattle.heap_arena.specs.Arena.{regions_of, word_of, KeepsOthers, IsArenaAfter};
+    ghost use Rattle.heap_memory.specs.Words.{with_byte};
+    ghost use Rattle.heap_arena.specs.Arena.{regions_of, word_of, IsWordPut};
 
     #[tactic(auto, using(crate::proofs::GrantLemmas::granted_between))]
     fn load(&self, at: u64) -> u64 {
@@ -241,13 +227,7 @@ impl<'a> Memory for Arena<'a> {
     #[tactic(auto, using(crate::proofs::GrantLemmas::granted_between))]
     fn store(&mut self, at: u64, value: u64)
         requires { IsWordOf (regions_of self.old) at }
-        ensures stored { IsStored (regions_of self.old) (word_of self.old) at value (word_of self.new) }
-        ensures regions { regions_of self.new ≡ regions_of self.old }
-        ensures follows { IsArenaAfter self.old [] self.new }
-        ensures words { self.new.words.now ≡ slice_set self.old.words.now ((at - self.old.base) / 8) value }
-        ensures others { KeepsOthers at 1 self.old self.new }
-        ensures top { self.new.top ≡ self.old.top }
-        ensures peak { self.new.peak ≡ self.old.peak }
+        ensures { IsWordPut at value self.old self.new }
     {
         put_word(self.words, (at - self.base) as usize, value);
     }
@@ -255,13 +235,7 @@ impl<'a> Memory for Arena<'a> {
     /// Puts a byte at an address, and changes no word but its own, granted or not.
     fn store_byte(&mut self, at: u64, byte: u8)
         requires { IsWordOf (regions_of self.old) (at - at % 8) }
-        ensures stored { IsStored (regions_of self.old) (word_of self.old) (at - at % 8)
-            (with_byte (word_of self.old (at - at % 8)) (at % 8) byte) (word_of self.new) }
-        ensures regions { regions_of self.new ≡ regions_of self.old }
-        ensures follows { IsArenaAfter self.old [] self.new }
-        ensures others { KeepsOthers (at - at % 8) 1 self.old self.new }
-        ensures top { self.new.top ≡ self.old.top }
-        ensures peak { self.new.peak ≡ self.old.peak }
+        ensures { IsWordPut (at - at % 8) (with_byte (word_of self.old (at - at % 8)) (at % 8) byte) self.old self.new }
     {
         let word = with_byte(self.load(at - at % 8), at % 8, byte);
         self.store(at - at % 8, word);

@@ -9,8 +9,8 @@ use std::sync::ledger::Ledger;
 
 impl<'a, const N: usize> Links for Arenas<'a, N> {
     ghost use Rattle.heap_memory.specs.Regions.{IsWordOf};
-    ghost use Rattle.heap_memory.specs.Words.{IsStored, AreWordsOf, AreFilled, AreCopied};
-    ghost use Rattle.heap_arena.specs.Arenas.{regions_of_all, word_among, AreAfter, IsOnlyWritten};
+    ghost use Rattle.heap_memory.specs.Words.{AreWordsOf, AreFilled, AreCopied};
+    ghost use Rattle.heap_arena.specs.Arenas.{regions_of_all, word_among, AreAfter, AreWrittenAt, IsWordPutAmong};
     ghost use Rattle.heap_arena.specs.ArenasLaws.{all_whole, all_after_none, all_after_on};
 
     ghost regions = { λ a. regions_of_all a.arenas.items };
@@ -33,10 +33,7 @@ impl<'a, const N: usize> Links for Arenas<'a, N> {
     /// Puts a word at an address, and changes no other, granted or not.
     fn store_counted<L: Ledger>(&mut self, at: u64, value: u64, steps: &mut Steps<L>)
         requires { IsWordOf (regions_of_all self.old.arenas.items) at }
-        ensures stored { IsStored (regions_of_all self.old.arenas.items) (word_among self.old.arenas.items) at value (word_among self.new.arenas.items) }
-        ensures only { IsOnlyWritten at 1 self.old.arenas.items self.new.arenas.items }
-        ensures regions { regions_of_all self.new.arenas.items ≡ regions_of_all self.old.arenas.items }
-        ensures follows { AreAfter self.old.arenas.items [] self.new.arenas.items }
+        ensures put { IsWordPutAmong at value self.old.arenas.items self.new.arenas.items }
         ensures counted { steps.new ≡ steps.old + 1 }
     {
         self.store(at, value);
@@ -48,9 +45,7 @@ impl<'a, const N: usize> Links for Arenas<'a, N> {
     fn fill_counted<L: Ledger>(&mut self, at: u64, count: u64, value: u64, steps: &mut Steps<L>)
         requires { AreWordsOf (regions_of_all self.old.arenas.items) at count }
         ensures filled { AreFilled (regions_of_all self.old.arenas.items) (word_among self.old.arenas.items) at count value (word_among self.new.arenas.items) }
-        ensures only { IsOnlyWritten at count self.old.arenas.items self.new.arenas.items }
-        ensures regions { regions_of_all self.new.arenas.items ≡ regions_of_all self.old.arenas.items }
-        ensures follows { AreAfter self.old.arenas.items [] self.new.arenas.items }
+        ensures written { AreWrittenAt at count self.old.arenas.items self.new.arenas.items }
         ensures counted { steps.new ≡ steps.old + count }
     {
         for i in 0..count {
@@ -65,9 +60,7 @@ impl<'a, const N: usize> Links for Arenas<'a, N> {
         requires to { AreWordsOf (regions_of_all self.old.arenas.items) to count }
         requires apart { (from + 8 * count ≤ to) ⊎ (to + 8 * count ≤ from) }
         ensures copied { AreCopied (regions_of_all self.old.arenas.items) (word_among self.old.arenas.items) from to count (word_among self.new.arenas.items) }
-        ensures only { IsOnlyWritten to count self.old.arenas.items self.new.arenas.items }
-        ensures regions { regions_of_all self.new.arenas.items ≡ regions_of_all self.old.arenas.items }
-        ensures follows { AreAfter self.old.arenas.items [] self.new.arenas.items }
+        ensures written { AreWrittenAt to count self.old.arenas.items self.new.arenas.items }
         ensures counted { steps.new ≡ steps.old + 2 * count }
     {
         for i in 0..count {
@@ -79,8 +72,8 @@ impl<'a, const N: usize> Links for Arenas<'a, N> {
 
 impl<'a, const N: usize> Memory for Arenas<'a, N> {
     ghost use Rattle.heap_memory.specs.Regions.{IsWordOf};
-    ghost use Rattle.heap_memory.specs.Words.{IsStored, with_byte};
-    ghost use Rattle.heap_arena.specs.Arenas.{regions_of_all, word_among, AreAfter, IsOnlyWritten};
+    ghost use Rattle.heap_memory.specs.Words.{with_byte};
+    ghost use Rattle.heap_arena.specs.Arenas.{regions_of_all, word_among, IsWordPutAmong};
 
     fn load(&self, at: u64) -> u64 {
         load_among(self.arenas.as_slice(), at)
@@ -89,10 +82,7 @@ impl<'a, const N: usize> Memory for Arenas<'a, N> {
     /// Puts a word at an address, and changes no other, granted or not.
     fn store(&mut self, at: u64, value: u64)
         requires { IsWordOf (regions_of_all self.old.arenas.items) at }
-        ensures stored { IsStored (regions_of_all self.old.arenas.items) (word_among self.old.arenas.items) at value (word_among self.new.arenas.items) }
-        ensures only { IsOnlyWritten at 1 self.old.arenas.items self.new.arenas.items }
-        ensures regions { regions_of_all self.new.arenas.items ≡ regions_of_all self.old.arenas.items }
-        ensures follows { AreAfter self.old.arenas.items [] self.new.arenas.items }
+        ensures { IsWordPutAmong at value self.old.arenas.items self.new.arenas.items }
     {
         store_among(self.arenas.as_mut_slice(), at, value)
     }
@@ -100,11 +90,8 @@ impl<'a, const N: usize> Memory for Arenas<'a, N> {
     /// Puts a byte at an address, and changes no word but its own, granted or not.
     fn store_byte(&mut self, at: u64, byte: u8)
         requires { IsWordOf (regions_of_all self.old.arenas.items) (at - at % 8) }
-        ensures stored { IsStored (regions_of_all self.old.arenas.items) (word_among self.old.arenas.items) (at - at % 8)
-            (with_byte (word_among self.old.arenas.items (at - at % 8)) (at % 8) byte) (word_among self.new.arenas.items) }
-        ensures only { IsOnlyWritten (at - at % 8) 1 self.old.arenas.items self.new.arenas.items }
-        ensures regions { regions_of_all self.new.arenas.items ≡ regions_of_all self.old.arenas.items }
-        ensures follows { AreAfter self.old.arenas.items [] self.new.arenas.items }
+        ensures { IsWordPutAmong (at - at % 8) (with_byte (word_among self.old.arenas.items (at - at % 8)) (at % 8) byte)
+            self.old.arenas.items self.new.arenas.items }
     {
         let word = with_byte(self.load(at - at % 8), at % 8, byte);
         self.store(at - at % 8, word);

@@ -62,6 +62,14 @@ KeepsAll word old new = (address size : ℕ) → IsBlock (state_of word old) add
 abbrev pub KeepsOtherBlocks : {A : Type 0} → (A → ℕ → ℕ) → List ℕ → Dlmalloc A → Dlmalloc A → Type 0
 KeepsOtherBlocks word slabs old new = (address size : ℕ) → IsBlock (state_of word old) address size → IsNoSlab slabs address → IsBlockKept word old address size new
 
+-- The bytes of an object were put at the place of a slot. The heap stays in its state, and no byte changed of any other slot,
+-- nor of a block that is no slab.
+pub record IsObjectPut {A : Type 0} (regions : A → List Grant) (word : A → ℕ → ℕ) (follows : A → List Event → A → Type 0) (old : Dlmalloc A) (slabs : List ℕ) (size index : ℕ) (bytes : List ℕ) (new : Dlmalloc A) : Type 0 where
+  pub stays : StaysInState regions word follows old new
+  pub here : object_bytes_at word new slabs size index ≡ bytes
+  pub others : (other : ℕ) → other < 64 * length slabs → other ≢ index → object_bytes_at word new slabs size other ≡ object_bytes_at word old slabs size other
+  pub kept : KeepsOtherBlocks word slabs old new
+
 -- The heap served one request, for the slab at an address: it was cut from what the heap had, or from a region of its system
 -- if it had no room.
 unfoldable pub HasServed : {A : Type 0} → (A → List Grant) → (A → ℕ → ℕ) → (A → List Event → A → Type 0) → Dlmalloc A → ℕ → ℕ → Dlmalloc A → Type 0
@@ -130,6 +138,15 @@ TakesSlabIfNeeded regions word follows old lists new =
     (LacksSlot lists × IsSlabAdded regions word follows old.heap old.size old.slabs new.heap new.slabs)
     ⊎ ((new.slabs ≡ old.slabs) × StaysInState regions word follows old.heap new.heap)
 
+-- no slot may be used again, and each place of the slabs has one
+abbrev pub LacksFreeSlot : {A : Type 0} → Pooled A → Type 0
+LacksFreeSlot pool = (pool.freed ≡ []) × (length pool.slots ≡ 64 * length pool.slabs)
+
+-- At most the heap and the slabs changed, and each block is there still, with the bytes that it had.
+pub record ChangesSlabsAlone {A : Type 0} (word : A → ℕ → ℕ) (old new : Pooled A) : Type 0 where
+  pub kept : KeepsAll word old.heap new.heap
+  pub others : new ≡ record old { heap = new.heap; slabs = new.slabs }
+
 -- A slot is free: if none was, a slab was taken, and else all is as it was.
 pub record HasFreeSlot {A : Type 0} (regions : A → List Grant) (word : A → ℕ → ℕ) (follows : A → List Event → A → Type 0) (old new : Pooled A) : Type 0 where
   pub kept : KeepsAll word old.heap new.heap
@@ -156,3 +173,8 @@ IsUnchanged regions word follows refuses old Full new = new ≡ old
 IsUnchanged regions word follows refuses old (Heap fault) new =
     IsAsItWas regions word follows refuses (refused_events (state_of word old.heap) (64 * old.size) (System fault)) old.heap new.heap × (new ≡ record old { heap = new.heap })
 IsUnchanged regions word follows refuses old OutOfMemory new = new ≡ old
+
+-- Why no slab was taken, and that all is as it was.
+pub record IsSlabRefused {A : Type 0} (regions : A → List Grant) (word : A → ℕ → ℕ) (follows : A → List Event → A → Type 0) (refuses : A → A → Type 0) (denies : A → ℕ → GrantFault → Type 0) (old : Pooled A) (fault : PoolFault) (new : Pooled A) : Type 0 where
+  pub cause : IsRefusedBy word denies old fault
+  pub unchanged : IsUnchanged regions word follows refuses old fault new

@@ -1,7 +1,7 @@
 // Bytes of granted memory, in a row: whole words at once, and the bytes before and after them one by one.
-ghost use Rattle.std.specs.Prelude.{◌≡◌, ℕ, ◌+◌, ◌*◌, ◌%◌, ◌<◌, ◌≤◌, [], IfOk, OnOk, length, slice_index};
+ghost use Rattle.std.specs.Prelude.{◌≡◌, ℕ, ◌+◌, ◌*◌, ◌%◌, ◌<◌, ◌≤◌, IfOk, OnOk, length, slice_index};
 ghost use Rattle.std.specs.Int.{w64, to_le_bytes};
-ghost use Rattle.object_pool.specs.Bytes.{AreGranted, bytes_at, IsWritten};
+ghost use Rattle.object_pool.specs.Bytes.{AreBytesPut, AreGranted, bytes_at};
 
 use heap_memory::{Links, Memory};
 use std::alloc::{AllocError, Global};
@@ -89,9 +89,7 @@ pub(crate) fn read_bytes<M: Memory>(
 /// Puts the bytes at an address one by one, and changes nothing else.
 fn write_each<M: Memory>(memory: &mut M, address: u64, bytes: &[u8])
     requires { AreGranted (M.regions memory.old) address (length bytes.now) }
-    ensures written { IsWritten (M.regions memory.old) (M.word memory.old) address bytes.now (length bytes.now) (M.word memory.new) }
-    ensures regions { M.regions memory.new ≡ M.regions memory.old }
-    ensures follows { M.follows memory.old [] memory.new }
+    ensures { AreBytesPut M.regions M.word M.follows memory.old address bytes.now memory.new }
 {
     for k in 0..bytes.len() {
         memory.store_byte(address + k as u64, bytes[k]);
@@ -103,9 +101,7 @@ fn write_words<M: Memory>(memory: &mut M, address: u64, bytes: &[u8])
     requires inside { AreGranted (M.regions memory.old) address (length bytes.now) }
     requires aligned { 0 < length bytes.now → address % 8 ≡ 0 }
     requires whole { length bytes.now % 8 ≡ 0 }
-    ensures written { IsWritten (M.regions memory.old) (M.word memory.old) address bytes.now (length bytes.now) (M.word memory.new) }
-    ensures regions { M.regions memory.new ≡ M.regions memory.old }
-    ensures follows { M.follows memory.old [] memory.new }
+    ensures { AreBytesPut M.regions M.word M.follows memory.old address bytes.now memory.new }
 {
     for k in 0..bytes.len() / 8 {
         memory.store(address + 8 * k as u64, word_of_bytes(bytes, 8 * k));
@@ -116,9 +112,7 @@ fn write_words<M: Memory>(memory: &mut M, address: u64, bytes: &[u8])
 fn write_from_word<M: Memory>(memory: &mut M, address: u64, bytes: &[u8])
     requires inside { AreGranted (M.regions memory.old) address (length bytes.now) }
     requires aligned { 0 < length bytes.now → address % 8 ≡ 0 }
-    ensures written { IsWritten (M.regions memory.old) (M.word memory.old) address bytes.now (length bytes.now) (M.word memory.new) }
-    ensures regions { M.regions memory.new ≡ M.regions memory.old }
-    ensures follows { M.follows memory.old [] memory.new }
+    ensures { AreBytesPut M.regions M.word M.follows memory.old address bytes.now memory.new }
 {
     let (words, last) = bytes.split_at(bytes.len() / 8 * 8);
     write_words(memory, address, words);
@@ -130,9 +124,7 @@ fn write_from_word<M: Memory>(memory: &mut M, address: u64, bytes: &[u8])
 /// Puts the bytes at an address, and changes nothing else.
 pub(crate) fn write_bytes<M: Memory>(memory: &mut M, address: u64, bytes: &[u8])
     requires { AreGranted (M.regions memory.old) address (length bytes.now) }
-    ensures written { IsWritten (M.regions memory.old) (M.word memory.old) address bytes.now (length bytes.now) (M.word memory.new) }
-    ensures regions { M.regions memory.new ≡ M.regions memory.old }
-    ensures follows { M.follows memory.old [] memory.new }
+    ensures { AreBytesPut M.regions M.word M.follows memory.old address bytes.now memory.new }
 {
     let head = bytes_before_words(address, bytes.len() as u64);
     let (first, rest) = bytes.split_at(head as usize);

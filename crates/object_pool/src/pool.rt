@@ -56,7 +56,7 @@ impl<A: Allocator + Memory> Model for Pool<A> {
 impl<A: Allocator + Memory> Pool<A> {
     ghost use Rattle.object_pool.specs.Emptied.{IsEmptied};
     ghost use Rattle.sound_heap.specs.Heap.{StaysInState};
-    ghost use Rattle.object_pool.specs.Pool.{HasFreeSlot, IsSlabAdded, AreSlabsLaidOut, IsPoolRefused, IsRefusedBy, IsUnchanged, Keeps, KeepsAll, PlacesAreApart, StandsForLists, TakesSlabIfNeeded};
+    ghost use Rattle.object_pool.specs.Pool.{ChangesSlabsAlone, HasFreeSlot, IsSlabAdded, AreSlabsLaidOut, IsPoolRefused, IsSlabRefused, IsUnchanged, Keeps, LacksFreeSlot, PlacesAreApart, StandsForLists, TakesSlabIfNeeded};
 
     /// A pool without objects or slabs, for objects of `size` bytes, over a heap.
     pub fn new(alloc: Global, heap: Heap<A>, size: u64) -> Pool<A>
@@ -99,7 +99,7 @@ impl<A: Allocator + Memory> Pool<A> {
     fn lacks_slot(&self) -> bool
         ensures laid { AreSlabsLaidOut A.regions A.word self.now.heap self.now.size self.now.slabs }
         ensures within { length self.now.slots ≤ 64 * length self.now.slabs }
-        ensures answer { IsTrue result ↔ ((self.now.freed ≡ []) × (length self.now.slots ≡ 64 * length self.now.slabs)) }
+        ensures answer { IsTrue result ↔ LacksFreeSlot self.now }
     {
         self.slots.none_freed() && self.slots.len() == SLOTS * self.slabs.len()
     }
@@ -109,11 +109,9 @@ impl<A: Allocator + Memory> Pool<A> {
         ensures laid { AreSlabsLaidOut A.regions A.word self.old.heap self.old.size self.old.slabs }
         ensures within { length self.old.slots ≤ 64 * length self.old.slabs }
         ensures room { OnOk result (HasFreeSlot A.regions A.word A.follows self.old self.new) }
-        ensures kept { KeepsAll A.word self.old.heap self.new.heap }
-        ensures others { self.new ≡ record self.old { heap = self.new.heap; slabs = self.new.slabs } }
-        ensures lacks { OnErr result ((self.old.freed ≡ []) × (length self.old.slots ≡ 64 * length self.old.slabs)) }
-        ensures refused { IfErr result (λ fault. IsRefusedBy A.word A.denies self.old fault) }
-        ensures err { IfErr result (λ fault. IsUnchanged A.regions A.word A.follows A.refuses self.old fault self.new) }
+        ensures changed { ChangesSlabsAlone A.word self.old self.new }
+        ensures lacks { OnErr result (LacksFreeSlot self.old) }
+        ensures err { IfErr result (λ fault. IsSlabRefused A.regions A.word A.follows A.refuses A.denies self.old fault self.new) }
     {
         if !self.lacks_slot() {
             return Ok(());
@@ -123,13 +121,11 @@ impl<A: Allocator + Memory> Pool<A> {
 
     /// Takes one more slab if no slot is free. Every place that its slots need is reserved before the heap is asked.
     fn add_slab(&mut self) -> Result<(), PoolFault>
-        requires lacks { (self.old.freed ≡ []) × (length self.old.slots ≡ 64 * length self.old.slabs) }
+        requires lacks { LacksFreeSlot self.old }
         ensures added { OnOk result (IsSlabAdded A.regions A.word A.follows self.old.heap self.old.size self.old.slabs self.new.heap self.new.slabs) }
         ensures few { OnOk result (length self.old.slots < 2 ^ 32 - 64) }
-        ensures kept { KeepsAll A.word self.old.heap self.new.heap }
-        ensures others { self.new ≡ record self.old { heap = self.new.heap; slabs = self.new.slabs } }
-        ensures refused { IfErr result (λ fault. IsRefusedBy A.word A.denies self.old fault) }
-        ensures err { IfErr result (λ fault. IsUnchanged A.regions A.word A.follows A.refuses self.old fault self.new) }
+        ensures changed { ChangesSlabsAlone A.word self.old self.new }
+        ensures err { IfErr result (λ fault. IsSlabRefused A.regions A.word A.follows A.refuses A.denies self.old fault self.new) }
     {
         if self.slots.len() == MOST_SLOTS {
             return Err(PoolFault::Full);

@@ -11,7 +11,7 @@ ghost use Rattle.dlmalloc.specs.Served.{IsDenied, IsRefusedWith, refused_events}
 ghost use Rattle.sound_heap.specs.Heap.{HasBlock, AreInBlock, StaysInState};
 ghost use Rattle.object_pool.specs.Bytes.{AreGranted, IsWritten};
 ghost use Rattle.object_pool.specs.Emptied.{IsEmptied};
-ghost use Rattle.object_pool.specs.Pool.{object_bytes_at, slot_address, IsSlabAdded, AreSlabsLaidOut, KeepsAll, KeepsOtherBlocks};
+ghost use Rattle.object_pool.specs.Pool.{object_bytes_at, slot_address, IsObjectPut, IsSlabAdded, AreSlabsLaidOut, KeepsAll};
 
 use crate::Bytes;
 use crate::bytes::{read_bytes, write_bytes};
@@ -105,11 +105,7 @@ impl<A: Allocator + Memory> Slabs<A> {
         ensures laid { AreSlabsLaidOut A.regions A.word self.new.heap self.new.size self.new.places.items }
         ensures size { self.new.size ≡ self.old.size }
         ensures places { self.new.places ≡ self.old.places }
-        ensures state { StaysInState A.regions A.word A.follows self.old.heap self.new.heap }
-        ensures here { object_bytes_at A.word self.new.heap self.old.places.items self.old.size index ≡ bytes.now }
-        ensures others { (other : ℕ) → other < 64 * length self.old.places.items → other ≢ index →
-            object_bytes_at A.word self.new.heap self.old.places.items self.old.size other ≡ object_bytes_at A.word self.old.heap self.old.places.items self.old.size other }
-        ensures kept { KeepsOtherBlocks A.word self.old.places.items self.old.heap self.new.heap }
+        ensures put { IsObjectPut A.regions A.word A.follows self.old.heap self.old.places.items self.old.size index bytes.now self.new.heap }
     {
         let place = self.place(index);
         self.heap.blocks_are_placed();

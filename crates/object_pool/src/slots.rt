@@ -34,6 +34,8 @@ pub(crate) struct Slots {
 }
 
 impl Slots {
+    ghost use Rattle.object_pool.specs.Places.{KeepsPlaces};
+
     /// No slots.
     pub(crate) fn new(alloc: Global) -> Slots
         ensures slots { result.slots.items ≡ [] }
@@ -103,8 +105,7 @@ impl Slots {
         requires { self.old.freed.items ≡ [] → (length self.old.slots.items < 2 ^ 32 - 64) × (length self.old.slots.items < vec_capacity self.old.slots) × (length self.old.slots.items < vec_capacity self.old.freed) }
         ensures next { IsNextSlot self.old.slots.items self.old.freed.items result.index self.new.slots.items self.new.freed.items }
         ensures taken { IsTaken self.old.slots.items result self.new.slots.items }
-        ensures room { vec_capacity self.new.slots ≡ vec_capacity self.old.slots }
-        ensures places { vec_capacity self.new.freed ≡ vec_capacity self.old.freed }
+        ensures places { KeepsPlaces self.old self.new }
     {
         match self.freed.pop() {
             Some(index) => {
@@ -135,8 +136,7 @@ impl Slots {
     pub(crate) fn release(&mut self, key: Key)
         requires { IsKeyLive self.old.slots.items key }
         ensures released { IsReleased self.old.slots.items self.old.freed.items key self.new.slots.items self.new.freed.items }
-        ensures room { vec_capacity self.new.slots ≡ vec_capacity self.old.slots }
-        ensures places { vec_capacity self.new.freed ≡ vec_capacity self.old.freed }
+        ensures places { KeepsPlaces self.old self.new }
     {
         let generation = key.generation + 1;
         self.slots[key.index as usize] = Slot {

@@ -7,7 +7,7 @@ use Rattle.heap_memory.specs.Events.{Event}
 use Rattle.dlmalloc.specs.State.{HeapState, new_heap, countdown_from}
 use Rattle.dlmalloc.specs.Heap.{state_of}
 pub use Rattle.dlmalloc.specs.Blocks.{HasBlock, usable}
-use Rattle.dlmalloc.specs.Blocks.{IsBlock}
+use Rattle.dlmalloc.specs.Blocks.{IsBlock, BlocksAreApart}
 use Rattle.dlmalloc.specs.Requested.{asked, IsServedAt, IsHandedOut, IsMemberServed}
 use Rattle.dlmalloc.specs.Written.{IsServedCleared}
 use Rattle.dlmalloc.specs.Order.{KeepsIndex}
@@ -20,6 +20,10 @@ use Rattle.sound_heap.specs.declared.heap_error.HeapError.TheVariants.{BadAlign,
 -- a heap without blocks, with a granularity and a rate
 abbrev pub fresh_heap : ℕ → ℕ → HeapState
 fresh_heap granularity rate = record new_heap { granularity = granularity; rate = rate; countdown = countdown_from rate }
+
+-- two blocks of a heap have no byte in common, with one byte for a block that has none
+abbrev pub AreBlocksApart : {A : Type 0} → (A → ℕ → ℕ) → Dlmalloc A → Type 0
+AreBlocksApart word heap = BlocksAreApart (state_of word heap)
 
 -- this many bytes from an address on lie in one block
 pub record AreInBlock (heap : HeapState) (address count : ℕ) : Type 0 where

@@ -1,8 +1,8 @@
 // Calls of a heap, each with a counter of its own.
-ghost use Rattle.std.specs.Prelude.{◌≡◌, ◌↔◌, ◌<◌, Some, IfOk, IfErr, IsTrue, filter};
+ghost use Rattle.std.specs.Prelude.{◌≡◌, ◌↔◌, Some, IfOk, IfErr, IsTrue, filter};
 ghost use Rattle.std.specs.Int.{IsPowerOfTwo};
 ghost use Rattle.dlmalloc.specs.Binned.{IsIntact};
-ghost use Rattle.dlmalloc.specs.Blocks.{IsBlock, HasBlock, BlocksAreApart, usable};
+ghost use Rattle.dlmalloc.specs.Blocks.{IsBlock, HasBlock, usable};
 ghost use Rattle.dlmalloc.specs.Heap.{state_of, IsSound};
 ghost use Rattle.dlmalloc.specs.Served.{IsRefusedWith};
 ghost use Rattle.dlmalloc.specs.Listed.{IsListed};
@@ -12,7 +12,8 @@ ghost use Rattle.dlmalloc.specs.Outcome.{IsReallocated, IsReallocRefused};
 ghost use Rattle.dlmalloc.specs.Shortened.{IsTrimmed};
 ghost use Rattle.dlmalloc.specs.GivenBack.{AreGivenBack};
 ghost use Rattle.dlmalloc.specs.Released.{is_own, taken_back};
-ghost use Rattle.sound_heap.specs.Heap.{IsBlockHandedOut};
+ghost use Rattle.sound_heap.specs.Blanks.{IsBlankOf};
+ghost use Rattle.sound_heap.specs.Heap.{AreBlocksApart, IsBlockHandedOut};
 
 use dlmalloc::{Dlmalloc, ExtentList, MallocError};
 use dlmalloc_chunks::chunk;
@@ -35,15 +36,13 @@ pub(crate) fn hand_out<A: Allocator, L: Ledger>(
     cleared: bool,
     blank: Blank,
 ) -> Result<u64, MallocError>
-    requires name { blank.name ≡ L.name }
-    requires parts { blank.parts ≡ L.parts }
-    requires some { 0 < blank.parts }
+    requires blank { IsBlankOf L.name L.parts blank }
     requires intact { IsIntact A.regions A.word heap.old }
     requires align { IsPowerOfTwo align }
     ensures ok { IfOk result (λ address. IsBlockHandedOut A.regions A.word A.zeros A.follows heap.old size align cleared address heap.new) }
     ensures err { IfErr result (λ error. IsRefusedWith A.regions A.word A.follows A.refuses A.denies heap.old (asked size align) error heap.new) }
     ensures intact { IsIntact A.regions A.word heap.new }
-    ensures apart { BlocksAreApart (state_of A.word heap.new) }
+    ensures apart { AreBlocksApart A.word heap.new }
 {
     let mut steps = Steps::<L>::new(blank);
     let answer = if cleared {
@@ -62,15 +61,13 @@ pub(crate) fn resize<A: Allocator, L: Ledger>(
     size: u64,
     blank: Blank,
 ) -> Result<u64, MallocError>
-    requires name { blank.name ≡ L.name }
-    requires parts { blank.parts ≡ L.parts }
-    requires some { 0 < blank.parts }
+    requires blank { IsBlankOf L.name L.parts blank }
     requires intact { IsIntact A.regions A.word heap.old }
     requires block { HasBlock (state_of A.word heap.old) address }
     ensures ok { IfOk result (λ to. IsReallocated A.regions A.word A.zeros A.follows (A.frees heap.old.system) (A.parts heap.old.system) (A.unit heap.old.system) heap.old address (usable (state_of A.word heap.old) address) 16 size to heap.new) }
     ensures err { IfErr result (λ error. IsReallocRefused A.regions A.word A.follows A.refuses A.denies heap.old (Some address) 16 size error heap.new) }
     ensures intact { IsIntact A.regions A.word heap.new }
-    ensures apart { BlocksAreApart (state_of A.word heap.new) }
+    ensures apart { AreBlocksApart A.word heap.new }
 {
     let answer = heap.c_realloc(Some(address), size, &mut Steps::<L>::new(blank));
     heap.blocks_are_apart();
@@ -86,16 +83,14 @@ pub(crate) fn resize_aligned<A: Allocator, L: Ledger>(
     size: u64,
     blank: Blank,
 ) -> Result<u64, MallocError>
-    requires name { blank.name ≡ L.name }
-    requires parts { blank.parts ≡ L.parts }
-    requires some { 0 < blank.parts }
+    requires blank { IsBlankOf L.name L.parts blank }
     requires intact { IsIntact A.regions A.word heap.old }
     requires align { IsPowerOfTwo align }
     requires block { IsBlock (state_of A.word heap.old) address held }
     ensures ok { IfOk result (λ to. IsReallocated A.regions A.word A.zeros A.follows (A.frees heap.old.system) (A.parts heap.old.system) (A.unit heap.old.system) heap.old address held align size to heap.new) }
     ensures err { IfErr result (λ error. IsReallocRefused A.regions A.word A.follows A.refuses A.denies heap.old (Some address) align size error heap.new) }
     ensures intact { IsIntact A.regions A.word heap.new }
-    ensures apart { BlocksAreApart (state_of A.word heap.new) }
+    ensures apart { AreBlocksApart A.word heap.new }
 {
     let answer = heap.realloc(address, held, align, size, &mut Steps::<L>::new(blank));
     heap.blocks_are_apart();
@@ -104,9 +99,7 @@ pub(crate) fn resize_aligned<A: Allocator, L: Ledger>(
 
 /// Gives a block back.
 pub(crate) fn free<A: Allocator, L: Ledger>(heap: &mut Dlmalloc<A>, address: u64, blank: Blank)
-    requires name { blank.name ≡ L.name }
-    requires parts { blank.parts ≡ L.parts }
-    requires some { 0 < blank.parts }
+    requires blank { IsBlankOf L.name L.parts blank }
     requires intact { IsIntact A.regions A.word heap.old }
     requires block { HasBlock (state_of A.word heap.old) address }
     ensures freed { IsFreed A.regions A.word A.follows (A.frees heap.old.system) (A.parts heap.old.system) (A.unit heap.old.system) heap.old address heap.new }
@@ -117,9 +110,7 @@ pub(crate) fn free<A: Allocator, L: Ledger>(heap: &mut Dlmalloc<A>, address: u64
 
 /// Gives memory back to the system that no block needs.
 pub(crate) fn trim<A: Allocator, L: Ledger>(heap: &mut Dlmalloc<A>, pad: u64, blank: Blank) -> bool
-    requires name { blank.name ≡ L.name }
-    requires parts { blank.parts ≡ L.parts }
-    requires some { 0 < blank.parts }
+    requires blank { IsBlankOf L.name L.parts blank }
     requires intact { IsIntact A.regions A.word heap.old }
     ensures trimmed { IsTrimmed A.regions A.word A.follows (A.frees heap.old.system) (A.parts heap.old.system) (A.unit heap.old.system) heap.old pad result heap.new }
     ensures intact { IsIntact A.regions A.word heap.new }
@@ -133,9 +124,7 @@ pub(crate) fn usable_size<A: Allocator, L: Ledger>(
     address: u64,
     blank: Blank,
 ) -> u64
-    requires name { blank.name ≡ L.name }
-    requires parts { blank.parts ≡ L.parts }
-    requires some { 0 < blank.parts }
+    requires blank { IsBlankOf L.name L.parts blank }
     requires sound { IsSound A.regions A.word heap.now }
     requires block { HasBlock (state_of A.word heap.now) address }
     ensures { result ≡ usable (state_of A.word heap.now) address }
@@ -149,9 +138,7 @@ pub(crate) fn extents<A: Allocator, L: Ledger>(
     alloc: Global,
     blank: Blank,
 ) -> Result<ExtentList, AllocError>
-    requires name { blank.name ≡ L.name }
-    requires parts { blank.parts ≡ L.parts }
-    requires some { 0 < blank.parts }
+    requires blank { IsBlankOf L.name L.parts blank }
     requires sound { IsSound A.regions A.word heap.now }
     ensures { IfOk result (λ list. IsListed A.word heap.now list) }
 {
@@ -160,9 +147,7 @@ pub(crate) fn extents<A: Allocator, L: Ledger>(
 
 /// Hands the segments of a heap to its system, and answers how many bytes the system took, and the system.
 pub(crate) fn destroy<A: Allocator, L: Ledger>(heap: Dlmalloc<A>, blank: Blank) -> (u64, A)
-    requires name { blank.name ≡ L.name }
-    requires parts { blank.parts ≡ L.parts }
-    requires some { 0 < blank.parts }
+    requires blank { IsBlankOf L.name L.parts blank }
     requires sound { IsSound A.regions A.word heap }
     ensures { AreGivenBack A.regions A.word A.follows (taken_back (A.frees heap.system) (filter is_own (state_of A.word heap).segments)) heap.system result.0 result.1 }
 {

@@ -11,18 +11,18 @@ impl<A: Allocator> Heap<A> {
     ghost use Rattle.std.specs.Prelude.{◌≡◌, ◌≤◌, true, false, Some, IfOk, IfErr};
     ghost use Rattle.std.specs.Int.{IsPowerOfTwo};
     ghost use Rattle.dlmalloc.specs.Heap.{state_of};
-    ghost use Rattle.dlmalloc.specs.Blocks.{IsBlock, BlocksAreApart};
+    ghost use Rattle.dlmalloc.specs.Blocks.{IsBlock};
     ghost use Rattle.dlmalloc.specs.Requested.{asked};
     ghost use Rattle.dlmalloc.specs.Served.{IsRefusedWith};
     ghost use Rattle.dlmalloc.specs.Outcome.{IsReallocated, IsReallocRefused};
     ghost use Rattle.dlmalloc.specs.AfterFree.{IsFreed};
-    ghost use Rattle.sound_heap.specs.Heap.{HasBlock, usable, IsBlockHandedOut, IsRequestRefused};
+    ghost use Rattle.sound_heap.specs.Heap.{AreBlocksApart, HasBlock, usable, IsBlockHandedOut, IsRequestRefused};
 
     /// The address of a block of `size` bytes, at a multiple of `align` and of 16.
     pub fn malloc(&mut self, size: u64, align: u64) -> Result<u64, HeapError>
         ensures ok { IfOk result (λ address. IsBlockHandedOut A.regions A.word A.zeros A.follows self.old size align false address self.new) }
         ensures err { IfErr result (λ error. IsRequestRefused A.regions A.word A.follows A.refuses A.denies self.old size align error self.new) }
-        ensures apart { BlocksAreApart (state_of A.word self.new) }
+        ensures apart { AreBlocksApart A.word self.new }
     {
         self.request(size, align, false)
     }
@@ -31,7 +31,7 @@ impl<A: Allocator> Heap<A> {
     pub fn calloc(&mut self, size: u64, align: u64) -> Result<u64, HeapError>
         ensures ok { IfOk result (λ address. IsBlockHandedOut A.regions A.word A.zeros A.follows self.old size align true address self.new) }
         ensures err { IfErr result (λ error. IsRequestRefused A.regions A.word A.follows A.refuses A.denies self.old size align error self.new) }
-        ensures apart { BlocksAreApart (state_of A.word self.new) }
+        ensures apart { AreBlocksApart A.word self.new }
     {
         self.request(size, align, true)
     }
@@ -40,7 +40,7 @@ impl<A: Allocator> Heap<A> {
     fn request(&mut self, size: u64, align: u64, cleared: bool) -> Result<u64, HeapError>
         ensures ok { IfOk result (λ address. IsBlockHandedOut A.regions A.word A.zeros A.follows self.old size align cleared address self.new) }
         ensures err { IfErr result (λ error. IsRequestRefused A.regions A.word A.follows A.refuses A.denies self.old size align error self.new) }
-        ensures apart { BlocksAreApart (state_of A.word self.new) }
+        ensures apart { AreBlocksApart A.word self.new }
     {
         if !calls::is_alignment(align) {
             self.blocks_are_apart();
@@ -58,7 +58,7 @@ impl<A: Allocator> Heap<A> {
         requires align { IsPowerOfTwo align }
         ensures ok { IfOk result (λ address. IsBlockHandedOut A.regions A.word A.zeros A.follows self.old size align cleared address self.new) }
         ensures err { IfErr result (λ error. IsRefusedWith A.regions A.word A.follows A.refuses A.denies self.old (asked size align) error self.new) }
-        ensures apart { BlocksAreApart (state_of A.word self.new) }
+        ensures apart { AreBlocksApart A.word self.new }
     {
         calls::hand_out::<A, Brand>(&mut self.heap, size, align, cleared, Blank::new(1))
     }
@@ -70,7 +70,7 @@ impl<A: Allocator> Heap<A> {
         ensures ok { IfOk result (λ to. IsReallocated A.regions A.word A.zeros A.follows (A.frees self.old.system) (A.parts self.old.system) (A.unit self.old.system) self.old address (usable (state_of A.word self.old) address) 16 size to self.new) }
         ensures enough { IfOk result (λ to. size ≤ usable (state_of A.word self.new) to) }
         ensures err { IfErr result (λ error. IsReallocRefused A.regions A.word A.follows A.refuses A.denies self.old (Some address) 16 size error self.new) }
-        ensures apart { BlocksAreApart (state_of A.word self.new) }
+        ensures apart { AreBlocksApart A.word self.new }
     {
         calls::resize::<A, Brand>(&mut self.heap, address, size, Blank::new(1))
     }
@@ -88,7 +88,7 @@ impl<A: Allocator> Heap<A> {
         ensures ok { IfOk result (λ to. IsReallocated A.regions A.word A.zeros A.follows (A.frees self.old.system) (A.parts self.old.system) (A.unit self.old.system) self.old address held align size to self.new) }
         ensures enough { IfOk result (λ to. size ≤ usable (state_of A.word self.new) to) }
         ensures err { IfErr result (λ error. IsReallocRefused A.regions A.word A.follows A.refuses A.denies self.old (Some address) align size error self.new) }
-        ensures apart { BlocksAreApart (state_of A.word self.new) }
+        ensures apart { AreBlocksApart A.word self.new }
     {
         calls::resize_aligned::<A, Brand>(&mut self.heap, address, held, align, size, Blank::new(1))
     }

@@ -1,4 +1,4 @@
-use Rattle.std.proofs.Common.{◌+◌, List, length, subst, arith}
+use Rattle.std.proofs.Common.{◌+◌, List, [], length, ◌∙◌, refl, subst, arith}
 use Rattle.heap_memory.specs.declared.grant.Grant.{Grant}
 use Rattle.object_pool.specs.Bytes.{IsWritten}
 use Rattle.object_pool.proofs.Granted.{below}
@@ -12,14 +12,18 @@ overflow_add-address g c =
     (omega (arith, c.split_at.ensures.front_len, c.split_at.ensures.back_len, c.if-rest-gt0.true))) in
     omega (arith, small)
 
-pub returns-then-rest-gt0-clause-written : goal.returns-then-rest-gt0-clause-written
-returns-then-rest-gt0-clause-written g c =
+pub returns-then-rest-gt0 : goal.returns-then-rest-gt0
+returns-then-rest-gt0 g c =
     let old = c.args.memory.now in
     let mid = c.write_each.new.memory in
     let new = c.write_from_word.new.memory in
-    written_parts (g.M.Links.regions old) (g.M.Links.word old) (g.M.Links.word mid) (g.M.Links.word new) c.args.address _
-    c.args.bytes.now c.split_at.result.0.now c.split_at.result.1.now c.requires
-    c.split_at.ensures.front c.split_at.ensures.back c.split_at.ensures.front_len c.split_at.ensures.back_len c.write_each.ensures.written
-    (subst (λ (regions : List Grant). IsWritten regions (g.M.Links.word mid)
-    (c.args.address + length c.split_at.result.0.now) c.split_at.result.1.now (length c.split_at.result.1.now)
-    (g.M.Links.word new)) c.write_each.ensures.regions c.write_from_word.ensures.written)
+    record {
+      written = written_parts (g.M.Links.regions old) (g.M.Links.word old) (g.M.Links.word mid) (g.M.Links.word new) c.args.address _
+          c.args.bytes.now c.split_at.result.0.now c.split_at.result.1.now c.requires
+          c.split_at.ensures.front c.split_at.ensures.back c.split_at.ensures.front_len c.split_at.ensures.back_len c.write_each.ensures.written
+          (subst (λ (regions : List Grant). IsWritten regions (g.M.Links.word mid)
+          (c.args.address + length c.split_at.result.0.now) c.split_at.result.1.now (length c.split_at.result.1.now)
+          (g.M.Links.word new)) c.write_each.ensures.regions_same c.write_from_word.ensures.written);
+      regions_same = c.write_from_word.ensures.regions_same ∙ c.write_each.ensures.regions_same;
+      followed = g.M.Links.follows_on old mid new [] [] [] c.write_each.ensures.followed c.write_from_word.ensures.followed refl;
+    }

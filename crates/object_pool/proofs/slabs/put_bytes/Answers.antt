@@ -17,7 +17,7 @@ invariant_of-heap g c =
     let heap = c.heap.inside.heap in
     let inside = subst (λ heap. AreInBlock (state_of g.A.Links.word heap) c.args.address (length c.args.bytes.now)) (sym c.heap.view_is) c.requires.inside in
     let value = c.allocator_mut.ensures.value in
-    let same = c.write_bytes.ensures.regions ∙ ap g.A.Links.regions value in
+    let same = c.write_bytes.ensures.regions_same ∙ ap g.A.Links.regions value in
     let written = subst (λ system. IsWritten (g.A.Links.regions system) (g.A.Links.word system) c.args.address
     c.args.bytes.now (length c.args.bytes.now) (g.A.Links.word c.write_bytes.new.memory)) value
     c.write_bytes.ensures.written in
@@ -39,7 +39,7 @@ returns-clause-stays g c =
     let heap = c.heap.inside.heap in
     let inside = subst (λ heap. AreInBlock (state_of g.A.Links.word heap) c.args.address (length c.args.bytes.now)) (sym c.heap.view_is) c.requires.inside in
     let value = c.allocator_mut.ensures.value in
-    let same = c.write_bytes.ensures.regions ∙ ap g.A.Links.regions value in
+    let same = c.write_bytes.ensures.regions_same ∙ ap g.A.Links.regions value in
     let written = subst (λ system. IsWritten (g.A.Links.regions system) (g.A.Links.word system) c.args.address
     c.args.bytes.now (length c.args.bytes.now) (g.A.Links.word c.write_bytes.new.memory)) value
     c.write_bytes.ensures.written in
@@ -50,7 +50,7 @@ returns-clause-stays g c =
     (record c.heap.inside.heap { system = c.write_bytes.new.memory })) c.heap.view_is (record {
       state = rest.1;
       regions_same = same;
-      followed = subst (λ system. g.A.Links.follows system [] c.write_bytes.new.memory) value c.write_bytes.ensures.follows;
+      followed = subst (λ system. g.A.Links.follows system [] c.write_bytes.new.memory) value c.write_bytes.ensures.followed;
       index = written_index g.A.Links.regions g.A.Links.word heap c.write_bytes.new.memory inside.block inside.size
           inside.is c.blocks_are_placed.ensures c.args.address c.args.bytes.now (length c.args.bytes.now) inside.low
           inside.within written c.order_rests_outside.ensures c.heap.invariant.sound same;

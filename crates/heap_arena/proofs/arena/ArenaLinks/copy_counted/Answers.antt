@@ -1,7 +1,7 @@
 use Rattle.std.proofs.Common.{rules, refl, ℕ, ◌+◌, ◌-◌, ◌/◌, ◌<◌, inl, inr, ap, ◌∙◌, arith, get_or}
 use Rattle.heap_arena.specs.Arena.{regions_of}
 use Rattle.heap_arena.proofs.GrantLemmas.{granted_between}
-use Rattle.heap_arena.proofs.Runs.{begins_above, ends_within, ends_below, kept_after}
+use Rattle.heap_arena.proofs.Runs.{begins_above, ends_within, ends_below, written_below}
 use Rattle.heap_arena.proofs.arena.ArenaLinks.copy_counted.Goals as goal
 
 pub overflow_sub-place : goal.overflow_sub-place
@@ -46,8 +46,10 @@ returns-clause-copied g c =
           ];
     }
 
-pub returns-clause-others : goal.returns-clause-others
-returns-clause-others g c = λ i beside.
+pub returns-clause-written : goal.returns-clause-written
+returns-clause-written g c =
+    let below = ends_below c.args.self.now c.args.to c.args.count (omega (arith, c.if-count-eq0.false)) c.requires.to in
+    written_below c.args.self.now _ c.args.to c.args.count (record { base = refl; len = search rules; table = refl }) refl refl refl below (λ i beside.
     let arena = c.args.self.now in
     let to_low = begins_above arena c.args.to c.args.count (omega (arith, c.if-count-eq0.false)) c.requires.to in
     let begin = arena.aligned in
@@ -55,10 +57,4 @@ returns-clause-others g c = λ i beside.
     elim beside [
       | inl before ↦ c.copy_within.ensures.by_index.1 i 0 (omega (arith, before, to_low, begin, to_whole))
       | inr behind ↦ c.copy_within.ensures.by_index.2 i 0 (omega (arith, behind, to_low, begin, to_whole))
-    ]
-
-pub returns-clause-follows : goal.returns-clause-follows
-returns-clause-follows g c =
-    let arena = c.args.self.now in
-    let below = ends_below arena c.args.to c.args.count (omega (arith, c.if-count-eq0.false)) c.requires.to in
-    kept_after arena _ c.args.to c.args.count (record { base = refl; len = search rules; table = refl }) refl refl below (returns-clause-others g c)
+    ])

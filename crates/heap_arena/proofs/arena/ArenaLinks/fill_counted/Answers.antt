@@ -2,7 +2,7 @@ use Rattle.std.proofs.Common.{ℕ, ◌≡◌, ◌+◌, ◌-◌, ◌/◌, ◌<◌
 use Rattle.std.proofs.lemmas.List.{get_or-replicate, length-take-le}
 use Rattle.heap_arena.specs.Arena.{regions_of}
 use Rattle.heap_arena.proofs.GrantLemmas.{granted_between}
-use Rattle.heap_arena.proofs.Runs.{begins_above, ends_within, ends_below, kept_after, inside, outside}
+use Rattle.heap_arena.proofs.Runs.{begins_above, ends_within, ends_below, written_below, inside, outside}
 use Rattle.heap_arena.proofs.arena.ArenaLinks.fill_counted.Goals as goal
 
 pub overflow_sub-place : goal.overflow_sub-place
@@ -46,8 +46,10 @@ returns-clause-filled g c =
           outside words part place n ((other - base) / 8) within many apart;
     }
 
-pub returns-clause-others : goal.returns-clause-others
-returns-clause-others g c = λ i beside.
+pub returns-clause-written : goal.returns-clause-written
+returns-clause-written g c =
+    let below = ends_below c.args.self.now c.args.at c.args.count (omega (arith, c.if-count-eq0.false)) c.requires in
+    written_below c.args.self.now _ c.args.at c.args.count (record { base = refl; len = search rules; table = refl }) refl refl refl below (λ i beside.
     let arena = c.args.self.now in
     let words : List ℕ = arena.words.now in
     let place : ℕ = (c.args.at - arena.base) / 8 in
@@ -62,10 +64,4 @@ returns-clause-others g c = λ i beside.
       | inl before ↦ inl (omega (arith, before, low, whole, begin))
       | inr behind ↦ inr (omega (arith, behind, low, whole, begin))
     ] in
-    outside words c.fill.new.self place n i (omega (arith, fits)) many apart
-
-pub returns-clause-follows : goal.returns-clause-follows
-returns-clause-follows g c =
-    let arena = c.args.self.now in
-    let below = ends_below arena c.args.at c.args.count (omega (arith, c.if-count-eq0.false)) c.requires in
-    kept_after arena _ c.args.at c.args.count (record { base = refl; len = search rules; table = refl }) refl refl below (returns-clause-others g c)
+    outside words c.fill.new.self place n i (omega (arith, fits)) many apart)

@@ -2,11 +2,11 @@ use Rattle.std.proofs.Common.{rules, refl, inl, inr, ℕ, ◌-◌, ◌/◌, List
 use Rattle.std.proofs.lemmas.List.{get_or-set_same, get_or-set_other}
 use Rattle.heap_arena.specs.Arena.{regions_of}
 use Rattle.heap_arena.proofs.GrantLemmas.{granted_between}
-use Rattle.heap_arena.proofs.Runs.{kept_after}
+use Rattle.heap_arena.proofs.Runs.{written_below}
 use Rattle.heap_arena.proofs.arena.ArenaMemory.store.Goals as goal
 
-pub returns-clause-stored : goal.returns-clause-stored
-returns-clause-stored c =
+pub returns : goal.returns
+returns c =
     let arena = c.args.self.now in
     let words = arena.words.now in
     let base = arena.base in
@@ -14,33 +14,22 @@ returns-clause-stored c =
     let within = granted_between base arena.top (regions_of arena) at arena.between c.requires.granted in
     let end = arena.ends in
     let begin = arena.aligned in
-    let whole = c.requires.aligned in
-    let word_put = λ (place : ℕ). ap (λ (ws : List ℕ). get_or ws ((place - base) / 8) 0) c.put_word.ensures in record {
-      here = word_put at ∙ get_or-set_same words ((at - base) / 8) c.args.value 0 (omega (arith, within.0, within.1, end, begin, whole));
-      elsewhere = λ other is differ.
-          let other_within = granted_between base arena.top (regions_of arena) other arena.between is.granted in
-          let other_whole = is.aligned in
-          word_put other ∙ get_or-set_other words ((at - base) / 8) ((other - base) / 8) c.args.value 0
-          (λ same. differ (omega (arith, same, within.0, other_within.0, begin, whole, other_whole)));
-    }
-
-pub returns-clause-others : goal.returns-clause-others
-returns-clause-others c = λ i beside.
-    let arena = c.args.self.now in
-    let within = granted_between arena.base arena.top (regions_of arena) c.args.at arena.between c.requires.granted in
-    let begin = arena.aligned in
-    let whole = c.requires.aligned in
-    ap (λ (ws : List ℕ). get_or ws i 0) c.put_word.ensures ∙ get_or-set_other arena.words.now ((c.args.at - arena.base) / 8)
-    i c.args.value 0 (λ same. elim beside [
-      | inl before ↦ omega (arith, same, before, within.0, begin, whole)
-      | inr behind ↦ omega (arith, same, behind, within.0, begin, whole)
-    ])
-
-pub returns-clause-follows : goal.returns-clause-follows
-returns-clause-follows c =
-    let arena = c.args.self.now in
-    let within = granted_between arena.base arena.top (regions_of arena) c.args.at arena.between c.requires.granted in
     let top = arena.top_aligned in
     let whole = c.requires.aligned in
-    kept_after arena _ c.args.at 1 (record { base = refl; len = search rules; table = refl }) refl refl
-    (omega (arith, within.1, top, whole)) (returns-clause-others c)
+    let word_put = λ (place : ℕ). ap (λ (ws : List ℕ). get_or ws ((place - base) / 8) 0) c.put_word.ensures in record {
+      stored = record {
+        here = word_put at ∙ get_or-set_same words ((at - base) / 8) c.args.value 0 (omega (arith, within.0, within.1, end, begin, whole));
+        elsewhere = λ other is differ.
+            let other_within = granted_between base arena.top (regions_of arena) other arena.between is.granted in
+            let other_whole = is.aligned in
+            word_put other ∙ get_or-set_other words ((at - base) / 8) ((other - base) / 8) c.args.value 0
+            (λ same. differ (omega (arith, same, within.0, other_within.0, begin, whole, other_whole)));
+      };
+      words = c.put_word.ensures;
+      written = written_below arena _ at 1 (record { base = refl; len = search rules; table = refl }) refl refl refl (omega (arith, within.1, top, whole))
+          (λ i beside. ap (λ (ws : List ℕ). get_or ws i 0) c.put_word.ensures
+          ∙ get_or-set_other words ((at - base) / 8) i c.args.value 0 (λ same. elim beside [
+            | inl before ↦ omega (arith, same, before, within.0, begin, whole)
+            | inr behind ↦ omega (arith, same, behind, within.0, begin, whole)
+          ]));
+    }

@@ -10,6 +10,6 @@ pub invariant_of-self : goal.invariant_of-self
 invariant_of-self g c =
     let olds = c.args.self.now.arenas.items in
     let news = c.store_among.new.arenas in
-    let after = subst (λ (xs : List Arena). AreAfter xs [] news) c.as_mut_slice.ensures.value c.store_among.ensures.after in
+    let after = subst (λ (xs : List Arena). AreAfter xs [] news) c.as_mut_slice.ensures.value c.store_among.ensures.written.follows in
     let same = zip_map (λ x y. IsArenaAfter x [] y) (λ x y. IsSameArena x y) (λ x y one. one.same) olds news after in
     record { in_order = rw (refilled olds news (search rules)) (order_same olds news same c.args.self.now.in_order) }

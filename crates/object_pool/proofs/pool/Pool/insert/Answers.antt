@@ -5,8 +5,8 @@ use Rattle.object_pool.proofs.pool.Pool.insert.Goals as goal
 
 pub returns-in_err-make_room-clause-kept : goal.returns-in_err-make_room-clause-kept
 returns-in_err-make_room-clause-kept g c = record {
-  size = ap (λ p. p.size) c.make_room.ensures.others;
-  blocks = λ address n block none. c.make_room.ensures.kept address n block;
+  size = ap (λ p. p.size) c.make_room.ensures.changed.others;
+  blocks = λ address n block none. c.make_room.ensures.changed.kept address n block;
 }
 
 pub write-requires-clause-there : goal.write-requires-clause-there
@@ -31,8 +31,8 @@ invariant_of-self g c =
       laid = c.write.ensures.laid;
       within = omega (arith, same, within);
       most = omega (arith, same, c.self.invariant.most);
-      room = omega (arith, same, c.self.invariant.room, c.take-key.ensures.room);
-      freed_room = omega (arith, same, c.self.invariant.freed_room, c.take-key.ensures.places);
+      room = omega (arith, same, c.self.invariant.room, c.take-key.ensures.places.room);
+      freed_room = omega (arith, same, c.self.invariant.freed_room, c.take-key.ensures.places.freed_room);
     }
 
 pub returns-clause-key : goal.returns-clause-key
@@ -54,7 +54,7 @@ returns-clause-after g c = λ lists stands.
     c.take-key.result c.take-key.new.self.slots.items c.take-key.new.self.freed.items c.take-key.ensures.next c.take-key.ensures.taken
     c.write.new.self.heap c.write.new.self.size c.write.new.self.places.items c.args.bytes.now c.write.ensures.size
     (ap (λ places. places.items) c.write.ensures.places)
-    lists stands c.make_room.ensures.within c.take-key.new.self.freed_are c.write.ensures.here c.write.ensures.others
+    lists stands c.make_room.ensures.within c.take-key.new.self.freed_are c.write.ensures.put.here c.write.ensures.put.others
 
 pub returns-clause-kept : goal.returns-clause-kept
 returns-clause-kept g c =
@@ -65,7 +65,7 @@ returns-clause-kept g c =
     c.in_ok-make_room.ensures.room) c.self.invariant.within
     c.take-key.result c.take-key.new.self.slots.items c.take-key.new.self.freed.items c.take-key.ensures.next c.take-key.ensures.taken
     c.write.new.self.heap c.write.new.self.size c.write.new.self.places.items c.args.bytes.now c.write.ensures.size
-    (ap (λ places. places.items) c.write.ensures.places) c.write.ensures.kept
+    (ap (λ places. places.items) c.write.ensures.places) c.write.ensures.put.kept
 
 pub returns-clause-slab : goal.returns-clause-slab
 returns-clause-slab g c = λ lists stands.
@@ -77,4 +77,4 @@ returns-clause-slab g c = λ lists stands.
     c.take-key.result c.take-key.new.self.slots.items c.take-key.new.self.freed.items c.take-key.ensures.next c.take-key.ensures.taken
     c.write.new.self.heap c.write.new.self.size c.write.new.self.places.items c.args.bytes.now c.write.ensures.size
     (ap (λ places. places.items) c.write.ensures.places)
-    g.A.Links.follows_on c.write.ensures.state lists stands
+    g.A.Links.follows_on c.write.ensures.put.stays lists stands

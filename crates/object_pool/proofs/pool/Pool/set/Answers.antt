@@ -28,12 +28,12 @@ returns-clause-after g c = λ lists stands yes.
     lists (subst (λ pool. StandsForLists g.A.Links.word pool lists) (sym c.self.view_is) stands)
     c.write.new.self.heap c.write.new.self.size c.write.new.self.places.items c.args.key c.args.bytes.now
     c.write.ensures.size (ap (λ places. places.items) c.write.ensures.places) c.self.invariant.within p.slots.freed_are
-    (c.has.ensures.0 c.if-not-has.false) c.write.ensures.here c.write.ensures.others
+    (c.has.ensures.0 c.if-not-has.false) c.write.ensures.put.here c.write.ensures.put.others
 
 pub returns-clause-kept : goal.returns-clause-kept
 returns-clause-kept g c = subst (λ pool. Keeps g.A.Links.word pool (pooled c.write.new.self.heap c.write.new.self.size
     c.write.new.self.places.items c.self.inside.slots.slots.items c.self.inside.slots.freed.items)) c.self.view_is
-    (record { size = c.write.ensures.size; blocks = c.write.ensures.kept })
+    (record { size = c.write.ensures.size; blocks = c.write.ensures.put.kept })
 
 pub returns-then-not-has-clause-heap : goal.returns-then-not-has-clause-heap
 returns-then-not-has-clause-heap g c = record {

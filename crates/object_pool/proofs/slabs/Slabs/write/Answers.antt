@@ -22,32 +22,21 @@ returns-clause-laid g c =
     (length c.args.bytes.now) (g.A.Links.word c.put_bytes.new.heap.system)) c.place-place.ensures.place
     c.put_bytes.ensures.written)
 
-pub returns-clause-here : goal.returns-clause-here
-returns-clause-here g c =
+pub returns-clause-put : goal.returns-clause-put
+returns-clause-put g c =
     let s = c.args.self.now in
-    written_here g.A.Links.regions g.A.Links.word s.heap s.size s.places.items c.requires.laid c.blocks_are_placed.ensures
-    c.blocks_are_apart.ensures g.A.Links.follows c.args.index c.requires.there c.put_bytes.new.heap
-    c.put_bytes.ensures.stays c.args.bytes.now c.requires.many
-    (subst (λ at. IsWritten (g.A.Links.regions s.heap.system) (g.A.Links.word s.heap.system) at c.args.bytes.now
+    let written = subst (λ at. IsWritten (g.A.Links.regions s.heap.system) (g.A.Links.word s.heap.system) at c.args.bytes.now
     (length c.args.bytes.now) (g.A.Links.word c.put_bytes.new.heap.system)) c.place-place.ensures.place
-    c.put_bytes.ensures.written)
-
-pub returns-clause-others : goal.returns-clause-others
-returns-clause-others g c =
-    let s = c.args.self.now in
-    written_others g.A.Links.regions g.A.Links.word s.heap s.size s.places.items c.requires.laid c.blocks_are_placed.ensures
-    c.blocks_are_apart.ensures g.A.Links.follows c.args.index c.requires.there c.put_bytes.new.heap
-    c.put_bytes.ensures.stays c.args.bytes.now c.requires.many
-    (subst (λ at. IsWritten (g.A.Links.regions s.heap.system) (g.A.Links.word s.heap.system) at c.args.bytes.now
-    (length c.args.bytes.now) (g.A.Links.word c.put_bytes.new.heap.system)) c.place-place.ensures.place
-    c.put_bytes.ensures.written)
-
-pub returns-clause-kept : goal.returns-clause-kept
-returns-clause-kept g c =
-    let s = c.args.self.now in
-    written_kept g.A.Links.regions g.A.Links.word s.heap s.size s.places.items c.requires.laid c.blocks_are_placed.ensures
-    c.blocks_are_apart.ensures g.A.Links.follows c.args.index c.requires.there c.put_bytes.new.heap
-    c.put_bytes.ensures.stays c.args.bytes.now c.requires.many
-    (subst (λ at. IsWritten (g.A.Links.regions s.heap.system) (g.A.Links.word s.heap.system) at c.args.bytes.now
-    (length c.args.bytes.now) (g.A.Links.word c.put_bytes.new.heap.system)) c.place-place.ensures.place
-    c.put_bytes.ensures.written)
+    c.put_bytes.ensures.written in
+    record {
+      stays = c.put_bytes.ensures.stays;
+      here = written_here g.A.Links.regions g.A.Links.word s.heap s.size s.places.items c.requires.laid c.blocks_are_placed.ensures
+          c.blocks_are_apart.ensures g.A.Links.follows c.args.index c.requires.there c.put_bytes.new.heap
+          c.put_bytes.ensures.stays c.args.bytes.now c.requires.many written;
+      others = written_others g.A.Links.regions g.A.Links.word s.heap s.size s.places.items c.requires.laid c.blocks_are_placed.ensures
+          c.blocks_are_apart.ensures g.A.Links.follows c.args.index c.requires.there c.put_bytes.new.heap
+          c.put_bytes.ensures.stays c.args.bytes.now c.requires.many written;
+      kept = written_kept g.A.Links.regions g.A.Links.word s.heap s.size s.places.items c.requires.laid c.blocks_are_placed.ensures
+          c.blocks_are_apart.ensures g.A.Links.follows c.args.index c.requires.there c.put_bytes.new.heap
+          c.put_bytes.ensures.stays c.args.bytes.now c.requires.many written;
+    }
