@@ -1,10 +1,9 @@
 -- Lists of pairs in the order of their keys, and what a search meets on either side of a pair.
-use Rattle.std.proofs.Common.{◌≡◌, ◌+◌, ◌≤◌, length, arith, Bool, true, false, not, cond, List, [], ◌∷◌, ◌++◌, Option, Some, None, IsSome, is_some, refl, sym, ap, ◌∙◌}
+use Rattle.std.proofs.Common.{◌≡◌, ◌+◌, ◌≤◌, length, arith, Bool, true, false, not, cond, List, [], ◌∷◌, ◌++◌, Option, Some, None, IsSome, refl, sym, ap, ◌∙◌}
 use Rattle.std.specs.declared.cmp.Ordering.{Ordering}
 use Rattle.std.specs.declared.cmp.Ordering.TheVariants.{Less, Equal, Greater}
 use Rattle.std.specs.Ordering.{is_eq, is_lt, is_gt, ordering_reverse, ordering_then}
 use Rattle.std.proofs.lemmas.Bool.{true≢false}
-use Rattle.std.specs.Option.{option_map}
 use Rattle.std.specs.Cmp.{IsTotalOrder, then_total, on_total}
 use Rattle.meminterval.specs.declared.interval.Interval.{Interval}
 use Rattle.meminterval.specs.Interval.{by_ends, starts_below, starts_from}
@@ -71,10 +70,6 @@ module _ {A : Type 0} (p : A → Bool) (l : List A) (e : A) (r : List A) where
   pub last_left : AllItems (λ x. p x ≡ false) r → p e ≡ false → last p (l ++ e ∷ r) ≡ last p l
   last_left a h = last-append p l (e ∷ r) ∙ ap (λ o. or_else (or_else o (cond (p e) (Some e) None)) (last p l))
       (last_none p r a) ∙ ap (λ b. or_else (cond b (Some e) None) (last p l)) h
-
-pub is_some-map : {A B : Type 0} (f : A → B) (o : Option A) → is_some (option_map f o) ≡ is_some o
-is_some-map f None = refl
-is_some-map f (Some x) = refl
 
 -- the order by start and then by end is total if that of the ends is
 pub by_ends-total : {T : Type 0} {cmp : T → T → Ordering} → IsTotalOrder cmp → IsTotalOrder (by_ends cmp)
@@ -184,9 +179,6 @@ module _ {K V : Type 0} (cmp : K → K → Ordering) where
 
     pub value_right : (k : K) → cmp k e.0 ≡ Greater → value_at cmp k (l ++ e ∷ r) ≡ value_at cmp k r
     value_right k h = value_past k l (e ∷ r) (above_before o k l e r (ap is_lt h) s) ∙ ap (λ w. cond (is_eq w) (Some e.1) (value_at cmp k r)) h
-
-    pub with_middle : (x : K × V) → cmp x.0 e.0 ≡ Equal → with_entry cmp x (l ++ e ∷ r) ≡ l ++ e ∷ r
-    with_middle x h = with_past x l (e ∷ r) (above_before o x.0 l e r (ap is_lt h) s) ∙ ap (λ w. l ++ by_order w (x ∷ e ∷ r) (e ∷ r) (e ∷ with_entry cmp x r)) h
 
     pub with_right : (x : K × V) → cmp x.0 e.0 ≡ Greater → with_entry cmp x (l ++ e ∷ r) ≡ l ++ e ∷ with_entry cmp x r
     with_right x h = with_past x l (e ∷ r) (above_before o x.0 l e r (ap is_lt h) s) ∙ ap (λ w. l ++ by_order w (x ∷ e ∷ r) (e ∷ r) (e ∷ with_entry cmp x r)) h

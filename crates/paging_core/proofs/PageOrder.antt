@@ -85,14 +85,6 @@ module _ (s : ℕ) (pos : 0 < s) (divides : 2 ^ 47 % s ≡ 0) where
         let over = past_gap s (half_pages s) pos half_whole n canonical high in
         (omega (arith, over), omega (arith, over))
 
-    pub page_at-position : page_at s (position s n) ≡ n
-    page_at-position = ⊎_elim
-        (λ low. ap (page_at s) (position-low s n low) ∙ page_at-low s n low)
-        (λ high.
-        let past : half_pages s ≤ n - gap_pages s = omega (arith, gap_below high) in
-        ap (page_at s) (position-high s n high) ∙ (page_at-high s (n - gap_pages s) past ∙ omega (arith, gap_below high)))
-        (cases_lt n (half_pages s))
-
   -- the page at a place is canonical
   pub page_at-canonical : (place : ℕ) → place < 2 * half_pages s → IsTrue (is_canonical (page_at s place * s))
   page_at-canonical place lt = ⊎_elim

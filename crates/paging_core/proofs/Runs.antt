@@ -57,9 +57,6 @@ get_or-part m n l j d lt = get_or-take m (drop n l) j d lt ∙ get_or-drop n l j
 length-part : (m n : ℕ) (l : List Bool) → (length (take m (drop n l)) ≤ m) × (length (take m (drop n l)) ≤ length l - n)
 length-part m n l = let a = length-take m (drop n l) in let b = length-drop n l in (omega arith, omega arith)
 
-length-part_full : (m n : ℕ) (l : List Bool) → n + m ≤ length l → length (take m (drop n l)) ≡ m
-length-part_full m n l le = let a = length-take m (drop n l) in let b = length-drop n l in omega arith
-
 -- ---- how many of a run are free
 
 pub free_in-set_other : (free : List Bool) (frame run : ℕ) (v : Bool) → (run ≡ frame / 512 → ⊥) → free_in (set free frame v) run ≡ free_in free run
