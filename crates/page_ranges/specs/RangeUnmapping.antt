@@ -3,17 +3,27 @@
 -- the first page that leaves. None reaches over the end. `old` and `free` are the words and the flags before, `new` and
 -- `free'` after.
 use Rattle.std.specs.Prelude.{◌≡◌, ℕ, ◌+◌, ◌*◌, ◌/◌, ◌%◌, ◌<◌, ◌≤◌, Bool, true, false, ◌&&◌, not, ◌==◌, is_some, if◌then◌else◌, List, length, Some, None, IsSome}
+use Rattle.paging_core.specs.Address.{IsCanonicalRange}
+use Rattle.paging_core.specs.EntryPlace.{IsRoot}
 use Rattle.paging_core.specs.Memory.{word_at}
 use Rattle.paging_core.specs.Entry.{table_entry, page_entry}
 use Rattle.paging_core.specs.Prefix.{prefix_of}
 use Rattle.paging_core.specs.Pool.{is_frame_free, free_count}
-use Rattle.paging_core.specs.Walk.{Place, reach, large_of, top}
+use Rattle.paging_core.specs.Walk.{Place, reach, large_of, walk_of, top}
 use Rattle.paging_core.specs.PageChanges.{among}
 
 -- Each large page that has a page of the range ends in it.
 abbrev pub NoLargePageReachesOver : List ℕ → ℕ → ℕ → ℕ → Type 0
 NoLargePageReachesOver words root first pages =
     (k : ℕ) → k < pages → IsSome (large_of words root (prefix_of (first + k) 3)) → 512 * ((first + k) / 512) + 512 ≤ first + pages
+
+-- The pages from `first` on may be unmapped: they lie in one canonical half, each is mapped, and none in a large page that
+-- reaches over their end.
+pub record IsRangeUnmappable (words : List ℕ) (root first pages : ℕ) : Type 0 where
+  pub rooted : IsRoot words root
+  pub range : IsCanonicalRange first pages
+  pub mapped : (k : ℕ) → k < pages → IsSome (walk_of words root (first + k))
+  pub ends : NoLargePageReachesOver words root first pages
 
 -- the range begins in a large page, after its first page
 abbrev pub cuts_large_page : List ℕ → ℕ → ℕ → Bool

@@ -1,12 +1,10 @@
-ghost use Rattle.std.specs.Prelude.{◌≡◌, ℕ, ◌+◌, ◌-◌, ◌*◌, ◌/◌, ◌%◌, ◌<◌, ◌≤◌, None};
-ghost use Rattle.paging_core.specs.Address.{IsCanonicalRange};
+ghost use Rattle.std.specs.Prelude.{◌+◌, ◌-◌, ◌*◌, ◌/◌, ◌%◌, ◌<◌, ◌≤◌};
 ghost use Rattle.paging_core.specs.Memory.{frame_count};
-ghost use Rattle.paging_core.specs.Walk.{walk_of};
-ghost use Rattle.paging_core.specs.Pool.{free_count, FreeBelow};
-ghost use Rattle.paging_core.specs.Tree.{IsTree};
-ghost use Rattle.paging_core.specs.Missing.{missing_of};
+ghost use Rattle.paging_core.specs.Pool.{FreeBelow};
 ghost use Rattle.page_ranges.specs.RangeMapping.{NoRunAt, AreSlotsAdded, IsRangeMapped};
-ghost use Rattle.paging_core.specs.Outcomes.{AddsClearPages};
+ghost use Rattle.paging_core.specs.Outcomes.{AddsClearPages, IsTreeAndPool};
+ghost use Rattle.paging_core.specs.Premises.{IsRangeMappable};
+ghost use Rattle.paging_core.specs.Area.{Whole};
 
 use crate::slots::slot_at;
 use paging_core::{
@@ -27,12 +25,8 @@ pub fn map_slots(
     pages: u64,
     rights: Rights,
 ) -> u64
-    requires root { root < frame_count frames.old }
-    requires known { FreeBelow pool.old (frame_count frames.old) }
-    requires tree { IsTree frames.old root pool.old }
-    requires range { IsCanonicalRange first pages }
-    requires unmapped { (k : ℕ) → k < pages → walk_of frames.old root (first + k) ≡ None }
-    requires room { pages + missing_of frames.old root first pages ≤ free_count pool.old }
+    requires standing { IsTreeAndPool Whole frames.old root pool.old }
+    requires mappable { IsRangeMappable frames.old root pool.old first pages }
     ensures known { FreeBelow pool.new (frame_count frames.new) }
     ensures stop { result ≤ (first + pages) / 512 }
     ensures added { AreSlotsAdded frames.old frames.new pool.old pool.new root first pages result rights }
@@ -63,12 +57,8 @@ pub fn map_pages(
     pages: u64,
     rights: Rights,
 ) -> u64
-    requires root { root < frame_count frames.old }
-    requires known { FreeBelow pool.old (frame_count frames.old) }
-    requires tree { IsTree frames.old root pool.old }
-    requires range { IsCanonicalRange first pages }
-    requires unmapped { (k : ℕ) → k < pages → walk_of frames.old root (first + k) ≡ None }
-    requires room { pages + missing_of frames.old root first pages ≤ free_count pool.old }
+    requires standing { IsTreeAndPool Whole frames.old root pool.old }
+    requires mappable { IsRangeMappable frames.old root pool.old first pages }
     ensures known { FreeBelow pool.new (frame_count frames.new) }
     ensures stop { result ≤ (first + pages) / 512 }
     ensures mapped { IsRangeMapped frames.old frames.new pool.old pool.new root first pages result rights }

@@ -1,11 +1,9 @@
-ghost use Rattle.std.specs.Prelude.{ℕ, ◌+◌, ◌/◌, ◌%◌, ◌<◌, ◌≤◌, IsSome, length};
-ghost use Rattle.paging_core.specs.Address.{IsCanonicalRange};
+ghost use Rattle.std.specs.Prelude.{◌+◌, ◌%◌, ◌<◌, ◌≤◌};
 ghost use Rattle.paging_core.specs.Memory.{frame_count};
-ghost use Rattle.paging_core.specs.Walk.{walk_of};
 ghost use Rattle.paging_core.specs.Pool.{FreeBelow};
 ghost use Rattle.paging_core.specs.Tree.{IsTree};
-ghost use Rattle.page_ranges.specs.RangeUnmapping.{NoLargePageReachesOver, AreUnmapped};
-ghost use Rattle.paging_core.specs.Outcomes.{IsRangeTakenOut};
+ghost use Rattle.page_ranges.specs.RangeUnmapping.{IsRangeUnmappable, AreUnmapped};
+ghost use Rattle.paging_core.specs.Outcomes.{IsRangeTakenOut, IsTreeAndFlags};
 
 use crate::slots::slot_at;
 use paging_core::{
@@ -15,13 +13,9 @@ use paging_core::{
 
 /// Unmaps pages of one slot from `first` on and gives their frames back, as `unmap_pages` does.
 fn unmap_piece(frames: &mut Frames, pool: &mut FramePool, root: PhysFrame, first: Page, pages: u64)
-    requires root { root < frame_count frames.old }
-    requires flags { frame_count frames.old ≤ length pool.old }
-    requires tree { IsTree frames.old root pool.old }
-    requires range { IsCanonicalRange first pages }
+    requires standing { IsTreeAndFlags frames.old root pool.old }
+    requires unmappable { IsRangeUnmappable frames.old root first pages }
     requires one_slot { first % 512 + pages ≤ 512 }
-    requires mapped { (k : ℕ) → k < pages → IsSome (walk_of frames.old root (first + k)) }
-    requires ends { NoLargePageReachesOver frames.old root first pages }
     ensures { AreUnmapped frames.old frames.new pool.old pool.new root first pages }
 {
     let slot = slot_at(first);
@@ -49,12 +43,8 @@ pub fn unmap_pages(
     first: Page,
     pages: u64,
 )
-    requires root { root < frame_count frames.old }
-    requires flags { frame_count frames.old ≤ length pool.old }
-    requires tree { IsTree frames.old root pool.old }
-    requires range { IsCanonicalRange first pages }
-    requires mapped { (k : ℕ) → k < pages → IsSome (walk_of frames.old root (first + k)) }
-    requires ends { NoLargePageReachesOver frames.old root first pages }
+    requires standing { IsTreeAndFlags frames.old root pool.old }
+    requires unmappable { IsRangeUnmappable frames.old root first pages }
     ensures unmapped { AreUnmapped frames.old frames.new pool.old pool.new root first pages }
     ensures tree { IsTree frames.new root pool.new }
     ensures known { FreeBelow pool.old (frame_count frames.old) → FreeBelow pool.new (frame_count frames.new) }

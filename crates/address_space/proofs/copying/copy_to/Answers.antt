@@ -1,4 +1,4 @@
-use Rattle.std.proofs.Common.{◌∙◌, ap, option_map, sym, subst}
+use Rattle.std.proofs.Common.{rules, ◌∙◌, ap, option_map, sym, subst}
 use Rattle.std.specs.Prelude.{IsSome}
 use Rattle.paging_core.specs.Walk.{walk_of, mapped_place}
 use Rattle.paging_core.proofs.PageChanged.{some_place}
@@ -8,17 +8,16 @@ use Rattle.address_space.proofs.Written.{walk_same}
 use Rattle.address_space.proofs.Duplicated.{one_copied}
 use Rattle.address_space.proofs.copying.copy_to.Goals as goal
 
-pub protect_page-requires-clause-mapped : goal.protect_page-requires-clause-mapped
-protect_page-requires-clause-mapped c =
-    let t = c.requires.tree in
-    subst IsSome (sym (walk_same c.args.frames.now c.copy_page.new.frames c.args.root c.args.target (c.copy_page.ensures.kept.walks t.0 t.1))) c.requires.target
-
-pub protect_page-requires-clause-small : goal.protect_page-requires-clause-small
-protect_page-requires-clause-small c =
-    let t = c.requires.tree in
-    by_table c.copy_page.new.frames c.args.root c.args.target (λ slot. c.copy_page.ensures.kept.larges t.0 t.1 slot ∙ c.requires.no_large slot)
-    (subst IsSome (sym (walk_same c.args.frames.now c.copy_page.new.frames c.args.root c.args.target
-    (c.copy_page.ensures.kept.walks t.0 t.1))) c.requires.target)
+pub protect_page-requires-clause-page : goal.protect_page-requires-clause-page
+protect_page-requires-clause-page c = record {
+  rooted = search rules;
+  mapped = let t = c.requires.tree in
+      subst IsSome (sym (walk_same c.args.frames.now c.copy_page.new.frames c.args.root c.args.target (c.copy_page.ensures.kept.walks t.0 t.1))) c.requires.target;
+  small = let t = c.requires.tree in
+      by_table c.copy_page.new.frames c.args.root c.args.target (λ slot. c.copy_page.ensures.kept.larges t.0 t.1 slot ∙ c.requires.no_large slot)
+      (subst IsSome (sym (walk_same c.args.frames.now c.copy_page.new.frames c.args.root c.args.target
+      (c.copy_page.ensures.kept.walks t.0 t.1))) c.requires.target);
+}
 
 pub unreachable-requires : goal.unreachable-requires
 unreachable-requires c =
@@ -42,13 +41,13 @@ returns c =
       walks = walks;
       larges = c.copy_page.ensures.kept.larges t.0 t.1;
       tree = c.copy_page.ensures.kept.tree;
-      tree_on = λ free tree. (c.protect_page.ensures.granted free tree).tree;
+      tree_on = λ free tree. (c.protect_page.ensures.granted.granted free tree).tree;
       copied = c.copy_page.ensures.bytes t.0 t.1;
       others = c.copy_page.ensures.others t.0 t.1;
-      changed = (c.protect_page.ensures.granted t.0 tree).pages;
-      gave = (c.protect_page.ensures.granted t.0 tree).granted;
-      elsewhere = (c.protect_page.ensures.granted t.0 tree).elsewhere;
-      bytes = (c.protect_page.ensures.granted t.0 tree).bytes;
+      changed = (c.protect_page.ensures.granted.granted t.0 tree).pages;
+      gave = (c.protect_page.ensures.granted.granted t.0 tree).granted;
+      elsewhere = (c.protect_page.ensures.granted.granted t.0 tree).elsewhere;
+      bytes = (c.protect_page.ensures.granted.granted t.0 tree).bytes;
       free = t.0;
       was = t.1;
       at_source = sym (walk_same c.args.frames.now c.copy_page.new.frames c.args.root c.args.source walks) ∙ sym c.in-Some.ensures.found;

@@ -8,7 +8,7 @@ use Rattle.page_ranges.proofs.mapping.map_slots.Goals.{else-not-has_table-via-th
 pub loop-slot-init : goal.loop-slot-init
 loop-slot-init c = let e = c.div_ceil-start.ensures in let n = c.number-2.ensures.value in record {
   added = slots_start c.args.frames.now c.args.pool.now c.args.root c.args.first c.args.pages c.div_ceil-start.result
-      c.args.rights c.requires.tree (omega arith);
+      c.args.rights c.requires.standing.tree (omega arith);
   from = omega arith;
 }
 
@@ -21,7 +21,7 @@ map_slot-requires-clause-empty c =
     c.has_table.ensures.1 c.if-not-has_table.true in
     rw e
     (slot_empty c.args.frames.now c.loop-slot.frames c.args.pool.now c.loop-slot.pool c.args.root c.args.first c.args.pages c.loop-slot.slot c.args.rights
-    c.requires.range c.requires.known c.requires.unmapped c.requires.room c.loop-slot.invariant.added c.loop-slot.invariant.from
+    c.requires.mappable.range c.requires.standing.known c.requires.mappable.unmapped c.requires.mappable.room c.loop-slot.invariant.added c.loop-slot.invariant.from
     (let x = c.loop-slot-test.true in let m = c.number.ensures.value in omega arith) (ap (λ s. reach c.loop-slot.frames c.args.root 3 (slot_of s)) (sym e) ∙ t))
 
 pub map_slot-requires-clause-room : goal.map_slot-requires-clause-room
@@ -31,7 +31,7 @@ map_slot-requires-clause-room c =
     let e : c.slot_at-page.result ≡ c.loop-slot.slot = let b = c.slot_at-page.ensures in let f = c.loop-slot.invariant.from in omega arith in
     rw e
     (slot_room c.args.frames.now c.loop-slot.frames c.args.pool.now c.loop-slot.pool c.args.root c.args.first c.args.pages c.loop-slot.slot c.args.rights
-    c.requires.range c.requires.known c.requires.unmapped c.requires.room c.loop-slot.invariant.added c.loop-slot.invariant.from
+    c.requires.mappable.range c.requires.standing.known c.requires.mappable.unmapped c.requires.mappable.room c.loop-slot.invariant.added c.loop-slot.invariant.from
     (let x = c.loop-slot-test.true in let m = c.number.ensures.value in omega arith))
 
 pub returns-then-not-map_slot-clause-full : goal.returns-then-not-map_slot-clause-full
@@ -54,17 +54,17 @@ loop-slot-preserved c =
             rw (w.frames-is, w.pool-is)
             (slots_next c.args.frames.now c.loop-slot.frames c.args.pool.now c.loop-slot.pool c.args.root c.args.first
             c.args.pages c.loop-slot.slot c.args.rights
-            c.requires.range c.requires.known c.requires.unmapped c.requires.room c.loop-slot.invariant.added c.loop-slot.invariant.from to
+            c.requires.mappable.range c.requires.standing.known c.requires.mappable.unmapped c.requires.mappable.room c.loop-slot.invariant.added c.loop-slot.invariant.from to
             w.map_slot.new.frames w.map_slot.new.pool (ap (λ s. reach c.loop-slot.frames c.args.root 3 (slot_of s)) (sym e) ∙ t)
             (rw e at ((w.map_slot.ensures.mapped w.if-not-map_slot.false).added)) w.map_slot.ensures.standing.tree
-            (rw e at ((w.map_slot.ensures.mapped w.if-not-map_slot.false).missing c.args.first c.args.pages c.requires.range
+            (rw e at ((w.map_slot.ensures.mapped w.if-not-map_slot.false).missing c.args.first c.args.pages c.requires.mappable.range
             (rw e c.loop-slot.invariant.from) (rw e to)))
             (rw e at ((w.map_slot.ensures.mapped w.if-not-map_slot.false).count)))
         | else-not-has_table-via-else-not-has_table w ↦
             rw (w.frames-is, w.pool-is)
             (slots_skip c.args.frames.now c.loop-slot.frames c.args.pool.now c.loop-slot.pool c.args.root c.args.first
             c.args.pages c.loop-slot.slot c.args.rights
-            c.requires.range c.requires.known c.requires.unmapped c.requires.room c.loop-slot.invariant.added c.loop-slot.invariant.from to
+            c.requires.mappable.range c.requires.standing.known c.requires.mappable.unmapped c.requires.mappable.room c.loop-slot.invariant.added c.loop-slot.invariant.from to
             (rw e at (c.has_table.ensures.0 w.if-not-has_table.false)))
       ];
     }

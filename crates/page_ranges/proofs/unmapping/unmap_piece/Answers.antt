@@ -16,18 +16,22 @@ found words root first slot o e some at =
     let p = some_place (large_of words root (slot_of slot)) (some_of o (large_of words root (slot_of slot)) e some) in
     (p.0, ap (λ s. large_of words root (slot_of s)) (sym at) ∙ p.1)
 
-pub unmap_range-requires-clause-small : goal.unmap_range-requires-clause-small
-unmap_range-requires-clause-small c =
-    let none = none_of c.large_page.result (large_of c.args.frames.now c.args.root (slot_of c.slot_at-slot.result))
-    c.large_page.ensures (c.is_none.ensures ∙ ap not c.if-is_none.true) in
-    piece_small c.args.first c.args.pages c.requires.range c.requires.one_slot c.args.frames.now c.args.root
-    (rw c.slot_at-slot.ensures at none) c.requires.mapped
+pub unmap_range-requires-clause-pages : goal.unmap_range-requires-clause-pages
+unmap_range-requires-clause-pages c = record {
+  rooted = c.requires.unmappable.rooted;
+  range = c.requires.unmappable.range;
+  mapped = c.requires.unmappable.mapped;
+  small = let none = none_of c.large_page.result (large_of c.args.frames.now c.args.root (slot_of c.slot_at-slot.result))
+      c.large_page.ensures (c.is_none.ensures ∙ ap not c.if-is_none.true) in
+      piece_small c.args.first c.args.pages c.requires.unmappable.range c.requires.one_slot c.args.frames.now c.args.root
+      (rw c.slot_at-slot.ensures at none) c.requires.unmappable.mapped;
+}
 
 pub returns-then-is_none : goal.returns-then-is_none
 returns-then-is_none c =
     let none = none_of c.large_page.result (large_of c.args.frames.now c.args.root (slot_of c.slot_at-slot.result))
     c.large_page.ensures (c.is_none.ensures ∙ ap not c.if-is_none.true) in
-    unmapped_by_table c.args.first c.args.pages c.requires.range c.requires.one_slot c.args.frames.now
+    unmapped_by_table c.args.first c.args.pages c.requires.unmappable.range c.requires.one_slot c.args.frames.now
     c.unmap_range.new.frames c.args.pool.now c.unmap_range.new.pool c.args.root
     (rw c.slot_at-slot.ensures at none) c.unmap_range.ensures.freed c.unmap_range.ensures.count
 
@@ -36,37 +40,37 @@ deallocate_number-requires c =
     let p = found c.args.frames.now c.args.root c.args.first c.slot_at-slot.result c.large_page.result c.large_page.ensures
     (c.is_none.ensures ∙ ap not c.if-is_none.false) c.slot_at-slot.ensures in
     let framed : 512 * c.unmap_large-run.result ≡ p.0.frame = rw (c.slot_at-slot.ensures, p.1) at c.unmap_large-run.ensures.frame in
-    let size = ((c.unmap_large-run.ensures.gone c.args.pool.now c.requires.tree).removed).size in
+    let size = ((c.unmap_large-run.ensures.cleared.gone c.args.pool.now c.requires.standing.tree).removed).size in
     let below = c.unmap_large-run.ensures.below in
     let n = c.number.ensures.value in
     record {
-      out = run_out c.args.first c.args.pages c.requires.range c.requires.one_slot c.args.frames.now c.args.pool.now c.args.root _ p.0
-          c.requires.tree c.requires.flags p.1 (omega arith) (omega arith);
+      out = run_out c.args.first c.args.pages c.requires.unmappable.range c.requires.one_slot c.args.frames.now c.args.pool.now c.args.root _ p.0
+          c.requires.standing.tree c.requires.standing.flags p.1 (omega arith) (omega arith);
     }
 
 pub returns-then-offset-eq0 : goal.returns-then-offset-eq0
 returns-then-offset-eq0 c =
     let p = found c.args.frames.now c.args.root c.args.first c.slot_at-slot.result c.large_page.result c.large_page.ensures
     (c.is_none.ensures ∙ ap not c.if-is_none.false) c.slot_at-slot.ensures in
-    let to_end = ends_with_slot c.args.first c.args.pages c.requires.range c.requires.one_slot c.args.frames.now c.args.root p.0 p.1 c.requires.ends in
+    let to_end = ends_with_slot c.args.first c.args.pages c.requires.unmappable.range c.requires.one_slot c.args.frames.now c.args.root p.0 p.1 c.requires.unmappable.ends in
     let framed : 512 * c.unmap_large-run.result ≡ p.0.frame = rw (c.slot_at-slot.ensures, p.1) at c.unmap_large-run.ensures.frame in
     let r = c.number.ensures.value in
     let n = c.number-offset.ensures.value in
     let t = c.if-offset-eq0.true in
-    unmapped_whole c.args.first c.args.pages c.requires.range c.requires.one_slot c.args.frames.now
+    unmapped_whole c.args.first c.args.pages c.requires.unmappable.range c.requires.one_slot c.args.frames.now
     c.unmap_large-run.new.frames c.args.pool.now c.deallocate_number.new.self
-    c.args.root _ p.0 c.requires.root c.requires.tree (omega arith) (omega arith) p.1 (omega arith)
-    (rw c.slot_at-slot.ensures at c.unmap_large-run.ensures.cleared)
-    (rw c.slot_at-slot.ensures at ((c.unmap_large-run.ensures.gone c.args.pool.now c.requires.tree).removed))
+    c.args.root _ p.0 c.requires.unmappable.rooted c.requires.standing.tree (omega arith) (omega arith) p.1 (omega arith)
+    (rw c.slot_at-slot.ensures at c.unmap_large-run.ensures.cleared.cleared)
+    (rw c.slot_at-slot.ensures at ((c.unmap_large-run.ensures.cleared.gone c.args.pool.now c.requires.standing.tree).removed))
     c.deallocate_number.ensures.given c.deallocate_number.ensures.count
 
 pub returns-else-offset-eq0 : goal.returns-else-offset-eq0
 returns-else-offset-eq0 c =
     let p = found c.args.frames.now c.args.root c.args.first c.slot_at-slot.result c.large_page.result c.large_page.ensures
     (c.is_none.ensures ∙ ap not c.if-is_none.false) c.slot_at-slot.ensures in
-    let to_end = ends_with_slot c.args.first c.args.pages c.requires.range c.requires.one_slot c.args.frames.now c.args.root p.0 p.1 c.requires.ends in
+    let to_end = ends_with_slot c.args.first c.args.pages c.requires.unmappable.range c.requires.one_slot c.args.frames.now c.args.root p.0 p.1 c.requires.unmappable.ends in
     let n = c.number-offset.ensures.value in
     let t = c.if-offset-eq0.false in
-    unmapped_cut c.args.first c.args.pages c.requires.range c.requires.one_slot c.args.frames.now c.cut_large.new.frames
+    unmapped_cut c.args.first c.args.pages c.requires.unmappable.range c.requires.one_slot c.args.frames.now c.cut_large.new.frames
     c.args.pool.now c.cut_large.new.pool c.args.root
-    c.requires.tree (omega arith) to_end _ (rw c.slot_at-slot.ensures at c.cut_large.ensures.cut) (omega arith)
+    c.requires.standing.tree (omega arith) to_end _ (rw c.slot_at-slot.ensures at c.cut_large.ensures.cut.cut) (omega arith)

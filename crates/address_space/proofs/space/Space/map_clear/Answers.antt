@@ -1,9 +1,12 @@
-use Rattle.std.proofs.Common.{◌+◌, ℕ, refl, subst}
+use Rattle.std.proofs.Common.{rules, ◌+◌, ℕ, refl, subst}
 use Rattle.meminterval.specs.Tree.{entries}
 use Rattle.address_space.specs.Joining.{IsRunAdded}
 use Rattle.address_space.specs.Seen.{tables_of}
 use Rattle.address_space.proofs.Mapped.{mapped_kept, mapped_map}
 use Rattle.address_space.proofs.space.Space.map_clear.Goals as goal
+
+pub map_range-requires-clause-mappable : goal.map_range-requires-clause-mappable
+map_range-requires-clause-mappable c = record { range = c.requires.range; unmapped = search rules; room = c.requires.frames }
 
 pub invariant_of-self-2 : goal.invariant_of-self-2
 invariant_of-self-2 c = record {

@@ -1,4 +1,4 @@
-use Rattle.std.proofs.Common.{ℕ, ◌+◌, refl, subst, arith}
+use Rattle.std.proofs.Common.{rules, ℕ, ◌+◌, refl, subst, arith}
 use Rattle.meminterval.specs.Tree.{entries}
 use Rattle.address_space.specs.Joining.{IsRunAdded}
 use Rattle.address_space.specs.Seen.{tables_of}
@@ -6,10 +6,15 @@ use Rattle.address_space.proofs.Protected.{AreProtected, mapped_walks, protected
 use Rattle.address_space.proofs.Mapped.{by_table}
 use Rattle.address_space.proofs.space.Space.protect_full.Goals as goal
 
-pub protect_range-requires-clause-small : goal.protect_range-requires-clause-small
-protect_range-requires-clause-small c = λ k less.
-    by_table c.args.self.now.frames c.args.self.now.root (c.args.first + k) c.args.self.now.kept.no_large
-    (mapped_walks (tables_of c.args.self.now) (c.args.first + k) c.args.self.now.kept (c.requires.full (c.args.first + k) (omega arith) (omega (arith, less))))
+pub protect_range-requires-clause-pages : goal.protect_range-requires-clause-pages
+protect_range-requires-clause-pages c = record {
+  rooted = search rules;
+  range = c.requires.range;
+  mapped = λ k less. mapped_walks (tables_of c.args.self.now) (c.args.first + k) c.args.self.now.kept (c.requires.full (c.args.first + k) (omega arith) (omega (arith, less)));
+  small = λ k less.
+      by_table c.args.self.now.frames c.args.self.now.root (c.args.first + k) c.args.self.now.kept.no_large
+      (mapped_walks (tables_of c.args.self.now) (c.args.first + k) c.args.self.now.kept (c.requires.full (c.args.first + k) (omega arith) (omega (arith, less))));
+}
 
 pub invariant_of-self-2 : goal.invariant_of-self-2
 invariant_of-self-2 c =

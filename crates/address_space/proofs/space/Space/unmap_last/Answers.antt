@@ -1,4 +1,4 @@
-use Rattle.std.proofs.Common.{◌≡◌, ℕ, ◌+◌, ◌-◌, ◌≤◌, ◌<◌, ◌⊎◌, inl, inr, sym, refl, subst, arith}
+use Rattle.std.proofs.Common.{rules, ◌≡◌, ℕ, ◌+◌, ◌-◌, ◌≤◌, ◌<◌, ◌⊎◌, inl, inr, sym, refl, subst, arith}
 use Rattle.std.proofs.lemmas.Bool.{cases_lt}
 use Rattle.std.specs.Prelude.{Result, Ok, Err, IfErr, IsSome}
 use Rattle.meminterval.specs.Tree.{entries}
@@ -62,30 +62,32 @@ page_at-requires c =
     let from_is = c.max-from.ensures in
     canonical_in c.args.first (c.args.end - c.args.first) c.max-from.result c.requires.range (omega (arith, from_is)) (omega (arith, from_is, starts, least))
 
-pub unmap_range-requires-clause-mapped : goal.unmap_range-requires-clause-mapped
-unmap_range-requires-clause-mapped c = λ k less.
-    let es = entries c.args.self.now.runs in
-    let run = c.in-Some.run' in
-    let from_is = c.max-from.ensures in
-    let to_is = c.min.ensures in
-    let at = c.page_at.ensures in
-    let page = c.page_at.result + k in
-    mapped_walks (tables_of c.args.self.now) page c.args.self.now.kept
-    (is_some_of (rights_in es page) run.rights (run_rights es run.start run.end run.rights page c.in-Some.ensures.run
-    (omega (arith, from_is, at)) (omega (arith, from_is, to_is, at, less))))
-
-pub unmap_range-requires-clause-small : goal.unmap_range-requires-clause-small
-unmap_range-requires-clause-small c = λ k less.
-    let es = entries c.args.self.now.runs in
-    let run = c.in-Some.run' in
-    let from_is = c.max-from.ensures in
-    let to_is = c.min.ensures in
-    let at = c.page_at.ensures in
-    let page = c.page_at.result + k in
-    by_table c.args.self.now.frames c.args.self.now.root page c.args.self.now.kept.no_large
-    (mapped_walks (tables_of c.args.self.now) page c.args.self.now.kept
-    (is_some_of (rights_in es page) run.rights (run_rights es run.start run.end run.rights page c.in-Some.ensures.run
-    (omega (arith, from_is, at)) (omega (arith, from_is, to_is, at, less)))))
+pub unmap_range-requires-clause-pages : goal.unmap_range-requires-clause-pages
+unmap_range-requires-clause-pages c = record {
+  rooted = search rules;
+  range = search rules;
+  mapped = λ k less.
+      let es = entries c.args.self.now.runs in
+      let run = c.in-Some.run' in
+      let from_is = c.max-from.ensures in
+      let to_is = c.min.ensures in
+      let at = c.page_at.ensures in
+      let page = c.page_at.result + k in
+      mapped_walks (tables_of c.args.self.now) page c.args.self.now.kept
+      (is_some_of (rights_in es page) run.rights (run_rights es run.start run.end run.rights page c.in-Some.ensures.run
+      (omega (arith, from_is, at)) (omega (arith, from_is, to_is, at, less))));
+  small = λ k less.
+      let es = entries c.args.self.now.runs in
+      let run = c.in-Some.run' in
+      let from_is = c.max-from.ensures in
+      let to_is = c.min.ensures in
+      let at = c.page_at.ensures in
+      let page = c.page_at.result + k in
+      by_table c.args.self.now.frames c.args.self.now.root page c.args.self.now.kept.no_large
+      (mapped_walks (tables_of c.args.self.now) page c.args.self.now.kept
+      (is_some_of (rights_in es page) run.rights (run_rights es run.start run.end run.rights page c.in-Some.ensures.run
+      (omega (arith, from_is, at)) (omega (arith, from_is, to_is, at, less)))));
+}
 
 pub invariant_of-self-2 : goal.invariant_of-self-2
 invariant_of-self-2 c =

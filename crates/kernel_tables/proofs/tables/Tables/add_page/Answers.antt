@@ -37,16 +37,16 @@ returns-in-Entry-clause-added c =
 
 pub invariant_of-self-in_default : goal.invariant_of-self-in_default
 invariant_of-self-in_default c =
-    let added = c.map_page.ensures.added in
+    let added = c.map_page.ensures.put.added in
     let size = added.size in
     let out : in_area c.self.inside.memory.area c.args.frame ≡ false =
     ap (λ (s : TableState). in_area s.area c.args.frame) c.self.view_is ∙ c.requires.outside in
     record {
       root_in = omega (arith, c.self.invariant.root_in, size);
-      tree = c.map_page.ensures.standing.tree;
-      known = c.map_page.ensures.standing.known;
+      tree = c.map_page.ensures.put.standing.tree;
+      known = c.map_page.ensures.put.standing.known;
       apart = λ page place is.
-          ap (λ a. in_area a place.frame) c.map_page.ensures.area
+          ap (λ a. in_area a place.frame) c.map_page.ensures.put.same_area
           ∙ added_outside c.self.inside.memory.area c.self.inside.memory.words c.map_page.new.frames.words
           c.self.inside.free c.map_page.new.pool c.self.inside.root c.args.page c.args.frame c.args.rights
           added out c.self.invariant.apart page place is;
@@ -63,6 +63,6 @@ returns-in-Entry-clause-only c =
 
 pub returns-in_default-clause-only : goal.returns-in_default-clause-only
 returns-in_default-clause-only c =
-    let added = c.map_page.ensures.added in
-    only_seen c.self.view_is c.map_page.ensures.area added.size added.stayed
-    (λ other canonical not. c.map_page.ensures.elsewhere other canonical (other_page c.args.page other not))
+    let added = c.map_page.ensures.put.added in
+    only_seen c.self.view_is c.map_page.ensures.put.same_area added.size added.stayed
+    (λ other canonical not. c.map_page.ensures.put.elsewhere other canonical (other_page c.args.page other not))

@@ -15,18 +15,18 @@ use Rattle.kernel_tables.proofs.tables.Tables.clear_entry.Goals as goal
 
 pub invariant_of-self : goal.invariant_of-self
 invariant_of-self c =
-    let all = (c.clear_at.ensures.gone c.self.inside.free c.self.invariant.tree).pages in
+    let all = (c.clear_at.ensures.cleared.gone c.self.inside.free c.self.invariant.tree).pages in
     let size = all.size in
     record {
       root_in = omega (arith, c.self.invariant.root_in, size);
-      tree = (c.clear_at.ensures.gone c.self.inside.free c.self.invariant.tree).tree;
+      tree = (c.clear_at.ensures.cleared.gone c.self.inside.free c.self.invariant.tree).tree;
       known = known_moved c.self.inside.memory.area c.clear_at.new.frames.area c.self.inside.free
-          (frame_count c.clear_at.new.frames.words) c.clear_at.ensures.area
+          (frame_count c.clear_at.new.frames.words) c.clear_at.ensures.cleared.same_area
           (free_stays c.self.inside.memory.area c.self.inside.free c.self.inside.free
           (frame_count c.self.inside.memory.words) (frame_count c.clear_at.new.frames.words) c.self.invariant.known
           (omega arith) (λ f e. e));
       apart = λ page place is.
-          ap (λ a. in_area a place.frame) c.clear_at.ensures.area
+          ap (λ a. in_area a place.frame) c.clear_at.ensures.cleared.same_area
           ∙ removed_outside c.self.inside.memory.area c.self.inside.memory.words c.clear_at.new.frames.words
           c.self.inside.root c.args.page all c.self.invariant.apart page place is;
     }
@@ -41,11 +41,11 @@ returns-in-Entry-default-Some-clause-some c = λ _.
 
 pub returns-in-Entry-default-Some-clause-larges : goal.returns-in-Entry-default-Some-clause-larges
 returns-in-Entry-default-Some-clause-larges c = λ n.
-    let all = (c.clear_at.ensures.gone c.self.inside.free c.self.invariant.tree).pages in
+    let all = (c.clear_at.ensures.cleared.gone c.self.inside.free c.self.invariant.tree).pages in
     all.larges n ∙ ap (λ (s : TableState). large_of s.words s.root n) c.self.view_is
 
 pub returns-in-Entry-default-Some-clause-unmapped : goal.returns-in-Entry-default-Some-clause-unmapped
-returns-in-Entry-default-Some-clause-unmapped c = λ _. (c.clear_at.ensures.gone c.self.inside.free c.self.invariant.tree).unmapped
+returns-in-Entry-default-Some-clause-unmapped c = λ _. (c.clear_at.ensures.cleared.gone c.self.inside.free c.self.invariant.tree).unmapped
 
 pub returns-in-Large-clause-none : goal.returns-in-Large-clause-none
 returns-in-Large-clause-none c = λ _ some.
@@ -54,6 +54,6 @@ returns-in-Large-clause-none c = λ _ some.
 
 pub returns-in-Entry-default-Some-clause-only : goal.returns-in-Entry-default-Some-clause-only
 returns-in-Entry-default-Some-clause-only c =
-    let all = (c.clear_at.ensures.gone c.self.inside.free c.self.invariant.tree).pages in
-    only_seen c.self.view_is c.clear_at.ensures.area all.size (λ l n met lt is. all.stayed l n (omega (arith, lt)) (λ e. absurd (omega (arith, lt, e))) ∙ is)
-    (λ other canonical not. (c.clear_at.ensures.gone c.self.inside.free c.self.invariant.tree).elsewhere other canonical (other_page c.args.page other not))
+    let all = (c.clear_at.ensures.cleared.gone c.self.inside.free c.self.invariant.tree).pages in
+    only_seen c.self.view_is c.clear_at.ensures.cleared.same_area all.size (λ l n met lt is. all.stayed l n (omega (arith, lt)) (λ e. absurd (omega (arith, lt, e))) ∙ is)
+    (λ other canonical not. (c.clear_at.ensures.cleared.gone c.self.inside.free c.self.invariant.tree).elsewhere other canonical (other_page c.args.page other not))

@@ -10,36 +10,36 @@ use Rattle.kernel_tables.proofs.tables.Tables.clear_slot.Goals as goal
 
 pub invariant_of-self : goal.invariant_of-self
 invariant_of-self c =
-    let all = (c.unmap_large.ensures.gone c.self.inside.free c.self.invariant.tree).removed in
+    let all = (c.unmap_large.ensures.cleared.gone c.self.inside.free c.self.invariant.tree).removed in
     let size = all.size in
     record {
       root_in = omega (arith, c.self.invariant.root_in, size);
-      tree = (c.unmap_large.ensures.gone c.self.inside.free c.self.invariant.tree).tree;
+      tree = (c.unmap_large.ensures.cleared.gone c.self.inside.free c.self.invariant.tree).tree;
       known = known_moved c.self.inside.memory.area c.unmap_large.new.frames.area c.self.inside.free
-          (frame_count c.unmap_large.new.frames.words) c.unmap_large.ensures.area
+          (frame_count c.unmap_large.new.frames.words) c.unmap_large.ensures.cleared.same_area
           (free_stays c.self.inside.memory.area c.self.inside.free c.self.inside.free
           (frame_count c.self.inside.memory.words) (frame_count c.unmap_large.new.frames.words) c.self.invariant.known
           (omega arith) (λ f e. e));
       apart = λ page place is.
-          ap (λ a. in_area a place.frame) c.unmap_large.ensures.area
+          ap (λ a. in_area a place.frame) c.unmap_large.ensures.cleared.same_area
           ∙ gone_outside c.self.inside.memory.area c.self.inside.memory.words c.unmap_large.new.frames.words
           c.self.inside.root c.args.slot all c.self.invariant.apart page place is;
     }
 
 pub returns-clause-larges : goal.returns-clause-larges
 returns-clause-larges c = λ n ne.
-    let all = (c.unmap_large.ensures.gone c.self.inside.free c.self.invariant.tree).removed in
+    let all = (c.unmap_large.ensures.cleared.gone c.self.inside.free c.self.invariant.tree).removed in
     all.larges n ne ∙ ap (λ (s : TableState). large_of s.words s.root n) c.self.view_is
 
 pub returns-clause-gone : goal.returns-clause-gone
-returns-clause-gone c = let all = (c.unmap_large.ensures.gone c.self.inside.free c.self.invariant.tree).removed in all.no_large
+returns-clause-gone c = let all = (c.unmap_large.ensures.cleared.gone c.self.inside.free c.self.invariant.tree).removed in all.no_large
 
 pub returns-clause-unmapped : goal.returns-clause-unmapped
-returns-clause-unmapped c = λ k lt. let all = (c.unmap_large.ensures.gone c.self.inside.free c.self.invariant.tree).removed in all.gone k lt
+returns-clause-unmapped c = λ k lt. let all = (c.unmap_large.ensures.cleared.gone c.self.inside.free c.self.invariant.tree).removed in all.gone k lt
 
 pub returns-clause-only : goal.returns-clause-only
 returns-clause-only c =
-    let all = (c.unmap_large.ensures.gone c.self.inside.free c.self.invariant.tree).removed in
-    only_seen c.self.view_is c.unmap_large.ensures.area all.size (λ l n met lt is.
+    let all = (c.unmap_large.ensures.cleared.gone c.self.inside.free c.self.invariant.tree).removed in
+    only_seen c.self.view_is c.unmap_large.ensures.cleared.same_area all.size (λ l n met lt is.
     all.others l n (omega (arith, lt)) (λ e _. absurd (omega (arith, lt, e))) ∙ is)
-    (λ other canonical not. (c.unmap_large.ensures.gone c.self.inside.free c.self.invariant.tree).elsewhere other canonical (other_slot c.args.slot other not))
+    (λ other canonical not. (c.unmap_large.ensures.cleared.gone c.self.inside.free c.self.invariant.tree).elsewhere other canonical (other_slot c.args.slot other not))

@@ -11,37 +11,37 @@ use Rattle.kernel_tables.proofs.tables.Tables.grant_page.Goals as goal
 
 pub invariant_of-self : goal.invariant_of-self
 invariant_of-self c =
-    let all = (c.protect_page.ensures.granted c.self.inside.free c.self.invariant.tree).pages in
+    let all = (c.protect_page.ensures.granted.granted c.self.inside.free c.self.invariant.tree).pages in
     let size = all.size in
     record {
       root_in = omega (arith, c.self.invariant.root_in, size);
-      tree = (c.protect_page.ensures.granted c.self.inside.free c.self.invariant.tree).tree;
+      tree = (c.protect_page.ensures.granted.granted c.self.inside.free c.self.invariant.tree).tree;
       known = known_moved c.self.inside.memory.area c.protect_page.new.frames.area c.self.inside.free
-          (frame_count c.protect_page.new.frames.words) c.protect_page.ensures.area
+          (frame_count c.protect_page.new.frames.words) c.protect_page.ensures.granted.same_area
           (free_stays c.self.inside.memory.area c.self.inside.free c.self.inside.free
           (frame_count c.self.inside.memory.words) (frame_count c.protect_page.new.frames.words) c.self.invariant.known
           (omega arith) (λ f e. e));
       apart = λ page place is.
-          ap (λ a. in_area a place.frame) c.protect_page.ensures.area
+          ap (λ a. in_area a place.frame) c.protect_page.ensures.granted.same_area
           ∙ regranted_outside c.self.inside.memory.area c.self.inside.memory.words c.protect_page.new.frames.words
           c.self.inside.root c.args.page c.args.rights all c.self.invariant.apart page place is;
     }
 
 pub returns-clause-larges : goal.returns-clause-larges
 returns-clause-larges c = λ n.
-    let all = (c.protect_page.ensures.granted c.self.inside.free c.self.invariant.tree).pages in
+    let all = (c.protect_page.ensures.granted.granted c.self.inside.free c.self.invariant.tree).pages in
     all.larges n ∙ ap (λ (s : TableState). large_of s.words s.root n) c.self.view_is
 
 pub returns-clause-granted : goal.returns-clause-granted
 returns-clause-granted c =
     subst (λ (s : TableState). IfSome (leads s c.args.page) (λ place. walk_of c.protect_page.new.frames.words
     c.self.inside.root c.args.page ≡ Some (place_with place.frame c.args.rights)))
-    c.self.view_is ((c.protect_page.ensures.granted c.self.inside.free c.self.invariant.tree).granted)
+    c.self.view_is ((c.protect_page.ensures.granted.granted c.self.inside.free c.self.invariant.tree).granted)
 
 pub returns-clause-only : goal.returns-clause-only
 returns-clause-only c =
-    let all = (c.protect_page.ensures.granted c.self.inside.free c.self.invariant.tree).pages in
-    only_seen c.self.view_is c.protect_page.ensures.area all.size (λ l n met lt is.
+    let all = (c.protect_page.ensures.granted.granted c.self.inside.free c.self.invariant.tree).pages in
+    only_seen c.self.view_is c.protect_page.ensures.granted.same_area all.size (λ l n met lt is.
     all.stayed l n (omega (arith, lt)) (λ e. absurd (omega (arith, lt, e))) ∙ is)
-    (λ other canonical not. (c.protect_page.ensures.granted c.self.inside.free c.self.invariant.tree).elsewhere other
+    (λ other canonical not. (c.protect_page.ensures.granted.granted c.self.inside.free c.self.invariant.tree).elsewhere other
     canonical (other_page c.args.page other not))

@@ -1,4 +1,4 @@
-use Rattle.std.proofs.Common.{◌*◌, ◌∙◌, ap, sym, subst, arith}
+use Rattle.std.proofs.Common.{rules, ◌*◌, ◌∙◌, ap, sym, subst, arith}
 use Rattle.paging_core.specs.Area.{in_area}
 use Rattle.kernel_tables.specs.Changes.{IsLargeMapped}
 use Rattle.kernel_tables.specs.TableState.{TableState, leads}
@@ -7,30 +7,28 @@ use Rattle.kernel_tables.proofs.Flushed.{stays_mapped}
 use Rattle.kernel_tables.proofs.LargePages.{HasNoFault, no_large_fault, slot_empty, row_unmet, large_outside}
 use Rattle.kernel_tables.proofs.tables.Tables.map_large.Goals as goal
 
-pub map_large-requires-clause-empty : goal.map_large-requires-clause-empty
-map_large-requires-clause-empty c =
+pub map_large-requires-clause-mappable : goal.map_large-requires-clause-mappable
+map_large-requires-clause-mappable c =
     let f = subst (λ (s : TableState). HasNoFault s c.args.page c.args.frame) (sym c.self.view_is)
     (no_large_fault c.args.self.now c.args.page c.args.frame (sym c.in-None.ensures)) in
-    slot_empty c.self.inside.memory.words c.self.inside.root c.args.page f.small f.no_table
-
-pub map_large-requires-clause-unmet : goal.map_large-requires-clause-unmet
-map_large-requires-clause-unmet c =
-    let f = subst (λ (s : TableState). HasNoFault s c.args.page c.args.frame) (sym c.self.view_is)
-    (no_large_fault c.args.self.now c.args.page c.args.frame (sym c.in-None.ensures)) in
-    row_unmet c.self.inside.memory.area c.self.inside.memory.words c.self.inside.root (512 * c.args.frame) c.self.inside.free c.self.invariant.tree f.outside
+    record {
+      empty = slot_empty c.self.inside.memory.words c.self.inside.root c.args.page f.small f.no_table;
+      below = search rules;
+      unmet = row_unmet c.self.inside.memory.area c.self.inside.memory.words c.self.inside.root (512 * c.args.frame) c.self.inside.free c.self.invariant.tree f.outside;
+    }
 
 pub invariant_of-self : goal.invariant_of-self
 invariant_of-self c =
     let f = subst (λ (s : TableState). HasNoFault s c.args.page c.args.frame) (sym c.self.view_is)
     (no_large_fault c.args.self.now c.args.page c.args.frame (sym c.in-None.ensures)) in
-    let added = c.map_large.ensures.added in
+    let added = c.map_large.ensures.put.added in
     let size = added.size in
     record {
       root_in = omega (arith, c.self.invariant.root_in, size);
-      tree = c.map_large.ensures.standing.tree;
-      known = c.map_large.ensures.standing.known;
+      tree = c.map_large.ensures.put.standing.tree;
+      known = c.map_large.ensures.put.standing.known;
       apart = λ page place is.
-          ap (λ a. in_area a place.frame) c.map_large.ensures.area
+          ap (λ a. in_area a place.frame) c.map_large.ensures.put.same_area
           ∙ large_outside c.self.inside.memory.area c.self.inside.memory.words c.map_large.new.frames.words
           c.self.inside.free c.map_large.new.pool c.self.inside.root c.args.page c.args.frame c.args.rights
           added f.outside c.self.invariant.apart page place is;
@@ -40,17 +38,17 @@ pub returns-in-None-clause-flush : goal.returns-in-None-clause-flush
 returns-in-None-clause-flush c = λ other place canonical not is.
     stays_mapped c.self.inside.memory.words c.map_large.new.frames.words c.self.inside.free c.map_large.new.pool
     c.self.inside.root c.args.page c.args.frame c.args.rights
-    c.map_large.ensures.added other place (ap (λ (s : TableState). leads s other) c.self.view_is ∙ is)
+    c.map_large.ensures.put.added other place (ap (λ (s : TableState). leads s other) c.self.view_is ∙ is)
 
 pub returns-in-None-clause-only : goal.returns-in-None-clause-only
 returns-in-None-clause-only c =
-    let added = c.map_large.ensures.added in
-    only_seen c.self.view_is c.map_large.ensures.area added.size (λ l n met lt is. added.stayed l n met (omega (arith, lt)) is)
-    (λ other canonical not. c.map_large.ensures.others.elsewhere other canonical (other_slot c.args.page other not))
+    let added = c.map_large.ensures.put.added in
+    only_seen c.self.view_is c.map_large.ensures.put.same_area added.size (λ l n met lt is. added.stayed l n met (omega (arith, lt)) is)
+    (λ other canonical not. c.map_large.ensures.put.others.elsewhere other canonical (other_slot c.args.page other not))
 
 pub returns-in-None-clause-mapped : goal.returns-in-None-clause-mapped
 returns-in-None-clause-mapped c =
-    let added = c.map_large.ensures.added in
+    let added = c.map_large.ensures.put.added in
     subst (λ (s : TableState). IsLargeMapped s (record {
       words = c.map_large.new.frames.words;
       area =

@@ -6,19 +6,19 @@ use Rattle.kernel_tables.proofs.tables.Tables.split_slot.Goals as goal
 
 pub invariant_of-self : goal.invariant_of-self
 invariant_of-self c =
-    let split = c.split_large.ensures.split in
+    let split = c.split_large.ensures.split.split in
     let size = split.size in
     record {
       root_in = omega (arith, c.self.invariant.root_in, size);
-      tree = c.split_large.ensures.standing.tree;
-      known = c.split_large.ensures.standing.known;
-      apart = λ page place is. ap (λ a. in_area a place.frame) c.split_large.ensures.area
-          ∙ c.self.invariant.apart page place (sym (c.split_large.ensures.walks page) ∙ is);
+      tree = c.split_large.ensures.split.standing.tree;
+      known = c.split_large.ensures.split.standing.known;
+      apart = λ page place is. ap (λ a. in_area a place.frame) c.split_large.ensures.split.same_area
+          ∙ c.self.invariant.apart page place (sym (c.split_large.ensures.split.walks page) ∙ is);
     }
 
 pub returns-clause-none : goal.returns-clause-none
 returns-clause-none c =
-    let split = c.split_large.ensures.split in
-    none_seen c.self.view_is c.split_large.ensures.area split.size
+    let split = c.split_large.ensures.split.split in
+    none_seen c.self.view_is c.split_large.ensures.split.same_area split.size
     (split_stay c.self.inside.memory.words c.split_large.new.frames.words c.self.inside.free c.split_large.new.pool
-    c.self.inside.root c.args.slot split) c.split_large.ensures.walks
+    c.self.inside.root c.args.slot split) c.split_large.ensures.split.walks
