@@ -20,7 +20,13 @@ pub record IsNewAt (address granularity : ℕ) (heap : Dlmalloc Arena) : Type 0 
   pub top : heap.system.top ≡ address
   pub peak : heap.system.peak ≡ address
 
--- The same over one memory: its first words are for blocks, and the table stands after them. Words and table are as they were given.
+-- The same with a granularity of 64 KiB, over these words and with this table.
+pub record IsBegunOver (address : ℕ) (words table : List ℕ) (heap : Dlmalloc Arena) : Type 0 where
+  pub new : IsNewAt address 65536 heap
+  pub words_are : heap.system.words.now ≡ words
+  pub table_is : heap.system.table.words.now ≡ table
+
+-- A heap of a granularity that has nothing yet, over one memory: its first words are for blocks, and the table stands after them. Words and table are as they were given.
 pub record IsBegun (memory : List ℕ) (address granularity : ℕ) (heap : Dlmalloc Arena) : Type 0 where
   pub new : IsNewAt address granularity heap
   pub words : heap.system.words.now ≡ words_for_blocks granularity memory

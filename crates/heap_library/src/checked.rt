@@ -68,7 +68,7 @@ impl<'a> CheckedHeap<'a> {
     ghost use Rattle.dlmalloc.specs.Shortened.{IsTrimmed};
     ghost use Rattle.dlmalloc.specs.Served.{IsListed};
     ghost use Rattle.heap_arena.specs.Arena.{regions_of, word_of, IsAbove};
-    ghost use Rattle.heap_library.specs.Begun.{FitsAt, IsNewAt, IsBegun};
+    ghost use Rattle.heap_library.specs.Begun.{FitsAt, IsBegunOver, IsBegun};
     ghost use Rattle.heap_library.specs.Answers.{IsRequestAnswered, IsResizeAnswered, IsOnlySet};
     ghost use Rattle.heap_library.specs.Library.{HasWord};
     ghost use Rattle.sound_heap.specs.Heap.{HasBlock, usable, IsIntact, StaysInState};
@@ -86,10 +86,8 @@ impl<'a> CheckedHeap<'a> {
         base: u64,
     ) -> CheckedHeap<'a>
         requires fits { FitsAt base (length words.now) }
-        ensures new { IsNewAt base 65536 result }
-        ensures words { result.system.words.now ≡ take (min (length words.entry.now) (128 * length marks.entry.now)) words.entry.now }
+        ensures begun { IsBegunOver base (take (min (length words.entry.now) (128 * length marks.entry.now)) words.entry.now) table.entry.now result }
         ensures len { length result.system.words.now ≡ min (length words.entry.now) (128 * length marks.entry.now) }
-        ensures table { result.system.table.words.now ≡ table.entry.now }
     {
         let marks = Marks::new(marks, base);
         CheckedHeap::with_marks(words, marks, table, base)
@@ -126,10 +124,8 @@ impl<'a> CheckedHeap<'a> {
     fn over_zeros(memory: &'a mut [u64], base: u64, granularity: u64) -> CheckedHeap<'a>
         requires fits { FitsAt base (length memory.now) }
         requires cleared { IsCleared memory.now }
-        ensures new { IsNewAt base 65536 result }
-        ensures words { result.system.words.now ≡ words_for_blocks granularity memory.entry.now }
+        ensures begun { IsBegunOver base (words_for_blocks granularity memory.entry.now) (words_for_table granularity memory.entry.now) result }
         ensures len { length result.system.words.now ≡ left_for_words granularity (length memory.entry.now) }
-        ensures table { result.system.table.words.now ≡ words_for_table granularity memory.entry.now }
         ensures table_len { length result.system.table.words.now ≡ table_of granularity (length memory.entry.now) }
     {
         let count = memory.len();
@@ -148,10 +144,8 @@ impl<'a> CheckedHeap<'a> {
         requires fits { FitsAt base (length front.now) }
         requires unset { AreUnset base marks }
         requires room { length front.now ≤ 128 * length marks.words.now }
-        ensures new { IsNewAt base 65536 result }
-        ensures words { result.system.words.now ≡ take (length front.entry.now - table_in granularity (length front.entry.now)) front.entry.now }
+        ensures begun { IsBegunOver base (take (length front.entry.now - table_in granularity (length front.entry.now)) front.entry.now) (drop (length front.entry.now - table_in granularity (length front.entry.now)) front.entry.now) result }
         ensures len { length result.system.words.now ≡ length front.entry.now - table_in granularity (length front.entry.now) }
-        ensures table { result.system.table.words.now ≡ drop (length front.entry.now - table_in granularity (length front.entry.now)) front.entry.now }
         ensures table_len { length result.system.table.words.now ≡ table_in granularity (length front.entry.now) }
     {
         let rest = front.len();
@@ -168,10 +162,8 @@ impl<'a> CheckedHeap<'a> {
     ) -> CheckedHeap<'a>
         requires fits { FitsAt base (length words.now) }
         requires unset { AreUnset base marks }
-        ensures new { IsNewAt base 65536 result }
-        ensures words { result.system.words.now ≡ take (min (length words.entry.now) (128 * length marks.entry.words.now)) words.entry.now }
+        ensures begun { IsBegunOver base (take (min (length words.entry.now) (128 * length marks.entry.words.now)) words.entry.now) table.entry.now result }
         ensures len { length result.system.words.now ≡ min (length words.entry.now) (128 * length marks.entry.words.now) }
-        ensures table { result.system.table.words.now ≡ table.entry.now }
     {
         let count = words.len().min(marks.len().saturating_mul(128));
         let arena = Arena::new(&mut words[..count], table, base);
