@@ -1,11 +1,9 @@
 -- What a changed entry of a page or a slot does, seen from inside: the root stays, and other words are there.
-use Rattle.std.proofs.Common.{◌≡◌, ℕ, ◌+◌, ◌*◌, ◌/◌, ◌<◌, List, Bool, Some, refl, subst, ◌∙◌, arith}
+use Rattle.std.proofs.Common.{◌≡◌, ℕ, List, Bool, refl, subst, ◌∙◌, arith}
 use Rattle.std.specs.Prelude.{IfSome}
 use Rattle.paging_core.specs.Area.{Area}
-use Rattle.paging_core.specs.Large.{slot_of}
 use Rattle.paging_core.specs.Outcomes.{IsPageTakenOut, IsPageRegranted, IsLargeTakenOut, IsSlotRegranted}
 use Rattle.paging_core.specs.PageChanges.{removal, regrant, IsPageChanged}
-use Rattle.paging_core.specs.Walk.{large_of, place_with}
 use Rattle.paging_core.specs.declared.page_table.Rights.{Rights}
 use Rattle.kernel_tables.specs.Changes.{IsEntryCleared, IsEntryGranted, IsSlotCleared, IsSlotGranted}
 use Rattle.kernel_tables.specs.TableState.{TableState, leads}

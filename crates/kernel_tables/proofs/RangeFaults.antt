@@ -1,10 +1,10 @@
 -- What follows if a range is not refused.
-use Rattle.std.proofs.Common.{◌≡◌, ℕ, zero, suc, ◌+◌, ◌-◌, ◌*◌, ◌<◌, ◌≤◌, Bool, true, false, not, cond, ltb, Option, Some, None, refl, ap, ◌∙◌, ◌⊎◌, inl, inr, arith}
+use Rattle.std.proofs.Common.{◌≡◌, ℕ, zero, suc, ◌+◌, ◌-◌, ◌*◌, ◌<◌, Bool, true, false, not, cond, ltb, Option, Some, None, refl, ap, ◌∙◌, ◌⊎◌, inl, inr, arith}
 use Rattle.std.proofs.lemmas.Bool.{cases_Bool}
 use Rattle.std.proofs.lemmas.Bool.Decides.{nat_tests}
 use Rattle.std.specs.Prelude.{is_some, IsTrue, ◌==◌}
 use Rattle.std.specs.Option.{option_or, option_map}
-use Rattle.paging_core.specs.Address.{is_canonical, IsCanonicalRange}
+use Rattle.paging_core.specs.Address.{is_canonical}
 use Rattle.paging_core.specs.Area.{area_meets}
 use Rattle.paging_core.specs.Pool.{free_count}
 use Rattle.paging_core.specs.Walk.{Place}

@@ -1,7 +1,6 @@
 -- What a call on pages does to them, and what it leaves as it was.
-use Rattle.std.specs.Prelude.{◌≡◌, ℕ, ◌+◌, ◌*◌, ◌<◌, Bool, false, IsTrue, IfSome, OnErr, Option, Some, None, Result}
+use Rattle.std.specs.Prelude.{◌≡◌, ℕ, ◌+◌, ◌*◌, ◌<◌, Bool, false, IfSome, OnErr, Option, Some, None, Result}
 use Rattle.std.specs.Result.{result_err}
-use Rattle.paging_core.specs.Address.{is_canonical}
 use Rattle.paging_core.specs.Large.{slot_of, IsLargeAdded, IsLargeCleared}
 use Rattle.paging_core.specs.Mapping.{IsPageAdded}
 use Rattle.paging_core.specs.PageChanges.{removal, regrant, IsPageChanged}

@@ -1,6 +1,5 @@
 -- What a processor's translation cache may keep (AMD64 volume 2, "Translation-Lookaside Buffer"), own.
-use Rattle.std.specs.Prelude.{◌≡◌, ℕ, ◌+◌, ◌*◌, ◌/◌, Bool, false, ◌==◌, ◌&&◌, nat_le, nat_lt, IsTrue, if◌then◌else◌, Option, Some, None}
-use Rattle.paging_core.specs.Address.{is_canonical}
+use Rattle.std.specs.Prelude.{◌≡◌, ℕ, ◌+◌, ◌/◌, Bool, false, ◌==◌, ◌&&◌, nat_le, nat_lt, if◌then◌else◌, Option, Some, None}
 use Rattle.paging_core.specs.Walk.{Place}
 use Rattle.kernel_tables.specs.TableState.{TableState, IsPage, leads}
 

@@ -1,6 +1,6 @@
 //! What a range of pages meets: its lowest page that is mapped, and the tables that it needs.
 ghost use Rattle.std.specs.Prelude.{◌≡◌, ℕ, ◌+◌, ◌-◌, ◌*◌, ◌/◌, ◌%◌, ◌^◌, ◌<◌, ◌≤◌, None, IsTrue, IsSome};
-ghost use Rattle.paging_core.specs.Address.{is_canonical, IsCanonicalRange};
+ghost use Rattle.paging_core.specs.Address.{IsCanonicalRange};
 ghost use Rattle.paging_core.specs.Missing.{missing_of};
 ghost use Rattle.paging_core.specs.Prefix.{prefix_of};
 ghost use Rattle.paging_core.specs.Walk.{reach};

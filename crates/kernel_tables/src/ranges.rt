@@ -1,5 +1,5 @@
 //! The calls on ranges of pages.
-ghost use Rattle.std.specs.Prelude.{◌≡◌, ℕ, ◌+◌, ◌*◌, ◌/◌, ◌%◌, ◌^◌, ◌<◌, ◌≤◌, false, None, Some, OnOk, ◌&&◌, ◌==◌, nat_le, is_none};
+ghost use Rattle.std.specs.Prelude.{◌≡◌, ℕ, ◌+◌, ◌*◌, ◌/◌, ◌%◌, ◌^◌, ◌<◌, ◌≤◌, None, Some, OnOk, ◌&&◌, ◌==◌, nat_le, is_none};
 ghost use Rattle.paging_core.specs.Address.{IsCanonicalRange};
 ghost use Rattle.paging_core.specs.Large.{slot_of, missing_above, IsLargeAdded};
 ghost use Rattle.paging_core.specs.Mapping.{IsPageAdded};

@@ -1,7 +1,5 @@
-ghost use Rattle.std.specs.Prelude.{◌≡◌, ℕ, ◌+◌, ◌*◌, ◌/◌, ◌%◌, ◌<◌, ◌≤◌, ◌^◌, ◌↔◌, Bool, true, false, None, Some, IsTrue, IsSome, IfSome, OnOk, IfOk, length};
+ghost use Rattle.std.specs.Prelude.{◌≡◌, ℕ, ◌+◌, ◌*◌, ◌/◌, ◌%◌, ◌<◌, ◌≤◌, ◌^◌, ◌↔◌, Bool, true, false, None, Some, IsSome, IfSome, OnOk, IfOk, length};
 ghost use Rattle.std.specs.Option.{option_map};
-ghost use Rattle.paging_core.specs.Address.{is_canonical};
-ghost use Rattle.paging_core.specs.Missing.{missing_of};
 ghost use Rattle.paging_core.specs.Pool.{free_count};
 ghost use Rattle.paging_core.specs.Walk.{mapped_place};
 ghost use Rattle.kernel_tables.specs.Begun.{IsAreaGiven, AreBegun};
