@@ -1,5 +1,5 @@
 -- A heap over an arena refuses where it has to, and there alone.
-use Rattle.std.specs.Prelude.{◌≡◌, ℕ, zero, suc, ◌+◌, ◌*◌, ◌<◌, ◌≤◌, true, false, nat_le, List, [], ◌∷◌, ◌++◌, IsTrue, length}
+use Rattle.std.specs.Prelude.{◌≡◌, ℕ, zero, suc, ◌+◌, ◌<◌, ◌≤◌, true, false, nat_le, List, [], ◌∷◌, IsTrue, length}
 use Rattle.std.proofs.Common.{◌∙◌, ap, sym, subst, refl, inl, inr, arith, length-append}
 use Rattle.std.proofs.lemmas.Bool.Decides.{nat_tests}
 use Rattle.std.specs.Int.{IsPowerOfTwo}
@@ -9,8 +9,8 @@ use Rattle.heap_memory.specs.Regions.{with_grant}
 use Rattle.heap_memory.specs.Runs.{begins_in}
 use Rattle.dlmalloc_chunks.specs.Request.{padded, enlarged, limit, round_up}
 use Rattle.dlmalloc.specs.Served.{IsServed}
-use Rattle.dlmalloc.specs.Requested.{asked, IsHandedOut, IsServedAt}
-use Rattle.dlmalloc.specs.Moved.{IsGivenSize, IsResized}
+use Rattle.dlmalloc.specs.Requested.{asked, IsServedAt}
+use Rattle.dlmalloc.specs.Moved.{IsResized}
 use Rattle.dlmalloc.specs.declared.heap.Dlmalloc.{Dlmalloc}
 use Rattle.dlmalloc.specs.declared.malloc_error.MallocError.TheVariants.{TooLarge, System}
 use Rattle.heap_arena.specs.Grants.{grant_at, grants, are_between}
@@ -19,7 +19,7 @@ use Rattle.heap_arena.specs.declared.arena.Arena.{Arena}
 use Rattle.sound_heap.specs.declared.heap_error.HeapError.{HeapError}
 use Rattle.sound_heap.specs.declared.heap_error.HeapError.TheVariants.{BadAlign, NoBlock, Refused}
 use Rattle.heap_library.specs.Library.{IsResizeRefused}
-use Rattle.sound_heap.specs.Heap.{HasBlock, usable, IsRequestRefused}
+use Rattle.sound_heap.specs.Heap.{HasBlock, IsRequestRefused}
 use Rattle.heap_library.specs.Checked.{arena_zeros, arena_follows, arena_refuses, arena_denies, arena_heap_state}
 use Rattle.heap_library.specs.Room.{HasNoRoom, IsRefused, IsRefusedResize}
 

@@ -1,7 +1,9 @@
+pub mod Answers
 pub mod Begun
 pub mod Calls
 pub mod Checked
 pub mod Counted
 pub mod Library
+pub mod Marking
 pub mod Marks
 pub mod Room

@@ -3,7 +3,7 @@ ghost use Rattle.std.specs.Prelude.{◌≡◌, ◌≢◌, ℕ, ◌*◌, ◌%◌,
 ghost use Rattle.heap_memory.specs.Regions.{is_granted};
 ghost use Rattle.heap_arena.specs.Arena.{regions_of};
 ghost use Rattle.heap_library.specs.Marks.{is_marked};
-ghost use Rattle.heap_library.specs.Counted.{count_below};
+ghost use Rattle.heap_library.specs.Marking.{AreCounted, IsMarkSet};
 ghost use Rattle.heap_library.specs.Checked.{table_in};
 
 use crate::marks::Marks;
@@ -43,12 +43,8 @@ fn mark<'a>(marks: &mut Marks<'a>, heap: &Heap<Arena<'a>>, address: u64)
     requires room { length heap.now.system.words.now ≤ 128 * length marks.old.words.now }
     requires some { 0 < marks.old.base }
     requires unmarked { is_marked marks.old.base marks.old.words.now address ≡ false }
-    requires counted { marks.old.count ≡ count_below (is_marked marks.old.base marks.old.words.now) (2 ^ 64) }
-    ensures counted { marks.new.count ≡ count_below (is_marked marks.new.base marks.new.words.now) (2 ^ 64) }
-    ensures here { is_marked marks.new.base marks.new.words.now address ≡ true }
-    ensures others { (a : ℕ) → a ≢ address → is_marked marks.new.base marks.new.words.now a ≡ is_marked marks.old.base marks.old.words.now a }
-    ensures base { marks.new.base ≡ marks.old.base }
-    ensures len { length marks.new.words.now ≡ length marks.old.words.now }
+    requires counted { AreCounted marks.old }
+    ensures { IsMarkSet marks.old address true marks.new }
 {
     heap.system().grants_are_inside();
     marks.set(address);
@@ -63,24 +59,22 @@ fn words_for_table(rest: usize, granularity: u64) -> usize
 }
 
 impl<'a> CheckedHeap<'a> {
-    ghost use Rattle.std.specs.Prelude.{◌≡◌, ◌≢◌, ◌↔◌, ℕ, ◌+◌, ◌-◌, ◌*◌, ◌/◌, ◌%◌, ◌^◌, ◌<◌, ◌≤◌, min, true, false, if◌then◌else◌, Some, None, IfOk, IfErr, IsErr, IfSome, IfNone, IsTrue, length, take, drop};
+    ghost use Rattle.std.specs.Prelude.{◌≡◌, ◌≢◌, ◌↔◌, ℕ, ◌+◌, ◌-◌, ◌*◌, ◌/◌, ◌%◌, ◌^◌, ◌<◌, ◌≤◌, min, true, false, if◌then◌else◌, Some, None, IfOk, IfSome, IfNone, IsTrue, length, take, drop};
     ghost use Rattle.heap_memory.specs.Words.{IsStored};
     ghost use Rattle.dlmalloc.specs.State.{countdown_from};
     ghost use Rattle.dlmalloc.specs.Heap.{IsGranularity};
     ghost use Rattle.dlmalloc.specs.Blocks.{ArePlaced, BlocksAreApart};
     ghost use Rattle.dlmalloc.specs.AfterFree.{IsFreed};
     ghost use Rattle.dlmalloc.specs.Shortened.{IsTrimmed};
-    ghost use Rattle.dlmalloc.specs.Order.{KeepsIndex};
     ghost use Rattle.dlmalloc.specs.Served.{IsListed};
     ghost use Rattle.heap_arena.specs.Arena.{regions_of, word_of, IsAbove};
-    ghost use Rattle.heap_library.specs.Begun.{IsNewAt, IsBegun};
-    ghost use Rattle.heap_library.specs.Calls.{IsBlockGiven, IsBlockResized};
-    ghost use Rattle.heap_library.specs.Library.{HasWord, IsResizeRefused};
-    ghost use Rattle.sound_heap.specs.Heap.{HasBlock, usable, IsIntact, IsRequestRefused, StaysInState};
-    ghost use Rattle.heap_library.specs.Counted.{HasBlocks, count_below};
-    ghost use Rattle.heap_library.specs.Checked.{arena_follows, arena_refuses, arena_denies, arena_heap_state, table_in, table_of, left_for_words, words_for_blocks, words_for_table, IsCleared};
-    ghost use Rattle.heap_library.specs.Marks.{is_marked};
-    ghost use Rattle.heap_library.specs.Room.{IsRefused, IsRefusedResize};
+    ghost use Rattle.heap_library.specs.Begun.{FitsAt, IsBegunOver, IsBegun};
+    ghost use Rattle.heap_library.specs.Answers.{IsRequestAnswered, IsResizeAnswered, IsOnlySet};
+    ghost use Rattle.heap_library.specs.Library.{HasWord};
+    ghost use Rattle.sound_heap.specs.Heap.{HasBlock, usable, IsIntact, StaysInState};
+    ghost use Rattle.heap_library.specs.Counted.{HasBlocks};
+    ghost use Rattle.heap_library.specs.Checked.{arena_follows, arena_heap_state, table_in, table_of, left_for_words, words_for_blocks, words_for_table, IsCleared};
+    ghost use Rattle.heap_library.specs.Marking.{AreUnset};
 
     /// An empty heap over words, the first of them at the address `base`. It has a bit of `marks` for each 16 bytes, and
     /// takes no more words than these are for; in `table` it notes what it was granted, in two words for each grant. Words
@@ -91,13 +85,9 @@ impl<'a> CheckedHeap<'a> {
         table: &'a mut [u64],
         base: u64,
     ) -> CheckedHeap<'a>
-        requires aligned { base % 16 ≡ 0 }
-        requires low { 4096 ≤ base }
-        requires high { base + 8 * length words.now < 2 ^ 64 }
-        ensures new { IsNewAt base 65536 result }
-        ensures words { result.system.words.now ≡ take (min (length words.entry.now) (128 * length marks.entry.now)) words.entry.now }
+        requires fits { FitsAt base (length words.now) }
+        ensures begun { IsBegunOver base (take (min (length words.entry.now) (128 * length marks.entry.now)) words.entry.now) table.entry.now result }
         ensures len { length result.system.words.now ≡ min (length words.entry.now) (128 * length marks.entry.now) }
-        ensures table { result.system.table.words.now ≡ table.entry.now }
     {
         let marks = Marks::new(marks, base);
         CheckedHeap::with_marks(words, marks, table, base)
@@ -108,9 +98,7 @@ impl<'a> CheckedHeap<'a> {
     /// were given.
     #[tactic(auto, using(crate::proofs::MemoryParts::blocks_of_front, crate::proofs::MemoryParts::table_of_front))]
     pub fn over(memory: &'a mut [u64], base: u64) -> CheckedHeap<'a>
-        requires aligned { base % 16 ≡ 0 }
-        requires low { 4096 ≤ base }
-        requires high { base + 8 * length memory.now < 2 ^ 64 }
+        requires fits { FitsAt base (length memory.now) }
         ensures begun { IsBegun memory.entry.now base 65536 result }
     {
         let count = memory.len();
@@ -121,9 +109,7 @@ impl<'a> CheckedHeap<'a> {
     /// As `over`, with a granularity, if the words for the marks are 0 already. So words, table and marks are as they
     /// were given. The table has a place for each granularity of bytes.
     pub fn over_cleared(memory: &'a mut [u64], base: u64, granularity: u64) -> CheckedHeap<'a>
-        requires aligned { base % 16 ≡ 0 }
-        requires low { 4096 ≤ base }
-        requires high { base + 8 * length memory.now < 2 ^ 64 }
+        requires fits { FitsAt base (length memory.now) }
         requires cleared { IsCleared memory.now }
         requires granularity { IsGranularity granularity }
         ensures begun { IsBegun memory.entry.now base granularity result }
@@ -136,14 +122,10 @@ impl<'a> CheckedHeap<'a> {
     /// As `over_cleared`, but the heap still has the granularity of a new one. The table has its length.
     #[tactic(auto, using(crate::proofs::Cleared::clear_rest, crate::proofs::MemoryParts::blocks_of_front, crate::proofs::MemoryParts::table_of_front))]
     fn over_zeros(memory: &'a mut [u64], base: u64, granularity: u64) -> CheckedHeap<'a>
-        requires aligned { base % 16 ≡ 0 }
-        requires low { 4096 ≤ base }
-        requires high { base + 8 * length memory.now < 2 ^ 64 }
+        requires fits { FitsAt base (length memory.now) }
         requires cleared { IsCleared memory.now }
-        ensures new { IsNewAt base 65536 result }
-        ensures words { result.system.words.now ≡ words_for_blocks granularity memory.entry.now }
+        ensures begun { IsBegunOver base (words_for_blocks granularity memory.entry.now) (words_for_table granularity memory.entry.now) result }
         ensures len { length result.system.words.now ≡ left_for_words granularity (length memory.entry.now) }
-        ensures table { result.system.table.words.now ≡ words_for_table granularity memory.entry.now }
         ensures table_len { length result.system.table.words.now ≡ table_of granularity (length memory.entry.now) }
     {
         let count = memory.len();
@@ -159,17 +141,11 @@ impl<'a> CheckedHeap<'a> {
         base: u64,
         granularity: u64,
     ) -> CheckedHeap<'a>
-        requires aligned { base % 16 ≡ 0 }
-        requires low { 4096 ≤ base }
-        requires high { base + 8 * length front.now < 2 ^ 64 }
-        requires marks_base { marks.base ≡ base }
-        requires none { (address : ℕ) → is_marked marks.base marks.words.now address ≡ false }
-        requires counted { marks.count ≡ count_below (is_marked marks.base marks.words.now) (2 ^ 64) }
+        requires fits { FitsAt base (length front.now) }
+        requires unset { AreUnset base marks }
         requires room { length front.now ≤ 128 * length marks.words.now }
-        ensures new { IsNewAt base 65536 result }
-        ensures words { result.system.words.now ≡ take (length front.entry.now - table_in granularity (length front.entry.now)) front.entry.now }
+        ensures begun { IsBegunOver base (take (length front.entry.now - table_in granularity (length front.entry.now)) front.entry.now) (drop (length front.entry.now - table_in granularity (length front.entry.now)) front.entry.now) result }
         ensures len { length result.system.words.now ≡ length front.entry.now - table_in granularity (length front.entry.now) }
-        ensures table { result.system.table.words.now ≡ drop (length front.entry.now - table_in granularity (length front.entry.now)) front.entry.now }
         ensures table_len { length result.system.table.words.now ≡ table_in granularity (length front.entry.now) }
     {
         let rest = front.len();
@@ -184,16 +160,10 @@ impl<'a> CheckedHeap<'a> {
         table: &'a mut [u64],
         base: u64,
     ) -> CheckedHeap<'a>
-        requires aligned { base % 16 ≡ 0 }
-        requires low { 4096 ≤ base }
-        requires high { base + 8 * length words.now < 2 ^ 64 }
-        requires marks_base { marks.base ≡ base }
-        requires none { (address : ℕ) → is_marked marks.base marks.words.now address ≡ false }
-        requires counted { marks.count ≡ count_below (is_marked marks.base marks.words.now) (2 ^ 64) }
-        ensures new { IsNewAt base 65536 result }
-        ensures words { result.system.words.now ≡ take (min (length words.entry.now) (128 * length marks.entry.words.now)) words.entry.now }
+        requires fits { FitsAt base (length words.now) }
+        requires unset { AreUnset base marks }
+        ensures begun { IsBegunOver base (take (min (length words.entry.now) (128 * length marks.entry.words.now)) words.entry.now) table.entry.now result }
         ensures len { length result.system.words.now ≡ min (length words.entry.now) (128 * length marks.entry.words.now) }
-        ensures table { result.system.table.words.now ≡ table.entry.now }
     {
         let count = words.len().min(marks.len().saturating_mul(128));
         let arena = Arena::new(&mut words[..count], table, base);
@@ -207,9 +177,7 @@ impl<'a> CheckedHeap<'a> {
     /// other number changes nothing.
     pub fn set_granularity(&mut self, granularity: u64) -> bool
         ensures answer { IsTrue result ↔ IsGranularity granularity }
-        ensures state { arena_heap_state self.new ≡ record (arena_heap_state self.old) { granularity = if result then granularity else self.old.granularity } }
-        ensures system { self.new.system ≡ self.old.system }
-        ensures index { KeepsIndex regions_of word_of self.old self.new }
+        ensures set { IsOnlySet (record (arena_heap_state self.old) { granularity = if result then granularity else self.old.granularity }) self.old self.new }
     {
         self.heap.set_granularity(granularity)
     }
@@ -217,9 +185,7 @@ impl<'a> CheckedHeap<'a> {
     /// Sets how many large chunks are freed between two release passes, and begins to count them anew. 0 stands for the
     /// greatest number, 2^64 - 1.
     pub fn set_release_rate(&mut self, rate: u64)
-        ensures state { arena_heap_state self.new ≡ record (arena_heap_state self.old) { rate = rate; countdown = countdown_from rate } }
-        ensures system { self.new.system ≡ self.old.system }
-        ensures index { KeepsIndex regions_of word_of self.old self.new }
+        ensures { IsOnlySet (record (arena_heap_state self.old) { rate = rate; countdown = countdown_from rate }) self.old self.new }
     {
         self.heap.set_release_rate(rate);
     }
@@ -233,10 +199,7 @@ impl<'a> CheckedHeap<'a> {
 
     /// The address of a block of `size` bytes, at a multiple of `align` and of 16.
     pub fn malloc(&mut self, size: u64, align: u64) -> Result<u64, HeapError>
-        ensures ok { IfOk result (λ address. IsBlockGiven self.old size align false address self.new) }
-        ensures err { IfErr result (λ error. IsRequestRefused regions_of word_of arena_follows arena_refuses arena_denies self.old size align error self.new) }
-        ensures refused { IsErr result ↔ IsRefused self.old size align }
-        ensures apart { BlocksAreApart (arena_heap_state self.new) }
+        ensures { IsRequestAnswered self.old size align false result self.new }
     {
         match self.heap.malloc(size, align) {
             Ok(address) => {
@@ -249,10 +212,7 @@ impl<'a> CheckedHeap<'a> {
 
     /// As `malloc`; the bytes of the block are 0.
     pub fn calloc(&mut self, size: u64, align: u64) -> Result<u64, HeapError>
-        ensures ok { IfOk result (λ address. IsBlockGiven self.old size align true address self.new) }
-        ensures err { IfErr result (λ error. IsRequestRefused regions_of word_of arena_follows arena_refuses arena_denies self.old size align error self.new) }
-        ensures refused { IsErr result ↔ IsRefused self.old size align }
-        ensures apart { BlocksAreApart (arena_heap_state self.new) }
+        ensures { IsRequestAnswered self.old size align true result self.new }
     {
         match self.heap.calloc(size, align) {
             Ok(address) => {
@@ -266,10 +226,7 @@ impl<'a> CheckedHeap<'a> {
     /// Gives the block at `from` another size, and answers where it is then, at a multiple of 16. It keeps as many of
     /// its bytes as both sizes have. `NoBlock` if none begins there; then nothing changes.
     pub fn realloc(&mut self, from: u64, size: u64) -> Result<u64, HeapError>
-        ensures ok { IfOk result (λ to. IsBlockResized self.old from size to self.new) }
-        ensures err { IfErr result (λ error. IsResizeRefused regions_of word_of arena_follows arena_refuses arena_denies self.old from size error self.new) }
-        ensures refused { IsErr result ↔ IsRefusedResize self.old from size }
-        ensures apart { BlocksAreApart (arena_heap_state self.new) }
+        ensures { IsResizeAnswered self.old from size result self.new }
     {
         if !self.has_block(from) {
             self.heap.blocks_are_apart();

@@ -1,8 +1,7 @@
 // A heap over several arenas.
-ghost use Rattle.std.specs.Prelude.{◌≡◌, ℕ, OnOk, IfErr};
-ghost use Rattle.dlmalloc.specs.Heap.{state_of};
-ghost use Rattle.heap_arena.specs.Arenas.{regions_of_all, word_among, IsAdded};
-ghost use Rattle.heap_library.specs.Calls.{IsArenaRefused};
+ghost use Rattle.std.specs.Prelude.{◌≡◌, ℕ};
+ghost use Rattle.heap_arena.specs.Arenas.{regions_of_all, word_among};
+ghost use Rattle.heap_library.specs.Answers.{IsArenaAnswered};
 ghost use Rattle.sound_heap.specs.Heap.{IsIntact};
 
 use dlmalloc::Dlmalloc;
@@ -15,10 +14,7 @@ fn add<'a, const N: usize>(
     arena: Arena<'a>,
 ) -> Result<(), (AddFault, Arena<'a>)>
     requires { IsIntact (λ a. regions_of_all a.arenas.items) (λ a at. word_among a.arenas.items at) heap.old }
-    ensures ok { OnOk result (IsAdded heap.old.system.arenas.items arena.entry heap.new.system.arenas.items) }
-    ensures err { IfErr result (λ refusal. IsArenaRefused heap.old.system.arenas.items N arena.entry refusal.0 refusal.1 heap.new.system.arenas.items) }
-    ensures others { heap.new ≡ record heap.old { system = heap.new.system } }
-    ensures state { state_of (λ a at. word_among a.arenas.items at) heap.new ≡ state_of (λ a at. word_among a.arenas.items at) heap.old }
+    ensures answered { IsArenaAnswered (λ a. a.arenas.items) N heap.old arena.entry result heap.new }
     ensures intact { IsIntact (λ a. regions_of_all a.arenas.items) (λ a at. word_among a.arenas.items at) heap.new }
 {
     heap.rests_outside();
@@ -33,10 +29,7 @@ pub fn add_arena<'a, const N: usize>(
     heap: &mut Heap<Arenas<'a, N>>,
     arena: Arena<'a>,
 ) -> Result<(), (AddFault, Arena<'a>)>
-    ensures ok { OnOk result (IsAdded heap.old.system.arenas.items arena.entry heap.new.system.arenas.items) }
-    ensures err { IfErr result (λ refusal. IsArenaRefused heap.old.system.arenas.items N arena.entry refusal.0 refusal.1 heap.new.system.arenas.items) }
-    ensures others { heap.new ≡ record heap.old { system = heap.new.system } }
-    ensures state { state_of (λ a at. word_among a.arenas.items at) heap.new ≡ state_of (λ a at. word_among a.arenas.items at) heap.old }
+    ensures { IsArenaAnswered (λ a. a.arenas.items) N heap.old arena.entry result heap.new }
 {
     add(&mut heap.heap, arena)
 }

@@ -12,13 +12,11 @@ pub(crate) struct Marks<'a> {
 
 impl<'a> Marks<'a> {
     ghost use Rattle.heap_library.specs.Marks.{is_marked, HasBitPlace};
-    ghost use Rattle.heap_library.specs.Counted.{count_below};
+    ghost use Rattle.heap_library.specs.Marking.{AreCounted, AreUnset, IsMarkSet};
 
     /// Marks from the address `base` on, of which none is set.
     pub fn new(words: &'a mut [u64], base: u64) -> Marks<'a>
-        ensures none { (address : ℕ) → is_marked result.base result.words.now address ≡ false }
-        ensures base { result.base ≡ base }
-        ensures counted { result.count ≡ count_below (is_marked result.base result.words.now) (2 ^ 64) }
+        ensures unset { AreUnset base result }
         ensures len { length result.words.now ≡ length words.entry.now }
     {
         words.fill(0);
@@ -28,9 +26,7 @@ impl<'a> Marks<'a> {
     /// As `new`, if the words are 0 already.
     pub fn over_zeros(words: &'a mut [u64], base: u64) -> Marks<'a>
         requires zeros { words.now ≡ replicate (length words.now) 0 }
-        ensures none { (address : ℕ) → is_marked result.base result.words.now address ≡ false }
-        ensures base { result.base ≡ base }
-        ensures counted { result.count ≡ count_below (is_marked result.base result.words.now) (2 ^ 64) }
+        ensures unset { AreUnset base result }
         ensures len { length result.words.now ≡ length words.entry.now }
     {
         let marks = Marks {
@@ -53,7 +49,7 @@ impl<'a> Marks<'a> {
     fn none_are_counted(&self)
         requires none { (address : ℕ) → is_marked self.now.base self.now.words.now address ≡ false }
         requires zero { self.now.count ≡ 0 }
-        ensures { self.now.count ≡ count_below (is_marked self.now.base self.now.words.now) (2 ^ 64) }
+        ensures { AreCounted self.now }
     {}
 
     /// Whether an address is marked. It may be any.
@@ -82,12 +78,8 @@ impl<'a> Marks<'a> {
         requires some { 0 < self.old.base }
         requires place { HasBitPlace self.old.base self.old.words.now address }
         requires unmarked { is_marked self.old.base self.old.words.now address ≡ false }
-        requires counted { self.old.count ≡ count_below (is_marked self.old.base self.old.words.now) (2 ^ 64) }
-        ensures counted { self.new.count ≡ count_below (is_marked self.new.base self.new.words.now) (2 ^ 64) }
-        ensures here { is_marked self.new.base self.new.words.now address ≡ true }
-        ensures others { (a : ℕ) → a ≢ address → is_marked self.new.base self.new.words.now a ≡ is_marked self.old.base self.old.words.now a }
-        ensures base { self.new.base ≡ self.old.base }
-        ensures len { length self.new.words.now ≡ length self.old.words.now }
+        requires counted { AreCounted self.old }
+        ensures { IsMarkSet self.old address true self.new }
     {
         let place = (address - self.base) / 16;
         let word = self.words[(place / 64) as usize];
@@ -99,12 +91,8 @@ impl<'a> Marks<'a> {
     pub fn clear(&mut self, address: u64)
         requires place { HasBitPlace self.old.base self.old.words.now address }
         requires marked { is_marked self.old.base self.old.words.now address ≡ true }
-        requires counted { self.old.count ≡ count_below (is_marked self.old.base self.old.words.now) (2 ^ 64) }
-        ensures counted { self.new.count ≡ count_below (is_marked self.new.base self.new.words.now) (2 ^ 64) }
-        ensures here { is_marked self.new.base self.new.words.now address ≡ false }
-        ensures others { (a : ℕ) → a ≢ address → is_marked self.new.base self.new.words.now a ≡ is_marked self.old.base self.old.words.now a }
-        ensures base { self.new.base ≡ self.old.base }
-        ensures len { length self.new.words.now ≡ length self.old.words.now }
+        requires counted { AreCounted self.old }
+        ensures { IsMarkSet self.old address false self.new }
     {
         let place = (address - self.base) / 16;
         let word = self.words[(place / 64) as usize];

@@ -1,12 +1,12 @@
 -- Changes of some pages: seen from inside, one after the other, and with what is to be flushed.
-use Rattle.std.proofs.Common.{◌≡◌, ℕ, ◌+◌, ◌-◌, ◌*◌, ◌/◌, ◌<◌, ◌≤◌, Bool, true, false, List, length, Option, Some, None, refl, sym, ap, subst, ◌∙◌, ◌⊎◌, inl, inr, arith}
+use Rattle.std.proofs.Common.{◌≡◌, ℕ, ◌+◌, ◌-◌, ◌*◌, ◌/◌, ◌<◌, ◌≤◌, Bool, true, false, List, length, Option, Some, None, Ok, refl, sym, ap, subst, ◌∙◌, ◌⊎◌, inl, inr, arith}
 use Rattle.std.proofs.lemmas.Bool.{cases_Bool}
 use Rattle.std.proofs.lemmas.Bool.Decides.{nat_tests}
 use Rattle.std.specs.Prelude.{IsTrue}
 use Rattle.paging_core.specs.Address.{is_canonical}
 use Rattle.paging_core.specs.Area.{Area}
 use Rattle.paging_core.specs.Walk.{Place, reach, walk_of}
-use Rattle.kernel_tables.specs.Changes.{ChangesOnly, ChangesNone}
+use Rattle.kernel_tables.specs.Changes.{ChangesOnly, ChangesNone, IsChange}
 use Rattle.kernel_tables.specs.Flush.{no_page, page_alone, pages_of_slot, pages_of_range, IsFlushEnough}
 use Rattle.kernel_tables.specs.TableState.{TableState, leads, IsSamePlace, DoTablesStay}
 
@@ -112,3 +112,22 @@ range_flush {old} {new} page pages unmapped only = λ other place canonical not 
         let e : page + (other - page) ≡ other = omega arith in
         let n : leads old other ≡ None = ap (leads old) (sym e) ∙ unmapped (other - page) (omega arith) in
         let h : ◌≡◌ {A = Option Place} (Some place) None = sym is ∙ n in absurd (cc)
+
+-- nor is a page that was not mapped
+pub page_flush : {old new : TableState} (page : ℕ) → leads old page ≡ None → ChangesOnly (page_alone page) old new → IsFlushEnough old new no_page
+page_flush {old} {new} page unmapped only = λ other place canonical not is. page_others only other canonical (beside other place is) ∙ is
+  where
+    beside : (other : ℕ) (place : Place) → leads old other ≡ Some place → other ≡ page → ⊥
+    beside other place is e = let h : ◌≡◌ {A = Option Place} (Some place) None = sym is ∙ (ap (leads old) e ∙ unmapped) in absurd (cc)
+
+-- ---- how a call answers
+
+-- it did it
+pub made : {T E : Type 0} {pages flushed : ℕ → Bool} {fault : Option E} {old new : TableState} {value : T} →
+    None ≡ fault → ChangesOnly pages old new → IsFlushEnough old new flushed → IsChange pages flushed fault old (Ok value) new
+made e only flush = record { refused = e; same = tt; only = only; flush = flush }
+
+-- it did it, and what is to be flushed are the pages that change
+pub made_flushed : {T E : Type 0} {pages : ℕ → Bool} {fault : Option E} {old new : TableState} {value : T} →
+    None ≡ fault → ChangesOnly pages old new → IsChange pages pages fault old (Ok value) new
+made_flushed e only = made e only (flush_of only)

@@ -9,3 +9,4 @@ pub mod RangeChanged
 pub mod SlotChanges
 pub mod Ends
 mod Changed
+mod EntryChanges

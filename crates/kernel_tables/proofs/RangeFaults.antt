@@ -1,17 +1,17 @@
 -- What follows if a range is not refused.
-use Rattle.std.proofs.Common.{◌≡◌, ℕ, zero, suc, ◌+◌, ◌-◌, ◌*◌, ◌<◌, ◌≤◌, Bool, true, false, not, cond, ltb, Option, Some, None, refl, ap, ◌∙◌, ◌⊎◌, inl, inr, arith}
+use Rattle.std.proofs.Common.{◌≡◌, ℕ, zero, suc, ◌+◌, ◌-◌, ◌*◌, ◌<◌, Bool, true, false, not, cond, ltb, Option, Some, None, refl, ap, ◌∙◌, ◌⊎◌, inl, inr, arith}
 use Rattle.std.proofs.lemmas.Bool.{cases_Bool}
 use Rattle.std.proofs.lemmas.Bool.Decides.{nat_tests}
 use Rattle.std.specs.Prelude.{is_some, IsTrue, ◌==◌}
 use Rattle.std.specs.Option.{option_or, option_map}
-use Rattle.paging_core.specs.Address.{is_canonical, IsCanonicalRange}
+use Rattle.paging_core.specs.Address.{is_canonical}
 use Rattle.paging_core.specs.Area.{area_meets}
 use Rattle.paging_core.specs.Pool.{free_count}
 use Rattle.paging_core.specs.Walk.{Place}
 use Rattle.paging_core.specs.declared.page_table.Rights.{Rights}
 use Rattle.paging_core.proofs.Ranges.{missing_none}
 use Rattle.kernel_tables.specs.Changes.{IsMappedInARow}
-use Rattle.kernel_tables.specs.Ranges.{lies_in_half, lowest, lowest_mapped, tables_wanted, map_range_fault, becomes_large, AreSlotsLarge}
+use Rattle.kernel_tables.specs.Ranges.{lies_in_half, lowest, lowest_mapped, tables_wanted, map_range_fault, becomes_large, AreSlotsLarge, IsRangeMappable}
 use Rattle.kernel_tables.specs.TableState.{TableState, leads, limit_of}
 use Rattle.kernel_tables.specs.declared.range_fault.RangeFault.TheVariants.{NotCanonical, IsMapped, PastLimit, InArea, NoFrames}
 use Rattle.kernel_tables.proofs.RangeMapped.{becomes}
@@ -34,17 +34,9 @@ unmapped_of : (o : Option Place) → is_some o ≡ false → o ≡ None
 unmapped_of None e = refl
 unmapped_of (Some x) e = absurd (cc)
 
--- no fault of a range
-pub record HasNoRangeFault (state : TableState) (page pages frame : ℕ) : Type 0 where
-  pub range : IsCanonicalRange page pages
-  pub unmapped : (k : ℕ) → k < pages → leads state (page + k) ≡ None
-  pub below : frame + pages ≤ limit_of state
-  pub outside : area_meets state.area frame pages ≡ false
-  pub room : tables_wanted state page pages frame ≤ free_count state.free
-
 pub no_range_fault : (state : TableState) (page pages frame : ℕ) → 0 < pages → IsTrue (is_canonical (page * 4096)) →
     map_range_fault state page pages frame ≡ None →
-    HasNoRangeFault state page pages frame
+    IsRangeMappable state page pages frame
 no_range_fault state page pages frame some canonical none =
     let zero_not : (pages == 0) ≡ false = grind (arith, nat_tests) in
     let f = go (pages == 0) (lies_in_half page pages) (lowest_mapped state page pages)

@@ -1,7 +1,7 @@
 -- What a range of pages meets: runs of pages that are alike, and the lowest number for which a test holds.
 use Rattle.std.proofs.Common.{◌≡◌, ℕ, zero, suc, ◌+◌, ◌-◌, ◌*◌, ◌/◌, ◌%◌, ◌^◌, ◌<◌, ◌≤◌, Bool, true, false, List, Option, Some, None, refl, sym, ap, ◌∙◌, ◌⊎◌, inl, inr, arith}
 use Rattle.std.proofs.lemmas.Bool.{cases_lt}
-use Rattle.std.specs.Prelude.{IsSome, is_none}
+use Rattle.std.specs.Prelude.{IsSome, IfSome, is_none}
 use Rattle.std.specs.Option.{option_map, is_some}
 use Rattle.paging_core.specs.Large.{slot_of}
 use Rattle.paging_core.specs.Missing.{missing_of}
@@ -69,6 +69,10 @@ is_there (Some x) e = refl
 pub is_nothing : {A : Type 0} (o : Option A) → is_some o ≡ false → o ≡ None
 is_nothing None e = refl
 is_nothing (Some x) e = absurd (cc)
+
+pub if_there : {A : Type 0} (o : Option A) (P : A → Type 0) → is_some o ≡ true → IfSome o P → (x : A) × P x
+if_there None P e p = absurd (cc)
+if_there (Some x) P e p = (x, p)
 
 pub there_is : (o : Option Place) → IsSome o → is_some o ≡ true
 there_is None h = absurd (cc)

@@ -1,5 +1,5 @@
 -- What stays true of tables in an area.
-use Rattle.std.proofs.Common.{◌≡◌, ℕ, ◌+◌, ◌-◌, ◌*◌, ◌%◌, ◌^◌, ◌<◌, ◌≤◌, Bool, true, false, not, cond, ltb, List, length, Some, None, refl, sym, ap, ◌∙◌, ◌⊎◌, inl, inr, arith}
+use Rattle.std.proofs.Common.{◌≡◌, ℕ, ◌+◌, ◌-◌, ◌*◌, ◌%◌, ◌^◌, ◌<◌, ◌≤◌, Bool, true, false, not, cond, ltb, List, length, Option, Some, None, refl, sym, ap, ◌∙◌, ◌⊎◌, inl, inr, arith}
 use Rattle.std.proofs.lemmas.Bool.{cases_Bool, cases_eq, cases_lt}
 use Rattle.std.proofs.lemmas.Bool.Decides.{nat_tests}
 use Rattle.std.specs.Prelude.{is_some}
@@ -18,7 +18,7 @@ use Rattle.paging_core.proofs.AreaWalk.{area_walks}
 use Rattle.paging_core.proofs.Areas.{free_inside}
 use Rattle.paging_core.proofs.Padded.{count_padded}
 use Rattle.paging_core.proofs.PageChanged.{met_before, removal_keeps, regrant_keeps}
-use Rattle.kernel_tables.specs.Faults.{map_fault}
+use Rattle.kernel_tables.specs.Faults.{map_fault, IsPageMappable}
 use Rattle.kernel_tables.specs.TableState.{TableState, leads, limit_of, AreSound, IsWalkedAlike}
 use Rattle.kernel_tables.specs.declared.faults.MapFault.TheVariants.{IsMapped, PastLimit, InArea, NoFrames}
 
@@ -77,20 +77,27 @@ pub regranted_outside : (area : Area) (old new : List ℕ) (root page : ℕ) (ri
 regranted_outside area old new root page rights all before = outside_kept area old new root before
     (λ n b is. met_before old new root (regrant rights) (only page) all (regrant_keeps rights) 4 n b (omega arith) is)
 
--- no fault, and so the frame lies outside the area
-pub no_fault : (state : TableState) (page frame : ℕ) → map_fault state page frame ≡ None → in_area state.area frame ≡ false
+-- no fault of a page
+pub no_fault : (state : TableState) (page frame : ℕ) → map_fault state page frame ≡ None → IsPageMappable state page frame
 no_fault state page frame none =
-    go (is_some (leads state page)) (not (ltb frame (limit_of state))) (in_area state.area frame)
-    (ltb (free_count state.free) (missing_of state.words state.root page 1)) none
+    let f = go (leads state page) (not (ltb frame (limit_of state))) (in_area state.area frame)
+    (ltb (free_count state.free) (missing_of state.words state.root page 1)) none in
+    record {
+      unmapped = f.0;
+      below = (let b = f.1 in grind (arith, nat_tests));
+      outside = f.2;
+      room = (let b = f.3 in grind (arith, nat_tests));
+    }
   where
-    go : (mapped past inside few : Bool) →
-        cond mapped (Some IsMapped) (cond past (Some PastLimit) (cond inside (Some InArea)
+    go : (o : Option Place) (past inside few : Bool) →
+        cond (is_some o) (Some IsMapped) (cond past (Some PastLimit) (cond inside (Some InArea)
         (cond few (Some (NoFrames (missing_of state.words state.root page 1 - free_count state.free))) None))) ≡ None →
-        inside ≡ false
-    go true past inside few e = absurd (cc)
-    go false true inside few e = absurd (cc)
-    go false false true few e = absurd (cc)
-    go false false false few e = refl
+        (o ≡ None) × (past ≡ false) × (inside ≡ false) × (few ≡ false)
+    go (Some x) past inside few e = absurd (cc)
+    go None true inside few e = absurd (cc)
+    go None false true few e = absurd (cc)
+    go None false false true e = absurd (cc)
+    go None false false false e = (refl, refl, refl, refl)
 
 -- ---- the area at the start: each frame is free
 

@@ -1,6 +1,6 @@
 -- What a call on pages does to them, and what it leaves as it was.
-use Rattle.std.specs.Prelude.{◌≡◌, ℕ, ◌+◌, ◌*◌, ◌<◌, Bool, false, IsTrue, IfSome, Some, None}
-use Rattle.paging_core.specs.Address.{is_canonical}
+use Rattle.std.specs.Prelude.{◌≡◌, ℕ, ◌+◌, ◌*◌, ◌<◌, Bool, false, IfSome, OnErr, Option, Some, None, Result}
+use Rattle.std.specs.Result.{result_err}
 use Rattle.paging_core.specs.Large.{slot_of, IsLargeAdded, IsLargeCleared}
 use Rattle.paging_core.specs.Mapping.{IsPageAdded}
 use Rattle.paging_core.specs.PageChanges.{removal, regrant, IsPageChanged}
@@ -8,21 +8,67 @@ use Rattle.paging_core.specs.Pool.{free_count}
 use Rattle.paging_core.specs.Walk.{large_of, place_with}
 use Rattle.paging_core.specs.declared.page_table.Rights.{Rights}
 use Rattle.kernel_tables.specs.Faults.{split_of}
+use Rattle.kernel_tables.specs.Flush.{page_alone, pages_of_slot, IsFlushEnough}
 use Rattle.kernel_tables.specs.Ranges.{is_slot_of, has_page_of, tables_wanted, splits, AreSlotsLarge, AreNotLarge, AreSlotsGranted}
-use Rattle.kernel_tables.specs.TableState.{TableState, leads, IsSamePlace, DoTablesStay}
+use Rattle.kernel_tables.specs.TableState.{TableState, IsPage, leads, IsSamePlace, DoTablesStay}
 
 -- Only these pages change: the root, the area and the limit stay, each table is met where it was, and every other page leads where
 -- it led.
 pub record ChangesOnly (pages : ℕ → Bool) (old new : TableState) : Type 0 where
   pub place : IsSamePlace old new
   pub tables : DoTablesStay old new
-  pub elsewhere : (other : ℕ) → IsTrue (is_canonical (other * 4096)) → pages other ≡ false → leads new other ≡ leads old other
+  pub elsewhere : (other : ℕ) → IsPage other → pages other ≡ false → leads new other ≡ leads old other
 
 -- No page changes, but the tables may: the root, the area and the limit stay, and so does each table.
 pub record ChangesNone (old new : TableState) : Type 0 where
   pub place : IsSamePlace old new
   pub tables : DoTablesStay old new
   pub walks : (other : ℕ) → leads new other ≡ leads old other
+
+-- How a call that changes these pages answers: it is refused exactly with this fault, and then changes nothing. It changes only
+-- these pages, and then a flush of `flushed` is enough.
+pub record IsChange {T E : Type 0} (pages flushed : ℕ → Bool) (fault : Option E) (old : TableState) (result : Result T E) (new : TableState) : Type 0 where
+  pub refused : result_err result ≡ fault
+  pub same : OnErr result (new ≡ old)
+  pub only : ChangesOnly pages old new
+  pub flush : IsFlushEnough old new flushed
+
+-- The page, which has an entry of its own, led to the frame, and leads nowhere. Only its entry is changed: no frame is taken, and
+-- each slot is large as it was.
+pub record IsEntryCleared (old new : TableState) (page frame : ℕ) : Type 0 where
+  pub only : ChangesOnly (page_alone page) old new
+  pub free : new.free ≡ old.free
+  pub led : IfSome (leads old page) (λ place. frame ≡ place.frame)
+  pub unmapped : leads new page ≡ None
+  pub removed : IsPageChanged old.words new.words old.root page removal
+  pub larges : (n : ℕ) → large_of new.words new.root n ≡ large_of old.words old.root n
+
+-- The page, which has an entry of its own, leads where it led, with these rights. Only its entry is changed: no frame is taken, and
+-- each slot is large as it was.
+pub record IsEntryGranted (old new : TableState) (page : ℕ) (rights : Rights) : Type 0 where
+  pub only : ChangesOnly (page_alone page) old new
+  pub free : new.free ≡ old.free
+  pub granted : IfSome (leads old page) (λ place. leads new page ≡ Some (place_with place.frame rights))
+  pub changed : IsPageChanged old.words new.words old.root page (regrant rights)
+  pub larges : (n : ℕ) → large_of new.words new.root n ≡ large_of old.words old.root n
+
+-- The pages of the slot lead nowhere, and it is not large. No frame is taken, and each other slot is large as it was.
+pub record IsSlotCleared (old new : TableState) (slot : ℕ) : Type 0 where
+  pub only : ChangesOnly (pages_of_slot slot) old new
+  pub free : new.free ≡ old.free
+  pub unmapped : (k : ℕ) → k < 512 → leads new (512 * slot + k) ≡ None
+  pub gone : large_of new.words new.root (slot_of slot) ≡ None
+  pub larges : (n : ℕ) → (n ≡ slot_of slot → ⊥) → large_of new.words new.root n ≡ large_of old.words old.root n
+
+-- The slot is large as it was, and its pages lead where they led, with these rights. No frame is taken, and each other slot is
+-- large as it was.
+pub record IsSlotGranted (old new : TableState) (slot : ℕ) (rights : Rights) : Type 0 where
+  pub only : ChangesOnly (pages_of_slot slot) old new
+  pub free : new.free ≡ old.free
+  pub granted : (k : ℕ) → k < 512 → IfSome (leads old (512 * slot + k)) (λ was. leads new (512 * slot + k) ≡ Some (place_with was.frame rights))
+  pub large :
+      IfSome (large_of old.words old.root (slot_of slot)) (λ was. large_of new.words new.root (slot_of slot) ≡ Some (place_with was.frame rights))
+  pub larges : (n : ℕ) → (n ≡ slot_of slot → ⊥) → large_of new.words new.root n ≡ large_of old.words old.root n
 
 -- The page leads to the frame with the rights; of the words only the entries that this takes are changed.
 pub record IsPageMapped (old new : TableState) (page frame : ℕ) (rights : Rights) : Type 0 where

@@ -1,11 +1,11 @@
 -- Why a page is not mapped, or not changed: the first of the causes that holds.
-use Rattle.std.specs.Prelude.{ℕ, ◌+◌, ◌-◌, ◌*◌, ◌/◌, not, nat_lt, is_some, is_none, if◌then◌else◌, Option, Some, None}
+use Rattle.std.specs.Prelude.{ℕ, ◌+◌, ◌-◌, ◌*◌, ◌/◌, ◌≡◌, ◌<◌, ◌≤◌, false, not, nat_lt, is_some, is_none, if◌then◌else◌, Option, Some, None}
 use Rattle.paging_core.specs.Area.{in_area, area_meets}
-use Rattle.paging_core.specs.Large.{slot_of, missing_above}
+use Rattle.paging_core.specs.Large.{slot_of, missing_above, IsSlotEmpty}
 use Rattle.paging_core.specs.Missing.{missing_of}
 use Rattle.paging_core.specs.Pool.{free_count}
 use Rattle.paging_core.specs.Walk.{large_of, reach}
-use Rattle.kernel_tables.specs.TableState.{TableState, leads, limit_of}
+use Rattle.kernel_tables.specs.TableState.{TableState, leads, limit_of, misses}
 use Rattle.kernel_tables.specs.declared.faults.MapFault.{MapFault}
 use Rattle.kernel_tables.specs.declared.faults.MapFault.TheVariants.{IsMapped, HasTable, PastLimit, InArea, NoFrames}
 use Rattle.kernel_tables.specs.declared.faults.EntryFault.{EntryFault}
@@ -22,6 +22,13 @@ map_fault state page frame =
     then Some (NoFrames (missing_of state.words state.root page 1 - free_count state.free))
     else None)
 
+-- Nothing hinders that the page is mapped to the frame.
+pub record IsPageMappable (state : TableState) (page frame : ℕ) : Type 0 where
+  pub unmapped : leads state page ≡ None
+  pub below : frame < limit_of state
+  pub outside : in_area state.area frame ≡ false
+  pub room : misses state page ≤ free_count state.free
+
 -- the slot is mapped by one entry, or has a table; one of the 512 frames is not below the limit, or is one of the area;
 -- the free frames are too few for the tables that the slot misses above it: the fault says how many are wanting
 abbrev pub map_large_fault : TableState → ℕ → ℕ → Option MapFault
@@ -33,6 +40,13 @@ map_large_fault state page frame =
     else if nat_lt (free_count state.free) (missing_above state.words state.root page)
     then Some (NoFrames (missing_above state.words state.root page - free_count state.free))
     else None)
+
+-- Nothing hinders that the large page is mapped to the frames.
+pub record IsLargeMappable (state : TableState) (page frame : ℕ) : Type 0 where
+  pub empty : IsSlotEmpty state.words state.root page
+  pub below : 512 * frame + 511 < limit_of state
+  pub outside : area_meets state.area (512 * frame) 512 ≡ false
+  pub room : missing_above state.words state.root page ≤ free_count state.free
 
 -- how many frames it takes to give the page an entry of its own: one if it is part of a large page
 abbrev pub split_of : TableState → ℕ → ℕ

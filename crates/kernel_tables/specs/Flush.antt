@@ -1,8 +1,7 @@
 -- What a processor's translation cache may keep (AMD64 volume 2, "Translation-Lookaside Buffer"), own.
-use Rattle.std.specs.Prelude.{◌≡◌, ℕ, ◌+◌, ◌*◌, ◌/◌, Bool, false, ◌==◌, ◌&&◌, nat_le, nat_lt, IsTrue, if◌then◌else◌, Option, Some, None}
-use Rattle.paging_core.specs.Address.{is_canonical}
+use Rattle.std.specs.Prelude.{◌≡◌, ℕ, ◌+◌, ◌/◌, Bool, false, ◌==◌, ◌&&◌, nat_le, nat_lt, if◌then◌else◌, Option, Some, None}
 use Rattle.paging_core.specs.Walk.{Place}
-use Rattle.kernel_tables.specs.TableState.{TableState, leads}
+use Rattle.kernel_tables.specs.TableState.{TableState, IsPage, leads}
 
 -- no page; only the page; the pages of the slot; a number of pages from one on
 abbrev pub no_page : ℕ → Bool
@@ -21,11 +20,11 @@ pages_of_range page pages other = nat_le page other && nat_lt other (page + page
 -- where it led.
 abbrev pub IsFlushEnough : TableState → TableState → (ℕ → Bool) → Type 0
 IsFlushEnough old new flushed =
-    (page : ℕ) (place : Place) → IsTrue (is_canonical (page * 4096)) → flushed page ≡ false → leads old page ≡ Some place → leads new page ≡ Some place
+    (page : ℕ) (place : Place) → IsPage page → flushed page ≡ false → leads old page ≡ Some place → leads new page ≡ Some place
 
 -- A cache has places of some pages, each as a walk finds it.
 abbrev pub Agrees : (ℕ → Option Place) → TableState → Type 0
-Agrees cache state = (page : ℕ) (place : Place) → IsTrue (is_canonical (page * 4096)) → cache page ≡ Some place → leads state page ≡ Some place
+Agrees cache state = (page : ℕ) (place : Place) → IsPage page → cache page ≡ Some place → leads state page ≡ Some place
 
 -- the cache after pages were flushed
 abbrev pub without_pages : (ℕ → Option Place) → (ℕ → Bool) → ℕ → Option Place

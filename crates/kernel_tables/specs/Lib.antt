@@ -1,4 +1,5 @@
 pub mod TableState
+pub mod Begun
 pub mod Faults
 pub mod Flush
 pub mod Ranges

@@ -1,7 +1,7 @@
 -- Ranges of pages: `pages` of them from `page` on. Those that are mapped lead to frames in a row, from `frame` on.
-use Rattle.std.specs.Prelude.{◌≡◌, ℕ, zero, suc, ◌+◌, ◌-◌, ◌*◌, ◌/◌, ◌%◌, ◌^◌, ◌<◌, ◌≤◌, Bool, ◌==◌, ◌&&◌, not, nat_le, nat_lt, is_some, is_none, IsTrue, IsSome, if◌then◌else◌, count_by, Option, Some, None}
+use Rattle.std.specs.Prelude.{◌≡◌, ℕ, zero, suc, ◌+◌, ◌-◌, ◌*◌, ◌/◌, ◌%◌, ◌^◌, ◌<◌, ◌≤◌, Bool, false, ◌==◌, ◌&&◌, not, nat_le, nat_lt, is_some, is_none, IsTrue, IsSome, if◌then◌else◌, count_by, Option, Some, None}
 use Rattle.std.specs.Option.{option_or, option_map}
-use Rattle.paging_core.specs.Address.{is_canonical}
+use Rattle.paging_core.specs.Address.{is_canonical, IsCanonicalRange}
 use Rattle.paging_core.specs.Area.{area_meets}
 use Rattle.paging_core.specs.Large.{slot_of}
 use Rattle.paging_core.specs.Missing.{is_missing, missing_of}
@@ -9,7 +9,7 @@ use Rattle.paging_core.specs.Pool.{free_count}
 use Rattle.paging_core.specs.Prefix.{prefixes_from}
 use Rattle.paging_core.specs.Walk.{large_of, reach, place_with}
 use Rattle.paging_core.specs.declared.page_table.Rights.{Rights}
-use Rattle.kernel_tables.specs.TableState.{TableState, leads, limit_of}
+use Rattle.kernel_tables.specs.TableState.{TableState, leads, limit_of, IsLarge}
 use Rattle.kernel_tables.specs.declared.range_fault.RangeFault.{RangeFault}
 use Rattle.kernel_tables.specs.declared.range_fault.RangeFault.TheVariants.{NotCanonical, IsMapped, NotMapped, PastLimit, InArea, NoFrames}
 
@@ -69,6 +69,14 @@ map_range_fault state page pages frame =
     else if nat_lt (free_count state.free) (tables_wanted state page pages frame) then Some (NoFrames (tables_wanted state page pages frame - free_count state.free))
     else None))
 
+-- Nothing hinders that the range is mapped to the frames.
+pub record IsRangeMappable (state : TableState) (page pages frame : ℕ) : Type 0 where
+  pub range : IsCanonicalRange page pages
+  pub unmapped : (k : ℕ) → k < pages → leads state (page + k) ≡ None
+  pub below : frame + pages ≤ limit_of state
+  pub outside : area_meets state.area frame pages ≡ false
+  pub room : tables_wanted state page pages frame ≤ free_count state.free
+
 -- After the range was mapped, exactly the slots that became large are large, besides those that were before.
 abbrev pub AreSlotsLarge : TableState → TableState → ℕ → ℕ → ℕ → Rights → Type 0
 AreSlotsLarge old new page pages frame rights =
@@ -122,5 +130,11 @@ change_range_fault state page pages =
 -- Each large page that maps a page of the range lies whole in it.
 abbrev pub AreWithin : TableState → ℕ → ℕ → Type 0
 AreWithin state page pages =
-    (slot : ℕ) → page < 512 * slot + 512 → 512 * slot < page + pages → IsSome (large_of state.words state.root (slot_of slot)) →
+    (slot : ℕ) → page < 512 * slot + 512 → 512 * slot < page + pages → IsLarge state slot →
     (page ≤ 512 * slot) × (512 * slot + 512 ≤ page + pages)
+
+-- The range is mapped, and its large pages lie whole in it.
+pub record IsMappedWhole (state : TableState) (page pages : ℕ) : Type 0 where
+  pub range : IsCanonicalRange page pages
+  pub mapped : (k : ℕ) → k < pages → IsSome (leads state (page + k))
+  pub within : AreWithin state page pages

@@ -1,11 +1,15 @@
 -- Page tables in an area of frames, beside the free frames of the area.
-use Rattle.std.specs.Prelude.{◌≡◌, ℕ, ◌*◌, ◌^◌, ◌<◌, ◌≤◌, Bool, true, false, List, length, Option, Some}
+use Rattle.std.specs.Prelude.{◌≡◌, ℕ, ◌*◌, ◌^◌, ◌<◌, ◌≤◌, Bool, true, false, List, length, IsSome, IsTrue, Option, Some}
+use Rattle.paging_core.specs.Address.{is_canonical}
 use Rattle.paging_core.specs.Area.{Area, in_area}
+use Rattle.paging_core.specs.Large.{slot_of}
 use Rattle.paging_core.specs.Memory.{word_at, frame_count}
+use Rattle.paging_core.specs.Missing.{missing_of}
 use Rattle.paging_core.specs.Pool.{FreeIn}
+use Rattle.paging_core.specs.Prefix.{prefix_of}
 use Rattle.paging_core.specs.ProcessorWalk.{processor_walk, page_of, is_refused}
 use Rattle.paging_core.specs.Tree.{IsTreeIn}
-use Rattle.paging_core.specs.Walk.{Place, reach, walk_of}
+use Rattle.paging_core.specs.Walk.{Place, reach, large_of, walk_of}
 
 pub record TableState : Type 0 where
   -- the words of all frames below the limit; those outside the area are 0 here
@@ -15,9 +19,26 @@ pub record TableState : Type 0 where
   -- a flag for each frame: no other is free
   pub free : List Bool
 
+-- it is the number of a page: the addresses of the page are canonical
+abbrev pub IsPage : ℕ → Type 0
+IsPage page = IsTrue (is_canonical (page * 4096))
+
 -- where the page leads
 abbrev pub leads : TableState → ℕ → Option Place
 leads state page = walk_of state.words state.root page
+
+-- how many tables are missing on the way to the page
+abbrev pub misses : TableState → ℕ → ℕ
+misses state page = missing_of state.words state.root page 1
+
+-- one entry maps the slot
+abbrev pub IsLarge : TableState → ℕ → Type 0
+IsLarge state slot = IsSome (large_of state.words state.root (slot_of slot))
+
+-- The page is mapped, by an entry of its own.
+pub record HasOwnEntry (state : TableState) (page : ℕ) : Type 0 where
+  pub mapped : IsSome (leads state page)
+  pub small : IsSome (reach state.words state.root 3 (prefix_of page 3))
 
 -- frames of pages are below it
 abbrev pub limit_of : TableState → ℕ

@@ -1,12 +1,12 @@
 //! The calls on large pages: 512 pages in a row that are mapped by one entry, to 512 frames in a row.
-ghost use Rattle.std.specs.Prelude.{◌≡◌, ◌+◌, ◌*◌, ◌<◌, ◌≤◌, ◌^◌, ◌↔◌, None, Some, IsSome, IfSome, OnOk, OnErr};
+ghost use Rattle.std.specs.Prelude.{◌≡◌, ◌+◌, ◌*◌, ◌<◌, ◌≤◌, ◌^◌, ◌↔◌, None, Some, IsSome, IfSome, OnOk};
 ghost use Rattle.std.specs.Option.{option_map};
-ghost use Rattle.std.specs.Result.{result_err};
 ghost use Rattle.paging_core.specs.Large.{slot_of, missing_above};
 ghost use Rattle.paging_core.specs.Walk.{reach, large_of, mapped_place};
-ghost use Rattle.kernel_tables.specs.Changes.{ChangesOnly, IsLargeMapped, IsLargeUnmapped};
+ghost use Rattle.kernel_tables.specs.Changes.{ChangesOnly, IsChange, IsLargeMapped, IsLargeUnmapped};
 ghost use Rattle.kernel_tables.specs.Faults.{map_large_fault};
 ghost use Rattle.kernel_tables.specs.Flush.{no_page, pages_of_slot, IsFlushEnough};
+ghost use Rattle.kernel_tables.specs.TableState.{IsLarge};
 
 use crate::faults::MapFault;
 use crate::tables::Tables;
@@ -69,10 +69,7 @@ impl<'a> Tables<'a> {
         frame: PhysFrame<Size2MiB>,
         rights: Rights,
     ) -> Result<(), MapFault>
-        ensures fault { result_err result ≡ map_large_fault self.old page frame }
-        ensures same { OnErr result (self.new ≡ self.old) }
-        ensures only { ChangesOnly (pages_of_slot page) self.old self.new }
-        ensures flush { IsFlushEnough self.old self.new no_page }
+        ensures change { IsChange (pages_of_slot page) no_page (map_large_fault self.old page frame) self.old result self.new }
         ensures mapped { OnOk result (IsLargeMapped self.old self.new page frame rights) }
     {
         match self.map_large_fault(page, frame) {
@@ -94,7 +91,7 @@ impl<'a> Tables<'a> {
     /// Ends the mapping of the large page, and answers the frames to which it led. None exactly if it is not mapped by
     /// one entry. The tables stay. Its pages are to be flushed before the frames have another use.
     pub fn unmap_large(&mut self, page: Page<Size2MiB>) -> Option<PhysFrame<Size2MiB>>
-        ensures some { IsSome result ↔ IsSome (large_of self.old.words self.old.root (slot_of page)) }
+        ensures some { IsSome result ↔ IsLarge self.old page }
         ensures same { result ≡ None → self.new ≡ self.old }
         ensures only { ChangesOnly (pages_of_slot page) self.old self.new }
         ensures flush { IsFlushEnough self.old self.new (pages_of_slot page) }

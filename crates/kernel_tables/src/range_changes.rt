@@ -1,18 +1,16 @@
 //! The calls that change ranges of pages that are mapped.
-ghost use Rattle.std.specs.Prelude.{◌≡◌, ℕ, ◌+◌, ◌-◌, ◌*◌, ◌/◌, ◌%◌, ◌^◌, ◌<◌, ◌≤◌, true, false, None, Some, IsTrue, IsFalse, IsSome, IfSome, OnOk, OnErr, if◌then◌else◌};
-ghost use Rattle.std.specs.Result.{result_err};
+ghost use Rattle.std.specs.Prelude.{◌≡◌, ℕ, ◌+◌, ◌-◌, ◌*◌, ◌/◌, ◌%◌, ◌^◌, ◌<◌, ◌≤◌, true, false, None, Some, IsTrue, IsFalse, IsSome, IfSome, OnOk, if◌then◌else◌};
 ghost use Rattle.paging_core.specs.Address.{IsCanonicalRange};
 ghost use Rattle.paging_core.specs.Large.{slot_of};
 ghost use Rattle.paging_core.specs.LargeChanges.{IsLargeSplit};
-ghost use Rattle.paging_core.specs.PageChanges.{removal, regrant, IsPageChanged};
 ghost use Rattle.paging_core.specs.Pool.{free_count};
 ghost use Rattle.paging_core.specs.Prefix.{prefix_of};
 ghost use Rattle.paging_core.specs.Walk.{reach, large_of, place_with};
-ghost use Rattle.kernel_tables.specs.Changes.{ChangesOnly, ChangesNone, IsRangeUnmapped, IsRangeGranted};
+ghost use Rattle.kernel_tables.specs.Changes.{ChangesOnly, ChangesNone, IsChange, IsEntryCleared, IsEntryGranted, IsSlotCleared, IsSlotGranted, IsRangeUnmapped, IsRangeGranted};
 ghost use Rattle.kernel_tables.specs.Faults.{entry_fault, split_of};
-ghost use Rattle.kernel_tables.specs.Flush.{page_alone, pages_of_slot, pages_of_range, IsFlushEnough};
-ghost use Rattle.kernel_tables.specs.Ranges.{has_page_of, lies_whole, is_cut, is_split, splits, change_range_fault, AreWithin, AreNotLarge, AreSlotsGranted};
-ghost use Rattle.kernel_tables.specs.TableState.{leads};
+ghost use Rattle.kernel_tables.specs.Flush.{pages_of_range};
+ghost use Rattle.kernel_tables.specs.Ranges.{has_page_of, lies_whole, is_cut, is_split, splits, change_range_fault, AreWithin, AreNotLarge, AreSlotsGranted, IsMappedWhole};
+ghost use Rattle.kernel_tables.specs.TableState.{leads, HasOwnEntry, IsLarge};
 
 use crate::range_checks::slot_at;
 use crate::range_fault::RangeFault;
@@ -25,7 +23,7 @@ use paging_core::{
 impl<'a> Tables<'a> {
     /// Splits the large page in a frame of the area. Each page leads where it led.
     fn split_slot(&mut self, slot: Page<Size2MiB>)
-        requires large { IsSome (large_of self.old.words self.old.root (slot_of slot)) }
+        requires large { IsLarge self.old slot }
         requires room { 0 < free_count self.old.free }
         ensures none { ChangesNone self.old self.new }
         ensures split { IsLargeSplit self.old.words self.new.words self.old.free self.new.free self.old.root slot }
@@ -82,14 +80,8 @@ impl<'a> Tables<'a> {
 
     /// Unmaps the page, which has an entry of its own, and answers its frame.
     pub(crate) fn clear_page(&mut self, page: Page) -> PhysFrame
-        requires mapped { IsSome (leads self.old page) }
-        requires small { IsSome (reach self.old.words self.old.root 3 (prefix_of page 3)) }
-        ensures only { ChangesOnly (page_alone page) self.old self.new }
-        ensures free { self.new.free ≡ self.old.free }
-        ensures unmapped { leads self.new page ≡ None }
-        ensures frame { IfSome (leads self.old page) (λ was. result ≡ was.frame) }
-        ensures removed { IsPageChanged self.old.words self.new.words self.old.root page removal }
-        ensures larges { (n : ℕ) → large_of self.new.words self.new.root n ≡ large_of self.old.words self.old.root n }
+        requires { HasOwnEntry self.old page }
+        ensures { IsEntryCleared self.old self.new page result }
     {
         unmap_page(&mut self.memory, self.root, page)
     }
@@ -99,14 +91,9 @@ impl<'a> Tables<'a> {
     #[inline(always)]
     pub(crate) fn clear_entry(&mut self, page: Page) -> Option<PhysFrame>
         ensures some { IsSome result → IsSome (leads self.old page) × (large_of self.old.words self.old.root (slot_of (page / 512)) ≡ None) }
-        ensures none { result ≡ None → IsSome (leads self.old page) → IsSome (large_of self.old.words self.old.root (slot_of (page / 512))) }
+        ensures none { result ≡ None → IsSome (leads self.old page) → IsLarge self.old (page / 512) }
         ensures same { result ≡ None → self.new ≡ self.old }
-        ensures only { ChangesOnly (page_alone page) self.old self.new }
-        ensures free { self.new.free ≡ self.old.free }
-        ensures unmapped { IsSome result → leads self.new page ≡ None }
-        ensures frame { IfSome result (λ frame. IfSome (leads self.old page) (λ was. frame ≡ was.frame)) }
-        ensures removed { IsSome result → IsPageChanged self.old.words self.new.words self.old.root page removal }
-        ensures larges { (n : ℕ) → large_of self.new.words self.new.root n ≡ large_of self.old.words self.old.root n }
+        ensures cleared { IfSome result (λ frame. IsEntryCleared self.old self.new page frame) }
     {
         match end_of_walk(&self.memory, self.root, page) {
             WalkEnd::Entry {
@@ -126,13 +113,9 @@ impl<'a> Tables<'a> {
     #[inline(always)]
     pub(crate) fn grant_entry(&mut self, page: Page, rights: Rights) -> bool
         ensures some { IsTrue result → IsSome (leads self.old page) × (large_of self.old.words self.old.root (slot_of (page / 512)) ≡ None) }
-        ensures none { IsFalse result → IsSome (leads self.old page) → IsSome (large_of self.old.words self.old.root (slot_of (page / 512))) }
+        ensures none { IsFalse result → IsSome (leads self.old page) → IsLarge self.old (page / 512) }
         ensures same { IsFalse result → self.new ≡ self.old }
-        ensures only { ChangesOnly (page_alone page) self.old self.new }
-        ensures free { self.new.free ≡ self.old.free }
-        ensures granted { IsTrue result → IfSome (leads self.old page) (λ was. leads self.new page ≡ Some (place_with was.frame rights)) }
-        ensures changed { IsTrue result → IsPageChanged self.old.words self.new.words self.old.root page (regrant rights) }
-        ensures larges { (n : ℕ) → large_of self.new.words self.new.root n ≡ large_of self.old.words self.old.root n }
+        ensures granted { IsTrue result → IsEntryGranted self.old self.new page rights }
     {
         match end_of_walk(&self.memory, self.root, page) {
             WalkEnd::Entry {
@@ -157,46 +140,31 @@ impl<'a> Tables<'a> {
 
     /// Unmaps the large page.
     fn clear_slot(&mut self, slot: Page<Size2MiB>)
-        requires { IsSome (large_of self.old.words self.old.root (slot_of slot)) }
-        ensures only { ChangesOnly (pages_of_slot slot) self.old self.new }
-        ensures free { self.new.free ≡ self.old.free }
-        ensures unmapped { (k : ℕ) → k < 512 → leads self.new (512 * slot + k) ≡ None }
-        ensures gone { large_of self.new.words self.new.root (slot_of slot) ≡ None }
-        ensures larges { (n : ℕ) → (n ≡ slot_of slot → ⊥) → large_of self.new.words self.new.root n ≡ large_of self.old.words self.old.root n }
+        requires { IsLarge self.old slot }
+        ensures { IsSlotCleared self.old self.new slot }
     {
         unmap_large(&mut self.memory, self.root, slot);
     }
 
     /// Gives the page, which has an entry of its own, these rights.
     pub(crate) fn grant_page(&mut self, page: Page, rights: Rights)
-        requires mapped { IsSome (leads self.old page) }
-        requires small { IsSome (reach self.old.words self.old.root 3 (prefix_of page 3)) }
-        ensures only { ChangesOnly (page_alone page) self.old self.new }
-        ensures free { self.new.free ≡ self.old.free }
-        ensures granted { IfSome (leads self.old page) (λ was. leads self.new page ≡ Some (place_with was.frame rights)) }
-        ensures changed { IsPageChanged self.old.words self.new.words self.old.root page (regrant rights) }
-        ensures larges { (n : ℕ) → large_of self.new.words self.new.root n ≡ large_of self.old.words self.old.root n }
+        requires { HasOwnEntry self.old page }
+        ensures { IsEntryGranted self.old self.new page rights }
     {
         protect_page(&mut self.memory, self.root, page, rights);
     }
 
     /// Gives the pages of the large page these rights.
     fn grant_slot(&mut self, slot: Page<Size2MiB>, rights: Rights)
-        requires { IsSome (large_of self.old.words self.old.root (slot_of slot)) }
-        ensures only { ChangesOnly (pages_of_slot slot) self.old self.new }
-        ensures free { self.new.free ≡ self.old.free }
-        ensures granted { (k : ℕ) → k < 512 → IfSome (leads self.old (512 * slot + k)) (λ was. leads self.new (512 * slot + k) ≡ Some (place_with was.frame rights)) }
-        ensures large { IfSome (large_of self.old.words self.old.root (slot_of slot)) (λ was. large_of self.new.words self.new.root (slot_of slot) ≡ Some (place_with was.frame rights)) }
-        ensures larges { (n : ℕ) → (n ≡ slot_of slot → ⊥) → large_of self.new.words self.new.root n ≡ large_of self.old.words self.old.root n }
+        requires { IsLarge self.old slot }
+        ensures { IsSlotGranted self.old self.new slot rights }
     {
         protect_large(&mut self.memory, self.root, slot, rights);
     }
 
     /// Unmaps the range, which is mapped; its large pages lie whole in it.
     fn clear_all(&mut self, page: Page, pages: u64)
-        requires range { IsCanonicalRange page pages }
-        requires mapped { (k : ℕ) → k < pages → IsSome (leads self.old (page + k)) }
-        requires within { AreWithin self.old page pages }
+        requires { IsMappedWhole self.old page pages }
         ensures only { ChangesOnly (pages_of_range page pages) self.old self.new }
         ensures free { self.new.free ≡ self.old.free }
         ensures unmapped { (k : ℕ) → k < pages → leads self.new (page + k) ≡ None }
@@ -216,9 +184,7 @@ impl<'a> Tables<'a> {
 
     /// Gives the range, which is mapped, these rights; its large pages lie whole in it.
     fn grant_all(&mut self, page: Page, pages: u64, rights: Rights)
-        requires range { IsCanonicalRange page pages }
-        requires mapped { (k : ℕ) → k < pages → IsSome (leads self.old (page + k)) }
-        requires within { AreWithin self.old page pages }
+        requires { IsMappedWhole self.old page pages }
         ensures only { ChangesOnly (pages_of_range page pages) self.old self.new }
         ensures free { self.new.free ≡ self.old.free }
         ensures granted { (k : ℕ) → k < pages → IfSome (leads self.old (page + k)) (λ was. leads self.new (page + k) ≡ Some (place_with was.frame rights)) }
@@ -240,10 +206,7 @@ impl<'a> Tables<'a> {
     /// entry; one that reaches over an end of the range is split in a frame of the area. The other tables stay. The
     /// pages of the range are to be flushed before their frames have another use.
     pub fn unmap_range(&mut self, page: Page, pages: u64) -> Result<(), RangeFault>
-        ensures fault { result_err result ≡ change_range_fault self.old page pages }
-        ensures same { OnErr result (self.new ≡ self.old) }
-        ensures only { ChangesOnly (pages_of_range page pages) self.old self.new }
-        ensures flush { IsFlushEnough self.old self.new (pages_of_range page pages) }
+        ensures change { IsChange (pages_of_range page pages) (pages_of_range page pages) (change_range_fault self.old page pages) self.old result self.new }
         ensures unmapped { OnOk result (IsRangeUnmapped self.old self.new page pages) }
     {
         if pages == 0 {
@@ -268,10 +231,7 @@ impl<'a> Tables<'a> {
         pages: u64,
         rights: Rights,
     ) -> Result<(), RangeFault>
-        ensures fault { result_err result ≡ change_range_fault self.old page pages }
-        ensures same { OnErr result (self.new ≡ self.old) }
-        ensures only { ChangesOnly (pages_of_range page pages) self.old self.new }
-        ensures flush { IsFlushEnough self.old self.new (pages_of_range page pages) }
+        ensures change { IsChange (pages_of_range page pages) (pages_of_range page pages) (change_range_fault self.old page pages) self.old result self.new }
         ensures granted { OnOk result (IsRangeGranted self.old self.new page pages rights) }
     {
         if pages == 0 {

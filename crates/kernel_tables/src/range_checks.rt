@@ -1,11 +1,11 @@
 //! What a range of pages meets: its lowest page that is mapped, and the tables that it needs.
 ghost use Rattle.std.specs.Prelude.{◌≡◌, ℕ, ◌+◌, ◌-◌, ◌*◌, ◌/◌, ◌%◌, ◌^◌, ◌<◌, ◌≤◌, None, IsTrue, IsSome};
-ghost use Rattle.paging_core.specs.Address.{is_canonical, IsCanonicalRange};
+ghost use Rattle.paging_core.specs.Address.{IsCanonicalRange};
 ghost use Rattle.paging_core.specs.Missing.{missing_of};
 ghost use Rattle.paging_core.specs.Prefix.{prefix_of};
 ghost use Rattle.paging_core.specs.Walk.{reach};
 ghost use Rattle.kernel_tables.specs.Ranges.{lies_in_half, lowest_mapped, large_count, tables_wanted, map_range_fault};
-ghost use Rattle.kernel_tables.specs.TableState.{leads};
+ghost use Rattle.kernel_tables.specs.TableState.{leads, IsPage, misses};
 
 use crate::range_fault::RangeFault;
 use crate::tables::Tables;
@@ -49,7 +49,7 @@ impl<'a> Tables<'a> {
     /// The end of a run of pages from this one on that are alike. The page misses `missing` tables. If it is not
     /// mapped, none of the run is; and if its slot has no table, no slot of the run has one.
     fn alike_until(&self, page: Page, missing: u64) -> u64
-        requires missing { missing ≡ missing_of self.now.words self.now.root page 1 }
+        requires missing { missing ≡ misses self.now page }
         ensures more { page < result }
         ensures bounded { result ≤ page + 2 ^ 27 }
         ensures unmapped { leads self.now page ≡ None → (other : ℕ) → page ≤ other → other < result → leads self.now other ≡ None }
@@ -135,7 +135,7 @@ impl<'a> Tables<'a> {
         requires some { 0 < pages }
         ensures fault { result ≡ map_range_fault self.now page pages frame }
         ensures fits { result ≡ None → frame + pages ≤ 2 ^ 40 }
-        ensures canonical { IsTrue (is_canonical (page * 4096)) }
+        ensures canonical { IsPage page }
     {
         let _canonical = page.number();
         if !lies_in_half(page, pages) {

@@ -1,8 +1,8 @@
 //! What hinders a change of the pages of a range: pages that are not mapped, and large pages that reach over its ends.
-ghost use Rattle.std.specs.Prelude.{◌≡◌, ℕ, ◌+◌, ◌-◌, ◌*◌, ◌/◌, ◌%◌, ◌^◌, ◌<◌, ◌≤◌, None, IsTrue, IsSome};
-ghost use Rattle.paging_core.specs.Address.{is_canonical, IsCanonicalRange};
+ghost use Rattle.std.specs.Prelude.{◌≡◌, ℕ, ◌+◌, ◌-◌, ◌*◌, ◌/◌, ◌%◌, ◌^◌, ◌<◌, ◌≤◌, None, IsSome};
+ghost use Rattle.paging_core.specs.Address.{IsCanonicalRange};
 ghost use Rattle.kernel_tables.specs.Ranges.{lowest_unmapped, is_split, splits, change_range_fault};
-ghost use Rattle.kernel_tables.specs.TableState.{leads};
+ghost use Rattle.kernel_tables.specs.TableState.{leads, IsPage};
 
 use crate::range_checks::{lies_in_half, slot_at};
 use crate::range_fault::RangeFault;
@@ -75,7 +75,7 @@ impl<'a> Tables<'a> {
     pub(crate) fn change_range_fault(&self, page: Page, pages: u64) -> Option<RangeFault>
         requires some { 0 < pages }
         ensures fault { result ≡ change_range_fault self.now page pages }
-        ensures canonical { IsTrue (is_canonical (page * 4096)) }
+        ensures canonical { IsPage page }
     {
         let _canonical = page.number();
         if !lies_in_half(page, pages) {

@@ -1,17 +1,14 @@
 //! The calls on ranges of pages.
-ghost use Rattle.std.specs.Prelude.{◌≡◌, ℕ, ◌+◌, ◌*◌, ◌/◌, ◌%◌, ◌^◌, ◌<◌, ◌≤◌, false, None, Some, OnOk, OnErr, ◌&&◌, ◌==◌, nat_le, is_none};
-ghost use Rattle.std.specs.Result.{result_err};
+ghost use Rattle.std.specs.Prelude.{◌≡◌, ℕ, ◌+◌, ◌*◌, ◌/◌, ◌%◌, ◌^◌, ◌<◌, ◌≤◌, None, Some, OnOk, ◌&&◌, ◌==◌, nat_le, is_none};
 ghost use Rattle.paging_core.specs.Address.{IsCanonicalRange};
-ghost use Rattle.paging_core.specs.Area.{in_area, area_meets};
-ghost use Rattle.paging_core.specs.Large.{slot_of, missing_above, IsSlotEmpty, IsLargeAdded};
+ghost use Rattle.paging_core.specs.Large.{slot_of, missing_above, IsLargeAdded};
 ghost use Rattle.paging_core.specs.Mapping.{IsPageAdded};
 ghost use Rattle.paging_core.specs.Missing.{missing_of};
-ghost use Rattle.paging_core.specs.Pool.{free_count};
 ghost use Rattle.paging_core.specs.Walk.{reach};
-ghost use Rattle.kernel_tables.specs.Changes.{ChangesOnly, IsMappedInARow};
-ghost use Rattle.kernel_tables.specs.Flush.{no_page, page_alone, pages_of_slot, pages_of_range, IsFlushEnough};
-ghost use Rattle.kernel_tables.specs.Ranges.{tables_wanted, map_range_fault};
-ghost use Rattle.kernel_tables.specs.TableState.{leads, limit_of};
+ghost use Rattle.kernel_tables.specs.Changes.{ChangesOnly, IsChange, IsMappedInARow};
+ghost use Rattle.kernel_tables.specs.Faults.{IsPageMappable, IsLargeMappable};
+ghost use Rattle.kernel_tables.specs.Flush.{no_page, page_alone, pages_of_slot, pages_of_range};
+ghost use Rattle.kernel_tables.specs.Ranges.{map_range_fault, IsRangeMappable};
 
 use crate::range_checks::slot_at;
 use crate::range_fault::RangeFault;
@@ -23,10 +20,7 @@ use paging_core::{
 impl<'a> Tables<'a> {
     /// Maps the page, which nothing hinders.
     fn add_page(&mut self, page: Page, frame: PhysFrame, rights: Rights)
-        requires unmapped { leads self.old page ≡ None }
-        requires below { frame < limit_of self.old }
-        requires outside { in_area self.old.area frame ≡ false }
-        requires room { missing_of self.old.words self.old.root page 1 ≤ free_count self.old.free }
+        requires { IsPageMappable self.old page frame }
         ensures only { ChangesOnly (page_alone page) self.old self.new }
         ensures added { IsPageAdded self.old.words self.new.words self.old.free self.new.free self.old.root page frame rights }
         ensures missing { (first pages : ℕ) → IsCanonicalRange first pages → first ≤ page → page < first + pages →
@@ -59,10 +53,7 @@ impl<'a> Tables<'a> {
 
     /// Maps the large page, which nothing hinders.
     fn add_large(&mut self, page: Page<Size2MiB>, frame: PhysFrame<Size2MiB>, rights: Rights)
-        requires empty { IsSlotEmpty self.old.words self.old.root page }
-        requires below { 512 * frame + 511 < limit_of self.old }
-        requires outside { area_meets self.old.area (512 * frame) 512 ≡ false }
-        requires room { missing_above self.old.words self.old.root page ≤ free_count self.old.free }
+        requires { IsLargeMappable self.old page frame }
         ensures only { ChangesOnly (pages_of_slot page) self.old self.new }
         ensures added { IsLargeAdded self.old.words self.new.words self.old.free self.new.free self.old.root page frame rights }
         ensures missing { (first pages : ℕ) → IsCanonicalRange first pages → first ≤ 512 * page → 512 * page + 512 ≤ first + pages →
@@ -91,12 +82,8 @@ impl<'a> Tables<'a> {
 
     /// Maps the range, which nothing hinders.
     fn map_all(&mut self, page: Page, pages: u64, frame: PhysFrame, rights: Rights)
-        requires range { IsCanonicalRange page pages }
-        requires unmapped { (k : ℕ) → k < pages → leads self.old (page + k) ≡ None }
-        requires below { frame + pages ≤ limit_of self.old }
+        requires mappable { IsRangeMappable self.old page pages frame }
         requires fits { frame + pages ≤ 2 ^ 40 }
-        requires outside { area_meets self.old.area frame pages ≡ false }
-        requires room { tables_wanted self.old page pages frame ≤ free_count self.old.free }
         ensures only { ChangesOnly (pages_of_range page pages) self.old self.new }
         ensures mapped { IsMappedInARow self.old self.new page pages frame rights }
     {
@@ -125,10 +112,7 @@ impl<'a> Tables<'a> {
         frame: PhysFrame,
         rights: Rights,
     ) -> Result<(), RangeFault>
-        ensures fault { result_err result ≡ map_range_fault self.old page pages frame }
-        ensures same { OnErr result (self.new ≡ self.old) }
-        ensures only { ChangesOnly (pages_of_range page pages) self.old self.new }
-        ensures flush { IsFlushEnough self.old self.new no_page }
+        ensures change { IsChange (pages_of_range page pages) no_page (map_range_fault self.old page pages frame) self.old result self.new }
         ensures mapped { OnOk result (IsMappedInARow self.old self.new page pages frame rights) }
     {
         if pages == 0 {

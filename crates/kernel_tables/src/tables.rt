@@ -1,15 +1,12 @@
-ghost use Rattle.std.specs.Prelude.{◌≡◌, ℕ, ◌+◌, ◌*◌, ◌/◌, ◌%◌, ◌<◌, ◌≤◌, ◌^◌, ◌↔◌, Bool, true, false, None, Some, IsTrue, IsSome, IfSome, OnOk, OnErr, IfOk, length};
+ghost use Rattle.std.specs.Prelude.{◌≡◌, ℕ, ◌+◌, ◌*◌, ◌/◌, ◌%◌, ◌<◌, ◌≤◌, ◌^◌, ◌↔◌, Bool, true, false, None, Some, IsSome, IfSome, OnOk, IfOk, length};
 ghost use Rattle.std.specs.Option.{option_map};
-ghost use Rattle.std.specs.Result.{result_err};
-ghost use Rattle.paging_core.specs.Address.{is_canonical};
-ghost use Rattle.paging_core.specs.Area.{Part};
-ghost use Rattle.paging_core.specs.Missing.{missing_of};
 ghost use Rattle.paging_core.specs.Pool.{free_count};
 ghost use Rattle.paging_core.specs.Walk.{mapped_place};
-ghost use Rattle.kernel_tables.specs.Changes.{ChangesOnly, IsPageMapped, IsPageUnmapped, IsPageGranted};
+ghost use Rattle.kernel_tables.specs.Begun.{IsAreaGiven, AreBegun};
+ghost use Rattle.kernel_tables.specs.Changes.{IsChange, IsPageMapped, IsPageUnmapped, IsPageGranted};
 ghost use Rattle.kernel_tables.specs.Faults.{map_fault, entry_fault, split_of};
-ghost use Rattle.kernel_tables.specs.Flush.{no_page, page_alone, IsFlushEnough};
-ghost use Rattle.kernel_tables.specs.TableState.{leads, limit_of, IsWalkedAlike};
+ghost use Rattle.kernel_tables.specs.Flush.{no_page, page_alone};
+ghost use Rattle.kernel_tables.specs.TableState.{leads, IsWalkedAlike, IsPage, misses};
 
 use crate::faults::{EntryFault, MapFault};
 use crate::range_checks::slot_at;
@@ -45,12 +42,8 @@ impl<'a> Tables<'a> {
     /// None exactly if the words are not those of whole frames, or are none; if the area ends after the limit; or if
     /// the limit is not below 2^40, the number of frames that an entry can name.
     pub fn new(words: &'a mut [u64], first: u64, limit: u64) -> Option<Tables<'a>>
-        ensures some { IsSome result ↔ ((length words.entry.now % 512 ≡ 0) × (0 < length words.entry.now) × (first + length words.entry.now / 512 ≤ limit) × (limit < 2 ^ 40)) }
-        ensures empty { IfSome result (λ tables. (page : ℕ) → leads tables page ≡ None) }
-        ensures area { IfSome result (λ tables. tables.area ≡ Part first (first + length words.entry.now / 512)) }
-        ensures limit { IfSome result (λ tables. limit_of tables ≡ limit) }
-        ensures root { IfSome result (λ tables. tables.root ≡ first) }
-        ensures free { IfSome result (λ tables. free_count tables.free + 1 ≡ length words.entry.now / 512) }
+        ensures some { IsSome result ↔ IsAreaGiven (length words.entry.now) first limit }
+        ensures begun { IfSome result (AreBegun (length words.entry.now) first limit) }
     {
         let count = words.len() as u64 / 512;
         let mut memory = TableArea::over(words, first, limit)?;
@@ -88,9 +81,9 @@ impl<'a> Tables<'a> {
     #[inline(always)]
     fn map_fault(&self, page: Page, missing: u64, frame: PhysFrame) -> Option<MapFault>
         requires unmapped { leads self.now page ≡ None }
-        requires missing { missing ≡ missing_of self.now.words self.now.root page 1 }
+        requires missing { missing ≡ misses self.now page }
         ensures fault { result ≡ map_fault self.now page frame }
-        ensures canonical { IsTrue (is_canonical (page * 4096)) }
+        ensures canonical { IsPage page }
     {
         let _canonical = page.number();
         if frame.number() >= self.memory.limit() {
@@ -111,10 +104,7 @@ impl<'a> Tables<'a> {
     /// Maps the page to the frame with the rights, and makes the tables that it misses. No entry that was present changes,
     /// so no flush is needed.
     pub fn map(&mut self, page: Page, frame: PhysFrame, rights: Rights) -> Result<(), MapFault>
-        ensures fault { result_err result ≡ map_fault self.old page frame }
-        ensures same { OnErr result (self.new ≡ self.old) }
-        ensures only { ChangesOnly (page_alone page) self.old self.new }
-        ensures flush { IsFlushEnough self.old self.new no_page }
+        ensures change { IsChange (page_alone page) no_page (map_fault self.old page frame) self.old result self.new }
         ensures mapped { OnOk result (IsPageMapped self.old self.new page frame rights) }
     {
         match end_of_walk(&self.memory, self.root, page) {
@@ -177,10 +167,7 @@ impl<'a> Tables<'a> {
 
     /// Does what `unmap` does, for any page.
     fn unmap_any(&mut self, page: Page) -> Result<PhysFrame, EntryFault>
-        ensures fault { result_err result ≡ entry_fault self.old page }
-        ensures same { OnErr result (self.new ≡ self.old) }
-        ensures only { ChangesOnly (page_alone page) self.old self.new }
-        ensures flush { IsFlushEnough self.old self.new (page_alone page) }
+        ensures change { IsChange (page_alone page) (page_alone page) (entry_fault self.old page) self.old result self.new }
         ensures unmapped { IfOk result (λ frame. IsPageUnmapped self.old self.new page frame) }
     {
         match self.entry_fault(page) {
@@ -195,10 +182,7 @@ impl<'a> Tables<'a> {
     /// Ends the mapping of the page, and answers the frame to which it led. A large page of which it is part is split in a frame
     /// of the area. The other tables stay. The page is to be flushed before its frame has another use.
     pub fn unmap(&mut self, page: Page) -> Result<PhysFrame, EntryFault>
-        ensures fault { result_err result ≡ entry_fault self.old page }
-        ensures same { OnErr result (self.new ≡ self.old) }
-        ensures only { ChangesOnly (page_alone page) self.old self.new }
-        ensures flush { IsFlushEnough self.old self.new (page_alone page) }
+        ensures change { IsChange (page_alone page) (page_alone page) (entry_fault self.old page) self.old result self.new }
         ensures unmapped { IfOk result (λ frame. IsPageUnmapped self.old self.new page frame) }
     {
         match self.clear_entry(page) {
@@ -209,10 +193,7 @@ impl<'a> Tables<'a> {
 
     /// Does what `protect` does, for any page.
     fn protect_any(&mut self, page: Page, rights: Rights) -> Result<(), EntryFault>
-        ensures fault { result_err result ≡ entry_fault self.old page }
-        ensures same { OnErr result (self.new ≡ self.old) }
-        ensures only { ChangesOnly (page_alone page) self.old self.new }
-        ensures flush { IsFlushEnough self.old self.new (page_alone page) }
+        ensures change { IsChange (page_alone page) (page_alone page) (entry_fault self.old page) self.old result self.new }
         ensures granted { OnOk result (IsPageGranted self.old self.new page rights) }
     {
         match self.entry_fault(page) {
@@ -228,10 +209,7 @@ impl<'a> Tables<'a> {
     /// Gives the page these rights. It keeps its frame. A large page of which it is part is split in a frame of the area. The page
     /// is to be flushed.
     pub fn protect(&mut self, page: Page, rights: Rights) -> Result<(), EntryFault>
-        ensures fault { result_err result ≡ entry_fault self.old page }
-        ensures same { OnErr result (self.new ≡ self.old) }
-        ensures only { ChangesOnly (page_alone page) self.old self.new }
-        ensures flush { IsFlushEnough self.old self.new (page_alone page) }
+        ensures change { IsChange (page_alone page) (page_alone page) (entry_fault self.old page) self.old result self.new }
         ensures granted { OnOk result (IsPageGranted self.old self.new page rights) }
     {
         if self.grant_entry(page, rights) {

@@ -1,2 +1,3 @@
 mod Sending
 mod RangeCauses
+mod Told

@@ -1,3 +1,4 @@
+pub mod HeapAnswers
 pub mod HeapStats
-pub mod TablesBegun
+pub mod TablesAnswers
 pub mod TablesCodes

@@ -1,18 +1,15 @@
 // What a C program calls of a heap that it began.
-ghost use Rattle.std.specs.Prelude.{◌≡◌, ◌≢◌, ◌↔◌, true, false, if◌then◌else◌, IsTrue};
+ghost use Rattle.std.specs.Prelude.{◌≡◌, ◌↔◌, true, false, if◌then◌else◌, IsTrue};
 ghost use Rattle.dlmalloc.specs.State.{countdown_from};
 ghost use Rattle.dlmalloc.specs.Heap.{IsGranularity};
-ghost use Rattle.dlmalloc.specs.Blocks.{ArePlaced, BlocksAreApart};
+ghost use Rattle.dlmalloc.specs.Blocks.{ArePlaced};
 ghost use Rattle.dlmalloc.specs.AfterFree.{IsFreed};
 ghost use Rattle.dlmalloc.specs.Shortened.{IsTrimmed};
-ghost use Rattle.dlmalloc.specs.Order.{KeepsIndex};
 ghost use Rattle.heap_arena.specs.Arena.{regions_of, word_of};
-ghost use Rattle.sound_heap.specs.declared.heap_error.HeapError.{HeapError};
-ghost use Rattle.heap_library.specs.Calls.{IsBlockGiven, IsBlockResized};
-ghost use Rattle.heap_library.specs.Library.{IsResizeRefused};
-ghost use Rattle.sound_heap.specs.Heap.{HasBlock, usable, IsIntact, IsRequestRefused};
-ghost use Rattle.heap_library.specs.Checked.{arena_follows, arena_refuses, arena_denies, arena_heap_state};
-ghost use Rattle.heap_library.specs.Room.{IsRefused, IsRefusedResize};
+ghost use Rattle.heap_library.specs.Answers.{IsOnlySet};
+ghost use Rattle.sound_heap.specs.Heap.{HasBlock, usable, IsIntact};
+ghost use Rattle.heap_library.specs.Checked.{arena_follows, arena_heap_state};
+ghost use Rattle.limzhur_c.specs.HeapAnswers.{IsRequestTold, IsResizeTold};
 ghost use Rattle.limzhur_c.specs.HeapStats.{HoldsStats};
 
 use crate::handle::Handle;
@@ -20,10 +17,7 @@ use crate::handle::Handle;
 /// The address of a block of `size` bytes at a multiple of `align`; 0 if it is refused.
 #[unsafe(no_mangle)]
 pub extern "C" fn limzhur_malloc(handle: &mut Handle, size: u64, align: u64) -> u64
-    ensures ok { result ≢ 0 → IsBlockGiven handle.old.heap size align false result handle.new.heap }
-    ensures err { result ≡ 0 → (error : HeapError) × IsRequestRefused regions_of word_of arena_follows arena_refuses arena_denies handle.old.heap size align error handle.new.heap }
-    ensures refused { (result ≡ 0) ↔ IsRefused handle.old.heap size align }
-    ensures apart { BlocksAreApart (arena_heap_state handle.new.heap) }
+    ensures { IsRequestTold handle.old.heap size align false result handle.new.heap }
 {
     match handle.open().malloc(size, align) {
         Ok(address) => address,
@@ -34,10 +28,7 @@ pub extern "C" fn limzhur_malloc(handle: &mut Handle, size: u64, align: u64) -> 
 /// The address of a block of `size` bytes of value 0 at a multiple of `align`; 0 if it is refused.
 #[unsafe(no_mangle)]
 pub extern "C" fn limzhur_calloc(handle: &mut Handle, size: u64, align: u64) -> u64
-    ensures ok { result ≢ 0 → IsBlockGiven handle.old.heap size align true result handle.new.heap }
-    ensures err { result ≡ 0 → (error : HeapError) × IsRequestRefused regions_of word_of arena_follows arena_refuses arena_denies handle.old.heap size align error handle.new.heap }
-    ensures refused { (result ≡ 0) ↔ IsRefused handle.old.heap size align }
-    ensures apart { BlocksAreApart (arena_heap_state handle.new.heap) }
+    ensures { IsRequestTold handle.old.heap size align true result handle.new.heap }
 {
     match handle.open().calloc(size, align) {
         Ok(address) => address,
@@ -49,10 +40,7 @@ pub extern "C" fn limzhur_calloc(handle: &mut Handle, size: u64, align: u64) -> 
 /// begins at the address, or the size is refused; nothing then changes.
 #[unsafe(no_mangle)]
 pub extern "C" fn limzhur_realloc(handle: &mut Handle, address: u64, size: u64) -> u64
-    ensures ok { result ≢ 0 → IsBlockResized handle.old.heap address size result handle.new.heap }
-    ensures err { result ≡ 0 → (error : HeapError) × IsResizeRefused regions_of word_of arena_follows arena_refuses arena_denies handle.old.heap address size error handle.new.heap }
-    ensures refused { (result ≡ 0) ↔ IsRefusedResize handle.old.heap address size }
-    ensures apart { BlocksAreApart (arena_heap_state handle.new.heap) }
+    ensures { IsResizeTold handle.old.heap address size result handle.new.heap }
 {
     match handle.open().realloc(address, size) {
         Ok(to) => to,
@@ -83,9 +71,7 @@ pub extern "C" fn limzhur_trim(handle: &mut Handle, pad: u64) -> bool
 #[unsafe(no_mangle)]
 pub extern "C" fn limzhur_set_granularity(handle: &mut Handle, bytes: u64) -> bool
     ensures answer { IsTrue result ↔ IsGranularity bytes }
-    ensures state { arena_heap_state handle.new.heap ≡ record (arena_heap_state handle.old.heap) { granularity = if result then bytes else handle.old.heap.granularity } }
-    ensures system { handle.new.heap.system ≡ handle.old.heap.system }
-    ensures index { KeepsIndex regions_of word_of handle.old.heap handle.new.heap }
+    ensures set { IsOnlySet (record (arena_heap_state handle.old.heap) { granularity = if result then bytes else handle.old.heap.granularity }) handle.old.heap handle.new.heap }
 {
     handle.open().set_granularity(bytes)
 }
@@ -94,9 +80,7 @@ pub extern "C" fn limzhur_set_granularity(handle: &mut Handle, bytes: u64) -> bo
 /// greatest number.
 #[unsafe(no_mangle)]
 pub extern "C" fn limzhur_set_release_rate(handle: &mut Handle, rate: u64)
-    ensures state { arena_heap_state handle.new.heap ≡ record (arena_heap_state handle.old.heap) { rate = rate; countdown = countdown_from rate } }
-    ensures system { handle.new.heap.system ≡ handle.old.heap.system }
-    ensures index { KeepsIndex regions_of word_of handle.old.heap handle.new.heap }
+    ensures { IsOnlySet (record (arena_heap_state handle.old.heap) { rate = rate; countdown = countdown_from rate }) handle.old.heap handle.new.heap }
 {
     handle.open().set_release_rate(rate);
 }

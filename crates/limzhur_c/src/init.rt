@@ -11,7 +11,7 @@ ghost use Rattle.dlmalloc.specs.declared.heap.Dlmalloc.{Dlmalloc};
 ghost use Rattle.heap_arena.specs.declared.arena.Arena.{Arena};
 ghost use Rattle.heap_library.specs.contracts.checked.CheckedHeap.{the_row as heap_row};
 ghost use Rattle.heap_library.specs.Checked.{IsCleared};
-ghost use Rattle.heap_library.specs.Begun.{IsBegun};
+ghost use Rattle.heap_library.specs.Begun.{FitsAt, IsBegun};
 ghost use Rattle.std.specs.Mem.{type_size};
 
 use heap_library::CheckedHeap;
@@ -26,9 +26,7 @@ pub extern "C" fn limzhur_room() -> usize
 
 /// An empty heap of a granularity over a memory, whose first word is at an address.
 fn begin(memory: &'static mut [u64], address: u64, granularity: u64) -> CheckedHeap<'static>
-    requires aligned { address % 16 ≡ 0 }
-    requires low { 4096 ≤ address }
-    requires high { address + 8 * length memory.now < 2 ^ 64 }
+    requires fits { FitsAt address (length memory.now) }
     requires cleared { IsCleared memory.now }
     requires granularity { IsGranularity granularity }
     ensures begun { IsBegun memory.entry.now address granularity result }
@@ -61,9 +59,7 @@ pub unsafe extern "C" fn limzhur_init_with(
     requires* memory { sem 𝓛 (lies_at (Array u64 count) full_share memory words) }
     requires few { count < 2 ^ 60 }
     requires cleared { IsCleared words }
-    requires aligned { address % 16 ≡ 0 }
-    requires low { 4096 ≤ address }
-    requires high { address + 8 * count < 2 ^ 64 }
+    requires fits { FitsAt address count }
     requires granularity { IsGranularity granularity }
     ensures* heap { ∃ₛ (λ (heap : Dlmalloc Arena). sem 𝓛 (lies_at (heap_row static_lft) full_share room heap) ∗ ⌜ IsBegun words address granularity heap ⌝) }
 {
@@ -79,9 +75,7 @@ pub unsafe extern "C" fn limzhur_init(room: *mut u8, memory: *mut u64, count: us
     requires* memory { sem 𝓛 (lies_at (Array u64 count) full_share memory words) }
     requires few { count < 2 ^ 60 }
     requires cleared { IsCleared words }
-    requires aligned { address % 16 ≡ 0 }
-    requires low { 4096 ≤ address }
-    requires high { address + 8 * count < 2 ^ 64 }
+    requires fits { FitsAt address count }
     ensures* heap { ∃ₛ (λ (heap : Dlmalloc Arena). sem 𝓛 (lies_at (heap_row static_lft) full_share room heap) ∗ ⌜ IsBegun words address 65536 heap ⌝) }
 {
     limzhur_init_with(room, memory, count, address, 65536);

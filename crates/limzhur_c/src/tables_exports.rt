@@ -2,9 +2,10 @@
 ghost use Rattle.std.specs.Prelude.{◌≡◌, ◌≢◌, ◌⊎◌, ◌/◌, ◌^◌, true, false, Some, None};
 ghost use Rattle.paging_core.specs.Address.{is_canonical};
 ghost use Rattle.paging_core.specs.Pool.{free_count};
-ghost use Rattle.kernel_tables.specs.Changes.{ChangesOnly, IsPageMapped, IsPageUnmapped, IsPageGranted, IsLargeMapped, IsLargeUnmapped};
+ghost use Rattle.kernel_tables.specs.Changes.{IsPageMapped, IsPageUnmapped, IsPageGranted, IsLargeMapped, IsLargeUnmapped};
 ghost use Rattle.kernel_tables.specs.Flush.{page_alone, pages_of_slot};
 ghost use Rattle.kernel_tables.specs.TableState.{leads, IsWalkedAlike};
+ghost use Rattle.limzhur_c.specs.TablesAnswers.{IsChangeTold};
 ghost use Rattle.limzhur_c.specs.TablesCodes.{map_code, entry_code, map_answer, map_large_answer, unmap_large_answer, entry_answer, place_told};
 
 use crate::tables_handle::TablesHandle;
@@ -106,10 +107,8 @@ pub extern "C" fn limzhur_map(
     user: bool,
     fetch: bool,
 ) -> u32
-    ensures answer { result ≡ map_answer handle.old.tables address frame }
+    ensures change { IsChangeTold (page_alone (address / 4096)) (map_answer handle.old.tables address frame) handle.old.tables result handle.new.tables }
     ensures mapped { result ≡ 0 → IsPageMapped handle.old.tables handle.new.tables (address / 4096) frame (record { write = write; user = user; fetch = fetch }) }
-    ensures only { ChangesOnly (page_alone (address / 4096)) handle.old.tables handle.new.tables }
-    ensures same { result ≢ 0 → handle.new.tables ≡ handle.old.tables }
 {
     let Ok(address) = VirtAddr::try_new(address) else {
         return 1;
@@ -132,10 +131,9 @@ pub extern "C" fn limzhur_map(
 /// split first. 0 if it did, and else why it did not: then nothing is changed.
 #[unsafe(no_mangle)]
 pub extern "C" fn limzhur_unmap(handle: &mut TablesHandle, address: u64, frame: &mut u64) -> u32
-    ensures answer { result ≡ entry_answer handle.old.tables address }
+    ensures change { IsChangeTold (page_alone (address / 4096)) (entry_answer handle.old.tables address) handle.old.tables result handle.new.tables }
     ensures unmapped { result ≡ 0 → IsPageUnmapped handle.old.tables handle.new.tables (address / 4096) frame.new }
-    ensures only { ChangesOnly (page_alone (address / 4096)) handle.old.tables handle.new.tables }
-    ensures same { result ≢ 0 → (handle.new.tables ≡ handle.old.tables) × (frame.new ≡ frame.old) }
+    ensures put { result ≢ 0 → frame.new ≡ frame.old }
 {
     let Ok(address) = VirtAddr::try_new(address) else {
         return 1;
@@ -159,10 +157,8 @@ pub extern "C" fn limzhur_protect(
     user: bool,
     fetch: bool,
 ) -> u32
-    ensures answer { result ≡ entry_answer handle.old.tables address }
+    ensures change { IsChangeTold (page_alone (address / 4096)) (entry_answer handle.old.tables address) handle.old.tables result handle.new.tables }
     ensures granted { result ≡ 0 → IsPageGranted handle.old.tables handle.new.tables (address / 4096) (record { write = write; user = user; fetch = fetch }) }
-    ensures only { ChangesOnly (page_alone (address / 4096)) handle.old.tables handle.new.tables }
-    ensures same { result ≢ 0 → handle.new.tables ≡ handle.old.tables }
 {
     let Ok(address) = VirtAddr::try_new(address) else {
         return 1;
@@ -188,10 +184,8 @@ pub extern "C" fn limzhur_map_large(
     user: bool,
     fetch: bool,
 ) -> u32
-    ensures answer { result ≡ map_large_answer handle.old.tables address frame }
+    ensures change { IsChangeTold (pages_of_slot (address / 2 ^ 21)) (map_large_answer handle.old.tables address frame) handle.old.tables result handle.new.tables }
     ensures mapped { result ≡ 0 → IsLargeMapped handle.old.tables handle.new.tables (address / 2 ^ 21) (frame / 512) (record { write = write; user = user; fetch = fetch }) }
-    ensures only { ChangesOnly (pages_of_slot (address / 2 ^ 21)) handle.old.tables handle.new.tables }
-    ensures same { result ≢ 0 → handle.new.tables ≡ handle.old.tables }
 {
     let Ok(address) = VirtAddr::try_new(address) else {
         return 1;
@@ -222,11 +216,10 @@ pub extern "C" fn limzhur_unmap_large(
     address: u64,
     frame: &mut u64,
 ) -> u32
-    ensures answer { result ≡ unmap_large_answer handle.old.tables address }
+    ensures change { IsChangeTold (pages_of_slot (address / 2 ^ 21)) (unmap_large_answer handle.old.tables address) handle.old.tables result handle.new.tables }
     ensures unmapped { result ≡ 0 → IsLargeUnmapped handle.old.tables handle.new.tables (address / 2 ^ 21) frame.new }
     ensures free { handle.new.tables.free ≡ handle.old.tables.free }
-    ensures only { ChangesOnly (pages_of_slot (address / 2 ^ 21)) handle.old.tables handle.new.tables }
-    ensures same { result ≢ 0 → (handle.new.tables ≡ handle.old.tables) × (frame.new ≡ frame.old) }
+    ensures put { result ≢ 0 → frame.new ≡ frame.old }
 {
     let Ok(address) = VirtAddr::try_new(address) else {
         return 1;

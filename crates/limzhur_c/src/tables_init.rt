@@ -8,7 +8,7 @@ ghost use denote.RawPtr.{lies_at, room_at};
 ghost use denote.Signature.{static_lft};
 ghost use Rattle.kernel_tables.specs.TableState.{TableState};
 ghost use Rattle.kernel_tables.specs.contracts.tables.Tables.{the_row as tables_row};
-ghost use Rattle.limzhur_c.specs.TablesBegun.{IsAreaGiven, AreBegun};
+ghost use Rattle.kernel_tables.specs.Begun.{IsAreaGiven, AreBegun};
 ghost use Rattle.std.specs.Mem.{type_size};
 
 use crate::init::words_at;

@@ -1,7 +1,7 @@
 // What a C program or kernel calls of ranges of pages.
 ghost use Rattle.std.specs.Prelude.{◌≡◌, ◌≢◌, ◌/◌, Some};
-ghost use Rattle.kernel_tables.specs.Changes.{ChangesOnly, IsMappedInARow, IsRangeUnmapped, IsRangeGranted};
-ghost use Rattle.kernel_tables.specs.Flush.{pages_of_range};
+ghost use Rattle.kernel_tables.specs.Changes.{IsMappedInARow, IsRangeUnmapped, IsRangeGranted};
+ghost use Rattle.limzhur_c.specs.TablesAnswers.{IsRangeTold};
 ghost use Rattle.limzhur_c.specs.TablesCodes.{range_code, fault_detail, map_range_cause, change_range_cause};
 
 use crate::tables_handle::TablesHandle;
@@ -45,11 +45,8 @@ pub extern "C" fn limzhur_map_range(
     fetch: bool,
     told: &mut u64,
 ) -> u32
-    ensures answer { result ≡ range_code (map_range_cause handle.old.tables address pages frame) }
-    ensures told { told.new ≡ fault_detail (map_range_cause handle.old.tables address pages frame) told.old }
+    ensures change { IsRangeTold address pages (map_range_cause handle.old.tables address pages frame) handle.old.tables told.old result told.new handle.new.tables }
     ensures mapped { result ≡ 0 → IsMappedInARow handle.old.tables handle.new.tables (address / 4096) pages frame (record { write = write; user = user; fetch = fetch }) }
-    ensures only { ChangesOnly (pages_of_range (address / 4096) pages) handle.old.tables handle.new.tables }
-    ensures same { result ≢ 0 → handle.new.tables ≡ handle.old.tables }
 {
     let Ok(address) = VirtAddr::try_new(address) else {
         return 1;
@@ -77,11 +74,8 @@ pub extern "C" fn limzhur_unmap_range(
     pages: u64,
     told: &mut u64,
 ) -> u32
-    ensures answer { result ≡ range_code (change_range_cause handle.old.tables address pages) }
-    ensures told { told.new ≡ fault_detail (change_range_cause handle.old.tables address pages) told.old }
+    ensures change { IsRangeTold address pages (change_range_cause handle.old.tables address pages) handle.old.tables told.old result told.new handle.new.tables }
     ensures unmapped { result ≡ 0 → IsRangeUnmapped handle.old.tables handle.new.tables (address / 4096) pages }
-    ensures only { ChangesOnly (pages_of_range (address / 4096) pages) handle.old.tables handle.new.tables }
-    ensures same { result ≢ 0 → handle.new.tables ≡ handle.old.tables }
 {
     let Ok(address) = VirtAddr::try_new(address) else {
         return 1;
@@ -107,11 +101,8 @@ pub extern "C" fn limzhur_protect_range(
     fetch: bool,
     told: &mut u64,
 ) -> u32
-    ensures answer { result ≡ range_code (change_range_cause handle.old.tables address pages) }
-    ensures told { told.new ≡ fault_detail (change_range_cause handle.old.tables address pages) told.old }
+    ensures change { IsRangeTold address pages (change_range_cause handle.old.tables address pages) handle.old.tables told.old result told.new handle.new.tables }
     ensures granted { result ≡ 0 → IsRangeGranted handle.old.tables handle.new.tables (address / 4096) pages (record { write = write; user = user; fetch = fetch }) }
-    ensures only { ChangesOnly (pages_of_range (address / 4096) pages) handle.old.tables handle.new.tables }
-    ensures same { result ≢ 0 → handle.new.tables ≡ handle.old.tables }
 {
     let Ok(address) = VirtAddr::try_new(address) else {
         return 1;

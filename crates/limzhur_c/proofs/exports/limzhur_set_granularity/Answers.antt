@@ -1,7 +1,10 @@
 use Rattle.std.proofs.Common.{subst}
-use Rattle.dlmalloc.specs.Order.{KeepsIndex}
-use Rattle.heap_arena.specs.Arena.{regions_of, word_of}
+use Rattle.std.specs.Prelude.{if◌then◌else◌}
+use Rattle.dlmalloc.specs.declared.heap.Dlmalloc.{Dlmalloc}
+use Rattle.heap_arena.specs.declared.arena.Arena.{Arena}
+use Rattle.heap_library.specs.Answers.{IsOnlySet}
+use Rattle.heap_library.specs.Checked.{arena_heap_state}
 use Rattle.limzhur_c.proofs.exports.limzhur_set_granularity.Goals as goal
 
-pub returns-clause-index : goal.returns-clause-index
-returns-clause-index c = subst (λ heap. KeepsIndex regions_of word_of heap c.set_granularity.new.self) c.open.ensures.heap c.set_granularity.ensures.index
+pub returns-clause-set : goal.returns-clause-set
+returns-clause-set c = subst (λ (heap : Dlmalloc Arena). IsOnlySet (record (arena_heap_state heap) { granularity = if c.set_granularity.result then c.args.bytes else heap.granularity }) heap c.set_granularity.new.self) c.open.ensures.heap c.set_granularity.ensures.set

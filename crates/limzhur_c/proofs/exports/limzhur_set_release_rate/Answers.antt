@@ -1,7 +1,10 @@
 use Rattle.std.proofs.Common.{subst}
-use Rattle.dlmalloc.specs.Order.{KeepsIndex}
-use Rattle.heap_arena.specs.Arena.{regions_of, word_of}
+use Rattle.dlmalloc.specs.State.{countdown_from}
+use Rattle.dlmalloc.specs.declared.heap.Dlmalloc.{Dlmalloc}
+use Rattle.heap_arena.specs.declared.arena.Arena.{Arena}
+use Rattle.heap_library.specs.Answers.{IsOnlySet}
+use Rattle.heap_library.specs.Checked.{arena_heap_state}
 use Rattle.limzhur_c.proofs.exports.limzhur_set_release_rate.Goals as goal
 
-pub returns-clause-index : goal.returns-clause-index
-returns-clause-index c = subst (λ heap. KeepsIndex regions_of word_of heap c.set_release_rate.new.self) c.open.ensures.heap c.set_release_rate.ensures.index
+pub returns : goal.returns
+returns c = subst (λ (heap : Dlmalloc Arena). IsOnlySet (record (arena_heap_state heap) { rate = c.args.rate; countdown = countdown_from c.args.rate }) heap c.set_release_rate.new.self) c.open.ensures.heap c.set_release_rate.ensures

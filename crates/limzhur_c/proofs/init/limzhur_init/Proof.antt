@@ -1,5 +1,5 @@
 -- `limzhur_init` calls `limzhur_init_with`: a walk of its MIR by hand.
-use Rattle.std.proofs.Common.{◌≡◌, ℕ, ◌^◌, ◌<◌, ◌≤◌, ◌+◌, ◌*◌, ◌%◌, List, [], ◌∷◌, refl, ap, arith, w64, lit<}
+use Rattle.std.proofs.Common.{ℕ, ◌^◌, ◌<◌, List, [], ◌∷◌, refl, ap, arith, w64, lit<}
 use Rattle.std.proofs.raw_atomic.Walks.{proved}
 use seplogic.Ra.Ura.{Ura}
 use base.Fraction.{full_share}
@@ -31,7 +31,7 @@ use Rattle.dlmalloc.specs.Heap.{IsGranularity}
 use Rattle.heap_library.specs.declared.checked.CheckedHeap.{CheckedHeap}
 use Rattle.heap_library.specs.contracts.checked.CheckedHeap as R-type
 use Rattle.heap_library.specs.Checked.{IsCleared}
-use Rattle.heap_library.specs.Begun.{IsBegun}
+use Rattle.heap_library.specs.Begun.{FitsAt, IsBegun}
 use Rattle.limzhur_c.specs.contracts.init.limzhur_init_with as g
 use Rattle.limzhur_c.proofs.init.limzhur_init_with.Met.{met as with_met}
 use Rattle.limzhur_c.specs.contracts.init.limzhur_init as f
@@ -68,15 +68,14 @@ limzhur_init_spec 𝓤 𝓛 𝓜 𝓡 wired =
     (λ κs. (rawptr_Tells, (rawptr_Tells, (uint_Tells w64, (uint_Tells w64, tt))))) (λ κs qs bounds a ws are.
     let p : Ptr = a.0 in let w : Ptr = a.1.0 in let n : ℕ = a.1.1.0 in let address : ℕ = a.1.1.1.0 in
     let y : W.Ghost = ((κs, qs, bounds, (p, (w, (n, (address, tt)))), (rawptr_vals p, (rawptr_vals w, (uint_vals w64 n, (uint_vals w64 address, tt))))), ws) in
-    let Few : Type 0 = n < 2 ^ 60 in let Clear : Type 0 = IsCleared ws in let Whole : Type 0 = address % 16 ≡ 0 in
-    let Low : Type 0 = 4096 ≤ address in let High : Type 0 = address + 8 * n < 2 ^ 64 in let Grown : Type 0 =
+    let Few : Type 0 = n < 2 ^ 60 in let Clear : Type 0 = IsCleared ws in let Fit : Type 0 = FitsAt address n in
+    let Grown : Type 0 =
     IsGranularity 65536 in
     let Lies : Fml = lies_at (Array u64 n) full_share w ws in
     qed 𝓛 ((‵ ftrue ⊛ ‵ (owns (RawPtr ∷ RawPtr ∷ usize ∷ u64 ∷ []) a y.0.4)) ∷ (‵ (room_at R p) ⊛ ‵ Lies ⊛ raw (fact 𝓤 Few)
-    ⊛ raw (fact 𝓤 Clear) ⊛ raw (fact 𝓤 Whole) ⊛ raw (fact 𝓤 Low) ⊛ raw (fact 𝓤 High)) ∷ []) ∵
+    ⊛ raw (fact 𝓤 Clear) ⊛ raw (fact 𝓤 Fit)) ∷ []) ∵
     move ! (1 ∷ []) $ split ! $ move ! (1 ∷ []) $ split ! $ move ! (1 ∷ []) $ split ! $ heard ! Few
-    (λ few. split ! $ heard ! Clear (λ clear. split ! $ heard ! Whole
-    (λ whole. split ! $ heard ! Low (λ low. heard ! High (λ high. move ! (1 ∷ 0 ∷ []) $ keep ! (0 ∷ 1 ∷ []) $
+    (λ few. split ! $ heard ! Clear (λ clear. heard ! Fit (λ fit. move ! (1 ∷ 0 ∷ []) $ keep ! (0 ∷ 1 ∷ []) $
     -- [the room; the words]
     enter ! _ _ _ _ _ $ alloc_all ! (λ l. pass_all ! refl (
       ((rawptr_Lawful 𝓛).typed p _ refl).0,
@@ -101,9 +100,8 @@ limzhur_init_spec 𝓤 𝓛 𝓜 𝓡 wired =
       ws,
     ) in
     let Made : CheckedHeap → SProp 𝓤 = λ k. sep 𝓤 (sem 𝓛 (lies_at R full_share p k)) (fact 𝓤 (IsBegun ws address 65536 k)) in
-    use0 𝓛 (raw (fact 𝓤 Grown)) (fact_i 𝓤 Grown (emp 𝓤) ((16, refl), omega arith)) $ use0 𝓛 (raw (fact 𝓤 High))
-    (fact_i 𝓤 High (emp 𝓤) high) $ join ! $ use0 𝓛 (raw (fact 𝓤 Low)) (fact_i 𝓤 Low (emp 𝓤) low) $ join ! $
-    use0 𝓛 (raw (fact 𝓤 Whole)) (fact_i 𝓤 Whole (emp 𝓤) whole) $ join ! $ use0 𝓛 (raw (fact 𝓤 Clear))
+    use0 𝓛 (raw (fact 𝓤 Grown)) (fact_i 𝓤 Grown (emp 𝓤) ((16, refl), omega arith)) $ use0 𝓛 (raw (fact 𝓤 Fit))
+    (fact_i 𝓤 Fit (emp 𝓤) fit) $ join ! $ use0 𝓛 (raw (fact 𝓤 Clear))
     (fact_i 𝓤 Clear (emp 𝓤) clear) $ join ! $ use0 𝓛 (raw (fact 𝓤 Few)) (fact_i 𝓤 Few (emp 𝓤) few) $ join ! $
     move ! (2 ∷ 0 ∷ []) $ join ! $ move ! (1 ∷ 0 ∷ []) $ join ! $
     nothing ! $ owned ! u64 _ (uint_Makes 𝓛 w64) 65536 _ (refl, lit< tt) $ fjoin ! $ owned ! u64 _ (uint_Makes 𝓛 w64)
@@ -121,4 +119,4 @@ limzhur_init_spec 𝓤 𝓛 𝓜 𝓡 wired =
     sets ! (of_opd ! (unit_lit !)) refl (tt, tt) $ returns ! (look_at ! 0 refl) $ free_all ! refl $ keep ! (0 ∷ []) $
     suffices ! _ (ends_at 𝓛 f.ended stayed c y vunit tt (tt, (tt, (tt, (tt, tt)))) (tt, (tt, (tt, (tt, tt))))) $
     feq_i ! _ (vunit ∷ []) _ refl $ nothing ! $ nothing ! $ fjoin ! $ nothing ! $ fjoin ! $ nothing ! $ fjoin ! $ nothing !
-    $ fjoin ! $ join ! $ nothing ! $ join ! $ join ! $ done !)))))))))))
+    $ fjoin ! $ join ! $ nothing ! $ join ! $ join ! $ done !)))))))))

@@ -1,5 +1,5 @@
 -- `limzhur_init_with` writes a heap over the words into the room: a walk of its MIR by hand.
-use Rattle.std.proofs.Common.{◌≡◌, ℕ, zero, suc, ◌^◌, ◌<◌, ◌≤◌, ◌+◌, ◌*◌, ◌%◌, List, [], ◌∷◌, ◌++◌, refl, sym, subst, length, w64, MutBor}
+use Rattle.std.proofs.Common.{◌≡◌, ℕ, zero, suc, ◌^◌, ◌<◌, List, [], ◌∷◌, ◌++◌, refl, sym, subst, length, w64, MutBor}
 use Rattle.std.proofs.raw_atomic.Walks.{proved}
 use base.Fraction.{full_share}
 use base.Logic.{SProp, sep, emp, ex, ex_i, id⊢}
@@ -34,7 +34,7 @@ use Rattle.heap_library.specs.declared.checked.CheckedHeap.{CheckedHeap}
 use Rattle.heap_library.specs.contracts.checked.CheckedHeap as R-type
 use Rattle.heap_library.specs.Checked.{IsCleared}
 use Rattle.dlmalloc.specs.Heap.{IsGranularity}
-use Rattle.heap_library.specs.Begun.{IsBegun}
+use Rattle.heap_library.specs.Begun.{FitsAt, IsBegun}
 use Rattle.limzhur_c.specs.contracts.init.begin as h
 use Rattle.limzhur_c.proofs.init.begin.Met.{met as begin_met}
 use Rattle.heap_library.proofs.checked.CheckedHeap.TheLaws.{the_row_laws}
@@ -99,16 +99,15 @@ limzhur_init_with_spec 𝓤 𝓛 𝓜 𝓡 wired =
       ws,
     )
     in
-    let Few : Type 0 = n < 2 ^ 60 in let Clear : Type 0 = IsCleared ws in let Whole : Type 0 = address % 16 ≡ 0 in
-    let Low : Type 0 = 4096 ≤ address in let High : Type 0 = address + 8 * n < 2 ^ 64 in let Grown : Type 0 =
+    let Few : Type 0 = n < 2 ^ 60 in let Clear : Type 0 = IsCleared ws in let Fit : Type 0 = FitsAt address n in
+    let Grown : Type 0 =
     IsGranularity granularity in
     let Lies : Fml = lies_at (Array u64 n) full_share w ws in
     qed 𝓛 ((‵ ftrue ⊛ ‵ (owns (RawPtr ∷ RawPtr ∷ usize ∷ u64 ∷ u64 ∷ []) a (y a.0).0.4)) ∷ (‵ (room_at R a.0) ⊛ ‵ Lies ⊛ raw
-    (fact 𝓤 Few) ⊛ raw (fact 𝓤 Clear) ⊛ raw (fact 𝓤 Whole) ⊛ raw (fact 𝓤 Low) ⊛ raw (fact 𝓤 High) ⊛ raw
+    (fact 𝓤 Few) ⊛ raw (fact 𝓤 Clear) ⊛ raw (fact 𝓤 Fit) ⊛ raw
     (fact 𝓤 Grown)) ∷ []) ∵
     move ! (1 ∷ []) $ split ! $ move ! (1 ∷ []) $ split ! $ move ! (1 ∷ []) $ split ! $ heard ! Few
-    (λ few. split ! $ heard ! Clear (λ clear. split ! $ heard ! Whole
-    (λ whole. split ! $ heard ! Low (λ low. split ! $ heard ! High (λ high.
+    (λ few. split ! $ heard ! Clear (λ clear. split ! $ heard ! Fit (λ fit.
     heard ! Grown (λ grown. move ! (1 ∷ 0 ∷ []) $ keep ! (0 ∷ 1 ∷ []) $
     in_a_block ! a.0 (λ p. room_at R p) (id⊢ 𝓤 _) (λ b o e.
     regoal ! (λ p. prop (WpFn 𝓤 𝓛.H 𝓣.C 𝓣.Λ code.function (rawptr_vals
@@ -145,14 +144,13 @@ limzhur_init_with_spec 𝓤 𝓛 𝓜 𝓡 wired =
     -- begin(.., address, granularity)
     let N = triple_of 𝓛 h.signature (h.spec 𝓛 𝓜.mem 𝓡.returns) in
     let x : N.Ghost = ((tt, tt, tt, (r, (address, (granularity, tt))), (v ∷ [], (uint_vals w64 address, (uint_vals w64 granularity, tt)))), tt) in
-    let High' : Type 0 = address + 8 * length r.now < 2 ^ 64 in
+    let Fit' : Type 0 = FitsAt address (length r.now) in
     nothing ! $ owned ! u64 _ (uint_Makes 𝓛 w64) granularity _ (refl, are.1.1.1.1.0.1) $ fjoin ! $
     owned ! u64 _ (uint_Makes 𝓛 w64) address _ (refl, are.1.1.1.0.1) $ fjoin ! $ move ! (1 ∷ 0 ∷ []) $ fjoin ! $ nothing ! $ join ! $
     use0 𝓛 (raw (fact 𝓤 Grown)) (fact_i 𝓤 Grown (emp 𝓤) grown) $
     use0 𝓛 (raw (fact 𝓤 (IsCleared r.now))) (fact_i 𝓤 (IsCleared r.now) (emp 𝓤) (subst IsCleared (sym lie.0) clear)) $ join ! $
-    use0 𝓛 (raw (fact 𝓤 High')) (fact_i 𝓤 High' (emp 𝓤) (subst (λ (k : ℕ). address + 8 * k < 2 ^ 64) (sym lie.1) high)) $
-    join ! $ use0 𝓛 (raw (fact 𝓤 Low)) (fact_i 𝓤 Low (emp 𝓤) low) $ join ! $
-    use0 𝓛 (raw (fact 𝓤 Whole)) (fact_i 𝓤 Whole (emp 𝓤) whole) $ join ! $ move ! (1 ∷ 0 ∷ []) $ join ! $ use1 𝓛 (raw (N.pre x)) (id⊢ 𝓤 _) $
+    use0 𝓛 (raw (fact 𝓤 Fit')) (fact_i 𝓤 Fit' (emp 𝓤) (subst (FitsAt address) (sym lie.1) fit)) $
+    join ! $ move ! (1 ∷ 0 ∷ []) $ join ! $ use1 𝓛 (raw (N.pre x)) (id⊢ 𝓤 _) $
     calls_at ! (framed 𝓤 𝓛.H 𝓜 𝓣) N (begin_met 𝓤 𝓛 𝓜 𝓡 (code.calls-limzhur_c::init::begin 𝓡.env wired)) x
     (and_then ! (get ! refl) (and_then ! (get ! refl) (and_then ! (get ! refl) (no_more !)))) (λ u.
     use1 𝓛 (later (some (λ (heap : CheckedHeap). (‵ ftrue ⊛ ‵ (R.own_val heap (u ∷ []))) ⊛
@@ -173,4 +171,4 @@ limzhur_init_with_spec 𝓤 𝓛 𝓜 𝓡 wired =
     use1 𝓛 (raw (ex 𝓤 Made)) (ex_i 𝓤 Made heap) $
     suffices ! _ (ends_at 𝓛 f.ended stayed c (y (block_ptr b o)) vunit tt (tt, (tt, (tt, (tt, (tt, tt))))) (tt, (tt, (tt, (tt, (tt, tt)))))) $
     feq_i ! _ (vunit ∷ []) _ refl $ nothing ! $ nothing ! $ fjoin ! $ nothing ! $ fjoin ! $ nothing ! $ fjoin ! $ nothing !
-    $ fjoin ! $ nothing ! $ fjoin ! $ join ! $ nothing ! $ join ! $ join ! $ done !)))))))))))))))))))
+    $ fjoin ! $ nothing ! $ fjoin ! $ join ! $ nothing ! $ join ! $ join ! $ done !)))))))))))))))))

@@ -32,7 +32,7 @@ use denote.Triple.Table.{framed}
 use denote.Triple.Walked.{Stays, walk_of, stay_dropped, Goes-dropped, ends_at}
 use Rattle.kernel_tables.specs.declared.tables.Tables.{Tables}
 use Rattle.kernel_tables.specs.contracts.tables.Tables as R-type
-use Rattle.limzhur_c.specs.TablesBegun.{IsAreaGiven, AreBegun}
+use Rattle.kernel_tables.specs.Begun.{IsAreaGiven, AreBegun}
 use Rattle.limzhur_c.specs.contracts.tables_init.begin_tables as h
 use Rattle.limzhur_c.proofs.tables_init.begin_tables.Met.{met as begin_met}
 use Rattle.kernel_tables.proofs.tables.Tables.TheLaws.{the_row_laws}

@@ -1,14 +1,10 @@
 use Rattle.std.proofs.Common.{◌≡◌, ◌/◌, sym, refl, ap, ◌∙◌}
 use Rattle.kernel_tables.specs.Ranges.{change_range_fault}
-use Rattle.limzhur_c.specs.TablesCodes.{fault_detail, change_range_cause}
+use Rattle.limzhur_c.specs.TablesCodes.{range_code, fault_detail, change_range_cause}
+use Rattle.limzhur_c.proofs.Told.{made, refused}
 use Rattle.limzhur_c.proofs.RangeCauses.{change_off_half, change_asked}
 use Rattle.limzhur_c.proofs.tables_ranges.limzhur_unmap_range.Goals as goal
 use Rattle.limzhur_c.proofs.tables_ranges.limzhur_unmap_range.Goals.{After-unmap_range}
-
-pub returns-in_default-clause-told : goal.returns-in_default-clause-told
-returns-in_default-clause-told c =
-    ap (λ cause. fault_detail cause c.args.told.now)
-    (sym (change_off_half c.args.handle.now.tables c.args.address c.args.pages (λ is. let k = c.in_default.ensures.canonical.1 is in absurd (cc))))
 
 -- ---- what the tables were asked
 
@@ -21,23 +17,30 @@ cause_is c =
     sym (change_asked c.args.handle.now.tables c.open.result.now c.args.address c.args.pages c.containing_address.result
     (c.in-Ok.ensures.canonical.0 refl) c.open.ensures.tables (page_is c))
 
-pub returns-in-Ok-unmap_range-clause-told : goal.returns-in-Ok-unmap_range-clause-told
-returns-in-Ok-unmap_range-clause-told c =
-    ap (λ cause. fault_detail cause c.args.told.now) (c.in-Ok-unmap_range.ensures.fault
-    ∙ cause_is (goal.at.returns-in-Ok-unmap_range-clause-told c).After-unmap_range)
-
-pub returns-in-Err-clause-told : goal.returns-in-Err-clause-told
-returns-in-Err-clause-told c =
-    c.refuse.ensures.told ∙ ap (λ cause. fault_detail cause c.args.told.now)
-    (c.in-Err.ensures.fault ∙ cause_is (goal.at.returns-in-Err-clause-told c).After-unmap_range)
-
 pub returns-in-Ok-unmap_range-clause-unmapped : goal.returns-in-Ok-unmap_range-clause-unmapped
 returns-in-Ok-unmap_range-clause-unmapped c =
     λ _. rw (c.open.ensures.tables, page_is (goal.at.returns-in-Ok-unmap_range-clause-unmapped c).After-unmap_range) at c.in-Ok-unmap_range.ensures.unmapped
 
-pub returns-in-Ok-unmap_range-clause-only : goal.returns-in-Ok-unmap_range-clause-only
-returns-in-Ok-unmap_range-clause-only c = rw (
-  c.open.ensures.tables,
-  page_is
-      (goal.at.returns-in-Ok-unmap_range-clause-only c).After-unmap_range,
-) at c.in-Ok-unmap_range.ensures.only
+pub returns-in_default-clause-change : goal.returns-in_default-clause-change
+returns-in_default-clause-change c =
+    let off = change_off_half c.args.handle.now.tables c.args.address c.args.pages (λ is. let k = c.in_default.ensures.canonical.1 is in absurd (cc)) in
+    record { change = refused (ap range_code (sym off)) refl; detail = ap (λ cause. fault_detail cause c.args.told.now) (sym off) }
+
+pub returns-in-Ok-unmap_range-clause-change : goal.returns-in-Ok-unmap_range-clause-change
+returns-in-Ok-unmap_range-clause-change c =
+    let at = (goal.at.returns-in-Ok-unmap_range-clause-change c).After-unmap_range in
+    let change = c.in-Ok-unmap_range.ensures.change in
+    let cause = change.refused ∙ cause_is at in
+    record {
+      change = made (ap range_code cause) (rw (c.open.ensures.tables, page_is at) at change.only);
+      detail = ap (λ cause. fault_detail cause c.args.told.now) cause;
+    }
+
+pub returns-in-Err-clause-change : goal.returns-in-Err-clause-change
+returns-in-Err-clause-change c =
+    let change = c.in-Err.ensures.change in
+    let cause = change.refused ∙ cause_is (goal.at.returns-in-Err-clause-change c).After-unmap_range in
+    record {
+      change = refused (c.refuse.ensures.code ∙ ap range_code cause) (change.same ∙ c.open.ensures.tables);
+      detail = c.refuse.ensures.told ∙ ap (λ cause. fault_detail cause c.args.told.now) cause;
+    }

@@ -26,27 +26,30 @@ invariant_of-self c =
 pub invariant_of-self-in-Err : goal.invariant_of-self-in-Err
 invariant_of-self-in-Err c = unserved_marked c.calloc.new.self c.self.invariant c.args.size c.args.align c.in-Err.error c.in-Err.ensures.err
 
-pub returns-in-Err-clause-err : goal.returns-in-Err-clause-err
-returns-in-Err-clause-err c = subst (λ heap. IsRequestRefused regions_of word_of arena_follows arena_refuses arena_denies
-    heap c.args.size
-    c.args.align c.in-Err.error c.calloc.new.self) c.self.view_is c.in-Err.ensures.err
-
-pub returns-in-Ok-clause-ok : goal.returns-in-Ok-clause-ok
-returns-in-Ok-clause-ok c =
-    subst (λ heap. IsBlockGiven heap c.args.size c.args.align true c.in-Ok.address c.calloc.new.self) c.self.view_is
-    c.in-Ok.ensures.ok
-
-pub returns-in-Ok-clause-refused : goal.returns-in-Ok-clause-refused
-returns-in-Ok-clause-refused c =
+pub returns-in-Ok : goal.returns-in-Ok
+returns-in-Ok c =
     let out = c.in-Ok.ensures.ok in
     let cleared = out.served_cleared refl in
     let served = not_refused c.self.inside.heap cleared.middle c.args.size c.args.align c.in-Ok.address out.power
     out.handed.small cleared.served in
-    (λ none. absurd (cc), λ refused. absurd (served (subst (λ heap. IsRefused heap c.args.size c.args.align) (sym c.self.view_is) refused)))
+    record {
+      given = subst (λ heap. IsBlockGiven heap c.args.size c.args.align true c.in-Ok.address c.calloc.new.self) c.self.view_is
+          c.in-Ok.ensures.ok;
+      err = tt;
+      refused = (λ none. absurd (cc), λ refused. absurd (served (subst (λ heap. IsRefused heap c.args.size c.args.align) (sym c.self.view_is) refused)));
+      apart = c.in-Ok.ensures.apart;
+    }
 
-pub returns-in-Err-clause-refused : goal.returns-in-Err-clause-refused
-returns-in-Err-clause-refused c = (
-  λ _. subst (λ heap. IsRefused heap c.args.size c.args.align) c.self.view_is
-      (refused_for c.self.inside.heap c.calloc.new.self c.args.size c.args.align c.in-Err.error c.in-Err.ensures.err),
-  λ _. refl,
-)
+pub returns-in-Err : goal.returns-in-Err
+returns-in-Err c = record {
+  given = tt;
+  err = subst (λ heap. IsRequestRefused regions_of word_of arena_follows arena_refuses arena_denies
+      heap c.args.size
+      c.args.align c.in-Err.error c.calloc.new.self) c.self.view_is c.in-Err.ensures.err;
+  refused = (
+    λ _. subst (λ heap. IsRefused heap c.args.size c.args.align) c.self.view_is
+        (refused_for c.self.inside.heap c.calloc.new.self c.args.size c.args.align c.in-Err.error c.in-Err.ensures.err),
+    λ _. refl,
+  );
+  apart = c.in-Err.ensures.apart;
+}

@@ -12,9 +12,6 @@ use Rattle.heap_library.proofs.Room.{resize_refused_for, resize_not_refused}
 use Rattle.heap_library.specs.Room.{IsRefusedResize}
 use Rattle.heap_library.proofs.checked.CheckedHeap.realloc.Goals as goal
 
-pub returns-then-not-has_block-clause-apart : goal.returns-then-not-has_block-clause-apart
-returns-then-not-has_block-clause-apart c = subst (λ heap. BlocksAreApart (arena_heap_state heap)) c.self.view_is c.blocks_are_apart.ensures
-
 pub clear-requires-clause-place : goal.clear-requires-clause-place
 clear-requires-clause-place c =
     let block = subst (λ heap. HasBlock (arena_heap_state heap) c.args.from) (sym c.self.view_is) (c.has_block.ensures.0 c.if-not-has_block.false) in
@@ -67,43 +64,45 @@ invariant_of-self-in-Err c =
     unresized_marked c.realloc.new.self c.self.invariant c.args.from c.args.size (Refused c.in-Err.error)
     (block, c.in-Err.ensures.err.refused, λ few. c.in-Err.ensures.err.tried few (omega arith))
 
-pub returns-in-Err-clause-err : goal.returns-in-Err-clause-err
-returns-in-Err-clause-err c =
-    let block = subst (λ heap. HasBlock (arena_heap_state heap) c.args.from) (sym c.self.view_is) (c.has_block.ensures.0 c.if-not-has_block.false) in
-    subst (λ heap. IsResizeRefused regions_of word_of arena_follows arena_refuses arena_denies heap c.args.from c.args.size
-    (Refused c.in-Err.error) c.realloc.new.self) c.self.view_is
-    (block, c.in-Err.ensures.err.refused, λ few. c.in-Err.ensures.err.tried few (omega arith))
-
-pub returns-in-Ok-clause-ok : goal.returns-in-Ok-clause-ok
-returns-in-Ok-clause-ok c =
-    let block = c.has_block.ensures.0 c.if-not-has_block.false in
-    subst (λ heap. IsBlockResized heap c.args.from c.args.size c.in-Ok.to c.realloc.new.self) c.self.view_is
-    (record {
-      block = subst (λ heap. HasBlock (arena_heap_state heap) c.args.from) (sym c.self.view_is) block;
-      reallocated = c.in-Ok.ensures.ok;
-      enough = c.in-Ok.ensures.enough;
-    })
-
-pub returns-then-not-has_block-clause-refused : goal.returns-then-not-has_block-clause-refused
-returns-then-not-has_block-clause-refused c =
+pub returns-then-not-has_block : goal.returns-then-not-has_block
+returns-then-not-has_block c =
     let none = c.if-not-has_block.true in
-    (λ _. inl (λ block. let there = c.has_block.ensures.1 block in absurd (cc)), λ _. refl)
+    record {
+      resized = tt;
+      err = (λ block. let there = c.has_block.ensures.1 block in absurd (cc), refl);
+      refused = (λ _. inl (λ block. let there = c.has_block.ensures.1 block in absurd (cc)), λ _. refl);
+      apart = subst (λ heap. BlocksAreApart (arena_heap_state heap)) c.self.view_is c.blocks_are_apart.ensures;
+    }
 
-pub returns-in-Ok-clause-refused : goal.returns-in-Ok-clause-refused
-returns-in-Ok-clause-refused c =
+pub returns-in-Ok : goal.returns-in-Ok
+returns-in-Ok c =
     let heap = c.self.inside.heap in
-    let block = subst (λ heap. HasBlock (arena_heap_state heap) c.args.from) (sym c.self.view_is) (c.has_block.ensures.0 c.if-not-has_block.false) in
+    let block = c.has_block.ensures.0 c.if-not-has_block.false in
+    let before = subst (λ heap. HasBlock (arena_heap_state heap) c.args.from) (sym c.self.view_is) block in
     let served = resize_not_refused heap c.realloc.new.self c.args.from (usable (arena_heap_state heap) c.args.from)
     c.args.size
-    c.in-Ok.to block c.in-Ok.ensures.ok.given.small c.in-Ok.ensures.ok.resized in
-    (λ none. absurd (cc), λ refused. absurd (served (subst (λ heap. IsRefusedResize heap c.args.from c.args.size) (sym c.self.view_is) refused)))
+    c.in-Ok.to before c.in-Ok.ensures.ok.given.small c.in-Ok.ensures.ok.resized in
+    record {
+      resized = subst (λ heap. IsBlockResized heap c.args.from c.args.size c.in-Ok.to c.realloc.new.self) c.self.view_is
+          (record { block = before; reallocated = c.in-Ok.ensures.ok; enough = c.in-Ok.ensures.enough });
+      err = tt;
+      refused = (λ none. absurd (cc), λ refused. absurd (served (subst (λ heap. IsRefusedResize heap c.args.from c.args.size) (sym c.self.view_is) refused)));
+      apart = c.in-Ok.ensures.apart;
+    }
 
-pub returns-in-Err-clause-refused : goal.returns-in-Err-clause-refused
-returns-in-Err-clause-refused c = (
-  λ _.
-      let block = subst (λ heap. HasBlock (arena_heap_state heap) c.args.from) (sym c.self.view_is) (c.has_block.ensures.0 c.if-not-has_block.false) in
-      subst (λ heap. IsRefusedResize heap c.args.from c.args.size) c.self.view_is
-      (resize_refused_for c.self.inside.heap c.realloc.new.self c.args.from c.args.size (Refused c.in-Err.error)
-      (block, c.in-Err.ensures.err.refused, λ few. c.in-Err.ensures.err.tried few (omega arith))),
-  λ _. refl,
-)
+pub returns-in-Err : goal.returns-in-Err
+returns-in-Err c =
+    let block = subst (λ heap. HasBlock (arena_heap_state heap) c.args.from) (sym c.self.view_is) (c.has_block.ensures.0 c.if-not-has_block.false) in
+    let refused : IsResizeRefused regions_of word_of arena_follows arena_refuses arena_denies c.self.inside.heap c.args.from c.args.size
+    (Refused c.in-Err.error) c.realloc.new.self = (block, c.in-Err.ensures.err.refused, λ few. c.in-Err.ensures.err.tried few (omega arith)) in
+    record {
+      resized = tt;
+      err = subst (λ heap. IsResizeRefused regions_of word_of arena_follows arena_refuses arena_denies heap c.args.from c.args.size
+          (Refused c.in-Err.error) c.realloc.new.self) c.self.view_is refused;
+      refused = (
+        λ _. subst (λ heap. IsRefusedResize heap c.args.from c.args.size) c.self.view_is
+            (resize_refused_for c.self.inside.heap c.realloc.new.self c.args.from c.args.size (Refused c.in-Err.error) refused),
+        λ _. refl,
+      );
+      apart = c.in-Err.ensures.apart;
+    }

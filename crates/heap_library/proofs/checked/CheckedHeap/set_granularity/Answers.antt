@@ -1,8 +1,8 @@
+use Rattle.std.specs.Prelude.{if◌then◌else◌}
 use Rattle.std.proofs.Common.{ap, length, subst, sym}
 use Rattle.dlmalloc.specs.State.{extents_in}
-use Rattle.dlmalloc.specs.Order.{KeepsIndex}
-use Rattle.heap_arena.specs.Arena.{regions_of, word_of}
 use Rattle.heap_arena.specs.declared.arena.Arena.{Arena}
+use Rattle.heap_library.specs.Answers.{IsOnlySet}
 use Rattle.heap_library.specs.Checked.{arena_heap_state}
 use Rattle.heap_library.proofs.Marking.{kept_marked, same_blocks}
 use Rattle.heap_library.proofs.checked.CheckedHeap.set_granularity.Goals as goal
@@ -22,5 +22,6 @@ invariant_of-self c =
     (same_blocks (arena_heap_state c.set_granularity.new.self) (arena_heap_state c.self.inside.heap)
     (sym (ap extents_in state)))
 
-pub returns-clause-index : goal.returns-clause-index
-returns-clause-index c = subst (λ heap. KeepsIndex regions_of word_of heap c.set_granularity.new.self) c.self.view_is c.set_granularity.ensures.index
+pub returns-clause-set : goal.returns-clause-set
+returns-clause-set c = subst (λ heap. IsOnlySet (record (arena_heap_state heap) { granularity = if c.set_granularity.result then c.args.granularity else heap.granularity }) heap c.set_granularity.new.self) c.self.view_is
+    (record { state_is = c.set_granularity.ensures.state; system = c.set_granularity.ensures.system; index = c.set_granularity.ensures.index })

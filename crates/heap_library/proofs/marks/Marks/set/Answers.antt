@@ -1,18 +1,6 @@
-use Rattle.std.proofs.Common.{◌-◌, ◌/◌, ◌%◌, get_or, arith}
+use Rattle.std.proofs.Common.{◌-◌, ◌/◌, ◌%◌, get_or, refl, rules, arith}
 use Rattle.heap_library.proofs.MarkLemmas.{set_counted, bit_set, marked_here, marked_other}
 use Rattle.heap_library.proofs.marks.Marks.set.Goals as goal
-
-pub returns-clause-here : goal.returns-clause-here
-returns-clause-here c =
-    let words = c.args.self.now.words.now in
-    let n = (c.args.address - c.args.self.now.base) / 16 in
-    marked_here c.args.self.now.base words c.args.address _ 1 c.requires.place (bit_set (get_or words (n / 64) 0) (n % 64) (omega arith))
-
-pub returns-clause-others : goal.returns-clause-others
-returns-clause-others c = λ a differ.
-    let words = c.args.self.now.words.now in
-    let n = (c.args.address - c.args.self.now.base) / 16 in
-    marked_other c.args.self.now.base words c.args.address _ 1 a c.requires.place (bit_set (get_or words (n / 64) 0) (n % 64) (omega arith)) differ
 
 pub overflow_add-self : goal.overflow_add-self
 overflow_add-self c =
@@ -26,8 +14,9 @@ overflow_add-self c =
     let below = told.1 in
     omega (arith, is, more, below)
 
-pub returns-clause-counted : goal.returns-clause-counted
-returns-clause-counted c =
+pub returns : goal.returns
+returns c =
+    let words = c.args.self.now.words.now in
     let marks = c.args.self.now in
     let n = (c.args.address - marks.base) / 16 in
     let small = c.ranges.address.fits in
@@ -35,4 +24,10 @@ returns-clause-counted c =
     c.requires.place c.requires.unmarked (bit_set (get_or marks.words.now (n / 64) 0) (n % 64) (omega arith)) in
     let is = c.requires.counted in
     let more = told.0 in
-    omega (arith, is, more)
+    record {
+      here = marked_here c.args.self.now.base words c.args.address _ 1 c.requires.place (bit_set (get_or words (n / 64) 0) (n % 64) (omega arith));
+      others = λ a differ. marked_other c.args.self.now.base words c.args.address _ 1 a c.requires.place (bit_set (get_or words (n / 64) 0) (n % 64) (omega arith)) differ;
+      base = refl;
+      len = search rules;
+      counted = omega (arith, is, more);
+    }

@@ -2,7 +2,8 @@ use Rattle.std.proofs.Common.{◌≡◌, ◌+◌, ◌/◌, None, sym, ap, ◌∙
 use Rattle.paging_core.specs.Large.{slot_of}
 use Rattle.paging_core.specs.Walk.{large_of}
 use Rattle.std.specs.Prelude.{IsSome}
-use Rattle.kernel_tables.proofs.RangeTests.{is_there, is_nothing}
+use Rattle.kernel_tables.specs.Changes.{IsEntryCleared}
+use Rattle.kernel_tables.proofs.RangeTests.{is_there, if_there, is_nothing}
 use Rattle.kernel_tables.proofs.RangeChanged.{IsChangedTo, changed_start, still, page_changed, slot_changed, only_range, gone_all, gone_large, is_hole}
 use Rattle.kernel_tables.proofs.tables.Tables.clear_all.Goals as goal
 use Rattle.kernel_tables.proofs.tables.Tables.clear_all.Goals.{After-slot_at, After-loop-done}
@@ -31,12 +32,13 @@ pub loop-done-preserved-then-is_some : goal.loop-done-preserved-then-is_some
 loop-done-preserved-then-is_some c =
     let a = c.after-at.ensures in
     let alone = (c.clear_entry.ensures.some (is_there c.clear_entry.result (sym c.is_some.ensures ∙ c.if-is_some.true))).1 in
+    let cleared = if_there c.clear_entry.result (IsEntryCleared c.loop-done.self c.clear_entry.new.self c.after-at.result) (sym c.is_some.ensures ∙ c.if-is_some.true) c.clear_entry.ensures.cleared in
+    let entry = cleared.1 in
     page_changed c.args.self.now c.loop-done.self c.args.page c.args.pages c.loop-done.done (λ was. None) c.requires.range
     c.loop-done.invariant c.loop-done-test.true
-    c.clear_entry.new.self c.clear_entry.ensures.free
+    c.clear_entry.new.self entry.free
     (λ some. is_hole (large_of c.loop-done.self.words c.loop-done.self.root (slot_of ((c.args.page + c.loop-done.done) / 512))) (rw a at alone) some)
-    (rw a at c.clear_entry.ensures.only) (λ was is. rw a at (c.clear_entry.ensures.unmapped
-    (is_there c.clear_entry.result (sym c.is_some.ensures ∙ c.if-is_some.true)))) c.clear_entry.ensures.larges
+    (rw a at entry.only) (λ was is. rw a at entry.unmapped) entry.larges
 
 pub loop-done-preserved : goal.loop-done-preserved
 loop-done-preserved c =

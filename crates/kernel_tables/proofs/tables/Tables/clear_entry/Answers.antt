@@ -10,7 +10,7 @@ use Rattle.kernel_tables.specs.TableState.{TableState, leads}
 use Rattle.kernel_tables.proofs.Sound.{removed_outside}
 use Rattle.kernel_tables.proofs.RangeChanged.{large_there}
 use Rattle.kernel_tables.proofs.Ends.{entry_alone}
-use Rattle.kernel_tables.proofs.Changed.{only_seen, other_page}
+use Rattle.kernel_tables.proofs.EntryChanges.{entry_cleared}
 use Rattle.kernel_tables.proofs.tables.Tables.clear_entry.Goals as goal
 
 pub invariant_of-self : goal.invariant_of-self
@@ -39,21 +39,12 @@ returns-in-Entry-default-Some-clause-some c = λ _.
           c.args.page c.in-Entry-default-Some.entry.table c.in-Entry-default-Some.entry.index c.in-Entry-default-Some.ensures.end.0,
     )
 
-pub returns-in-Entry-default-Some-clause-larges : goal.returns-in-Entry-default-Some-clause-larges
-returns-in-Entry-default-Some-clause-larges c = λ n.
-    let all = (c.clear_at.ensures.cleared.gone c.self.inside.free c.self.invariant.tree).pages in
-    all.larges n ∙ ap (λ (s : TableState). large_of s.words s.root n) c.self.view_is
-
-pub returns-in-Entry-default-Some-clause-unmapped : goal.returns-in-Entry-default-Some-clause-unmapped
-returns-in-Entry-default-Some-clause-unmapped c = λ _. (c.clear_at.ensures.cleared.gone c.self.inside.free c.self.invariant.tree).unmapped
-
 pub returns-in-Large-clause-none : goal.returns-in-Large-clause-none
 returns-in-Large-clause-none c = λ _ some.
     subst (λ (s : TableState). IsSome (large_of s.words s.root (slot_of (c.args.page / 512)))) c.self.view_is
     (large_there c.self.inside.memory.words c.self.inside.root c.args.page (rw c.in-Large.ensures.end.1 refl) c.in-Large.ensures.end.0)
 
-pub returns-in-Entry-default-Some-clause-only : goal.returns-in-Entry-default-Some-clause-only
-returns-in-Entry-default-Some-clause-only c =
-    let all = (c.clear_at.ensures.cleared.gone c.self.inside.free c.self.invariant.tree).pages in
-    only_seen c.self.view_is c.clear_at.ensures.cleared.same_area all.size (λ l n met lt is. all.stayed l n (omega (arith, lt)) (λ e. absurd (omega (arith, lt, e))) ∙ is)
-    (λ other canonical not. (c.clear_at.ensures.cleared.gone c.self.inside.free c.self.invariant.tree).elsewhere other canonical (other_page c.args.page other not))
+pub returns-in-Entry-default-Some-clause-cleared : goal.returns-in-Entry-default-Some-clause-cleared
+returns-in-Entry-default-Some-clause-cleared c =
+    entry_cleared c.self.view_is c.clear_at.ensures.cleared.same_area (c.clear_at.ensures.cleared.gone c.self.inside.free c.self.invariant.tree) c.clear_at.ensures.cleared.removed
+    (rw (sym c.in-Entry-default-Some.ensures.end.1 ∙ ap (option_map mapped_place) c.in-Entry-default-Some.page-is) refl)

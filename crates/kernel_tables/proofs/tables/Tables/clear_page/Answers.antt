@@ -1,11 +1,9 @@
 use Rattle.std.proofs.Common.{ap, ◌∙◌, arith}
 use Rattle.paging_core.specs.Area.{in_area}
 use Rattle.paging_core.specs.Memory.{frame_count}
-use Rattle.paging_core.specs.Walk.{large_of}
 use Rattle.paging_core.proofs.Areas.{free_stays, known_moved}
-use Rattle.kernel_tables.specs.TableState.{TableState}
 use Rattle.kernel_tables.proofs.Sound.{removed_outside}
-use Rattle.kernel_tables.proofs.Changed.{only_seen, other_page}
+use Rattle.kernel_tables.proofs.EntryChanges.{entry_cleared}
 use Rattle.kernel_tables.proofs.tables.Tables.clear_page.Goals as goal
 
 pub invariant_of-self : goal.invariant_of-self
@@ -26,16 +24,6 @@ invariant_of-self c =
           c.self.inside.root c.args.page all c.self.invariant.apart page place is;
     }
 
-pub returns-clause-larges : goal.returns-clause-larges
-returns-clause-larges c = λ n.
-    let all = (c.unmap_page.ensures.cleared.gone c.self.inside.free c.self.invariant.tree).pages in
-    all.larges n ∙ ap (λ (s : TableState). large_of s.words s.root n) c.self.view_is
-
-pub returns-clause-unmapped : goal.returns-clause-unmapped
-returns-clause-unmapped c = (c.unmap_page.ensures.cleared.gone c.self.inside.free c.self.invariant.tree).unmapped
-
-pub returns-clause-only : goal.returns-clause-only
-returns-clause-only c =
-    let all = (c.unmap_page.ensures.cleared.gone c.self.inside.free c.self.invariant.tree).pages in
-    only_seen c.self.view_is c.unmap_page.ensures.cleared.same_area all.size (λ l n met lt is. all.stayed l n (omega (arith, lt)) (λ e. absurd (omega (arith, lt, e))) ∙ is)
-    (λ other canonical not. (c.unmap_page.ensures.cleared.gone c.self.inside.free c.self.invariant.tree).elsewhere other canonical (other_page c.args.page other not))
+pub returns : goal.returns
+returns c = entry_cleared c.self.view_is c.unmap_page.ensures.cleared.same_area (c.unmap_page.ensures.cleared.gone c.self.inside.free c.self.invariant.tree)
+    c.unmap_page.ensures.cleared.removed c.unmap_page.ensures.frame

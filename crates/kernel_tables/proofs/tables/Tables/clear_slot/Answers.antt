@@ -1,11 +1,9 @@
 use Rattle.std.proofs.Common.{ap, ◌∙◌, arith}
 use Rattle.paging_core.specs.Area.{in_area}
 use Rattle.paging_core.specs.Memory.{frame_count}
-use Rattle.paging_core.specs.Walk.{large_of}
 use Rattle.paging_core.proofs.Areas.{free_stays, known_moved}
-use Rattle.kernel_tables.specs.TableState.{TableState}
 use Rattle.kernel_tables.proofs.LargePages.{gone_outside}
-use Rattle.kernel_tables.proofs.Changed.{only_seen, other_slot}
+use Rattle.kernel_tables.proofs.EntryChanges.{slot_cleared}
 use Rattle.kernel_tables.proofs.tables.Tables.clear_slot.Goals as goal
 
 pub invariant_of-self : goal.invariant_of-self
@@ -26,20 +24,5 @@ invariant_of-self c =
           c.self.inside.root c.args.slot all c.self.invariant.apart page place is;
     }
 
-pub returns-clause-larges : goal.returns-clause-larges
-returns-clause-larges c = λ n ne.
-    let all = (c.unmap_large.ensures.cleared.gone c.self.inside.free c.self.invariant.tree).removed in
-    all.larges n ne ∙ ap (λ (s : TableState). large_of s.words s.root n) c.self.view_is
-
-pub returns-clause-gone : goal.returns-clause-gone
-returns-clause-gone c = let all = (c.unmap_large.ensures.cleared.gone c.self.inside.free c.self.invariant.tree).removed in all.no_large
-
-pub returns-clause-unmapped : goal.returns-clause-unmapped
-returns-clause-unmapped c = λ k lt. let all = (c.unmap_large.ensures.cleared.gone c.self.inside.free c.self.invariant.tree).removed in all.gone k lt
-
-pub returns-clause-only : goal.returns-clause-only
-returns-clause-only c =
-    let all = (c.unmap_large.ensures.cleared.gone c.self.inside.free c.self.invariant.tree).removed in
-    only_seen c.self.view_is c.unmap_large.ensures.cleared.same_area all.size (λ l n met lt is.
-    all.others l n (omega (arith, lt)) (λ e _. absurd (omega (arith, lt, e))) ∙ is)
-    (λ other canonical not. (c.unmap_large.ensures.cleared.gone c.self.inside.free c.self.invariant.tree).elsewhere other canonical (other_slot c.args.slot other not))
+pub returns : goal.returns
+returns c = slot_cleared c.self.view_is c.unmap_large.ensures.cleared.same_area (c.unmap_large.ensures.cleared.gone c.self.inside.free c.self.invariant.tree)

@@ -26,13 +26,14 @@ pub loop-done-preserved-then-grant_entry : goal.loop-done-preserved-then-grant_e
 loop-done-preserved-then-grant_entry c =
     let a = c.after-at.ensures in
     let alone = (c.grant_entry.ensures.some c.if-grant_entry.true).1 in
+    let entry = c.grant_entry.ensures.granted c.if-grant_entry.true in
     page_changed c.args.self.now c.loop-done.self c.args.page c.args.pages c.loop-done.done
     (λ was. Some (place_with was.frame c.args.rights)) c.requires.range c.loop-done.invariant c.loop-done-test.true
-    c.grant_entry.new.self c.grant_entry.ensures.free
+    c.grant_entry.new.self entry.free
     (λ some. is_hole (large_of c.loop-done.self.words c.loop-done.self.root (slot_of ((c.args.page + c.loop-done.done) / 512))) (rw a at alone) some)
-    (rw a at c.grant_entry.ensures.only) (λ was is. rw a at (told (leads c.loop-done.self c.after-at.result)
+    (rw a at entry.only) (λ was is. rw a at (told (leads c.loop-done.self c.after-at.result)
     (λ was. leads c.grant_entry.new.self c.after-at.result ≡ Some (place_with was.frame c.args.rights))
-    was (c.grant_entry.ensures.granted c.if-grant_entry.true) (rw a is))) c.grant_entry.ensures.larges
+    was entry.granted (rw a is))) entry.larges
 
 pub loop-done-preserved : goal.loop-done-preserved
 loop-done-preserved c =

@@ -1,16 +1,16 @@
-use Rattle.std.proofs.Common.{◌≡◌, ◌/◌, ◌∙◌, Some, None, refl, sym, ap, subst, arith}
-use Rattle.std.specs.Prelude.{IsSome, IfSome}
+use Rattle.std.proofs.Common.{◌≡◌, ◌/◌, ◌∙◌, None, refl, sym, ap, subst, arith}
+use Rattle.std.specs.Prelude.{IsSome}
 use Rattle.std.specs.Option.{option_map}
 use Rattle.paging_core.specs.Area.{in_area}
 use Rattle.paging_core.specs.Large.{slot_of}
 use Rattle.paging_core.specs.Memory.{frame_count}
-use Rattle.paging_core.specs.Walk.{mapped_place, large_of, walk_of, place_with}
+use Rattle.paging_core.specs.Walk.{mapped_place, large_of}
 use Rattle.paging_core.proofs.Areas.{free_stays, known_moved}
 use Rattle.kernel_tables.specs.TableState.{TableState, leads}
 use Rattle.kernel_tables.proofs.Sound.{regranted_outside}
 use Rattle.kernel_tables.proofs.RangeChanged.{large_there}
 use Rattle.kernel_tables.proofs.Ends.{entry_alone}
-use Rattle.kernel_tables.proofs.Changed.{only_seen, other_page}
+use Rattle.kernel_tables.proofs.EntryChanges.{entry_granted}
 use Rattle.kernel_tables.proofs.tables.Tables.grant_entry.Goals as goal
 
 pub invariant_of-self : goal.invariant_of-self
@@ -39,25 +39,11 @@ returns-in-Entry-default-Some-clause-some c = λ _.
           c.args.page c.in-Entry-default-Some.entry.table c.in-Entry-default-Some.entry.index c.in-Entry-default-Some.ensures.end.0,
     )
 
-pub returns-in-Entry-default-Some-clause-larges : goal.returns-in-Entry-default-Some-clause-larges
-returns-in-Entry-default-Some-clause-larges c = λ n.
-    let all = (c.protect_at.ensures.granted.granted c.self.inside.free c.self.invariant.tree).pages in
-    all.larges n ∙ ap (λ (s : TableState). large_of s.words s.root n) c.self.view_is
-
-pub returns-in-Entry-default-Some-clause-granted : goal.returns-in-Entry-default-Some-clause-granted
-returns-in-Entry-default-Some-clause-granted c = λ _.
-    subst (λ (s : TableState). IfSome (leads s c.args.page) (λ place. walk_of c.protect_at.new.frames.words
-    c.self.inside.root c.args.page ≡ Some (place_with place.frame c.args.rights)))
-    c.self.view_is ((c.protect_at.ensures.granted.granted c.self.inside.free c.self.invariant.tree).granted)
-
 pub returns-in-Large-clause-none : goal.returns-in-Large-clause-none
 returns-in-Large-clause-none c = λ _ some.
     subst (λ (s : TableState). IsSome (large_of s.words s.root (slot_of (c.args.page / 512)))) c.self.view_is
     (large_there c.self.inside.memory.words c.self.inside.root c.args.page (rw c.in-Large.ensures.end.1 refl) c.in-Large.ensures.end.0)
 
-pub returns-in-Entry-default-Some-clause-only : goal.returns-in-Entry-default-Some-clause-only
-returns-in-Entry-default-Some-clause-only c =
-    let all = (c.protect_at.ensures.granted.granted c.self.inside.free c.self.invariant.tree).pages in
-    only_seen c.self.view_is c.protect_at.ensures.granted.same_area all.size (λ l n met lt is. all.stayed l n (omega (arith, lt)) (λ e. absurd (omega (arith, lt, e))) ∙ is)
-    (λ other canonical not. (c.protect_at.ensures.granted.granted c.self.inside.free c.self.invariant.tree).elsewhere other
-    canonical (other_page c.args.page other not))
+pub returns-in-Entry-default-Some-clause-granted : goal.returns-in-Entry-default-Some-clause-granted
+returns-in-Entry-default-Some-clause-granted c = λ _.
+    entry_granted c.self.view_is c.protect_at.ensures.granted.same_area (c.protect_at.ensures.granted.granted c.self.inside.free c.self.invariant.tree) c.protect_at.ensures.granted.changed

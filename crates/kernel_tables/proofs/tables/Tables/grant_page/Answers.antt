@@ -1,12 +1,9 @@
-use Rattle.std.proofs.Common.{◌≡◌, Some, ap, subst, ◌∙◌, arith}
-use Rattle.std.specs.Prelude.{IfSome}
+use Rattle.std.proofs.Common.{ap, ◌∙◌, arith}
 use Rattle.paging_core.specs.Area.{in_area}
 use Rattle.paging_core.specs.Memory.{frame_count}
-use Rattle.paging_core.specs.Walk.{large_of, walk_of, place_with}
 use Rattle.paging_core.proofs.Areas.{free_stays, known_moved}
-use Rattle.kernel_tables.specs.TableState.{TableState, leads}
 use Rattle.kernel_tables.proofs.Sound.{regranted_outside}
-use Rattle.kernel_tables.proofs.Changed.{only_seen, other_page}
+use Rattle.kernel_tables.proofs.EntryChanges.{entry_granted}
 use Rattle.kernel_tables.proofs.tables.Tables.grant_page.Goals as goal
 
 pub invariant_of-self : goal.invariant_of-self
@@ -27,21 +24,6 @@ invariant_of-self c =
           c.self.inside.root c.args.page c.args.rights all c.self.invariant.apart page place is;
     }
 
-pub returns-clause-larges : goal.returns-clause-larges
-returns-clause-larges c = λ n.
-    let all = (c.protect_page.ensures.granted.granted c.self.inside.free c.self.invariant.tree).pages in
-    all.larges n ∙ ap (λ (s : TableState). large_of s.words s.root n) c.self.view_is
-
-pub returns-clause-granted : goal.returns-clause-granted
-returns-clause-granted c =
-    subst (λ (s : TableState). IfSome (leads s c.args.page) (λ place. walk_of c.protect_page.new.frames.words
-    c.self.inside.root c.args.page ≡ Some (place_with place.frame c.args.rights)))
-    c.self.view_is ((c.protect_page.ensures.granted.granted c.self.inside.free c.self.invariant.tree).granted)
-
-pub returns-clause-only : goal.returns-clause-only
-returns-clause-only c =
-    let all = (c.protect_page.ensures.granted.granted c.self.inside.free c.self.invariant.tree).pages in
-    only_seen c.self.view_is c.protect_page.ensures.granted.same_area all.size (λ l n met lt is.
-    all.stayed l n (omega (arith, lt)) (λ e. absurd (omega (arith, lt, e))) ∙ is)
-    (λ other canonical not. (c.protect_page.ensures.granted.granted c.self.inside.free c.self.invariant.tree).elsewhere other
-    canonical (other_page c.args.page other not))
+pub returns : goal.returns
+returns c = entry_granted c.self.view_is c.protect_page.ensures.granted.same_area (c.protect_page.ensures.granted.granted c.self.inside.free c.self.invariant.tree)
+    c.protect_page.ensures.granted.changed

@@ -2,7 +2,7 @@ use Rattle.std.proofs.Common.{rules, ◌*◌, ◌∙◌, ap, sym, subst, arith}
 use Rattle.paging_core.specs.Area.{in_area}
 use Rattle.kernel_tables.specs.Changes.{IsLargeMapped}
 use Rattle.kernel_tables.specs.TableState.{TableState, leads}
-use Rattle.kernel_tables.proofs.Changed.{only_seen, other_slot}
+use Rattle.kernel_tables.proofs.Changed.{only_seen, other_slot, made}
 use Rattle.kernel_tables.proofs.Flushed.{stays_mapped}
 use Rattle.kernel_tables.proofs.LargePages.{HasNoFault, no_large_fault, slot_empty, row_unmet, large_outside}
 use Rattle.kernel_tables.proofs.tables.Tables.map_large.Goals as goal
@@ -34,18 +34,6 @@ invariant_of-self c =
           added f.outside c.self.invariant.apart page place is;
     }
 
-pub returns-in-None-clause-flush : goal.returns-in-None-clause-flush
-returns-in-None-clause-flush c = λ other place canonical not is.
-    stays_mapped c.self.inside.memory.words c.map_large.new.frames.words c.self.inside.free c.map_large.new.pool
-    c.self.inside.root c.args.page c.args.frame c.args.rights
-    c.map_large.ensures.put.added other place (ap (λ (s : TableState). leads s other) c.self.view_is ∙ is)
-
-pub returns-in-None-clause-only : goal.returns-in-None-clause-only
-returns-in-None-clause-only c =
-    let added = c.map_large.ensures.put.added in
-    only_seen c.self.view_is c.map_large.ensures.put.same_area added.size (λ l n met lt is. added.stayed l n met (omega (arith, lt)) is)
-    (λ other canonical not. c.map_large.ensures.put.others.elsewhere other canonical (other_slot c.args.page other not))
-
 pub returns-in-None-clause-mapped : goal.returns-in-None-clause-mapped
 returns-in-None-clause-mapped c =
     let added = c.map_large.ensures.put.added in
@@ -58,3 +46,13 @@ returns-in-None-clause-mapped c =
     }) c.args.page c.args.frame
     c.args.rights)
     c.self.view_is (record { mapped = added.there; added = added })
+
+pub returns-in-None-clause-change : goal.returns-in-None-clause-change
+returns-in-None-clause-change c =
+    let added = c.map_large.ensures.put.added in
+    made c.in-None.ensures (only_seen c.self.view_is c.map_large.ensures.put.same_area added.size (λ l n met lt is. added.stayed l n met (omega (arith, lt)) is)
+    (λ other canonical not. c.map_large.ensures.others.elsewhere other canonical (other_slot c.args.page other not)))
+    (λ other place canonical not is.
+    stays_mapped c.self.inside.memory.words c.map_large.new.frames.words c.self.inside.free c.map_large.new.pool
+    c.self.inside.root c.args.page c.args.frame c.args.rights
+    c.map_large.ensures.put.added other place (ap (λ (s : TableState). leads s other) c.self.view_is ∙ is))

@@ -20,19 +20,16 @@ unreachable-requires c =
     start_some c.new-free.result c.args.first (c.args.first + length c.args.words.now / 512) c.new-free.ensures
     (omega (arith, k.0, k.1)) c.in_default.ensures.frame.taken.1
 
-pub returns-clause-limit : goal.returns-clause-limit
-returns-clause-limit c =
+pub returns-clause-begun : goal.returns-clause-begun
+returns-clause-begun c =
     let k = c.in_ok-memory.ensures.some.0 refl in
     let n = count_padded c.args.words.now c.args.first c.args.limit (omega (arith, k.0, k.2)) in
-    ap (λ n. n / 512) (c.in-Some.ensures.made.size ∙ ap (λ (m : AreaWords). length m.words) c.in_ok-memory.ensures.value) ∙ n
-
-pub returns-clause-root : goal.returns-clause-root
-returns-clause-root c =
-    let k = c.in_ok-memory.ensures.some.0 refl in
-    start_root c.new-free.result c.args.first (c.args.first + length c.args.words.now / 512) c.in-Some.root c.new-free.ensures (omega (arith, k.0, k.1))
-    c.in-Some.ensures.frame.taken.0 c.in-Some.ensures.frame.lowest
-
-pub returns-clause-free : goal.returns-clause-free
-returns-clause-free c =
-    c.in-Some.ensures.frame.count ∙ (ap free_count c.new-free.ensures ∙ ahead_left (length c.args.words.now / 512) c.args.first
-    (c.args.first + length c.args.words.now / 512) refl)
+    record {
+      empty = c.in-Some.ensures.made.unmapped;
+      root = start_root c.new-free.result c.args.first (c.args.first + length c.args.words.now / 512) c.in-Some.root c.new-free.ensures
+          (omega (arith, k.0, k.1)) c.in-Some.ensures.frame.taken.0 c.in-Some.ensures.frame.lowest;
+      area = c.in-Some.ensures.area ∙ ap (λ (m : AreaWords). m.area) c.in_ok-memory.ensures.value;
+      left = c.in-Some.ensures.frame.count ∙ (ap free_count c.new-free.ensures ∙ ahead_left (length c.args.words.now / 512) c.args.first
+          (c.args.first + length c.args.words.now / 512) refl);
+      limit_is = ap (λ n. n / 512) (c.in-Some.ensures.made.size ∙ ap (λ (m : AreaWords). length m.words) c.in_ok-memory.ensures.value) ∙ n;
+    }

@@ -1,22 +1,13 @@
 use Rattle.std.proofs.Common.{◌/◌, sym, ap, ◌∙◌, arith}
 use Rattle.paging_core.specs.Large.{slot_of}
 use Rattle.paging_core.specs.Pool.{free_count}
-use Rattle.kernel_tables.proofs.Changed.{none_only, flush_of}
+use Rattle.kernel_tables.proofs.Changed.{none_only, made_flushed}
 use Rattle.kernel_tables.proofs.RangeChanged.{entry_ok}
 use Rattle.kernel_tables.proofs.SlotChanges.{page_not_large, table_small}
 use Rattle.kernel_tables.proofs.tables.Tables.protect_any.Goals as goal
 
 pub own_entry-requires : goal.own_entry-requires
 own_entry-requires c = sym c.in-None.ensures
-
-pub grant_page-requires-clause-mapped : goal.grant_page-requires-clause-mapped
-grant_page-requires-clause-mapped c = rw (c.own_entry.ensures.none.walks c.args.page) (entry_ok c.args.self.now c.args.page (sym c.in-None.ensures)).mapped
-
-pub returns-in-None-clause-only : goal.returns-in-None-clause-only
-returns-in-None-clause-only c = none_only c.own_entry.ensures.none c.grant_page.ensures.only
-
-pub returns-in-None-clause-flush : goal.returns-in-None-clause-flush
-returns-in-None-clause-flush c = flush_of (none_only c.own_entry.ensures.none c.grant_page.ensures.only)
 
 pub returns-in-None-clause-granted : goal.returns-in-None-clause-granted
 returns-in-None-clause-granted c =
@@ -32,3 +23,12 @@ returns-in-None-clause-granted c =
           ∙ table_small c.own_entry.new.self.words c.own_entry.new.self.root c.args.page c.own_entry.ensures.small)
           (λ n ne. c.grant_page.ensures.larges n ∙ c.own_entry.ensures.larges n ne);
     }
+
+pub grant_page-requires : goal.grant_page-requires
+grant_page-requires c = record {
+  mapped = rw (c.own_entry.ensures.none.walks c.args.page) (entry_ok c.args.self.now c.args.page (sym c.in-None.ensures)).mapped;
+  small = c.own_entry.ensures.small;
+}
+
+pub returns-in-None-clause-change : goal.returns-in-None-clause-change
+returns-in-None-clause-change c = made_flushed c.in-None.ensures (none_only c.own_entry.ensures.none c.grant_page.ensures.only)

@@ -1,6 +1,6 @@
 use Rattle.std.proofs.Common.{◌+◌, sym, ap, arith}
 use Rattle.paging_core.specs.Pool.{free_count}
-use Rattle.kernel_tables.proofs.Changed.{none_only, flush_of}
+use Rattle.kernel_tables.proofs.Changed.{none_only, made_flushed}
 use Rattle.kernel_tables.proofs.RangeChanged.{HasNoChangeFault, no_change_fault, none_granted}
 use Rattle.kernel_tables.proofs.SlotChanges.{granted_then}
 use Rattle.kernel_tables.proofs.tables.Tables.protect_range.Goals as goal
@@ -16,19 +16,6 @@ split_ends-requires-clause-range c = (open_range (goal.at.split_ends-requires-cl
 pub split_ends-requires-clause-room : goal.split_ends-requires-clause-room
 split_ends-requires-clause-room c = (open_range (goal.at.split_ends-requires-clause-room c).In-None).room
 
-pub grant_all-requires-clause-range : goal.grant_all-requires-clause-range
-grant_all-requires-clause-range c = (open_range (goal.at.grant_all-requires-clause-range c).In-None).range
-
-pub grant_all-requires-clause-mapped : goal.grant_all-requires-clause-mapped
-grant_all-requires-clause-mapped c = λ k lk. rw (c.split_ends.ensures.none.walks (c.args.page + k))
-    ((open_range (goal.at.grant_all-requires-clause-mapped c).In-None).mapped k lk)
-
-pub returns-in-None-clause-only : goal.returns-in-None-clause-only
-returns-in-None-clause-only c = none_only c.split_ends.ensures.none c.grant_all.ensures.only
-
-pub returns-in-None-clause-flush : goal.returns-in-None-clause-flush
-returns-in-None-clause-flush c = flush_of (none_only c.split_ends.ensures.none c.grant_all.ensures.only)
-
 pub returns-in-None-clause-granted : goal.returns-in-None-clause-granted
 returns-in-None-clause-granted c =
     let f = c.split_ends.ensures.free in
@@ -42,3 +29,16 @@ returns-in-None-clause-granted c =
 
 pub returns-then-pages-eq0-clause-granted : goal.returns-then-pages-eq0-clause-granted
 returns-then-pages-eq0-clause-granted c = rw c.if-pages-eq0.true (none_granted c.args.self.now c.args.page c.args.rights)
+
+pub grant_all-requires : goal.grant_all-requires
+grant_all-requires c =
+    let fits = open_range (goal.at.grant_all-requires c).In-None in
+    record {
+      range = fits.range;
+      mapped = λ k lk. rw (c.split_ends.ensures.none.walks (c.args.page + k))
+          (fits.mapped k lk);
+      within = c.split_ends.ensures.within;
+    }
+
+pub returns-in-None-clause-change : goal.returns-in-None-clause-change
+returns-in-None-clause-change c = made_flushed c.in-None.ensures.fault (none_only c.split_ends.ensures.none c.grant_all.ensures.only)

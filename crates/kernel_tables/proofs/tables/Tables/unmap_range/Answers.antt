@@ -1,7 +1,7 @@
 use Rattle.std.proofs.Common.{◌+◌, sym, ap, arith}
 use Rattle.paging_core.specs.Pool.{free_count}
 use Rattle.kernel_tables.specs.Ranges.{has_page_of, is_cut}
-use Rattle.kernel_tables.proofs.Changed.{none_only, flush_of}
+use Rattle.kernel_tables.proofs.Changed.{none_only, made_flushed}
 use Rattle.kernel_tables.proofs.RangeChanged.{HasNoChangeFault, no_change_fault, none_unmapped}
 use Rattle.kernel_tables.proofs.SlotChanges.{not_large_then, cut_or_has}
 use Rattle.kernel_tables.proofs.tables.Tables.unmap_range.Goals as goal
@@ -17,19 +17,6 @@ split_ends-requires-clause-range c = (open_range (goal.at.split_ends-requires-cl
 pub split_ends-requires-clause-room : goal.split_ends-requires-clause-room
 split_ends-requires-clause-room c = (open_range (goal.at.split_ends-requires-clause-room c).In-None).room
 
-pub clear_all-requires-clause-range : goal.clear_all-requires-clause-range
-clear_all-requires-clause-range c = (open_range (goal.at.clear_all-requires-clause-range c).In-None).range
-
-pub clear_all-requires-clause-mapped : goal.clear_all-requires-clause-mapped
-clear_all-requires-clause-mapped c = λ k lk. rw (c.split_ends.ensures.none.walks (c.args.page + k))
-    ((open_range (goal.at.clear_all-requires-clause-mapped c).In-None).mapped k lk)
-
-pub returns-in-None-clause-only : goal.returns-in-None-clause-only
-returns-in-None-clause-only c = none_only c.split_ends.ensures.none c.clear_all.ensures.only
-
-pub returns-in-None-clause-flush : goal.returns-in-None-clause-flush
-returns-in-None-clause-flush c = flush_of (none_only c.split_ends.ensures.none c.clear_all.ensures.only)
-
 pub returns-in-None-clause-unmapped : goal.returns-in-None-clause-unmapped
 returns-in-None-clause-unmapped c =
     let f = c.split_ends.ensures.free in
@@ -44,3 +31,16 @@ returns-in-None-clause-unmapped c =
 
 pub returns-then-pages-eq0-clause-unmapped : goal.returns-then-pages-eq0-clause-unmapped
 returns-then-pages-eq0-clause-unmapped c = rw c.if-pages-eq0.true (none_unmapped c.args.self.now c.args.page)
+
+pub clear_all-requires : goal.clear_all-requires
+clear_all-requires c =
+    let fits = open_range (goal.at.clear_all-requires c).In-None in
+    record {
+      range = fits.range;
+      mapped = λ k lk. rw (c.split_ends.ensures.none.walks (c.args.page + k))
+          (fits.mapped k lk);
+      within = c.split_ends.ensures.within;
+    }
+
+pub returns-in-None-clause-change : goal.returns-in-None-clause-change
+returns-in-None-clause-change c = made_flushed c.in-None.ensures.fault (none_only c.split_ends.ensures.none c.clear_all.ensures.only)

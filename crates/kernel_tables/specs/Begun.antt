@@ -1,4 +1,4 @@
--- Page tables as C begins them (own).
+-- How page tables begin.
 use Rattle.std.specs.Prelude.{◌≡◌, ℕ, ◌+◌, ◌/◌, ◌%◌, ◌^◌, ◌<◌, ◌≤◌, None}
 use Rattle.paging_core.specs.Area.{Part}
 use Rattle.paging_core.specs.Pool.{free_count}
