@@ -14,7 +14,7 @@ use Rattle.paging_core.specs.declared.page_table.Rights.{Rights}
 use Rattle.meminterval.specs.declared.interval.Interval.{Interval}
 use Rattle.address_space.specs.Runs.{rights_in, is_among}
 use Rattle.address_space.specs.Joining.{IsRunAdded}
-use Rattle.address_space.specs.PageMap.{IsMap, mapped}
+use Rattle.address_space.specs.PageMap.{IsMap, mapped, AreNoneMapped}
 use Rattle.address_space.specs.Space.{Tables, AreTablesKept, page_map_of, rights_of_place}
 
 -- ---- ranges
@@ -28,6 +28,18 @@ canonical_in first pages page range h k =
     let same : page / 2 ^ 35 ≡ first / 2 ^ 35 = omega (arith, one, h, k) in
     let halves : page * 4096 / 2 ^ 47 ≡ first * 4096 / 2 ^ 47 = half_of page ∙ (same ∙ sym (half_of first)) in
     ap (λ (n : ℕ). n == 0 || n == 2 ^ 17 - 1) halves ∙ range.canonical
+
+no_place : (o : Option Place) → option_map rights_of_place o ≡ None → o ≡ None
+no_place None h = refl
+no_place (Some place) h = absurd (cc)
+
+-- the walk finds no page of a range of which none is mapped
+pub clear_walks :
+    (t : Tables) (first pages : ℕ) → AreTablesKept t → IsCanonicalRange first pages → AreNoneMapped (page_map_of t) first pages →
+    (k : ℕ) → k < pages → walk_of t.words t.root (first + k) ≡ None
+clear_walks t first pages kept range clear k less = no_place (walk_of t.words t.root (first + k))
+    (kept.found (first + k) (canonical_in first pages (first + k) range (omega arith) (omega (arith, less)))
+    ∙ clear (first + k) (omega arith) (omega (arith, less)))
 
 pub among_from : (first pages page : ℕ) → is_among first pages page ≡ true → first ≤ page
 among_from first pages page h = grind (arith, nat_tests, h)

@@ -2,7 +2,8 @@
 use Rattle.std.specs.Prelude.{◌≡◌, ℕ, ◌+◌, ◌-◌, ◌*◌, ◌/◌, ◌^◌, ◌<◌, ◌≤◌, ◌%◌, ◌&&◌, ◌||◌, nat_le, nat_lt, not, Bool, true, false, IsTrue, is_some, if◌then◌else◌, List, length, slice_index, Option, Some, None, Result, Ok, Err}
 use Rattle.paging_core.specs.Address.{is_canonical}
 use Rattle.paging_core.specs.Memory.{word_at, byte_of}
-use Rattle.paging_core.specs.Walk.{Place, walk_of}
+use Rattle.paging_core.specs.Tree.{IsTree}
+use Rattle.paging_core.specs.Walk.{Place, reach, large_of, walk_of, reached}
 use Rattle.paging_core.specs.declared.page_table.Rights.{Rights}
 use Rattle.x86_flags.specs.PageFaultErrorCode.{page_fault_bits}
 use Rattle.address_space.specs.PageMap.{PageMap}
@@ -69,6 +70,29 @@ pub record AreOtherWordsKept (old new : List ℕ) (root at count : ℕ) : Type 0
   pub kept :
       (frame index : ℕ) → index < 512 → ((address : ℕ) → at ≤ address → address < at + count → LiesIn old root address frame index → ⊥) →
       word_at new frame index ≡ word_at old frame index
+
+-- Bytes were written from an address on, and nothing else is changed: the walk meets every table and every page as before,
+-- and every word in which none of the bytes lies is as it was.
+pub record IsWritten (old new : List ℕ) (root at : ℕ) (written : List ℕ) : Type 0 where
+  pub size : length new ≡ length old
+  pub tree : (free : List Bool) → IsTree old root free → IsTree new root free
+  pub walks : (level number : ℕ) → level ≤ 4 → reach new root level number ≡ reach old root level number
+  pub larges : (slot : ℕ) → large_of new root slot ≡ large_of old root slot
+  pub bytes : AreWritten (reached old root) (reached new root) at (length written) written
+  pub words : AreOtherWordsKept old new root at (length written)
+
+-- more of the wanted bytes were read than before
+pub record IsReadOn (byte : ℕ → Option ℕ) (at wanted : ℕ) (before bytes : List ℕ) : Type 0 where
+  pub read : AreBytesAt byte at bytes
+  pub more : length before < length bytes
+  pub few : length bytes ≤ wanted
+
+-- the first byte of a page that is not below an address
+pub record IsFirstByte (at number byte : ℕ) : Type 0 where
+  pub page : byte / 4096 ≡ number
+  pub from : at ≤ byte
+  pub first : (any : ℕ) → at ≤ any → any < byte → any / 4096 < number
+  pub within : (any : ℕ) → number ≤ any / 4096 → at ≤ any → byte ≤ any
 
 -- When an access to `length` bytes gets each answer. An access to no bytes is always served.
 abbrev pub IsAccessAnswer : {A : Type 0} → PageMap → Bool → Bool → ℕ → ℕ → Result A SpaceFault → Type 0

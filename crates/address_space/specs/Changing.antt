@@ -1,5 +1,6 @@
 -- Pages that leave, get other rights, are copied or written. `old` are the tables before, `new` after.
-use Rattle.std.specs.Prelude.{◌≡◌, ℕ, ◌+◌, ◌*◌, ◌/◌, ◌<◌, ◌≤◌, ◌&&◌, Bool, true, false, is_some, List, length, Some, None, Result, Ok, Err}
+use Rattle.std.specs.Prelude.{◌≡◌, ℕ, ◌+◌, ◌-◌, ◌*◌, ◌/◌, ◌^◌, ◌<◌, ◌≤◌, ◌&&◌, Bool, true, false, is_some, List, length, Some, None, Result, Ok, Err}
+use Rattle.paging_core.specs.Address.{IsCanonicalRange}
 use Rattle.paging_core.specs.Memory.{word_at}
 use Rattle.paging_core.specs.Entry.{table_entry, page_entry}
 use Rattle.paging_core.specs.Missing.{missing_of}
@@ -8,6 +9,7 @@ use Rattle.paging_core.specs.Pool.{is_frame_free, free_count}
 use Rattle.paging_core.specs.Prefix.{prefix_of}
 use Rattle.paging_core.specs.Walk.{Place, reach, walk_of, top}
 use Rattle.paging_core.specs.declared.page_table.Rights.{Rights}
+use Rattle.address_space.specs.declared.changing.Part.{Part}
 use Rattle.address_space.specs.declared.space_fault.SpaceFault.{SpaceFault}
 use Rattle.address_space.specs.declared.space_fault.SpaceFault.TheVariants.{BadRange, Overlap, Hole, NoFrames, OutOfMemory}
 use Rattle.address_space.specs.PageMap.{IsMap, unmapped, protected, duplicated, stored, mapped_count, IsGoodRange, AreNoneMapped, AreAllMapped, IsHole}
@@ -27,6 +29,29 @@ pub record IsUnmapped (old new : Tables) (first pages count : ℕ) : Type 0 wher
   pub free : free_count new.free ≡ free_count old.free + count
   pub root : new.root ≡ old.root
   pub entries : ArePagesChanged old.words new.words old.root removal (is_mapped_in old first pages)
+
+-- of the pages from `first` up to `end`, those from the part's first one on were unmapped
+pub record IsPartUnmapped (old new : Tables) (first end : ℕ) (part : Part) : Type 0 where
+  pub from : first ≤ part.first
+  pub to : part.first + part.count ≤ end
+  pub less : part.first < end
+  pub gone : IsUnmapped old new part.first (end - part.first) part.count
+
+-- pages in one canonical half, each of which is mapped
+pub record CanProtect (t : Tables) (first pages : ℕ) : Type 0 where
+  pub range : IsCanonicalRange first pages
+  pub within : first + pages ≤ 2 ^ 52
+  pub full : AreAllMapped (page_map_of t) first pages
+
+-- each page of the source is mapped, none of the target is, and there are frames for it
+pub record CanDuplicate (t : Tables) (from pages to : ℕ) : Type 0 where
+  pub source : IsCanonicalRange from pages
+  pub target : IsCanonicalRange to pages
+  pub source_within : from + pages ≤ 2 ^ 52
+  pub target_within : to + pages ≤ 2 ^ 52
+  pub full : AreAllMapped (page_map_of t) from pages
+  pub clear : AreNoneMapped (page_map_of t) to pages
+  pub frames : HasFrames t to pages
 
 -- The pages of a range get the rights, and nothing else is changed: the entries of these pages are written, and no
 -- other word. No frame is taken or given back.

@@ -1,5 +1,6 @@
 -- Pages that are mapped anew. `old` are the tables before, `new` after.
-use Rattle.std.specs.Prelude.{◌≡◌, ℕ, ◌+◌, ◌*◌, ◌/◌, ◌<◌, ◌≤◌, Result, Ok, Err}
+use Rattle.std.specs.Prelude.{◌≡◌, ℕ, ◌+◌, ◌*◌, ◌/◌, ◌^◌, ◌<◌, ◌≤◌, Result, Ok, Err}
+use Rattle.paging_core.specs.Address.{IsCanonicalRange}
 use Rattle.paging_core.specs.Missing.{missing_of}
 use Rattle.paging_core.specs.Pool.{free_count}
 use Rattle.paging_core.specs.Mapping.{IsRangeAdded}
@@ -12,6 +13,13 @@ use Rattle.address_space.specs.Space.{Tables, page_map_of}
 -- there are frames for `pages` pages from the page `first` on, and for the tables that they miss
 abbrev pub HasFrames : Tables → ℕ → ℕ → Type 0
 HasFrames t first pages = pages + missing_of t.words t.root first pages ≤ free_count t.free
+
+-- pages in one canonical half of which none is mapped, and for which there are frames
+pub record CanMap (t : Tables) (first pages : ℕ) : Type 0 where
+  pub range : IsCanonicalRange first pages
+  pub within : first + pages ≤ 2 ^ 52
+  pub clear : AreNoneMapped (page_map_of t) first pages
+  pub frames : HasFrames t first pages
 
 -- The map has the pages, and nothing else is changed. The page tables got them, and the tables that they missed: no
 -- other frame was taken.

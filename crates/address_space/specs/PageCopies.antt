@@ -1,13 +1,24 @@
 -- Pages that are mapped and get the rights and the bytes of others. `old` are the words before, `new` after.
-use Rattle.std.specs.Prelude.{◌≡◌, ℕ, ◌+◌, ◌*◌, ◌/◌, ◌<◌, Bool, true, false, IsTrue, List, length, Some}
+use Rattle.std.specs.Prelude.{◌≡◌, ℕ, ◌+◌, ◌*◌, ◌/◌, ◌<◌, Bool, true, false, IsTrue, List, length, IsSome, Some, None}
 use Rattle.std.specs.Option.{option_map}
-use Rattle.paging_core.specs.Address.{is_canonical}
+use Rattle.paging_core.specs.Address.{is_canonical, IsCanonicalRange}
 use Rattle.paging_core.specs.Entry.{page_entry}
-use Rattle.paging_core.specs.Memory.{word_at}
+use Rattle.paging_core.specs.Memory.{word_at, frame_count}
 use Rattle.paging_core.specs.PageChanges.{among}
-use Rattle.paging_core.specs.Tree.{IsTree}
+use Rattle.paging_core.specs.Tree.{IsTree, HasTree}
 use Rattle.paging_core.specs.Walk.{Place, reach, large_of, walk_of, reached, top}
 use Rattle.address_space.specs.Space.{rights_of_place}
+
+-- page tables whose pages are small ones
+pub record HasSmallPages (words : List ℕ) (root : ℕ) : Type 0 where
+  pub below : root < frame_count words
+  pub tree : HasTree words root
+  pub no_large : (slot : ℕ) → large_of words root slot ≡ None
+
+-- each page of a range in one canonical half is mapped
+pub record IsMappedRange (words : List ℕ) (root first pages : ℕ) : Type 0 where
+  pub canonical : IsCanonicalRange first pages
+  pub mapped : (k : ℕ) → k < pages → IsSome (walk_of words root (first + k))
 
 -- `pages` pages from `to` on got the rights and the bytes of those from `from` on, each in its own frame
 pub record ArePagesCopied (old new : List ℕ) (root from pages to : ℕ) : Type 0 where

@@ -1,5 +1,5 @@
 -- A space of pages as a plain map: each mapped page, by its number, has rights and 4096 bytes.
-use Rattle.std.specs.Prelude.{◌≡◌, ℕ, zero, suc, ◌+◌, ◌-◌, ◌*◌, ◌/◌, ◌%◌, ◌<◌, ◌≤◌, ◌&&◌, nat_le, nat_lt, IsSome, is_some, if◌then◌else◌, List, length, slice_index, Option, Some, None}
+use Rattle.std.specs.Prelude.{◌≡◌, ℕ, zero, suc, ◌+◌, ◌-◌, ◌*◌, ◌/◌, ◌%◌, ◌^◌, ◌<◌, ◌≤◌, ◌&&◌, nat_le, nat_lt, IsSome, is_some, if◌then◌else◌, List, length, slice_index, Option, Some, None}
 use Rattle.paging_core.specs.Address.{IsCanonicalRange}
 use Rattle.paging_core.specs.declared.page_table.Rights.{Rights}
 use Rattle.address_space.specs.Runs.{is_among}
@@ -100,3 +100,15 @@ pub record IsGoodWindow (low high : ℕ) : Type 0 where
   pub range : IsGoodRange low ((high - low) / 4096)
   pub at_page : high % 4096 ≡ 0
   pub below : low < high
+
+-- the first page of a good range
+pub record BeginsRange (start pages page : ℕ) : Type 0 where
+  pub good : IsGoodRange start pages
+  pub first : page ≡ start / 4096
+  pub within : page + pages ≤ 2 ^ 52
+
+-- the first page of a good window
+pub record BeginsWindow (low high page : ℕ) : Type 0 where
+  pub good : IsGoodWindow low high
+  pub first : page ≡ low / 4096
+  pub within : high / 4096 ≤ 2 ^ 52

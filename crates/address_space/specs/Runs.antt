@@ -4,6 +4,7 @@ use Rattle.std.proofs.Props.{props}
 use Rattle.paging_core.specs.declared.page_table.Rights.{Rights}
 use Rattle.meminterval.specs.declared.interval.Interval.{Interval}
 use Rattle.address_space.specs.declared.area.Area.{Area}
+use Rattle.address_space.specs.declared.runs.Run.{Run}
 
 -- whether a page is one of `pages` pages from the page `first` on
 abbrev pub is_among : ℕ → ℕ → ℕ → Bool
@@ -33,6 +34,10 @@ abbrev pub RunsFollow : ℕ → List (Interval ℕ × Rights) → ℕ → Type 0
 RunsFollow from [] to = from ≤ to
 RunsFollow from (run ∷ runs) to = (from ≤ run.0.start) × (run.0.start < run.0.end) × RunsFollow run.0.end runs to
 
+-- runs one after the other among all pages
+abbrev pub AreRuns : List (Interval ℕ × Rights) → Type 0
+AreRuns runs = RunsFollow 0 runs (2 ^ 52)
+
 -- a run stands among others
 pub record HasRun (runs : List (Interval ℕ × Rights)) (start end : ℕ) (rights : Rights) : Type 0 where
   pub front : List (Interval ℕ × Rights)
@@ -41,6 +46,9 @@ pub record HasRun (runs : List (Interval ℕ × Rights)) (start end : ℕ) (righ
   pub before : RunsFollow 0 front start
   pub some : start < end
   pub behind : RunsFollow end back (2 ^ 52)
+
+abbrev pub IsAmong : List (Interval ℕ × Rights) → Run → Type 0
+IsAmong runs run = HasRun runs run.start run.end run.rights
 
 -- no run could be longer: the page before it has other rights, or is not mapped
 abbrev pub AreLongest : List (Interval ℕ × Rights) → Type 0

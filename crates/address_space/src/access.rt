@@ -1,10 +1,10 @@
 //! Reading and writing bytes.
 ghost use Rattle.std.specs.Prelude.{◌≡◌, ℕ, ◌+◌, ◌*◌, ◌/◌, ◌^◌, ◌<◌, ◌≤◌, IfOk, OnOk, OnErr, Err, IfSome, IfNone, IsTrue, Some, None, true, false, length, if◌then◌else◌};
 ghost use Rattle.meminterval.specs.Tree.{entries};
-ghost use Rattle.address_space.specs.Runs.{RunsFollow, rights_in};
+ghost use Rattle.address_space.specs.Runs.{AreRuns, rights_in};
 ghost use Rattle.address_space.specs.Space.{page_map_of};
-ghost use Rattle.address_space.specs.Seen.{tables_of};
-ghost use Rattle.address_space.specs.Access.{rights_deny, denial_code, IsAccessGranted, IsAccessDenied, AreBytesAt, IsAccessAnswer};
+ghost use Rattle.address_space.specs.Seen.{tables_of, KeptIfErr};
+ghost use Rattle.address_space.specs.Access.{rights_deny, denial_code, IsFirstByte, IsAccessGranted, IsAccessDenied, AreBytesAt, IsAccessAnswer};
 ghost use Rattle.address_space.specs.Changing.{AreBytesStored};
 ghost use Rattle.x86_flags.specs.PageFaultErrorCode.{page_fault_bits};
 
@@ -59,10 +59,7 @@ struct Denial {
 fn first_byte(at: u64, page: u64) -> u64
     requires from { at / 4096 ≤ page }
     requires page { page < 2 ^ 52 }
-    ensures page { result / 4096 ≡ page }
-    ensures from { at ≤ result }
-    ensures first { (any : ℕ) → at ≤ any → any < result → any / 4096 < page }
-    ensures within { (any : ℕ) → page ≤ any / 4096 → at ≤ any → result ≤ any }
+    ensures { IsFirstByte at page result }
 {
     if at / 4096 < page { page * 4096 } else { at }
 }
@@ -74,7 +71,7 @@ fn first_denied(
     count: u64,
     access: Access,
 ) -> Option<Denial>
-    requires follow { RunsFollow 0 (entries runs.now) (2 ^ 52) }
+    requires follow { AreRuns (entries runs.now) }
     requires some { 0 < count }
     requires fits { at + count ≤ 2 ^ 64 }
     ensures denied { IfSome result (λ denial. IsAccessDenied (rights_in (entries runs.now)) access.write access.user at count denial.at (page_fault_bits denial.code)) }
@@ -131,7 +128,7 @@ impl Space {
     /// takes no memory. An `Err` changes nothing.
     pub fn store(&mut self, at: u64, bytes: &[u8], user: bool) -> Result<(), SpaceFault>
         ensures ok { OnOk result (AreBytesStored (tables_of self.old) (tables_of self.new) at bytes.now) }
-        ensures err { OnErr result (tables_of self.new ≡ tables_of self.old) }
+        ensures err { KeptIfErr result self.old self.new }
         ensures causes { IsAccessAnswer (page_map_of (tables_of self.old)) true user at (length bytes.now) result }
         ensures memory { result ≡ Err SpaceFault.OutOfMemory → ⊥ }
     {

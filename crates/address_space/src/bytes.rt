@@ -1,10 +1,10 @@
 //! The bytes of words and of mapped pages.
-ghost use Rattle.std.specs.Prelude.{◌≡◌, ℕ, ◌+◌, ◌*◌, ◌/◌, ◌%◌, ◌^◌, ◌<◌, ◌≤◌, IsTrue, IsSome, IfOk, OnOk, Bool, List, length};
+ghost use Rattle.std.specs.Prelude.{◌≡◌, ℕ, ◌+◌, ◌*◌, ◌/◌, ◌%◌, ◌^◌, ◌<◌, ◌≤◌, IsTrue, IsSome, IfOk, OnOk, length};
 ghost use Rattle.paging_core.specs.Address.{is_canonical};
 ghost use Rattle.paging_core.specs.Memory.{frame_count, byte_of as byte_in};
-ghost use Rattle.paging_core.specs.Tree.{IsTree, HasTree};
-ghost use Rattle.paging_core.specs.Walk.{reach, large_of, walk_of, reached};
-ghost use Rattle.address_space.specs.Access.{IsGoodSpan, byte_at, AreBytesAt, AreBytesPut, AreWritten, AreOtherWordsKept};
+ghost use Rattle.paging_core.specs.Tree.{HasTree};
+ghost use Rattle.paging_core.specs.Walk.{walk_of, reached};
+ghost use Rattle.address_space.specs.Access.{IsGoodSpan, byte_at, AreBytesAt, AreBytesPut, IsReadOn, IsWritten};
 
 use paging_core::{Frames, Page, PhysFrame, VirtAddr, get_bits, load_words, set_bits, walk};
 use std::alloc::{AllocError, Global};
@@ -40,9 +40,7 @@ fn read_on(
     requires fits { at + wanted ≤ 2 ^ 64 }
     requires canonical { IsTrue (is_canonical (at + length bytes.old.items)) }
     requires mapped { IsSome (walk_of frames.now root ((at + length bytes.old.items) / 4096)) }
-    ensures read { OnOk result (AreBytesAt (reached frames.now root) at bytes.new.items) }
-    ensures more { OnOk result (length bytes.old.items < length bytes.new.items) }
-    ensures few { OnOk result (length bytes.new.items ≤ wanted) }
+    ensures { OnOk result (IsReadOn (reached frames.now root) at wanted bytes.old.items bytes.new.items) }
 {
     let count = bytes.len() as u64;
     let offset = (at + count) % 4096;
@@ -110,12 +108,7 @@ fn write_part(frames: &mut Frames, root: PhysFrame, at: u64, bytes: &[u8], words
     requires some { 0 < length bytes.now }
     requires fits { at % 4096 + length bytes.now ≤ 4096 }
     requires words { length words.old ≡ (at % 8 + length bytes.now + 7) / 8 }
-    ensures size { length frames.new ≡ length frames.old }
-    ensures tree { (free : List Bool) → IsTree frames.old root free → IsTree frames.new root free }
-    ensures walks { (level number : ℕ) → level ≤ 4 → reach frames.new root level number ≡ reach frames.old root level number }
-    ensures larges { (slot : ℕ) → large_of frames.new root slot ≡ large_of frames.old root slot }
-    ensures bytes { AreWritten (reached frames.old root) (reached frames.new root) at (length bytes.now) bytes.now }
-    ensures words { AreOtherWordsKept frames.old frames.new root at (length bytes.now) }
+    ensures { IsWritten frames.old frames.new root at bytes.now }
 {
     let page = Page::containing_address(VirtAddr::new(at));
     let Some(place) = walk(frames, root, page) else {
@@ -139,12 +132,7 @@ pub(crate) fn write_bytes(frames: &mut Frames, root: PhysFrame, at: u64, bytes: 
     requires span { IsGoodSpan at (length bytes.now) }
     requires fits { at + length bytes.now ≤ 2 ^ 64 }
     requires mapped { (any : ℕ) → at ≤ any → any < at + length bytes.now → IsSome (walk_of frames.old root (any / 4096)) }
-    ensures size { length frames.new ≡ length frames.old }
-    ensures tree { (free : List Bool) → IsTree frames.old root free → IsTree frames.new root free }
-    ensures walks { (level number : ℕ) → level ≤ 4 → reach frames.new root level number ≡ reach frames.old root level number }
-    ensures larges { (slot : ℕ) → large_of frames.new root slot ≡ large_of frames.old root slot }
-    ensures bytes { AreWritten (reached frames.old root) (reached frames.new root) at (length bytes.now) bytes.now }
-    ensures words { AreOtherWordsKept frames.old frames.new root at (length bytes.now) }
+    ensures { IsWritten frames.old frames.new root at bytes.now }
 {
     let mut words = [0; PART_WORDS];
     let mut done = 0;

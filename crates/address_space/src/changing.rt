@@ -2,9 +2,8 @@
 ghost use Rattle.std.specs.Prelude.{◌≡◌, ◌+◌, ◌-◌, ◌*◌, ◌/◌, ◌^◌, ◌<◌, ◌≤◌, IsTrue, IsSome, IfOk, IfErr, OnOk, OnErr};
 ghost use Rattle.paging_core.specs.Address.{IsCanonicalRange};
 ghost use Rattle.address_space.specs.Space.{page_map_of};
-ghost use Rattle.address_space.specs.Seen.{tables_of};
-ghost use Rattle.address_space.specs.PageMap.{AreAllMapped};
-ghost use Rattle.address_space.specs.Changing.{IsUnmapped, IsProtected, IsUnmapAnswer, IsProtectAnswer};
+ghost use Rattle.address_space.specs.Seen.{tables_of, KeptIfErr};
+ghost use Rattle.address_space.specs.Changing.{CanProtect, IsPartUnmapped, IsUnmapped, IsProtected, IsUnmapAnswer, IsProtectAnswer};
 
 use crate::range::{first_page, page_at};
 use crate::space::Space;
@@ -27,7 +26,7 @@ impl Space {
     /// changes nothing.
     pub fn unmap(&mut self, start: u64, pages: u64) -> Result<u64, SpaceFault>
         ensures ok { IfOk result (λ count. IsUnmapped (tables_of self.old) (tables_of self.new) (start / 4096) pages count) }
-        ensures err { OnErr result (tables_of self.new ≡ tables_of self.old) }
+        ensures err { KeptIfErr result self.old self.new }
         ensures causes { IsUnmapAnswer start pages result }
     {
         let Some(page) = first_page(start, pages) else {
@@ -55,11 +54,8 @@ impl Space {
         requires some { first < end }
         requires within { end ≤ 2 ^ 52 }
         requires range { IsCanonicalRange first (end - first) }
-        ensures from { IfOk result (λ part. first ≤ part.first) }
-        ensures to { IfOk result (λ part. part.first + part.count ≤ end) }
-        ensures less { IfOk result (λ part. part.first < end) }
-        ensures ok { IfOk result (λ part. IsUnmapped (tables_of self.old) (tables_of self.new) part.first (end - part.first) part.count) }
-        ensures err { OnErr result (tables_of self.new ≡ tables_of self.old) }
+        ensures ok { IfOk result (IsPartUnmapped (tables_of self.old) (tables_of self.new) first end) }
+        ensures err { KeptIfErr result self.old self.new }
         ensures over { IfErr result (λ error. IsSome ((page_map_of (tables_of self.old)).rights end)) }
     {
         let Some(run) = runs::run_below(&self.runs, end) else {
@@ -84,7 +80,7 @@ impl Space {
     /// Gives the pages of a range these rights. Their bytes stay. An `Err` changes nothing.
     pub fn protect(&mut self, start: u64, pages: u64, rights: Rights) -> Result<(), SpaceFault>
         ensures ok { OnOk result (IsProtected (tables_of self.old) (tables_of self.new) (start / 4096) pages rights) }
-        ensures err { OnErr result (tables_of self.new ≡ tables_of self.old) }
+        ensures err { KeptIfErr result self.old self.new }
         ensures causes { IsProtectAnswer (tables_of self.old) start pages result }
     {
         let Some(first) = first_page(start, pages) else {
@@ -102,11 +98,9 @@ impl Space {
 
     /// Gives pages that are mapped these rights. An `Err` changes nothing.
     fn protect_full(&mut self, first: Page, pages: u64, rights: Rights) -> Result<(), AllocError>
-        requires range { IsCanonicalRange first pages }
-        requires within { first + pages ≤ 2 ^ 52 }
-        requires full { AreAllMapped (page_map_of (tables_of self.old)) first pages }
+        requires { CanProtect (tables_of self.old) first pages }
         ensures ok { OnOk result (IsProtected (tables_of self.old) (tables_of self.new) first pages rights) }
-        ensures err { OnErr result (tables_of self.new ≡ tables_of self.old) }
+        ensures err { KeptIfErr result self.old self.new }
     {
         let number = first.number();
         run_changes::set_rights(&mut self.runs, self.alloc, number, number + pages, rights)?;

@@ -5,7 +5,7 @@ ghost use Rattle.paging_core.specs.Missing.{missing_of};
 ghost use Rattle.paging_core.specs.Pool.{free_count};
 ghost use Rattle.address_space.specs.PageMap.{AreNoneMapped};
 ghost use Rattle.address_space.specs.Space.{page_map_of};
-ghost use Rattle.address_space.specs.Seen.{tables_of};
+ghost use Rattle.address_space.specs.Seen.{tables_of, KeptIfErr};
 ghost use Rattle.address_space.specs.Mapping.{HasFrames, ArePagesMapped, IsMapAnswer, IsPlaceAnswer};
 
 use crate::range::{first_page, first_page_below};
@@ -18,7 +18,7 @@ impl Space {
     /// Maps `pages` pages from the address on, with the rights and bytes that are 0. An `Err` changes nothing.
     pub fn map_at(&mut self, start: u64, pages: u64, rights: Rights) -> Result<(), SpaceFault>
         ensures ok { OnOk result (ArePagesMapped (tables_of self.old) (tables_of self.new) (start / 4096) pages rights) }
-        ensures err { OnErr result (tables_of self.new ≡ tables_of self.old) }
+        ensures err { KeptIfErr result self.old self.new }
         ensures causes { IsMapAnswer (tables_of self.old) start pages result }
     {
         let Some(first) = first_page(start, pages) else {
@@ -46,7 +46,7 @@ impl Space {
         rights: Rights,
     ) -> Result<u64, SpaceFault>
         ensures ok { IfOk result (λ at. ArePagesMapped (tables_of self.old) (tables_of self.new) (at / 4096) pages rights) }
-        ensures err { OnErr result (tables_of self.new ≡ tables_of self.old) }
+        ensures err { KeptIfErr result self.old self.new }
         ensures causes { IsPlaceAnswer (tables_of self.old) low high pages result }
     {
         let Some(base) = first_page_below(low, high) else {

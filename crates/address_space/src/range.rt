@@ -1,8 +1,8 @@
 //! Ranges of pages and bytes that callers name.
-ghost use Rattle.std.specs.Prelude.{◌≡◌, ◌+◌, ◌-◌, ◌*◌, ◌/◌, ◌≤◌, ◌^◌, ◌<◌, ◌↔◌, IsTrue, IfSome, IfNone};
+ghost use Rattle.std.specs.Prelude.{◌≡◌, ◌+◌, ◌-◌, ◌*◌, ◌/◌, ◌≤◌, ◌^◌, ◌<◌, ◌↔◌, IsTrue, MatchOption};
 ghost use Rattle.paging_core.specs.Address.{is_canonical};
 ghost use Rattle.address_space.specs.Access.{IsGoodSpan};
-ghost use Rattle.address_space.specs.PageMap.{IsGoodRange, IsGoodWindow};
+ghost use Rattle.address_space.specs.PageMap.{BeginsRange, BeginsWindow, IsGoodRange, IsGoodWindow};
 
 use paging_core::{Page, VirtAddr};
 
@@ -11,10 +11,7 @@ const HALF_PAGES: u64 = 1 << 35;
 
 /// The first page of a range that begins at a page, has pages, and lies in one canonical half.
 pub(crate) fn first_page(start: u64, pages: u64) -> Option<Page>
-    ensures good { IfSome result (λ first. IsGoodRange start pages) }
-    ensures first { IfSome result (λ first. first ≡ start / 4096) }
-    ensures within { IfSome result (λ first. first + pages ≤ 2 ^ 52) }
-    ensures bad { IfNone result (IsGoodRange start pages → ⊥) }
+    ensures { MatchOption result (IsGoodRange start pages → ⊥) (BeginsRange start pages) }
 {
     let Ok(address) = VirtAddr::try_new(start) else {
         return None;
@@ -32,10 +29,7 @@ pub(crate) fn first_page(start: u64, pages: u64) -> Option<Page>
 /// The first page of the window from one address up to another, if both lie at pages, the first is below the
 /// second, and the window lies in one canonical half.
 pub(crate) fn first_page_below(low: u64, high: u64) -> Option<Page>
-    ensures good { IfSome result (λ first. IsGoodWindow low high) }
-    ensures first { IfSome result (λ first. first ≡ low / 4096) }
-    ensures within { IfSome result (λ first. high / 4096 ≤ 2 ^ 52) }
-    ensures bad { IfNone result (IsGoodWindow low high → ⊥) }
+    ensures { MatchOption result (IsGoodWindow low high → ⊥) (BeginsWindow low high) }
 {
     if high <= low || high % 4096 != 0 {
         return None;

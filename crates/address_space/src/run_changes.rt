@@ -1,9 +1,9 @@
 //! Runs whose pages leave, get other rights, or are copied.
 ghost use Rattle.std.specs.Prelude.{◌≡◌, ◌+◌, ◌^◌, ◌<◌, ◌≤◌, true, false, IsSome, IfOk, IfErr, OnOk, OnErr};
 ghost use Rattle.meminterval.specs.Tree.{entries};
-ghost use Rattle.address_space.specs.Runs.{RunsFollow, AreLongest, HasRun, rights_in, crosses};
+ghost use Rattle.address_space.specs.Runs.{AreRuns, IsAmong, rights_in, crosses};
 ghost use Rattle.address_space.specs.Joining.{IsRunAdded};
-ghost use Rattle.address_space.specs.RunChanges.{IsCut, AreTaken, IsOwnRun, KeepsApart, IsParted, AreRightsCopied, AreInRuns, AreFree};
+ghost use Rattle.address_space.specs.RunChanges.{IsCut, AreTaken, IsOwnRun, IsSet, IsParted, AreRightsCopied, AreInRuns, MayChange, MayCopy};
 
 use crate::runs::{Run, add, join, run_at, run_below};
 use meminterval::{Interval, IntervalTree};
@@ -15,7 +15,7 @@ const BEYOND: u64 = 1 << 53;
 
 /// Lets a run end at a page of it, or takes it out if it begins there.
 fn cut(runs: &mut IntervalTree<u64, Rights>, run: Run, from: u64)
-    requires run { HasRun (entries runs.old) run.start run.end run.rights }
+    requires run { IsAmong (entries runs.old) run }
     requires from { run.start ≤ from }
     requires below { from < run.end }
     ensures { IsCut (entries runs.old) (entries runs.new) from run.end }
@@ -36,11 +36,10 @@ fn split(
     page: u64,
     rights: Rights,
 ) -> Result<(), AllocError>
-    requires run { HasRun (entries runs.old) run.start run.end run.rights }
+    requires run { IsAmong (entries runs.old) run }
     requires above { run.start < page }
     requires below { page < run.end }
-    ensures ok { OnOk result (IsOwnRun (entries runs.old) (entries runs.new) page run.end rights) }
-    ensures apart { OnOk result (KeepsApart (entries runs.old) (entries runs.new)) }
+    ensures ok { OnOk result (IsSet (entries runs.old) (entries runs.new) page run.end rights) }
     ensures err { OnErr result (runs.new ≡ runs.old) }
 {
     runs.insert(alloc, Interval::new(page, run.end), rights)?;
@@ -55,9 +54,8 @@ fn set_run(
     run: Run,
     rights: Rights,
 ) -> Result<(), AllocError>
-    requires run { HasRun (entries runs.old) run.start run.end run.rights }
-    ensures ok { OnOk result (IsOwnRun (entries runs.old) (entries runs.new) run.start run.end rights) }
-    ensures apart { OnOk result (KeepsApart (entries runs.old) (entries runs.new)) }
+    requires run { IsAmong (entries runs.old) run }
+    ensures ok { OnOk result (IsSet (entries runs.old) (entries runs.new) run.start run.end rights) }
     ensures err { OnErr result (runs.new ≡ runs.old) }
 {
     // Too long at first, so that no run has its ends.
@@ -75,11 +73,10 @@ fn set_from(
     first: u64,
     rights: Rights,
 ) -> Result<u64, AllocError>
-    requires follow { RunsFollow 0 (entries runs.old) (2 ^ 52) }
+    requires follow { AreRuns (entries runs.old) }
     requires page { first < 2 ^ 52 }
     requires held { IsSome (rights_in (entries runs.old) first) }
-    ensures ok { IfOk result (λ end. IsOwnRun (entries runs.old) (entries runs.new) first end rights) }
-    ensures apart { OnOk result (KeepsApart (entries runs.old) (entries runs.new)) }
+    ensures ok { IfOk result (λ end. IsSet (entries runs.old) (entries runs.new) first end rights) }
     ensures err { OnErr result (runs.new ≡ runs.old) }
 {
     let Some(run) = run_at(runs, first) else {
@@ -95,7 +92,7 @@ fn set_from(
 
 /// Lets a run begin at a page if one goes on over it. An `Err` changes nothing, and is possible only then.
 fn part(runs: &mut IntervalTree<u64, Rights>, alloc: Global, page: u64) -> Result<(), AllocError>
-    requires follow { RunsFollow 0 (entries runs.old) (2 ^ 52) }
+    requires follow { AreRuns (entries runs.old) }
     requires within { page ≤ 2 ^ 52 }
     ensures ok { OnOk result (IsParted (entries runs.old) (entries runs.new) page) }
     ensures err { OnErr result (runs.new ≡ runs.old) }
@@ -113,7 +110,7 @@ fn part(runs: &mut IntervalTree<u64, Rights>, alloc: Global, page: u64) -> Resul
 
 /// Takes the pages from `first` up to `end` out of all runs. No run goes on over `end`.
 fn take_out(runs: &mut IntervalTree<u64, Rights>, first: u64, end: u64)
-    requires follow { RunsFollow 0 (entries runs.old) (2 ^ 52) }
+    requires follow { AreRuns (entries runs.old) }
     requires order { first ≤ end }
     requires within { end ≤ 2 ^ 52 }
     requires apart { crosses (entries runs.old) end ≡ false }
@@ -138,10 +135,7 @@ pub(crate) fn take(
     first: u64,
     end: u64,
 ) -> Result<(), AllocError>
-    requires follow { RunsFollow 0 (entries runs.old) (2 ^ 52) }
-    requires longest { AreLongest (entries runs.old) }
-    requires some { first < end }
-    requires within { end ≤ 2 ^ 52 }
+    requires { MayChange (entries runs.old) first end }
     ensures ok { OnOk result (AreTaken (entries runs.old) (entries runs.new) first end) }
     ensures err { OnErr result (runs.new ≡ runs.old) }
     ensures over { IfErr result (λ error. IsSome (rights_in (entries runs.old) end)) }
@@ -153,7 +147,7 @@ pub(crate) fn take(
 
 /// Lets a run go on up to a page, in the place of the runs after it, none of which goes on over that page.
 fn spread(runs: &mut IntervalTree<u64, Rights>, run: Run, end: u64)
-    requires run { HasRun (entries runs.old) run.start run.end run.rights }
+    requires run { IsAmong (entries runs.old) run }
     requires order { run.end ≤ end }
     requires within { end ≤ 2 ^ 52 }
     requires apart { crosses (entries runs.old) end ≡ false }
@@ -172,10 +166,7 @@ pub(crate) fn set_rights(
     end: u64,
     rights: Rights,
 ) -> Result<(), AllocError>
-    requires follow { RunsFollow 0 (entries runs.old) (2 ^ 52) }
-    requires longest { AreLongest (entries runs.old) }
-    requires some { first < end }
-    requires within { end ≤ 2 ^ 52 }
+    requires span { MayChange (entries runs.old) first end }
     requires held { AreInRuns (entries runs.old) first end }
     ensures ok { OnOk result (IsRunAdded (entries runs.old) (entries runs.new) first end rights) }
     ensures err { OnErr result (entries runs.new ≡ entries runs.old) }
@@ -209,12 +200,7 @@ pub(crate) fn copy(
     pages: u64,
     to: u64,
 ) -> Result<(), AllocError>
-    requires follow { RunsFollow 0 (entries runs.old) (2 ^ 52) }
-    requires longest { AreLongest (entries runs.old) }
-    requires source { from + pages ≤ 2 ^ 52 }
-    requires target { to + pages ≤ 2 ^ 52 }
-    requires held { AreInRuns (entries runs.old) from (from + pages) }
-    requires free { AreFree (entries runs.old) to (to + pages) }
+    requires { MayCopy (entries runs.old) from pages to }
     ensures ok { OnOk result (AreRightsCopied (entries runs.old) (entries runs.new) from pages to) }
     ensures err { OnErr result (entries runs.new ≡ entries runs.old) }
 {

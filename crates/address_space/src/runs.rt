@@ -1,8 +1,8 @@
 //! Runs of pages in an interval tree.
-ghost use Rattle.std.specs.Prelude.{◌≡◌, ℕ, ◌+◌, ◌*◌, ◌^◌, ◌<◌, ◌≤◌, ◌↔◌, false, Some, None, IsTrue, IfOk, IfSome, IfNone, OnOk, OnErr};
+ghost use Rattle.std.specs.Prelude.{◌≡◌, ℕ, ◌+◌, ◌*◌, ◌^◌, ◌<◌, ◌≤◌, ◌↔◌, None, IsTrue, IfOk, IfSome, IfNone, MatchOption, OnOk, OnErr};
 ghost use Rattle.meminterval.specs.Tree.{entries};
-ghost use Rattle.address_space.specs.Runs.{RunsFollow, AreLongest, HasRun, rights_in, crosses, area_of, areas_of};
-ghost use Rattle.address_space.specs.RunChanges.{AreInRuns, AreFree, IsGap};
+ghost use Rattle.address_space.specs.Runs.{AreRuns, rights_in, area_of, areas_of};
+ghost use Rattle.address_space.specs.RunChanges.{AreInRuns, HasNoneBelow, HoldsPage, IsGap, IsLastBelow, MayChange};
 ghost use Rattle.address_space.specs.Joining.{IsMeeting, AreRunsJoined, IsRunAdded};
 ghost use Rattle.address_space.specs.PageMap.{IsPagePlace, HasNoPagePlace};
 
@@ -26,7 +26,7 @@ fn area(pages: &Interval<u64>, rights: Rights) -> Area
 
 /// The areas of the runs, by ascending address.
 pub(crate) fn list(runs: &IntervalTree<u64, Rights>, alloc: Global) -> Result<AreaList, AllocError>
-    requires { RunsFollow 0 (entries runs.now) (2 ^ 52) }
+    requires { AreRuns (entries runs.now) }
     ensures { IfOk result (λ list. list ≡ areas_of (entries runs.now)) }
 {
     let mut list = Vec::new(alloc);
@@ -40,7 +40,7 @@ pub(crate) fn list(runs: &IntervalTree<u64, Rights>, alloc: Global) -> Result<Ar
 
 /// Whether no page from `first` up to `end`, `end` excluded, is in a run.
 pub(crate) fn is_clear(runs: &IntervalTree<u64, Rights>, first: u64, end: u64) -> bool
-    requires follow { RunsFollow 0 (entries runs.now) (2 ^ 52) }
+    requires follow { AreRuns (entries runs.now) }
     requires some { first < end }
     requires within { end ≤ 2 ^ 52 }
     ensures { IsTrue result ↔ ((page : ℕ) → first ≤ page → page < end → rights_in (entries runs.now) page ≡ None) }
@@ -53,7 +53,7 @@ pub(crate) fn is_clear(runs: &IntervalTree<u64, Rights>, first: u64, end: u64) -
 
 /// Makes one run of two with equal rights that meet at the page.
 pub(crate) fn join(runs: &mut IntervalTree<u64, Rights>, page: u64)
-    requires follow { RunsFollow 0 (entries runs.old) (2 ^ 52) }
+    requires follow { AreRuns (entries runs.old) }
     requires within { page ≤ 2 ^ 52 }
     ensures { AreRunsJoined (entries runs.old) (entries runs.new) page }
 {
@@ -66,7 +66,7 @@ pub(crate) fn join(runs: &mut IntervalTree<u64, Rights>, page: u64)
 
 /// Where the run begins that ends at the page, and where the one ends that begins there, if their rights are equal.
 fn around(runs: &IntervalTree<u64, Rights>, page: u64) -> Option<(u64, u64)>
-    requires follow { RunsFollow 0 (entries runs.now) (2 ^ 52) }
+    requires follow { AreRuns (entries runs.now) }
     requires within { page ≤ 2 ^ 52 }
     ensures { IsMeeting (entries runs.now) page result }
 {
@@ -96,10 +96,7 @@ pub(crate) fn add(
     end: u64,
     rights: Rights,
 ) -> Result<(), AllocError>
-    requires follow { RunsFollow 0 (entries runs.old) (2 ^ 52) }
-    requires longest { AreLongest (entries runs.old) }
-    requires some { first < end }
-    requires within { end ≤ 2 ^ 52 }
+    requires span { MayChange (entries runs.old) first end }
     requires clear { (page : ℕ) → first ≤ page → page < end → rights_in (entries runs.old) page ≡ None }
     ensures ok { OnOk result (IsRunAdded (entries runs.old) (entries runs.new) first end rights) }
     ensures err { OnErr result (runs.new ≡ runs.old) }
@@ -117,7 +114,7 @@ pub(crate) fn lowest_place(
     end: u64,
     pages: u64,
 ) -> Option<u64>
-    requires follow { RunsFollow 0 (entries runs.now) (2 ^ 52) }
+    requires follow { AreRuns (entries runs.now) }
     requires some { 0 < pages }
     requires window { end ≤ 2 ^ 52 }
     ensures place { IfSome result (IsPagePlace (rights_in (entries runs.now)) base end pages) }
@@ -148,14 +145,9 @@ pub(crate) struct Run {
 
 /// The last run that begins below a page.
 pub(crate) fn run_below(runs: &IntervalTree<u64, Rights>, page: u64) -> Option<Run>
-    requires follow { RunsFollow 0 (entries runs.now) (2 ^ 52) }
+    requires follow { AreRuns (entries runs.now) }
     requires within { page ≤ 2 ^ 52 }
-    ensures run { IfSome result (λ run. HasRun (entries runs.now) run.start run.end run.rights) }
-    ensures starts { IfSome result (λ run. run.start < page) }
-    ensures last { IfSome result (λ run. AreFree (entries runs.now) run.end page) }
-    ensures apart { IfSome result (λ run. run.end ≤ page → crosses (entries runs.now) page ≡ false) }
-    ensures none { IfNone result (AreFree (entries runs.now) 0 page) }
-    ensures alone { IfNone result (crosses (entries runs.now) page ≡ false) }
+    ensures { MatchOption result (HasNoneBelow (entries runs.now) page) (IsLastBelow (entries runs.now) page) }
 {
     let Some(entry) = runs.last_before(&page) else {
         return None;
@@ -169,14 +161,9 @@ pub(crate) fn run_below(runs: &IntervalTree<u64, Rights>, page: u64) -> Option<R
 
 /// The run that holds a page.
 pub(crate) fn run_at(runs: &IntervalTree<u64, Rights>, page: u64) -> Option<Run>
-    requires follow { RunsFollow 0 (entries runs.now) (2 ^ 52) }
+    requires follow { AreRuns (entries runs.now) }
     requires page { page < 2 ^ 52 }
-    ensures run { IfSome result (λ run. HasRun (entries runs.now) run.start run.end run.rights) }
-    ensures from { IfSome result (λ run. run.start ≤ page) }
-    ensures more { IfSome result (λ run. page < run.end) }
-    ensures within { IfSome result (λ run. run.end ≤ 2 ^ 52) }
-    ensures pages { IfSome result (λ run. (any : ℕ) → run.start ≤ any → any < run.end → rights_in (entries runs.now) any ≡ Some run.rights) }
-    ensures none { IfNone result (rights_in (entries runs.now) page ≡ None) }
+    ensures { MatchOption result (rights_in (entries runs.now) page ≡ None) (HoldsPage (entries runs.now) page) }
 {
     let Some(run) = run_below(runs, page + 1) else {
         return None;
@@ -189,7 +176,7 @@ pub(crate) fn run_at(runs: &IntervalTree<u64, Rights>, page: u64) -> Option<Run>
 
 /// The lowest page from `first` up to `end` that is in no run. It goes from run to run.
 pub(crate) fn first_gap(runs: &IntervalTree<u64, Rights>, first: u64, end: u64) -> Option<u64>
-    requires follow { RunsFollow 0 (entries runs.now) (2 ^ 52) }
+    requires follow { AreRuns (entries runs.now) }
     requires within { end ≤ 2 ^ 52 }
     ensures gap { IfSome result (IsGap (entries runs.now) first end) }
     ensures none { IfNone result (AreInRuns (entries runs.now) first end) }

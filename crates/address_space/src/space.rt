@@ -7,7 +7,7 @@ ghost use Rattle.meminterval.specs.Tree.{entries};
 ghost use Rattle.address_space.specs.Runs.{areas_of};
 ghost use Rattle.address_space.specs.Space.{AreTablesKept, AreTablesKept-prop, page_map_of};
 ghost use Rattle.address_space.specs.PageMap.{AreNoneMapped, IsPagePlace, HasNoPagePlace};
-ghost use Rattle.address_space.specs.Mapping.{HasFrames, ArePagesMapped};
+ghost use Rattle.address_space.specs.Mapping.{CanMap, HasFrames, ArePagesMapped};
 
 use crate::area::AreaList;
 use crate::runs;
@@ -30,7 +30,7 @@ pub struct Space {
 }
 
 impl Space {
-    ghost use Rattle.address_space.specs.Seen.{tables_of};
+    ghost use Rattle.address_space.specs.Seen.{tables_of, KeptIfErr};
 
     /// A space with `frames` frames, of which one holds the root table. No page is mapped.
     pub fn new(alloc: Global, frames: u32) -> Result<Self, AllocError>
@@ -127,12 +127,9 @@ impl Space {
         pages: u64,
         rights: Rights,
     ) -> Result<(), AllocError>
-        requires range { IsCanonicalRange first pages }
-        requires within { first + pages ≤ 2 ^ 52 }
-        requires clear { AreNoneMapped (page_map_of (tables_of self.old)) first pages }
-        requires frames { HasFrames (tables_of self.old) first pages }
+        requires { CanMap (tables_of self.old) first pages }
         ensures ok { OnOk result (ArePagesMapped (tables_of self.old) (tables_of self.new) first pages rights) }
-        ensures err { OnErr result (tables_of self.new ≡ tables_of self.old) }
+        ensures err { KeptIfErr result self.old self.new }
     {
         let number = first.number();
         runs::add(&mut self.runs, self.alloc, number, number + pages, rights)?;

@@ -1,12 +1,12 @@
 -- A search that begins after pages that are held.
-use Rattle.std.proofs.Common.{◌≡◌, refl, ℕ, ◌+◌, ◌-◌, ◌*◌, ◌<◌, ◌≤◌, Bool, true, false, ◌||◌, List, [], ◌∷◌, arith, ◌⊎◌, inl, inr, Option, Some, None, IfSome, IfNone}
+use Rattle.std.proofs.Common.{◌≡◌, refl, ℕ, ◌+◌, ◌-◌, ◌*◌, ◌<◌, ◌≤◌, Bool, true, false, ◌||◌, List, [], ◌∷◌, arith, ◌⊎◌, inl, inr, Option, Some, None}
 use Rattle.std.proofs.lemmas.Bool.{cases_lt}
 use Rattle.std.proofs.lemmas.Bool.Decides.{nat_tests}
 use Rattle.std.specs.List.{list_any}
 use Rattle.heap_model.specs.declared.region.Region.{Region}
 use Rattle.heap_model.specs.State.{is_within}
 use Rattle.heap_model.specs.Place.{meets, meets_any, IsFit, IsPlace, HasNoPlace}
-use Rattle.mapped_regions.specs.Regions.{AreHeld}
+use Rattle.mapped_regions.specs.Regions.{AreHeld, IsHint, IsLowest}
 
 -- pages whose first address lies in a region meet it
 within_meets : (address n : ℕ) (region : Region) → 0 < n → is_within address region ≡ true → meets address n region ≡ true
@@ -53,15 +53,8 @@ none_behind :
     HasNoPlace (4096 * hint) (base + pages - hint) regions n → HasNoPlace (4096 * base) pages regions n
 none_behind base hint pages n regions held some to none address fit = none address (fit_behind base hint pages n address regions held some to fit)
 
-pub some_behind :
-    (o : Option ℕ) (base hint pages n : ℕ) (regions : List Region) → AreHeld (4096 * base) (4096 * hint) regions → 0 < n → base ≤ hint → hint ≤ base + pages →
-    IfSome o (λ page. IsPlace (4096 * hint) (base + pages - hint) regions n (4096 * page)) →
-    IfSome o (λ page. IsPlace (4096 * base) pages regions n (4096 * page))
-some_behind None base hint pages n regions held some from to h = tt
-some_behind (Some page) base hint pages n regions held some from to h = place_behind base hint pages n (4096 * page) regions held some from to h
-
-pub no_behind :
-    (o : Option ℕ) (base hint pages n : ℕ) (regions : List Region) → AreHeld (4096 * base) (4096 * hint) regions → 0 < n → hint ≤ base + pages →
-    IfNone o (HasNoPlace (4096 * hint) (base + pages - hint) regions n) → IfNone o (HasNoPlace (4096 * base) pages regions n)
-no_behind None base hint pages n regions held some to h = none_behind base hint pages n regions held some to h
-no_behind (Some page) base hint pages n regions held some to h = tt
+pub lowest_behind :
+    (o : Option ℕ) (base hint pages n : ℕ) (regions : List Region) → IsHint base (base + pages) regions hint → 0 < n →
+    IsLowest hint (base + pages - hint) regions n o → IsLowest base pages regions n o
+lowest_behind None base hint pages n regions is some h = none_behind base hint pages n regions is.held some is.to h
+lowest_behind (Some page) base hint pages n regions is some h = place_behind base hint pages n (4096 * page) regions is.held some is.from is.to h

@@ -14,7 +14,7 @@ use Rattle.page_ranges.specs.RangeUnmapping.{cuts_large_page}
 use Rattle.page_ranges.proofs.Unmapped.{cut_or_not}
 use Rattle.mapped_regions.specs.declared.met_slots.Met.{Met}
 use Rattle.mapped_regions.specs.declared.met_slots.MetSlots.{MetSlots}
-use Rattle.mapped_regions.specs.MetSlots.{IsPage, IsTable, IsLargePage, ArePagesMet, AreTablesMet, AreLargePagesMet, AreMet, LeadsToFrame}
+use Rattle.mapped_regions.specs.MetSlots.{IsPage, IsTable, IsLargePage, ArePagesMet, AreTablesMet, AreLargePagesMet, AreMet, LeadsTo}
 
 -- the frame of a place that is found
 found_frame : (o : Option Place) (to : Place) → o ≡ Some to → unwrap_or (option_map (λ (place : Place). place.frame) o) 0 ≡ to.frame
@@ -298,7 +298,7 @@ met_stay old new root slots steps larges are = (
 
 -- a page that is kept: the walk to it finds its frame
 pub kept_frame : (words : List ℕ) (root page frame : ℕ) → root < frame_count words → IsSome (walk_of words root page) →
-    IsPage words root page frame → LeadsToFrame words root page frame
+    IsPage words root page frame → LeadsTo words root page frame
 kept_frame words root page frame within some is =
     let w = passed words root page within some in
     let same : Some w.place.frame ≡ Some frame = sym (ap (option_map (λ (place : Place). place.frame)) w.found) ∙ is in
@@ -307,7 +307,7 @@ kept_frame words root page frame within some is =
 
 pub found_frame_kept : (words : List ℕ) (root page number frame : ℕ) (o : Option ℕ) → root < frame_count words →
     IsSome (walk_of words root page) → number ≡ page →
-    IfSome o (IsPage words root number) → o ≡ Some frame → LeadsToFrame words root page frame
+    IfSome o (IsPage words root number) → o ≡ Some frame → LeadsTo words root page frame
 found_frame_kept words root page number frame None within some same is e = absurd (cc)
 found_frame_kept words root page number frame (Some x) within some same is e =
     let to : x ≡ frame = ap (λ o. unwrap_or o 0) e in
@@ -331,16 +331,16 @@ cut_stay old new root first slots same = tables_stay old new root slots (λ numb
 -- ---- words at a frame that was found
 
 pub frame_at : (words : List ℕ) (root at address page frame : ℕ) → page ≡ address / 4096 → address ≡ at →
-    LeadsToFrame words root page frame → LeadsToFrame words root (at / 4096) frame
-frame_at words root at address page frame page_is address_is f = subst (λ p. LeadsToFrame words root p frame) (page_is ∙ ap (λ a. a / 4096) address_is) f
+    LeadsTo words root page frame → LeadsTo words root (at / 4096) frame
+frame_at words root at address page frame page_is address_is f = subst (λ p. LeadsTo words root p frame) (page_is ∙ ap (λ a. a / 4096) address_is) f
 
-pub set_at : (old new : List ℕ) (root at index frame value : ℕ) (f : LeadsToFrame old root (at / 4096) frame) →
+pub set_at : (old new : List ℕ) (root at index frame value : ℕ) (f : LeadsTo old root (at / 4096) frame) →
     index ≡ at % 4096 / 8 → new ≡ set old (512 * frame + index) value →
     new ≡ set old (512 * f.place.frame + at % 4096 / 8) value
 set_at old new root at index frame value f index_is put =
     put ∙ (ap (λ i. set old (512 * frame + i) value) index_is ∙ ap (λ n. set old (512 * n + at % 4096 / 8) value) (sym f.to_frame))
 
-pub put_at : (old new : List ℕ) (root at index frame : ℕ) (words : List ℕ) (f : LeadsToFrame old root (at / 4096) frame) →
+pub put_at : (old new : List ℕ) (root at index frame : ℕ) (words : List ℕ) (f : LeadsTo old root (at / 4096) frame) →
     index ≡ at % 4096 / 8 → AreWordsWritten old new frame index words →
     AreWordsWritten old new f.place.frame (at % 4096 / 8) words
 put_at old new root at index frame words f index_is put =

@@ -1,6 +1,6 @@
 -- What maps pages, and the pages of slots, and for which of them this is kept: a slot goes by the first three indices
 -- of its pages, as one number in base 512 (own).
-use Rattle.std.specs.Prelude.{◌≡◌, ℕ, ◌^◌, ◌<◌, List, Some}
+use Rattle.std.specs.Prelude.{◌≡◌, ℕ, ◌^◌, ◌<◌, List, Option, Some, IfSome, IsSome}
 use Rattle.std.specs.Option.{option_map}
 use Rattle.std.specs.List.{All}
 use Rattle.std.proofs.Props.{props}
@@ -43,11 +43,34 @@ abbrev pub AreMet : List ℕ → ℕ → MetSlots → Type 0
 AreMet words root slots = AreTablesMet words root slots.tables × AreLargePagesMet words root slots.large_pages × ArePagesMet words root slots.pages
 
 -- the same, with the place, which is one of the memory
-pub record LeadsToFrame (words : List ℕ) (root page frame : ℕ) : Type 0 where
+pub record LeadsTo (words : List ℕ) (root page frame : ℕ) : Type 0 where
   pub place : Place
   pub found : walk_of words root page ≡ Some place
   pub to_frame : place.frame ≡ frame
   pub below : frame < frame_count words
+
+-- the root is a frame of the memory, and the page is mapped
+pub record HasPage (words : List ℕ) (root page : ℕ) : Type 0 where
+  pub below : root < frame_count words
+  pub mapped : IsSome (walk_of words root page)
+
+-- nothing is kept, so all that is kept is right
+pub record KeepsNone (kept : List Met) : Type 0 where
+  pub pages : (words : List ℕ) (root : ℕ) → ArePagesMet words root kept
+  pub tables : (words : List ℕ) (root : ℕ) → AreTablesMet words root kept
+  pub large_pages : (words : List ℕ) (root : ℕ) → AreLargePagesMet words root kept
+
+-- the frame that is kept for a number, if one is; it is right if all that is kept is
+pub record IsKept (kept : List Met) (number : ℕ) (frame : Option ℕ) : Type 0 where
+  pub pages : (words : List ℕ) (root : ℕ) → ArePagesMet words root kept → IfSome frame (IsPage words root number)
+  pub tables : number < 2 ^ 27 → (words : List ℕ) (root : ℕ) → AreTablesMet words root kept → IfSome frame (IsTable words root number)
+  pub large_pages : number < 2 ^ 27 → (words : List ℕ) (root : ℕ) → AreLargePagesMet words root kept → IfSome frame (IsLargePage words root number)
+
+-- all that is kept stays right if a frame that is right is kept for a number
+pub record KeepsToo (old : List Met) (number frame : ℕ) (new : List Met) : Type 0 where
+  pub pages : (words : List ℕ) (root : ℕ) → IsPage words root number frame → ArePagesMet words root old → ArePagesMet words root new
+  pub tables : (words : List ℕ) (root : ℕ) → IsTable words root number frame → AreTablesMet words root old → AreTablesMet words root new
+  pub large_pages : (words : List ℕ) (root : ℕ) → IsLargePage words root number frame → AreLargePagesMet words root old → AreLargePagesMet words root new
 
 -- ---- this is kept in one way
 

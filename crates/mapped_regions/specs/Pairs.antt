@@ -1,5 +1,5 @@
 -- What the pairs of a tree are, from left to right: intervals of page numbers, each with the kind of its region.
-use Rattle.std.specs.Prelude.{ℕ, ◌-◌, ◌*◌, ◌^◌, ◌<◌, ◌≤◌, List, [], ◌∷◌, map}
+use Rattle.std.specs.Prelude.{◌≡◌, ℕ, ◌+◌, ◌-◌, ◌*◌, ◌^◌, ◌<◌, ◌≤◌, List, [], ◌∷◌, map}
 use Rattle.heap_model.specs.declared.region.Region.{Region}
 use Rattle.meminterval.specs.declared.interval.Interval.{Interval}
 use Rattle.mapped_regions.specs.Regions.{AreHeld}
@@ -11,6 +11,18 @@ region_of e = record { start = 4096 * e.0.start; pages = e.0.end - e.0.start; he
 
 abbrev pub pair_regions : List (Interval ℕ × Kind) → List Region
 pair_regions es = map region_of es
+
+-- an interval that begins at a page of the address space and ends in it
+pub record ArePages (pages : Interval ℕ) : Type 0 where
+  pub some : pages.start ≤ pages.end
+  pub within : pages.end ≤ 2 ^ 52
+  pub below : pages.start < 2 ^ 52
+
+-- the pages of a region
+pub record ArePagesOf (region : Region) (interval : Interval ℕ) : Type 0 where
+  pub start : 4096 * interval.start ≡ region.start
+  pub pages : interval.end ≡ interval.start + region.pages
+  pub within : interval.end ≤ 2 ^ 52
 
 -- intervals one after the other between two pages, each of at least one page
 abbrev pub Follow : ℕ → List (Interval ℕ × Kind) → ℕ → Type 0

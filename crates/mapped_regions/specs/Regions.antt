@@ -1,10 +1,11 @@
 -- Regions by ascending address: how they lie, which of them is at a place, and how they change.
-use Rattle.std.specs.Prelude.{◌≡◌, ℕ, ◌-◌, ◌/◌, ◌%◌, ◌<◌, ◌≤◌, ◌⊎◌, ◌&&◌, Bool, nat_le, nat_lt, if◌then◌else◌, IsTrue, List, [], ◌∷◌, find, Option, Some, None, option_map}
+use Rattle.std.specs.Prelude.{◌≡◌, ℕ, ◌+◌, ◌-◌, ◌*◌, ◌/◌, ◌%◌, ◌^◌, ◌<◌, ◌≤◌, ◌⊎◌, ◌&&◌, Bool, nat_le, nat_lt, if◌then◌else◌, IsTrue, List, [], ◌∷◌, find, Option, Some, None, option_map, vec_capacity}
 use Rattle.std.specs.List.{list_any, AllByRecursion}
+use Rattle.std.specs.declared.vec.Vec.{Vec}
 use Rattle.paging_core.specs.declared.page_table.Rights.{Rights}
 use Rattle.heap_model.specs.declared.region.Region.{Region}
 use Rattle.heap_model.specs.State.{end_of_region, is_within}
-use Rattle.heap_model.specs.Place.{meets}
+use Rattle.heap_model.specs.Place.{meets, IsPlace, HasNoPlace}
 pub use Rattle.heap_model.specs.Place.{is_at, without_region}
 
 -- ---- how regions lie
@@ -22,7 +23,28 @@ AreHeld from to regions = (address : ℕ) → from ≤ address → address < to 
 abbrev pub IsRegionBoundary : ℕ → List Region → Type 0
 IsRegionBoundary address regions = AllByRecursion (λ region. (end_of_region region ≤ address) ⊎ (address ≤ region.start)) regions
 
+-- the lowest page from which n pages lie in the window of `pages` pages from the page `base` on and meet no region
+abbrev pub IsLowest : ℕ → ℕ → List Region → ℕ → Option ℕ → Type 0
+IsLowest base pages regions n None = HasNoPlace (4096 * base) pages regions n
+IsLowest base pages regions n (Some page) = IsPlace (4096 * base) pages regions n (4096 * page)
+
+-- a page of a window before which none is free
+pub record IsHint (base end : ℕ) (regions : List Region) (hint : ℕ) : Type 0 where
+  pub from : base ≤ hint
+  pub to : hint ≤ end
+  pub held : AreHeld (4096 * base) (4096 * hint) regions
+
+-- an empty list with places for n items
+pub record HasPlaces {E A : Type 0} (list : Vec E A) (n : ℕ) : Type 0 where
+  pub empty : list.items ≡ []
+  pub places : n ≤ vec_capacity list
+
 -- ---- single regions
+
+-- a region begins at a page, and ends at 2^64 at the latest
+pub record HasWholePages (region : Region) : Type 0 where
+  pub at_page : region.start % 4096 ≡ 0
+  pub within : region.start + 4096 * region.pages ≤ 2 ^ 64
 
 -- whether a region is of the heap, and `pages` pages from an address meet it
 abbrev pub meets_heap : ℕ → ℕ → Region → Bool

@@ -5,6 +5,7 @@ ghost use Rattle.paging_core.specs.Walk.{large_of};
 ghost use Rattle.heap_model.specs.Slots.{IsSlotOf, slot_number};
 ghost use Rattle.heap_model.specs.Machine.{AreLargeSlots};
 ghost use Rattle.mapped_regions.specs.Mapped.{IsPageRange};
+ghost use Rattle.mapped_regions.specs.Regions.{HasPlaces};
 
 use heap_model::Region;
 use paging_core::{Frames, Page, PageSize, PhysFrame, Size2MiB, Size4KiB, VirtAddr, large_page};
@@ -22,8 +23,7 @@ pub(crate) fn list_large(
     requires range { IsPageRange region.start region.pages }
     requires stop { stop ≤ (region.start / 4096 + region.pages) / 512 }
     requires rest { (slot : ℕ) → IsSlotOf region.start region.pages slot → stop ≤ slot / 2 ^ 21 → large_of frames.now root (slot_number slot) ≡ None }
-    requires empty { slots.old.items ≡ [] }
-    requires places { region.pages / 512 ≤ vec_capacity slots.old }
+    requires places { HasPlaces slots.old (region.pages / 512) }
     ensures { AreLargeSlots frames.now root region.start region.pages slots.new.items }
 {
     let first = region.start / Size4KiB::SIZE;

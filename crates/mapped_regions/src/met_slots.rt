@@ -1,9 +1,8 @@
 // Walks that begin where an earlier one ended: at the page's frame, or at the table or the large page of its slot.
-ghost use Rattle.std.specs.Prelude.{◌≡◌, ℕ, ◌+◌, ◌*◌, ◌/◌, ◌%◌, ◌^◌, ◌<◌, IfSome, IsSome, List};
+ghost use Rattle.std.specs.Prelude.{◌≡◌, ℕ, ◌+◌, ◌*◌, ◌/◌, ◌%◌, ◌^◌, ◌<◌, List};
 ghost use Rattle.paging_core.specs.Memory.{frame_count, word_at};
 ghost use Rattle.paging_core.specs.Prefix.{prefix_of};
-ghost use Rattle.paging_core.specs.Walk.{walk_of};
-ghost use Rattle.mapped_regions.specs.MetSlots.{IsPage, IsTable, IsLargePage, IsMapOf, LeadsToFrame, ArePagesMet, AreTablesMet, AreLargePagesMet};
+ghost use Rattle.mapped_regions.specs.MetSlots.{HasPage, IsTable, IsLargePage, IsMapOf, LeadsTo, AreTablesMet, KeepsNone, IsKept, KeepsToo};
 
 use paging_core::{Frames, Page, PageTableEntry, PageTableIndex, PhysFrame, walk};
 
@@ -38,8 +37,7 @@ pub(crate) enum SlotMap {
 
 /// What maps the slot of a page that is mapped, from the root on.
 fn slot_map(frames: &Frames, root: PhysFrame, page: Page) -> SlotMap
-    requires root { root < frame_count frames.now }
-    requires mapped { IsSome (walk_of frames.now root page) }
+    requires page { HasPage frames.now root page }
     ensures { IsMapOf frames.now root (prefix_of page 3) result }
 {
     let third = entry_at(frames, root, page.p4_index()).frame();
@@ -54,29 +52,26 @@ fn slot_map(frames: &Frames, root: PhysFrame, page: Page) -> SlotMap
 
 /// The frame of a page that is mapped, from the table of its slot on.
 fn frame_in_table(frames: &Frames, root: PhysFrame, table: PhysFrame, page: Page) -> PhysFrame
-    requires root { root < frame_count frames.now }
+    requires page { HasPage frames.now root page }
     requires table { IsTable frames.now root (prefix_of page 3) table }
-    requires mapped { IsSome (walk_of frames.now root page) }
-    ensures { LeadsToFrame frames.now root page result }
+    ensures { LeadsTo frames.now root page result }
 {
     entry_at(frames, table, page.p1_index()).frame()
 }
 
 /// The frame of a page that is mapped in a large page, from its first frame on.
 fn frame_in_large_page(frames: &Frames, root: PhysFrame, first: PhysFrame, page: Page) -> PhysFrame
-    requires root { root < frame_count frames.now }
+    requires page { HasPage frames.now root page }
     requires large_page { IsLargePage frames.now root (prefix_of page 3) first }
-    requires mapped { IsSome (walk_of frames.now root page) }
-    ensures { LeadsToFrame frames.now root page result }
+    ensures { LeadsTo frames.now root page result }
 {
     first.after(page.number() % 512)
 }
 
 /// The frame of a page that is mapped, from the root on.
 fn frame_by_walk(frames: &Frames, root: PhysFrame, page: Page) -> PhysFrame
-    requires root { root < frame_count frames.now }
-    requires mapped { IsSome (walk_of frames.now root page) }
-    ensures { LeadsToFrame frames.now root page result }
+    requires page { HasPage frames.now root page }
+    ensures { LeadsTo frames.now root page result }
 {
     let Some(mapped) = walk(frames, root, page) else {
         unreachable!()
@@ -94,9 +89,7 @@ pub(crate) struct Met {
 
 /// Places that keep nothing.
 fn none_met(frame: PhysFrame) -> [Met; PLACES]
-    ensures pages { (words : List ℕ) (root : ℕ) → ArePagesMet words root result }
-    ensures tables { (words : List ℕ) (root : ℕ) → AreTablesMet words root result }
-    ensures large_pages { (words : List ℕ) (root : ℕ) → AreLargePagesMet words root result }
+    ensures { KeepsNone result }
 {
     let none = Met {
         number: NO_NUMBER,
@@ -108,9 +101,7 @@ fn none_met(frame: PhysFrame) -> [Met; PLACES]
 /// The frame that is kept for a number, if one is.
 fn find(kept: &[Met; PLACES], number: u64) -> Option<PhysFrame>
     requires { number < 2 ^ 52 }
-    ensures pages { (words : List ℕ) (root : ℕ) → ArePagesMet words root kept.now → IfSome result (IsPage words root number) }
-    ensures tables { number < 2 ^ 27 → (words : List ℕ) (root : ℕ) → AreTablesMet words root kept.now → IfSome result (IsTable words root number) }
-    ensures large_pages { number < 2 ^ 27 → (words : List ℕ) (root : ℕ) → AreLargePagesMet words root kept.now → IfSome result (IsLargePage words root number) }
+    ensures { IsKept kept.now number result }
 {
     let met = kept[number as usize % PLACES];
     if met.number == number {
@@ -122,9 +113,7 @@ fn find(kept: &[Met; PLACES], number: u64) -> Option<PhysFrame>
 
 /// Keeps a frame for a number, and forgets the one at its place.
 fn put(kept: &mut [Met; PLACES], number: u64, frame: PhysFrame)
-    ensures pages { (words : List ℕ) (root : ℕ) → IsPage words root number frame → ArePagesMet words root kept.old → ArePagesMet words root kept.new }
-    ensures tables { (words : List ℕ) (root : ℕ) → IsTable words root number frame → AreTablesMet words root kept.old → AreTablesMet words root kept.new }
-    ensures large_pages { (words : List ℕ) (root : ℕ) → IsLargePage words root number frame → AreLargePagesMet words root kept.old → AreLargePagesMet words root kept.new }
+    ensures { KeepsToo kept.old number frame kept.new }
 {
     kept[number as usize % PLACES] = Met { number, frame };
 }
@@ -174,10 +163,9 @@ impl MetSlots {
 
     /// The frame of a page that is mapped, by what is kept of its slot.
     fn frame_by_slot(&self, frames: &Frames, root: PhysFrame, page: Page) -> PhysFrame
-        requires root { root < frame_count frames.now }
+        requires page { HasPage frames.now root page }
         requires met { AreMet frames.now root self.now }
-        requires mapped { IsSome (walk_of frames.now root page) }
-        ensures { LeadsToFrame frames.now root page result }
+        ensures { LeadsTo frames.now root page result }
     {
         let number = slot_number(page);
         if let Some(table) = find(&self.tables, number) {
@@ -191,10 +179,9 @@ impl MetSlots {
 
     /// The frame of a page that is mapped.
     pub(crate) fn frame(&self, frames: &Frames, root: PhysFrame, page: Page) -> PhysFrame
-        requires root { root < frame_count frames.now }
+        requires page { HasPage frames.now root page }
         requires met { AreMet frames.now root self.now }
-        requires mapped { IsSome (walk_of frames.now root page) }
-        ensures { LeadsToFrame frames.now root page result }
+        ensures { LeadsTo frames.now root page result }
     {
         match find(&self.pages, page.number()) {
             Some(frame) => frame,
@@ -204,9 +191,8 @@ impl MetSlots {
 
     /// Keeps what maps the slot of a page that is mapped.
     fn keep_slot(&mut self, frames: &Frames, root: PhysFrame, page: Page)
-        requires root { root < frame_count frames.now }
+        requires page { HasPage frames.now root page }
         requires met { AreMet frames.now root self.old }
-        requires mapped { IsSome (walk_of frames.now root page) }
         ensures { AreMet frames.now root self.new }
     {
         let map = slot_map(frames, root, page);
@@ -215,9 +201,8 @@ impl MetSlots {
 
     /// Keeps what maps the slot of a page that is mapped, if nothing is kept of it.
     fn keep_new_slot(&mut self, frames: &Frames, root: PhysFrame, page: Page)
-        requires root { root < frame_count frames.now }
+        requires page { HasPage frames.now root page }
         requires met { AreMet frames.now root self.old }
-        requires mapped { IsSome (walk_of frames.now root page) }
         ensures { AreMet frames.now root self.new }
     {
         let number = slot_number(page);
@@ -228,10 +213,9 @@ impl MetSlots {
 
     /// The frame of a page that is mapped. The page and its slot are kept from now on.
     pub(crate) fn meet(&mut self, frames: &Frames, root: PhysFrame, page: Page) -> PhysFrame
-        requires root { root < frame_count frames.now }
+        requires page { HasPage frames.now root page }
         requires met { AreMet frames.now root self.old }
-        requires mapped { IsSome (walk_of frames.now root page) }
-        ensures frame { LeadsToFrame frames.now root page result }
+        ensures frame { LeadsTo frames.now root page result }
         ensures met { AreMet frames.now root self.new }
     {
         self.keep_new_slot(frames, root, page);
@@ -242,10 +226,9 @@ impl MetSlots {
 
     /// The same as `meet`. It looks for the page first, and is so short that it is compiled into whoever stores a word.
     pub(crate) fn frame_kept(&mut self, frames: &Frames, root: PhysFrame, page: Page) -> PhysFrame
-        requires root { root < frame_count frames.now }
+        requires page { HasPage frames.now root page }
         requires met { AreMet frames.now root self.old }
-        requires mapped { IsSome (walk_of frames.now root page) }
-        ensures frame { LeadsToFrame frames.now root page result }
+        ensures frame { LeadsTo frames.now root page result }
         ensures met { AreMet frames.now root self.new }
     {
         match find(&self.pages, page.number()) {

@@ -2,10 +2,10 @@
 ghost use Rattle.std.specs.Prelude.{◌≡◌, ℕ, ◌+◌, ◌-◌, ◌*◌, ◌%◌, ◌^◌, ◌<◌, ◌≤◌, IfSome, IfNone, [], ◌∷◌, ◌++◌};
 ghost use Rattle.std.specs.Prelude.{IsFalse, IsTrue, OnOk, OnErr, filter, find, map, length, vec_len, vec_capacity};
 ghost use Rattle.std.specs.List.{list_any};
-ghost use Rattle.heap_model.specs.Place.{IsPlace, HasNoPlace, meets, meets_any, with_region};
+ghost use Rattle.heap_model.specs.Place.{meets, meets_any, with_region};
 ghost use Rattle.meminterval.specs.Tree.{entries};
-ghost use Rattle.mapped_regions.specs.Pairs.{region_of, pair_regions, Follow};
-ghost use Rattle.mapped_regions.specs.Regions.{AreLaid, AreHeld, IsRegionBoundary, AreTakenOut, IsPutIn, is_at, meets_heap, without_region, with_page_count, cut_regions};
+ghost use Rattle.mapped_regions.specs.Pairs.{region_of, pair_regions, ArePages, ArePagesOf, Follow};
+ghost use Rattle.mapped_regions.specs.Regions.{AreLaid, AreHeld, HasPlaces, HasWholePages, IsHint, IsLowest, IsRegionBoundary, AreTakenOut, IsPutIn, is_at, meets_heap, without_region, with_page_count, cut_regions};
 
 use heap_model::{Region, RegionList, Rights};
 use meminterval::{Interval, IntervalTree};
@@ -22,9 +22,7 @@ struct Kind {
 
 /// The region of the pages in an interval.
 fn region(pages: &Interval<u64>, kind: Kind) -> Region
-    requires some { pages.now.start ≤ pages.now.end }
-    requires within { pages.now.end ≤ 2 ^ 52 }
-    requires below { pages.now.start < 2 ^ 52 }
+    requires { ArePages pages.now }
     ensures { result ≡ region_of (pages.now, kind) }
 {
     Region {
@@ -37,11 +35,8 @@ fn region(pages: &Interval<u64>, kind: Kind) -> Region
 
 /// The pages of a region.
 fn pages_of(region: &Region) -> Interval<u64>
-    requires at_page { region.now.start % 4096 ≡ 0 }
-    requires within { region.now.start + 4096 * region.now.pages ≤ 2 ^ 64 }
-    ensures start { 4096 * result.start ≡ region.now.start }
-    ensures pages { result.end ≡ result.start + region.now.pages }
-    ensures within { result.end ≤ 2 ^ 52 }
+    requires { HasWholePages region.now }
+    ensures { ArePagesOf region.now result }
 {
     let first = region.start / Size4KiB::SIZE;
     Interval::new(first, first + region.pages)
@@ -141,8 +136,7 @@ impl RegionTree {
 
     /// Puts the regions into a list that has places for them, by ascending address.
     pub fn list(&self, mut list: Vec<Region>) -> RegionList
-        requires empty { list.items ≡ [] }
-        requires places { length self.now ≤ vec_capacity list }
+        requires { HasPlaces list (length self.now) }
         ensures { result ≡ self.now }
     {
         let mut at = 0;
@@ -155,8 +149,7 @@ impl RegionTree {
 
     /// Puts the regions of the heap into a list that has places for all regions, by ascending address.
     pub fn list_of_heap(&self, mut list: Vec<Region>) -> RegionList
-        requires empty { list.items ≡ [] }
-        requires places { length self.now ≤ vec_capacity list }
+        requires { HasPlaces list (length self.now) }
         ensures { result ≡ filter (λ region. region.heap) self.now }
     {
         let mut page = 0;
@@ -174,8 +167,7 @@ impl RegionTree {
     pub fn lowest_place(&self, base: u64, pages: u64, n: u64) -> Option<u64>
         requires some { 0 < n }
         requires window { base + pages ≤ 2 ^ 52 }
-        ensures place { IfSome result (λ page. IsPlace (4096 * base) pages self.now n (4096 * page)) }
-        ensures none { IfNone result (HasNoPlace (4096 * base) pages self.now n) }
+        ensures { IsLowest base pages self.now n result }
     {
         let hint = self.hint_in(base, base + pages);
         self.place_behind(hint, base, pages, n)
@@ -184,9 +176,7 @@ impl RegionTree {
     /// A page of the window from `base` to `end` before which none is free.
     fn hint_in(&self, base: u64, end: u64) -> u64
         requires { base ≤ end }
-        ensures from { base ≤ result }
-        ensures to { result ≤ end }
-        ensures held { AreHeld (4096 * base) (4096 * result) self.now }
+        ensures { IsHint base end self.now result }
     {
         if base != self.base {
             return base;
@@ -201,11 +191,8 @@ impl RegionTree {
     fn place_behind(&self, hint: u64, base: u64, pages: u64, n: u64) -> Option<u64>
         requires some { 0 < n }
         requires window { base + pages ≤ 2 ^ 52 }
-        requires from { base ≤ hint }
-        requires to { hint ≤ base + pages }
-        requires held { AreHeld (4096 * base) (4096 * hint) self.now }
-        ensures place { IfSome result (λ page. IsPlace (4096 * base) pages self.now n (4096 * page)) }
-        ensures none { IfNone result (HasNoPlace (4096 * base) pages self.now n) }
+        requires hint { IsHint base (base + pages) self.now hint }
+        ensures { IsLowest base pages self.now n result }
     {
         self.place_from(hint, base + pages - hint, n)
     }
@@ -213,8 +200,7 @@ impl RegionTree {
     /// The lowest place, by a search from the page `base` on.
     fn place_from(&self, base: u64, pages: u64, n: u64) -> Option<u64>
         requires window { base + pages ≤ 2 ^ 52 }
-        ensures place { IfSome result (λ page. IsPlace (4096 * base) pages self.now n (4096 * page)) }
-        ensures none { IfNone result (HasNoPlace (4096 * base) pages self.now n) }
+        ensures { IsLowest base pages self.now n result }
     {
         let end = base + pages;
         let mut at = base;
@@ -283,9 +269,8 @@ impl RegionTree {
 
     /// Puts a region in that meets none of the others. An `Err` changes nothing.
     pub fn add(&mut self, alloc: Global, region: Region) -> Result<(), AllocError>
-        requires at_page { region.start % 4096 ≡ 0 }
+        requires whole { HasWholePages region }
         requires some { 0 < region.pages }
-        requires within { region.start + 4096 * region.pages ≤ 2 ^ 64 }
         requires clear { IsFalse (meets_any region.start region.pages self.old) }
         ensures ok { OnOk result (self.new ≡ with_region region self.old) }
         ensures put { OnOk result (IsPutIn region self.old self.new) }
@@ -307,8 +292,7 @@ impl RegionTree {
 
     /// Takes a region out, if it is there.
     pub fn remove(&mut self, region: &Region)
-        requires at_page { region.now.start % 4096 ≡ 0 }
-        requires within { region.now.start + 4096 * region.now.pages ≤ 2 ^ 64 }
+        requires { HasWholePages region.now }
         ensures regions { self.new ≡ without_region region.now.start region.now.pages self.old }
 
         // If it is there, its addresses leave and no others.
@@ -321,11 +305,10 @@ impl RegionTree {
 
     /// Cuts a region at its end, so that `left` of its pages are left.
     pub fn shorten(&mut self, region: &Region, left: u64)
-        requires at_page { region.now.start % 4096 ≡ 0 }
+        requires whole { HasWholePages region.now }
         requires there { IsTrue (list_any (is_at region.now.start region.now.pages) self.old) }
         requires some { 0 < left }
         requires less { left ≤ region.now.pages }
-        requires within { region.now.start + 4096 * region.now.pages ≤ 2 ^ 64 }
         ensures { self.new ≡ map (with_page_count region.now.start region.now.pages left) self.old }
     {
         let pages = pages_of(region);

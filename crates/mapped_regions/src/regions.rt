@@ -9,7 +9,7 @@ ghost use Rattle.paging_core.specs.Walk.{walk_of, reached};
 ghost use Rattle.paging_core.specs.Tree.{IsTree};
 ghost use Rattle.heap_model.specs.Place.{IsPlace, HasNoPlace};
 ghost use Rattle.heap_model.specs.Machine.{rights_of};
-ghost use Rattle.mapped_regions.specs.Regions.{is_at, kind_at, AreHeld, IsRegionBoundary};
+ghost use Rattle.mapped_regions.specs.Regions.{is_at, kind_at, AreHeld, HasPlaces, IsRegionBoundary};
 ghost use Rattle.mapped_regions.specs.MetSlots.{AreMet, AreMet-prop};
 ghost use Rattle.mapped_regions.specs.Mapped.{IsPageRange, IsMapped, IsMapped-prop};
 
@@ -59,7 +59,7 @@ pub struct MappedRegions {
 
 impl MappedRegions {
     ghost use Rattle.mapped_regions.specs.Mapped.{IsEmpty, IsRegion, HasFrames, CanMap, IsRegionJoined, IsLeft, AreGone, IsMappedWord, word_reached};
-    ghost use Rattle.mapped_regions.specs.Shown.{paged_view};
+    ghost use Rattle.mapped_regions.specs.Shown.{paged_view, KeptIfErr};
     ghost use Rattle.paging_core.specs.Stores.{KeepsTables, IsWordPut};
 
     /// A memory with `frames` frames, of which one holds the root table, and with a window of `pages` pages from the
@@ -146,8 +146,7 @@ impl MappedRegions {
 
     /// Puts the regions into a list that has places for them.
     pub fn list(&self, list: Vec<Region>) -> RegionList
-        requires empty { list.items ≡ [] }
-        requires places { length (paged_view self.now).regions ≤ vec_capacity list }
+        requires { HasPlaces list (length (paged_view self.now).regions) }
         ensures { result ≡ (paged_view self.now).regions }
     {
         self.regions.list(list)
@@ -155,8 +154,7 @@ impl MappedRegions {
 
     /// Puts the regions of the heap into a list that has places for all regions.
     pub fn list_of_heap(&self, list: Vec<Region>) -> RegionList
-        requires empty { list.items ≡ [] }
-        requires places { length (paged_view self.now).regions ≤ vec_capacity list }
+        requires { HasPlaces list (length (paged_view self.now).regions) }
         ensures { result ≡ filter (λ region. region.heap) (paged_view self.now).regions }
     {
         self.regions.list_of_heap(list)
@@ -192,7 +190,7 @@ impl MappedRegions {
         requires region { IsRegion (paged_view self.old).base (paged_view self.old).pages region }
         requires can { CanMap (paged_view self.old) region.start region.pages }
         ensures ok { OnOk result (IsRegionJoined (paged_view self.old) (paged_view self.new) region) }
-        ensures err { OnErr result (paged_view self.new ≡ paged_view self.old) }
+        ensures err { KeptIfErr result self.old self.new }
     {
         let free = self.pool.free_count();
         let places = region.pages * Size4KiB::SIZE / Size2MiB::SIZE;

@@ -1,7 +1,7 @@
 // Regions of the user: pages that are mapped and unmapped at an address that the caller names.
 ghost use Rattle.std.specs.Prelude.{◌≡◌, ◌*◌, ◌/◌, ◌+◌, ◌^◌, ◌≤◌, ◌↔◌, IsTrue, IfErr, OnOk, OnErr};
 ghost use Rattle.mapped_regions.specs.Mapped.{IsPageRange, CanMap, IsRegionJoined, IsLeft};
-ghost use Rattle.mapped_regions.specs.Shown.{paged_view};
+ghost use Rattle.mapped_regions.specs.Shown.{paged_view, KeptIfErr};
 ghost use Rattle.mapped_regions.specs.UserRegions.{user_region, IsMapRefused, IsUnmapRefused, CanUnmap};
 
 use crate::map_fault::{MapFault, UnmapFault};
@@ -36,7 +36,7 @@ impl MappedRegions {
     pub fn map(&mut self, start: u64, pages: u64, rights: Rights) -> Result<(), MapFault>
         ensures ok { OnOk result (IsRegionJoined (paged_view self.old) (paged_view self.new) (user_region start pages rights)) }
         ensures can { OnOk result (CanMap (paged_view self.old) start pages) }
-        ensures err { OnErr result (paged_view self.new ≡ paged_view self.old) }
+        ensures err { KeptIfErr result self.old self.new }
         ensures refused { IfErr result (λ fault. IsMapRefused (paged_view self.old) start pages fault) }
     {
         if !is_page_range(start, pages) {
@@ -69,7 +69,7 @@ impl MappedRegions {
     pub fn unmap(&mut self, start: u64, pages: u64) -> Result<(), UnmapFault>
         ensures ok { OnOk result (IsLeft (paged_view self.old) (paged_view self.new) start pages) }
         ensures can { OnOk result (CanUnmap (paged_view self.old) start pages) }
-        ensures err { OnErr result (paged_view self.new ≡ paged_view self.old) }
+        ensures err { KeptIfErr result self.old self.new }
         ensures refused { IfErr result (λ fault. IsUnmapRefused (paged_view self.old) start pages fault) }
     {
         if !is_page_range(start, pages) {

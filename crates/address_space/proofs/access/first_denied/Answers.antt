@@ -13,7 +13,7 @@ returns-in_default-clause-denied c =
     denied_at (rights_in (entries c.args.runs.now)) c.args.access.write c.args.access.user c.args.at c.args.count
     c.loop-page.page c.first_byte.result (page_fault_bits c.code.result) None c.loop-page.invariant
     c.loop-page-test.true c.requires.some
-    c.first_byte.ensures.page c.first_byte.ensures.from c.first_byte.ensures.first c.first_byte.ensures.within c.in_default.ensures.none refl c.code.ensures
+    c.first_byte.ensures.page c.first_byte.ensures.from c.first_byte.ensures.first c.first_byte.ensures.within c.in_default.ensures refl c.code.ensures
 
 pub loop-page-preserved : goal.loop-page-preserved
 loop-page-preserved c =

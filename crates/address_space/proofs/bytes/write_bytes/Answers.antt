@@ -21,9 +21,10 @@ loop-done-preserved c =
 pub write_part-requires-clause-tree : goal.write_part-requires-clause-tree
 write_part-requires-clause-tree c = (c.requires.tree.0, c.loop-done.invariant.tree c.requires.tree.0 c.requires.tree.1)
 
-pub returns-clause-words : goal.returns-clause-words
-returns-clause-words c =
-    let within = c.loop-done.invariant.within in
+pub returns : goal.returns
+returns c =
+    let i = c.loop-done.invariant in
+    let within = i.within in
     let behind = c.loop-done-test.false in
-    let e : c.loop-done.done ≡ length c.args.bytes.now = omega (arith, within, behind) in
-    rw e at c.loop-done.invariant.words
+    let all : c.loop-done.done ≡ length c.args.bytes.now = omega (arith, within, behind) in
+    record { size = i.size; tree = i.tree; walks = i.walks; larges = i.larges; bytes = rw all at i.written; words = rw all at i.words }

@@ -58,43 +58,27 @@ elsewhere : (c : goal.After-write_words) → (f i : ℕ) → i < 512 → (f ≡ 
     word_at c.write_words.new.self f i ≡ word_at c.args.frames.now f i
 elsewhere c = λ f i less other. c.write_words.ensures.others f i less (λ same low high. other same)
 
-pub returns-clause-size : goal.returns-clause-size
-returns-clause-size c = c.write_words.ensures.size
-
-pub returns-clause-tree : goal.returns-clause-tree
-returns-clause-tree c = λ free tree.
-    written_tree c.args.frames.now c.write_words.new.self c.args.root c.containing_address-page.result
-    (mapped_place c.in-Some.place) free (sym c.in-Some.ensures.found) c.write_words.ensures.size (elsewhere c) tree
-
-pub returns-clause-walks : goal.returns-clause-walks
-returns-clause-walks c =
+pub returns : goal.returns
+returns c =
+    let old = c.args.frames.now in
+    let new = c.write_words.new.self in
+    let root = c.args.root in
+    let page_number = c.containing_address-page.result in
+    let place = mapped_place c.in-Some.place in
+    let found = sym c.in-Some.ensures.found in
+    let same = c.write_words.ensures.size in
     let t = c.requires.tree in
-    written_walks c.args.frames.now c.write_words.new.self c.args.root c.containing_address-page.result
-    (mapped_place c.in-Some.place) t.0 (sym c.in-Some.ensures.found) c.write_words.ensures.size (elsewhere c) t.1
-
-pub returns-clause-larges : goal.returns-clause-larges
-returns-clause-larges c =
-    let t = c.requires.tree in
-    written_larges c.args.frames.now c.write_words.new.self c.args.root c.containing_address-page.result
-    (mapped_place c.in-Some.place) t.0 (sym c.in-Some.ensures.found) c.write_words.ensures.size (elsewhere c) t.1
-
-pub returns-clause-words : goal.returns-clause-words
-returns-clause-words c =
-    part_words c.args.frames.now c.write_words.new.self c.read_words.new.words c.put_bytes.new.words c.args.bytes.now
-    c.args.root c.args.at c.containing_address-page.result (c.args.at % 4096 / 8) (mapped_place c.in-Some.place) (part c)
-
-pub returns-clause-bytes : goal.returns-clause-bytes
-returns-clause-bytes c =
-    let t = c.requires.tree in
-    let page = c.containing_address-page.ensures in
-    let at = c.new.ensures in
-    let half : c.containing_address-page.result * 4096 / 2 ^ 47 ≡ c.args.at / 2 ^ 47 = omega (arith, page, at) in
-    let canonical : IsTrue (is_canonical (c.containing_address-page.result * 4096)) = ap (λ (n : ℕ). n == 0 || n == 2 ^ 17 - 1) half ∙ c.requires.canonical in
-    part_written c.args.frames.now c.write_words.new.self c.read_words.new.words c.put_bytes.new.words c.args.bytes.now
-    c.args.root c.args.at c.containing_address-page.result (c.args.at % 4096 / 8) (mapped_place c.in-Some.place) (part c)
-    (run_bytes c.args.frames.now c.write_words.new.self c.args.root c.containing_address-page.result (c.args.at % 4096 / 8)
-    c.put_bytes.new.words (mapped_place c.in-Some.place) t.0 (sym c.in-Some.ensures.found) (fits c) c.write_words.ensures
-    t.1)
-    (run_others c.args.frames.now c.write_words.new.self c.args.root c.containing_address-page.result (c.args.at % 4096 / 8)
-    c.put_bytes.new.words (mapped_place c.in-Some.place) t.0 (sym c.in-Some.ensures.found) (fits c) c.write_words.ensures
-    t.1 canonical)
+    let half : page_number * 4096 / 2 ^ 47 ≡ c.args.at / 2 ^ 47 = omega (arith, c.containing_address-page.ensures, c.new.ensures) in
+    let canonical : IsTrue (is_canonical (page_number * 4096)) = ap (λ (n : ℕ). n == 0 || n == 2 ^ 17 - 1) half ∙ c.requires.canonical in
+    record {
+      size = same;
+      tree = λ free tree. written_tree old new root page_number place free found same (elsewhere c) tree;
+      walks = written_walks old new root page_number place t.0 found same (elsewhere c) t.1;
+      larges = written_larges old new root page_number place t.0 found same (elsewhere c) t.1;
+      bytes = part_written old new c.read_words.new.words c.put_bytes.new.words c.args.bytes.now root c.args.at page_number
+          (c.args.at % 4096 / 8) place (part c)
+          (run_bytes old new root page_number (c.args.at % 4096 / 8) c.put_bytes.new.words place t.0 found (fits c) c.write_words.ensures t.1)
+          (run_others old new root page_number (c.args.at % 4096 / 8) c.put_bytes.new.words place t.0 found (fits c) c.write_words.ensures t.1 canonical);
+      words = part_words old new c.read_words.new.words c.put_bytes.new.words c.args.bytes.now root c.args.at page_number
+          (c.args.at % 4096 / 8) place (part c);
+    }

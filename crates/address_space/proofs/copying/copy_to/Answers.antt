@@ -11,17 +11,17 @@ use Rattle.address_space.proofs.copying.copy_to.Goals as goal
 pub protect_page-requires-clause-page : goal.protect_page-requires-clause-page
 protect_page-requires-clause-page c = record {
   rooted = search rules;
-  mapped = let t = c.requires.tree in
+  mapped = let t = c.requires.tables.tree in
       subst IsSome (sym (walk_same c.args.frames.now c.copy_page.new.frames c.args.root c.args.target (c.copy_page.ensures.kept.walks t.0 t.1))) c.requires.target;
-  small = let t = c.requires.tree in
-      by_table c.copy_page.new.frames c.args.root c.args.target (λ slot. c.copy_page.ensures.kept.larges t.0 t.1 slot ∙ c.requires.no_large slot)
+  small = let t = c.requires.tables.tree in
+      by_table c.copy_page.new.frames c.args.root c.args.target (λ slot. c.copy_page.ensures.kept.larges t.0 t.1 slot ∙ c.requires.tables.no_large slot)
       (subst IsSome (sym (walk_same c.args.frames.now c.copy_page.new.frames c.args.root c.args.target
       (c.copy_page.ensures.kept.walks t.0 t.1))) c.requires.target);
 }
 
 pub unreachable-requires : goal.unreachable-requires
 unreachable-requires c =
-    let t = c.requires.tree in
+    let t = c.requires.tables.tree in
     let one = c.copy_page.new.frames in
     not_there (walk_of one c.args.root c.args.source) (sym c.walk.ensures.found
     ∙ ap (option_map mapped_place) c.in_default.is)
@@ -29,7 +29,7 @@ unreachable-requires c =
 
 pub returns : goal.returns
 returns c =
-    let t = c.requires.tree in
+    let t = c.requires.tables.tree in
     let tree = c.copy_page.ensures.kept.tree t.0 t.1 in
     let walks = c.copy_page.ensures.kept.walks t.0 t.1 in
     let target = some_place (walk_of c.args.frames.now c.args.root c.args.target) c.requires.target in

@@ -10,6 +10,11 @@ use Rattle.address_space.proofs.run_changes.copy.Goals as goal
 pub loop-done-init : goal.loop-done-init
 loop-done-init c = none_copied (entries c.args.runs.now) c.args.from c.args.pages c.args.to c.requires.follow c.requires.longest
 
+pub add-requires-clause-clear : goal.add-requires-clause-clear
+add-requires-clause-clear c = λ page from to.
+    target_free (entries c.args.runs.now) (entries c.loop-done.runs) c.args.from c.args.pages c.args.to c.loop-done.done page
+    c.requires.free c.loop-done.invariant from (omega (arith, c.min-count.ensures, c.loop-done-test.true, to))
+
 pub loop-done-preserved : goal.loop-done-preserved
 loop-done-preserved c =
     let run = c.in-Some.run' in

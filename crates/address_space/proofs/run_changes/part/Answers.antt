@@ -18,7 +18,7 @@ pub returns-clause-ok : goal.returns-clause-ok
 returns-clause-ok c =
     let run = c.in-Some.run' in
     parted_by (entries c.args.runs.now) (entries c.split.new.runs) run.start run.end c.args.page run.rights
-    c.in-Some.ensures.run c.in-Some.ensures.starts c.in_ok-split.ensures.ok
+    c.in-Some.ensures.run c.in-Some.ensures.starts c.in_ok-split.ensures.ok.set
 
 always_err : {A E : Type 0} (r : Result A E) (X : Type 0) → X → IfErr r (λ error. X)
 always_err {A} {E} (Ok a) X x = tt

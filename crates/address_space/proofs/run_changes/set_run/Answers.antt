@@ -42,23 +42,5 @@ returns-clause-ok c =
     c.new-2.result is h.before c.new-2.ensures.start c.new-2.ensures.end c.delete.ensures in
     let among : IsAmong two run.start (2 ^ 53) run.end c.args.rights =
     record { front = h.front; back = h.back; whole = then; before = h.before; some = h.some; behind = h.behind } in
-    (run_set es new run.start run.end run.rights c.args.rights h (shortened two new run.start (2 ^ 53) run.end run.end
-    c.args.rights c.new-3.result among c.new-3.ensures.start c.new-3.ensures.end c.shorten.ensures.pairs)).set
-
-pub returns-clause-apart : goal.returns-clause-apart
-returns-clause-apart c =
-    let es = entries c.args.runs.now in
-    let one = entries c.insert.new.self in
-    let two = entries c.delete.new.self in
-    let new = entries c.shorten.new.self in
-    let run = c.args.run in
-    let h = c.requires.run in
-    let w = run_within es run.start run.end run.rights h in
-    let is = inserted_longer es one run.start run.end (2 ^ 53) run.rights c.args.rights c.new.result h (omega (arith, w))
-    c.new.ensures.start c.new.ensures.end c.in_ok-insert.ensures.ok in
-    let then = deleted one two h.front (run_of run.start (2 ^ 53) c.args.rights ∷ h.back) run.start run.end run.rights
-    c.new-2.result is h.before c.new-2.ensures.start c.new-2.ensures.end c.delete.ensures in
-    let among : IsAmong two run.start (2 ^ 53) run.end c.args.rights =
-    record { front = h.front; back = h.back; whole = then; before = h.before; some = h.some; behind = h.behind } in
-    (run_set es new run.start run.end run.rights c.args.rights h (shortened two new run.start (2 ^ 53) run.end run.end
-    c.args.rights c.new-3.result among c.new-3.ensures.start c.new-3.ensures.end c.shorten.ensures.pairs)).keeps
+    run_set es new run.start run.end run.rights c.args.rights h (shortened two new run.start (2 ^ 53) run.end run.end
+    c.args.rights c.new-3.result among c.new-3.ensures.start c.new-3.ensures.end c.shorten.ensures.pairs)

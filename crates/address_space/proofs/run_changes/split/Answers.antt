@@ -32,18 +32,5 @@ returns-clause-ok c =
     let is = inserted_inside es one run.start run.end page run.rights c.args.rights c.new.result c.requires.run
     c.requires.above c.requires.below c.new.ensures.start c.new.ensures.end c.in_ok-insert.ensures.ok in
     let two = two_runs es one run.start run.end page run.rights c.args.rights c.requires.run c.requires.above c.requires.below is in
-    (split_set es new run.start run.end page run.rights c.args.rights c.requires.run c.requires.above c.requires.below
-    (shortened one new run.start run.end page page run.rights c.new-2.result two c.new-2.ensures.start c.new-2.ensures.end c.shorten.ensures.pairs)).set
-
-pub returns-clause-apart : goal.returns-clause-apart
-returns-clause-apart c =
-    let es = entries c.args.runs.now in
-    let one = entries c.insert.new.self in
-    let new = entries c.shorten.new.self in
-    let run = c.args.run in
-    let page = c.args.page in
-    let is = inserted_inside es one run.start run.end page run.rights c.args.rights c.new.result c.requires.run
-    c.requires.above c.requires.below c.new.ensures.start c.new.ensures.end c.in_ok-insert.ensures.ok in
-    let two = two_runs es one run.start run.end page run.rights c.args.rights c.requires.run c.requires.above c.requires.below is in
-    (split_set es new run.start run.end page run.rights c.args.rights c.requires.run c.requires.above c.requires.below
-    (shortened one new run.start run.end page page run.rights c.new-2.result two c.new-2.ensures.start c.new-2.ensures.end c.shorten.ensures.pairs)).keeps
+    split_set es new run.start run.end page run.rights c.args.rights c.requires.run c.requires.above c.requires.below
+    (shortened one new run.start run.end page page run.rights c.new-2.result two c.new-2.ensures.start c.new-2.ensures.end c.shorten.ensures.pairs)

@@ -17,12 +17,12 @@ put_in es new i first end rights s e is =
     ∙ ap (λ (p : ℕ). with_entry (by_ends nat_cmp) (record { start = first; end = p }, rights) es) e)
 
 pub insert-requires-clause-room : goal.insert-requires-clause-room
-insert-requires-clause-room c = let h = follow_length 0 (entries c.args.runs.now) (2 ^ 52) c.requires.follow in omega (arith, h)
+insert-requires-clause-room c = let h = follow_length 0 (entries c.args.runs.now) (2 ^ 52) c.requires.span.follow in omega (arith, h)
 
 pub join-requires-clause-follow : goal.join-requires-clause-follow
 join-requires-clause-follow c =
     let p = put (entries c.args.runs.now) (entries c.insert.new.self) c.args.first c.args.end c.args.rights
-    c.requires.follow c.requires.some c.requires.within c.requires.clear
+    c.requires.span.follow c.requires.span.some c.requires.span.within c.requires.clear
     (put_in (entries c.args.runs.now) (entries c.insert.new.self) c.new.result c.args.first c.args.end c.args.rights
     c.new.ensures.start c.new.ensures.end c.in_ok-insert.ensures.ok) in
     p.follow
@@ -30,9 +30,9 @@ join-requires-clause-follow c =
 pub returns-clause-ok : goal.returns-clause-ok
 returns-clause-ok c =
     let p = put (entries c.args.runs.now) (entries c.insert.new.self) c.args.first c.args.end c.args.rights
-    c.requires.follow c.requires.some c.requires.within c.requires.clear
+    c.requires.span.follow c.requires.span.some c.requires.span.within c.requires.clear
     (put_in (entries c.args.runs.now) (entries c.insert.new.self) c.new.result c.args.first c.args.end c.args.rights
     c.new.ensures.start c.new.ensures.end c.in_ok-insert.ensures.ok) in
     added (entries c.args.runs.now) (entries c.insert.new.self) (entries c.join.new.runs) (entries c.join-2.new.runs)
-    c.args.first c.args.end c.args.rights c.requires.follow c.requires.longest c.requires.clear p c.join.ensures
+    c.args.first c.args.end c.args.rights c.requires.span.follow c.requires.span.longest c.requires.clear p c.join.ensures
     c.join-2.ensures

@@ -5,14 +5,14 @@ use Rattle.mapped_regions.proofs.met_slots.slot_map.Goals as goal
 
 pub entry_at-requires-2 : goal.entry_at-requires-2
 entry_at-requires-2 c =
-    let w = passed c.args.frames.now c.args.root c.args.page c.requires.root c.requires.mapped in
+    let w = passed c.args.frames.now c.args.root c.args.page c.requires.page.below c.requires.page.mapped in
     let third = third_named c.args.frames.now c.args.root c.args.page c.p4_index.result c.entry_at.result
     c.frame-third.result w c.p4_index.ensures c.entry_at.ensures c.frame-third.ensures in
     subst (λ f. f < frame_count c.args.frames.now) third w.third_below
 
 pub entry_at-entry-requires : goal.entry_at-entry-requires
 entry_at-entry-requires c =
-    let w = passed c.args.frames.now c.args.root c.args.page c.requires.root c.requires.mapped in
+    let w = passed c.args.frames.now c.args.root c.args.page c.requires.page.below c.requires.page.mapped in
     let third = third_named c.args.frames.now c.args.root c.args.page c.p4_index.result c.entry_at.result
     c.frame-third.result w c.p4_index.ensures c.entry_at.ensures c.frame-third.ensures in
     let second = second_named c.args.frames.now c.args.root c.args.page c.frame-third.result c.p3_index.result
@@ -21,7 +21,7 @@ entry_at-entry-requires c =
 
 pub returns-then-is_huge : goal.returns-then-is_huge
 returns-then-is_huge c =
-    let w = passed c.args.frames.now c.args.root c.args.page c.requires.root c.requires.mapped in
+    let w = passed c.args.frames.now c.args.root c.args.page c.requires.page.below c.requires.page.mapped in
     let third = third_named c.args.frames.now c.args.root c.args.page c.p4_index.result c.entry_at.result
     c.frame-third.result w c.p4_index.ensures c.entry_at.ensures c.frame-third.ensures in
     let second = second_named c.args.frames.now c.args.root c.args.page c.frame-third.result c.p3_index.result
@@ -32,7 +32,7 @@ returns-then-is_huge c =
 
 pub returns-else-is_huge : goal.returns-else-is_huge
 returns-else-is_huge c =
-    let w = passed c.args.frames.now c.args.root c.args.page c.requires.root c.requires.mapped in
+    let w = passed c.args.frames.now c.args.root c.args.page c.requires.page.below c.requires.page.mapped in
     let third = third_named c.args.frames.now c.args.root c.args.page c.p4_index.result c.entry_at.result
     c.frame-third.result w c.p4_index.ensures c.entry_at.ensures c.frame-third.ensures in
     let second = second_named c.args.frames.now c.args.root c.args.page c.frame-third.result c.p3_index.result

@@ -1,32 +1,44 @@
 use Rattle.std.proofs.Common.{ℕ, ◌+◌, ◌∙◌, false, refl, sym, subst, arith}
-use Rattle.std.specs.Prelude.{IsSome}
 use Rattle.meminterval.specs.Tree.{entries}
-use Rattle.paging_core.specs.Walk.{walk_of}
 use Rattle.address_space.specs.RunChanges.{AreRightsCopied}
-use Rattle.address_space.specs.PageCopies.{ArePagesCopied}
+use Rattle.address_space.specs.PageCopies.{ArePagesCopied, IsMappedRange}
 use Rattle.address_space.specs.Seen.{tables_of}
+use Rattle.address_space.proofs.Mapped.{clear_walks}
 use Rattle.address_space.proofs.Duplicated.{AreDuplicated, duplicated_kept, duplicated_map, duplicated_is, ranges_apart, source_mapped, target_mapped}
 use Rattle.address_space.proofs.DuplicatedWords.{duplicated_words}
 use Rattle.address_space.proofs.space.Space.copy_clear.Goals as goal
 
-pub copy_pages-requires-clause-tree : goal.copy_pages-requires-clause-tree
-copy_pages-requires-clause-tree c = (c.map_range.new.pool, c.map_range.ensures.added.tree)
+pub map_range-requires-clause-unmapped : goal.map_range-requires-clause-unmapped
+map_range-requires-clause-unmapped c = clear_walks (tables_of c.args.self.now) c.args.target c.args.pages c.args.self.now.kept c.requires.target c.requires.clear
 
-pub copy_pages-requires-clause-no_large : goal.copy_pages-requires-clause-no_large
-copy_pages-requires-clause-no_large c = λ slot. c.map_range.ensures.added.larges slot ∙ c.args.self.now.kept.no_large slot
+pub copy_pages-requires-clause-tables : goal.copy_pages-requires-clause-tables
+copy_pages-requires-clause-tables c =
+    let size = c.map_range.ensures.added.size in
+    let below = c.args.self.now.kept.root_in in
+    record {
+      below = omega (arith, size, below);
+      tree = (c.map_range.new.pool, c.map_range.ensures.added.tree);
+      no_large = λ slot. c.map_range.ensures.added.larges slot ∙ c.args.self.now.kept.no_large slot;
+    }
 
-pub copy_pages-requires-clause-read : goal.copy_pages-requires-clause-read
-copy_pages-requires-clause-read c = λ k less.
+pub copy_pages-requires-clause-source : goal.copy_pages-requires-clause-source
+copy_pages-requires-clause-source c =
     let t = tables_of c.args.self.now in
-    subst (λ (n : ℕ). IsSome (walk_of c.map_range.new.frames t.root (n + k))) (sym c.number-from.ensures.value)
-    (source_mapped t c.map_range.new.frames c.args.source c.args.pages c.args.target k c.args.self.now.kept
-    c.requires.source c.requires.full c.requires.clear c.map_range.ensures.clear.elsewhere less)
+    subst (λ (n : ℕ). IsMappedRange c.map_range.new.frames t.root n c.args.pages) (sym c.number-from.ensures.value)
+    (record {
+      canonical = c.requires.source;
+      mapped = λ k less. source_mapped t c.map_range.new.frames c.args.source c.args.pages c.args.target k c.args.self.now.kept
+          c.requires.source c.requires.full c.requires.clear c.map_range.ensures.clear.elsewhere less;
+    })
 
-pub copy_pages-requires-clause-written : goal.copy_pages-requires-clause-written
-copy_pages-requires-clause-written c = λ k less.
+pub copy_pages-requires-clause-target : goal.copy_pages-requires-clause-target
+copy_pages-requires-clause-target c =
     let t = tables_of c.args.self.now in
-    subst (λ (n : ℕ). IsSome (walk_of c.map_range.new.frames t.root (n + k))) (sym c.number-to.ensures.value)
-    (target_mapped t.words c.map_range.new.frames t.free c.map_range.new.pool t.root c.args.target c.args.pages k _ c.map_range.ensures.added less)
+    subst (λ (n : ℕ). IsMappedRange c.map_range.new.frames t.root n c.args.pages) (sym c.number-to.ensures.value)
+    (record {
+      canonical = c.requires.target;
+      mapped = λ k less. target_mapped t.words c.map_range.new.frames t.free c.map_range.new.pool t.root c.args.target c.args.pages k _ c.map_range.ensures.added less;
+    })
 
 pub copy_pages-requires-clause-apart : goal.copy_pages-requires-clause-apart
 copy_pages-requires-clause-apart c = λ j k few less is.

@@ -28,7 +28,7 @@ loop-end-preserved c =
     unmapped_step (tables_of c.args.self.now) (tables_of c.loop-end.self) (tables_of c.unmap_last.new.self)
     c.number-first.result (c.number-first.result + c.args.pages) c.loop-end.end c.loop-end.count c.in-Ok.part.first
     c.in-Ok.part.count
-    c.args.self.now.kept.tree range c.loop-end.invariant c.in-Ok.ensures.ok c.in-Ok.ensures.from c.in-Ok.ensures.less c.in-Ok.ensures.to
+    c.args.self.now.kept.tree range c.loop-end.invariant c.in-Ok.ensures.ok.gone c.in-Ok.ensures.ok.from c.in-Ok.ensures.ok.less c.in-Ok.ensures.ok.to
 
 pub returns-in-Err-clause-err : goal.returns-in-Err-clause-err
 returns-in-Err-clause-err c =

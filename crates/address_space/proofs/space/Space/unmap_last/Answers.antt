@@ -16,19 +16,29 @@ use Rattle.address_space.proofs.space.Space.unmap_last.Goals as goal
 pub returns-in_default-clause-ok : goal.returns-in_default-clause-ok
 returns-in_default-clause-ok c =
     let some = c.requires.some in
-    unmapped_none (tables_of c.args.self.now) c.args.first (c.args.end - c.args.first)
-    (λ n. none_mapped (tables_of c.args.self.now) c.args.first (c.args.end - c.args.first) n c.args.self.now.kept
-    c.requires.range (λ any h k. c.in_default.ensures.none any (omega arith) (omega (arith, k, some))))
-    (λ any h k. c.in_default.ensures.none any (omega arith) (omega (arith, k, some)))
+    record {
+      from = omega arith;
+      to = omega (arith, some);
+      less = some;
+      gone = unmapped_none (tables_of c.args.self.now) c.args.first (c.args.end - c.args.first)
+          (λ n. none_mapped (tables_of c.args.self.now) c.args.first (c.args.end - c.args.first) n c.args.self.now.kept
+          c.requires.range (λ any h k. c.in_default.ensures.none any (omega arith) (omega (arith, k, some))))
+          (λ any h k. c.in_default.ensures.none any (omega arith) (omega (arith, k, some)));
+    }
 
 pub returns-then-run-first-clause-ok : goal.returns-then-run-first-clause-ok
 returns-then-run-first-clause-ok c =
     let some = c.requires.some in
     let before = c.if-run-first.true in
-    unmapped_none (tables_of c.args.self.now) c.args.first (c.args.end - c.args.first)
-    (λ n. none_mapped (tables_of c.args.self.now) c.args.first (c.args.end - c.args.first) n c.args.self.now.kept c.requires.range
-    (λ any h k. c.in-Some.ensures.last any (omega (arith, h, before)) (omega (arith, k, some))))
-    (λ any h k. c.in-Some.ensures.last any (omega (arith, h, before)) (omega (arith, k, some)))
+    record {
+      from = omega arith;
+      to = omega (arith, some);
+      less = some;
+      gone = unmapped_none (tables_of c.args.self.now) c.args.first (c.args.end - c.args.first)
+          (λ n. none_mapped (tables_of c.args.self.now) c.args.first (c.args.end - c.args.first) n c.args.self.now.kept c.requires.range
+          (λ any h k. c.in-Some.ensures.last any (omega (arith, h, before)) (omega (arith, k, some))))
+          (λ any h k. c.in-Some.ensures.last any (omega (arith, h, before)) (omega (arith, k, some)));
+    }
 
 always_err : {A E : Type 0} (r : Result A E) (X : Type 0) → X → IfErr r (λ error. X)
 always_err {A} {E} (Ok a) X x = tt
@@ -151,21 +161,26 @@ returns-clause-ok c =
       bytes = c.unmap_range.ensures.gone.bytes;
       taken = subst (λ (n : ℕ). AreTaken (entries c.args.self.now.runs) (entries c.take.new.runs) n (n + count)) (sym at) c.in_ok-take.ensures.ok;
     } in
-    subst (λ (n : ℕ). IsUnmapped t new n more count) at
-    (unmapped_part t new c.page_at.result count more m refl
-    (part_of_range c.args.first (c.args.end - c.args.first) c.page_at.result more c.requires.range
-    (omega (arith, at, from_is)) (omega (arith, at, from_is, starts, least)) (omega (arith, from_is, starts, least)))
-    (omega (arith, from_is, to_is))
-    (λ any h k. c.in-Some.ensures.last any (omega (arith, h, k, at, from_is, to_is, starts)) (omega (arith, k, at, from_is, starts, least)))
-    (λ page h k. is_some_of (rights_in es page) run.rights (run_rights es run.start run.end run.rights page
-    c.in-Some.ensures.run (omega (arith, h, at, from_is)) (omega (
-      arith,
-      k,
-      at,
-      from_is,
-      to_is,
-      starts,
-      some,
-      over,
-      least,
-    )))))
+    record {
+      from = omega (arith, from_is);
+      to = omega (arith, from_is, to_is, starts, some, over, least);
+      less = omega (arith, from_is, starts, least);
+      gone = subst (λ (n : ℕ). IsUnmapped t new n more count) at
+          (unmapped_part t new c.page_at.result count more m refl
+          (part_of_range c.args.first (c.args.end - c.args.first) c.page_at.result more c.requires.range
+          (omega (arith, at, from_is)) (omega (arith, at, from_is, starts, least)) (omega (arith, from_is, starts, least)))
+          (omega (arith, from_is, to_is))
+          (λ any h k. c.in-Some.ensures.last any (omega (arith, h, k, at, from_is, to_is, starts)) (omega (arith, k, at, from_is, starts, least)))
+          (λ page h k. is_some_of (rights_in es page) run.rights (run_rights es run.start run.end run.rights page
+          c.in-Some.ensures.run (omega (arith, h, at, from_is)) (omega (
+            arith,
+            k,
+            at,
+            from_is,
+            to_is,
+            starts,
+            some,
+            over,
+            least,
+          )))));
+    }

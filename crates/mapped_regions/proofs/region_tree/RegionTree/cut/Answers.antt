@@ -7,9 +7,9 @@ use Rattle.mapped_regions.proofs.Cutting.{count_met, found, removes, cuts, none_
 use Rattle.mapped_regions.proofs.Taken.{taken_out}
 use Rattle.mapped_regions.proofs.region_tree.RegionTree.cut.Goals as goal
 
-pub shorten-requires-clause-at_page : goal.shorten-requires-clause-at_page
-shorten-requires-clause-at_page c = let f = found (4096 * c.args.first) c.args.pages 0 c.loop-region.self (2 ^ 64)
-    c.in-Some.region c.in-Some.ensures.laid (sym c.in-Some.ensures.value) in f.at_page
+pub shorten-requires-clause-whole : goal.shorten-requires-clause-whole
+shorten-requires-clause-whole c = let f = found (4096 * c.args.first) c.args.pages 0 c.loop-region.self (2 ^ 64)
+    c.in-Some.region c.in-Some.ensures.laid (sym c.in-Some.ensures.value) in record { at_page = f.at_page; within = f.within }
 
 pub shorten-requires-clause-there : goal.shorten-requires-clause-there
 shorten-requires-clause-there c = let f = found (4096 * c.args.first) c.args.pages 0 c.loop-region.self (2 ^ 64)
@@ -20,10 +20,6 @@ shorten-requires-clause-less c =
     let f = found (4096 * c.args.first) c.args.pages 0 c.loop-region.self (2 ^ 64) c.in-Some.region c.in-Some.ensures.laid (sym c.in-Some.ensures.value) in
     let b = bounds (4096 * c.args.first) c.args.pages c.in-Some.region f.met in
     omega (arith, b, f.at_page)
-
-pub shorten-requires-clause-within : goal.shorten-requires-clause-within
-shorten-requires-clause-within c = let f = found (4096 * c.args.first) c.args.pages 0 c.loop-region.self (2 ^ 64)
-    c.in-Some.region c.in-Some.ensures.laid (sym c.in-Some.ensures.value) in f.within
 
 -- the pages that are left, in the words of addresses
 pages_left : (first : ℕ) (r : Region) (rs : List Region) → r.start % 4096 ≡ 0 →
@@ -54,13 +50,9 @@ loop-region-preserved-then-start-first c =
     let is = c.shorten.ensures ∙ pages_left c.args.first r c.loop-region.self f.at_page in
     ap (cut_regions at n) is ∙ (s.same ∙ c.loop-region.invariant)
 
-pub remove-requires-clause-at_page : goal.remove-requires-clause-at_page
-remove-requires-clause-at_page c = let f = found (4096 * c.args.first) c.args.pages 0 c.loop-region.self (2 ^ 64)
-    c.in-Some.region c.in-Some.ensures.laid (sym c.in-Some.ensures.value) in f.at_page
-
-pub remove-requires-clause-within : goal.remove-requires-clause-within
-remove-requires-clause-within c = let f = found (4096 * c.args.first) c.args.pages 0 c.loop-region.self (2 ^ 64)
-    c.in-Some.region c.in-Some.ensures.laid (sym c.in-Some.ensures.value) in f.within
+pub remove-requires : goal.remove-requires
+remove-requires c = let f = found (4096 * c.args.first) c.args.pages 0 c.loop-region.self (2 ^ 64)
+    c.in-Some.region c.in-Some.ensures.laid (sym c.in-Some.ensures.value) in record { at_page = f.at_page; within = f.within }
 
 pub loop-region-smaller : goal.loop-region-smaller
 loop-region-smaller c =

@@ -4,13 +4,18 @@ use Rattle.heap_model.specs.declared.region.Region.{Region}
 use Rattle.heap_model.specs.State.{is_within}
 use Rattle.mapped_regions.proofs.region_tree.RegionTree.hint_in.Goals as goal
 
-pub returns-then-base-self-clause-held : goal.returns-then-base-self-clause-held
-returns-then-base-self-clause-held c = λ address a b. absurd (omega (arith, a, b))
+pub returns-then-base-self : goal.returns-then-base-self
+returns-then-base-self c = record { from = omega arith; to = c.requires; held = λ address a b. absurd (omega (arith, a, b)) }
 
-pub returns-then-self-end-clause-held : goal.returns-then-self-end-clause-held
-returns-then-self-end-clause-held c = λ address a b. absurd (omega (arith, a, b))
+pub returns-then-self-end : goal.returns-then-self-end
+returns-then-self-end c = record { from = omega arith; to = c.requires; held = λ address a b. absurd (omega (arith, a, b)) }
 
-pub returns-clause-held : goal.returns-clause-held
-returns-clause-held c = λ address a b.
-    subst (λ (rs : List Region). list_any (is_within address) rs ≡ true) c.self.view_is
-    (c.self.invariant.held address (omega (arith, a, c.if-base-self.false)) b)
+pub returns : goal.returns
+returns c =
+    let above = c.self.invariant.above in
+    record {
+      from = omega (arith, above, c.if-base-self.false);
+      to = omega (arith, c.if-self-end.false);
+      held = λ address a b. subst (λ (rs : List Region). list_any (is_within address) rs ≡ true) c.self.view_is
+          (c.self.invariant.held address (omega (arith, a, c.if-base-self.false)) b);
+    }

@@ -7,17 +7,10 @@ use Rattle.mapped_regions.proofs.Passed.{behind_first}
 use Rattle.mapped_regions.proofs.Listing.{Listed, listed_none, listed_all, listed_on}
 use Rattle.mapped_regions.proofs.region_tree.RegionTree.list.Goals as goal
 
-pub region-requires-clause-some : goal.region-requires-clause-some
-region-requires-clause-some c = let i = behind_first c.loop-entry.at 0 (entries c.self.inside.tree) (2 ^ 52)
-    (pair_of c.in-Some.entry) c.self.invariant.follow (sym c.in-Some.ensures) in omega (arith, i.some)
-
-pub region-requires-clause-within : goal.region-requires-clause-within
-region-requires-clause-within c = let i = behind_first c.loop-entry.at 0 (entries c.self.inside.tree) (2 ^ 52)
-    (pair_of c.in-Some.entry) c.self.invariant.follow (sym c.in-Some.ensures) in i.within
-
-pub region-requires-clause-below : goal.region-requires-clause-below
-region-requires-clause-below c = let i = behind_first c.loop-entry.at 0 (entries c.self.inside.tree) (2 ^ 52)
-    (pair_of c.in-Some.entry) c.self.invariant.follow (sym c.in-Some.ensures) in omega (arith, i.some, i.within)
+pub region-requires : goal.region-requires
+region-requires c =
+    let i = behind_first c.loop-entry.at 0 (entries c.self.inside.tree) (2 ^ 52) (pair_of c.in-Some.entry) c.self.invariant.follow (sym c.in-Some.ensures) in
+    record { some = omega (arith, i.some); within = i.within; below = omega (arith, i.some, i.within) }
 
 pub loop-entry-init : goal.loop-entry-init
 loop-entry-init c = record {

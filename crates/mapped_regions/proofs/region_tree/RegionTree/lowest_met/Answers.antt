@@ -12,17 +12,10 @@ use Rattle.mapped_regions.proofs.Meeting.{none_found, meets_last, meets_next}
 use Rattle.mapped_regions.proofs.region_tree.RegionTree.lowest_met.Goals as goal
 use Rattle.mapped_regions.proofs.region_tree.RegionTree.lowest_met.Goals.{in-Some+else-entry-first, in_default}
 
-pub region-requires-clause-some : goal.region-requires-clause-some
-region-requires-clause-some c = let i = last_is c.args.first 0 (entries c.self.inside.tree) (2 ^ 52)
-    (pair_of c.in-Some.entry) c.self.invariant.follow (sym c.in-Some.ensures) in omega (arith, i.some)
-
-pub region-requires-clause-within : goal.region-requires-clause-within
-region-requires-clause-within c = let i = last_is c.args.first 0 (entries c.self.inside.tree) (2 ^ 52)
-    (pair_of c.in-Some.entry) c.self.invariant.follow (sym c.in-Some.ensures) in i.within
-
-pub region-requires-clause-below : goal.region-requires-clause-below
-region-requires-clause-below c = let i = last_is c.args.first 0 (entries c.self.inside.tree) (2 ^ 52)
-    (pair_of c.in-Some.entry) c.self.invariant.follow (sym c.in-Some.ensures) in omega (arith, i.some, i.within)
+pub region-requires : goal.region-requires
+region-requires c =
+    let i = last_is c.args.first 0 (entries c.self.inside.tree) (2 ^ 52) (pair_of c.in-Some.entry) c.self.invariant.follow (sym c.in-Some.ensures) in
+    record { some = omega (arith, i.some); within = i.within; below = omega (arith, i.some, i.within) }
 
 pub returns-then-entry-first-clause-value : goal.returns-then-entry-first-clause-value
 returns-then-entry-first-clause-value c =
@@ -32,13 +25,10 @@ returns-then-entry-first-clause-value c =
     ∙ sym (meets_last c.args.first c.args.pages 0 es (2 ^ 52) e c.self.invariant.follow (sym c.in-Some.ensures) c.if-entry-first.true)
     ∙ ap (find (meets (4096 * c.args.first) c.args.pages)) c.self.view_is
 
-pub region-requires-then-entry-first-2-clause-some : goal.region-requires-then-entry-first-2-clause-some
-region-requires-then-entry-first-2-clause-some c = let i = behind_first c.args.first 0 (entries c.self.inside.tree) (2 ^ 52)
-    (pair_of c.in-Some-first_from.entry) c.self.invariant.follow (sym c.in-Some-first_from.ensures) in omega (arith, i.some)
-
-pub region-requires-then-entry-first-2-clause-within : goal.region-requires-then-entry-first-2-clause-within
-region-requires-then-entry-first-2-clause-within c = let i = behind_first c.args.first 0 (entries c.self.inside.tree)
-    (2 ^ 52) (pair_of c.in-Some-first_from.entry) c.self.invariant.follow (sym c.in-Some-first_from.ensures) in i.within
+pub region-requires-then-entry-first-2 : goal.region-requires-then-entry-first-2
+region-requires-then-entry-first-2 c =
+    let i = behind_first c.args.first 0 (entries c.self.inside.tree) (2 ^ 52) (pair_of c.in-Some-first_from.entry) c.self.invariant.follow (sym c.in-Some-first_from.ensures) in
+    record { some = omega (arith, i.some); within = i.within; below = omega (arith, i.some, i.within) }
 
 pub returns-then-entry-first-2-clause-value : goal.returns-then-entry-first-2-clause-value
 returns-then-entry-first-2-clause-value c =

@@ -27,8 +27,8 @@ overflow_sub-entry c =
     c.self.invariant.follow (sym c.in-Some-first_from.ensures) in
     i.starts
 
-pub returns-in-None-clause-place : goal.returns-in-None-clause-place
-returns-in-None-clause-place c =
+pub returns-in-None : goal.returns-in-None
+returns-in-None c =
     let es = entries c.self.inside.tree in
     let at = c.loop-at.at in
     subst (λ (rs : List Region). IsPlace (4096 * c.args.base) c.args.pages rs c.args.n (4096 * at)) c.self.view_is
@@ -36,8 +36,8 @@ returns-in-None-clause-place c =
     (clear_end at c.args.n 0 es (2 ^ 52) c.self.invariant.follow c.loop-at.invariant.before (sym c.in-None.ensures))
     (omega (arith, c.if-n-end.true, c.loop-at-test.true)))
 
-pub returns-then-entry-at-clause-place : goal.returns-then-entry-at-clause-place
-returns-then-entry-at-clause-place c =
+pub returns-then-entry-at : goal.returns-then-entry-at
+returns-then-entry-at c =
     let es = entries c.self.inside.tree in
     let at = c.loop-at.at in
     let next = pair_of c.in-Some-first_from.entry in
@@ -62,13 +62,13 @@ loop-at-preserved c =
     goes_on c.args.base c.args.n c.loop-at.at es (2 ^ 52) next c.self.invariant.follow c.loop-at.invariant
     (sym c.in-Some-first_from.ensures) (omega (arith, c.if-entry-at.false, i.starts))
 
-pub returns-else-n-end-clause-none : goal.returns-else-n-end-clause-none
-returns-else-n-end-clause-none c =
+pub returns-else-n-end : goal.returns-else-n-end
+returns-else-n-end c =
     subst (λ (rs : List Region). HasNoPlace (4096 * c.args.base) c.args.pages rs c.args.n) c.self.view_is
     (no_place c.args.base c.args.pages c.args.n c.loop-at.at (entries c.self.inside.tree) (2 ^ 52) c.loop-at.invariant
     (omega (arith, c.if-n-end.false, c.loop-at-test.true)))
 
-pub returns-after-loop-at-clause-none : goal.returns-after-loop-at-clause-none
-returns-after-loop-at-clause-none c =
+pub returns-after-loop-at : goal.returns-after-loop-at
+returns-after-loop-at c =
     subst (λ (rs : List Region). HasNoPlace (4096 * c.args.base) c.args.pages rs c.args.n) c.self.view_is
     (no_place c.args.base c.args.pages c.args.n c.loop-at.at (entries c.self.inside.tree) (2 ^ 52) c.loop-at.invariant (omega (arith, c.loop-at-test.false)))

@@ -16,15 +16,10 @@ use Rattle.mapped_regions.proofs.Mapped.{mapped, pages_gone, fewer_mapped, liste
 use Rattle.mapped_regions.proofs.regions.MappedRegions.leave.Goals as goal
 use Rattle.mapped_regions.proofs.regions.MappedRegions.leave.Goals.{After-forget_pages}
 
-pub remove-requires-clause-at_page : goal.remove-requires-clause-at_page
-remove-requires-clause-at_page c = (listed_range (paged_view c.args.self.now) c.args.region.now.start
-    c.args.region.now.pages
-    c.args.self.now.mapped c.requires.there).0
-
-pub remove-requires-clause-within : goal.remove-requires-clause-within
-remove-requires-clause-within c =
-    range_ends_at c.args.region.now.start c.args.region.now.pages (listed_range (paged_view c.args.self.now)
-    c.args.region.now.start c.args.region.now.pages c.args.self.now.mapped c.requires.there)
+pub remove-requires : goal.remove-requires
+remove-requires c =
+    let range = listed_range (paged_view c.args.self.now) c.args.region.now.start c.args.region.now.pages c.args.self.now.mapped c.requires.there in
+    record { at_page = range.0; within = range_ends_at c.args.region.now.start c.args.region.now.pages range }
 
 pub new-requires : goal.new-requires
 new-requires c =

@@ -1,5 +1,4 @@
-use Rattle.std.proofs.Common.{◌≡◌, ◌*◌, ◌/◌, ◌+◌, ◌%◌, ◌∙◌, set}
-use Rattle.paging_core.specs.Stores.{KeepsTables}
+use Rattle.std.proofs.Common.{◌∙◌}
 use Rattle.paging_core.proofs.Reached.{word_kept, word_put}
 use Rattle.mapped_regions.specs.Shown.{paged_view}
 use Rattle.mapped_regions.proofs.MetSlots.{met_stay, frame_at, set_at}
