@@ -42,6 +42,11 @@ pub record AreSlabsLaidOut {A : Type 0} (regions : A → List Grant) (word : A �
   pub blocks : (i : ℕ) → i < length slabs → IsBlock (state_of word heap) (slice_index slabs i) (64 * size)
   pub distinct : (i j : ℕ) → i < length slabs → j < length slabs → i ≢ j → slice_index slabs i ≢ slice_index slabs j
 
+-- The slabs are laid out, and a slot stands in one of them.
+pub record IsSlotThere {A : Type 0} (regions : A → List Grant) (word : A → ℕ → ℕ) (heap : Dlmalloc A) (size : ℕ) (slabs : List ℕ) (index : ℕ) : Type 0 where
+  pub laid : AreSlabsLaidOut regions word heap size slabs
+  pub there : index < 64 * length slabs
+
 -- the objects of two slots have no byte in common
 abbrev pub PlacesAreApart : List ℕ → ℕ → Type 0
 PlacesAreApart slabs size = (i j : ℕ) → i < 64 * length slabs → j < 64 * length slabs → i ≢ j →
@@ -141,6 +146,11 @@ TakesSlabIfNeeded regions word follows old lists new =
 -- no slot may be used again, and each place of the slabs has one
 abbrev pub LacksFreeSlot : {A : Type 0} → Pooled A → Type 0
 LacksFreeSlot pool = (pool.freed ≡ []) × (length pool.slots ≡ 64 * length pool.slabs)
+
+-- The slabs of a pool are laid out, and each slot has a place in one of them.
+pub record HasSlotsInSlabs {A : Type 0} (regions : A → List Grant) (word : A → ℕ → ℕ) (pool : Pooled A) : Type 0 where
+  pub laid : AreSlabsLaidOut regions word pool.heap pool.size pool.slabs
+  pub within : length pool.slots ≤ 64 * length pool.slabs
 
 -- At most the heap and the slabs changed, and each block is there still, with the bytes that it had.
 pub record ChangesSlabsAlone {A : Type 0} (word : A → ℕ → ℕ) (old new : Pooled A) : Type 0 where

@@ -1,6 +1,7 @@
 //! The pool.
 ghost use Rattle.std.specs.Prelude.{◌≡◌, ◌≢◌, ℕ, ◌+◌, ◌-◌, ◌*◌, ◌/◌, ◌^◌, ◌<◌, ◌≤◌, Bool, true, false, if◌then◌else◌, [], ◌∷◌, ◌++◌, IfOk, IfErr, OnErr, OnOk, Some, None, Err, IsSome, IsTrue, ◌↔◌, length, vec_len, vec_capacity};
 ghost use Rattle.dlmalloc_chunks.specs.Request.{padded};
+ghost use Rattle.object_pool.specs.Places.{HasPlacesFor, KeepsSlots};
 ghost use Rattle.object_pool.specs.Lists.{Lists, empty, object_of, object_count, slab_count, IsNewKey, keys_of, inserted, with_new_bytes, without_object, LacksSlot, HasAllSlots};
 
 use crate::Bytes;
@@ -21,12 +22,8 @@ const MOST_SLOTS: u64 = 0x1_0000_0000 - SLOTS;
 fn reserve(slabs: &mut Vec<u64>, slots: &mut Slots) -> Result<(), AllocError>
     ensures slabs { slabs.new.items ≡ slabs.old.items }
     ensures place { OnOk result (vec_len slabs.old < vec_capacity slabs.new) }
-    ensures slots { slots.new.slots.items ≡ slots.old.slots.items }
-    ensures freed { slots.new.freed.items ≡ slots.old.freed.items }
-    ensures room { OnOk result (length slots.old.slots.items + 64 ≤ vec_capacity slots.new.slots) }
-    ensures freed_room { OnOk result (length slots.old.slots.items + 64 ≤ vec_capacity slots.new.freed) }
-    ensures kept { (n : ℕ) → n ≤ vec_capacity slots.old.slots → n ≤ vec_capacity slots.new.slots }
-    ensures freed_kept { (n : ℕ) → n ≤ vec_capacity slots.old.freed → n ≤ vec_capacity slots.new.freed }
+    ensures kept { KeepsSlots slots.old slots.new }
+    ensures room { OnOk result (HasPlacesFor 64 slots.old slots.new) }
 {
     slabs.reserve(1)?;
     slots.reserve(SLOTS)
@@ -56,7 +53,7 @@ impl<A: Allocator + Memory> Model for Pool<A> {
 impl<A: Allocator + Memory> Pool<A> {
     ghost use Rattle.object_pool.specs.Emptied.{IsEmptied};
     ghost use Rattle.sound_heap.specs.Heap.{StaysInState};
-    ghost use Rattle.object_pool.specs.Pool.{ChangesSlabsAlone, HasFreeSlot, IsSlabAdded, AreSlabsLaidOut, IsPoolRefused, IsSlabRefused, IsUnchanged, Keeps, LacksFreeSlot, PlacesAreApart, StandsForLists, TakesSlabIfNeeded};
+    ghost use Rattle.object_pool.specs.Pool.{ChangesSlabsAlone, HasFreeSlot, HasSlotsInSlabs, IsSlabAdded, AreSlabsLaidOut, IsPoolRefused, IsSlabRefused, IsUnchanged, Keeps, LacksFreeSlot, PlacesAreApart, StandsForLists, TakesSlabIfNeeded};
 
     /// A pool without objects or slabs, for objects of `size` bytes, over a heap.
     pub fn new(alloc: Global, heap: Heap<A>, size: u64) -> Pool<A>
@@ -97,8 +94,7 @@ impl<A: Allocator + Memory> Pool<A> {
 
     /// Whether no slot is free.
     fn lacks_slot(&self) -> bool
-        ensures laid { AreSlabsLaidOut A.regions A.word self.now.heap self.now.size self.now.slabs }
-        ensures within { length self.now.slots ≤ 64 * length self.now.slabs }
+        ensures slots { HasSlotsInSlabs A.regions A.word self.now }
         ensures answer { IsTrue result ↔ LacksFreeSlot self.now }
     {
         self.slots.none_freed() && self.slots.len() == SLOTS * self.slabs.len()
@@ -106,8 +102,7 @@ impl<A: Allocator + Memory> Pool<A> {
 
     /// Takes a slab if no slot is free.
     fn make_room(&mut self) -> Result<(), PoolFault>
-        ensures laid { AreSlabsLaidOut A.regions A.word self.old.heap self.old.size self.old.slabs }
-        ensures within { length self.old.slots ≤ 64 * length self.old.slabs }
+        ensures slots { HasSlotsInSlabs A.regions A.word self.old }
         ensures room { OnOk result (HasFreeSlot A.regions A.word A.follows self.old self.new) }
         ensures changed { ChangesSlabsAlone A.word self.old self.new }
         ensures lacks { OnErr result (LacksFreeSlot self.old) }

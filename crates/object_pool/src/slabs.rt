@@ -11,7 +11,7 @@ ghost use Rattle.dlmalloc.specs.Served.{IsDenied, IsRefusedWith, refused_events}
 ghost use Rattle.sound_heap.specs.Heap.{HasBlock, AreInBlock, StaysInState};
 ghost use Rattle.object_pool.specs.Bytes.{AreGranted, IsWritten};
 ghost use Rattle.object_pool.specs.Emptied.{IsEmptied};
-ghost use Rattle.object_pool.specs.Pool.{object_bytes_at, slot_address, IsObjectPut, IsSlabAdded, AreSlabsLaidOut, KeepsAll};
+ghost use Rattle.object_pool.specs.Pool.{object_bytes_at, slot_address, IsObjectPut, IsSlabAdded, IsSlotThere, AreSlabsLaidOut, KeepsAll};
 
 use crate::Bytes;
 use crate::bytes::{read_bytes, write_bytes};
@@ -76,8 +76,7 @@ impl<A: Allocator + Memory> Slabs<A> {
 
     /// The place of a slot. It is granted, with the bytes of an object.
     fn place(&self, index: u32) -> u64
-        requires laid { AreSlabsLaidOut A.regions A.word self.now.heap self.now.size self.now.places.items }
-        requires there { index < 64 * length self.now.places.items }
+        requires { IsSlotThere A.regions A.word self.now.heap self.now.size self.now.places.items index }
         ensures place { result ≡ slot_address self.now.places.items self.now.size index }
         ensures granted { AreGranted (A.regions self.now.heap.system) result self.now.size }
     {
@@ -88,8 +87,7 @@ impl<A: Allocator + Memory> Slabs<A> {
 
     /// The bytes at the place of a slot.
     pub(crate) fn read(&self, alloc: Global, index: u32) -> Result<Bytes, AllocError>
-        requires laid { AreSlabsLaidOut A.regions A.word self.now.heap self.now.size self.now.places.items }
-        requires there { index < 64 * length self.now.places.items }
+        requires { IsSlotThere A.regions A.word self.now.heap self.now.size self.now.places.items index }
         ensures { IfOk result (λ bytes. bytes ≡ object_bytes_at A.word self.now.heap self.now.places.items self.now.size index) }
     {
         let place = self.place(index);
@@ -99,8 +97,7 @@ impl<A: Allocator + Memory> Slabs<A> {
 
     /// Puts bytes at the place of a slot.
     pub(crate) fn write(&mut self, index: u32, bytes: &[u8])
-        requires laid { AreSlabsLaidOut A.regions A.word self.old.heap self.old.size self.old.places.items }
-        requires there { index < 64 * length self.old.places.items }
+        requires slot { IsSlotThere A.regions A.word self.old.heap self.old.size self.old.places.items index }
         requires many { length bytes.now ≡ self.old.size }
         ensures laid { AreSlabsLaidOut A.regions A.word self.new.heap self.new.size self.new.places.items }
         ensures size { self.new.size ≡ self.old.size }

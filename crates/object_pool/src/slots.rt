@@ -34,7 +34,7 @@ pub(crate) struct Slots {
 }
 
 impl Slots {
-    ghost use Rattle.object_pool.specs.Places.{KeepsPlaces};
+    ghost use Rattle.object_pool.specs.Places.{HasPlacesFor, KeepsPlaces, KeepsSlots};
 
     /// No slots.
     pub(crate) fn new(alloc: Global) -> Slots
@@ -88,12 +88,8 @@ impl Slots {
 
     /// Reserves places for more slots. It changes no slot.
     pub(crate) fn reserve(&mut self, count: u64) -> Result<(), AllocError>
-        ensures slots { self.new.slots.items ≡ self.old.slots.items }
-        ensures freed { self.new.freed.items ≡ self.old.freed.items }
-        ensures room { OnOk result (length self.old.slots.items + count ≤ vec_capacity self.new.slots) }
-        ensures places { OnOk result (length self.old.slots.items + count ≤ vec_capacity self.new.freed) }
-        ensures kept { (n : ℕ) → n ≤ vec_capacity self.old.slots → n ≤ vec_capacity self.new.slots }
-        ensures kept_freed { (n : ℕ) → n ≤ vec_capacity self.old.freed → n ≤ vec_capacity self.new.freed }
+        ensures kept { KeepsSlots self.old self.new }
+        ensures room { OnOk result (HasPlacesFor count self.old self.new) }
     {
         self.slots.reserve(count as usize)?;
         let places = self.slots.len() - self.freed.len() + count as usize;

@@ -9,21 +9,24 @@ returns-in_err-make_room-clause-kept g c = record {
   blocks = λ address n block none. c.make_room.ensures.changed.kept address n block;
 }
 
-pub write-requires-clause-there : goal.write-requires-clause-there
-write-requires-clause-there g c =
+pub write-requires-clause-slot : goal.write-requires-clause-slot
+write-requires-clause-slot g c =
     let p = c.self.inside in
-    key_there g.A.Links.regions g.A.Links.word g.A.Links.follows c.args.self.now p.slabs.heap p.slabs.size
-    p.slabs.places.items p.slots.slots.items p.slots.freed.items c.make_room.ensures.laid
-    (subst (λ mid. HasFreeSlot g.A.Links.regions g.A.Links.word g.A.Links.follows c.args.self.now mid) (sym c.self.view_is)
-    c.in_ok-make_room.ensures.room) c.self.invariant.within
-    c.take-key.result c.take-key.new.self.slots.items c.take-key.new.self.freed.items c.take-key.ensures.next c.take-key.ensures.taken
+    record {
+      laid = c.self.invariant.laid;
+      there = key_there g.A.Links.regions g.A.Links.word g.A.Links.follows c.args.self.now p.slabs.heap p.slabs.size
+          p.slabs.places.items p.slots.slots.items p.slots.freed.items c.make_room.ensures.slots.laid
+          (subst (λ mid. HasFreeSlot g.A.Links.regions g.A.Links.word g.A.Links.follows c.args.self.now mid) (sym c.self.view_is)
+          c.in_ok-make_room.ensures.room) c.self.invariant.within
+          c.take-key.result c.take-key.new.self.slots.items c.take-key.new.self.freed.items c.take-key.ensures.next c.take-key.ensures.taken;
+    }
 
 pub invariant_of-self : goal.invariant_of-self
 invariant_of-self g c =
     let p = c.self.inside in
     let same = ap (λ places. length places.items) c.write.ensures.places in
     let within = slots_within g.A.Links.regions g.A.Links.word g.A.Links.follows c.args.self.now p.slabs.heap p.slabs.size
-    p.slabs.places.items p.slots.slots.items p.slots.freed.items c.make_room.ensures.laid
+    p.slabs.places.items p.slots.slots.items p.slots.freed.items c.make_room.ensures.slots.laid
     (subst (λ mid. HasFreeSlot g.A.Links.regions g.A.Links.word g.A.Links.follows c.args.self.now mid) (sym c.self.view_is)
     c.in_ok-make_room.ensures.room) c.self.invariant.within
     c.take-key.result c.take-key.new.self.slots.items c.take-key.new.self.freed.items c.take-key.ensures.next c.take-key.ensures.taken in
@@ -39,7 +42,7 @@ pub returns-clause-key : goal.returns-clause-key
 returns-clause-key g c = λ lists stands.
     let p = c.self.inside in
     made_key g.A.Links.regions g.A.Links.word g.A.Links.follows c.args.self.now p.slabs.heap p.slabs.size
-    p.slabs.places.items p.slots.slots.items p.slots.freed.items c.make_room.ensures.laid
+    p.slabs.places.items p.slots.slots.items p.slots.freed.items c.make_room.ensures.slots.laid
     (subst (λ mid. HasFreeSlot g.A.Links.regions g.A.Links.word g.A.Links.follows c.args.self.now mid) (sym c.self.view_is)
     c.in_ok-make_room.ensures.room) c.self.invariant.within
     c.take-key.result c.take-key.new.self.slots.items c.take-key.new.self.freed.items c.take-key.ensures.next c.take-key.ensures.taken lists stands
@@ -48,19 +51,19 @@ pub returns-clause-after : goal.returns-clause-after
 returns-clause-after g c = λ lists stands.
     let p = c.self.inside in
     made_stands g.A.Links.regions g.A.Links.word g.A.Links.follows c.args.self.now p.slabs.heap p.slabs.size
-    p.slabs.places.items p.slots.slots.items p.slots.freed.items c.make_room.ensures.laid
+    p.slabs.places.items p.slots.slots.items p.slots.freed.items c.make_room.ensures.slots.laid
     (subst (λ mid. HasFreeSlot g.A.Links.regions g.A.Links.word g.A.Links.follows c.args.self.now mid) (sym c.self.view_is)
     c.in_ok-make_room.ensures.room) c.self.invariant.within
     c.take-key.result c.take-key.new.self.slots.items c.take-key.new.self.freed.items c.take-key.ensures.next c.take-key.ensures.taken
     c.write.new.self.heap c.write.new.self.size c.write.new.self.places.items c.args.bytes.now c.write.ensures.size
     (ap (λ places. places.items) c.write.ensures.places)
-    lists stands c.make_room.ensures.within c.take-key.new.self.freed_are c.write.ensures.put.here c.write.ensures.put.others
+    lists stands c.make_room.ensures.slots.within c.take-key.new.self.freed_are c.write.ensures.put.here c.write.ensures.put.others
 
 pub returns-clause-kept : goal.returns-clause-kept
 returns-clause-kept g c =
     let p = c.self.inside in
     made_keeps g.A.Links.regions g.A.Links.word g.A.Links.follows c.args.self.now p.slabs.heap p.slabs.size
-    p.slabs.places.items p.slots.slots.items p.slots.freed.items c.make_room.ensures.laid
+    p.slabs.places.items p.slots.slots.items p.slots.freed.items c.make_room.ensures.slots.laid
     (subst (λ mid. HasFreeSlot g.A.Links.regions g.A.Links.word g.A.Links.follows c.args.self.now mid) (sym c.self.view_is)
     c.in_ok-make_room.ensures.room) c.self.invariant.within
     c.take-key.result c.take-key.new.self.slots.items c.take-key.new.self.freed.items c.take-key.ensures.next c.take-key.ensures.taken
@@ -71,7 +74,7 @@ pub returns-clause-slab : goal.returns-clause-slab
 returns-clause-slab g c = λ lists stands.
     let p = c.self.inside in
     made_slab g.A.Links.regions g.A.Links.word g.A.Links.follows c.args.self.now p.slabs.heap p.slabs.size
-    p.slabs.places.items p.slots.slots.items p.slots.freed.items c.make_room.ensures.laid
+    p.slabs.places.items p.slots.slots.items p.slots.freed.items c.make_room.ensures.slots.laid
     (subst (λ mid. HasFreeSlot g.A.Links.regions g.A.Links.word g.A.Links.follows c.args.self.now mid) (sym c.self.view_is)
     c.in_ok-make_room.ensures.room) c.self.invariant.within
     c.take-key.result c.take-key.new.self.slots.items c.take-key.new.self.freed.items c.take-key.ensures.next c.take-key.ensures.taken
