@@ -1,11 +1,12 @@
 -- The heir of a node takes its place.
-use Rattle.std.proofs.Common.{◌≡◌, ◌≢◌, ℕ, ◌+◌, ◌*◌, ◌<◌, ◌≤◌, ◌⊎◌, inl, inr, Bool, true, false, not, List, [], ◌∷◌, refl, sym, ap, subst, ◌∙◌, arith}
+use Rattle.std.proofs.Common.{◌≡◌, ◌≢◌, ℕ, ◌+◌, ◌*◌, ◌<◌, ◌≤◌, inl, inr, Bool, true, false, not, List, [], ◌∷◌, refl, sym, ap, subst, ◌∙◌, arith}
 use Rattle.heap_memory.specs.declared.grant.Grant.{Grant}
 use Rattle.bins.specs.Index.{IsIn, AreDistinct, first_or, removed, without_chunk, without_size}
 use Rattle.bins.specs.Rings.{IsRing}
 use Rattle.bins.specs.Tries.{both, low_at, width, IsTrie}
 use Rattle.bins.specs.Linked.{AreChunks}
-use Rattle.bins.specs.Stores.{IsWordPlace, HasHeirLinks, HasPlaced}
+use Rattle.bins.specs.Stores.{HasHeirLinks, HasPlaced}
+use Rattle.bins.specs.Places.{HasRoom, CanTurn, CanBeNode}
 use Rattle.bins.specs.Below.{OnlyHeldChanges}
 use Rattle.bins.proofs.Frame.{trie_kept, in_without, in_half}
 use Rattle.bins.proofs.Reindexed.{trie_reindexed}
@@ -16,7 +17,7 @@ use Rattle.bins.proofs.Opened.{Opened}
 use Rattle.bins.proofs.Placed.{placed_opened}
 use Rattle.bins.proofs.Heir.{heir_ring}
 use Rattle.bins.proofs.Changed.{without_unchanged}
-use Rattle.bins.proofs.KidPlaces.{x_place, kid, kid_in, kid_place, kid_apart, kid_two}
+use Rattle.bins.proofs.KidPlaces.{x_place, kid, kid_in, can_be_node}
 
 -- a ring that does not begin with its mark has a first
 pub rest_of : (at : ℕ) {heir : ℕ} (others : List ℕ) → heir ≡ first_or at others → heir ≢ at → (rest : List ℕ) × (others ≡ heir ∷ rest)
@@ -79,26 +80,20 @@ module _ {regions : List Grant} {old : ℕ → ℕ} {index : ℕ → List ℕ} {
       subst (λ x. IsTrie old lower bin at (under true) n x) (sym (o.node.child_is true)) (o.children true)
 
   -- ---- what the stores need
-  pub h_here : (k : ℕ) → 1 < k → k < 8 → IsWordPlace regions (at + 8 * k)
+  pub h_here : HasRoom regions at
   h_here = x_place old o.node.size bin at low n at kids chunks large at_in tries_old
 
-  pub h_own : (k : ℕ) → 1 < k → k < 8 → IsWordPlace regions (heir + 8 * k)
-  h_own = x_place old o.node.size bin at low n heir kids chunks large heir_in tries_old
+  pub h_turn : CanTurn regions heir last
+  h_turn =
+      let h = chunks.each o.node.size heir heir_in in let l = chunks.each o.node.size last last_listed in
+      record {
+        own = x_place old o.node.size bin at low n heir kids chunks large heir_in tries_old 2 (omega arith) (omega arith);
+        behind = x_place old o.node.size bin at low n last kids chunks large last_listed tries_old 3 (omega arith) (omega arith);
+        other = λ e. omega (arith, h.aligned, l.aligned);
+      }
 
-  pub h_behind : IsWordPlace regions (old (at + 16) + 24)
-  h_behind = x_place old o.node.size bin at low n last kids chunks large last_listed tries_old 3 (omega arith) (omega arith)
-
-  pub h_other : heir + 16 ≢ old (at + 16) + 24
-  h_other e = let h = chunks.each o.node.size heir heir_in in let l = chunks.each o.node.size last last_listed in omega (arith, h.aligned, l.aligned)
-
-  pub h_places : (side : Bool) → 0 < kids side → IsWordPlace regions (kids side + 48)
-  h_places = kid_place old o.node.size bin at low n heir kids chunks large heir_in tries_old
-
-  pub h_apart : (side : Bool) → 0 < kids side → (kids side + 48 < heir + 32) ⊎ (heir + 64 ≤ kids side + 48)
-  h_apart = kid_apart old o.node.size bin at low n heir kids chunks large heir_in tries_old
-
-  pub h_two : 0 < old (at + 32) → 0 < old (at + 40) → old (at + 32) ≢ old (at + 40)
-  h_two = kid_two old o.node.size bin at low n heir kids chunks large heir_in tries_old
+  pub h_node : CanBeNode regions heir kids
+  h_node = can_be_node old o.node.size bin at low n heir kids chunks large heir_in tries_old
 
   -- ---- the links
   module _ {mid new : ℕ → ℕ} (links : HasHeirLinks regions old heir (old (at + 16)) mid) (placed : HasPlaced regions mid heir kids parent bin new) where

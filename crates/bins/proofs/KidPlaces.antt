@@ -5,6 +5,7 @@ use Rattle.bins.specs.Index.{IsIn, without_size}
 use Rattle.bins.specs.Tries.{low_at, width, IsTrie}
 use Rattle.bins.specs.Linked.{AreChunks}
 use Rattle.bins.specs.Stores.{IsWordPlace}
+use Rattle.bins.specs.Places.{CanBeNode}
 use Rattle.bins.proofs.Frame.{in_without}
 use Rattle.bins.proofs.Chunks.{one_size, size_apart, chunk_place}
 use Rattle.bins.proofs.Placed.{IsRoot, root_in}
@@ -21,21 +22,24 @@ module _ {regions : List Grant} {old : ℕ → ℕ} (mid : ℕ → ℕ) {index :
   pub kid_in : (side : Bool) (some : 0 < child side) → IsIn (child side) (index (kid side some).size)
   kid_in side some = in_without size index (kid side some).size (child side) (kid side some).is
 
-  pub kid_place : (side : Bool) → 0 < child side → IsWordPlace regions (child side + 48)
+  kid_place : (side : Bool) → 0 < child side → IsWordPlace regions (child side + 48)
   kid_place side some = chunk_place chunks large (kid side some).size (child side) 6 (kid_in side some) (omega arith) (omega arith)
 
   kid_other : (side : Bool) → 0 < child side → child side ≢ x
   kid_other side some = size_apart chunks size (kid side some).size (child side) x (kid side some).is x_in
 
-  pub kid_apart : (side : Bool) → 0 < child side → (child side + 48 < x + 32) ⊎ (x + 64 ≤ child side + 48)
+  kid_apart : (side : Bool) → 0 < child side → (child side + 48 < x + 32) ⊎ (x + 64 ≤ child side + 48)
   kid_apart side some =
       let r = kid side some in let c_in = kid_in side some in
       let l = large r.size (child side) c_in in let lx = large size x x_in in
       elim (chunks.apart r.size (child side) size x c_in x_in (kid_other side some)) [ inl below ↦ inl (omega arith) | inr above ↦ inr (omega arith) ]
 
-  pub kid_two : 0 < child false → 0 < child true → child false ≢ child true
+  kid_two : 0 < child false → 0 < child true → child false ≢ child true
   kid_two some more same =
       let r = kid false some in let s = kid true more in
       let one : r.size ≡ s.size =
       one_size r.size s.size (child true) chunks (subst (λ y. IsIn y (index r.size)) same (kid_in false some)) (kid_in true more) in
       omega (arith, r.below, s.above)
+
+  pub can_be_node : CanBeNode regions x child
+  can_be_node = record { own = x_place; places = kid_place; apart = kid_apart; two = kid_two }

@@ -5,7 +5,8 @@ use Rattle.bins.specs.Index.{IsIn, without_size}
 use Rattle.bins.specs.Tries.{slot, both, low_at, width, IsTrie}
 use Rattle.bins.specs.Linked.{AreChunks}
 use Rattle.bins.specs.Below.{IsHeld, OnlyHeldChanges}
-use Rattle.bins.specs.Stores.{IsWordPlace, HasPlaced}
+use Rattle.bins.specs.Stores.{HasPlaced}
+use Rattle.bins.specs.Places.{CanBeNode}
 use Rattle.bins.specs.Fits.{IsTakenOut}
 use Rattle.bins.proofs.Frame.{in_without, in_half, trie_kept}
 use Rattle.bins.proofs.Reindexed.{trie_reindexed}
@@ -15,7 +16,7 @@ use Rattle.bins.proofs.Opened.{Opened, closed, on_sides, halves_apart}
 use Rattle.bins.proofs.Placed.{placed_opened}
 use Rattle.bins.proofs.Taking.{o, all_taken, t_at, t_levels, t_rest, sub_held}
 use Rattle.bins.proofs.Widths.{wide}
-use Rattle.bins.proofs.KidPlaces.{x_place, kid, kid_in, kid_place, kid_apart, kid_two}
+use Rattle.bins.proofs.KidPlaces.{kid, kid_in, can_be_node}
 
 kid_here : (side : Bool) (rest other : ℕ) {c0 c1 : ℕ} → c0 ≡ both rest other side → c1 ≡ both other rest side → both c0 c1 side ≡ rest
 kid_here false rest other a b = a
@@ -137,17 +138,8 @@ module _ {regions : List Grant} {old : ℕ → ℕ} {index : ℕ → List ℕ} {
   leaf_in : IsIn leaf (lower sub.size)
   leaf_in = first_in sub.chunks
 
-  pub l_own : (k : ℕ) → 1 < k → k < 8 → IsWordPlace regions (leaf + 8 * k)
-  l_own = x_place mid sub.size bin at low (levels - 1) leaf kids before large leaf_in leaf_tries
-
-  pub l_place : (b : Bool) → 0 < kids b → IsWordPlace regions (kids b + 48)
-  l_place = kid_place mid sub.size bin at low (levels - 1) leaf kids before large leaf_in leaf_tries
-
-  pub l_apart : (b : Bool) → 0 < kids b → (kids b + 48 < leaf + 32) ⊎ (leaf + 64 ≤ kids b + 48)
-  l_apart = kid_apart mid sub.size bin at low (levels - 1) leaf kids before large leaf_in leaf_tries
-
-  pub l_two : 0 < kids false → 0 < kids true → kids false ≢ kids true
-  l_two = kid_two mid sub.size bin at low (levels - 1) leaf kids before large leaf_in leaf_tries
+  pub l_node : CanBeNode regions leaf kids
+  l_node = can_be_node mid sub.size bin at low (levels - 1) leaf kids before large leaf_in leaf_tries
 
   pub l_trie : {new : ℕ → ℕ} → HasPlaced regions mid leaf kids parent bin new → (size : ℕ) → index size ≡ at ∷ [] →
       IsTrie new (without_size size index) bin parent low levels leaf

@@ -3,8 +3,9 @@ use Rattle.std.proofs.Common.{◌≡◌, ◌≢◌, ℕ, ◌+◌, ◌-◌, ◌*�
 use Rattle.heap_memory.specs.declared.grant.Grant.{Grant}
 use Rattle.bins.specs.Index.{IsIn, first_or, removed, without_chunk, without_size}
 use Rattle.bins.specs.Tries.{both, width, IsTrie}
-use Rattle.bins.specs.Stores.{IsWordPlace, HasPulled, HasHeirLinks, HasPlaced}
-use Rattle.bins.specs.Below.{IsHeld, OnlyHeldChanges}
+use Rattle.bins.specs.Stores.{HasPulled, HasHeirLinks, HasPlaced}
+use Rattle.bins.specs.Places.{CanLeaveRing}
+use Rattle.bins.specs.Below.{IsHeld, OnlyHeldChanges, HasLeft}
 use Rattle.bins.proofs.Widths.{wide}
 use Rattle.bins.proofs.Lists.{removed_at, minus_same, minus_other, without_same, without_other}
 use Rattle.bins.proofs.Reindexed.{trie_reindexed}
@@ -60,33 +61,34 @@ module _ {regions : List Grant} {old : ℕ → ℕ} {index : ℕ → List ℕ} {
         elim (subst (λ (cs : List ℕ). IsIn chunk cs) node.node.chunks (subst (λ s. IsIn chunk (index s)) (sym size_is)
         chunk_in)) [ inl is ↦ absurd (younger is) | inr is ↦ is ]
 
-    pub u_front : IsWordPlace regions (old (chunk + 16) + 24)
-    u_front =
-        chunk_place held.chunks held.large node.node.size (old (chunk + 16)) 3
-        (prev_in chunk held.chunks held.large node in_others refl refl) (omega arith) (omega arith)
-
-    pub u_back : IsWordPlace regions (old (chunk + 24) + 16)
-    u_back =
-        chunk_place held.chunks held.large node.node.size (old (chunk + 24)) 2
-        (next_in chunk held.chunks held.large node in_others refl refl) (omega arith) (omega arith)
-
-    pub u_apart : old (chunk + 16) + 24 ≢ old (chunk + 24) + 16
-    u_apart = pulled_apart chunk held.chunks held.large node in_others refl refl
+    pub u_ring : CanLeaveRing regions old chunk
+    u_ring =
+        let chunks = held.chunks in let large = held.large in let size' = node.node.size in
+        let before = prev_in chunk chunks large node in_others refl refl in
+        let after = next_in chunk chunks large node in_others refl refl in
+        record {
+          links = record {
+            prev = chunk_place chunks large size chunk 2 chunk_in (omega arith) (omega arith);
+            next = chunk_place chunks large size chunk 3 chunk_in (omega arith) (omega arith);
+          };
+          front = chunk_place chunks large size' (old (chunk + 16)) 3 before (omega arith) (omega arith);
+          back = chunk_place chunks large size' (old (chunk + 24)) 2 after (omega arith) (omega arith);
+          other = pulled_apart chunk chunks large node in_others refl refl;
+        }
 
     pub u_pulled : {new : ℕ → ℕ} → HasPulled regions old (old (chunk + 16)) (old (chunk + 24)) 0 new →
-        IsTrie new (without_chunk size chunk index) bin parent low levels at
-    u_pulled pulled = closed_at chunk (pulled_opened chunk held.chunks held.large node in_others refl refl pulled)
-
-    pub u_pulled_words : {new : ℕ → ℕ} → HasPulled regions old (old (chunk + 16)) (old (chunk + 24)) 0 new →
-        OnlyHeldChanges regions index low (low + width levels) old new
-    u_pulled_words {new = new} pulled = wider new (pulled_words chunk held.chunks held.large node in_others refl refl pulled)
+        HasLeft regions old new index bin parent low levels size chunk at
+    u_pulled {new = new} pulled = record {
+      trie = closed_at chunk (pulled_opened chunk held.chunks held.large node in_others refl refl pulled);
+      words = wider new (pulled_words chunk held.chunks held.large node in_others refl refl pulled);
+    }
 
   -- ---- the oldest, with an heir
   module _ {heir : ℕ} (heir_is : heir ≡ old (at + 24)) (other : heir ≢ at) {new : ℕ → ℕ}
       (given : (mid : ℕ → ℕ) × (HasHeirLinks regions old heir (old (at + 16)) mid × HasPlaced regions mid heir
       (both (old (at + 32)) (old (at + 40))) parent bin new)) where
-    pub u_heir : IsTrie new (without_chunk size at index) bin parent low levels heir
-    u_heir = closed_at at (heir_opened held.chunks held.large node heir_is other given.1.0 given.1.1)
-
-    pub u_heir_words : OnlyHeldChanges regions index low (low + width levels) old new
-    u_heir_words = wider new (heir_words held.chunks held.large node heir_is other given.1.0 given.1.1)
+    pub u_heir : HasLeft regions old new index bin parent low levels size at heir
+    u_heir = record {
+      trie = closed_at at (heir_opened held.chunks held.large node heir_is other given.1.0 given.1.1);
+      words = wider new (heir_words held.chunks held.large node heir_is other given.1.0 given.1.1);
+    }

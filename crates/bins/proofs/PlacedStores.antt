@@ -1,32 +1,24 @@
 -- The stores that make a chunk a node with children.
-use Rattle.std.proofs.Common.{◌≡◌, ◌≢◌, ℕ, ◌+◌, ◌*◌, ◌<◌, ◌≤◌, ◌⊎◌, inl, inr, Bool, true, false, List, ◌∙◌, arith}
+use Rattle.std.proofs.Common.{◌≡◌, ℕ, ◌+◌, ◌*◌, ◌<◌, inl, inr, Bool, true, false, List, ◌∙◌, arith}
 use Rattle.heap_memory.specs.declared.grant.Grant.{Grant}
-use Rattle.heap_memory.specs.Regions.{IsWordOf}
 use Rattle.bins.specs.Tries.{slot, both}
-use Rattle.bins.specs.Stores.{IsWordPlace, HasNode, HasPlaced}
-
--- a child's parent word was stored, if there is one
-pub record HasAdopted (regions : List Grant) (old : ℕ → ℕ) (child chunk : ℕ) (new : ℕ → ℕ) : Type 0 where
-  pub named : 0 < child → new (child + 48) ≡ chunk
-  pub elsewhere : (at : ℕ) → IsWordOf regions at → (0 < child → at ≢ child + 48) → new at ≡ old at
+use Rattle.bins.specs.Stores.{HasNode, HasAdopted, HasPlaced}
+use Rattle.bins.specs.Places.{CanBeNode}
 
 module _ {r : List Grant} {w0 w1 w2 w3 : ℕ → ℕ} {chunk child0 child1 parent bin : ℕ}
-    (own : (k : ℕ) → 1 < k → k < 8 → IsWordPlace r (chunk + 8 * k))
-    (places : (side : Bool) → 0 < both child0 child1 side → IsWordPlace r (both child0 child1 side + 48))
-    (apart : (side : Bool) → 0 < both child0 child1 side → (both child0 child1 side + 48 < chunk + 32) ⊎ (chunk + 64 ≤ both child0 child1 side + 48))
-    (two : 0 < child0 → 0 < child1 → child0 ≢ child1)
+    (can : CanBeNode r chunk (both child0 child1))
     (node : HasNode r w0 chunk child0 child1 parent bin w1) (first : HasAdopted r w1 child0 chunk w2) (second : HasAdopted r w2 child1 chunk w3) where
   stays : (k : ℕ) → 3 < k → k < 8 → w3 (chunk + 8 * k) ≡ w1 (chunk + 8 * k)
   stays k low few =
-      second.elsewhere (chunk + 8 * k) (own k (omega arith) few).word (λ some e. elim (apart true some) [ inl x ↦ omega arith | inr x ↦ omega arith ])
-      ∙ first.elsewhere (chunk + 8 * k) (own k (omega arith) few).word (λ some e. elim (apart false some) [ inl x ↦ omega arith | inr x ↦ omega arith ])
+      second.elsewhere (chunk + 8 * k) (can.own k (omega arith) few).word (λ some e. elim (can.apart true some) [ inl x ↦ omega arith | inr x ↦ omega arith ])
+      ∙ first.elsewhere (chunk + 8 * k) (can.own k (omega arith) few).word (λ some e. elim (can.apart false some) [ inl x ↦ omega arith | inr x ↦ omega arith ])
 
   child_words : (side : Bool) → w3 (chunk + slot side) ≡ both child0 child1 side
   child_words false = stays 4 (omega arith) (omega arith) ∙ node.child0_is
   child_words true = stays 5 (omega arith) (omega arith) ∙ node.child1_is
 
   named : (side : Bool) → 0 < both child0 child1 side → w3 (both child0 child1 side + 48) ≡ chunk
-  named false some = second.elsewhere (child0 + 48) (places false some).word (λ other e. two some other (omega arith)) ∙ first.named some
+  named false some = second.elsewhere (child0 + 48) (can.places false some).word (λ other e. can.two some other (omega arith)) ∙ first.named some
   named true some = second.named some
 
   pub node_placed : HasPlaced r w0 chunk (both child0 child1) parent bin w3

@@ -1,19 +1,21 @@
 -- A chunk is put into the trie at a node, in the words of the call.
-use Rattle.std.proofs.Common.{◌≡◌, ◌≢◌, ℕ, ◌+◌, ◌-◌, ◌*◌, ◌<◌, ◌≤◌, ◌⊎◌, Bool, List, sym, ap, subst, ◌∙◌, arith}
+use Rattle.std.proofs.Common.{◌≡◌, ◌≢◌, ℕ, ◌+◌, ◌-◌, ◌*◌, ◌<◌, ◌≤◌, Bool, List, sym, ap, subst, ◌∙◌, arith}
 use Rattle.heap_memory.specs.declared.grant.Grant.{Grant}
 use Rattle.dlmalloc_chunks.specs.Head.{size_of}
 use Rattle.bins.specs.Index.{with_chunk}
 use Rattle.bins.specs.Tries.{slot, low_at, width, IsTrie}
 use Rattle.bins.specs.Linked.{IsFreshChunk}
-use Rattle.bins.specs.Below.{IsHeld, OnlyRangeChanges}
-use Rattle.bins.specs.Stores.{IsWordPlace, HasJoined, HasLeaf}
+use Rattle.bins.specs.Below.{IsHeld, OnlyRangeChanges, HasGained}
+use Rattle.bins.specs.Stores.{HasJoined, HasLeaf}
+use Rattle.bins.specs.Places.{CanJoin, CanBeLeaf}
 use Rattle.bins.proofs.Frame.{in_without}
 use Rattle.bins.proofs.Widths.{wide}
 use Rattle.bins.proofs.Opened.{Opened, closed}
 use Rattle.bins.proofs.Chunks.{chunk_place}
 use Rattle.bins.proofs.Descent.{IsDescent}
 use Rattle.bins.proofs.Searching.{high_fits}
-use Rattle.bins.proofs.Taking.{o, t_at, t_levels, t_rest, sub_held}
+use Rattle.bins.proofs.RootLeaf.{r_own}
+use Rattle.bins.proofs.Taking.{o, t_slot, t_at, t_levels, t_rest, sub_held}
 use Rattle.bins.proofs.TrieInsert.{last_place, joined_apart, slot_own, joined_opened, joined_words, leaf_opened, leaf_words, child_opened, child_words}
 
 module _ {regions : List Grant} {old : ℕ → ℕ} {index : ℕ → List ℕ} {bin parent low levels at size chunk : ℕ}
@@ -24,32 +26,28 @@ module _ {regions : List Grant} {old : ℕ → ℕ} {index : ℕ → List ℕ} {
   abbrev rest : ℕ → List ℕ
   rest = t_rest some held
 
-  pub e_at : IsWordPlace regions (at + 16)
-  e_at = chunk_place held.chunks held.large here.node.size at 2 (t_at some held) (omega arith) (omega arith)
+  pub e_ring : CanJoin regions old at chunk
+  e_ring = record {
+    links = record { prev = r_own held fresh big 2 (omega arith) (omega arith); next = r_own held fresh big 3 (omega arith) (omega arith) };
+    here = chunk_place held.chunks held.large here.node.size at 2 (t_at some held) (omega arith) (omega arith);
+    behind = last_place held.chunks held.large fresh big here;
+    apart = joined_apart held.chunks held.large fresh big here;
+  }
 
-  pub e_last : IsWordPlace regions (old (at + 16) + 24)
-  e_last = last_place held.chunks held.large fresh big here
-
-  pub e_apart : (at + 16 ≢ chunk + 16) × (at + 16 ≢ chunk + 24) × (old (at + 16) + 24 ≢ chunk + 16) ×
-      (old (at + 16) + 24 ≢ chunk + 24) × (old (at + 16) + 24 ≢ at + 16)
-  e_apart = joined_apart held.chunks held.large fresh big here
-
-  pub e_slot_own : (side : Bool) → (at + slot side < chunk + 16) ⊎ (chunk + 64 ≤ at + slot side)
-  e_slot_own = slot_own held.chunks held.large fresh big here
+  pub e_new : (side : Bool) → CanBeLeaf regions (at + slot side) chunk
+  e_new side = record { named = t_slot some held side; own = r_own held fresh big; apart = slot_own held.chunks held.large fresh big here side }
 
   -- the range in halves
   whole_range : low + 2 * width (levels - 1) ≡ low + width levels
   whole_range = ap (λ w. low + w) (sym (wide levels (t_levels some held)))
 
   pub e_joined : {new : ℕ → ℕ} → size_of (old (at + 8)) ≡ size → HasJoined regions old at chunk new →
-      IsTrie new (with_chunk size chunk index) bin parent low levels at
-  e_joined same joined = closed levels (t_levels some held)
-      (joined_opened held.chunks held.large fresh big here (sym here.node.head ∙ same) joined)
-
-  pub e_joined_words : {new : ℕ → ℕ} → size_of (old (at + 8)) ≡ size → HasJoined regions old at chunk new →
-      OnlyRangeChanges regions index low (low + width levels) size chunk old new
-  e_joined_words {new = new} same joined = subst (λ high. OnlyRangeChanges regions index low high size chunk old new) whole_range
-      (joined_words held.chunks held.large fresh big here (sym here.node.head ∙ same) joined)
+      HasGained regions old new index bin parent low levels size chunk at
+  e_joined {new = new} same joined = record {
+    trie = closed levels (t_levels some held) (joined_opened held.chunks held.large fresh big here (sym here.node.head ∙ same) joined);
+    words = subst (λ high. OnlyRangeChanges regions index low high size chunk old new) whole_range
+        (joined_words held.chunks held.large fresh big here (sym here.node.head ∙ same) joined);
+  }
 
   -- the child on the side of the new chunk
   module _ {side : Bool} {half place child : ℕ} (step : IsDescent old low levels at size side half place child) where
@@ -72,15 +70,13 @@ module _ {regions : List Grant} {old : ℕ → ℕ} {index : ℕ → List ℕ} {
     leaf_at : {new : ℕ → ℕ} → HasLeaf regions old place at bin chunk new → HasLeaf regions old (at + slot side) at bin chunk new
     leaf_at {new = new} leaf = subst (λ p. HasLeaf regions old p at bin chunk new) step.place_is leaf
 
-    pub e_leaf : {new : ℕ → ℕ} → child ≡ 0 → HasLeaf regions old place at bin chunk new →
-        IsTrie new (with_chunk size chunk index) bin parent low levels at
-    e_leaf none leaf = closed levels (t_levels some held)
-        (leaf_opened held.chunks held.large fresh big here side not_same (child_at ∙ none) held.whole above below (leaf_at leaf))
-
-    pub e_leaf_words : {new : ℕ → ℕ} → child ≡ 0 → HasLeaf regions old place at bin chunk new →
-        OnlyRangeChanges regions index low (low + width levels) size chunk old new
-    e_leaf_words {new = new} none leaf = subst (λ high. OnlyRangeChanges regions index low high size chunk old new) whole_range
-        (leaf_words held.chunks held.large fresh big here side not_same (child_at ∙ none) held.whole above below (leaf_at leaf))
+    pub e_leaf : {new : ℕ → ℕ} → child ≡ 0 → HasLeaf regions old place at bin chunk new → HasGained regions old new index bin parent low levels size chunk at
+    e_leaf {new = new} none leaf = record {
+      trie = closed levels (t_levels some held)
+          (leaf_opened held.chunks held.large fresh big here side not_same (child_at ∙ none) held.whole above below (leaf_at leaf));
+      words = subst (λ high. OnlyRangeChanges regions index low high size chunk old new) whole_range
+          (leaf_words held.chunks held.large fresh big here side not_same (child_at ∙ none) held.whole above below (leaf_at leaf));
+    }
 
     pub e_fits : low_at side low half + width (levels - 1) ≤ low + width levels
     e_fits = let w = wide levels (t_levels some held) in let h = high_fits side low half in omega (arith, w, h, step.half_is)
@@ -94,27 +90,28 @@ module _ {regions : List Grant} {old : ℕ → ℕ} {index : ℕ → List ℕ} {
 
     -- what a call for the child promises of every index and parent
     module _ (new : ℕ → ℕ) {low' : ℕ} (low_is : low' ≡ low_at side low half) (real : 0 < child)
-        (trie : (index' : ℕ → List ℕ) (parent' : ℕ) → IsHeld regions old index' bin parent' low' (levels - 1) child →
-        IsFreshChunk regions old index' size chunk → IsTrie new (with_chunk size chunk index') bin parent' low' (levels - 1) child)
-        (words : (index' : ℕ → List ℕ) (parent' : ℕ) → IsHeld regions old index' bin parent' low' (levels - 1) child →
-        IsFreshChunk regions old index' size chunk → OnlyRangeChanges regions index' low' (low' + width (levels - 1)) size chunk old new) where
+        (gained : (index' : ℕ → List ℕ) (parent' : ℕ) → IsHeld regions old index' bin parent' low' (levels - 1) child →
+        IsFreshChunk regions old index' size chunk → HasGained regions old new index' bin parent' low' (levels - 1) size chunk child) where
       low_same : low' ≡ under
       low_same = low_is ∙ ap (λ h. low_at side low h) step.half_is
 
       held_there : IsHeld regions old rest bin at low' (levels - 1) child
       held_there = subst (λ l. IsHeld regions old rest bin at l (levels - 1) child) (sym low_is) (e_held real)
 
+      there : HasGained regions old new rest bin at low' (levels - 1) size chunk child
+      there = gained rest at held_there e_fresh
+
       trie_there : IsTrie new (with_chunk size chunk rest) bin at under (levels - 1) (here.node.child side)
       trie_there = subst (λ l. IsTrie new (with_chunk size chunk rest) bin at l (levels - 1) (here.node.child side)) low_same
-          (subst (λ x. IsTrie new (with_chunk size chunk rest) bin at low' (levels - 1) x) (sym child_at) (trie rest at held_there e_fresh))
+          (subst (λ x. IsTrie new (with_chunk size chunk rest) bin at low' (levels - 1) x) (sym child_at) there.trie)
 
       words_there : OnlyRangeChanges regions rest under (under + width (levels - 1)) size chunk old new
-      words_there = subst (λ l. OnlyRangeChanges regions rest l (l + width (levels - 1)) size chunk old new) low_same (words rest at held_there e_fresh)
+      words_there = subst (λ l. OnlyRangeChanges regions rest l (l + width (levels - 1)) size chunk old new) low_same there.words
 
-      pub e_child : IsTrie new (with_chunk size chunk index) bin parent low levels at
-      e_child = closed levels (t_levels some held)
-          (child_opened held.chunks held.large fresh big here new side not_same above below trie_there words_there)
-
-      pub e_child_words : OnlyRangeChanges regions index low (low + width levels) size chunk old new
-      e_child_words = subst (λ high. OnlyRangeChanges regions index low high size chunk old new) whole_range
-          (child_words held.chunks held.large fresh big here new side not_same above below trie_there words_there)
+      pub e_child : HasGained regions old new index bin parent low levels size chunk at
+      e_child = record {
+        trie = closed levels (t_levels some held)
+            (child_opened held.chunks held.large fresh big here new side not_same above below trie_there words_there);
+        words = subst (λ high. OnlyRangeChanges regions index low high size chunk old new) whole_range
+            (child_words held.chunks held.large fresh big here new side not_same above below trie_there words_there);
+      }

@@ -1,8 +1,8 @@
 -- What a call on the part of a trie below a node needs, and what it changes.
-use Rattle.std.specs.Prelude.{◌≡◌, ℕ, ◌+◌, ◌%◌, ◌<◌, ◌≤◌, List}
+use Rattle.std.specs.Prelude.{◌≡◌, ℕ, ◌+◌, ◌%◌, ◌<◌, ◌≤◌, List, [], ◌∷◌}
 use Rattle.heap_memory.specs.declared.grant.Grant.{Grant}
 use Rattle.heap_memory.specs.Regions.{IsWordOf}
-use Rattle.bins.specs.Index.{IsIn, without_chunk}
+use Rattle.bins.specs.Index.{IsIn, with_chunk, without_chunk, without_size}
 use Rattle.bins.specs.Tries.{width, IsTrie}
 use Rattle.bins.specs.Linked.{AreChunks, IsNoLink}
 
@@ -27,4 +27,16 @@ OnlyHeldChanges regions index low high old new =
 -- words of the trie's chunks changed.
 pub record HasLeft (regions : List Grant) (old new : ℕ → ℕ) (index : ℕ → List ℕ) (bin parent low levels size chunk at : ℕ) : Type 0 where
   pub trie : IsTrie new (without_chunk size chunk index) bin parent low levels at
+  pub words : OnlyHeldChanges regions index low (low + width levels) old new
+
+-- A chunk came into a trie, as the newest of its size: the trie stands at an address. Of the granted words only link words
+-- of the chunk and of the trie's chunks changed.
+pub record HasGained (regions : List Grant) (old new : ℕ → ℕ) (index : ℕ → List ℕ) (bin parent low levels size chunk at : ℕ) : Type 0 where
+  pub trie : IsTrie new (with_chunk size chunk index) bin parent low levels at
+  pub words : OnlyRangeChanges regions index low (low + width levels) size chunk old new
+
+-- A node that was alone in its ring gave its place to another of its trie, or to none: what is left stands at an address.
+-- Of the granted words only link words of the trie's chunks changed.
+pub record HasGivenWay (regions : List Grant) (old new : ℕ → ℕ) (index : ℕ → List ℕ) (bin parent low levels at left : ℕ) : Type 0 where
+  pub trie : (size : ℕ) → index size ≡ at ∷ [] → IsTrie new (without_size size index) bin parent low levels left
   pub words : OnlyHeldChanges regions index low (low + width levels) old new

@@ -4,6 +4,9 @@ pub mod Tries
 pub mod Linked
 pub mod Changes
 pub mod Stores
+pub mod Places
+pub mod Work
+pub mod Children
 pub mod Below
 pub mod Fits
 pub mod Laws

@@ -1,6 +1,6 @@
 -- Tries of chunks in the memory. A node is the oldest chunk of a size; its ring has the others. The sizes of a trie lie in
 -- a range, those of its child0 in the lower half and those of its child1 in the upper.
-use Rattle.std.specs.Prelude.{◌≡◌, ℕ, zero, suc, ◌+◌, ◌*◌, ◌^◌, ◌<◌, ◌≤◌, ◌⊎◌, Bool, true, false, List, ◌∷◌}
+use Rattle.std.specs.Prelude.{◌≡◌, ℕ, zero, suc, ◌+◌, ◌-◌, ◌*◌, ◌%◌, ◌^◌, ◌<◌, ◌≤◌, ◌⊎◌, Bool, true, false, List, ◌∷◌}
 use Rattle.dlmalloc_chunks.specs.Head.{size_of}
 use Rattle.bins.specs.Index.{without_size, IsNone}
 use Rattle.bins.specs.Rings.{IsRing}
@@ -16,6 +16,14 @@ pub record IsInRange (low levels size : ℕ) : Type 0 where
   pub above : low ≤ size
   pub below : size < low + width levels
   pub fits : low + width levels ≤ 2 ^ 64
+
+-- a size lies in the range of a trie, scaled so that the whole range is that of 64-bit words
+abbrev pub IsScaled : (low levels size bits : ℕ) → Type 0
+IsScaled low levels size bits = bits ≡ (size - low) * 2 ^ (61 - levels)
+
+-- the range of a trie begins at a multiple of its length, so the shift that scales a size drops the bits of that
+abbrev pub IsAligned : (low levels : ℕ) → Type 0
+IsAligned low levels = low * 2 ^ (61 - levels) % 2 ^ 64 ≡ 0
 
 -- the place of a child's word in a chunk: child0 has the lower half of the range, child1 the upper
 abbrev pub slot : Bool → ℕ

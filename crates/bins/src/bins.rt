@@ -1,6 +1,5 @@
 // The bins, and the calls on chunks of all sizes.
 ghost use Rattle.std.specs.Prelude.{◌≡◌, ℕ, ◌+◌, ◌^◌, ◌≤◌, List, [], MatchOption};
-ghost use Rattle.heap_memory.specs.Asks.{AsksNothing};
 ghost use Rattle.bins.specs.Index.{IsIn, IsNone, IsLeastFit, first_or};
 
 use crate::words::{LEAST_LARGE, SMALL_TAG};
@@ -62,8 +61,7 @@ impl Bins {
         steps: &mut Steps<L>,
     )
         requires linked { (index : ℕ → List ℕ) × IsLinked (M.regions memory.old) (M.word memory.old) self.old index × IsFreshChunk (M.regions memory.old) (M.word memory.old) index size chunk }
-        ensures inserted { IsInserted M.regions M.word size chunk self.old memory.old self.new memory.new }
-        ensures asks { AsksNothing M.Links memory.old memory.new }
+        ensures inserted { IsInserted M.Links size chunk self.old memory.old self.new memory.new }
         ensures counted { steps.new ≤ steps.old + 129 }
     {
         if size < LEAST_LARGE {
@@ -85,8 +83,7 @@ impl Bins {
         steps: &mut Steps<L>,
     )
         requires linked { (index : ℕ → List ℕ) × IsLinked (M.regions memory.old) (M.word memory.old) self.old index × IsIn chunk (index size) }
-        ensures unlinked { IsUnlinked M.regions M.word size chunk self.old memory.old self.new memory.new }
-        ensures asks { AsksNothing M.Links memory.old memory.new }
+        ensures unlinked { IsUnlinked M.Links size chunk self.old memory.old self.new memory.new }
         ensures counted { steps.new ≤ steps.old + 196 }
     {
         if size < LEAST_LARGE {
@@ -109,8 +106,7 @@ impl Bins {
         steps: &mut Steps<L>,
     )
         requires linked { (index : ℕ → List ℕ) × IsLinked (M.regions memory.old) (M.word memory.old) self.old index × IsIn chunk (index size) × (256 ≤ size → chunk ≡ first_or 0 (index size)) }
-        ensures unlinked { IsUnlinked M.regions M.word size chunk self.old memory.old self.new memory.new }
-        ensures asks { AsksNothing M.Links memory.old memory.new }
+        ensures unlinked { IsUnlinked M.Links size chunk self.old memory.old self.new memory.new }
         ensures counted { steps.new ≤ steps.old + 196 }
     {
         if size < LEAST_LARGE {

@@ -1,11 +1,10 @@
 // The bins of large chunks.
-ghost use Rattle.std.specs.Prelude.{◌≡◌, ◌≢◌, ℕ, ◌+◌, ◌*◌, ◌^◌, ◌<◌, ◌≤◌, List, MatchOption, slice_index};
+ghost use Rattle.std.specs.Prelude.{◌≡◌, ℕ, ◌+◌, ◌^◌, ◌<◌, ◌≤◌, List, MatchOption, slice_index};
 ghost use Rattle.std.specs.Int.{bit_at};
 ghost use Rattle.dlmalloc_chunks.specs.Bins.{least_size};
-ghost use Rattle.heap_memory.specs.Asks.{AsksNothing};
-ghost use Rattle.bins.specs.Index.{IsIn, IsNone, IsLeastFit, first_or, without_chunk};
-ghost use Rattle.bins.specs.Linked.{IsLinked, IsFreshChunk, OnlyLinksChange, low_of, levels_of};
-ghost use Rattle.bins.specs.Changes.{IsInserted, IsUnlinked};
+ghost use Rattle.bins.specs.Index.{IsIn, IsNone, IsLeastFit, first_or};
+ghost use Rattle.bins.specs.Linked.{IsLinked, IsFreshChunk, low_of, levels_of};
+ghost use Rattle.bins.specs.Changes.{IsInserted, IsUnlinked, IsNodeUnlinked};
 ghost use Rattle.bins.specs.Stores.{HasRoot};
 
 use crate::bins::Bins;
@@ -86,8 +85,7 @@ impl Bins {
     )
         requires large { 256 ≤ size }
         requires linked { (index : ℕ → List ℕ) × IsLinked (M.regions memory.old) (M.word memory.old) self.old index × IsIn chunk (index size) }
-        ensures unlinked { IsUnlinked M.regions M.word size chunk self.old memory.old self.new memory.new }
-        ensures asks { AsksNothing M.Links memory.old memory.new }
+        ensures unlinked { IsUnlinked M.Links size chunk self.old memory.old self.new memory.new }
         ensures counted { steps.new ≤ steps.old + 196 }
     {
         let bin = compute_tree_index(size) as usize;
@@ -118,11 +116,7 @@ impl Bins {
         steps: &mut Steps<L>,
     )
         requires linked { (index : ℕ → List ℕ) × ((size : ℕ) × ((256 ≤ size) × (IsLinked (M.regions memory.old) (M.word memory.old) self.old index × (IsIn chunk (index size) × (chunk ≡ first_or 0 (index size)))))) }
-        ensures linked { (index : ℕ → List ℕ) (size : ℕ) → 256 ≤ size → IsLinked (M.regions memory.old) (M.word memory.old) self.old index → IsIn chunk (index size) → chunk ≡ first_or 0 (index size) →
-            IsLinked (M.regions memory.new) (M.word memory.new) self.new (without_chunk size chunk index) }
-        ensures words { (index : ℕ → List ℕ) (size : ℕ) → 256 ≤ size → IsLinked (M.regions memory.old) (M.word memory.old) self.old index → IsIn chunk (index size) → chunk ≡ first_or 0 (index size) →
-            OnlyLinksChange (M.regions memory.old) index size chunk (M.word memory.old) (M.word memory.new) }
-        ensures asks { AsksNothing M.Links memory.old memory.new }
+        ensures unlinked { IsNodeUnlinked M.Links chunk self.old memory.old self.new memory.new }
         ensures counted { steps.new ≤ steps.old + 196 }
     {
         let parent = memory.load_counted(chunk + PARENT, steps);
@@ -146,8 +140,7 @@ impl Bins {
     )
         requires large { 256 ≤ size }
         requires linked { (index : ℕ → List ℕ) × IsLinked (M.regions memory.old) (M.word memory.old) self.old index × IsFreshChunk (M.regions memory.old) (M.word memory.old) index size chunk }
-        ensures inserted { IsInserted M.regions M.word size chunk self.old memory.old self.new memory.new }
-        ensures asks { AsksNothing M.Links memory.old memory.new }
+        ensures inserted { IsInserted M.Links size chunk self.old memory.old self.new memory.new }
         ensures counted { steps.new ≤ steps.old + 129 }
     {
         let bin = compute_tree_index(size) as usize;

@@ -1,9 +1,11 @@
 // Leaves of a trie.
-ghost use Rattle.std.specs.Prelude.{◌≡◌, ℕ, ◌+◌, ◌*◌, ◌^◌, ◌<◌, ◌≤◌, ◌≢◌, ◌⊎◌, Bool, List, false, true};
-ghost use Rattle.heap_memory.specs.Regions.{IsWordOf};
+ghost use Rattle.std.specs.Prelude.{ℕ, ◌+◌, ◌*◌, ◌<◌, ◌≤◌, ◌≢◌, List, false, true};
 ghost use Rattle.heap_memory.specs.Asks.{AsksNothing};
-ghost use Rattle.bins.specs.Tries.{slot, both};
-ghost use Rattle.bins.specs.Stores.{IsWordPlace, HasPlaced};
+ghost use Rattle.bins.specs.Tries.{both};
+ghost use Rattle.bins.specs.Stores.{IsWordPlace, HasAdopted, HasPlaced};
+ghost use Rattle.bins.specs.Places.{HasChildPlaces, CanBeNode};
+ghost use Rattle.bins.specs.Work.{TakesAtMost};
+ghost use Rattle.bins.specs.Children.{IsChildOf, IsFirstChild};
 ghost use Rattle.bins.specs.Below.{IsHeld};
 ghost use Rattle.bins.specs.Fits.{IsTakenOut};
 
@@ -21,13 +23,8 @@ pub(crate) struct Child {
 
 /// The left child of a node, or its right child if it has no left one.
 pub(crate) fn first_child<M: Links, L: Ledger>(memory: &M, at: u64, steps: &mut Steps<L>) -> Child
-    requires left { IsWordPlace (M.regions memory.now) (at + 32) }
-    requires right { IsWordPlace (M.regions memory.now) (at + 40) }
-    ensures is { result.at ≡ M.word memory.now (at + slot result.is_upper) }
-    ensures lower { result.is_upper ≡ false → 0 < result.at }
-    ensures upper { result.is_upper ≡ true → M.word memory.now (at + 32) ≡ 0 }
-    ensures left { result.at ≡ 0 → M.word memory.now (at + 32) ≡ 0 }
-    ensures right { result.at ≡ 0 → M.word memory.now (at + 40) ≡ 0 }
+    requires { HasChildPlaces (M.regions memory.now) at }
+    ensures first { IsFirstChild (M.word memory.now) at result }
     ensures counted { steps.new ≤ steps.old + 2 }
 {
     let left = memory.load_counted(at + CHILD0, steps);
@@ -46,10 +43,8 @@ pub(crate) fn first_child<M: Links, L: Ledger>(memory: &M, at: u64, steps: &mut 
 /// Names a chunk as the parent of a child, if there is one.
 fn adopt<M: Links, L: Ledger>(memory: &mut M, child: u64, chunk: u64, steps: &mut Steps<L>)
     requires { 0 < child → IsWordPlace (M.regions memory.old) (child + 48) }
-    ensures named { 0 < child → M.word memory.new (child + 48) ≡ chunk }
-    ensures elsewhere { (at : ℕ) → IsWordOf (M.regions memory.old) at → (0 < child → at ≢ child + 48) → M.word memory.new at ≡ M.word memory.old at }
-    ensures asks { AsksNothing M.Links memory.old memory.new }
-    ensures counted { steps.new ≤ steps.old + 1 }
+    ensures adopted { HasAdopted (M.regions memory.old) (M.word memory.old) child chunk (M.word memory.new) }
+    ensures work { TakesAtMost M.Links 1 memory.old steps.old memory.new steps.new }
 {
     if child != 0 {
         memory.store_counted(child + PARENT, chunk, steps);
@@ -66,13 +61,9 @@ pub(crate) fn place_node<M: Links, L: Ledger>(
     bin: u64,
     steps: &mut Steps<L>,
 )
-    requires own { (k : ℕ) → 1 < k → k < 8 → IsWordPlace (M.regions memory.old) (chunk + 8 * k) }
-    requires places { (side : Bool) → 0 < both child0 child1 side → IsWordPlace (M.regions memory.old) (both child0 child1 side + 48) }
-    requires apart { (side : Bool) → 0 < both child0 child1 side → (both child0 child1 side + 48 < chunk + 32) ⊎ (chunk + 64 ≤ both child0 child1 side + 48) }
-    requires two { 0 < child0 → 0 < child1 → child0 ≢ child1 }
+    requires { CanBeNode (M.regions memory.old) chunk (both child0 child1) }
     ensures placed { HasPlaced (M.regions memory.old) (M.word memory.old) chunk (both child0 child1) parent bin (M.word memory.new) }
-    ensures asks { AsksNothing M.Links memory.old memory.new }
-    ensures counted { steps.new ≤ steps.old + 6 }
+    ensures work { TakesAtMost M.Links 6 memory.old steps.old memory.new steps.new }
 {
     set_node(memory, chunk, child0, child1, parent, bin, steps);
     adopt(memory, child0, chunk, steps);
@@ -91,9 +82,7 @@ fn take_under<M: Links, L: Ledger>(
     levels: u32,
     steps: &mut Steps<L>,
 ) -> u64
-    requires some { 0 < at }
-    requires real { 0 < child }
-    requires child { child ≡ M.word memory.old (at + slot is_upper) }
+    requires child { IsChildOf (M.word memory.old) at is_upper child }
     requires held { (index : ℕ → List ℕ) × ((bin : ℕ) × ((parent : ℕ) × ((low : ℕ) × ((deep : ℕ) × ((deep ≤ levels) × IsHeld (M.regions memory.old) (M.word memory.old) index bin parent low deep at))))) }
     ensures taken { (index : ℕ → List ℕ) (bin parent low deep : ℕ) → deep ≤ levels → IsHeld (M.regions memory.old) (M.word memory.old) index bin parent low deep at →
         IsTakenOut (M.regions memory.old) (M.word memory.old) (M.word memory.new) index bin parent low deep at result }
@@ -120,8 +109,7 @@ pub(crate) fn take_leaf<M: Links, L: Ledger>(
     requires held { (index : ℕ → List ℕ) × ((bin : ℕ) × ((parent : ℕ) × ((low : ℕ) × ((deep : ℕ) × ((deep ≤ levels) × IsHeld (M.regions memory.old) (M.word memory.old) index bin parent low deep at))))) }
     ensures taken { (index : ℕ → List ℕ) (bin parent low deep : ℕ) → deep ≤ levels → IsHeld (M.regions memory.old) (M.word memory.old) index bin parent low deep at →
         IsTakenOut (M.regions memory.old) (M.word memory.old) (M.word memory.new) index bin parent low deep at result }
-    ensures asks { AsksNothing M.Links memory.old memory.new }
-    ensures counted { steps.new ≤ steps.old + 3 * levels }
+    ensures work { TakesAtMost M.Links (3 * levels) memory.old steps.old memory.new steps.new }
 {
     let child = first_child(memory, at, steps);
     if child.at == 0 {

@@ -1,12 +1,14 @@
 // A chunk leaves a trie.
-ghost use Rattle.std.specs.Prelude.{◌≡◌, ◌≢◌, ℕ, ◌+◌, ◌-◌, ◌*◌, ◌%◌, ◌^◌, ◌<◌, ◌≤◌, ◌⊎◌, Bool, not, List, [], ◌∷◌};
+ghost use Rattle.std.specs.Prelude.{◌≡◌, ◌≢◌, ℕ, ◌+◌, ◌-◌, ◌*◌, ◌<◌, ◌≤◌, Bool, not, List};
 ghost use Rattle.heap_memory.specs.Words.{IsStored};
 ghost use Rattle.dlmalloc_chunks.specs.Head.{size_of};
-ghost use Rattle.heap_memory.specs.Asks.{AsksNothing};
-ghost use Rattle.bins.specs.Index.{IsIn, without_size};
-ghost use Rattle.bins.specs.Tries.{both, slot, width, IsTrie, IsInRange};
-ghost use Rattle.bins.specs.Below.{IsHeld, OnlyHeldChanges, HasLeft};
-ghost use Rattle.bins.specs.Stores.{IsWordPlace, HasLinkPlaces, HasPulled, HasHeirLinks, HasPlaced};
+ghost use Rattle.bins.specs.Index.{IsIn};
+ghost use Rattle.bins.specs.Tries.{both, slot, IsInRange, IsScaled, IsAligned};
+ghost use Rattle.bins.specs.Below.{IsHeld, HasLeft, HasGivenWay};
+ghost use Rattle.bins.specs.Stores.{IsWordPlace, HasPulled, HasHeirLinks, HasPlaced};
+ghost use Rattle.bins.specs.Places.{HasRoom, CanLeaveRing, CanTurn, CanBeNode};
+ghost use Rattle.bins.specs.Work.{TakesSteps, TakesAtMost};
+ghost use Rattle.bins.specs.Children.{IsChildOf};
 
 use crate::leaf::{first_child, place_node, take_leaf};
 use crate::small::pull;
@@ -18,13 +20,9 @@ use std::sync::ledger::Ledger;
 
 /// Takes a chunk that is not the oldest out of the ring of a node.
 fn leave_ring<M: Links, L: Ledger>(memory: &mut M, chunk: u64, steps: &mut Steps<L>)
-    requires links { HasLinkPlaces (M.regions memory.old) chunk }
-    requires front { IsWordPlace (M.regions memory.old) (M.word memory.old (chunk + 16) + 24) }
-    requires back { IsWordPlace (M.regions memory.old) (M.word memory.old (chunk + 24) + 16) }
-    requires other { M.word memory.old (chunk + 16) + 24 ≢ M.word memory.old (chunk + 24) + 16 }
+    requires { CanLeaveRing (M.regions memory.old) (M.word memory.old) chunk }
     ensures pulled { HasPulled (M.regions memory.old) (M.word memory.old) (M.word memory.old (chunk + 16)) (M.word memory.old (chunk + 24)) 0 (M.word memory.new) }
-    ensures asks { AsksNothing M.Links memory.old memory.new }
-    ensures counted { steps.new ≤ steps.old + 4 }
+    ensures work { TakesAtMost M.Links 4 memory.old steps.old memory.new steps.new }
 {
     let prev = memory.load_counted(chunk + PREV, steps);
     let next = memory.load_counted(chunk + NEXT, steps);
@@ -33,12 +31,9 @@ fn leave_ring<M: Links, L: Ledger>(memory: &mut M, chunk: u64, steps: &mut Steps
 
 /// Gives the heir of a node the ring's last, and the last the heir.
 fn turn_heir<M: Links, L: Ledger>(memory: &mut M, heir: u64, last: u64, steps: &mut Steps<L>)
-    requires own { IsWordPlace (M.regions memory.old) (heir + 16) }
-    requires behind { IsWordPlace (M.regions memory.old) (last + 24) }
-    requires other { heir + 16 ≢ last + 24 }
+    requires { CanTurn (M.regions memory.old) heir last }
     ensures turned { HasHeirLinks (M.regions memory.old) (M.word memory.old) heir last (M.word memory.new) }
-    ensures asks { AsksNothing M.Links memory.old memory.new }
-    ensures counted { steps.new ≡ steps.old + 2 }
+    ensures work { TakesSteps M.Links 2 memory.old steps.old memory.new steps.new }
 {
     memory.store_counted(heir + PREV, last, steps);
     memory.store_counted(last + NEXT, heir, steps);
@@ -53,17 +48,12 @@ fn give_to_heir<M: Links, L: Ledger>(
     bin: u64,
     steps: &mut Steps<L>,
 )
-    requires here { (k : ℕ) → 1 < k → k < 8 → IsWordPlace (M.regions memory.old) (at + 8 * k) }
-    requires own { (k : ℕ) → 1 < k → k < 8 → IsWordPlace (M.regions memory.old) (heir + 8 * k) }
-    requires behind { IsWordPlace (M.regions memory.old) (M.word memory.old (at + 16) + 24) }
-    requires other { heir + 16 ≢ M.word memory.old (at + 16) + 24 }
-    requires places { (side : Bool) → 0 < both (M.word memory.old (at + 32)) (M.word memory.old (at + 40)) side → IsWordPlace (M.regions memory.old) (both (M.word memory.old (at + 32)) (M.word memory.old (at + 40)) side + 48) }
-    requires apart { (side : Bool) → 0 < both (M.word memory.old (at + 32)) (M.word memory.old (at + 40)) side → (both (M.word memory.old (at + 32)) (M.word memory.old (at + 40)) side + 48 < heir + 32) ⊎ (heir + 64 ≤ both (M.word memory.old (at + 32)) (M.word memory.old (at + 40)) side + 48) }
-    requires two { 0 < M.word memory.old (at + 32) → 0 < M.word memory.old (at + 40) → M.word memory.old (at + 32) ≢ M.word memory.old (at + 40) }
+    requires here { HasRoom (M.regions memory.old) at }
+    requires turn { CanTurn (M.regions memory.old) heir (M.word memory.old (at + 16)) }
+    requires node { CanBeNode (M.regions memory.old) heir (both (M.word memory.old (at + 32)) (M.word memory.old (at + 40))) }
     ensures given { (mid : ℕ → ℕ) × (HasHeirLinks (M.regions memory.old) (M.word memory.old) heir (M.word memory.old (at + 16)) mid
         × HasPlaced (M.regions memory.old) mid heir (both (M.word memory.old (at + 32)) (M.word memory.old (at + 40))) parent bin (M.word memory.new)) }
-    ensures asks { AsksNothing M.Links memory.old memory.new }
-    ensures counted { steps.new ≤ steps.old + 11 }
+    ensures work { TakesAtMost M.Links 11 memory.old steps.old memory.new steps.new }
 {
     let last = memory.load_counted(at + PREV, steps);
     let child0 = memory.load_counted(at + CHILD0, steps);
@@ -100,16 +90,11 @@ fn raise_leaf<M: Links, L: Ledger>(
     bin: u64,
     steps: &mut Steps<L>,
 ) -> u64
-    requires some { 0 < at }
-    requires real { 0 < child }
-    requires child { child ≡ M.word memory.old (at + slot is_upper) }
+    requires child { IsChildOf (M.word memory.old) at is_upper child }
     requires held { (index : ℕ → List ℕ) × ((low : ℕ) × ((deep : ℕ) × ((deep ≤ levels) × IsHeld (M.regions memory.old) (M.word memory.old) index bin parent low deep at))) }
-    ensures trie { (index : ℕ → List ℕ) (low deep : ℕ) → deep ≤ levels → IsHeld (M.regions memory.old) (M.word memory.old) index bin parent low deep at →
-        (size : ℕ) → index size ≡ at ∷ [] → IsTrie (M.word memory.new) (without_size size index) bin parent low deep result }
-    ensures words { (index : ℕ → List ℕ) (low deep : ℕ) → deep ≤ levels → IsHeld (M.regions memory.old) (M.word memory.old) index bin parent low deep at →
-        OnlyHeldChanges (M.regions memory.old) index low (low + width deep) (M.word memory.old) (M.word memory.new) }
-    ensures asks { AsksNothing M.Links memory.old memory.new }
-    ensures counted { steps.new ≤ steps.old + 3 * levels + 4 }
+    ensures given { (index : ℕ → List ℕ) (low deep : ℕ) → deep ≤ levels → IsHeld (M.regions memory.old) (M.word memory.old) index bin parent low deep at →
+        HasGivenWay (M.regions memory.old) (M.word memory.old) (M.word memory.new) index bin parent low deep at result }
+    ensures work { TakesAtMost M.Links (3 * levels + 4) memory.old steps.old memory.new steps.new }
 {
     let other = memory.load_counted(slot_of(at, !is_upper), steps);
     let leaf = take_leaf(memory, child, levels - 1, steps);
@@ -133,12 +118,9 @@ fn give_to_leaf<M: Links, L: Ledger>(
 ) -> u64
     requires some { 0 < at }
     requires held { (index : ℕ → List ℕ) × ((low : ℕ) × ((deep : ℕ) × ((deep ≤ levels) × IsHeld (M.regions memory.old) (M.word memory.old) index bin parent low deep at))) }
-    ensures trie { (index : ℕ → List ℕ) (low deep : ℕ) → deep ≤ levels → IsHeld (M.regions memory.old) (M.word memory.old) index bin parent low deep at →
-        (size : ℕ) → index size ≡ at ∷ [] → IsTrie (M.word memory.new) (without_size size index) bin parent low deep result }
-    ensures words { (index : ℕ → List ℕ) (low deep : ℕ) → deep ≤ levels → IsHeld (M.regions memory.old) (M.word memory.old) index bin parent low deep at →
-        OnlyHeldChanges (M.regions memory.old) index low (low + width deep) (M.word memory.old) (M.word memory.new) }
-    ensures asks { AsksNothing M.Links memory.old memory.new }
-    ensures counted { steps.new ≤ steps.old + 3 * levels + 6 }
+    ensures given { (index : ℕ → List ℕ) (low deep : ℕ) → deep ≤ levels → IsHeld (M.regions memory.old) (M.word memory.old) index bin parent low deep at →
+        HasGivenWay (M.regions memory.old) (M.word memory.old) (M.word memory.new) index bin parent low deep at result }
+    ensures work { TakesAtMost M.Links (3 * levels + 6) memory.old steps.old memory.new steps.new }
 {
     let child = first_child(memory, at, steps);
     if child.at == 0 {
@@ -171,8 +153,7 @@ pub(crate) fn replace_node<M: Links, L: Ledger>(
     requires held { (index : ℕ → List ℕ) × ((low : ℕ) × ((deep : ℕ) × ((size : ℕ) × ((deep ≤ levels) × (IsHeld (M.regions memory.old) (M.word memory.old) index bin parent low deep at × IsIn at (index size)))))) }
     ensures left { (index : ℕ → List ℕ) (low deep size : ℕ) → deep ≤ levels → IsHeld (M.regions memory.old) (M.word memory.old) index bin parent low deep at → IsIn at (index size) →
         HasLeft (M.regions memory.old) (M.word memory.old) (M.word memory.new) index bin parent low deep size at result }
-    ensures asks { AsksNothing M.Links memory.old memory.new }
-    ensures counted { steps.new ≤ steps.old + 3 * levels + 9 }
+    ensures work { TakesAtMost M.Links (3 * levels + 9) memory.old steps.old memory.new steps.new }
 {
     let heir = memory.load_counted(at + NEXT, steps);
     if heir == at {
@@ -194,8 +175,7 @@ pub(crate) fn swap_child<M: Links, L: Ledger>(
     requires was { (side : Bool) × ((M.word memory.old (parent + slot side) ≡ was) × (M.word memory.old (parent + slot (not side)) ≢ was)) }
     ensures stored { (side : Bool) → M.word memory.old (parent + slot side) ≡ was → M.word memory.old (parent + slot (not side)) ≢ was →
         IsStored (M.regions memory.old) (M.word memory.old) (parent + slot side) child (M.word memory.new) }
-    ensures asks { AsksNothing M.Links memory.old memory.new }
-    ensures counted { steps.new ≡ steps.old + 2 }
+    ensures work { TakesSteps M.Links 2 memory.old steps.old memory.new steps.new }
 {
     let lower = memory.load_counted(parent + CHILD0, steps);
     memory.store_counted(slot_of(parent, lower != was), child, steps);
@@ -216,8 +196,7 @@ fn unlink_here<M: Links, L: Ledger>(
     requires held { (index : ℕ → List ℕ) × ((low : ℕ) × ((size : ℕ) × (IsHeld (M.regions memory.old) (M.word memory.old) index bin parent low levels at × (IsIn at (index size) × IsIn chunk (index size))))) }
     ensures left { (index : ℕ → List ℕ) (low size : ℕ) → IsHeld (M.regions memory.old) (M.word memory.old) index bin parent low levels at → IsIn at (index size) → IsIn chunk (index size) →
         HasLeft (M.regions memory.old) (M.word memory.old) (M.word memory.new) index bin parent low levels size chunk result }
-    ensures asks { AsksNothing M.Links memory.old memory.new }
-    ensures counted { steps.new ≤ steps.old + 3 * levels + 12 }
+    ensures work { TakesAtMost M.Links (3 * levels + 12) memory.old steps.old memory.new steps.new }
 {
     if chunk != at {
         leave_ring(memory, chunk, steps);
@@ -242,13 +221,12 @@ fn unlink_under<M: Links, L: Ledger>(
 )
     requires some { 0 < at }
     requires range { IsInRange low levels size }
-    requires bits { bits ≡ (size - low) * 2 ^ (61 - levels) }
+    requires bits { IsScaled low levels size bits }
     requires other { size_of (M.word memory.old (at + 8)) ≢ size }
     requires held { (index : ℕ → List ℕ) × ((parent : ℕ) × (IsHeld (M.regions memory.old) (M.word memory.old) index bin parent low levels at × IsIn chunk (index size))) }
     ensures left { (index : ℕ → List ℕ) (parent : ℕ) → IsHeld (M.regions memory.old) (M.word memory.old) index bin parent low levels at → IsIn chunk (index size) →
         HasLeft (M.regions memory.old) (M.word memory.old) (M.word memory.new) index bin parent low levels size chunk at }
-    ensures asks { AsksNothing M.Links memory.old memory.new }
-    ensures counted { steps.new ≤ steps.old + 3 * levels + 12 }
+    ensures work { TakesAtMost M.Links (3 * levels + 12) memory.old steps.old memory.new steps.new }
 {
     let half = half_width(levels);
     let is_upper = is_in_upper(low, half, size, bits);
@@ -288,12 +266,11 @@ pub(crate) fn unlink_below<M: Links, L: Ledger>(
 ) -> u64
     requires some { 0 < at }
     requires range { IsInRange low levels size }
-    requires whole { low * 2 ^ (61 - levels) % 2 ^ 64 ≡ 0 }
+    requires whole { IsAligned low levels }
     requires held { (index : ℕ → List ℕ) × (IsHeld (M.regions memory.old) (M.word memory.old) index bin parent low levels at × IsIn chunk (index size)) }
     ensures left { (index : ℕ → List ℕ) → IsHeld (M.regions memory.old) (M.word memory.old) index bin parent low levels at → IsIn chunk (index size) →
         HasLeft (M.regions memory.old) (M.word memory.old) (M.word memory.new) index bin parent low levels size chunk result }
-    ensures asks { AsksNothing M.Links memory.old memory.new }
-    ensures counted { steps.new ≤ steps.old + 3 * levels + 13 }
+    ensures work { TakesAtMost M.Links (3 * levels + 13) memory.old steps.old memory.new steps.new }
 {
     let here = chunk::size(memory, at, steps);
     if here == size {

@@ -1,7 +1,7 @@
 // The least fit in a trie.
-ghost use Rattle.std.specs.Prelude.{◌≡◌, ℕ, ◌+◌, ◌-◌, ◌*◌, ◌^◌, ◌<◌, ◌≤◌, ◌⊎◌, List, true, false};
+ghost use Rattle.std.specs.Prelude.{◌≡◌, ℕ, ◌+◌, ◌-◌, ◌*◌, ◌<◌, ◌≤◌, ◌⊎◌, List, true, false};
 ghost use Rattle.bins.specs.Index.{IsNone};
-ghost use Rattle.bins.specs.Tries.{width, IsInRange};
+ghost use Rattle.bins.specs.Tries.{width, IsInRange, IsScaled};
 ghost use Rattle.bins.specs.Fits.{IsReadable, IsLesser, IsSearched};
 
 use crate::fit::Fit;
@@ -87,7 +87,7 @@ pub(crate) fn fit_below<M: Links, L: Ledger>(
     steps: &mut Steps<L>,
 ) -> u64
     requires range { IsInRange low levels size }
-    requires bits { bits ≡ (size - low) * 2 ^ (61 - levels) }
+    requires bits { IsScaled low levels size bits }
     requires known { size ≤ known_size }
     requires deep { levels ≤ beside_levels }
     requires readable { (index : ℕ → List ℕ) × IsReadable (M.regions memory.now) (M.word memory.now) index low levels at }

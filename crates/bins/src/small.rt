@@ -1,10 +1,11 @@
 // The rings of small chunks.
-ghost use Rattle.std.specs.Prelude.{◌≢◌, ℕ, ◌+◌, ◌%◌, ◌^◌, ◌<◌, ◌≤◌, List, MatchOption};
-ghost use Rattle.heap_memory.specs.Asks.{AsksNothing};
+ghost use Rattle.std.specs.Prelude.{ℕ, ◌+◌, ◌<◌, ◌≤◌, List, MatchOption};
 ghost use Rattle.bins.specs.Index.{IsIn, IsNone, IsLeastFit};
 ghost use Rattle.bins.specs.Linked.{IsLinked, IsFreshChunk};
 ghost use Rattle.bins.specs.Changes.{IsInserted, IsUnlinked};
-ghost use Rattle.bins.specs.Stores.{IsWordPlace, HasLinkPlaces, HasPushed, HasNewest, HasPulled, HasLess};
+ghost use Rattle.bins.specs.Stores.{HasPushed, HasNewest, HasPulled, HasLess};
+ghost use Rattle.bins.specs.Places.{CanPush, CanPull};
+ghost use Rattle.bins.specs.Work.{TakesAtMost};
 
 use crate::bins::Bins;
 use crate::map;
@@ -14,12 +15,9 @@ use std::sync::ledger::Ledger;
 
 /// Puts a chunk after the last of a ring, which is the ring's tag if it is empty.
 fn push<M: Links, L: Ledger>(memory: &mut M, last: u64, tag: u64, chunk: u64, steps: &mut Steps<L>)
-    requires links { HasLinkPlaces (M.regions memory.old) chunk }
-    requires behind { last ≢ tag → IsWordPlace (M.regions memory.old) (last + 24) }
-    requires other { last ≢ tag → (last + 24 ≢ chunk + 16) × (last + 24 ≢ chunk + 24) }
+    requires { CanPush (M.regions memory.old) last tag chunk }
     ensures pushed { HasPushed (M.regions memory.old) (M.word memory.old) last tag chunk (M.word memory.new) }
-    ensures asks { AsksNothing M.Links memory.old memory.new }
-    ensures counted { steps.new ≤ steps.old + 3 }
+    ensures work { TakesAtMost M.Links 3 memory.old steps.old memory.new steps.new }
 {
     memory.store_counted(chunk + PREV, last, steps);
     memory.store_counted(chunk + NEXT, tag, steps);
@@ -36,12 +34,9 @@ pub(crate) fn pull<M: Links, L: Ledger>(
     tag: u64,
     steps: &mut Steps<L>,
 )
-    requires front { prev ≢ tag → IsWordPlace (M.regions memory.old) (prev + 24) }
-    requires back { next ≢ tag → IsWordPlace (M.regions memory.old) (next + 16) }
-    requires other { prev ≢ tag → next ≢ tag → prev + 24 ≢ next + 16 }
+    requires { CanPull (M.regions memory.old) prev next tag }
     ensures pulled { HasPulled (M.regions memory.old) (M.word memory.old) prev next tag (M.word memory.new) }
-    ensures asks { AsksNothing M.Links memory.old memory.new }
-    ensures counted { steps.new ≤ steps.old + 2 }
+    ensures work { TakesAtMost M.Links 2 memory.old steps.old memory.new steps.new }
 {
     if prev != tag {
         memory.store_counted(prev + NEXT, next, steps);
@@ -63,8 +58,7 @@ impl Bins {
     )
         requires small { size < 256 }
         requires linked { (index : ℕ → List ℕ) × IsLinked (M.regions memory.old) (M.word memory.old) self.old index × IsFreshChunk (M.regions memory.old) (M.word memory.old) index size chunk }
-        ensures inserted { IsInserted M.regions M.word size chunk self.old memory.old self.new memory.new }
-        ensures asks { AsksNothing M.Links memory.old memory.new }
+        ensures inserted { IsInserted M.Links size chunk self.old memory.old self.new memory.new }
         ensures counted { steps.new ≤ steps.old + 3 }
     {
         let bin = (size >> 3) as usize;
@@ -97,8 +91,7 @@ impl Bins {
     )
         requires small { size < 256 }
         requires linked { (index : ℕ → List ℕ) × IsLinked (M.regions memory.old) (M.word memory.old) self.old index × IsIn chunk (index size) }
-        ensures unlinked { IsUnlinked M.regions M.word size chunk self.old memory.old self.new memory.new }
-        ensures asks { AsksNothing M.Links memory.old memory.new }
+        ensures unlinked { IsUnlinked M.Links size chunk self.old memory.old self.new memory.new }
         ensures counted { steps.new ≤ steps.old + 4 }
     {
         let bin = (size >> 3) as usize;

@@ -1,11 +1,11 @@
 // The tries of large chunks.
-ghost use Rattle.std.specs.Prelude.{◌≡◌, ◌≢◌, ℕ, ◌+◌, ◌-◌, ◌*◌, ◌%◌, ◌^◌, ◌<◌, ◌≤◌, ◌⊎◌, List};
-ghost use Rattle.heap_memory.specs.Asks.{AsksNothing};
-ghost use Rattle.bins.specs.Index.{IsIn, with_chunk};
-ghost use Rattle.bins.specs.Tries.{width, slot, low_at, IsTrie, IsInRange};
+ghost use Rattle.std.specs.Prelude.{◌≡◌, ℕ, ◌+◌, ◌-◌, ◌*◌, ◌%◌, ◌^◌, ◌<◌, ◌≤◌, List};
+ghost use Rattle.bins.specs.Tries.{width, slot, low_at, IsInRange, IsScaled, IsAligned};
 ghost use Rattle.bins.specs.Linked.{IsFreshChunk};
-ghost use Rattle.bins.specs.Stores.{IsWordPlace, HasLinkPlaces, HasJoined, HasLinks, HasNode, HasLeaf};
-ghost use Rattle.bins.specs.Below.{IsHeld, OnlyRangeChanges};
+ghost use Rattle.bins.specs.Stores.{HasJoined, HasLinks, HasNode, HasLeaf};
+ghost use Rattle.bins.specs.Places.{HasRoom, CanJoin, CanBeLeaf};
+ghost use Rattle.bins.specs.Work.{TakesSteps, TakesAtMost};
+ghost use Rattle.bins.specs.Below.{IsHeld, HasGained};
 
 use crate::words::{CHILD0, CHILD1, INDEX, NEXT, PARENT, PREV};
 use dlmalloc_chunks::chunk;
@@ -28,8 +28,8 @@ pub(crate) fn path_bits(low: u64, levels: u32, size: u64) -> u64
     requires few { levels ≤ 61 }
     requires above { low ≤ size }
     requires below { size < low + width levels }
-    requires whole { low * 2 ^ (61 - levels) % 2 ^ 64 ≡ 0 }
-    ensures { result ≡ (size - low) * 2 ^ (61 - levels) }
+    requires whole { IsAligned low levels }
+    ensures { IsScaled low levels size result }
 {
     size << (61 - levels)
 }
@@ -70,13 +70,9 @@ pub(crate) fn low_of(low: u64, half: u64, is_upper: bool) -> u64
 
 /// Puts a chunk after the last of a node's ring.
 fn join_ring<M: Links, L: Ledger>(memory: &mut M, at: u64, chunk: u64, steps: &mut Steps<L>)
-    requires links { HasLinkPlaces (M.regions memory.old) chunk }
-    requires here { IsWordPlace (M.regions memory.old) (at + 16) }
-    requires behind { IsWordPlace (M.regions memory.old) (M.word memory.old (at + 16) + 24) }
-    requires apart { (at + 16 ≢ chunk + 16) × (at + 16 ≢ chunk + 24) × (M.word memory.old (at + 16) + 24 ≢ chunk + 16) × (M.word memory.old (at + 16) + 24 ≢ chunk + 24) × (M.word memory.old (at + 16) + 24 ≢ at + 16) }
+    requires { CanJoin (M.regions memory.old) (M.word memory.old) at chunk }
     ensures joined { HasJoined (M.regions memory.old) (M.word memory.old) at chunk (M.word memory.new) }
-    ensures asks { AsksNothing M.Links memory.old memory.new }
-    ensures counted { steps.new ≡ steps.old + 5 }
+    ensures work { TakesSteps M.Links 5 memory.old steps.old memory.new steps.new }
 {
     let last = memory.load_counted(at + PREV, steps);
     memory.store_counted(chunk + PREV, last, steps);
@@ -93,10 +89,9 @@ fn set_links<M: Links, L: Ledger>(
     next: u64,
     steps: &mut Steps<L>,
 )
-    requires { (k : ℕ) → 1 < k → k < 8 → IsWordPlace (M.regions memory.old) (chunk + 8 * k) }
+    requires { HasRoom (M.regions memory.old) chunk }
     ensures links { HasLinks (M.regions memory.old) (M.word memory.old) chunk prev next (M.word memory.new) }
-    ensures asks { AsksNothing M.Links memory.old memory.new }
-    ensures counted { steps.new ≡ steps.old + 2 }
+    ensures work { TakesSteps M.Links 2 memory.old steps.old memory.new steps.new }
 {
     memory.store_counted(chunk + PREV, prev, steps);
     memory.store_counted(chunk + NEXT, next, steps);
@@ -112,10 +107,9 @@ pub(crate) fn set_node<M: Links, L: Ledger>(
     bin: u64,
     steps: &mut Steps<L>,
 )
-    requires { (k : ℕ) → 1 < k → k < 8 → IsWordPlace (M.regions memory.old) (chunk + 8 * k) }
+    requires { HasRoom (M.regions memory.old) chunk }
     ensures node { HasNode (M.regions memory.old) (M.word memory.old) chunk child0 child1 parent bin (M.word memory.new) }
-    ensures asks { AsksNothing M.Links memory.old memory.new }
-    ensures counted { steps.new ≡ steps.old + 4 }
+    ensures work { TakesSteps M.Links 4 memory.old steps.old memory.new steps.new }
 {
     memory.store_counted(chunk + CHILD0, child0, steps);
     memory.store_counted(chunk + CHILD1, child1, steps);
@@ -132,12 +126,9 @@ fn make_leaf<M: Links, L: Ledger>(
     chunk: u64,
     steps: &mut Steps<L>,
 )
-    requires named { IsWordPlace (M.regions memory.old) place }
-    requires own { (k : ℕ) → 1 < k → k < 8 → IsWordPlace (M.regions memory.old) (chunk + 8 * k) }
-    requires apart { (place < chunk + 16) ⊎ (chunk + 64 ≤ place) }
+    requires { CanBeLeaf (M.regions memory.old) place chunk }
     ensures leaf { HasLeaf (M.regions memory.old) (M.word memory.old) place parent bin chunk (M.word memory.new) }
-    ensures asks { AsksNothing M.Links memory.old memory.new }
-    ensures counted { steps.new ≡ steps.old + 7 }
+    ensures work { TakesSteps M.Links 7 memory.old steps.old memory.new steps.new }
 {
     set_links(memory, chunk, chunk, chunk, steps);
     set_node(memory, chunk, 0, 0, parent, bin, steps);
@@ -158,15 +149,12 @@ pub(crate) fn insert_below<M: Links, L: Ledger>(
 )
     requires some { 0 < at }
     requires range { IsInRange low levels size }
-    requires bits { bits ≡ (size - low) * 2 ^ (61 - levels) }
+    requires bits { IsScaled low levels size bits }
     requires large { 256 ≤ size }
     requires held { (index : ℕ → List ℕ) × ((parent : ℕ) × (IsHeld (M.regions memory.old) (M.word memory.old) index bin parent low levels at × IsFreshChunk (M.regions memory.old) (M.word memory.old) index size chunk)) }
-    ensures trie { (index : ℕ → List ℕ) → (parent : ℕ) → IsHeld (M.regions memory.old) (M.word memory.old) index bin parent low levels at →
-        IsFreshChunk (M.regions memory.old) (M.word memory.old) index size chunk → IsTrie (M.word memory.new) (with_chunk size chunk index) bin parent low levels at }
-    ensures words { (index : ℕ → List ℕ) → (parent : ℕ) → IsHeld (M.regions memory.old) (M.word memory.old) index bin parent low levels at →
-        IsFreshChunk (M.regions memory.old) (M.word memory.old) index size chunk → OnlyRangeChanges (M.regions memory.old) index low (low + width levels) size chunk (M.word memory.old) (M.word memory.new) }
-    ensures asks { AsksNothing M.Links memory.old memory.new }
-    ensures counted { steps.new ≤ steps.old + 2 * levels + 7 }
+    ensures gained { (index : ℕ → List ℕ) (parent : ℕ) → IsHeld (M.regions memory.old) (M.word memory.old) index bin parent low levels at → IsFreshChunk (M.regions memory.old) (M.word memory.old) index size chunk →
+        HasGained (M.regions memory.old) (M.word memory.old) (M.word memory.new) index bin parent low levels size chunk at }
+    ensures work { TakesAtMost M.Links (2 * levels + 7) memory.old steps.old memory.new steps.new }
 {
     let here = chunk::size(memory, at, steps);
     if here == size {
@@ -208,15 +196,12 @@ pub(crate) fn plant<M: Links, L: Ledger>(
 ) -> u64
     requires deep { 0 < levels }
     requires range { IsInRange low levels size }
-    requires whole { low * 2 ^ (61 - levels) % 2 ^ 64 ≡ 0 }
+    requires whole { IsAligned low levels }
     requires large { 256 ≤ size }
     requires held { (index : ℕ → List ℕ) × (IsHeld (M.regions memory.old) (M.word memory.old) index bin parent low levels root × IsFreshChunk (M.regions memory.old) (M.word memory.old) index size chunk) }
-    ensures trie { (index : ℕ → List ℕ) → IsHeld (M.regions memory.old) (M.word memory.old) index bin parent low levels root →
-        IsFreshChunk (M.regions memory.old) (M.word memory.old) index size chunk → IsTrie (M.word memory.new) (with_chunk size chunk index) bin parent low levels result }
-    ensures words { (index : ℕ → List ℕ) → IsHeld (M.regions memory.old) (M.word memory.old) index bin parent low levels root →
-        IsFreshChunk (M.regions memory.old) (M.word memory.old) index size chunk → OnlyRangeChanges (M.regions memory.old) index low (low + width levels) size chunk (M.word memory.old) (M.word memory.new) }
-    ensures asks { AsksNothing M.Links memory.old memory.new }
-    ensures counted { steps.new ≤ steps.old + 2 * levels + 7 }
+    ensures gained { (index : ℕ → List ℕ) → IsHeld (M.regions memory.old) (M.word memory.old) index bin parent low levels root → IsFreshChunk (M.regions memory.old) (M.word memory.old) index size chunk →
+        HasGained (M.regions memory.old) (M.word memory.old) (M.word memory.new) index bin parent low levels size chunk result }
+    ensures work { TakesAtMost M.Links (2 * levels + 7) memory.old steps.old memory.new steps.new }
 {
     if root == 0 {
         set_links(memory, chunk, chunk, chunk, steps);

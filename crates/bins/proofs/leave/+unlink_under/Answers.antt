@@ -98,7 +98,7 @@ unlink_here-left-requires-clause-held g t c =
 pub store_counted-requires : goal.store_counted-requires
 store_counted-requires g t c =
     let r = c.requires.held in
-    rw (c.unlink_here-left.ensures.asks.regions, c.slot_of-place.ensures) ((t_slot c.requires.some r.1.1.0 c.is_in_upper-is_upper.result).word)
+    rw (c.unlink_here-left.ensures.work.regions, c.slot_of-place.ensures) ((t_slot c.requires.some r.1.1.0 c.is_in_upper-is_upper.result).word)
 
 pub returns-else-below-size-clause-left : goal.returns-else-below-size-clause-left
 returns-else-below-size-clause-left g t c = λ index parent held chunk_in.
@@ -107,7 +107,7 @@ returns-else-below-size-clause-left g t c = λ index parent held chunk_in.
     let is = sym c.size-below.ensures.value ∙ same in
     let done = c.unlink_here-left.ensures in
     let low = c.low_of-child_low.result in
-    let stored = rw done.asks.regions at c.store_counted.ensures.stored in
+    let stored = rw done.work.regions at c.store_counted.ensures.stored in
     b_left l c.low_of-child_low.ensures (λ i h. done.left i low c.args.size h (t_here (b_real l) h is)) stored
 
 pub is_in_upper-is_upper-requires-clause-bits : goal.is_in_upper-is_upper-requires-clause-bits

@@ -1,37 +1,16 @@
 use Rattle.std.proofs.Common.{◌≡◌, subst, arith}
 use Rattle.bins.specs.Below.{HasLeft}
-use Rattle.bins.proofs.Chunks.{chunk_place}
-use Rattle.bins.proofs.LeaveHere.{u_front, u_back, u_apart, u_pulled, u_pulled_words}
+use Rattle.bins.proofs.LeaveHere.{u_ring, u_pulled}
 use Rattle.bins.proofs.leave.unlink_here.Goals as goal
 
-pub leave_ring-requires-clause-links : goal.leave_ring-requires-clause-links
-leave_ring-requires-clause-links g c =
+pub leave_ring-requires : goal.leave_ring-requires
+leave_ring-requires g c =
     let r = c.requires.held in
-    let held = r.1.1.1.0 in record {
-      prev = chunk_place held.chunks held.large r.1.1.0 c.args.chunk 2 r.1.1.1.1.1 (omega arith) (omega arith);
-      next = chunk_place held.chunks held.large r.1.1.0 c.args.chunk 3 r.1.1.1.1.1 (omega arith) (omega arith);
-    }
-
-pub leave_ring-requires-clause-front : goal.leave_ring-requires-clause-front
-leave_ring-requires-clause-front g c =
-    let r = c.requires.held in
-    u_front c.requires.some r.1.1.1.0 r.1.1.0 r.1.1.1.1.0 c.args.chunk r.1.1.1.1.1 c.if-chunk-at.true
-
-pub leave_ring-requires-clause-back : goal.leave_ring-requires-clause-back
-leave_ring-requires-clause-back g c =
-    let r = c.requires.held in
-    u_back c.requires.some r.1.1.1.0 r.1.1.0 r.1.1.1.1.0 c.args.chunk r.1.1.1.1.1 c.if-chunk-at.true
-
-pub leave_ring-requires-clause-other : goal.leave_ring-requires-clause-other
-leave_ring-requires-clause-other g c =
-    let r = c.requires.held in
-    u_apart c.requires.some r.1.1.1.0 r.1.1.0 r.1.1.1.1.0 c.args.chunk r.1.1.1.1.1 c.if-chunk-at.true
+    u_ring c.requires.some r.1.1.1.0 r.1.1.0 r.1.1.1.1.0 c.args.chunk r.1.1.1.1.1 c.if-chunk-at.true
 
 pub returns-then-chunk-at-clause-left : goal.returns-then-chunk-at-clause-left
-returns-then-chunk-at-clause-left g c = λ index low size held at_in chunk_in. record {
-  trie = u_pulled c.requires.some held size at_in c.args.chunk chunk_in c.if-chunk-at.true c.leave_ring.ensures.pulled;
-  words = u_pulled_words c.requires.some held size at_in c.args.chunk chunk_in c.if-chunk-at.true c.leave_ring.ensures.pulled;
-}
+returns-then-chunk-at-clause-left g c = λ index low size held at_in chunk_in.
+    u_pulled c.requires.some held size at_in c.args.chunk chunk_in c.if-chunk-at.true c.leave_ring.ensures.pulled
 
 pub replace_node-requires-clause-held : goal.replace_node-requires-clause-held
 replace_node-requires-clause-held g c =

@@ -17,17 +17,11 @@ size-requires g t c =
     let real : 0 < c.args.at = omega arith in
     s_head real read
 
-pub first_child-child-requires-clause-left : goal.first_child-child-requires-clause-left
-first_child-child-requires-clause-left g t c =
+pub first_child-child-requires : goal.first_child-child-requires
+first_child-child-requires g t c =
     let read = c.requires.readable.1.1 in
     let real : 0 < c.args.at = omega arith in
-    s_slot real read false
-
-pub first_child-child-requires-clause-right : goal.first_child-child-requires-clause-right
-first_child-child-requires-clause-right g t c =
-    let read = c.requires.readable.1.1 in
-    let real : 0 < c.args.at = omega arith in
-    s_slot real read true
+    record { left = s_slot real read false; right = s_slot real read true }
 
 pub least_of-requires : goal.least_of-requires
 least_of-requires g t c κs within =
@@ -36,7 +30,7 @@ least_of-requires g t c κs within =
     let real : 0 < c.args.at = omega arith in
     let levels : 0 < c.args.levels = s_levels real read in
     let side = c.first_child-child.result.is_upper in
-    let child = s_child real read side c.first_child-child.ensures.is refl in (
+    let child = s_child real read side c.first_child-child.ensures.first.is refl in (
       omega (arith, c.decreases, levels),
       (
         search rules,
@@ -59,6 +53,6 @@ returns-clause-fit g t c = λ index low read.
     let carried = carried g t (goal.at.returns-clause-fit g t c).After-or_less-lesser in
     let child = c.first_child-child in
     let side = child.result.is_upper in
-    let below_read = s_child real read side child.ensures.is refl in
+    let below_read = s_child real read side child.ensures.first.is refl in
     let below = c.least_of.ensures.fit (without_size (q real read).node.size index) (low_at side low (width (c.args.levels - 1))) below_read in
-    least_search real read carried c.least_of.result refl side child.ensures.is child.ensures.lower child.ensures.upper below
+    least_search real read carried c.least_of.result refl side child.ensures.first.is child.ensures.first.lower child.ensures.first.upper below

@@ -3,7 +3,7 @@ use Rattle.bins.specs.Tries.{width, IsInRange}
 use Rattle.bins.specs.Stores.{IsWordPlace}
 use Rattle.bins.proofs.Descent.{IsDescent}
 use Rattle.bins.proofs.Taking.{t_levels, t_head, t_slot, t_rest}
-use Rattle.bins.proofs.TrieEntry.{e_at, e_last, e_apart, e_slot_own, e_joined, e_joined_words, e_leaf, e_leaf_words, e_fits, e_held, e_fresh, e_child, e_child_words}
+use Rattle.bins.proofs.TrieEntry.{e_ring, e_new, e_joined, e_leaf, e_fits, e_held, e_fresh, e_child}
 use Rattle.bins.proofs.Scaled.{half_scaled, next_is}
 use Rattle.bins.proofs.trie.+insert_below.Goals as goal
 use Rattle.bins.proofs.trie.+insert_below.Goals.{After-load_counted-child}
@@ -23,27 +23,12 @@ step g t c = record {
 pub size-here-requires : goal.size-here-requires
 size-here-requires g t c = t_head c.requires.some c.requires.held.1.1.0
 
-pub join_ring-requires-clause-here : goal.join_ring-requires-clause-here
-join_ring-requires-clause-here g t c = let r = c.requires.held in
-    e_at c.requires.some r.1.1.0 r.1.1.1 c.requires.large
+pub join_ring-requires : goal.join_ring-requires
+join_ring-requires g t c = let r = c.requires.held in e_ring c.requires.some r.1.1.0 r.1.1.1 c.requires.large
 
-pub join_ring-requires-clause-behind : goal.join_ring-requires-clause-behind
-join_ring-requires-clause-behind g t c = let r = c.requires.held in
-    e_last c.requires.some r.1.1.0 r.1.1.1 c.requires.large
-
-pub join_ring-requires-clause-apart : goal.join_ring-requires-clause-apart
-join_ring-requires-clause-apart g t c = let r = c.requires.held in
-    e_apart c.requires.some r.1.1.0 r.1.1.1 c.requires.large
-
-pub returns-then-here-size-clause-trie : goal.returns-then-here-size-clause-trie
-returns-then-here-size-clause-trie g t c = λ index parent held fresh.
-    e_joined c.requires.some held fresh c.requires.large
-    (sym c.size-here.ensures.value ∙ c.if-here-size.true) c.join_ring.ensures.joined
-
-pub returns-then-here-size-clause-words : goal.returns-then-here-size-clause-words
-returns-then-here-size-clause-words g t c = λ index parent held fresh.
-    e_joined_words c.requires.some held fresh c.requires.large
-    (sym c.size-here.ensures.value ∙ c.if-here-size.true) c.join_ring.ensures.joined
+pub returns-then-here-size-clause-gained : goal.returns-then-here-size-clause-gained
+returns-then-here-size-clause-gained g t c = λ index parent held fresh.
+    e_joined c.requires.some held fresh c.requires.large (sym c.size-here.ensures.value ∙ c.if-here-size.true) c.join_ring.ensures.joined
 
 pub slot_of-place-requires : goal.slot_of-place-requires
 slot_of-place-requires g t c = (t_slot c.requires.some c.requires.held.1.1.0 true).small
@@ -53,13 +38,9 @@ load_counted-child-requires g t c = let r = c.requires.held in
     (subst (λ p. IsWordPlace (g.M.Links.regions c.args.memory.now) p) (sym c.slot_of-place.ensures)
     (t_slot c.requires.some r.1.1.0 c.is_in_upper-is_upper.result)).word
 
-pub make_leaf-requires-clause-named : goal.make_leaf-requires-clause-named
-make_leaf-requires-clause-named g t c = let r = c.requires.held in
-    rw c.slot_of-place.ensures (t_slot c.requires.some r.1.1.0 c.is_in_upper-is_upper.result)
-
-pub make_leaf-requires-clause-apart : goal.make_leaf-requires-clause-apart
-make_leaf-requires-clause-apart g t c = let r = c.requires.held in
-    rw c.slot_of-place.ensures (e_slot_own c.requires.some r.1.1.0 r.1.1.1 c.requires.large c.is_in_upper-is_upper.result)
+pub make_leaf-requires : goal.make_leaf-requires
+make_leaf-requires g t c = let r = c.requires.held in
+    rw c.slot_of-place.ensures (e_new c.requires.some r.1.1.0 r.1.1.1 c.requires.large c.is_in_upper-is_upper.result)
 
 pub insert_below-requires : goal.insert_below-requires
 insert_below-requires g t c κs within =
@@ -90,27 +71,16 @@ insert_below-requires g t c κs within =
       ),
     )
 
-pub returns-then-child-eq0-clause-trie : goal.returns-then-child-eq0-clause-trie
-returns-then-child-eq0-clause-trie g t c = λ index parent held fresh.
-    let step = step g t (goal.at.returns-then-child-eq0-clause-trie g t c).After-load_counted-child in
+pub returns-then-child-eq0-clause-gained : goal.returns-then-child-eq0-clause-gained
+returns-then-child-eq0-clause-gained g t c = λ index parent held fresh.
+    let step = step g t (goal.at.returns-then-child-eq0-clause-gained g t c).After-load_counted-child in
     e_leaf c.requires.some held fresh c.requires.large step c.if-child-eq0.true c.make_leaf.ensures.leaf
 
-pub returns-then-child-eq0-clause-words : goal.returns-then-child-eq0-clause-words
-returns-then-child-eq0-clause-words g t c = λ index parent held fresh.
-    let step = step g t (goal.at.returns-then-child-eq0-clause-words g t c).After-load_counted-child in
-    e_leaf_words c.requires.some held fresh c.requires.large step c.if-child-eq0.true c.make_leaf.ensures.leaf
-
-pub returns-else-child-eq0-clause-trie : goal.returns-else-child-eq0-clause-trie
-returns-else-child-eq0-clause-trie g t c = λ index parent held fresh.
-    let step = step g t (goal.at.returns-else-child-eq0-clause-trie g t c).After-load_counted-child in
-    e_child c.requires.some held fresh c.requires.large step (g.M.Links.word c.insert_below.new.memory) c.low_of.ensures
-    (omega arith) c.insert_below.ensures.trie c.insert_below.ensures.words
-
-pub returns-else-child-eq0-clause-words : goal.returns-else-child-eq0-clause-words
-returns-else-child-eq0-clause-words g t c = λ index parent held fresh.
-    let step = step g t (goal.at.returns-else-child-eq0-clause-words g t c).After-load_counted-child in
-    e_child_words c.requires.some held fresh c.requires.large step (g.M.Links.word c.insert_below.new.memory)
-    c.low_of.ensures (omega arith) c.insert_below.ensures.trie c.insert_below.ensures.words
+pub returns-else-child-eq0-clause-gained : goal.returns-else-child-eq0-clause-gained
+returns-else-child-eq0-clause-gained g t c = λ index parent held fresh.
+    let step = step g t (goal.at.returns-else-child-eq0-clause-gained g t c).After-load_counted-child in
+    e_child c.requires.some held fresh c.requires.large step (g.M.Links.word c.insert_below.new.memory) c.low_of.ensures (omega arith)
+    c.insert_below.ensures.gained
 
 pub is_in_upper-is_upper-requires-clause-bits : goal.is_in_upper-is_upper-requires-clause-bits
 is_in_upper-is_upper-requires-clause-bits g t c =

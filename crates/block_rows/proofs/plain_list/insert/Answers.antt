@@ -27,7 +27,7 @@ returns g c =
     let free : list_all (λ entry. is_apart c.args.size c.args.at entry) c.args.list.now.items ≡ true =
     ap (λ (es : List (ℕ × ℕ)). list_all (λ entry. is_apart c.args.size c.args.at entry) es) (sym c.deref.ensures.value)
     ∙ sym c.if-not-is_free.ensures in
-    let same = c.insert.ensures.asks.regions ∙ kept in
+    let same = c.insert.ensures.inserted.regions ∙ kept in
     let done = c.insert.ensures.inserted.linked (index_of c.args.list.now.items)
     (linked_at _ _ _ _ _ kept (still_linked _ _ _ _ _ _ _ c.requires place free c.store.ensures.stored))
     (fresh_at _ _ _ _ _ _ kept (is_fresh _ _ _ _ _ _ _ c.requires place free c.store.ensures.stored)) in

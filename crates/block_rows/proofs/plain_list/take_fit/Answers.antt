@@ -31,5 +31,5 @@ returns g c =
     let place = c.in-Some-place_of.place in
     let within : place < length items = search rules in
     let done = c.unlink_fit.ensures.unlinked.linked (index_of items) c.requires.linked (entry_in items place entry entry within c.remove-entry.ensures.value) in
-    beside_at _ _ _ _ _ _ c.unlink_fit.ensures.asks.regions c.remove-entry.ensures.items
-    (beside_less _ _ _ items place entry c.requires within c.remove-entry.ensures.value _ _ (linked_at _ _ _ _ _ (sym c.unlink_fit.ensures.asks.regions) done))
+    beside_at _ _ _ _ _ _ c.unlink_fit.ensures.unlinked.regions c.remove-entry.ensures.items
+    (beside_less _ _ _ items place entry c.requires within c.remove-entry.ensures.value _ _ (linked_at _ _ _ _ _ (sym c.unlink_fit.ensures.unlinked.regions) done))

@@ -21,6 +21,6 @@ returns g c =
     let done = c.unlink.ensures.unlinked.linked (index_of c.args.list.now.items) c.requires.beside.linked
     (entry_in c.args.list.now.items c.args.place c.remove-entry.result c.remove-entry.result within
     c.remove-entry.ensures.value) in
-    beside_at _ _ _ _ _ _ c.unlink.ensures.asks.regions c.remove-entry.ensures.items
+    beside_at _ _ _ _ _ _ c.unlink.ensures.unlinked.regions c.remove-entry.ensures.items
     (beside_less _ _ _ c.args.list.now.items c.args.place c.remove-entry.result c.requires.beside within
-    c.remove-entry.ensures.value _ _ (linked_at _ _ _ _ _ (sym c.unlink.ensures.asks.regions) done))
+    c.remove-entry.ensures.value _ _ (linked_at _ _ _ _ _ (sym c.unlink.ensures.unlinked.regions) done))

@@ -50,16 +50,15 @@ returns-clause-inserted g c = record {
       let done = c.plant-planted.ensures in
       let held = t_held linked top in
       let own = t_fresh linked top fresh in
-      let trie = done.trie (top_index linked top) held own in
-      let words = done.words (top_index linked top) held own in
-      let linked = t_inserted linked top fresh (g.M.Links.word c.plant-planted.new.memory) trie words c.set_root.ensures in
-      rw done.asks.regions linked;
+      let gained = done.gained (top_index linked top) held own in
+      let linked = t_inserted linked top fresh (g.M.Links.word c.plant-planted.new.memory) gained.trie gained.words c.set_root.ensures in
+      rw done.work.regions linked;
   words = λ index linked fresh.
       let top = top g (goal.at.returns-clause-inserted g c).After-bin_levels-levels in
       let done = c.plant-planted.ensures in
       let held = t_held linked top in
       let own = t_fresh linked top fresh in
-      let trie = done.trie (top_index linked top) held own in
-      let words = done.words (top_index linked top) held own in
-      t_inserted_words linked top fresh (g.M.Links.word c.plant-planted.new.memory) trie words c.set_root.ensures;
+      let gained = done.gained (top_index linked top) held own in
+      t_inserted_words linked top fresh (g.M.Links.word c.plant-planted.new.memory) gained.trie gained.words c.set_root.ensures;
+  asks = c.plant-planted.ensures.work.asks;
 }

@@ -8,11 +8,12 @@ returns-else-size-lt-LEAST_LARGE-clause-unlinked g c = record {
   linked = λ index linked is_in.
       let r = c.requires.linked in
       let one = one_index (g.M.Links.regions c.args.memory.now) (g.M.Links.word c.args.memory.now) c.args.self.now r.0 index r.1 linked c.args.size in
-      c.unlink_node.ensures.linked index c.args.size (omega arith) linked is_in
+      c.unlink_node.ensures.unlinked.linked index c.args.size (omega arith) linked is_in
       (r.3 (omega arith) ∙ ap (λ (cs : List ℕ). first_or 0 cs) one);
   words = λ index linked is_in.
       let r = c.requires.linked in
       let one = one_index (g.M.Links.regions c.args.memory.now) (g.M.Links.word c.args.memory.now) c.args.self.now r.0 index r.1 linked c.args.size in
-      c.unlink_node.ensures.words index c.args.size (omega arith) linked is_in
+      c.unlink_node.ensures.unlinked.words index c.args.size (omega arith) linked is_in
       (r.3 (omega arith) ∙ ap (λ (cs : List ℕ). first_or 0 cs) one);
+  asks = c.unlink_node.ensures.unlinked.asks;
 }

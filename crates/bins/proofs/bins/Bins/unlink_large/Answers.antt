@@ -52,7 +52,7 @@ returns-clause-unlinked g c = record {
       let own = t_in linked top c.args.chunk is in
       let left = done.left (top_index linked top) held own in
       let linked = t_unlinked linked top c.args.chunk is (g.M.Links.word c.unlink_below-left.new.memory) left.trie left.words c.set_root.ensures in
-      rw done.asks.regions linked;
+      rw done.work.regions linked;
   words = λ index linked is.
       let top = top g (goal.at.returns-clause-unlinked g c).After-bin_levels-levels in
       let done = c.unlink_below-left.ensures in
@@ -60,4 +60,5 @@ returns-clause-unlinked g c = record {
       let own = t_in linked top c.args.chunk is in
       let left = done.left (top_index linked top) held own in
       t_unlinked_words linked top c.args.chunk is (g.M.Links.word c.unlink_below-left.new.memory) left.trie left.words c.set_root.ensures;
+  asks = c.unlink_below-left.ensures.work.asks;
 }

@@ -1,4 +1,5 @@
 use Rattle.std.proofs.Common.{arith}
+use Rattle.heap_memory.specs.AskLaws.{asks_on}
 use Rattle.bins.proofs.NodeLeaves.{IsReplaced, n_place, n_some, n_bin, n_held, n_marked, n_root, n_root_words, n_places, n_was, n_below, n_below_words}
 use Rattle.bins.proofs.bins.Bins.unlink_node.Goals as goal
 use Rattle.bins.proofs.bins.Bins.unlink_node.Goals.{After-replace_node-left}
@@ -62,7 +63,7 @@ swap_child-requires-clause-places g c =
     let bin = c.load_counted-bin in
     let left = c.replace_node-left in
     let replaced = replaced g (goal.at.swap_child-requires-clause-places g c).After-replace_node-left in
-    rw left.ensures.asks.regions (n_places r.1.0 r.1.1.0 r.1.1.1.0 r.1.1.1.1.0 r.1.1.1.1.1 parent.ensures.value bin.ensures.value
+    rw left.ensures.work.regions (n_places r.1.0 r.1.1.0 r.1.1.1.0 r.1.1.1.1.0 r.1.1.1.1.1 parent.ensures.value bin.ensures.value
     replaced c.if-parent-lt-LEAST_ADDRESS.false)
 
 pub swap_child-requires-clause-was : goal.swap_child-requires-clause-was
@@ -73,38 +74,33 @@ swap_child-requires-clause-was g c =
     let replaced = replaced g (goal.at.swap_child-requires-clause-was g c).After-replace_node-left in
     n_was r.1.0 r.1.1.0 r.1.1.1.0 r.1.1.1.1.0 r.1.1.1.1.1 parent.ensures.value bin.ensures.value replaced c.if-parent-lt-LEAST_ADDRESS.false
 
-pub returns-then-parent-lt-LEAST_ADDRESS-clause-linked : goal.returns-then-parent-lt-LEAST_ADDRESS-clause-linked
-returns-then-parent-lt-LEAST_ADDRESS-clause-linked g c = λ index size large linked is_in oldest.
-    let parent = c.load_counted-parent in
-    let bin = c.load_counted-bin in
-    let left = c.replace_node-left in
-    let replaced = replaced g (goal.at.returns-then-parent-lt-LEAST_ADDRESS-clause-linked g c).After-replace_node-left in
-    rw left.ensures.asks.regions (n_root size large linked is_in oldest parent.ensures.value bin.ensures.value replaced
-    c.if-parent-lt-LEAST_ADDRESS.true c.swap_root.ensures)
+pub returns-then-parent-lt-LEAST_ADDRESS-clause-unlinked : goal.returns-then-parent-lt-LEAST_ADDRESS-clause-unlinked
+returns-then-parent-lt-LEAST_ADDRESS-clause-unlinked g c =
+    let parent = c.load_counted-parent.ensures.value in
+    let bin = c.load_counted-bin.ensures.value in
+    let work = c.replace_node-left.ensures.work in
+    let replaced = replaced g (goal.at.returns-then-parent-lt-LEAST_ADDRESS-clause-unlinked g c).After-replace_node-left in
+    let low = c.if-parent-lt-LEAST_ADDRESS.true in
+    record {
+      linked = λ index size large linked is_in oldest.
+          rw work.regions (n_root size large linked is_in oldest parent bin replaced low c.swap_root.ensures);
+      words = λ index size large linked is_in oldest. n_root_words size large linked is_in oldest parent bin replaced low c.swap_root.ensures;
+      asks = work.asks;
+    }
 
-pub returns-then-parent-lt-LEAST_ADDRESS-clause-words : goal.returns-then-parent-lt-LEAST_ADDRESS-clause-words
-returns-then-parent-lt-LEAST_ADDRESS-clause-words g c = λ index size large linked is_in oldest.
-    let parent = c.load_counted-parent in
-    let bin = c.load_counted-bin in
-    let replaced = replaced g (goal.at.returns-then-parent-lt-LEAST_ADDRESS-clause-words g c).After-replace_node-left in
-    n_root_words size large linked is_in oldest parent.ensures.value bin.ensures.value replaced c.if-parent-lt-LEAST_ADDRESS.true c.swap_root.ensures
-
-pub returns-else-parent-lt-LEAST_ADDRESS-clause-linked : goal.returns-else-parent-lt-LEAST_ADDRESS-clause-linked
-returns-else-parent-lt-LEAST_ADDRESS-clause-linked g c = λ index size large linked is_in oldest.
-    let parent = c.load_counted-parent in
-    let bin = c.load_counted-bin in
-    let left = c.replace_node-left in
-    let replaced = replaced g (goal.at.returns-else-parent-lt-LEAST_ADDRESS-clause-linked g c).After-replace_node-left in
-    let stored = rw left.ensures.asks.regions at c.swap_child.ensures.stored in
-    rw (c.swap_child.ensures.asks.regions, left.ensures.asks.regions) (n_below size large linked is_in oldest parent.ensures.value
-    bin.ensures.value replaced c.if-parent-lt-LEAST_ADDRESS.false (g.M.Links.word c.swap_child.new.memory) stored)
-
-pub returns-else-parent-lt-LEAST_ADDRESS-clause-words : goal.returns-else-parent-lt-LEAST_ADDRESS-clause-words
-returns-else-parent-lt-LEAST_ADDRESS-clause-words g c = λ index size large linked is_in oldest.
-    let parent = c.load_counted-parent in
-    let bin = c.load_counted-bin in
-    let left = c.replace_node-left in
-    let replaced = replaced g (goal.at.returns-else-parent-lt-LEAST_ADDRESS-clause-words g c).After-replace_node-left in
-    let stored = rw left.ensures.asks.regions at c.swap_child.ensures.stored in
-    n_below_words size large linked is_in oldest parent.ensures.value bin.ensures.value replaced
-    c.if-parent-lt-LEAST_ADDRESS.false (g.M.Links.word c.swap_child.new.memory) stored
+pub returns-else-parent-lt-LEAST_ADDRESS-clause-unlinked : goal.returns-else-parent-lt-LEAST_ADDRESS-clause-unlinked
+returns-else-parent-lt-LEAST_ADDRESS-clause-unlinked g c =
+    let parent = c.load_counted-parent.ensures.value in
+    let bin = c.load_counted-bin.ensures.value in
+    let work = c.replace_node-left.ensures.work in
+    let swap = c.swap_child.ensures.work in
+    let replaced = replaced g (goal.at.returns-else-parent-lt-LEAST_ADDRESS-clause-unlinked g c).After-replace_node-left in
+    let high = c.if-parent-lt-LEAST_ADDRESS.false in
+    let word = g.M.Links.word c.swap_child.new.memory in
+    let stored = rw work.regions at c.swap_child.ensures.stored in
+    record {
+      linked = λ index size large linked is_in oldest.
+          rw (swap.regions, work.regions) (n_below size large linked is_in oldest parent bin replaced high word stored);
+      words = λ index size large linked is_in oldest. n_below_words size large linked is_in oldest parent bin replaced high word stored;
+      asks = asks_on work.asks swap.asks;
+    }

@@ -10,8 +10,8 @@ insert-requires g c =
 pub returns-clause-same : goal.returns-clause-same
 returns-clause-same g c =
     let b = c.requires.loose.1 in let e = c.insert.ensures in
-    relinked c.requires.sound c.requires.free b c.insert.new.memory c.insert.new.self e.asks.regions
-    (e.inserted.words b.index b.linked (fresh c.requires.sound c.requires.free b)) e.asks.follows
+    relinked c.requires.sound c.requires.free b c.insert.new.memory c.insert.new.self e.inserted.regions
+    (e.inserted.words b.index b.linked (fresh c.requires.sound c.requires.free b)) e.inserted.follows
 
 pub returns-clause-binned : goal.returns-clause-binned
 returns-clause-binned g c = λ loose b apart.

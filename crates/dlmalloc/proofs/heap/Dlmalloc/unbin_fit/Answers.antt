@@ -14,8 +14,8 @@ unlink_fit-requires g c =
 pub returns-clause-same : goal.returns-clause-same
 returns-clause-same g c =
     let b = c.requires.binned.1 in let e = c.unlink_fit.ensures in
-    relinked c.requires.sound c.requires.free b c.unlink_fit.new.memory c.unlink_fit.new.self e.asks.regions
-    (e.unlinked.words b.index b.linked (is_binned c.requires.sound c.requires.free b c.requires.other c.requires.binned.2)) e.asks.follows
+    relinked c.requires.sound c.requires.free b c.unlink_fit.new.memory c.unlink_fit.new.self e.unlinked.regions
+    (e.unlinked.words b.index b.linked (is_binned c.requires.sound c.requires.free b c.requires.other c.requires.binned.2)) e.unlinked.follows
 
 pub returns-clause-loose : goal.returns-clause-loose
 returns-clause-loose g c = λ loose b apart.
