@@ -1,6 +1,7 @@
 -- The bins of a heap: which of its extents they hold (dlmalloc: `smallbins`, `treebins`).
 use Rattle.std.specs.Prelude.{◌≡◌, ◌≢◌, ℕ, ◌+◌, ◌<◌, ◌≤◌, ◌⊎◌, List, [], Some}
 use Rattle.heap_memory.specs.declared.grant.Grant.{Grant}
+use Rattle.heap_memory.specs.declared.links.Links.{Ghosts as Links}
 use Rattle.heap_memory.specs.Events.{Event}
 use Rattle.heap_memory.specs.Regions.{IsWordOf}
 use Rattle.bins.specs.Index.{IsIn, IsLeastFit}
@@ -41,6 +42,13 @@ IsBinned regions word heap = IsBinnedBut [] regions word heap
 pub record IsIntact {A : Type 0} (regions : A → List Grant) (word : A → ℕ → ℕ) (heap : Dlmalloc A) : Type 0 where
   pub sound : IsSound regions word heap
   pub linked : IsBinned regions word heap
+
+-- so say what its system means by its regions and words
+abbrev pub IsBinnedBy : {A : Type 0} → Links A → Dlmalloc A → Type 0
+IsBinnedBy links heap = IsBinned links.regions links.word heap
+
+abbrev pub IsIntactBy : {A : Type 0} → Links A → Dlmalloc A → Type 0
+IsIntactBy links heap = IsIntact links.regions links.word heap
 
 -- what begins at an address is the top, or else a free extent of the given size
 abbrev pub IsJoint : HeapState → ℕ → ℕ → ℕ → Type 0

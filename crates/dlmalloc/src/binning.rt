@@ -3,7 +3,7 @@ ghost use Rattle.std.specs.Prelude.{◌≡◌, ◌≢◌, ℕ, ◌+◌, ◌-◌,
 ghost use Rattle.bins.specs.Index.{IsIn, with_chunk, without_chunk};
 ghost use Rattle.dlmalloc.specs.Binned.{IsFreeAt, IsBinnedBut, IsMember, IsRebinned};
 ghost use Rattle.dlmalloc.specs.Order.{IsLessened, IsAdded};
-ghost use Rattle.dlmalloc.specs.Heap.{state_of, IsSound};
+ghost use Rattle.dlmalloc.specs.Heap.{state_of, IsSoundBy};
 
 use crate::heap::Dlmalloc;
 use heap_memory::{Allocator, Steps};
@@ -13,7 +13,7 @@ impl<A: Allocator> Dlmalloc<A> {
     /// Puts a free chunk that is neither the top nor the victim into its bin.
     #[inline(always)]
     pub(crate) fn bin<L: Ledger>(&mut self, at: u64, size: u64, steps: &mut Steps<L>)
-        requires sound { IsSound A.regions A.word self.old }
+        requires sound { IsSoundBy A.Links self.old }
         requires free { IsFreeAt (state_of A.word self.old) at size }
         requires other { at ≢ self.old.victim }
         requires loose { (loose : List ℕ) × IsBinnedBut (at ∷ loose) A.regions A.word self.old }
@@ -27,7 +27,7 @@ impl<A: Allocator> Dlmalloc<A> {
     /// Takes a free chunk, not the top, out of its bin, if it is in one: the victim is in none.
     #[inline(always)]
     pub(crate) fn unbin<L: Ledger>(&mut self, at: u64, size: u64, steps: &mut Steps<L>)
-        requires sound { IsSound A.regions A.word self.old }
+        requires sound { IsSoundBy A.Links self.old }
         requires free { IsFreeAt (state_of A.word self.old) at size }
         requires binned { (loose : List ℕ) × IsBinnedBut loose A.regions A.word self.old × (IsIn at loose → ⊥) }
         ensures loose { (loose : List ℕ) → (before : IsBinnedBut loose A.regions A.word self.old) → (IsIn at loose → ⊥) → (after : IsBinnedBut (at ∷ loose) A.regions A.word self.new) × ((n : ℕ) → after.index n ≡ without_chunk size at before.index n) }
@@ -43,7 +43,7 @@ impl<A: Allocator> Dlmalloc<A> {
     /// Takes a chunk that a search of the bins named out of its bin.
     #[inline(always)]
     pub(crate) fn unbin_fit<L: Ledger>(&mut self, at: u64, size: u64, steps: &mut Steps<L>)
-        requires sound { IsSound A.regions A.word self.old }
+        requires sound { IsSoundBy A.Links self.old }
         requires free { IsFreeAt (state_of A.word self.old) at size }
         requires other { at ≢ self.old.victim }
         requires member { (n : ℕ) × IsMember A.regions A.word self.old n at }
@@ -57,7 +57,7 @@ impl<A: Allocator> Dlmalloc<A> {
 
     /// Takes the free chunk between two addresses out of its bin, if there is one.
     pub(crate) fn unbin_between<L: Ledger>(&mut self, from: u64, to: u64, steps: &mut Steps<L>)
-        requires sound { IsSound A.regions A.word self.old }
+        requires sound { IsSoundBy A.Links self.old }
         requires free { from < to → IsFreeAt (state_of A.word self.old) from (to - from) }
         requires none { to ≤ from → (size : ℕ) → IsFreeAt (state_of A.word self.old) from size → ⊥ }
         requires binned { (loose : List ℕ) × IsBinnedBut loose A.regions A.word self.old × (IsIn from loose → ⊥) }
@@ -72,7 +72,7 @@ impl<A: Allocator> Dlmalloc<A> {
 
     /// Puts a free chunk into its bin, if it has bytes.
     pub(crate) fn bin_some<L: Ledger>(&mut self, at: u64, size: u64, steps: &mut Steps<L>)
-        requires sound { IsSound A.regions A.word self.old }
+        requires sound { IsSoundBy A.Links self.old }
         requires free { size ≢ 0 → IsFreeAt (state_of A.word self.old) at size }
         requires none { size ≡ 0 → (n : ℕ) → IsFreeAt (state_of A.word self.old) at n → ⊥ }
         requires other { size ≢ 0 → at ≢ self.old.victim }

@@ -9,10 +9,10 @@ ghost use Rattle.dlmalloc.specs.State.{extents_in};
 ghost use Rattle.dlmalloc.specs.Freed.{freed};
 ghost use Rattle.dlmalloc.specs.Blocks.{IsBlock, HasOneMore};
 ghost use Rattle.dlmalloc.specs.Released.{IsFreeAround};
-ghost use Rattle.dlmalloc.specs.Heap.{state_of, IsSound};
+ghost use Rattle.dlmalloc.specs.Heap.{state_of, IsSoundBy};
 ghost use Rattle.dlmalloc.specs.Turned.{MovesBesideBins};
 ghost use Rattle.dlmalloc.specs.Disposed.{IsDisposed};
-ghost use Rattle.dlmalloc.specs.Binned.{IsBinned, IsIntact, IsBinnedBut, IsRebinned, IsJoint, IsVictimAfter};
+ghost use Rattle.dlmalloc.specs.Binned.{IsBinnedBy, IsIntactBy, IsBinnedBut, IsRebinned, IsJoint, IsVictimAfter};
 ghost use Rattle.dlmalloc.specs.AfterFree.{IsFreed};
 ghost use Rattle.dlmalloc.specs.Counts.{pass_steps};
 ghost use Rattle.dlmalloc.specs.Order.{IsAdded, TurnsInOrder};
@@ -31,10 +31,10 @@ impl<A: Allocator> Dlmalloc<A> {
     /// chunk's head has its size. At most 1024 words are loaded or stored, and 512 more for each segment if a release
     /// pass is made.
     pub fn free<L: Ledger>(&mut self, ptr: u64, size: u64, align: u64, steps: &mut Steps<L>)
-        requires intact { IsIntact A.regions A.word self.old }
+        requires intact { IsIntactBy A.Links self.old }
         requires block { IsBlock (state_of A.word self.old) ptr size }
         ensures freed { IsFreed A.regions A.word A.follows (A.frees self.old.system) (A.parts self.old.system) (A.unit self.old.system) self.old ptr self.new }
-        ensures linked { IsBinned A.regions A.word self.new }
+        ensures linked { IsBinnedBy A.Links self.new }
         ensures counted { steps.new ≤ steps.old + 1024 + pass_steps (state_of A.word self.old) }
     {
         self.free_and_settle(ptr, steps);
@@ -42,11 +42,11 @@ impl<A: Allocator> Dlmalloc<A> {
 
     /// Frees a block whose size is not given; does nothing if there is none (dlmalloc: `c_free`).
     pub fn c_free<L: Ledger>(&mut self, ptr: Option<u64>, steps: &mut Steps<L>)
-        requires intact { IsIntact A.regions A.word self.old }
+        requires intact { IsIntactBy A.Links self.old }
         requires block { IfSome ptr (λ address. (size : ℕ) × IsBlock (state_of A.word self.old) address size) }
         ensures freed { IfSome ptr (λ address. IsFreed A.regions A.word A.follows (A.frees self.old.system) (A.parts self.old.system) (A.unit self.old.system) self.old address self.new) }
         ensures none { IfNone ptr (self.new ≡ self.old) }
-        ensures intact { IsIntact A.regions A.word self.new }
+        ensures intact { IsIntactBy A.Links self.new }
         ensures counted { steps.new ≤ steps.old + 1024 + pass_steps (state_of A.word self.old) }
     {
         if let Some(address) = ptr {
@@ -56,11 +56,11 @@ impl<A: Allocator> Dlmalloc<A> {
 
     /// Frees the chunk of a block of some size, and answers where the free chunk that it is then part of begins.
     pub(crate) fn free_block<L: Ledger>(&mut self, ptr: u64, steps: &mut Steps<L>) -> u64
-        requires intact { IsIntact A.regions A.word self.old }
+        requires intact { IsIntactBy A.Links self.old }
         requires block { (size : ℕ) × IsBlock (state_of A.word self.old) ptr size }
         ensures freed { IsDisposed A.regions A.word A.follows self.old ptr self.new }
         ensures around { IsFreeAround (state_of A.word self.new) (ptr - 16) result }
-        ensures linked { IsBinned A.regions A.word self.new }
+        ensures linked { IsBinnedBy A.Links self.new }
         ensures counted { steps.new ≤ steps.old + 530 }
     {
         let at = ptr - BLOCK;
@@ -77,7 +77,7 @@ impl<A: Allocator> Dlmalloc<A> {
         size: u64,
         steps: &mut Steps<L>,
     ) -> u64
-        requires intact { IsIntact A.regions A.word self.old }
+        requires intact { IsIntactBy A.Links self.old }
         requires chunk { extent_at at (extents_in (state_of A.word self.old)) ≡ Some (record { at = at; size = size; kind = Used }) }
         ensures state { state_of A.word self.new ≡ freed (state_of A.word self.old) at }
         ensures less { HasOneMore (state_of A.word self.new) (state_of A.word self.old) at }
@@ -100,7 +100,7 @@ impl<A: Allocator> Dlmalloc<A> {
     /// another: the top if it follows; else one that is the victim if one of them was. None of them is in a bin.
     #[inline(always)]
     fn join_free<L: Ledger>(&mut self, at: u64, size: u64, from: u64, to: u64, steps: &mut Steps<L>)
-        requires sound { IsSound A.regions A.word self.old }
+        requires sound { IsSoundBy A.Links self.old }
         requires chunk { extent_at at (extents_in (state_of A.word self.old)) ≡ Some (record { at = at; size = size; kind = Used }) }
         requires from { from ≡ (if pinuse_of (A.word self.old.system (at + 8)) then at else at - A.word self.old.system at) }
         requires to { to ≡ (if at + size == self.old.top then at + size else
@@ -134,11 +134,11 @@ impl<A: Allocator> Dlmalloc<A> {
 
     /// Puts what chunks were joined to, from an address up to another, into its bin, unless it is the top or the victim.
     fn bin_joined<L: Ledger>(&mut self, from: u64, to: u64, steps: &mut Steps<L>)
-        requires sound { IsSound A.regions A.word self.old }
+        requires sound { IsSoundBy A.Links self.old }
         requires ordered { from ≤ to }
         requires joined { IsJoint (state_of A.word self.old) self.old.top from (to - from) }
         requires loose { IsBinnedBut (from ∷ []) A.regions A.word self.old }
-        ensures binned { (before : IsBinnedBut (from ∷ []) A.regions A.word self.old) → (after : IsBinned A.regions A.word self.new) × IsAdded (to - from) from before.index after.index }
+        ensures binned { (before : IsBinnedBut (from ∷ []) A.regions A.word self.old) → (after : IsBinnedBy A.Links self.new) × IsAdded (to - from) from before.index after.index }
         ensures same { IsRebinned A.regions A.word A.follows self.old self.new }
         ensures counted { steps.new ≤ steps.old + 129 }
     {

@@ -10,10 +10,10 @@ ghost use Rattle.dlmalloc.specs.State.{trim_threshold};
 ghost use Rattle.dlmalloc.specs.Granted.{is_behind, is_put_before};
 ghost use Rattle.dlmalloc.specs.Choice.{chosen};
 ghost use Rattle.dlmalloc.specs.Served.{IsCutOut};
-ghost use Rattle.dlmalloc.specs.Heap.{state_of, segments_of, IsSound, IsGranularity};
+ghost use Rattle.dlmalloc.specs.Heap.{state_of, segments_of, IsSoundBy, IsGranularity};
 ghost use Rattle.dlmalloc.specs.Grown.{IsFreshGrant, IsGrantJoined, IsGrown, IsAsItWas, IsAdmittedBesideBins};
 ghost use Rattle.dlmalloc.specs.Order.{KeepsBinsInOrder};
-ghost use Rattle.dlmalloc.specs.Binned.{IsFreeAt, IsIntact};
+ghost use Rattle.dlmalloc.specs.Binned.{IsFreeAt, IsIntactBy};
 
 use crate::heap::{Dlmalloc, countdown_from};
 use crate::layout::{BLOCK, FOOT, HEAD, LEAST_CHUNK, OVERHEAD, PINUSE, TRIM_THRESHOLD};
@@ -44,7 +44,7 @@ impl<A: Allocator> Dlmalloc<A> {
         n: u64,
         steps: &mut Steps<L>,
     ) -> Result<Option<u64>, GrantFault>
-        requires intact { IsIntact A.regions A.word self.old }
+        requires intact { IsIntactBy A.Links self.old }
         requires none { chosen (state_of A.word self.old) n ≡ None }
         requires bytes { IsChunkSize n }
         requires small { n + 96 + self.old.granularity ≤ 2 ^ 64 }
@@ -72,7 +72,7 @@ impl<A: Allocator> Dlmalloc<A> {
 
     /// Makes a grant part of the heap. It is put before no segment.
     fn join<L: Ledger>(&mut self, grant: &Grant, steps: &mut Steps<L>)
-        requires intact { IsIntact A.regions A.word self.old }
+        requires intact { IsIntactBy A.Links self.old }
         requires fresh { IsFreshGrant (A.regions self.old.system) (segments_of A.word self.old) grant.now }
         requires apart { is_put_before grant.now (segments_of A.word self.old) ≡ false }
         ensures joined { IsGrantJoined A.regions A.word A.follows self.old grant.now self.new }
@@ -99,7 +99,7 @@ impl<A: Allocator> Dlmalloc<A> {
 
     /// Makes a grant the head segment, if there is no segment.
     fn open<L: Ledger>(&mut self, grant: &Grant, steps: &mut Steps<L>)
-        requires sound { IsSound A.regions A.word self.old }
+        requires sound { IsSoundBy A.Links self.old }
         requires none { self.old.size ≡ 0 }
         requires fresh { IsFreshGrant (A.regions self.old.system) (segments_of A.word self.old) grant.now }
         ensures admitted { IsAdmittedBesideBins A.regions A.word A.follows self.old grant.now [] self.new }
@@ -111,7 +111,7 @@ impl<A: Allocator> Dlmalloc<A> {
 
     /// Makes the top longer by a grant at the end of the head segment.
     fn extend<L: Ledger>(&mut self, grant: &Grant, steps: &mut Steps<L>)
-        requires sound { IsSound A.regions A.word self.old }
+        requires sound { IsSoundBy A.Links self.old }
         requires there { 0 < self.old.size }
         requires fresh { IsFreshGrant (A.regions self.old.system) (segments_of A.word self.old) grant.now }
         requires behind { is_behind grant.now (record { base = self.old.base; size = self.old.size; flags = self.old.flags; extents = [] }) ≡ true }
@@ -125,7 +125,7 @@ impl<A: Allocator> Dlmalloc<A> {
     /// Makes a grant the head segment. What was the top is freed, and goes into its bin, and a record after it
     /// describes the segment that it is in.
     fn add_segment<L: Ledger>(&mut self, grant: &Grant, steps: &mut Steps<L>)
-        requires intact { IsIntact A.regions A.word self.old }
+        requires intact { IsIntactBy A.Links self.old }
         requires there { 0 < self.old.size }
         requires fresh { IsFreshGrant (A.regions self.old.system) (segments_of A.word self.old) grant.now }
         requires apart { is_put_before grant.now (segments_of A.word self.old) ≡ false }
@@ -146,7 +146,7 @@ impl<A: Allocator> Dlmalloc<A> {
     /// Makes a grant the head segment. What was the top is freed, and a record after it describes the segment that it
     /// is in.
     fn change_head<L: Ledger>(&mut self, grant: &Grant, steps: &mut Steps<L>)
-        requires sound { IsSound A.regions A.word self.old }
+        requires sound { IsSoundBy A.Links self.old }
         requires there { 0 < self.old.size }
         requires fresh { IsFreshGrant (A.regions self.old.system) (segments_of A.word self.old) grant.now }
         requires apart { is_put_before grant.now (segments_of A.word self.old) ≡ false }

@@ -5,11 +5,11 @@ ghost use Rattle.heap_memory.specs.Regions.{IsWordOf};
 ghost use Rattle.dlmalloc_chunks.specs.Chunk.{HasHead};
 ghost use Rattle.dlmalloc_chunks.specs.Head.{head_of};
 ghost use Rattle.dlmalloc.specs.Granted.{is_before, is_put_before};
-ghost use Rattle.dlmalloc.specs.Heap.{state_of, segments_of, IsSound};
+ghost use Rattle.dlmalloc.specs.Heap.{state_of, segments_of, IsSoundBy};
 ghost use Rattle.dlmalloc.specs.Grown.{IsPutBefore, HasRoomFor, IsPrependedBesideBins};
 ghost use Rattle.dlmalloc.specs.Prepended.{IsBehindAt};
 ghost use Rattle.dlmalloc.specs.Order.{KeepsBinsInOrder};
-ghost use Rattle.dlmalloc.specs.Binned.{IsIntact};
+ghost use Rattle.dlmalloc.specs.Binned.{IsIntactBy};
 ghost use Rattle.dlmalloc.specs.declared.prepend.Behind.TheVariants.{Head, Told};
 
 use crate::grow::may_join;
@@ -36,7 +36,7 @@ impl<A: Allocator> Dlmalloc<A> {
         grant: &Grant,
         steps: &mut Steps<L>,
     ) -> Option<Behind>
-        requires sound { IsSound A.regions A.word self.now }
+        requires sound { IsSoundBy A.Links self.now }
         requires high { grant.now.base + grant.now.size < 2 ^ 64 }
         ensures none { result ≡ None → is_put_before grant.now (segments_of A.word self.now) ≡ false }
         ensures some { IfSome result (λ behind. is_put_before grant.now (segments_of A.word self.now) ≡ true) }
@@ -53,7 +53,7 @@ impl<A: Allocator> Dlmalloc<A> {
 
     /// The segment, if there is one, that begins where a grant ends and that the grant may join.
     fn find_behind<L: Ledger>(&self, grant: &Grant, steps: &mut Steps<L>) -> Option<Behind>
-        requires sound { IsSound A.regions A.word self.now }
+        requires sound { IsSoundBy A.Links self.now }
         requires there { 0 < self.now.size }
         requires high { grant.now.base + grant.now.size < 2 ^ 64 }
         ensures none { result ≡ None → list_any (is_before grant.now) (segments_of A.word self.now) ≡ false }
@@ -103,7 +103,7 @@ impl<A: Allocator> Dlmalloc<A> {
         behind: Behind,
         steps: &mut Steps<L>,
     )
-        requires intact { IsIntact A.regions A.word self.old }
+        requires intact { IsIntactBy A.Links self.old }
         requires grant { HasRoomFor n (A.regions self.old.system) (segments_of A.word self.old) grant.now }
         requires behind { IsBehindAt A.word self.old grant.now behind }
         ensures put { IsPutBefore A.regions A.word A.follows self.old grant.now n self.new }
@@ -116,7 +116,7 @@ impl<A: Allocator> Dlmalloc<A> {
 
     /// Puts a grant before a segment, in two chunks that are in use.
     fn prepend<L: Ledger>(&mut self, grant: &Grant, n: u64, behind: Behind, steps: &mut Steps<L>)
-        requires sound { IsSound A.regions A.word self.old }
+        requires sound { IsSoundBy A.Links self.old }
         requires grant { HasRoomFor n (A.regions self.old.system) (segments_of A.word self.old) grant.now }
         requires behind { IsBehindAt A.word self.old grant.now behind }
         ensures put { IsPrependedBesideBins A.regions A.word A.follows self.old grant.now n self.new }
@@ -129,7 +129,7 @@ impl<A: Allocator> Dlmalloc<A> {
 
     /// Puts a grant before the head segment, in two chunks that are in use.
     fn prepend_head<L: Ledger>(&mut self, grant: &Grant, n: u64, steps: &mut Steps<L>)
-        requires sound { IsSound A.regions A.word self.old }
+        requires sound { IsSoundBy A.Links self.old }
         requires grant { HasRoomFor n (A.regions self.old.system) (segments_of A.word self.old) grant.now }
         requires behind { IsBehindAt A.word self.old grant.now Head }
         ensures put { IsPrependedBesideBins A.regions A.word A.follows self.old grant.now n self.new }
@@ -141,7 +141,7 @@ impl<A: Allocator> Dlmalloc<A> {
 
     /// Puts a grant before the segment that a record describes, in two chunks that are in use.
     fn prepend_told<L: Ledger>(&mut self, payload: u64, grant: &Grant, n: u64, steps: &mut Steps<L>)
-        requires sound { IsSound A.regions A.word self.old }
+        requires sound { IsSoundBy A.Links self.old }
         requires grant { HasRoomFor n (A.regions self.old.system) (segments_of A.word self.old) grant.now }
         requires behind { IsBehindAt A.word self.old grant.now (Told payload) }
         ensures put { IsPrependedBesideBins A.regions A.word A.follows self.old grant.now n self.new }

@@ -6,7 +6,7 @@ ghost use Rattle.dlmalloc.specs.Extents.{extent_at};
 ghost use Rattle.dlmalloc.specs.State.{extents_in, size_where};
 ghost use Rattle.dlmalloc.specs.Blocks.{HasBlock, IsBlock, usable};
 ghost use Rattle.dlmalloc.specs.Resized.{in_place};
-ghost use Rattle.dlmalloc.specs.Binned.{IsIntact};
+ghost use Rattle.dlmalloc.specs.Binned.{IsIntactBy};
 ghost use Rattle.dlmalloc.specs.Heap.{state_of};
 ghost use Rattle.dlmalloc.specs.Served.{IsRefusedWith};
 ghost use Rattle.dlmalloc.specs.Requested.{asked, IsMemberServed};
@@ -39,12 +39,12 @@ impl<A: Allocator> Dlmalloc<A> {
         new_size: u64,
         steps: &mut Steps<L>,
     ) -> Result<u64, MallocError>
-        requires intact { IsIntact A.regions A.word self.old }
+        requires intact { IsIntactBy A.Links self.old }
         requires align { IsPowerOfTwo old_align }
         requires block { IsBlock (state_of A.word self.old) ptr old_size }
         ensures reallocated { IfOk result (λ address. IsReallocated A.regions A.word A.zeros A.follows (A.frees self.old.system) (A.parts self.old.system) (A.unit self.old.system) self.old ptr old_size old_align new_size address self.new) }
         ensures refused { IfErr result (λ error. IsReallocRefused A.regions A.word A.follows A.refuses A.denies self.old (Some ptr) old_align new_size error self.new) }
-        ensures intact { IsIntact A.regions A.word self.new }
+        ensures intact { IsIntactBy A.Links self.new }
         ensures counted { chosen (state_of A.word self.old) (padded (asked new_size old_align)) ≢ None → steps.new ≤ steps.old + 10240 + 2 * words_in (min old_size new_size) + pass_steps (state_of A.word self.old) }
         ensures in_place_counted { old_align ≤ 16 → in_place (state_of A.word self.old) (ptr - 16) (padded new_size) ≢ None → steps.new ≤ steps.old + 1024 }
         ensures refused_counted { IfErr result (λ error. steps.new ≤ steps.old + 1024) }
@@ -65,13 +65,13 @@ impl<A: Allocator> Dlmalloc<A> {
         new_size: u64,
         steps: &mut Steps<L>,
     ) -> Result<u64, MallocError>
-        requires intact { IsIntact A.regions A.word self.old }
+        requires intact { IsIntactBy A.Links self.old }
         requires block { IfSome ptr (HasBlock (state_of A.word self.old)) }
         ensures reallocated { IfOk result (λ address. MatchOption ptr
             (IsAllocated A.regions A.word A.zeros A.follows self.old new_size 16 address self.new)
             (λ from. IsReallocated A.regions A.word A.zeros A.follows (A.frees self.old.system) (A.parts self.old.system) (A.unit self.old.system) self.old from (usable (state_of A.word self.old) from) 16 new_size address self.new)) }
         ensures refused { IfErr result (λ error. IsReallocRefused A.regions A.word A.follows A.refuses A.denies self.old ptr 16 new_size error self.new) }
-        ensures intact { IsIntact A.regions A.word self.new }
+        ensures intact { IsIntactBy A.Links self.new }
         ensures counted { chosen (state_of A.word self.old) (padded new_size) ≢ None → MatchOption ptr (steps.new ≤ steps.old + 1024) (λ from.
             steps.new ≤ steps.old + 10240 + 2 * words_in (min (usable (state_of A.word self.old) from) new_size) + pass_steps (state_of A.word self.old)) }
         ensures in_place_counted { IfSome ptr (λ from. in_place (state_of A.word self.old) (from - 16) (padded new_size) ≢ None → steps.new ≤ steps.old + 1024) }
@@ -95,7 +95,7 @@ impl<A: Allocator> Dlmalloc<A> {
         size: u64,
         steps: &mut Steps<L>,
     ) -> Result<u64, MallocError>
-        requires intact { IsIntact A.regions A.word self.old }
+        requires intact { IsIntactBy A.Links self.old }
         requires align { IsPowerOfTwo align }
         requires least { align ≤ 16 }
         requires block { HasBlock (state_of A.word self.old) ptr }
@@ -103,7 +103,7 @@ impl<A: Allocator> Dlmalloc<A> {
         ensures resized { IfOk result (λ address. IsResized A.regions A.word A.zeros A.follows (A.frees self.old.system) (A.parts self.old.system) (A.unit self.old.system) self.old ptr held align size address self.new) }
         ensures refused { IfErr result (λ error. IsRefusedWith A.regions A.word A.follows A.refuses A.denies self.old (asked size align) error self.new) }
         ensures tried { IfErr result (λ error. error ≢ MallocError.TooLarge → in_place (state_of A.word self.old) (ptr - 16) (padded size) ≡ None) }
-        ensures intact { IsIntact A.regions A.word self.new }
+        ensures intact { IsIntactBy A.Links self.new }
         ensures member { IfOk result (λ address. address ≢ ptr → IsMemberServed A.regions A.word self.old size align address) }
         ensures counted { chosen (state_of A.word self.old) (padded (asked size align)) ≢ None → steps.new ≤ steps.old + 9216 + 2 * words_in (min held size) + pass_steps (state_of A.word self.old) }
         ensures in_place_counted { in_place (state_of A.word self.old) (ptr - 16) (padded size) ≢ None → steps.new ≤ steps.old + 535 }
@@ -128,13 +128,13 @@ impl<A: Allocator> Dlmalloc<A> {
         size: u64,
         steps: &mut Steps<L>,
     ) -> Result<u64, MallocError>
-        requires intact { IsIntact A.regions A.word self.old }
+        requires intact { IsIntactBy A.Links self.old }
         requires align { IsPowerOfTwo align }
         requires block { HasBlock (state_of A.word self.old) ptr }
         requires held { held + 8 ≤ size_where (λ extent. extent.at == ptr - 16) (extents_in (state_of A.word self.old)) }
         ensures elsewhere { IfOk result (λ address. IsElsewhere A.regions A.word A.zeros A.follows (A.frees self.old.system) (A.parts self.old.system) (A.unit self.old.system) self.old ptr held align size address self.new) }
         ensures refused { IfErr result (λ error. IsRefusedWith A.regions A.word A.follows A.refuses A.denies self.old (asked size align) error self.new) }
-        ensures intact { IsIntact A.regions A.word self.new }
+        ensures intact { IsIntactBy A.Links self.new }
         ensures member { IfOk result (λ address. IsMemberServed A.regions A.word self.old size align address) }
         ensures counted { chosen (state_of A.word self.old) (padded (asked size align)) ≢ None → steps.new ≤ steps.old + 8724 + 2 * words_in (min held size) + pass_steps (state_of A.word self.old) }
         ensures refused_counted { IfErr result (λ error. steps.new ≤ steps.old + 512) }

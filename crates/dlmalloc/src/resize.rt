@@ -4,10 +4,10 @@ ghost use Rattle.dlmalloc_chunks.specs.declared.extent.Kind.TheVariants.{Used, F
 ghost use Rattle.dlmalloc.specs.Extents.{extent_at, IsChunkSize};
 ghost use Rattle.dlmalloc.specs.State.{extents_in};
 ghost use Rattle.dlmalloc.specs.Resized.{grown_into, in_place, HasSameOthers, CanTakeFree};
-ghost use Rattle.dlmalloc.specs.Heap.{state_of, IsSound};
+ghost use Rattle.dlmalloc.specs.Heap.{state_of, IsSoundBy};
 ghost use Rattle.dlmalloc.specs.Turned.{MovesBesideBins};
 ghost use Rattle.dlmalloc.specs.Order.{TurnsInOrder};
-ghost use Rattle.dlmalloc.specs.Binned.{IsFreeAt, IsIntact};
+ghost use Rattle.dlmalloc.specs.Binned.{IsFreeAt, IsIntactBy};
 
 use crate::heap::Dlmalloc;
 use crate::layout::{HEAD, LEAST_CHUNK, PINUSE};
@@ -21,7 +21,7 @@ impl<A: Allocator> Dlmalloc<A> {
     /// free chunk after it, if both have room for them (dlmalloc: `try_realloc_chunk`). False if neither fits; then
     /// nothing is changed.
     pub(crate) fn resize_chunk<L: Ledger>(&mut self, at: u64, n: u64, steps: &mut Steps<L>) -> bool
-        requires intact { IsIntact A.regions A.word self.old }
+        requires intact { IsIntactBy A.Links self.old }
         requires chunk { (size : ℕ) × (extent_at at (extents_in (state_of A.word self.old)) ≡ Some (record { at = at; size = size; kind = Used })) }
         requires bytes { IsChunkSize n }
         ensures resized { result ≡ true → in_place (state_of A.word self.old) at n ≡ Some (state_of A.word self.new) }
@@ -63,7 +63,7 @@ impl<A: Allocator> Dlmalloc<A> {
 
     /// Takes bytes of the top into the chunk before it. The top keeps a rest.
     fn grow_into_top<L: Ledger>(&mut self, at: u64, size: u64, n: u64, steps: &mut Steps<L>)
-        requires sound { IsSound A.regions A.word self.old }
+        requires sound { IsSoundBy A.Links self.old }
         requires chunk { extent_at at (extents_in (state_of A.word self.old)) ≡ Some (record { at = at; size = size; kind = Used }) }
         requires next { at + size ≡ self.old.top }
         requires whole { n % 16 ≡ 0 }
@@ -92,7 +92,7 @@ impl<A: Allocator> Dlmalloc<A> {
         n: u64,
         steps: &mut Steps<L>,
     )
-        requires intact { IsIntact A.regions A.word self.old }
+        requires intact { IsIntactBy A.Links self.old }
         requires take { CanTakeFree (state_of A.word self.old) at size free n }
         ensures state { state_of A.word self.new ≡ grown_into (state_of A.word self.old) (record { at = at; size = size; kind = Used }) (record { at = at + size; size = free; kind = Free }) n }
         ensures held { (whole : ℕ) × (extent_at at (extents_in (state_of A.word self.new)) ≡ Some (record { at = at; size = whole; kind = Used })) × (n ≤ whole) × (whole < n + 32) }
@@ -117,7 +117,7 @@ impl<A: Allocator> Dlmalloc<A> {
     /// Takes bytes of a free chunk that is in no bin into the chunk before it. A rest of less than 32 bytes goes with
     /// them; any other stays free, and is the victim if the free chunk was.
     fn join_part<L: Ledger>(&mut self, at: u64, size: u64, free: u64, n: u64, steps: &mut Steps<L>)
-        requires sound { IsSound A.regions A.word self.old }
+        requires sound { IsSoundBy A.Links self.old }
         requires take { CanTakeFree (state_of A.word self.old) at size free n }
         ensures state { state_of A.word self.new ≡ grown_into (state_of A.word self.old) (record { at = at; size = size; kind = Used }) (record { at = at + size; size = free; kind = Free }) n }
         ensures held { (whole : ℕ) × (extent_at at (extents_in (state_of A.word self.new)) ≡ Some (record { at = at; size = whole; kind = Used })) × (n ≤ whole) × (whole < n + 32) }

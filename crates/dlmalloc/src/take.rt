@@ -2,9 +2,9 @@
 ghost use Rattle.std.specs.Prelude.{◌≡◌, ◌≢◌, ℕ, ◌+◌, ◌-◌, ◌<◌, ◌≤◌, nat_le, if◌then◌else◌, [], ◌∷◌, Some};
 ghost use Rattle.dlmalloc_chunks.specs.declared.extent.Kind.TheVariants.{Free};
 ghost use Rattle.dlmalloc.specs.Taken.{CanCut, IsTaken};
-ghost use Rattle.dlmalloc.specs.Heap.{state_of, IsSound};
+ghost use Rattle.dlmalloc.specs.Heap.{state_of, IsSoundBy};
 ghost use Rattle.dlmalloc.specs.Turned.{MovesBesideBins};
-ghost use Rattle.dlmalloc.specs.Binned.{IsFreeAt, IsIntact, IsMember};
+ghost use Rattle.dlmalloc.specs.Binned.{IsFreeAt, IsIntactBy, IsMember};
 ghost use Rattle.dlmalloc.specs.Order.{TurnsInOrder};
 
 use crate::heap::Dlmalloc;
@@ -19,7 +19,7 @@ impl<A: Allocator> Dlmalloc<A> {
     /// less than 32 bytes stays with them. The rest of the victim is the victim. A binned chunk leaves its bin; for less than
     /// 256 bytes its rest is the victim, and the old one goes into its bin; else the rest goes into its own.
     pub(crate) fn take<L: Ledger>(&mut self, at: u64, size: u64, n: u64, steps: &mut Steps<L>)
-        requires intact { IsIntact A.regions A.word self.old }
+        requires intact { IsIntactBy A.Links self.old }
         requires cut { CanCut (state_of A.word self.old) at size n }
         requires member { at ≢ self.old.victim → IsMember A.regions A.word self.old n at }
         ensures taken { IsTaken (state_of A.word self.old) (record { at = at; size = size; kind = Free }) n (state_of A.word self.new) }
@@ -36,7 +36,7 @@ impl<A: Allocator> Dlmalloc<A> {
 
     /// Cuts `n` bytes from the binned chunk that a search for that many names.
     fn take_binned<L: Ledger>(&mut self, at: u64, size: u64, n: u64, steps: &mut Steps<L>)
-        requires intact { IsIntact A.regions A.word self.old }
+        requires intact { IsIntactBy A.Links self.old }
         requires cut { CanCut (state_of A.word self.old) at size n }
         requires other { at ≢ self.old.victim }
         requires member { IsMember A.regions A.word self.old n at }
@@ -62,7 +62,7 @@ impl<A: Allocator> Dlmalloc<A> {
 
     /// Cuts `n` bytes from a free chunk other than the top that is in no bin.
     fn cut_chunk<L: Ledger>(&mut self, at: u64, size: u64, n: u64, steps: &mut Steps<L>)
-        requires sound { IsSound A.regions A.word self.old }
+        requires sound { IsSoundBy A.Links self.old }
         requires cut { CanCut (state_of A.word self.old) at size n }
         ensures taken { IsTaken (state_of A.word self.old) (record { at = at; size = size; kind = Free }) n (state_of A.word self.new) }
         ensures rest { n + 32 ≤ size → IsFreeAt (state_of A.word self.new) (at + n) (size - n) }

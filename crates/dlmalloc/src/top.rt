@@ -6,7 +6,7 @@ ghost use Rattle.dlmalloc.specs.Extents.{extent_at, IsChunkSize};
 ghost use Rattle.dlmalloc.specs.State.{extents_in};
 ghost use Rattle.dlmalloc.specs.Boundaries.{IsBoundary};
 ghost use Rattle.dlmalloc.specs.Taken.{IsTaken};
-ghost use Rattle.dlmalloc.specs.Heap.{state_of, IsSound};
+ghost use Rattle.dlmalloc.specs.Heap.{state_of, IsSoundBy};
 ghost use Rattle.dlmalloc.specs.Turned.{MovesBesideBins};
 
 use crate::heap::Dlmalloc;
@@ -18,7 +18,7 @@ use std::sync::ledger::Ledger;
 impl<A: Allocator> Dlmalloc<A> {
     /// Cuts `n` bytes from the top, and answers where they begin.
     pub(crate) fn take_top<L: Ledger>(&mut self, n: u64, steps: &mut Steps<L>) -> u64
-        requires sound { IsSound A.regions A.word self.old }
+        requires sound { IsSoundBy A.Links self.old }
         requires there { 0 < self.old.size }
         requires bytes { IsChunkSize n }
         requires fits { n < self.old.top_size }

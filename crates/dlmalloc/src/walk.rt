@@ -8,7 +8,7 @@ ghost use Rattle.dlmalloc.specs.Extents.{extent_at};
 ghost use Rattle.dlmalloc.specs.State.{is_free_below_top, shown, extents_in, is_binned};
 ghost use Rattle.dlmalloc.specs.Choice.{least_fit, goes_first, chosen, IsChosen};
 ghost use Rattle.dlmalloc.specs.Walk.{chunk_told, chunks_between, IsChunkRun};
-ghost use Rattle.dlmalloc.specs.Binned.{IsIntact, IsMember};
+ghost use Rattle.dlmalloc.specs.Binned.{IsIntactBy, IsMember};
 ghost use Rattle.dlmalloc.specs.declared.walk.Place.{Place};
 ghost use Rattle.dlmalloc.specs.declared.walk.Choice.TheVariants.{Chunk, Top as OfTop};
 ghost use Rattle.dlmalloc.specs.declared.walk.Tail.TheVariants.{OneRecord};
@@ -112,7 +112,7 @@ impl<A: Allocator> Dlmalloc<A> {
 
     /// The least chunk in a bin that has at least `n` bytes.
     pub(crate) fn find_free<L: Ledger>(&self, n: u64, steps: &mut Steps<L>) -> Option<Place>
-        requires intact { IsIntact A.regions A.word self.now }
+        requires intact { IsIntactBy A.Links self.now }
         ensures least { least_fit (state_of A.word self.now) n ≡ option_map (λ place. place.size) result }
         ensures there { IfSome result (λ place. extent_at place.at (extents_in (state_of A.word self.now)) ≡ Some (record { at = place.at; size = place.size; kind = Free })) }
         ensures other { IfSome result (λ place. place.at ≢ self.now.victim) }
@@ -144,7 +144,7 @@ impl<A: Allocator> Dlmalloc<A> {
 
     /// What serves a request of `n` bytes (dlmalloc: `malloc`).
     pub(crate) fn choose<L: Ledger>(&self, n: u64, steps: &mut Steps<L>) -> Option<Choice>
-        requires intact { IsIntact A.regions A.word self.now }
+        requires intact { IsIntactBy A.Links self.now }
         requires there { 0 < self.now.size }
         requires least { 32 ≤ n }
         ensures none { result ≡ None → chosen (state_of A.word self.now) n ≡ None }
