@@ -1,13 +1,10 @@
 // Freeing a block.
-ghost use Rattle.std.specs.Prelude.{◌≡◌, ◌≢◌, ℕ, ◌+◌, ◌-◌, ◌^◌, ◌<◌, ◌≤◌, ◌%◌, ◌==◌, true, false, if◌then◌else◌, [], ◌∷◌, Some, IfSome, IfNone};
-ghost use Rattle.dlmalloc_chunks.specs.declared.extent.Extent.{Extent};
-ghost use Rattle.dlmalloc_chunks.specs.declared.extent.Kind.TheVariants.{Used, Record};
-ghost use Rattle.dlmalloc_chunks.specs.Chunk.{HasHead, HasFoot, AreStored};
+ghost use Rattle.std.specs.Prelude.{◌≡◌, ◌≢◌, ℕ, ◌+◌, ◌-◌, ◌^◌, ◌<◌, ◌≤◌, ◌==◌, true, false, if◌then◌else◌, [], ◌∷◌, IfSome, IfNone};
+ghost use Rattle.dlmalloc_chunks.specs.Chunk.{HasHead};
 ghost use Rattle.dlmalloc_chunks.specs.Head.{size_of, pinuse_of, free_of, head_of, without_pinuse};
-ghost use Rattle.dlmalloc.specs.Extents.{extent_at};
-ghost use Rattle.dlmalloc.specs.State.{extents_in};
-ghost use Rattle.dlmalloc.specs.Freed.{freed};
-ghost use Rattle.dlmalloc.specs.Blocks.{IsBlock, HasOneMore};
+ghost use Rattle.dlmalloc.specs.OneChunk.{IsUsedAt, IsChunkFreed};
+ghost use Rattle.dlmalloc.specs.Stored.{StoresAlone, CanHoldFree, CanLookBack};
+ghost use Rattle.dlmalloc.specs.Blocks.{IsBlock};
 ghost use Rattle.dlmalloc.specs.Released.{IsFreeAround};
 ghost use Rattle.dlmalloc.specs.Heap.{state_of, IsSoundBy};
 ghost use Rattle.dlmalloc.specs.Turned.{MovesBesideBins};
@@ -78,10 +75,8 @@ impl<A: Allocator> Dlmalloc<A> {
         steps: &mut Steps<L>,
     ) -> u64
         requires intact { IsIntactBy A.Links self.old }
-        requires chunk { extent_at at (extents_in (state_of A.word self.old)) ≡ Some (record { at = at; size = size; kind = Used }) }
-        ensures state { state_of A.word self.new ≡ freed (state_of A.word self.old) at }
-        ensures less { HasOneMore (state_of A.word self.new) (state_of A.word self.old) at }
-        ensures records { (one : Extent) → one.kind ≡ Record → extent_at one.at (extents_in (state_of A.word self.old)) ≡ Some one → extent_at one.at (extents_in (state_of A.word self.new)) ≡ Some one }
+        requires chunk { IsUsedAt (state_of A.word self.old) at size }
+        ensures freed { IsChunkFreed (state_of A.word self.old) at (state_of A.word self.new) }
         ensures around { IsFreeAround (state_of A.word self.new) at result }
         ensures turned { TurnsInOrder A.regions A.word A.follows self.old self.new }
         ensures counted { steps.new ≤ steps.old + 529 }
@@ -101,13 +96,11 @@ impl<A: Allocator> Dlmalloc<A> {
     #[inline(always)]
     fn join_free<L: Ledger>(&mut self, at: u64, size: u64, from: u64, to: u64, steps: &mut Steps<L>)
         requires sound { IsSoundBy A.Links self.old }
-        requires chunk { extent_at at (extents_in (state_of A.word self.old)) ≡ Some (record { at = at; size = size; kind = Used }) }
+        requires chunk { IsUsedAt (state_of A.word self.old) at size }
         requires from { from ≡ (if pinuse_of (A.word self.old.system (at + 8)) then at else at - A.word self.old.system at) }
         requires to { to ≡ (if at + size == self.old.top then at + size else
             if free_of (A.word self.old.system (at + size + 8)) then at + size + size_of (A.word self.old.system (at + size + 8)) else at + size) }
-        ensures state { state_of A.word self.new ≡ freed (state_of A.word self.old) at }
-        ensures less { HasOneMore (state_of A.word self.new) (state_of A.word self.old) at }
-        ensures records { (one : Extent) → one.kind ≡ Record → extent_at one.at (extents_in (state_of A.word self.old)) ≡ Some one → extent_at one.at (extents_in (state_of A.word self.new)) ≡ Some one }
+        ensures freed { IsChunkFreed (state_of A.word self.old) at (state_of A.word self.new) }
         ensures around { IsFreeAround (state_of A.word self.new) at from }
         ensures joined { IsJoint (state_of A.word self.new) self.new.top from (to - from) }
         ensures victim { IsVictimAfter from to self.old.victim self.new.victim }
@@ -153,9 +146,7 @@ impl<A: Allocator> Dlmalloc<A> {
 
     /// Where the free chunk before a chunk begins; the chunk's own address if none stands there.
     fn free_begin<L: Ledger>(&self, at: u64, steps: &mut Steps<L>) -> u64
-        requires head { HasHead (A.regions self.now.system) at }
-        requires foot { HasFoot (A.regions self.now.system) at }
-        requires fits { pinuse_of (A.word self.now.system (at + 8)) ≡ false → A.word self.now.system at ≤ at }
+        requires { CanLookBack (A.regions self.now.system) (A.word self.now.system) at }
         ensures value { result ≡ (if pinuse_of (A.word self.now.system (at + 8)) then at else at - A.word self.now.system at) }
         ensures counted { steps.new ≤ steps.old + 2 }
     {
@@ -191,16 +182,9 @@ fn make_free<M: Links, L: Ledger>(
     is_told: bool,
     steps: &mut Steps<L>,
 )
-    requires size { size % 8 ≡ 0 }
-    requires long { 32 ≤ size }
-    requires head { HasHead (M.regions memory.old) chunk }
-    requires foot { HasFoot (M.regions memory.old) (chunk + size) }
-    requires next { HasHead (M.regions memory.old) (chunk + size) }
-    requires told { is_told ≡ true → pinuse_of (M.word memory.old (chunk + size + 8)) ≡ false }
-    ensures stored { AreStored (M.regions memory.old) (M.word memory.old)
-        ((chunk + size + 8, without_pinuse (M.word memory.old (chunk + size + 8))) ∷ (chunk + 8, head_of size true false) ∷ (chunk + size, size) ∷ []) (M.word memory.new) }
-    ensures regions { M.regions memory.new ≡ M.regions memory.old }
-    ensures follows { M.follows memory.old [] memory.new }
+    requires { CanHoldFree (M.regions memory.old) (M.word memory.old) chunk size is_told }
+    ensures freed { StoresAlone M.Links
+        ((chunk + size + 8, without_pinuse (M.word memory.old (chunk + size + 8))) ∷ (chunk + 8, head_of size true false) ∷ (chunk + size, size) ∷ []) memory.old memory.new }
     ensures counted { steps.new ≤ steps.old + 4 }
 {
     if is_told {

@@ -4,7 +4,7 @@ ghost use Rattle.std.specs.Int.{IsPowerOfTwo};
 ghost use Rattle.dlmalloc.specs.Extents.{IsChunkSize};
 ghost use Rattle.dlmalloc.specs.Choice.{chosen};
 ghost use Rattle.dlmalloc.specs.Heap.{state_of};
-ghost use Rattle.dlmalloc.specs.Grown.{IsAsItWas};
+ghost use Rattle.dlmalloc.specs.Grown.{IsAsItWas, MustGrow};
 ghost use Rattle.dlmalloc.specs.Outcome.{IsAllocated};
 ghost use Rattle.dlmalloc.specs.Requested.{asked};
 ghost use Rattle.dlmalloc.specs.Order.{KeepsBinsInOrder, KeepsOrder};
@@ -125,10 +125,7 @@ impl<A: Allocator> Dlmalloc<A> {
     /// Cuts a chunk of `n` bytes from a new region, since no free extent serves.
     #[inline(never)]
     fn cut_new<L: Ledger>(&mut self, n: u64, steps: &mut Steps<L>) -> Result<u64, GrantFault>
-        requires intact { IsIntactBy A.Links self.old }
-        requires none { chosen (state_of A.word self.old) n ≡ None }
-        requires bytes { IsChunkSize n }
-        requires small { n + 96 + self.old.granularity ≤ 2 ^ 64 }
+        requires { MustGrow A.Links self.old n }
         ensures cut { IfOk result (λ at. IsCutOut A.regions A.word A.zeros A.follows self.old n at self.new) }
         ensures denied { IfErr result (λ fault. IsDenied A.denies self.old.system (state_of A.word self.old) n fault) }
         ensures err { IfErr result (λ fault. IsAsItWas A.regions A.word A.follows A.refuses (Refused (round_up (n + 96) self.old.granularity) fault ∷ []) self.old self.new) }

@@ -1,9 +1,8 @@
 // Blocks that get another size.
-ghost use Rattle.std.specs.Prelude.{◌≡◌, ◌≢◌, ℕ, ◌+◌, ◌*◌, ◌-◌, ◌%◌, ◌<◌, ◌≤◌, min, None, Some, IfOk, IfErr, IfSome, MatchOption, ◌==◌};
+ghost use Rattle.std.specs.Prelude.{◌≡◌, ◌≢◌, ℕ, ◌+◌, ◌*◌, ◌-◌, ◌%◌, ◌<◌, ◌≤◌, min, None, Some, IfOk, IfErr, IfSome, MatchOption};
 ghost use Rattle.std.specs.Int.{IsPowerOfTwo};
 ghost use Rattle.dlmalloc_chunks.specs.Request.{padded};
-ghost use Rattle.dlmalloc.specs.Extents.{extent_at};
-ghost use Rattle.dlmalloc.specs.State.{extents_in, size_where};
+ghost use Rattle.dlmalloc.specs.OneChunk.{HoldsBytes};
 ghost use Rattle.dlmalloc.specs.Blocks.{HasBlock, IsBlock, usable};
 ghost use Rattle.dlmalloc.specs.Resized.{in_place};
 ghost use Rattle.dlmalloc.specs.Binned.{IsIntactBy};
@@ -95,11 +94,8 @@ impl<A: Allocator> Dlmalloc<A> {
         size: u64,
         steps: &mut Steps<L>,
     ) -> Result<u64, MallocError>
-        requires intact { IsIntactBy A.Links self.old }
-        requires align { IsPowerOfTwo align }
+        requires holds { HoldsBytes A.Links self.old ptr held align }
         requires least { align ≤ 16 }
-        requires block { HasBlock (state_of A.word self.old) ptr }
-        requires held { held + 8 ≤ size_where (λ extent. extent.at == ptr - 16) (extents_in (state_of A.word self.old)) }
         ensures resized { IfOk result (λ address. IsResized A.regions A.word A.zeros A.follows (A.frees self.old.system) (A.parts self.old.system) (A.unit self.old.system) self.old ptr held align size address self.new) }
         ensures refused { IfErr result (λ error. IsRefusedWith A.regions A.word A.follows A.refuses A.denies self.old (asked size align) error self.new) }
         ensures tried { IfErr result (λ error. error ≢ MallocError.TooLarge → in_place (state_of A.word self.old) (ptr - 16) (padded size) ≡ None) }
@@ -128,10 +124,7 @@ impl<A: Allocator> Dlmalloc<A> {
         size: u64,
         steps: &mut Steps<L>,
     ) -> Result<u64, MallocError>
-        requires intact { IsIntactBy A.Links self.old }
-        requires align { IsPowerOfTwo align }
-        requires block { HasBlock (state_of A.word self.old) ptr }
-        requires held { held + 8 ≤ size_where (λ extent. extent.at == ptr - 16) (extents_in (state_of A.word self.old)) }
+        requires { HoldsBytes A.Links self.old ptr held align }
         ensures elsewhere { IfOk result (λ address. IsElsewhere A.regions A.word A.zeros A.follows (A.frees self.old.system) (A.parts self.old.system) (A.unit self.old.system) self.old ptr held align size address self.new) }
         ensures refused { IfErr result (λ error. IsRefusedWith A.regions A.word A.follows A.refuses A.denies self.old (asked size align) error self.new) }
         ensures intact { IsIntactBy A.Links self.new }

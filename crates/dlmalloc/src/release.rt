@@ -6,6 +6,7 @@ ghost use Rattle.dlmalloc_chunks.specs.Chunk.{HasHead};
 ghost use Rattle.dlmalloc_chunks.specs.Head.{size_of, free_of};
 ghost use Rattle.dlmalloc.specs.Heap.{state_of, segments_of, IsSoundBy};
 ghost use Rattle.dlmalloc.specs.State.{countdown_from};
+ghost use Rattle.dlmalloc.specs.Stored.{KeepsWords, HasPayload};
 ghost use Rattle.dlmalloc.specs.Released.{is_own, may_leave, taken_back, IsFreeAround, is_counted};
 ghost use Rattle.dlmalloc.specs.Chained.{IsChained, IsVisited};
 ghost use Rattle.dlmalloc.specs.Binned.{IsBinnedBy, IsIntactBy, FreeMoves};
@@ -27,11 +28,7 @@ const FLAGS: u64 = 1 << 32;
 
 /// What the record whose payload begins at an address says.
 fn record_at<M: Links, L: Ledger>(memory: &M, payload: u64, steps: &mut Steps<L>) -> SegmentRecord
-    requires high { payload + 32 < 2 ^ 64 }
-    requires base { IsWordOf (M.regions memory.now) payload }
-    requires size { IsWordOf (M.regions memory.now) (payload + 8) }
-    requires next { IsWordOf (M.regions memory.now) (payload + 16) }
-    requires flags { IsWordOf (M.regions memory.now) (payload + 24) }
+    requires { HasPayload (M.regions memory.now) payload }
     ensures told { result ≡ record { base = M.word memory.now payload; size = M.word memory.now (payload + 8); next = M.word memory.now (payload + 16); flags = M.word memory.now (payload + 24) % 2 ^ 32 } }
     ensures counted { steps.new ≡ steps.old + 4 }
 {
@@ -236,9 +233,7 @@ impl<A: Allocator> Dlmalloc<A> {
         requires word { before ≢ 0 → IsWordOf (A.regions self.old.system) (before + 16) }
         ensures fields { self.new ≡ record self.old { system = self.new.system; next = if before == 0 then next else self.old.next } }
         ensures here { before ≢ 0 → A.word self.new.system (before + 16) ≡ next }
-        ensures elsewhere { (k : ℕ) → IsWordOf (A.regions self.old.system) k → (before ≢ 0 → k ≢ before + 16) → A.word self.new.system k ≡ A.word self.old.system k }
-        ensures regions { A.regions self.new.system ≡ A.regions self.old.system }
-        ensures follows { A.follows self.old.system [] self.new.system }
+        ensures rest { KeepsWords A.Links (λ k. before ≢ 0 → k ≢ before + 16) self.old.system self.new.system }
         ensures counted { steps.new ≤ steps.old + 1 }
     {
         if before == 0 {

@@ -1,10 +1,10 @@
 // Cutting a free chunk for a request.
-ghost use Rattle.std.specs.Prelude.{◌≡◌, ◌≢◌, ℕ, ◌+◌, ◌-◌, ◌<◌, ◌≤◌, nat_le, if◌then◌else◌, [], ◌∷◌, Some};
+ghost use Rattle.std.specs.Prelude.{◌≢◌, ◌+◌, ◌≤◌};
 ghost use Rattle.dlmalloc_chunks.specs.declared.extent.Kind.TheVariants.{Free};
 ghost use Rattle.dlmalloc.specs.Taken.{CanCut, IsTaken};
 ghost use Rattle.dlmalloc.specs.Heap.{state_of, IsSoundBy};
-ghost use Rattle.dlmalloc.specs.Turned.{MovesBesideBins};
-ghost use Rattle.dlmalloc.specs.Binned.{IsFreeAt, IsIntactBy, IsMember};
+ghost use Rattle.dlmalloc.specs.OneChunk.{IsChunkCut};
+ghost use Rattle.dlmalloc.specs.Binned.{IsIntactBy, IsMember};
 ghost use Rattle.dlmalloc.specs.Order.{TurnsInOrder};
 
 use crate::heap::Dlmalloc;
@@ -64,9 +64,7 @@ impl<A: Allocator> Dlmalloc<A> {
     fn cut_chunk<L: Ledger>(&mut self, at: u64, size: u64, n: u64, steps: &mut Steps<L>)
         requires sound { IsSoundBy A.Links self.old }
         requires cut { CanCut (state_of A.word self.old) at size n }
-        ensures taken { IsTaken (state_of A.word self.old) (record { at = at; size = size; kind = Free }) n (state_of A.word self.new) }
-        ensures rest { n + 32 ≤ size → IsFreeAt (state_of A.word self.new) (at + n) (size - n) }
-        ensures moves { MovesBesideBins A.regions A.word A.follows self.old (at ∷ []) (if nat_le (n + 32) size then (at + n) ∷ [] else []) self.new }
+        ensures cut { IsChunkCut A.regions A.word A.follows self.old at size n self.new }
         ensures counted { steps.new ≤ steps.old + 3 }
     {
         let rest = size - n;

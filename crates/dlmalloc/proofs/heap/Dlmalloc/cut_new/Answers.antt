@@ -9,7 +9,7 @@ use Rattle.dlmalloc.proofs.heap.Dlmalloc.cut_new.Goals as goal
 pub returns-in-None-clause-cut : goal.returns-in-None-clause-cut
 returns-in-None-clause-cut g c =
     let heap = c.args.self.now in let middle = c.grow.new.self in let new = c.take_top.new.self in
-    let grown = c.in_ok-chunk.ensures.top c.in-None.is in let e = c.take_top.ensures in
+    let grown = c.in_ok-chunk.ensures.top c.in-None.is in let e = c.take_top.ensures.cut in
     let events = Granted (round_up (c.args.n + 96) heap.granularity) grown.grant ∷ [] in
     subst (λ k. IsCutOut g.A.Links.regions g.A.Links.word g.A.Allocator.zeros g.A.Links.follows heap c.args.n k new) (sym c.take_top.ensures.chunk)
     (cut_new c.requires.intact.sound c.args.n grown e.taken.state e.taken.more e.moves.moved e.head e.foot e.others c.requires.none
@@ -25,6 +25,6 @@ returns-in_err-chunk-clause-denied g c =
 
 pub returns-in-None-clause-bins : goal.returns-in-None-clause-bins
 returns-in-None-clause-bins g c =
-    let grown = c.in_ok-chunk.ensures.top c.in-None.is in let e = c.take_top.ensures in
+    let grown = c.in_ok-chunk.ensures.top c.in-None.is in let e = c.take_top.ensures.cut in
     bins_kept (λ b. (let after = c.grow.ensures.bins.order b in
     (binned_beside c.index_stays.ensures grown.sound e.moves (ap (λ s. s.victim) e.taken.state) after.0, after.1))) c.requires.intact.linked

@@ -8,7 +8,7 @@ returns-then-size-n-le-LEAST_CHUNK-clause-turned g c =
 
 pub free_tail-requires-clause-split : goal.free_tail-requires-clause-split
 free_tail-requires-clause-split g c = record {
-  chunk = c.requires.chunk;
-  bytes = c.requires.bytes;
-  room = (let room = c.requires.room in let rest = c.if-size-n-le-LEAST_CHUNK.false in omega arith);
+  chunk = c.requires.can.chunk;
+  bytes = c.requires.can.bytes;
+  room = (let room = c.requires.can.room in let rest = c.if-size-n-le-LEAST_CHUNK.false in omega arith);
 }

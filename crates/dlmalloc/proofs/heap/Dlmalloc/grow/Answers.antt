@@ -55,12 +55,14 @@ put_before-requires g c =
     let now = (goal.at.put_before-requires g c).In_ok-grant in
     record {
       intact = record { sound = sound g now; linked = binned g now c.requires.intact.linked };
-      grant = record {
-        fresh = fresh g now;
-        bytes = c.requires.bytes;
-        room = (let e = c.asked-asked.ensures.enough in let long = c.in_ok-grant.ensures.good.long in omega arith);
+      before = record {
+        room = record {
+          fresh = fresh g now;
+          bytes = c.requires.bytes;
+          room = (let e = c.asked-asked.ensures.enough in let long = c.in_ok-grant.ensures.good.long in omega arith);
+        };
+        behind = c.in-Some.ensures.found;
       };
-      behind = c.in-Some.ensures.found;
     }
 
 pub join-requires : goal.join-requires
