@@ -138,7 +138,7 @@ pub record JoinsBin {A : Type 0} (links : Links A) (at : ℕ) (changed : (ℕ �
       (after : IsBinnedBut loose links.regions links.word new) × changed before.index after.index
   pub same : IsRebinned links.regions links.word links.follows old new
 
--- It left its bin.
+-- The chunk at an address left its bin, which changed the index so, and the heap is in the same state.
 pub record LeavesBin {A : Type 0} (links : Links A) (at : ℕ) (changed : (ℕ → List ℕ) → (ℕ → List ℕ) → Type 0) (old new : Dlmalloc A) : Type 0 where
   pub loose : (loose : List ℕ) → (before : IsBinnedBut loose links.regions links.word old) → (IsIn at loose → ⊥) →
       (after : IsBinnedBut (at ∷ loose) links.regions links.word new) × changed before.index after.index

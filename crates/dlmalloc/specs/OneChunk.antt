@@ -15,7 +15,7 @@ use Rattle.dlmalloc.specs.Blocks.{HasBlock, HasOneMore}
 use Rattle.dlmalloc.specs.Boundaries.{IsBoundary}
 use Rattle.dlmalloc.specs.Freed.{freed}
 use Rattle.dlmalloc.specs.Heap.{state_of, IsSound, IsSoundBy}
-use Rattle.dlmalloc.specs.Order.{KeepsBinsInOrder, KeepsOrderThrough}
+use Rattle.dlmalloc.specs.Order.{KeepsBinsInOrder, KeepsOrderThrough, TurnsInOrder}
 use Rattle.dlmalloc.specs.Requested.{IsPassedOver}
 use Rattle.dlmalloc.specs.Resized.{exchanged, halves, grown_into, HasSameOthers}
 use Rattle.dlmalloc.specs.Taken.{IsTaken}
@@ -26,12 +26,17 @@ use Rattle.dlmalloc.specs.declared.heap.Dlmalloc.{Dlmalloc}
 abbrev pub IsUsedAt : HeapState → ℕ → ℕ → Type 0
 IsUsedAt heap at size = extent_at at (extents_in heap) ≡ Some (record { at = at; size = size; kind = Used })
 
--- An intact heap has a block at an address, and some of its bytes are to be kept at a multiple of a power of two.
+-- An intact heap has a block of at least so many bytes at an address, which are to be had at a multiple of a power of two.
 pub record HoldsBytes {A : Type 0} (links : Links A) (heap : Dlmalloc A) (ptr bytes multiple : ℕ) : Type 0 where
   pub intact : IsIntactBy links heap
   pub align : IsPowerOfTwo multiple
   pub block : HasBlock (state_of links.word heap) ptr
   pub held : bytes + 8 ≤ size_where (λ extent. extent.at == ptr - 16) (extents_in (state_of links.word heap))
+
+-- The chunk in use at an address got another size, and no other did. The heap moved with its bins.
+pub record ResizesOne {A : Type 0} (links : Links A) (old : Dlmalloc A) (at : ℕ) (new : Dlmalloc A) : Type 0 where
+  pub others : HasSameOthers (state_of links.word old) (state_of links.word new) at at
+  pub turned : TurnsInOrder links.regions links.word links.follows old new
 
 -- ---- a chunk is freed
 
@@ -49,6 +54,11 @@ pub record IsChunkCut {A : Type 0} (regions : A → List Grant) (word : A → �
   pub rest : n + 32 ≤ size → IsFreeAt (state_of word new) (at + n) (size - n)
   pub moves : MovesBesideBins regions word follows old (at ∷ []) (if nat_le (n + 32) size then (at + n) ∷ [] else []) new
 
+-- n bytes of a free chunk other than the top were taken, and the heap moved with its bins.
+pub record IsChunkTaken {A : Type 0} (links : Links A) (old : Dlmalloc A) (at size n : ℕ) (new : Dlmalloc A) : Type 0 where
+  pub taken : IsTaken (state_of links.word old) (record { at = at; size = size; kind = Free }) n (state_of links.word new)
+  pub turned : TurnsInOrder links.regions links.word links.follows old new
+
 -- n bytes can be cut from the top, and leave a rest.
 pub record CanCutTop {A : Type 0} (links : Links A) (heap : Dlmalloc A) (n : ℕ) : Type 0 where
   pub sound : IsSoundBy links heap
@@ -56,7 +66,7 @@ pub record CanCutTop {A : Type 0} (links : Links A) (heap : Dlmalloc A) (n : ℕ
   pub bytes : IsChunkSize n
   pub fits : n < heap.top_size
 
--- They were.
+-- n bytes were cut from the top: its head, and that of its foot, are at boundaries, and other extents stay.
 pub record IsTopCut {A : Type 0} (links : Links A) (old : Dlmalloc A) (n : ℕ) (new : Dlmalloc A) : Type 0 where
   pub taken : IsTaken (state_of links.word old) (record { at = old.top; size = old.top_size; kind = Top }) n (state_of links.word new)
   pub head : IsBoundary (state_of links.word new) (old.top + 8)
@@ -92,7 +102,7 @@ pub record LosesLead {A : Type 0} (regions : A → List Grant) (word : A → ℕ
   pub regions_same : regions new.system ≡ regions old.system
   pub followed : follows old.system [] new.system
 
--- A chunk in use has n bytes to keep.
+-- A chunk in use has n bytes: what is behind them can be freed.
 pub record CanLoseTail (heap : HeapState) (at size n : ℕ) : Type 0 where
   pub chunk : IsUsedAt heap at size
   pub bytes : IsChunkSize n
@@ -137,7 +147,7 @@ pub record CanTakeOfTop {A : Type 0} (word : A → ℕ → ℕ) (heap : Dlmalloc
   pub more : size < n
   pub room : n < size + heap.top_size
 
--- It did.
+-- The chunk before the top grew so.
 pub record TakesOfTop {A : Type 0} (links : Links A) (old : Dlmalloc A) (at size n : ℕ) (new : Dlmalloc A) : Type 0 where
   pub state : state_of links.word new ≡ grown_into (state_of links.word old) (record { at = at; size = size; kind = Used }) (record { at = at + size; size = old.top_size; kind = Top }) n
   pub held : IsUsedAt (state_of links.word new) at n

@@ -9,9 +9,8 @@ ghost use Rattle.dlmalloc.specs.Boundaries.{IsOwn};
 ghost use Rattle.dlmalloc.specs.Resized.{HasSameOthers};
 ghost use Rattle.dlmalloc.specs.Aligned.{aligned_place, lead_freed, tail_cut};
 ghost use Rattle.dlmalloc.specs.Heap.{state_of};
-ghost use Rattle.dlmalloc.specs.OneChunk.{IsUsedAt, IsAligned, LosesLead, CanLoseLead, CanLoseTail};
+ghost use Rattle.dlmalloc.specs.OneChunk.{IsUsedAt, IsAligned, LosesLead, CanLoseLead, CanLoseTail, ResizesOne};
 ghost use Rattle.dlmalloc.specs.Served.{IsRefusedWith};
-ghost use Rattle.dlmalloc.specs.Order.{TurnsInOrder};
 ghost use Rattle.dlmalloc.specs.Binned.{IsIntactBy};
 ghost use Rattle.dlmalloc.specs.Requested.{IsServedAligned, IsMemberServed};
 ghost use Rattle.dlmalloc.specs.Choice.{chosen};
@@ -118,8 +117,7 @@ impl<A: Allocator> Dlmalloc<A> {
         requires can { CanLoseTail (state_of A.word self.old) at size n }
         ensures state { state_of A.word self.new ≡ tail_cut (state_of A.word self.old) at n }
         ensures held { (rest : ℕ) × IsUsedAt (state_of A.word self.new) at rest × (n ≤ rest) × (rest ≤ n + 32) }
-        ensures others { HasSameOthers (state_of A.word self.old) (state_of A.word self.new) at at }
-        ensures turned { TurnsInOrder A.regions A.word A.follows self.old self.new }
+        ensures resized { ResizesOne A.Links self.old at self.new }
         ensures counted { steps.new ≤ steps.old + 534 }
     {
         if size - n <= LEAST_CHUNK {

@@ -3,7 +3,7 @@ ghost use Rattle.std.specs.Prelude.{◌≡◌, ℕ, ◌+◌, ◌<◌, ◌≤◌,
 ghost use Rattle.dlmalloc_chunks.specs.declared.extent.Kind.TheVariants.{Used, Free};
 ghost use Rattle.dlmalloc.specs.Resized.{grown_into, in_place, HasSameOthers, CanTakeFree};
 ghost use Rattle.dlmalloc.specs.Heap.{state_of, IsSoundBy};
-ghost use Rattle.dlmalloc.specs.OneChunk.{IsUsedAt, CanResize, IsPartJoined, CanTakeOfTop, TakesOfTop};
+ghost use Rattle.dlmalloc.specs.OneChunk.{IsUsedAt, CanResize, IsPartJoined, CanTakeOfTop, TakesOfTop, ResizesOne};
 ghost use Rattle.dlmalloc.specs.Order.{TurnsInOrder};
 ghost use Rattle.dlmalloc.specs.Binned.{IsIntactBy};
 
@@ -85,8 +85,7 @@ impl<A: Allocator> Dlmalloc<A> {
         requires take { CanTakeFree (state_of A.word self.old) at size free n }
         ensures state { state_of A.word self.new ≡ grown_into (state_of A.word self.old) (record { at = at; size = size; kind = Used }) (record { at = at + size; size = free; kind = Free }) n }
         ensures held { (whole : ℕ) × IsUsedAt (state_of A.word self.new) at whole × (n ≤ whole) × (whole < n + 32) }
-        ensures others { HasSameOthers (state_of A.word self.old) (state_of A.word self.new) at at }
-        ensures turned { TurnsInOrder A.regions A.word A.follows self.old self.new }
+        ensures grown { ResizesOne A.Links self.old at self.new }
         ensures counted { steps.new ≤ steps.old + 331 }
     {
         let was_victim = at + size == self.victim;

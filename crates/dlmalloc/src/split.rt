@@ -5,8 +5,7 @@ ghost use Rattle.dlmalloc.specs.Boundaries.{IsInFree, IsOwn};
 ghost use Rattle.dlmalloc.specs.Freed.{freed};
 ghost use Rattle.dlmalloc.specs.Resized.{exchanged, halves, tail_freed, HasSameOthers, CanSplit};
 ghost use Rattle.dlmalloc.specs.Heap.{state_of, IsSoundBy};
-ghost use Rattle.dlmalloc.specs.OneChunk.{IsUsedAt, IsSplit, LosesLead};
-ghost use Rattle.dlmalloc.specs.Order.{TurnsInOrder};
+ghost use Rattle.dlmalloc.specs.OneChunk.{IsUsedAt, IsSplit, LosesLead, ResizesOne};
 ghost use Rattle.dlmalloc.specs.Binned.{IsIntactBy};
 
 use crate::heap::Dlmalloc;
@@ -33,8 +32,7 @@ impl<A: Allocator> Dlmalloc<A> {
         requires split { CanSplit (state_of A.word self.old) at size n }
         ensures state { state_of A.word self.new ≡ tail_freed (state_of A.word self.old) at n }
         ensures first { IsUsedAt (state_of A.word self.new) at n }
-        ensures others { HasSameOthers (state_of A.word self.old) (state_of A.word self.new) at at }
-        ensures turned { TurnsInOrder A.regions A.word A.follows self.old self.new }
+        ensures resized { ResizesOne A.Links self.old at self.new }
         ensures counted { steps.new ≤ steps.old + 534 }
     {
         index_stays();

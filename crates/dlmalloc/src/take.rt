@@ -1,11 +1,9 @@
 // Cutting a free chunk for a request.
 ghost use Rattle.std.specs.Prelude.{◌≢◌, ◌+◌, ◌≤◌};
-ghost use Rattle.dlmalloc_chunks.specs.declared.extent.Kind.TheVariants.{Free};
-ghost use Rattle.dlmalloc.specs.Taken.{CanCut, IsTaken};
+ghost use Rattle.dlmalloc.specs.Taken.{CanCut};
 ghost use Rattle.dlmalloc.specs.Heap.{state_of, IsSoundBy};
-ghost use Rattle.dlmalloc.specs.OneChunk.{IsChunkCut};
+ghost use Rattle.dlmalloc.specs.OneChunk.{IsChunkCut, IsChunkTaken};
 ghost use Rattle.dlmalloc.specs.Binned.{IsIntactBy, IsMember};
-ghost use Rattle.dlmalloc.specs.Order.{TurnsInOrder};
 
 use crate::heap::Dlmalloc;
 use crate::layout::{LEAST_CHUNK, LEAST_LARGE};
@@ -22,8 +20,7 @@ impl<A: Allocator> Dlmalloc<A> {
         requires intact { IsIntactBy A.Links self.old }
         requires cut { CanCut (state_of A.word self.old) at size n }
         requires member { at ≢ self.old.victim → IsMember A.regions A.word self.old n at }
-        ensures taken { IsTaken (state_of A.word self.old) (record { at = at; size = size; kind = Free }) n (state_of A.word self.new) }
-        ensures turned { TurnsInOrder A.regions A.word A.follows self.old self.new }
+        ensures took { IsChunkTaken A.Links self.old at size n self.new }
         ensures counted { steps.new ≤ steps.old + 328 }
     {
         if at == self.victim {
@@ -40,8 +37,7 @@ impl<A: Allocator> Dlmalloc<A> {
         requires cut { CanCut (state_of A.word self.old) at size n }
         requires other { at ≢ self.old.victim }
         requires member { IsMember A.regions A.word self.old n at }
-        ensures taken { IsTaken (state_of A.word self.old) (record { at = at; size = size; kind = Free }) n (state_of A.word self.new) }
-        ensures turned { TurnsInOrder A.regions A.word A.follows self.old self.new }
+        ensures took { IsChunkTaken A.Links self.old at size n self.new }
         ensures counted { steps.new ≤ steps.old + 328 }
     {
         let victim = self.victim;

@@ -13,7 +13,7 @@ returns-in-Some-Chunk-clause-cut g c =
     let place = c.in-Some-Chunk.place in let is = ap Some c.in-Some-Chunk.field-0-is in
     let chosen = c.in-Some-Chunk.ensures.chunk place is in
     cut_here c.requires.intact.sound c.args.n chosen (c.in-Some-Chunk.ensures.fits place is)
-    (free_below c.requires.intact.sound chosen.there) c.take.ensures.taken.state c.take.ensures.taken.more c.take.ensures.turned.moved
+    (free_below c.requires.intact.sound chosen.there) c.take.ensures.took.taken.state c.take.ensures.took.taken.more c.take.ensures.took.turned.moved
 
 pub returns-in-Some-Top-clause-cut : goal.returns-in-Some-Top-clause-cut
 returns-in-Some-Top-clause-cut g c =

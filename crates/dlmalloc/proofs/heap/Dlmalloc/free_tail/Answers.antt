@@ -25,16 +25,18 @@ returns g c =
     record {
       state = tail_state sound can e freed.turned.moved freed.freed.state freed.freed.less;
       first = tail_first sound can e freed.turned.moved freed.freed.state freed.freed.less;
-      others = tail_others sound can e freed.turned.moved freed.freed.state freed.freed.less;
-      turned = record {
-        moved = record {
-          sound = freed.turned.moved.sound;
-          words = tail_words sound can e freed.turned.moved freed.freed.state freed.freed.less;
-          regions_same = freed.turned.moved.regions_same ∙ e.moves.moved.regions_same;
-          followed = g.A.Links.follows_on _ _ _ [] [] [] e.moves.moved.followed freed.turned.moved.followed refl;
+      resized = record {
+        others = tail_others sound can e freed.turned.moved freed.freed.state freed.freed.less;
+        turned = record {
+          moved = record {
+            sound = freed.turned.moved.sound;
+            words = tail_words sound can e freed.turned.moved freed.freed.state freed.freed.less;
+            regions_same = freed.turned.moved.regions_same ∙ e.moves.moved.regions_same;
+            followed = g.A.Links.follows_on _ _ _ [] [] [] e.moves.moved.followed freed.turned.moved.followed refl;
+          };
+          bins = bins_kept (λ b. freed.turned.bins.order (binned_beside c.index_stays.ensures sound e.moves (ap (λ s. s.victim) e.state) b))
+              c.requires.intact.linked;
         };
-        bins = bins_kept (λ b. freed.turned.bins.order (binned_beside c.index_stays.ensures sound e.moves (ap (λ s. s.victim) e.state) b))
-            c.requires.intact.linked;
       };
       counted = (let told = c.split.ensures.counted in let more = freed.counted in omega arith);
     }

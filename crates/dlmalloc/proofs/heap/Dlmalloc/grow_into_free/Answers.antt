@@ -54,7 +54,7 @@ returns-then-was_victim g c =
     let after = into_victim c.index_stays.ensures one.same.sound e mine (none_binned left.0 (λ n free. mine)) in
     (after.0, order_left b.index left.0.index after.0.index (lessened_as c.args.free (c.args.at + c.args.size) b.index left.0.index left.1) after.1) in
     let bins = bins_kept order c.requires.intact.linked in
-    record { state = state g now; held = e.held; others = others g now; turned = record { moved = moved g now; bins = bins }; counted = omega arith }
+    record { state = state g now; held = e.held; grown = record { others = others g now; turned = record { moved = moved g now; bins = bins } }; counted = omega arith }
 
 pub returns-then-rest-lt-LEAST_CHUNK : goal.returns-then-rest-lt-LEAST_CHUNK
 returns-then-rest-lt-LEAST_CHUNK g c =
@@ -66,7 +66,7 @@ returns-then-rest-lt-LEAST_CHUNK g c =
       order_less b.index left.0.index (lessened_as c.args.free (c.args.at + c.args.size) b.index left.0.index left.1),
     ) in
     let bins = bins_kept order c.requires.intact.linked in
-    record { state = state g now; held = e.held; others = others g now; turned = record { moved = moved g now; bins = bins }; counted = omega arith }
+    record { state = state g now; held = e.held; grown = record { others = others g now; turned = record { moved = moved g now; bins = bins } }; counted = omega arith }
 
 pub bin-requires : goal.bin-requires
 bin-requires g c =
@@ -103,10 +103,12 @@ returns g c =
     record {
       state = last.same.state ∙ state g now;
       held = (e.held.0, ap (λ s. extent_at c.args.at (extents_in s)) last.same.state ∙ e.held.1, e.held.2, e.held.3);
-      others = subst (λ s. HasSameOthers (state_of g.A.Links.word old) s c.args.at c.args.at) (sym last.same.state) (others g now);
-      turned = record {
-        moved = turned g.A.Links.regions g.A.Links.word g.A.Links.follows g.A.Links.follows_on one.same e.moves.moved last.same;
-        bins = bins_kept order c.requires.intact.linked;
+      grown = record {
+        others = subst (λ s. HasSameOthers (state_of g.A.Links.word old) s c.args.at c.args.at) (sym last.same.state) (others g now);
+        turned = record {
+          moved = turned g.A.Links.regions g.A.Links.word g.A.Links.follows g.A.Links.follows_on one.same e.moves.moved last.same;
+          bins = bins_kept order c.requires.intact.linked;
+        };
       };
       counted = omega arith;
     }

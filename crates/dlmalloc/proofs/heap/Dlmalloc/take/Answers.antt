@@ -9,7 +9,6 @@ returns-then-at-self g c =
     let e = c.cut_chunk.ensures.cut in
     let order = victim_taken c.index_stays.ensures c.requires.intact.sound e c.if-at-self.true in
     record {
-      taken = e.taken;
-      turned = record { moved = as_turned e.moves.moved; bins = bins_kept order c.requires.intact.linked };
+      took = record { taken = e.taken; turned = record { moved = as_turned e.moves.moved; bins = bins_kept order c.requires.intact.linked } };
       counted = omega arith;
     }

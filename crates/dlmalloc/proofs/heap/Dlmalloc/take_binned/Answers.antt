@@ -38,14 +38,16 @@ returns-then-rest-lt-LEAST_CHUNK g c =
     let after = whole_taken c.index_stays.ensures one.same.sound e (λ is. c.requires.other (is ∙ ap (λ h. h.victim) one.same.fields)) left.0 (omega arith) in
     (after, order_less b.index left.0.index (lessened_as c.args.size c.args.at b.index left.0.index left.1)) in
     record {
-      taken = record {
-        state = e.taken.state ∙ ap (λ s. taken s (extent c.args.at c.args.size Free) c.args.n) one.same.state;
-        more = subst (λ s. HasOneMore s (state_of word new) c.args.at) one.same.state e.taken.more;
-      };
-      turned = record {
-        moved = turned regions word g.A.Links.follows g.A.Links.follows_on one.same e.moves.moved
-            (not_rebinned g.A.Links.follows e.moves.moved.sound (g.A.Links.follows_none new.system));
-        bins = bins_kept order c.requires.intact.linked;
+      took = record {
+        taken = record {
+          state = e.taken.state ∙ ap (λ s. taken s (extent c.args.at c.args.size Free) c.args.n) one.same.state;
+          more = subst (λ s. HasOneMore s (state_of word new) c.args.at) one.same.state e.taken.more;
+        };
+        turned = record {
+          moved = turned regions word g.A.Links.follows g.A.Links.follows_on one.same e.moves.moved
+              (not_rebinned g.A.Links.follows e.moves.moved.sound (g.A.Links.follows_none new.system));
+          bins = bins_kept order c.requires.intact.linked;
+        };
       };
       counted = omega arith;
     }
@@ -84,14 +86,16 @@ returns-then-n-lt-LEAST_LARGE g c =
           (λ is. b.holds.no_victim old.victim old.victim_size is refl),
     ) in
     record {
-      taken = record {
-        state = last.same.state ∙ (e.taken.state ∙ ap (λ s. taken s (extent c.args.at c.args.size Free) c.args.n) one.same.state);
-        more = subst (λ s. HasOneMore (state_of word old) s c.args.at) (sym last.same.state)
-            (subst (λ s. HasOneMore s (state_of word c.cut_chunk.new.self) c.args.at) one.same.state e.taken.more);
-      };
-      turned = record {
-        moved = turned regions word g.A.Links.follows g.A.Links.follows_on one.same e.moves.moved last.same;
-        bins = bins_kept order c.requires.intact.linked;
+      took = record {
+        taken = record {
+          state = last.same.state ∙ (e.taken.state ∙ ap (λ s. taken s (extent c.args.at c.args.size Free) c.args.n) one.same.state);
+          more = subst (λ s. HasOneMore (state_of word old) s c.args.at) (sym last.same.state)
+              (subst (λ s. HasOneMore s (state_of word c.cut_chunk.new.self) c.args.at) one.same.state e.taken.more);
+        };
+        turned = record {
+          moved = turned regions word g.A.Links.follows g.A.Links.follows_on one.same e.moves.moved last.same;
+          bins = bins_kept order c.requires.intact.linked;
+        };
       };
       counted = omega arith;
     }
@@ -133,14 +137,16 @@ returns g c =
           (let least = c.requires.cut.bytes.least in omega arith)),
     ) in
     record {
-      taken = record {
-        state = last.same.state ∙ (e.taken.state ∙ ap (λ s. taken s (extent c.args.at c.args.size Free) c.args.n) one.same.state);
-        more = subst (λ s. HasOneMore (state_of word old) s c.args.at) (sym last.same.state)
-            (subst (λ s. HasOneMore s (state_of word c.cut_chunk.new.self) c.args.at) one.same.state e.taken.more);
-      };
-      turned = record {
-        moved = turned regions word g.A.Links.follows g.A.Links.follows_on one.same e.moves.moved last.same;
-        bins = bins_kept order c.requires.intact.linked;
+      took = record {
+        taken = record {
+          state = last.same.state ∙ (e.taken.state ∙ ap (λ s. taken s (extent c.args.at c.args.size Free) c.args.n) one.same.state);
+          more = subst (λ s. HasOneMore (state_of word old) s c.args.at) (sym last.same.state)
+              (subst (λ s. HasOneMore s (state_of word c.cut_chunk.new.self) c.args.at) one.same.state e.taken.more);
+        };
+        turned = record {
+          moved = turned regions word g.A.Links.follows g.A.Links.follows_on one.same e.moves.moved last.same;
+          bins = bins_kept order c.requires.intact.linked;
+        };
       };
       counted = omega arith;
     }
