@@ -5,7 +5,7 @@ ghost use Rattle.dlmalloc.specs.Binned.{IsIntactBy};
 ghost use Rattle.dlmalloc.specs.Choice.{chosen};
 ghost use Rattle.dlmalloc.specs.Heap.{state_of};
 ghost use Rattle.dlmalloc_chunks.specs.Request.{padded};
-ghost use Rattle.dlmalloc.specs.Served.{IsRefusedWith};
+ghost use Rattle.dlmalloc.specs.Served.{IsRefusedBy};
 ghost use Rattle.dlmalloc.specs.Outcome.{IsAllocatedCleared};
 ghost use Rattle.dlmalloc.specs.Requested.{asked};
 ghost use Rattle.dlmalloc.specs.Written.{words_in};
@@ -36,7 +36,7 @@ impl<A: Allocator> Dlmalloc<A> {
         requires intact { IsIntactBy A.Links self.old }
         requires align { IsPowerOfTwo align }
         ensures allocated { IfOk result (λ address. IsAllocatedCleared A.regions A.word A.zeros A.follows self.old size align address self.new) }
-        ensures refused { IfErr result (λ error. IsRefusedWith A.regions A.word A.follows A.refuses A.denies self.old (asked size align) error self.new) }
+        ensures refused { IfErr result (λ error. IsRefusedBy A.Links A.Allocator.own self.old (asked size align) error self.new) }
         ensures intact { IsIntactBy A.Links self.new }
         ensures counted { chosen (state_of A.word self.old) (padded (asked size align)) ≢ None → steps.new ≤ steps.old + 8192 + words_in size }
         ensures refused_counted { IfErr result (λ error. steps.new ≤ steps.old + 512) }

@@ -10,7 +10,7 @@ ghost use Rattle.dlmalloc.specs.Heap.{state_of, IsSoundBy};
 ghost use Rattle.dlmalloc.specs.Turned.{MovesBesideBins};
 ghost use Rattle.dlmalloc.specs.Disposed.{IsDisposed};
 ghost use Rattle.dlmalloc.specs.Binned.{IsBinnedBy, IsIntactBy, IsBinnedBut, IsRebinned, IsJoint, IsVictimAfter};
-ghost use Rattle.dlmalloc.specs.AfterFree.{IsFreed};
+ghost use Rattle.dlmalloc.specs.AfterFree.{IsFreedBy};
 ghost use Rattle.dlmalloc.specs.Counts.{pass_steps};
 ghost use Rattle.dlmalloc.specs.Order.{IsAdded, TurnsInOrder};
 
@@ -30,7 +30,7 @@ impl<A: Allocator> Dlmalloc<A> {
     pub fn free<L: Ledger>(&mut self, ptr: u64, size: u64, align: u64, steps: &mut Steps<L>)
         requires intact { IsIntactBy A.Links self.old }
         requires block { IsBlock (state_of A.word self.old) ptr size }
-        ensures freed { IsFreed A.regions A.word A.follows (A.frees self.old.system) (A.parts self.old.system) (A.unit self.old.system) self.old ptr self.new }
+        ensures freed { IsFreedBy A.Links A.Allocator.own self.old ptr self.new }
         ensures linked { IsBinnedBy A.Links self.new }
         ensures counted { steps.new ≤ steps.old + 1024 + pass_steps (state_of A.word self.old) }
     {
@@ -41,7 +41,7 @@ impl<A: Allocator> Dlmalloc<A> {
     pub fn c_free<L: Ledger>(&mut self, ptr: Option<u64>, steps: &mut Steps<L>)
         requires intact { IsIntactBy A.Links self.old }
         requires block { IfSome ptr (λ address. (size : ℕ) × IsBlock (state_of A.word self.old) address size) }
-        ensures freed { IfSome ptr (λ address. IsFreed A.regions A.word A.follows (A.frees self.old.system) (A.parts self.old.system) (A.unit self.old.system) self.old address self.new) }
+        ensures freed { IfSome ptr (λ address. IsFreedBy A.Links A.Allocator.own self.old address self.new) }
         ensures none { IfNone ptr (self.new ≡ self.old) }
         ensures intact { IsIntactBy A.Links self.new }
         ensures counted { steps.new ≤ steps.old + 1024 + pass_steps (state_of A.word self.old) }

@@ -10,7 +10,7 @@ ghost use Rattle.dlmalloc.specs.Resized.{HasSameOthers};
 ghost use Rattle.dlmalloc.specs.Aligned.{aligned_place, lead_freed, tail_cut};
 ghost use Rattle.dlmalloc.specs.Heap.{state_of};
 ghost use Rattle.dlmalloc.specs.OneChunk.{IsUsedAt, IsAligned, LosesLead, CanLoseLead, CanLoseTail, ResizesOne};
-ghost use Rattle.dlmalloc.specs.Served.{IsRefusedWith};
+ghost use Rattle.dlmalloc.specs.Served.{IsRefusedBy};
 ghost use Rattle.dlmalloc.specs.Binned.{IsIntactBy};
 ghost use Rattle.dlmalloc.specs.Requested.{IsServedAligned, IsMemberServed};
 ghost use Rattle.dlmalloc.specs.Choice.{chosen};
@@ -58,7 +58,7 @@ impl<A: Allocator> Dlmalloc<A> {
         requires intact { IsIntactBy A.Links self.old }
         requires align { IsPowerOfTwo align × (16 < align) }
         ensures served { IfOk result (λ address. IsServedAligned A.regions A.word A.zeros A.follows self.old size align address self.new) }
-        ensures refused { IfErr result (λ error. IsRefusedWith A.regions A.word A.follows A.refuses A.denies self.old (enlarged size align) error self.new) }
+        ensures refused { IfErr result (λ error. IsRefusedBy A.Links A.Allocator.own self.old (enlarged size align) error self.new) }
         ensures intact { IsIntactBy A.Links self.new }
         ensures member { IfOk result (λ address. IsMemberServed A.regions A.word self.old size align address) }
         ensures counted { chosen (state_of A.word self.old) (padded (enlarged size align)) ≢ None → steps.new ≤ steps.old + 8192 }

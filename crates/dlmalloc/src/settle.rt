@@ -3,8 +3,8 @@ ghost use Rattle.std.specs.Prelude.{◌≡◌, ℕ, ◌+◌, ◌<◌, ◌≤◌,
 ghost use Rattle.dlmalloc.specs.Blocks.{IsBlock};
 ghost use Rattle.dlmalloc.specs.Binned.{IsBinnedBy, IsIntactBy};
 ghost use Rattle.dlmalloc.specs.Released.{IsFreeAround};
-ghost use Rattle.dlmalloc.specs.Shortened.{IsTrimmed};
-ghost use Rattle.dlmalloc.specs.AfterFree.{IsSettled, IsFreed};
+ghost use Rattle.dlmalloc.specs.Shortened.{IsTrimmedBy};
+ghost use Rattle.dlmalloc.specs.AfterFree.{IsSettled, IsFreedBy};
 ghost use Rattle.dlmalloc.specs.Counts.{pass_steps};
 ghost use Rattle.dlmalloc.specs.Heap.{state_of};
 
@@ -17,7 +17,7 @@ impl<A: Allocator> Dlmalloc<A> {
     pub(crate) fn free_and_settle<L: Ledger>(&mut self, ptr: u64, steps: &mut Steps<L>)
         requires intact { IsIntactBy A.Links self.old }
         requires block { (size : ℕ) × IsBlock (state_of A.word self.old) ptr size }
-        ensures freed { IsFreed A.regions A.word A.follows (A.frees self.old.system) (A.parts self.old.system) (A.unit self.old.system) self.old ptr self.new }
+        ensures freed { IsFreedBy A.Links A.Allocator.own self.old ptr self.new }
         ensures linked { IsBinnedBy A.Links self.new }
         ensures counted { steps.new ≤ steps.old + 532 + pass_steps (state_of A.word self.old) }
     {
@@ -44,7 +44,7 @@ impl<A: Allocator> Dlmalloc<A> {
     /// Trims a top that is above the trim check.
     fn trim_above_check<L: Ledger>(&mut self, steps: &mut Steps<L>)
         requires intact { IsIntactBy A.Links self.old }
-        ensures above { self.old.trim_check < self.old.top_size → (answer : Bool) × IsTrimmed A.regions A.word A.follows (A.frees self.old.system) (A.parts self.old.system) (A.unit self.old.system) self.old 0 answer self.new }
+        ensures above { self.old.trim_check < self.old.top_size → (answer : Bool) × IsTrimmedBy A.Links A.Allocator.own self.old 0 answer self.new }
         ensures same { self.old.top_size ≤ self.old.trim_check → self.new ≡ self.old }
         ensures linked { IsBinnedBy A.Links self.new }
         ensures counted { steps.new ≤ steps.old + 2 + pass_steps (state_of A.word self.old) }

@@ -2,7 +2,7 @@
 ghost use Rattle.std.specs.Prelude.{◌≡◌, ◌+◌, ◌-◌, ◌%◌, ◌^◌, ◌<◌, ◌≤◌, true, false, nat_lt, if◌then◌else◌, []};
 ghost use Rattle.heap_memory.specs.Runs.{is_in_units};
 ghost use Rattle.dlmalloc.specs.Trimmed.{cut_of, may_go, is_cut};
-ghost use Rattle.dlmalloc.specs.Shortened.{IsShortened, IsCutBack, IsTrimmed};
+ghost use Rattle.dlmalloc.specs.Shortened.{IsShortened, IsCutBack, IsTrimmedBy};
 ghost use Rattle.dlmalloc.specs.Order.{KeepsIndex};
 ghost use Rattle.dlmalloc.specs.Binned.{IsBinnedBy, IsIntactBy};
 ghost use Rattle.dlmalloc.specs.Counts.{pass_steps};
@@ -23,7 +23,7 @@ impl<A: Allocator> Dlmalloc<A> {
     /// besides those of the release pass, 512 for each segment.
     pub fn trim<L: Ledger>(&mut self, pad: u64, steps: &mut Steps<L>) -> bool
         requires intact { IsIntactBy A.Links self.old }
-        ensures trimmed { IsTrimmed A.regions A.word A.follows (A.frees self.old.system) (A.parts self.old.system) (A.unit self.old.system) self.old pad result self.new }
+        ensures trimmed { IsTrimmedBy A.Links A.Allocator.own self.old pad result self.new }
         ensures linked { IsBinnedBy A.Links self.new }
         ensures counted { steps.new ≤ steps.old + 2 + pass_steps (state_of A.word self.old) }
     {
