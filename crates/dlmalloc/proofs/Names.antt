@@ -48,11 +48,12 @@ unfoldable pub use Rattle.dlmalloc.specs.Extents.{chunks_from}
 pub use Rattle.dlmalloc.specs.Freed.{before, freed, freed_in, has, victim_in}
 pub use Rattle.dlmalloc.specs.GivenBack.{AreGivenBack, IsCounted, IsPassed, told_of}
 pub use Rattle.dlmalloc.specs.Granted.{granted, is_before, is_behind, is_put_before, opened, put_before, top_and_foot}
-pub use Rattle.dlmalloc.specs.Grown.{HasSameUsed, IsAdmitted, IsFreshGrant, IsPrepended}
+pub use Rattle.dlmalloc.specs.Grown.{HasRoomFor, HasSameUsed, IsAdmitted, IsFreshGrant, IsPrepended}
 pub use Rattle.dlmalloc.specs.Heap.{AreTold, IsGranularity, IsSound, segments_of, state_of}
 pub use Rattle.dlmalloc.specs.Moved.{IsElsewhere, IsGivenSize, IsInPlace, IsResized}
 pub use Rattle.dlmalloc.specs.Moves.{AllSpare, HasMore, IsMove, IsRunOf, IsSpared, used_of}
 pub use Rattle.dlmalloc.specs.Order.{AreInOrder, IsPart, IsReindexed, KeepsBinsInOrder, KeepsOrder, TurnsInOrder, after_pass, after_trim, after_visit, after_visits}
+pub use Rattle.dlmalloc.specs.OneChunk.{CanTakeOfTop, IsAligned, IsChunkCut, IsPartJoined, IsSplit}
 pub use Rattle.dlmalloc.specs.Prepended.{IsHeadBehind, IsToldBehind, payload_behind}
 pub use Rattle.dlmalloc.specs.Record.{IsRecordAt}
 pub use Rattle.dlmalloc.specs.Released.{IsFreeAround, bytes_of, counted, handed_out, is_counted, is_own, is_unused, left_by_count, may_leave, passed, regions_without, releases, staying, taken_back}
@@ -67,6 +68,7 @@ pub use Rattle.dlmalloc.specs.Turned.{IsMoved, IsTurned, MovesBesideBins}
 pub use Rattle.dlmalloc.specs.Resting.{KeepsRegions, OnlyBlocksChange, regions_in}
 pub use Rattle.dlmalloc.specs.Shortened.{IsCutBack, IsShortened, IsTrimmed}
 pub use Rattle.dlmalloc.specs.State.{HeapState, Segment, by_address, countdown_from, extents_in, is_binned, is_free_below_top, is_victim, shown, size_where, trim_threshold, with_item}
+pub use Rattle.dlmalloc.specs.Stored.{CanHoldTwo}
 pub use Rattle.dlmalloc.specs.Taken.{cut, in_segments, replaced, taken, victim_after}
 pub use Rattle.dlmalloc.specs.Trimmed.{after_cut, cut_of, cut_top, given_up, gives_back, is_cut, is_trimmed, regions_cut, regions_trimmed, trimmed, without_end}
 pub use Rattle.dlmalloc.specs.Walk.{AreChunks, IsAmong, IsChunkKind, IsChunkRun, binned_sizes, chunks_between, span_extents}

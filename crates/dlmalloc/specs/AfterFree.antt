@@ -1,5 +1,7 @@
 -- What a free does further, once its chunk is merged (dlmalloc: `Dlmalloc::free`).
 use Rattle.std.specs.Prelude.{◌≡◌, ℕ, ◌+◌, ◌-◌, ◌<◌, ◌≤◌, ◌⊎◌, Bool, ◌&&◌, nat_le, nat_lt, if◌then◌else◌, List, Some}
+use Rattle.heap_memory.specs.declared.allocator.Allocator.{Ghosts as Allocator}
+use Rattle.heap_memory.specs.declared.links.Links.{Ghosts as Links}
 use Rattle.heap_memory.specs.declared.grant.Grant.{Grant}
 use Rattle.heap_memory.specs.Regions.{IsWordOf}
 use Rattle.heap_memory.specs.Events.{Event}
@@ -81,3 +83,7 @@ pub record IsFreed {A : Type 0} (regions : A → List Grant) (word : A → ℕ �
   pub regions_are : regions new.system ≡ regions_after frees parts unit (freed (state_of word old) (address - 16)) (address - 16) (regions old.system)
   pub followed : follows old.system (free_releases frees parts unit (freed (state_of word old) (address - 16)) (address - 16)) new.system
   pub order : FreesInOrder regions word frees parts old address new
+
+-- so say what its system means by its regions and words, and what it takes back
+abbrev pub IsFreedBy : {A : Type 0} → Links A → Allocator A → Dlmalloc A → ℕ → Dlmalloc A → Type 0
+IsFreedBy links allocator old address new = IsFreed links.regions links.word links.follows (allocator.frees old.system) (allocator.parts old.system) (allocator.unit old.system) old address new

@@ -1,14 +1,15 @@
 -- The bins of a heap: which of its extents they hold (dlmalloc: `smallbins`, `treebins`).
-use Rattle.std.specs.Prelude.{◌≡◌, ◌≢◌, ℕ, ◌+◌, ◌<◌, ◌≤◌, ◌⊎◌, List, [], Some}
+use Rattle.std.specs.Prelude.{◌≡◌, ◌≢◌, ℕ, ◌+◌, ◌-◌, ◌<◌, ◌≤◌, ◌⊎◌, List, [], ◌∷◌, Some}
 use Rattle.heap_memory.specs.declared.grant.Grant.{Grant}
+use Rattle.heap_memory.specs.declared.links.Links.{Ghosts as Links}
 use Rattle.heap_memory.specs.Events.{Event}
 use Rattle.heap_memory.specs.Regions.{IsWordOf}
-use Rattle.bins.specs.Index.{IsIn, IsLeastFit}
+use Rattle.bins.specs.Index.{IsIn, IsLeastFit, with_chunk, without_chunk}
 use Rattle.bins.specs.Linked.{IsLinked}
 use Rattle.dlmalloc.specs.State.{HeapState}
 pub use Rattle.dlmalloc.specs.FreeExtents.{IsFreeAt}
 use Rattle.dlmalloc.specs.Choice.{OfBins, chosen}
-use Rattle.dlmalloc.specs.Heap.{state_of, IsSound}
+use Rattle.dlmalloc.specs.Heap.{state_of, IsSound, IsSoundBy}
 use Rattle.dlmalloc.specs.declared.heap.Dlmalloc.{Dlmalloc}
 
 -- ---- an index of extents
@@ -41,6 +42,13 @@ IsBinned regions word heap = IsBinnedBut [] regions word heap
 pub record IsIntact {A : Type 0} (regions : A → List Grant) (word : A → ℕ → ℕ) (heap : Dlmalloc A) : Type 0 where
   pub sound : IsSound regions word heap
   pub linked : IsBinned regions word heap
+
+-- so say what its system means by its regions and words
+abbrev pub IsBinnedBy : {A : Type 0} → Links A → Dlmalloc A → Type 0
+IsBinnedBy links heap = IsBinned links.regions links.word heap
+
+abbrev pub IsIntactBy : {A : Type 0} → Links A → Dlmalloc A → Type 0
+IsIntactBy links heap = IsIntact links.regions links.word heap
 
 -- what begins at an address is the top, or else a free extent of the given size
 abbrev pub IsJoint : HeapState → ℕ → ℕ → ℕ → Type 0
@@ -78,6 +86,63 @@ pub record IsRebinned {A : Type 0} (regions : A → List Grant) (word : A → �
   pub words : OnlyFreeChange (regions old.system) (state_of word old) (word old.system) (word new.system)
   pub regions_same : regions new.system ≡ regions old.system
   pub followed : follows old.system [] new.system
+
+-- ---- one chunk
+
+-- A free chunk that is neither the top nor the victim is in no bin: it can go into its own.
+pub record CanJoinBin {A : Type 0} (links : Links A) (heap : Dlmalloc A) (at size : ℕ) : Type 0 where
+  pub sound : IsSoundBy links heap
+  pub free : IsFreeAt (state_of links.word heap) at size
+  pub other : at ≢ heap.victim
+  pub loose : (loose : List ℕ) × IsBinnedBut (at ∷ loose) links.regions links.word heap
+
+-- The same of one that is there if it has bytes; else no free chunk begins there.
+pub record CanJoinBinIfAny {A : Type 0} (links : Links A) (heap : Dlmalloc A) (at size : ℕ) : Type 0 where
+  pub sound : IsSoundBy links heap
+  pub free : size ≢ 0 → IsFreeAt (state_of links.word heap) at size
+  pub none : size ≡ 0 → (n : ℕ) → IsFreeAt (state_of links.word heap) at n → ⊥
+  pub other : size ≢ 0 → at ≢ heap.victim
+  pub loose : (loose : List ℕ) × IsBinnedBut (at ∷ loose) links.regions links.word heap
+
+-- A free chunk is in its bin, or it is the top or the victim.
+pub record CanLeaveBin {A : Type 0} (links : Links A) (heap : Dlmalloc A) (at size : ℕ) : Type 0 where
+  pub sound : IsSoundBy links heap
+  pub free : IsFreeAt (state_of links.word heap) at size
+  pub binned : (loose : List ℕ) × IsBinnedBut loose links.regions links.word heap × (IsIn at loose → ⊥)
+
+-- The same of one that a search of the bins named.
+pub record CanLeaveAsFit {A : Type 0} (links : Links A) (heap : Dlmalloc A) (at size : ℕ) : Type 0 where
+  pub sound : IsSoundBy links heap
+  pub free : IsFreeAt (state_of links.word heap) at size
+  pub other : at ≢ heap.victim
+  pub member : (n : ℕ) × IsMember links.regions links.word heap n at
+  pub binned : (loose : List ℕ) × IsBinnedBut loose links.regions links.word heap × (IsIn at loose → ⊥)
+
+-- The same of one between two addresses, if there is one.
+pub record CanLeaveBetween {A : Type 0} (links : Links A) (heap : Dlmalloc A) (from to : ℕ) : Type 0 where
+  pub sound : IsSoundBy links heap
+  pub free : from < to → IsFreeAt (state_of links.word heap) from (to - from)
+  pub none : to ≤ from → (size : ℕ) → IsFreeAt (state_of links.word heap) from size → ⊥
+  pub binned : (loose : List ℕ) × IsBinnedBut loose links.regions links.word heap × (IsIn from loose → ⊥)
+
+-- an index with one chunk more, as the newest of its size, and with one less
+abbrev pub HasJoined : ℕ → ℕ → (ℕ → List ℕ) → (ℕ → List ℕ) → Type 0
+HasJoined size at old new = (n : ℕ) → new n ≡ with_chunk size at old n
+
+abbrev pub HasLeft : ℕ → ℕ → (ℕ → List ℕ) → (ℕ → List ℕ) → Type 0
+HasLeft size at old new = (n : ℕ) → new n ≡ without_chunk size at old n
+
+-- The chunk at an address went into its bin, which changed the index so, and the heap is in the same state.
+pub record JoinsBin {A : Type 0} (links : Links A) (at : ℕ) (changed : (ℕ → List ℕ) → (ℕ → List ℕ) → Type 0) (old new : Dlmalloc A) : Type 0 where
+  pub binned : (loose : List ℕ) → (before : IsBinnedBut (at ∷ loose) links.regions links.word old) → (IsIn at loose → ⊥) →
+      (after : IsBinnedBut loose links.regions links.word new) × changed before.index after.index
+  pub same : IsRebinned links.regions links.word links.follows old new
+
+-- The chunk at an address left its bin, which changed the index so, and the heap is in the same state.
+pub record LeavesBin {A : Type 0} (links : Links A) (at : ℕ) (changed : (ℕ → List ℕ) → (ℕ → List ℕ) → Type 0) (old new : Dlmalloc A) : Type 0 where
+  pub loose : (loose : List ℕ) → (before : IsBinnedBut loose links.regions links.word old) → (IsIn at loose → ⊥) →
+      (after : IsBinnedBut (at ∷ loose) links.regions links.word new) × changed before.index after.index
+  pub same : IsRebinned links.regions links.word links.follows old new
 
 -- The free extents of one heap are those of another without the ones at some addresses, and with those at others.
 pub record FreeMoves (old new : HeapState) (less more : List ℕ) : Type 0 where

@@ -1,7 +1,8 @@
 -- A heap before and after it asked its system for a region.
-use Rattle.std.specs.Prelude.{◌≡◌, ◌≢◌, ℕ, ◌+◌, ◌-◌, ◌%◌, ◌^◌, ◌<◌, ◌≤◌, ◌⊎◌, Bool, true, false, List, [], ◌∷◌, Some}
+use Rattle.std.specs.Prelude.{◌≡◌, ◌≢◌, ℕ, ◌+◌, ◌-◌, ◌%◌, ◌^◌, ◌<◌, ◌≤◌, ◌⊎◌, Bool, true, false, List, [], ◌∷◌, None, Some}
 use Rattle.std.specs.List.{AllByRecursion}
 use Rattle.heap_memory.specs.declared.grant.Grant.{Grant}
+use Rattle.heap_memory.specs.declared.links.Links.{Ghosts as Links}
 use Rattle.heap_memory.specs.Regions.{IsWordOf, IsApart, with_grant}
 use Rattle.heap_memory.specs.Events.{Event, Granted}
 use Rattle.dlmalloc_chunks.specs.Request.{round_up}
@@ -14,9 +15,10 @@ use Rattle.dlmalloc.specs.Granted.{opened, is_behind, is_put_before, prepended, 
 use Rattle.dlmalloc.specs.Freed.{freed}
 use Rattle.dlmalloc.specs.Blocks.{HasOneMore}
 use Rattle.dlmalloc.specs.Segments.{IsFlaggedRun, IsApartFrom}
-use Rattle.dlmalloc.specs.Heap.{state_of, IsSound}
+use Rattle.dlmalloc.specs.Heap.{state_of, segments_of, IsSound}
 use Rattle.dlmalloc.specs.Order.{KeepsIndex}
-use Rattle.dlmalloc.specs.Binned.{IsSameBins, FreeMoves}
+use Rattle.dlmalloc.specs.Binned.{IsSameBins, FreeMoves, IsIntactBy}
+use Rattle.dlmalloc.specs.Choice.{chosen}
 use Rattle.dlmalloc.specs.declared.heap.Dlmalloc.{Dlmalloc}
 
 -- A grant is a region that no segment has.
@@ -109,6 +111,20 @@ pub record IsPutBefore {A : Type 0} (regions : A → List Grant) (word : A → �
   pub more : HasOneMore (state_of word old) (state_of word new) grant.base
   pub words : (k : ℕ) → IsWordOf (regions old.system) k → (k < grant.base) ⊎ (grant.base + grant.size ≤ k) → (IsInFree (state_of word old) k → ⊥) → (IsOwn (state_of word new) k → ⊥) → (IsInRecord (state_of word new) k → ⊥) → word new.system k ≡ word old.system k
   pub new_words : (k : ℕ) → IsWordOf (regions old.system) k → grant.base ≤ k → k < grant.base + grant.size → (IsOwn (state_of word new) k → ⊥) → word new.system k ≡ word old.system k
+
+-- A chunk of n bytes is to be cut, and no free extent serves: the system is asked for a region.
+pub record MustGrow {A : Type 0} (links : Links A) (heap : Dlmalloc A) (n : ℕ) : Type 0 where
+  pub intact : IsIntactBy links heap
+  pub none : chosen (state_of links.word heap) n ≡ None
+  pub bytes : IsChunkSize n
+  pub small : n + 96 + heap.granularity ≤ 2 ^ 64
+
+-- A fresh grant is to be a segment of its own: there is one, and the grant neither stands before one nor becomes part of the head.
+pub record IsNewSegment {A : Type 0} (links : Links A) (heap : Dlmalloc A) (grant : Grant) : Type 0 where
+  pub there : 0 < heap.size
+  pub fresh : IsFreshGrant (links.regions heap.system) (segments_of links.word heap) grant
+  pub apart : is_put_before grant (segments_of links.word heap) ≡ false
+  pub beside : is_behind grant (record { base = heap.base; size = heap.size; flags = heap.flags; extents = [] }) ≡ false
 
 -- A region was granted, with room for a chunk of n bytes at the top. The extents in use are the same.
 pub record IsGrown {A : Type 0} (regions : A → List Grant) (word : A → ℕ → ℕ) (zeros : A → Bool) (follows : A → List Event → A → Type 0) (old : Dlmalloc A) (n : ℕ) (new : Dlmalloc A) : Type 0 where

@@ -2,6 +2,7 @@
 use Rattle.std.specs.Prelude.{◌≡◌, ◌≢◌, ℕ, ◌+◌, ◌/◌, ◌^◌, ◌<◌, ◌≤◌, ◌==◌, if◌then◌else◌, List, [], ◌∷◌, ◌++◌, Some}
 use Rattle.std.specs.Int.{IsPowerOfTwo}
 use Rattle.heap_memory.specs.declared.grant.Grant.{Grant}
+use Rattle.heap_memory.specs.declared.links.Links.{Ghosts as Links}
 use Rattle.dlmalloc_chunks.specs.declared.extent.Kind.TheVariants.{Free, Top}
 use Rattle.dlmalloc.specs.Extents.{chunks_from, extent_at}
 use Rattle.dlmalloc.specs.State.{HeapState, Segment, extents_in}
@@ -42,3 +43,7 @@ pub record IsSound {A : Type 0} (regions : A → List Grant) (word : A → ℕ �
   pub none : heap.size ≡ 0 → heap.top_size ≡ 0
   pub no_victim : heap.victim_size ≡ 0 → heap.victim ≡ 0
   pub victim : heap.victim_size ≢ 0 → extent_at heap.victim (extents_in (state_of word heap)) ≡ Some (record { at = heap.victim; size = heap.victim_size; kind = Free })
+
+-- so says what its system means by its regions and words
+abbrev pub IsSoundBy : {A : Type 0} → Links A → Dlmalloc A → Type 0
+IsSoundBy links heap = IsSound links.regions links.word heap

@@ -8,6 +8,7 @@ pub mod Aligned
 pub mod Granted
 pub mod Segments
 pub mod Record
+pub mod Stored
 pub mod FreeExtents
 pub mod Moves
 pub mod Walk
@@ -34,3 +35,4 @@ pub mod Written
 pub mod Counts
 pub mod Moved
 pub mod Outcome
+pub mod OneChunk

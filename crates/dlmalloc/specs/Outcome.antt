@@ -1,5 +1,7 @@
 -- What a request came to: a block was handed out or got another size, or the request was refused.
 use Rattle.std.specs.Prelude.{◌≡◌, ◌≢◌, ℕ, ◌-◌, ◌≤◌, Bool, List, Option, None, IfSome}
+use Rattle.heap_memory.specs.declared.allocator.Allocator.{Ghosts as Allocator}
+use Rattle.heap_memory.specs.declared.links.Links.{Ghosts as Links}
 use Rattle.heap_memory.specs.declared.grant.Grant.{Grant}
 use Rattle.heap_memory.specs.declared.grant.GrantFault.{GrantFault}
 use Rattle.heap_memory.specs.Events.{Event}
@@ -38,3 +40,13 @@ pub record IsReallocated {A : Type 0} (regions : A → List Grant) (word : A →
 pub record IsReallocRefused {A : Type 0} (regions : A → List Grant) (word : A → ℕ → ℕ) (follows : A → List Event → A → Type 0) (refuses : A → A → Type 0) (denies : A → ℕ → GrantFault → Type 0) (old : Dlmalloc A) (from : Option ℕ) (align size : ℕ) (error : MallocError) (new : Dlmalloc A) : Type 0 where
   pub refused : IsRefusedWith regions word follows refuses denies old (asked size align) error new
   pub tried : error ≢ TooLarge → align ≤ 16 → IfSome from (λ at. in_place (state_of word old) (at - 16) (padded size) ≡ None)
+
+-- so say what its system means by its regions and words, and what it grants, denies and takes back
+abbrev pub IsAllocatedBy : {A : Type 0} → Links A → Allocator A → Dlmalloc A → ℕ → ℕ → ℕ → Dlmalloc A → Type 0
+IsAllocatedBy links allocator old size align address new = IsAllocated links.regions links.word allocator.zeros links.follows old size align address new
+
+abbrev pub IsReallocatedBy : {A : Type 0} → Links A → Allocator A → Dlmalloc A → ℕ → ℕ → ℕ → ℕ → ℕ → Dlmalloc A → Type 0
+IsReallocatedBy links allocator old from held align size address new = IsReallocated links.regions links.word allocator.zeros links.follows (allocator.frees old.system) (allocator.parts old.system) (allocator.unit old.system) old from held align size address new
+
+abbrev pub IsReallocRefusedBy : {A : Type 0} → Links A → Allocator A → Dlmalloc A → Option ℕ → ℕ → ℕ → MallocError → Dlmalloc A → Type 0
+IsReallocRefusedBy links allocator old from align size error new = IsReallocRefused links.regions links.word links.follows allocator.refuses allocator.denies old from align size error new

@@ -1,9 +1,11 @@
 -- The segment that a grant is put before, and where its record is.
 use Rattle.std.specs.Prelude.{◌≡◌, ℕ, ◌+◌, true, List, [], ◌∷◌, ◌++◌}
 use Rattle.heap_memory.specs.declared.grant.Grant.{Grant}
+use Rattle.heap_memory.specs.declared.links.Links.{Ghosts as Links}
 use Rattle.dlmalloc.specs.State.{Segment}
 use Rattle.dlmalloc.specs.Granted.{is_before}
 use Rattle.dlmalloc.specs.Segments.{AreRecords}
+use Rattle.dlmalloc.specs.Grown.{HasRoomFor}
 use Rattle.dlmalloc.specs.Heap.{segments_of}
 use Rattle.dlmalloc.specs.declared.heap.Dlmalloc.{Dlmalloc}
 use Rattle.dlmalloc.specs.declared.prepend.Behind.{Behind}
@@ -35,3 +37,8 @@ pub record IsToldBehind {A : Type 0} (word : A → ℕ → ℕ) (heap : Dlmalloc
 abbrev pub IsBehindAt : {A : Type 0} → (A → ℕ → ℕ) → Dlmalloc A → Grant → Behind → Type 0
 IsBehindAt word heap grant Head = IsHeadBehind word heap grant
 IsBehindAt word heap grant (Told payload) = IsToldBehind word heap grant payload
+
+-- A fresh grant has room for a chunk of n bytes, and is put before this segment.
+pub record CanPutBefore {A : Type 0} (links : Links A) (heap : Dlmalloc A) (grant : Grant) (n : ℕ) (at : Behind) : Type 0 where
+  pub room : HasRoomFor n (links.regions heap.system) (segments_of links.word heap) grant
+  pub behind : IsBehindAt links.word heap grant at

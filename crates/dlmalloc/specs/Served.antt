@@ -1,6 +1,8 @@
 -- A request is served, or it is refused (dlmalloc: `malloc`).
 use Rattle.std.specs.Prelude.{◌≡◌, ℕ, ◌+◌, ◌-◌, ◌%◌, ◌^◌, ◌<◌, ◌≤◌, ◌⊎◌, max, Bool, true, false, List, [], ◌∷◌, None, Some, IsTrue}
 use Rattle.std.specs.List.{AllByRecursion}
+use Rattle.heap_memory.specs.declared.allocator.Allocator.{Ghosts as Allocator}
+use Rattle.heap_memory.specs.declared.links.Links.{Ghosts as Links}
 use Rattle.heap_memory.specs.declared.grant.Grant.{Grant}
 use Rattle.heap_memory.specs.declared.grant.GrantFault.{GrantFault}
 use Rattle.heap_memory.specs.Events.{Event, Granted, Refused}
@@ -113,3 +115,7 @@ pub record IsRefusedWith {A : Type 0} (regions : A → List Grant) (word : A →
   pub refused : IsMallocRefused denies old.system (state_of word old) size error
   pub same : IsAsItWas regions word follows refuses (refused_events (state_of word old) size error) old new
   pub untouched : error ≡ TooLarge → new ≡ old
+
+-- so say what its system means by its regions and words, and what it denies
+abbrev pub IsRefusedBy : {A : Type 0} → Links A → Allocator A → Dlmalloc A → ℕ → MallocError → Dlmalloc A → Type 0
+IsRefusedBy links allocator old size error new = IsRefusedWith links.regions links.word links.follows allocator.refuses allocator.denies old size error new

@@ -1,5 +1,7 @@
 -- A heap before and after the end of its top went back to the system.
 use Rattle.std.specs.Prelude.{◌≡◌, ◌≢◌, ℕ, ◌+◌, ◌-◌, ◌&&◌, Bool, List, [], ◌∷◌, Some}
+use Rattle.heap_memory.specs.declared.allocator.Allocator.{Ghosts as Allocator}
+use Rattle.heap_memory.specs.declared.links.Links.{Ghosts as Links}
 use Rattle.heap_memory.specs.declared.grant.Grant.{Grant}
 use Rattle.heap_memory.specs.Regions.{IsWordOf}
 use Rattle.heap_memory.specs.Runs.{without_run}
@@ -56,3 +58,7 @@ pub record IsTrimmed {A : Type 0} (regions : A → List Grant) (word : A → ℕ
   pub regions_are : regions new.system ≡ regions_trimmed frees parts unit pad (state_of word old) (regions old.system)
   pub followed : follows old.system (trim_releases frees parts unit pad (state_of word old)) new.system
   pub index : IsReindexed regions word (after_trim frees parts pad (state_of word old)) old new
+
+-- so say what its system means by its regions and words, and what it takes back
+abbrev pub IsTrimmedBy : {A : Type 0} → Links A → Allocator A → Dlmalloc A → ℕ → Bool → Dlmalloc A → Type 0
+IsTrimmedBy links allocator old pad answer new = IsTrimmed links.regions links.word links.follows (allocator.frees old.system) (allocator.parts old.system) (allocator.unit old.system) old pad answer new

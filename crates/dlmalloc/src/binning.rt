@@ -1,9 +1,7 @@
 // Free chunks in bins.
-ghost use Rattle.std.specs.Prelude.{◌≡◌, ◌≢◌, ℕ, ◌+◌, ◌-◌, ◌<◌, ◌≤◌, List, ◌∷◌};
-ghost use Rattle.bins.specs.Index.{IsIn, with_chunk, without_chunk};
-ghost use Rattle.dlmalloc.specs.Binned.{IsFreeAt, IsBinnedBut, IsMember, IsRebinned};
+ghost use Rattle.std.specs.Prelude.{◌+◌, ◌≤◌};
+ghost use Rattle.dlmalloc.specs.Binned.{CanJoinBin, CanJoinBinIfAny, CanLeaveBin, CanLeaveAsFit, CanLeaveBetween, HasJoined, HasLeft, JoinsBin, LeavesBin};
 ghost use Rattle.dlmalloc.specs.Order.{IsLessened, IsAdded};
-ghost use Rattle.dlmalloc.specs.Heap.{state_of, IsSound};
 
 use crate::heap::Dlmalloc;
 use heap_memory::{Allocator, Steps};
@@ -13,12 +11,8 @@ impl<A: Allocator> Dlmalloc<A> {
     /// Puts a free chunk that is neither the top nor the victim into its bin.
     #[inline(always)]
     pub(crate) fn bin<L: Ledger>(&mut self, at: u64, size: u64, steps: &mut Steps<L>)
-        requires sound { IsSound A.regions A.word self.old }
-        requires free { IsFreeAt (state_of A.word self.old) at size }
-        requires other { at ≢ self.old.victim }
-        requires loose { (loose : List ℕ) × IsBinnedBut (at ∷ loose) A.regions A.word self.old }
-        ensures binned { (loose : List ℕ) → (before : IsBinnedBut (at ∷ loose) A.regions A.word self.old) → (IsIn at loose → ⊥) → (after : IsBinnedBut loose A.regions A.word self.new) × ((n : ℕ) → after.index n ≡ with_chunk size at before.index n) }
-        ensures same { IsRebinned A.regions A.word A.follows self.old self.new }
+        requires { CanJoinBin A.Links self.old at size }
+        ensures bins { JoinsBin A.Links at (HasJoined size at) self.old self.new }
         ensures counted { steps.new ≤ steps.old + 129 }
     {
         self.bins.insert(&mut self.system, at, size, steps);
@@ -27,11 +21,8 @@ impl<A: Allocator> Dlmalloc<A> {
     /// Takes a free chunk, not the top, out of its bin, if it is in one: the victim is in none.
     #[inline(always)]
     pub(crate) fn unbin<L: Ledger>(&mut self, at: u64, size: u64, steps: &mut Steps<L>)
-        requires sound { IsSound A.regions A.word self.old }
-        requires free { IsFreeAt (state_of A.word self.old) at size }
-        requires binned { (loose : List ℕ) × IsBinnedBut loose A.regions A.word self.old × (IsIn at loose → ⊥) }
-        ensures loose { (loose : List ℕ) → (before : IsBinnedBut loose A.regions A.word self.old) → (IsIn at loose → ⊥) → (after : IsBinnedBut (at ∷ loose) A.regions A.word self.new) × ((n : ℕ) → after.index n ≡ without_chunk size at before.index n) }
-        ensures same { IsRebinned A.regions A.word A.follows self.old self.new }
+        requires { CanLeaveBin A.Links self.old at size }
+        ensures bins { LeavesBin A.Links at (HasLeft size at) self.old self.new }
         ensures counted { steps.new ≤ steps.old + 196 }
     {
         if at == self.victim {
@@ -43,13 +34,8 @@ impl<A: Allocator> Dlmalloc<A> {
     /// Takes a chunk that a search of the bins named out of its bin.
     #[inline(always)]
     pub(crate) fn unbin_fit<L: Ledger>(&mut self, at: u64, size: u64, steps: &mut Steps<L>)
-        requires sound { IsSound A.regions A.word self.old }
-        requires free { IsFreeAt (state_of A.word self.old) at size }
-        requires other { at ≢ self.old.victim }
-        requires member { (n : ℕ) × IsMember A.regions A.word self.old n at }
-        requires binned { (loose : List ℕ) × IsBinnedBut loose A.regions A.word self.old × (IsIn at loose → ⊥) }
-        ensures loose { (loose : List ℕ) → (before : IsBinnedBut loose A.regions A.word self.old) → (IsIn at loose → ⊥) → (after : IsBinnedBut (at ∷ loose) A.regions A.word self.new) × ((n : ℕ) → after.index n ≡ without_chunk size at before.index n) }
-        ensures same { IsRebinned A.regions A.word A.follows self.old self.new }
+        requires { CanLeaveAsFit A.Links self.old at size }
+        ensures bins { LeavesBin A.Links at (HasLeft size at) self.old self.new }
         ensures counted { steps.new ≤ steps.old + 196 }
     {
         self.bins.unlink_fit(&mut self.system, at, size, steps);
@@ -57,12 +43,8 @@ impl<A: Allocator> Dlmalloc<A> {
 
     /// Takes the free chunk between two addresses out of its bin, if there is one.
     pub(crate) fn unbin_between<L: Ledger>(&mut self, from: u64, to: u64, steps: &mut Steps<L>)
-        requires sound { IsSound A.regions A.word self.old }
-        requires free { from < to → IsFreeAt (state_of A.word self.old) from (to - from) }
-        requires none { to ≤ from → (size : ℕ) → IsFreeAt (state_of A.word self.old) from size → ⊥ }
-        requires binned { (loose : List ℕ) × IsBinnedBut loose A.regions A.word self.old × (IsIn from loose → ⊥) }
-        ensures loose { (loose : List ℕ) → (before : IsBinnedBut loose A.regions A.word self.old) → (IsIn from loose → ⊥) → (after : IsBinnedBut (from ∷ loose) A.regions A.word self.new) × IsLessened before.index after.index }
-        ensures same { IsRebinned A.regions A.word A.follows self.old self.new }
+        requires { CanLeaveBetween A.Links self.old from to }
+        ensures bins { LeavesBin A.Links from IsLessened self.old self.new }
         ensures counted { steps.new ≤ steps.old + 196 }
     {
         if from < to {
@@ -72,13 +54,8 @@ impl<A: Allocator> Dlmalloc<A> {
 
     /// Puts a free chunk into its bin, if it has bytes.
     pub(crate) fn bin_some<L: Ledger>(&mut self, at: u64, size: u64, steps: &mut Steps<L>)
-        requires sound { IsSound A.regions A.word self.old }
-        requires free { size ≢ 0 → IsFreeAt (state_of A.word self.old) at size }
-        requires none { size ≡ 0 → (n : ℕ) → IsFreeAt (state_of A.word self.old) at n → ⊥ }
-        requires other { size ≢ 0 → at ≢ self.old.victim }
-        requires loose { (loose : List ℕ) × IsBinnedBut (at ∷ loose) A.regions A.word self.old }
-        ensures binned { (loose : List ℕ) → (before : IsBinnedBut (at ∷ loose) A.regions A.word self.old) → (IsIn at loose → ⊥) → (after : IsBinnedBut loose A.regions A.word self.new) × IsAdded size at before.index after.index }
-        ensures same { IsRebinned A.regions A.word A.follows self.old self.new }
+        requires { CanJoinBinIfAny A.Links self.old at size }
+        ensures bins { JoinsBin A.Links at (IsAdded size at) self.old self.new }
         ensures counted { steps.new ≤ steps.old + 129 }
     {
         if size > 0 {

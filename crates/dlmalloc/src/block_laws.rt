@@ -2,7 +2,7 @@
 ghost use Rattle.std.specs.List.{AllByRecursion};
 ghost use Rattle.dlmalloc.specs.Blocks.{ArePlaced, BlocksAreApart};
 ghost use Rattle.dlmalloc.specs.FreeExtents.{AreParted, IsUnused, EachHasOneFree};
-ghost use Rattle.dlmalloc.specs.Heap.{state_of, IsSound};
+ghost use Rattle.dlmalloc.specs.Heap.{state_of, IsSoundBy};
 ghost use Rattle.dlmalloc.specs.Released.{IdleAreHandedOut};
 ghost use Rattle.dlmalloc.specs.Resting.{RestsOutside, OrderRestsOutside};
 
@@ -13,14 +13,14 @@ use heap_memory::Allocator;
 impl<A: Allocator> Dlmalloc<A> {
     /// Each block is at a multiple of 16, and its bytes are granted; if it has none, one is (own).
     pub fn blocks_are_placed(&self)
-        requires { IsSound A.regions A.word self.now }
+        requires { IsSoundBy A.Links self.now }
         ensures { ArePlaced (A.regions self.now.system) (state_of A.word self.now) }
     {}
 
     /// Two blocks have no byte in common, with one byte for a block that has none, and after each there are 8 bytes
     /// before the next block's head ends (own).
     pub fn blocks_are_apart(&self)
-        requires { IsSound A.regions A.word self.now }
+        requires { IsSoundBy A.Links self.now }
         ensures { BlocksAreApart (state_of A.word self.now) }
     {}
 
@@ -42,13 +42,13 @@ impl<A: Allocator> Dlmalloc<A> {
 
     /// Between two free extents of a segment there is one in use (own).
     pub fn free_extents_are_parted(&self)
-        requires { IsSound A.regions A.word self.now }
+        requires { IsSoundBy A.Links self.now }
         ensures { AllByRecursion (λ segment. AreParted segment.extents) (state_of A.word self.now).segments }
     {}
 
     /// If no extent is in use, each segment has one free extent, the head's being its top (own).
     pub fn unused_segments_are_free(&self)
-        requires sound { IsSound A.regions A.word self.now }
+        requires sound { IsSoundBy A.Links self.now }
         requires unused { IsUnused (state_of A.word self.now) }
         ensures { EachHasOneFree (state_of A.word self.now).segments }
     {}
@@ -56,7 +56,7 @@ impl<A: Allocator> Dlmalloc<A> {
     /// A release pass hands out a segment after the head exactly if it is idle, is the heap's to give back, and the
     /// system takes parts: no extent of it is in use, and its record has 80 bytes (own).
     pub fn idle_segments_are_handed_out(&self)
-        requires { IsSound A.regions A.word self.now }
+        requires { IsSoundBy A.Links self.now }
         ensures { IdleAreHandedOut (A.parts self.now.system) (state_of A.word self.now).segments }
     {}
 }

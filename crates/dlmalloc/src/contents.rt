@@ -1,11 +1,11 @@
 // What a block holds when it is handed out.
 ghost use Rattle.std.specs.Prelude.{◌≡◌, ◌≢◌, ◌+◌, ◌≤◌, None, IfOk, IfErr};
 ghost use Rattle.std.specs.Int.{IsPowerOfTwo};
-ghost use Rattle.dlmalloc.specs.Binned.{IsIntact};
+ghost use Rattle.dlmalloc.specs.Binned.{IsIntactBy};
 ghost use Rattle.dlmalloc.specs.Choice.{chosen};
 ghost use Rattle.dlmalloc.specs.Heap.{state_of};
 ghost use Rattle.dlmalloc_chunks.specs.Request.{padded};
-ghost use Rattle.dlmalloc.specs.Served.{IsRefusedWith};
+ghost use Rattle.dlmalloc.specs.Served.{IsRefusedBy};
 ghost use Rattle.dlmalloc.specs.Outcome.{IsAllocatedCleared};
 ghost use Rattle.dlmalloc.specs.Requested.{asked};
 ghost use Rattle.dlmalloc.specs.Written.{words_in};
@@ -33,11 +33,11 @@ impl<A: Allocator> Dlmalloc<A> {
         align: u64,
         steps: &mut Steps<L>,
     ) -> Result<u64, MallocError>
-        requires intact { IsIntact A.regions A.word self.old }
+        requires intact { IsIntactBy A.Links self.old }
         requires align { IsPowerOfTwo align }
         ensures allocated { IfOk result (λ address. IsAllocatedCleared A.regions A.word A.zeros A.follows self.old size align address self.new) }
-        ensures refused { IfErr result (λ error. IsRefusedWith A.regions A.word A.follows A.refuses A.denies self.old (asked size align) error self.new) }
-        ensures intact { IsIntact A.regions A.word self.new }
+        ensures refused { IfErr result (λ error. IsRefusedBy A.Links A.Allocator.own self.old (asked size align) error self.new) }
+        ensures intact { IsIntactBy A.Links self.new }
         ensures counted { chosen (state_of A.word self.old) (padded (asked size align)) ≢ None → steps.new ≤ steps.old + 8192 + words_in size }
         ensures refused_counted { IfErr result (λ error. steps.new ≤ steps.old + 512) }
     {

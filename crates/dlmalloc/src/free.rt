@@ -1,19 +1,16 @@
 // Freeing a block.
-ghost use Rattle.std.specs.Prelude.{◌≡◌, ◌≢◌, ℕ, ◌+◌, ◌-◌, ◌^◌, ◌<◌, ◌≤◌, ◌%◌, ◌==◌, true, false, if◌then◌else◌, [], ◌∷◌, Some, IfSome, IfNone};
-ghost use Rattle.dlmalloc_chunks.specs.declared.extent.Extent.{Extent};
-ghost use Rattle.dlmalloc_chunks.specs.declared.extent.Kind.TheVariants.{Used, Record};
-ghost use Rattle.dlmalloc_chunks.specs.Chunk.{HasHead, HasFoot, AreStored};
+ghost use Rattle.std.specs.Prelude.{◌≡◌, ◌≢◌, ℕ, ◌+◌, ◌-◌, ◌^◌, ◌<◌, ◌≤◌, ◌==◌, true, false, if◌then◌else◌, [], ◌∷◌, IfSome, IfNone};
+ghost use Rattle.dlmalloc_chunks.specs.Chunk.{HasHead};
 ghost use Rattle.dlmalloc_chunks.specs.Head.{size_of, pinuse_of, free_of, head_of, without_pinuse};
-ghost use Rattle.dlmalloc.specs.Extents.{extent_at};
-ghost use Rattle.dlmalloc.specs.State.{extents_in};
-ghost use Rattle.dlmalloc.specs.Freed.{freed};
-ghost use Rattle.dlmalloc.specs.Blocks.{IsBlock, HasOneMore};
+ghost use Rattle.dlmalloc.specs.OneChunk.{IsUsedAt, IsChunkFreed};
+ghost use Rattle.dlmalloc.specs.Stored.{StoresAlone, CanHoldFree, CanLookBack};
+ghost use Rattle.dlmalloc.specs.Blocks.{IsBlock};
 ghost use Rattle.dlmalloc.specs.Released.{IsFreeAround};
-ghost use Rattle.dlmalloc.specs.Heap.{state_of, IsSound};
+ghost use Rattle.dlmalloc.specs.Heap.{state_of, IsSoundBy};
 ghost use Rattle.dlmalloc.specs.Turned.{MovesBesideBins};
 ghost use Rattle.dlmalloc.specs.Disposed.{IsDisposed};
-ghost use Rattle.dlmalloc.specs.Binned.{IsBinned, IsIntact, IsBinnedBut, IsRebinned, IsJoint, IsVictimAfter};
-ghost use Rattle.dlmalloc.specs.AfterFree.{IsFreed};
+ghost use Rattle.dlmalloc.specs.Binned.{IsBinnedBy, IsIntactBy, IsBinnedBut, IsRebinned, IsJoint, IsVictimAfter};
+ghost use Rattle.dlmalloc.specs.AfterFree.{IsFreedBy};
 ghost use Rattle.dlmalloc.specs.Counts.{pass_steps};
 ghost use Rattle.dlmalloc.specs.Order.{IsAdded, TurnsInOrder};
 
@@ -31,10 +28,10 @@ impl<A: Allocator> Dlmalloc<A> {
     /// chunk's head has its size. At most 1024 words are loaded or stored, and 512 more for each segment if a release
     /// pass is made.
     pub fn free<L: Ledger>(&mut self, ptr: u64, size: u64, align: u64, steps: &mut Steps<L>)
-        requires intact { IsIntact A.regions A.word self.old }
+        requires intact { IsIntactBy A.Links self.old }
         requires block { IsBlock (state_of A.word self.old) ptr size }
-        ensures freed { IsFreed A.regions A.word A.follows (A.frees self.old.system) (A.parts self.old.system) (A.unit self.old.system) self.old ptr self.new }
-        ensures linked { IsBinned A.regions A.word self.new }
+        ensures freed { IsFreedBy A.Links A.Allocator.own self.old ptr self.new }
+        ensures linked { IsBinnedBy A.Links self.new }
         ensures counted { steps.new ≤ steps.old + 1024 + pass_steps (state_of A.word self.old) }
     {
         self.free_and_settle(ptr, steps);
@@ -42,11 +39,11 @@ impl<A: Allocator> Dlmalloc<A> {
 
     /// Frees a block whose size is not given; does nothing if there is none (dlmalloc: `c_free`).
     pub fn c_free<L: Ledger>(&mut self, ptr: Option<u64>, steps: &mut Steps<L>)
-        requires intact { IsIntact A.regions A.word self.old }
+        requires intact { IsIntactBy A.Links self.old }
         requires block { IfSome ptr (λ address. (size : ℕ) × IsBlock (state_of A.word self.old) address size) }
-        ensures freed { IfSome ptr (λ address. IsFreed A.regions A.word A.follows (A.frees self.old.system) (A.parts self.old.system) (A.unit self.old.system) self.old address self.new) }
+        ensures freed { IfSome ptr (λ address. IsFreedBy A.Links A.Allocator.own self.old address self.new) }
         ensures none { IfNone ptr (self.new ≡ self.old) }
-        ensures intact { IsIntact A.regions A.word self.new }
+        ensures intact { IsIntactBy A.Links self.new }
         ensures counted { steps.new ≤ steps.old + 1024 + pass_steps (state_of A.word self.old) }
     {
         if let Some(address) = ptr {
@@ -56,11 +53,11 @@ impl<A: Allocator> Dlmalloc<A> {
 
     /// Frees the chunk of a block of some size, and answers where the free chunk that it is then part of begins.
     pub(crate) fn free_block<L: Ledger>(&mut self, ptr: u64, steps: &mut Steps<L>) -> u64
-        requires intact { IsIntact A.regions A.word self.old }
+        requires intact { IsIntactBy A.Links self.old }
         requires block { (size : ℕ) × IsBlock (state_of A.word self.old) ptr size }
         ensures freed { IsDisposed A.regions A.word A.follows self.old ptr self.new }
         ensures around { IsFreeAround (state_of A.word self.new) (ptr - 16) result }
-        ensures linked { IsBinned A.regions A.word self.new }
+        ensures linked { IsBinnedBy A.Links self.new }
         ensures counted { steps.new ≤ steps.old + 530 }
     {
         let at = ptr - BLOCK;
@@ -77,11 +74,9 @@ impl<A: Allocator> Dlmalloc<A> {
         size: u64,
         steps: &mut Steps<L>,
     ) -> u64
-        requires intact { IsIntact A.regions A.word self.old }
-        requires chunk { extent_at at (extents_in (state_of A.word self.old)) ≡ Some (record { at = at; size = size; kind = Used }) }
-        ensures state { state_of A.word self.new ≡ freed (state_of A.word self.old) at }
-        ensures less { HasOneMore (state_of A.word self.new) (state_of A.word self.old) at }
-        ensures records { (one : Extent) → one.kind ≡ Record → extent_at one.at (extents_in (state_of A.word self.old)) ≡ Some one → extent_at one.at (extents_in (state_of A.word self.new)) ≡ Some one }
+        requires intact { IsIntactBy A.Links self.old }
+        requires chunk { IsUsedAt (state_of A.word self.old) at size }
+        ensures freed { IsChunkFreed (state_of A.word self.old) at (state_of A.word self.new) }
         ensures around { IsFreeAround (state_of A.word self.new) at result }
         ensures turned { TurnsInOrder A.regions A.word A.follows self.old self.new }
         ensures counted { steps.new ≤ steps.old + 529 }
@@ -100,14 +95,12 @@ impl<A: Allocator> Dlmalloc<A> {
     /// another: the top if it follows; else one that is the victim if one of them was. None of them is in a bin.
     #[inline(always)]
     fn join_free<L: Ledger>(&mut self, at: u64, size: u64, from: u64, to: u64, steps: &mut Steps<L>)
-        requires sound { IsSound A.regions A.word self.old }
-        requires chunk { extent_at at (extents_in (state_of A.word self.old)) ≡ Some (record { at = at; size = size; kind = Used }) }
+        requires sound { IsSoundBy A.Links self.old }
+        requires chunk { IsUsedAt (state_of A.word self.old) at size }
         requires from { from ≡ (if pinuse_of (A.word self.old.system (at + 8)) then at else at - A.word self.old.system at) }
         requires to { to ≡ (if at + size == self.old.top then at + size else
             if free_of (A.word self.old.system (at + size + 8)) then at + size + size_of (A.word self.old.system (at + size + 8)) else at + size) }
-        ensures state { state_of A.word self.new ≡ freed (state_of A.word self.old) at }
-        ensures less { HasOneMore (state_of A.word self.new) (state_of A.word self.old) at }
-        ensures records { (one : Extent) → one.kind ≡ Record → extent_at one.at (extents_in (state_of A.word self.old)) ≡ Some one → extent_at one.at (extents_in (state_of A.word self.new)) ≡ Some one }
+        ensures freed { IsChunkFreed (state_of A.word self.old) at (state_of A.word self.new) }
         ensures around { IsFreeAround (state_of A.word self.new) at from }
         ensures joined { IsJoint (state_of A.word self.new) self.new.top from (to - from) }
         ensures victim { IsVictimAfter from to self.old.victim self.new.victim }
@@ -134,11 +127,11 @@ impl<A: Allocator> Dlmalloc<A> {
 
     /// Puts what chunks were joined to, from an address up to another, into its bin, unless it is the top or the victim.
     fn bin_joined<L: Ledger>(&mut self, from: u64, to: u64, steps: &mut Steps<L>)
-        requires sound { IsSound A.regions A.word self.old }
+        requires sound { IsSoundBy A.Links self.old }
         requires ordered { from ≤ to }
         requires joined { IsJoint (state_of A.word self.old) self.old.top from (to - from) }
         requires loose { IsBinnedBut (from ∷ []) A.regions A.word self.old }
-        ensures binned { (before : IsBinnedBut (from ∷ []) A.regions A.word self.old) → (after : IsBinned A.regions A.word self.new) × IsAdded (to - from) from before.index after.index }
+        ensures binned { (before : IsBinnedBut (from ∷ []) A.regions A.word self.old) → (after : IsBinnedBy A.Links self.new) × IsAdded (to - from) from before.index after.index }
         ensures same { IsRebinned A.regions A.word A.follows self.old self.new }
         ensures counted { steps.new ≤ steps.old + 129 }
     {
@@ -153,9 +146,7 @@ impl<A: Allocator> Dlmalloc<A> {
 
     /// Where the free chunk before a chunk begins; the chunk's own address if none stands there.
     fn free_begin<L: Ledger>(&self, at: u64, steps: &mut Steps<L>) -> u64
-        requires head { HasHead (A.regions self.now.system) at }
-        requires foot { HasFoot (A.regions self.now.system) at }
-        requires fits { pinuse_of (A.word self.now.system (at + 8)) ≡ false → A.word self.now.system at ≤ at }
+        requires { CanLookBack (A.regions self.now.system) (A.word self.now.system) at }
         ensures value { result ≡ (if pinuse_of (A.word self.now.system (at + 8)) then at else at - A.word self.now.system at) }
         ensures counted { steps.new ≤ steps.old + 2 }
     {
@@ -191,16 +182,9 @@ fn make_free<M: Links, L: Ledger>(
     is_told: bool,
     steps: &mut Steps<L>,
 )
-    requires size { size % 8 ≡ 0 }
-    requires long { 32 ≤ size }
-    requires head { HasHead (M.regions memory.old) chunk }
-    requires foot { HasFoot (M.regions memory.old) (chunk + size) }
-    requires next { HasHead (M.regions memory.old) (chunk + size) }
-    requires told { is_told ≡ true → pinuse_of (M.word memory.old (chunk + size + 8)) ≡ false }
-    ensures stored { AreStored (M.regions memory.old) (M.word memory.old)
-        ((chunk + size + 8, without_pinuse (M.word memory.old (chunk + size + 8))) ∷ (chunk + 8, head_of size true false) ∷ (chunk + size, size) ∷ []) (M.word memory.new) }
-    ensures regions { M.regions memory.new ≡ M.regions memory.old }
-    ensures follows { M.follows memory.old [] memory.new }
+    requires { CanHoldFree (M.regions memory.old) (M.word memory.old) chunk size is_told }
+    ensures freed { StoresAlone M.Links
+        ((chunk + size + 8, without_pinuse (M.word memory.old (chunk + size + 8))) ∷ (chunk + 8, head_of size true false) ∷ (chunk + size, size) ∷ []) memory.old memory.new }
     ensures counted { steps.new ≤ steps.old + 4 }
 {
     if is_told {

@@ -1,19 +1,17 @@
 // Asking the system for a region, and what becomes of it.
-ghost use Rattle.std.specs.Prelude.{◌≡◌, ◌≢◌, ℕ, ◌+◌, ◌-◌, ◌%◌, ◌^◌, ◌<◌, ◌≤◌, ◌⊎◌, true, false, ◌&&◌, ◌==◌, nat_le, nat_lt, if◌then◌else◌, [], ◌∷◌, None, Some, IfOk, IfErr};
+ghost use Rattle.std.specs.Prelude.{◌≡◌, ℕ, ◌+◌, ◌-◌, ◌%◌, ◌^◌, ◌<◌, ◌≤◌, ◌⊎◌, true, false, ◌&&◌, ◌==◌, nat_le, nat_lt, if◌then◌else◌, [], ◌∷◌, None, Some, IfOk, IfErr};
 ghost use Rattle.std.specs.List.{AllByRecursion};
 ghost use Rattle.dlmalloc_chunks.specs.Request.{round_up};
 ghost use Rattle.heap_memory.specs.Events.{Refused};
-ghost use Rattle.heap_memory.specs.Regions.{IsWordOf};
 ghost use Rattle.dlmalloc_chunks.specs.Chunk.{HasFoot};
-ghost use Rattle.dlmalloc.specs.Extents.{IsChunkSize};
 ghost use Rattle.dlmalloc.specs.State.{trim_threshold};
 ghost use Rattle.dlmalloc.specs.Granted.{is_behind, is_put_before};
-ghost use Rattle.dlmalloc.specs.Choice.{chosen};
 ghost use Rattle.dlmalloc.specs.Served.{IsCutOut, IsDenied};
-ghost use Rattle.dlmalloc.specs.Heap.{state_of, segments_of, IsSound, IsGranularity};
-ghost use Rattle.dlmalloc.specs.Grown.{IsFreshGrant, IsGrantJoined, IsAsItWas, IsAdmittedBesideBins};
+ghost use Rattle.dlmalloc.specs.Heap.{state_of, segments_of, IsSoundBy, IsGranularity};
+ghost use Rattle.dlmalloc.specs.Grown.{IsFreshGrant, IsNewSegment, MustGrow, IsGrantJoined, IsAsItWas, IsAdmittedBesideBins};
+ghost use Rattle.dlmalloc.specs.Stored.{KeepsWords, HasRoomForTop, IsTopClosed};
 ghost use Rattle.dlmalloc.specs.Order.{KeepsBinsInOrder};
-ghost use Rattle.dlmalloc.specs.Binned.{IsFreeAt, IsIntact};
+ghost use Rattle.dlmalloc.specs.Binned.{IsFreeAt, IsIntactBy};
 
 use crate::heap::{Dlmalloc, countdown_from};
 use crate::layout::{BLOCK, FOOT, HEAD, LEAST_CHUNK, OVERHEAD, PINUSE, TRIM_THRESHOLD};
@@ -45,10 +43,7 @@ impl<A: Allocator> Dlmalloc<A> {
         n: u64,
         steps: &mut Steps<L>,
     ) -> Result<u64, GrantFault>
-        requires intact { IsIntact A.regions A.word self.old }
-        requires none { chosen (state_of A.word self.old) n ≡ None }
-        requires bytes { IsChunkSize n }
-        requires small { n + 96 + self.old.granularity ≤ 2 ^ 64 }
+        requires { MustGrow A.Links self.old n }
         ensures cut { IfOk result (λ at. IsCutOut A.regions A.word A.zeros A.follows self.old n at self.new) }
         ensures denied { IfErr result (λ fault. IsDenied A.denies self.old.system (state_of A.word self.old) n fault) }
         ensures err { IfErr result (λ fault. IsAsItWas A.regions A.word A.follows A.refuses (Refused (round_up (n + 96) self.old.granularity) fault ∷ []) self.old self.new) }
@@ -73,7 +68,7 @@ impl<A: Allocator> Dlmalloc<A> {
 
     /// Makes a grant part of the heap. It is put before no segment.
     fn join<L: Ledger>(&mut self, grant: &Grant, steps: &mut Steps<L>)
-        requires intact { IsIntact A.regions A.word self.old }
+        requires intact { IsIntactBy A.Links self.old }
         requires fresh { IsFreshGrant (A.regions self.old.system) (segments_of A.word self.old) grant.now }
         requires apart { is_put_before grant.now (segments_of A.word self.old) ≡ false }
         ensures joined { IsGrantJoined A.regions A.word A.follows self.old grant.now self.new }
@@ -100,7 +95,7 @@ impl<A: Allocator> Dlmalloc<A> {
 
     /// Makes a grant the head segment, if there is no segment.
     fn open<L: Ledger>(&mut self, grant: &Grant, steps: &mut Steps<L>)
-        requires sound { IsSound A.regions A.word self.old }
+        requires sound { IsSoundBy A.Links self.old }
         requires none { self.old.size ≡ 0 }
         requires fresh { IsFreshGrant (A.regions self.old.system) (segments_of A.word self.old) grant.now }
         ensures admitted { IsAdmittedBesideBins A.regions A.word A.follows self.old grant.now [] self.new }
@@ -112,7 +107,7 @@ impl<A: Allocator> Dlmalloc<A> {
 
     /// Makes the top longer by a grant at the end of the head segment.
     fn extend<L: Ledger>(&mut self, grant: &Grant, steps: &mut Steps<L>)
-        requires sound { IsSound A.regions A.word self.old }
+        requires sound { IsSoundBy A.Links self.old }
         requires there { 0 < self.old.size }
         requires fresh { IsFreshGrant (A.regions self.old.system) (segments_of A.word self.old) grant.now }
         requires behind { is_behind grant.now (record { base = self.old.base; size = self.old.size; flags = self.old.flags; extents = [] }) ≡ true }
@@ -126,11 +121,8 @@ impl<A: Allocator> Dlmalloc<A> {
     /// Makes a grant the head segment. What was the top is freed, and goes into its bin, and a record after it
     /// describes the segment that it is in.
     fn add_segment<L: Ledger>(&mut self, grant: &Grant, steps: &mut Steps<L>)
-        requires intact { IsIntact A.regions A.word self.old }
-        requires there { 0 < self.old.size }
-        requires fresh { IsFreshGrant (A.regions self.old.system) (segments_of A.word self.old) grant.now }
-        requires apart { is_put_before grant.now (segments_of A.word self.old) ≡ false }
-        requires beside { is_behind grant.now (record { base = self.old.base; size = self.old.size; flags = self.old.flags; extents = [] }) ≡ false }
+        requires intact { IsIntactBy A.Links self.old }
+        requires segment { IsNewSegment A.Links self.old grant.now }
         ensures joined { IsGrantJoined A.regions A.word A.follows self.old grant.now self.new }
         ensures bins { KeepsBinsInOrder A.regions A.word self.old self.new }
     {
@@ -147,11 +139,8 @@ impl<A: Allocator> Dlmalloc<A> {
     /// Makes a grant the head segment. What was the top is freed, and a record after it describes the segment that it
     /// is in.
     fn change_head<L: Ledger>(&mut self, grant: &Grant, steps: &mut Steps<L>)
-        requires sound { IsSound A.regions A.word self.old }
-        requires there { 0 < self.old.size }
-        requires fresh { IsFreshGrant (A.regions self.old.system) (segments_of A.word self.old) grant.now }
-        requires apart { is_put_before grant.now (segments_of A.word self.old) ≡ false }
-        requires beside { is_behind grant.now (record { base = self.old.base; size = self.old.size; flags = self.old.flags; extents = [] }) ≡ false }
+        requires sound { IsSoundBy A.Links self.old }
+        requires segment { IsNewSegment A.Links self.old grant.now }
         ensures admitted { IsAdmittedBesideBins A.regions A.word A.follows self.old grant.now (if nat_le 32 self.old.top_size then self.old.top ∷ [] else []) self.new }
         ensures rest { 32 ≤ self.old.top_size → IsFreeAt (state_of A.word self.new) self.old.top self.old.top_size }
     {
@@ -181,9 +170,7 @@ impl<A: Allocator> Dlmalloc<A> {
         ensures place { result ≡ (if nat_lt self.old.top_size 32 then self.old.top else self.old.top + self.old.top_size) }
         ensures fields { self.new ≡ record self.old { system = self.new.system } }
         ensures foot { 32 ≤ self.old.top_size → A.word self.new.system (self.old.top + self.old.top_size) ≡ self.old.top_size }
-        ensures elsewhere { (k : ℕ) → IsWordOf (A.regions self.old.system) k → (k ≡ self.old.top + self.old.top_size → self.old.top_size < 32) → A.word self.new.system k ≡ A.word self.old.system k }
-        ensures regions { A.regions self.new.system ≡ A.regions self.old.system }
-        ensures follows { A.follows self.old.system [] self.new.system }
+        ensures rest { KeepsWords A.Links (λ k. k ≡ self.old.top + self.old.top_size → self.old.top_size < 32) self.old.system self.new.system }
     {
         if self.top_size < LEAST_CHUNK {
             self.top
@@ -195,16 +182,9 @@ impl<A: Allocator> Dlmalloc<A> {
 
     /// Makes a grant the head segment, and all of it the top.
     fn make_head<L: Ledger>(&mut self, grant: &Grant, steps: &mut Steps<L>)
-        requires high { grant.now.base + grant.now.size < 2 ^ 64 }
-        requires long { 96 ≤ grant.now.size }
-        requires top { IsWordOf (A.regions self.old.system) (grant.now.base + 8) }
-        requires foot { IsWordOf (A.regions self.old.system) (grant.now.base + grant.now.size - 72) }
+        requires { HasRoomForTop (A.regions self.old.system) grant.now.base grant.now.size grant.now.base }
         ensures fields { self.new ≡ record self.old { system = self.new.system; base = grant.now.base; size = grant.now.size; flags = grant.now.flags; top = grant.now.base; top_size = grant.now.base + grant.now.size - 80 - grant.now.base; trim_check = trim_threshold } }
-        ensures head { A.word self.new.system (grant.now.base + 8) ≡ grant.now.base + grant.now.size - 80 - grant.now.base + 1 }
-        ensures foot_head { A.word self.new.system (grant.now.base + grant.now.size - 72) ≡ 80 }
-        ensures elsewhere { (k : ℕ) → IsWordOf (A.regions self.old.system) k → k ≢ grant.now.base + 8 → k ≢ grant.now.base + grant.now.size - 72 → A.word self.new.system k ≡ A.word self.old.system k }
-        ensures regions { A.regions self.new.system ≡ A.regions self.old.system }
-        ensures follows { A.follows self.old.system [] self.new.system }
+        ensures closed { IsTopClosed A.Links grant.now.base (grant.now.base + grant.now.size) self.old.system self.new.system }
     {
         self.base = grant.base;
         self.size = grant.size;
@@ -216,17 +196,9 @@ impl<A: Allocator> Dlmalloc<A> {
 
     /// Writes the heads of the top and of its foot, if the top reaches up to the foot at the segment's end.
     pub(crate) fn close_top<L: Ledger>(&mut self, steps: &mut Steps<L>)
-        requires low { self.old.base ≤ self.old.top }
-        requires room { self.old.top + 96 ≤ self.old.base + self.old.size }
-        requires high { self.old.base + self.old.size < 2 ^ 64 }
-        requires top { IsWordOf (A.regions self.old.system) (self.old.top + 8) }
-        requires foot { IsWordOf (A.regions self.old.system) (self.old.base + self.old.size - 72) }
+        requires { HasRoomForTop (A.regions self.old.system) self.old.base self.old.size self.old.top }
         ensures fields { self.new ≡ record self.old { system = self.new.system; top_size = self.old.base + self.old.size - 80 - self.old.top } }
-        ensures head { A.word self.new.system (self.old.top + 8) ≡ self.old.base + self.old.size - 80 - self.old.top + 1 }
-        ensures foot_head { A.word self.new.system (self.old.base + self.old.size - 72) ≡ 80 }
-        ensures elsewhere { (k : ℕ) → IsWordOf (A.regions self.old.system) k → k ≢ self.old.top + 8 → k ≢ self.old.base + self.old.size - 72 → A.word self.new.system k ≡ A.word self.old.system k }
-        ensures regions { A.regions self.new.system ≡ A.regions self.old.system }
-        ensures follows { A.follows self.old.system [] self.new.system }
+        ensures closed { IsTopClosed A.Links self.old.top (self.old.base + self.old.size) self.old.system self.new.system }
         ensures counted { steps.new ≡ steps.old + 2 }
     {
         let foot = self.base + self.size - FOOT;

@@ -1,8 +1,8 @@
 ghost use Rattle.std.specs.Prelude.{◌≡◌, ◌↔◌, ◌≢◌, ℕ, ◌+◌, ◌≤◌, if◌then◌else◌, IsTrue};
 ghost use Rattle.dlmalloc.specs.State.{new_heap, countdown_from};
-ghost use Rattle.dlmalloc.specs.Heap.{state_of, IsSound, IsGranularity};
+ghost use Rattle.dlmalloc.specs.Heap.{state_of, IsSoundBy, IsGranularity};
 ghost use Rattle.dlmalloc.specs.Order.{KeepsIndex};
-ghost use Rattle.dlmalloc.specs.Binned.{IsBinned};
+ghost use Rattle.dlmalloc.specs.Binned.{IsBinnedBy};
 
 use bins::Bins;
 use heap_memory::Allocator;
@@ -60,8 +60,8 @@ impl<A: Allocator> Dlmalloc<A> {
     pub fn new_with_allocator(system: A) -> Dlmalloc<A>
         ensures state { state_of A.word result ≡ new_heap }
         ensures system { result.system ≡ system }
-        ensures sound { IsSound A.regions A.word result }
-        ensures linked { IsBinned A.regions A.word result }
+        ensures sound { IsSoundBy A.Links result }
+        ensures linked { IsBinnedBy A.Links result }
     {
         Dlmalloc {
             system,
@@ -86,8 +86,8 @@ impl<A: Allocator> Dlmalloc<A> {
     pub fn set_max_release_check_rate(&mut self, rate: u64)
         ensures state { state_of A.word self.new ≡ record (state_of A.word self.old) { rate = rate; countdown = countdown_from rate } }
         ensures system { self.new.system ≡ self.old.system }
-        ensures sound { IsSound A.regions A.word self.old → IsSound A.regions A.word self.new }
-        ensures linked { IsBinned A.regions A.word self.old → IsBinned A.regions A.word self.new }
+        ensures sound { IsSoundBy A.Links self.old → IsSoundBy A.Links self.new }
+        ensures linked { IsBinnedBy A.Links self.old → IsBinnedBy A.Links self.new }
         ensures index { KeepsIndex A.regions A.word self.old self.new }
     {
         self.rate = rate;
@@ -121,8 +121,8 @@ impl<A: Allocator> Dlmalloc<A> {
         ensures answer { IsTrue result ↔ IsGranularity granularity }
         ensures state { state_of A.word self.new ≡ record (state_of A.word self.old) { granularity = if result then granularity else self.old.granularity } }
         ensures system { self.new.system ≡ self.old.system }
-        ensures sound { IsSound A.regions A.word self.old → IsSound A.regions A.word self.new }
-        ensures linked { IsBinned A.regions A.word self.old → IsBinned A.regions A.word self.new }
+        ensures sound { IsSoundBy A.Links self.old → IsSoundBy A.Links self.new }
+        ensures linked { IsBinnedBy A.Links self.old → IsBinnedBy A.Links self.new }
         ensures index { KeepsIndex A.regions A.word self.old self.new }
     {
         let accepted = is_granularity(granularity);

@@ -4,14 +4,14 @@ ghost use Rattle.std.specs.Int.{IsPowerOfTwo};
 ghost use Rattle.dlmalloc.specs.Extents.{IsChunkSize};
 ghost use Rattle.dlmalloc.specs.Choice.{chosen};
 ghost use Rattle.dlmalloc.specs.Heap.{state_of};
-ghost use Rattle.dlmalloc.specs.Grown.{IsAsItWas};
-ghost use Rattle.dlmalloc.specs.Outcome.{IsAllocated};
+ghost use Rattle.dlmalloc.specs.Grown.{IsAsItWas, MustGrow};
+ghost use Rattle.dlmalloc.specs.Outcome.{IsAllocatedBy};
 ghost use Rattle.dlmalloc.specs.Requested.{asked};
 ghost use Rattle.dlmalloc.specs.Order.{KeepsBinsInOrder, KeepsOrder};
-ghost use Rattle.dlmalloc.specs.Binned.{IsIntact, IsMemberChosen};
+ghost use Rattle.dlmalloc.specs.Binned.{IsIntactBy, IsMemberChosen};
 ghost use Rattle.dlmalloc_chunks.specs.Request.{padded, round_up};
 ghost use Rattle.heap_memory.specs.Events.{Refused};
-ghost use Rattle.dlmalloc.specs.Served.{IsDenied, IsCutOut, IsServed, IsRefusedWith};
+ghost use Rattle.dlmalloc.specs.Served.{IsDenied, IsCutOut, IsServed, IsRefusedBy};
 
 use crate::heap::Dlmalloc;
 use crate::layout::{BLOCK, LEAST_ALIGN};
@@ -34,11 +34,11 @@ impl<A: Allocator> Dlmalloc<A> {
         align: u64,
         steps: &mut Steps<L>,
     ) -> Result<u64, MallocError>
-        requires intact { IsIntact A.regions A.word self.old }
+        requires intact { IsIntactBy A.Links self.old }
         requires align { IsPowerOfTwo align }
-        ensures allocated { IfOk result (λ address. IsAllocated A.regions A.word A.zeros A.follows self.old size align address self.new) }
-        ensures refused { IfErr result (λ error. IsRefusedWith A.regions A.word A.follows A.refuses A.denies self.old (asked size align) error self.new) }
-        ensures intact { IsIntact A.regions A.word self.new }
+        ensures allocated { IfOk result (λ address. IsAllocatedBy A.Links A.Allocator.own self.old size align address self.new) }
+        ensures refused { IfErr result (λ error. IsRefusedBy A.Links A.Allocator.own self.old (asked size align) error self.new) }
+        ensures intact { IsIntactBy A.Links self.new }
         ensures counted { chosen (state_of A.word self.old) (padded (asked size align)) ≢ None → steps.new ≤ steps.old + 8192 }
         ensures refused_counted { IfErr result (λ error. steps.new ≤ steps.old + 512) }
     {
@@ -56,11 +56,11 @@ impl<A: Allocator> Dlmalloc<A> {
         size: u64,
         steps: &mut Steps<L>,
     ) -> Result<u64, MallocError>
-        requires intact { IsIntact A.regions A.word self.old }
+        requires intact { IsIntactBy A.Links self.old }
         requires align { IsPowerOfTwo align }
-        ensures allocated { IfOk result (λ address. IsAllocated A.regions A.word A.zeros A.follows self.old size align address self.new) }
-        ensures refused { IfErr result (λ error. IsRefusedWith A.regions A.word A.follows A.refuses A.denies self.old (asked size align) error self.new) }
-        ensures intact { IsIntact A.regions A.word self.new }
+        ensures allocated { IfOk result (λ address. IsAllocatedBy A.Links A.Allocator.own self.old size align address self.new) }
+        ensures refused { IfErr result (λ error. IsRefusedBy A.Links A.Allocator.own self.old (asked size align) error self.new) }
+        ensures intact { IsIntactBy A.Links self.new }
         ensures counted { chosen (state_of A.word self.old) (padded (asked size align)) ≢ None → steps.new ≤ steps.old + 8192 }
         ensures refused_counted { IfErr result (λ error. steps.new ≤ steps.old + 512) }
     {
@@ -75,10 +75,10 @@ impl<A: Allocator> Dlmalloc<A> {
         size: u64,
         steps: &mut Steps<L>,
     ) -> Result<u64, MallocError>
-        requires intact { IsIntact A.regions A.word self.old }
+        requires intact { IsIntactBy A.Links self.old }
         ensures served { IfOk result (λ address. IsServed A.regions A.word A.zeros A.follows self.old size address self.new) }
-        ensures refused { IfErr result (λ error. IsRefusedWith A.regions A.word A.follows A.refuses A.denies self.old size error self.new) }
-        ensures intact { IsIntact A.regions A.word self.new }
+        ensures refused { IfErr result (λ error. IsRefusedBy A.Links A.Allocator.own self.old size error self.new) }
+        ensures intact { IsIntactBy A.Links self.new }
         ensures order { KeepsOrder A.regions A.word self.old self.new }
         ensures member { IfOk result (λ address. IsMemberChosen A.regions A.word self.old (padded size) (address - 16)) }
         ensures counted { chosen (state_of A.word self.old) (padded size) ≢ None → steps.new ≤ steps.old + 1024 }
@@ -95,7 +95,7 @@ impl<A: Allocator> Dlmalloc<A> {
 
     /// Cuts a chunk of `n` bytes from a free extent, or from a new region if none serves, and answers where it begins.
     fn cut<L: Ledger>(&mut self, n: u64, steps: &mut Steps<L>) -> Result<u64, GrantFault>
-        requires intact { IsIntact A.regions A.word self.old }
+        requires intact { IsIntactBy A.Links self.old }
         requires bytes { IsChunkSize n }
         requires small { n + 96 + self.old.granularity ≤ 2 ^ 64 }
         ensures cut { IfOk result (λ at. IsCutOut A.regions A.word A.zeros A.follows self.old n at self.new) }

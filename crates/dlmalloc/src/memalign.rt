@@ -1,20 +1,18 @@
 // Blocks at alignments above 16.
-ghost use Rattle.std.specs.Prelude.{◌≡◌, ◌≢◌, ℕ, ◌+◌, ◌-◌, ◌%◌, ◌^◌, ◌<◌, ◌≤◌, ◌⊎◌, [], None, Some, IfOk, IfErr};
+ghost use Rattle.std.specs.Prelude.{◌≡◌, ◌≢◌, ℕ, ◌+◌, ◌-◌, ◌%◌, ◌^◌, ◌<◌, ◌≤◌, None, IfOk, IfErr};
 ghost use Rattle.std.specs.Int.{IsPowerOfTwo};
 ghost use Rattle.heap_memory.specs.Regions.{IsWordOf};
 ghost use Rattle.dlmalloc_chunks.specs.Request.{enlarged, padded};
-ghost use Rattle.dlmalloc_chunks.specs.declared.extent.Kind.TheVariants.{Used};
-ghost use Rattle.dlmalloc.specs.Extents.{extent_at, IsChunkSize};
-ghost use Rattle.dlmalloc.specs.State.{extents_in};
+ghost use Rattle.dlmalloc.specs.Extents.{IsChunkSize};
 ghost use Rattle.dlmalloc.specs.Blocks.{IsBlock};
 ghost use Rattle.dlmalloc.specs.Boundaries.{IsOwn};
 ghost use Rattle.dlmalloc.specs.Resized.{HasSameOthers};
-ghost use Rattle.dlmalloc.specs.Aligned.{aligned_place, lead_freed, tail_cut, aligned, HasOneMoved, KeepsOthers};
-ghost use Rattle.dlmalloc.specs.Heap.{state_of, IsSound};
-ghost use Rattle.dlmalloc.specs.Served.{IsRefusedWith};
-ghost use Rattle.dlmalloc.specs.Order.{KeepsBinsInOrder, KeepsOrderThrough, TurnsInOrder};
-ghost use Rattle.dlmalloc.specs.Binned.{IsIntact};
-ghost use Rattle.dlmalloc.specs.Requested.{IsPassedOver, IsServedAligned, IsMemberServed};
+ghost use Rattle.dlmalloc.specs.Aligned.{aligned_place, lead_freed, tail_cut};
+ghost use Rattle.dlmalloc.specs.Heap.{state_of};
+ghost use Rattle.dlmalloc.specs.OneChunk.{IsUsedAt, IsAligned, LosesLead, CanLoseLead, CanLoseTail, ResizesOne};
+ghost use Rattle.dlmalloc.specs.Served.{IsRefusedBy};
+ghost use Rattle.dlmalloc.specs.Binned.{IsIntactBy};
+ghost use Rattle.dlmalloc.specs.Requested.{IsServedAligned, IsMemberServed};
 ghost use Rattle.dlmalloc.specs.Choice.{chosen};
 
 use crate::heap::Dlmalloc;
@@ -57,11 +55,11 @@ impl<A: Allocator> Dlmalloc<A> {
         align: u64,
         steps: &mut Steps<L>,
     ) -> Result<u64, MallocError>
-        requires intact { IsIntact A.regions A.word self.old }
+        requires intact { IsIntactBy A.Links self.old }
         requires align { IsPowerOfTwo align × (16 < align) }
         ensures served { IfOk result (λ address. IsServedAligned A.regions A.word A.zeros A.follows self.old size align address self.new) }
-        ensures refused { IfErr result (λ error. IsRefusedWith A.regions A.word A.follows A.refuses A.denies self.old (enlarged size align) error self.new) }
-        ensures intact { IsIntact A.regions A.word self.new }
+        ensures refused { IfErr result (λ error. IsRefusedBy A.Links A.Allocator.own self.old (enlarged size align) error self.new) }
+        ensures intact { IsIntactBy A.Links self.new }
         ensures member { IfOk result (λ address. IsMemberServed A.regions A.word self.old size align address) }
         ensures counted { chosen (state_of A.word self.old) (padded (enlarged size align)) ≢ None → steps.new ≤ steps.old + 8192 }
         ensures refused_counted { IfErr result (λ error. steps.new ≤ steps.old + 512) }
@@ -81,22 +79,12 @@ impl<A: Allocator> Dlmalloc<A> {
     /// Frees what is before the aligned place in the chunk of a block, and what is after `n` bytes there, and answers
     /// where they begin.
     fn align_block<L: Ledger>(&mut self, ptr: u64, align: u64, n: u64, steps: &mut Steps<L>) -> u64
-        requires intact { IsIntact A.regions A.word self.old }
+        requires intact { IsIntactBy A.Links self.old }
         requires align { IsPowerOfTwo align × (16 < align) }
         requires block { IsBlock (state_of A.word self.old) ptr (n + align + 24) }
         requires bytes { IsChunkSize n }
-        ensures place { result ≡ aligned_place (ptr - 16) align }
-        ensures multiple { (result + 16) % align ≡ 0 }
-        ensures small { result + 16 < 2 ^ 64 }
-        ensures state { state_of A.word self.new ≡ aligned (state_of A.word self.old) (ptr - 16) align n }
-        ensures held { (size : ℕ) × (extent_at result (extents_in (state_of A.word self.new)) ≡ Some (record { at = result; size = size; kind = Used })) × (n ≤ size) × (size ≤ n + 32) }
-        ensures others { HasOneMoved (state_of A.word self.old) (state_of A.word self.new) (ptr - 16) result }
-        ensures kept { KeepsOthers (state_of A.word self.old) (ptr - 16) (A.word self.old.system) (A.word self.new.system) }
-        ensures words { (k : ℕ) → IsWordOf (A.regions self.old.system) k → IsPassedOver (state_of A.word self.old) (lead_freed (state_of A.word self.old) (ptr - 16) result) (state_of A.word self.new) k → A.word self.new.system k ≡ A.word self.old.system k }
-        ensures intact { IsIntact A.regions A.word self.new }
-        ensures order { KeepsOrderThrough A.regions A.word (lead_freed (state_of A.word self.old) (ptr - 16) result) self.old self.new }
-        ensures regions { A.regions self.new.system ≡ A.regions self.old.system }
-        ensures follows { A.follows self.old.system [] self.new.system }
+        ensures aligned { IsAligned A.regions A.word A.follows self.old ptr align n result self.new }
+        ensures intact { IsIntactBy A.Links self.new }
         ensures counted { steps.new ≤ steps.old + 1069 }
     {
         let at = ptr - BLOCK;
@@ -109,20 +97,12 @@ impl<A: Allocator> Dlmalloc<A> {
 
     /// Frees what is before a place in a chunk in use.
     fn free_before<L: Ledger>(&mut self, at: u64, size: u64, place: u64, steps: &mut Steps<L>)
-        requires intact { IsIntact A.regions A.word self.old }
-        requires chunk { extent_at at (extents_in (state_of A.word self.old)) ≡ Some (record { at = at; size = size; kind = Used }) }
-        requires lead { (place ≡ at) ⊎ (at + 32 ≤ place) }
-        requires whole { (place - at) % 16 ≡ 0 }
-        requires room { place - at + 32 ≤ size }
+        requires intact { IsIntactBy A.Links self.old }
+        requires can { CanLoseLead (state_of A.word self.old) at size place }
         ensures state { state_of A.word self.new ≡ lead_freed (state_of A.word self.old) at place }
-        ensures chunk { extent_at place (extents_in (state_of A.word self.new)) ≡ Some (record { at = place; size = size - (place - at); kind = Used }) }
-        ensures others { HasOneMoved (state_of A.word self.old) (state_of A.word self.new) at place }
-        ensures kept { KeepsOthers (state_of A.word self.old) at (A.word self.old.system) (A.word self.new.system) }
+        ensures chunk { IsUsedAt (state_of A.word self.new) place (size - (place - at)) }
+        ensures lead { LosesLead A.regions A.word A.follows self.old at place self.new }
         ensures words { (k : ℕ) → IsWordOf (A.regions self.old.system) k → (IsOwn (state_of A.word self.old) k → ⊥) → (IsOwn (state_of A.word self.new) k → ⊥) → A.word self.new.system k ≡ A.word self.old.system k }
-        ensures sound { IsSound A.regions A.word self.new }
-        ensures bins { KeepsBinsInOrder A.regions A.word self.old self.new }
-        ensures regions { A.regions self.new.system ≡ A.regions self.old.system }
-        ensures follows { A.follows self.old.system [] self.new.system }
         ensures counted { steps.new ≤ steps.old + 534 }
     {
         if place == at {
@@ -133,14 +113,11 @@ impl<A: Allocator> Dlmalloc<A> {
 
     /// Frees what is after the first `n` bytes of a chunk in use, if it is more than 32 bytes.
     fn free_behind<L: Ledger>(&mut self, at: u64, size: u64, n: u64, steps: &mut Steps<L>)
-        requires intact { IsIntact A.regions A.word self.old }
-        requires chunk { extent_at at (extents_in (state_of A.word self.old)) ≡ Some (record { at = at; size = size; kind = Used }) }
-        requires bytes { IsChunkSize n }
-        requires room { n ≤ size }
+        requires intact { IsIntactBy A.Links self.old }
+        requires can { CanLoseTail (state_of A.word self.old) at size n }
         ensures state { state_of A.word self.new ≡ tail_cut (state_of A.word self.old) at n }
-        ensures held { (rest : ℕ) × (extent_at at (extents_in (state_of A.word self.new)) ≡ Some (record { at = at; size = rest; kind = Used })) × (n ≤ rest) × (rest ≤ n + 32) }
-        ensures others { HasSameOthers (state_of A.word self.old) (state_of A.word self.new) at at }
-        ensures turned { TurnsInOrder A.regions A.word A.follows self.old self.new }
+        ensures held { (rest : ℕ) × IsUsedAt (state_of A.word self.new) at rest × (n ≤ rest) × (rest ≤ n + 32) }
+        ensures resized { ResizesOne A.Links self.old at self.new }
         ensures counted { steps.new ≤ steps.old + 534 }
     {
         if size - n <= LEAST_CHUNK {

@@ -1,15 +1,15 @@
 // A grant that is put before a segment.
-ghost use Rattle.std.specs.Prelude.{◌≡◌, ◌≢◌, ℕ, ◌+◌, ◌-◌, ◌%◌, ◌^◌, ◌<◌, ◌≤◌, true, false, ◌&&◌, ◌==◌, [], None, Some, IfSome};
+ghost use Rattle.std.specs.Prelude.{◌≡◌, ◌≢◌, ◌+◌, ◌-◌, ◌%◌, ◌^◌, ◌<◌, true, false, ◌&&◌, ◌==◌, [], None, Some, IfSome};
 ghost use Rattle.std.specs.List.{list_any};
 ghost use Rattle.heap_memory.specs.Regions.{IsWordOf};
-ghost use Rattle.dlmalloc_chunks.specs.Chunk.{HasHead};
 ghost use Rattle.dlmalloc_chunks.specs.Head.{head_of};
 ghost use Rattle.dlmalloc.specs.Granted.{is_before, is_put_before};
-ghost use Rattle.dlmalloc.specs.Heap.{state_of, segments_of, IsSound};
-ghost use Rattle.dlmalloc.specs.Grown.{IsPutBefore, HasRoomFor, IsPrependedBesideBins};
-ghost use Rattle.dlmalloc.specs.Prepended.{IsBehindAt};
+ghost use Rattle.dlmalloc.specs.Heap.{state_of, segments_of, IsSoundBy};
+ghost use Rattle.dlmalloc.specs.Grown.{IsPutBefore, IsPrependedBesideBins};
+ghost use Rattle.dlmalloc.specs.Prepended.{IsBehindAt, CanPutBefore};
+ghost use Rattle.dlmalloc.specs.Stored.{KeepsWords, CanHoldTwo};
 ghost use Rattle.dlmalloc.specs.Order.{KeepsBinsInOrder};
-ghost use Rattle.dlmalloc.specs.Binned.{IsIntact};
+ghost use Rattle.dlmalloc.specs.Binned.{IsIntactBy};
 ghost use Rattle.dlmalloc.specs.declared.prepend.Behind.TheVariants.{Head, Told};
 
 use crate::grow::may_join;
@@ -36,7 +36,7 @@ impl<A: Allocator> Dlmalloc<A> {
         grant: &Grant,
         steps: &mut Steps<L>,
     ) -> Option<Behind>
-        requires sound { IsSound A.regions A.word self.now }
+        requires sound { IsSoundBy A.Links self.now }
         requires high { grant.now.base + grant.now.size < 2 ^ 64 }
         ensures none { result ≡ None → is_put_before grant.now (segments_of A.word self.now) ≡ false }
         ensures some { IfSome result (λ behind. is_put_before grant.now (segments_of A.word self.now) ≡ true) }
@@ -53,7 +53,7 @@ impl<A: Allocator> Dlmalloc<A> {
 
     /// The segment, if there is one, that begins where a grant ends and that the grant may join.
     fn find_behind<L: Ledger>(&self, grant: &Grant, steps: &mut Steps<L>) -> Option<Behind>
-        requires sound { IsSound A.regions A.word self.now }
+        requires sound { IsSoundBy A.Links self.now }
         requires there { 0 < self.now.size }
         requires high { grant.now.base + grant.now.size < 2 ^ 64 }
         ensures none { result ≡ None → list_any (is_before grant.now) (segments_of A.word self.now) ≡ false }
@@ -103,9 +103,8 @@ impl<A: Allocator> Dlmalloc<A> {
         behind: Behind,
         steps: &mut Steps<L>,
     )
-        requires intact { IsIntact A.regions A.word self.old }
-        requires grant { HasRoomFor n (A.regions self.old.system) (segments_of A.word self.old) grant.now }
-        requires behind { IsBehindAt A.word self.old grant.now behind }
+        requires intact { IsIntactBy A.Links self.old }
+        requires before { CanPutBefore A.Links self.old grant.now n behind }
         ensures put { IsPutBefore A.regions A.word A.follows self.old grant.now n self.new }
         ensures bins { KeepsBinsInOrder A.regions A.word self.old self.new }
     {
@@ -116,9 +115,8 @@ impl<A: Allocator> Dlmalloc<A> {
 
     /// Puts a grant before a segment, in two chunks that are in use.
     fn prepend<L: Ledger>(&mut self, grant: &Grant, n: u64, behind: Behind, steps: &mut Steps<L>)
-        requires sound { IsSound A.regions A.word self.old }
-        requires grant { HasRoomFor n (A.regions self.old.system) (segments_of A.word self.old) grant.now }
-        requires behind { IsBehindAt A.word self.old grant.now behind }
+        requires sound { IsSoundBy A.Links self.old }
+        requires before { CanPutBefore A.Links self.old grant.now n behind }
         ensures put { IsPrependedBesideBins A.regions A.word A.follows self.old grant.now n self.new }
     {
         match behind {
@@ -129,9 +127,8 @@ impl<A: Allocator> Dlmalloc<A> {
 
     /// Puts a grant before the head segment, in two chunks that are in use.
     fn prepend_head<L: Ledger>(&mut self, grant: &Grant, n: u64, steps: &mut Steps<L>)
-        requires sound { IsSound A.regions A.word self.old }
-        requires grant { HasRoomFor n (A.regions self.old.system) (segments_of A.word self.old) grant.now }
-        requires behind { IsBehindAt A.word self.old grant.now Head }
+        requires sound { IsSoundBy A.Links self.old }
+        requires before { CanPutBefore A.Links self.old grant.now n Head }
         ensures put { IsPrependedBesideBins A.regions A.word A.follows self.old grant.now n self.new }
     {
         self.base = grant.base;
@@ -141,9 +138,8 @@ impl<A: Allocator> Dlmalloc<A> {
 
     /// Puts a grant before the segment that a record describes, in two chunks that are in use.
     fn prepend_told<L: Ledger>(&mut self, payload: u64, grant: &Grant, n: u64, steps: &mut Steps<L>)
-        requires sound { IsSound A.regions A.word self.old }
-        requires grant { HasRoomFor n (A.regions self.old.system) (segments_of A.word self.old) grant.now }
-        requires behind { IsBehindAt A.word self.old grant.now (Told payload) }
+        requires sound { IsSoundBy A.Links self.old }
+        requires before { CanPutBefore A.Links self.old grant.now n (Told payload) }
         ensures put { IsPrependedBesideBins A.regions A.word A.follows self.old grant.now n self.new }
     {
         let size = self.system.load_counted(payload + 8, steps);
@@ -162,17 +158,10 @@ fn put_two<M: Links, L: Ledger>(
     second: u64,
     steps: &mut Steps<L>,
 )
-    requires head { HasHead (M.regions memory.old) at }
-    requires behind { HasHead (M.regions memory.old) (at + first) }
-    requires first { first % 16 ≡ 0 }
-    requires second { second % 16 ≡ 0 }
-    requires least { 32 ≤ first }
-    requires ends { at + first + second < 2 ^ 64 }
+    requires { CanHoldTwo (M.regions memory.old) at first second }
     ensures first { M.word memory.new (at + 8) ≡ head_of first true true }
     ensures second { M.word memory.new (at + first + 8) ≡ head_of second true true }
-    ensures elsewhere { (k : ℕ) → IsWordOf (M.regions memory.old) k → k ≢ at + 8 → k ≢ at + first + 8 → M.word memory.new k ≡ M.word memory.old k }
-    ensures regions { M.regions memory.new ≡ M.regions memory.old }
-    ensures follows { M.follows memory.old [] memory.new }
+    ensures rest { KeepsWords M.Links (λ k. (k ≢ at + 8) × (k ≢ at + first + 8)) memory.old memory.new }
 {
     chunk::set_size_and_pinuse_of_inuse_chunk(memory, at, first, steps);
     chunk::set_size_and_pinuse_of_inuse_chunk(memory, at + first, second, steps);

@@ -1,17 +1,16 @@
 // Blocks that get another size.
-ghost use Rattle.std.specs.Prelude.{◌≡◌, ◌≢◌, ℕ, ◌+◌, ◌*◌, ◌-◌, ◌%◌, ◌<◌, ◌≤◌, min, None, Some, IfOk, IfErr, IfSome, MatchOption, ◌==◌};
+ghost use Rattle.std.specs.Prelude.{◌≡◌, ◌≢◌, ℕ, ◌+◌, ◌*◌, ◌-◌, ◌%◌, ◌<◌, ◌≤◌, min, None, Some, IfOk, IfErr, IfSome, MatchOption};
 ghost use Rattle.std.specs.Int.{IsPowerOfTwo};
 ghost use Rattle.dlmalloc_chunks.specs.Request.{padded};
-ghost use Rattle.dlmalloc.specs.Extents.{extent_at};
-ghost use Rattle.dlmalloc.specs.State.{extents_in, size_where};
+ghost use Rattle.dlmalloc.specs.OneChunk.{HoldsBytes};
 ghost use Rattle.dlmalloc.specs.Blocks.{HasBlock, IsBlock, usable};
 ghost use Rattle.dlmalloc.specs.Resized.{in_place};
-ghost use Rattle.dlmalloc.specs.Binned.{IsIntact};
+ghost use Rattle.dlmalloc.specs.Binned.{IsIntactBy};
 ghost use Rattle.dlmalloc.specs.Heap.{state_of};
-ghost use Rattle.dlmalloc.specs.Served.{IsRefusedWith};
+ghost use Rattle.dlmalloc.specs.Served.{IsRefusedBy};
 ghost use Rattle.dlmalloc.specs.Requested.{asked, IsMemberServed};
 ghost use Rattle.dlmalloc.specs.Moved.{IsElsewhere, IsResized};
-ghost use Rattle.dlmalloc.specs.Outcome.{IsAllocated, IsReallocated, IsReallocRefused};
+ghost use Rattle.dlmalloc.specs.Outcome.{IsAllocatedBy, IsReallocatedBy, IsReallocRefusedBy};
 ghost use Rattle.dlmalloc.specs.Choice.{chosen};
 ghost use Rattle.dlmalloc.specs.Written.{words_in};
 ghost use Rattle.dlmalloc.specs.Counts.{pass_steps};
@@ -39,12 +38,12 @@ impl<A: Allocator> Dlmalloc<A> {
         new_size: u64,
         steps: &mut Steps<L>,
     ) -> Result<u64, MallocError>
-        requires intact { IsIntact A.regions A.word self.old }
+        requires intact { IsIntactBy A.Links self.old }
         requires align { IsPowerOfTwo old_align }
         requires block { IsBlock (state_of A.word self.old) ptr old_size }
-        ensures reallocated { IfOk result (λ address. IsReallocated A.regions A.word A.zeros A.follows (A.frees self.old.system) (A.parts self.old.system) (A.unit self.old.system) self.old ptr old_size old_align new_size address self.new) }
-        ensures refused { IfErr result (λ error. IsReallocRefused A.regions A.word A.follows A.refuses A.denies self.old (Some ptr) old_align new_size error self.new) }
-        ensures intact { IsIntact A.regions A.word self.new }
+        ensures reallocated { IfOk result (λ address. IsReallocatedBy A.Links A.Allocator.own self.old ptr old_size old_align new_size address self.new) }
+        ensures refused { IfErr result (λ error. IsReallocRefusedBy A.Links A.Allocator.own self.old (Some ptr) old_align new_size error self.new) }
+        ensures intact { IsIntactBy A.Links self.new }
         ensures counted { chosen (state_of A.word self.old) (padded (asked new_size old_align)) ≢ None → steps.new ≤ steps.old + 10240 + 2 * words_in (min old_size new_size) + pass_steps (state_of A.word self.old) }
         ensures in_place_counted { old_align ≤ 16 → in_place (state_of A.word self.old) (ptr - 16) (padded new_size) ≢ None → steps.new ≤ steps.old + 1024 }
         ensures refused_counted { IfErr result (λ error. steps.new ≤ steps.old + 1024) }
@@ -65,13 +64,13 @@ impl<A: Allocator> Dlmalloc<A> {
         new_size: u64,
         steps: &mut Steps<L>,
     ) -> Result<u64, MallocError>
-        requires intact { IsIntact A.regions A.word self.old }
+        requires intact { IsIntactBy A.Links self.old }
         requires block { IfSome ptr (HasBlock (state_of A.word self.old)) }
         ensures reallocated { IfOk result (λ address. MatchOption ptr
-            (IsAllocated A.regions A.word A.zeros A.follows self.old new_size 16 address self.new)
-            (λ from. IsReallocated A.regions A.word A.zeros A.follows (A.frees self.old.system) (A.parts self.old.system) (A.unit self.old.system) self.old from (usable (state_of A.word self.old) from) 16 new_size address self.new)) }
-        ensures refused { IfErr result (λ error. IsReallocRefused A.regions A.word A.follows A.refuses A.denies self.old ptr 16 new_size error self.new) }
-        ensures intact { IsIntact A.regions A.word self.new }
+            (IsAllocatedBy A.Links A.Allocator.own self.old new_size 16 address self.new)
+            (λ from. IsReallocatedBy A.Links A.Allocator.own self.old from (usable (state_of A.word self.old) from) 16 new_size address self.new)) }
+        ensures refused { IfErr result (λ error. IsReallocRefusedBy A.Links A.Allocator.own self.old ptr 16 new_size error self.new) }
+        ensures intact { IsIntactBy A.Links self.new }
         ensures counted { chosen (state_of A.word self.old) (padded new_size) ≢ None → MatchOption ptr (steps.new ≤ steps.old + 1024) (λ from.
             steps.new ≤ steps.old + 10240 + 2 * words_in (min (usable (state_of A.word self.old) from) new_size) + pass_steps (state_of A.word self.old)) }
         ensures in_place_counted { IfSome ptr (λ from. in_place (state_of A.word self.old) (from - 16) (padded new_size) ≢ None → steps.new ≤ steps.old + 1024) }
@@ -95,15 +94,12 @@ impl<A: Allocator> Dlmalloc<A> {
         size: u64,
         steps: &mut Steps<L>,
     ) -> Result<u64, MallocError>
-        requires intact { IsIntact A.regions A.word self.old }
-        requires align { IsPowerOfTwo align }
+        requires holds { HoldsBytes A.Links self.old ptr held align }
         requires least { align ≤ 16 }
-        requires block { HasBlock (state_of A.word self.old) ptr }
-        requires held { held + 8 ≤ size_where (λ extent. extent.at == ptr - 16) (extents_in (state_of A.word self.old)) }
         ensures resized { IfOk result (λ address. IsResized A.regions A.word A.zeros A.follows (A.frees self.old.system) (A.parts self.old.system) (A.unit self.old.system) self.old ptr held align size address self.new) }
-        ensures refused { IfErr result (λ error. IsRefusedWith A.regions A.word A.follows A.refuses A.denies self.old (asked size align) error self.new) }
+        ensures refused { IfErr result (λ error. IsRefusedBy A.Links A.Allocator.own self.old (asked size align) error self.new) }
         ensures tried { IfErr result (λ error. error ≢ MallocError.TooLarge → in_place (state_of A.word self.old) (ptr - 16) (padded size) ≡ None) }
-        ensures intact { IsIntact A.regions A.word self.new }
+        ensures intact { IsIntactBy A.Links self.new }
         ensures member { IfOk result (λ address. address ≢ ptr → IsMemberServed A.regions A.word self.old size align address) }
         ensures counted { chosen (state_of A.word self.old) (padded (asked size align)) ≢ None → steps.new ≤ steps.old + 9216 + 2 * words_in (min held size) + pass_steps (state_of A.word self.old) }
         ensures in_place_counted { in_place (state_of A.word self.old) (ptr - 16) (padded size) ≢ None → steps.new ≤ steps.old + 535 }
@@ -128,13 +124,10 @@ impl<A: Allocator> Dlmalloc<A> {
         size: u64,
         steps: &mut Steps<L>,
     ) -> Result<u64, MallocError>
-        requires intact { IsIntact A.regions A.word self.old }
-        requires align { IsPowerOfTwo align }
-        requires block { HasBlock (state_of A.word self.old) ptr }
-        requires held { held + 8 ≤ size_where (λ extent. extent.at == ptr - 16) (extents_in (state_of A.word self.old)) }
+        requires { HoldsBytes A.Links self.old ptr held align }
         ensures elsewhere { IfOk result (λ address. IsElsewhere A.regions A.word A.zeros A.follows (A.frees self.old.system) (A.parts self.old.system) (A.unit self.old.system) self.old ptr held align size address self.new) }
-        ensures refused { IfErr result (λ error. IsRefusedWith A.regions A.word A.follows A.refuses A.denies self.old (asked size align) error self.new) }
-        ensures intact { IsIntact A.regions A.word self.new }
+        ensures refused { IfErr result (λ error. IsRefusedBy A.Links A.Allocator.own self.old (asked size align) error self.new) }
+        ensures intact { IsIntactBy A.Links self.new }
         ensures member { IfOk result (λ address. IsMemberServed A.regions A.word self.old size align address) }
         ensures counted { chosen (state_of A.word self.old) (padded (asked size align)) ≢ None → steps.new ≤ steps.old + 8724 + 2 * words_in (min held size) + pass_steps (state_of A.word self.old) }
         ensures refused_counted { IfErr result (λ error. steps.new ≤ steps.old + 512) }

@@ -2,8 +2,8 @@
 ghost use Rattle.std.specs.Prelude.{◌≡◌, ℕ, ◌+◌, ◌%◌, ◌^◌, ◌<◌, ◌≤◌, ◌⊎◌, true, [], ◌∷◌};
 ghost use Rattle.heap_memory.specs.Regions.{IsWordOf};
 ghost use Rattle.dlmalloc_chunks.specs.Head.{head_of};
-ghost use Rattle.dlmalloc_chunks.specs.Chunk.{AreStored};
 ghost use Rattle.dlmalloc.specs.Record.{IsRecordAt};
+ghost use Rattle.dlmalloc.specs.Stored.{KeepsWords, StoresAlone, CanHoldRecord};
 
 use crate::layout::{BLOCK, CINUSE, FENCE, FENCES, HEAD, PINUSE, RECORD_CHUNK};
 use heap_memory::{Links, Steps};
@@ -38,15 +38,9 @@ pub(crate) fn put_record<M: Links, L: Ledger>(
     told: &SegmentRecord,
     steps: &mut Steps<L>,
 )
-    requires aligned { at % 8 ≡ 0 }
-    requires end_aligned { end % 8 ≡ 0 }
-    requires room { at + 80 ≤ end }
-    requires high { end < 2 ^ 64 }
-    requires granted { (k : ℕ) → at < k → k < end → k % 8 ≡ 0 → IsWordOf (M.regions memory.old) k }
+    requires { CanHoldRecord (M.regions memory.old) at end }
     ensures told { IsRecordAt (M.word memory.new) at told.now end is_behind_used }
-    ensures elsewhere { (k : ℕ) → IsWordOf (M.regions memory.old) k → (k ≤ at) ⊎ (end ≤ k) → M.word memory.new k ≡ M.word memory.old k }
-    ensures regions { M.regions memory.new ≡ M.regions memory.old }
-    ensures follows { M.follows memory.old [] memory.new }
+    ensures rest { KeepsWords M.Links (λ k. (k ≤ at) ⊎ (end ≤ k)) memory.old memory.new }
 {
     put_fences(memory, at + FENCES, end, steps);
     put_payload(memory, at, record_head(is_behind_used), told, steps);
@@ -63,10 +57,8 @@ fn put_payload<M: Links, L: Ledger>(
     requires high { at + 48 < 2 ^ 64 }
     requires granted { (k : ℕ) → at < k → k < at + 48 → k % 8 ≡ 0 → IsWordOf (M.regions memory.old) k }
     requires aligned { at % 8 ≡ 0 }
-    ensures stored { AreStored (M.regions memory.old) (M.word memory.old)
-        ((at + 8, head) ∷ (at + 16, told.now.base) ∷ (at + 16 + 8, told.now.size) ∷ (at + 16 + 16, told.now.next) ∷ (at + 16 + 24, told.now.flags) ∷ []) (M.word memory.new) }
-    ensures regions { M.regions memory.new ≡ M.regions memory.old }
-    ensures follows { M.follows memory.old [] memory.new }
+    ensures { StoresAlone M.Links
+        ((at + 8, head) ∷ (at + 16, told.now.base) ∷ (at + 16 + 8, told.now.size) ∷ (at + 16 + 16, told.now.next) ∷ (at + 16 + 24, told.now.flags) ∷ []) memory.old memory.new }
 {
     let payload = at + BLOCK;
     memory.store_counted(at + HEAD, head, steps);
@@ -83,9 +75,7 @@ fn put_fences<M: Links, L: Ledger>(memory: &mut M, from: u64, to: u64, steps: &m
     requires ordered { from ≤ to }
     requires granted { (k : ℕ) → from ≤ k → k < to → k % 8 ≡ 0 → IsWordOf (M.regions memory.old) k }
     ensures fences { (k : ℕ) → from ≤ k → k < to → k % 8 ≡ 0 → M.word memory.new k ≡ 11 }
-    ensures elsewhere { (k : ℕ) → IsWordOf (M.regions memory.old) k → (k < from) ⊎ (to ≤ k) → M.word memory.new k ≡ M.word memory.old k }
-    ensures regions { M.regions memory.new ≡ M.regions memory.old }
-    ensures follows { M.follows memory.old [] memory.new }
+    ensures rest { KeepsWords M.Links (λ k. (k < from) ⊎ (to ≤ k)) memory.old memory.new }
 {
     let mut at = from;
     while at < to {

@@ -4,11 +4,12 @@ ghost use Rattle.heap_memory.specs.Regions.{IsWordOf};
 ghost use Rattle.heap_memory.specs.Runs.{IsRun};
 ghost use Rattle.dlmalloc_chunks.specs.Chunk.{HasHead};
 ghost use Rattle.dlmalloc_chunks.specs.Head.{size_of, free_of};
-ghost use Rattle.dlmalloc.specs.Heap.{state_of, segments_of, IsSound};
+ghost use Rattle.dlmalloc.specs.Heap.{state_of, segments_of, IsSoundBy};
 ghost use Rattle.dlmalloc.specs.State.{countdown_from};
+ghost use Rattle.dlmalloc.specs.Stored.{KeepsWords, HasPayload};
 ghost use Rattle.dlmalloc.specs.Released.{is_own, may_leave, taken_back, IsFreeAround, is_counted};
 ghost use Rattle.dlmalloc.specs.Chained.{IsChained, IsVisited};
-ghost use Rattle.dlmalloc.specs.Binned.{IsBinned, IsIntact, FreeMoves};
+ghost use Rattle.dlmalloc.specs.Binned.{IsBinnedBy, IsIntactBy, FreeMoves};
 ghost use Rattle.dlmalloc.specs.Boundaries.{IsInRecord};
 ghost use Rattle.dlmalloc.specs.Order.{after_visit, IsReindexed};
 ghost use Rattle.dlmalloc.specs.GivenBack.{IsPassed, IsCounted, AreGivenBack, told_of};
@@ -27,11 +28,7 @@ const FLAGS: u64 = 1 << 32;
 
 /// What the record whose payload begins at an address says.
 fn record_at<M: Links, L: Ledger>(memory: &M, payload: u64, steps: &mut Steps<L>) -> SegmentRecord
-    requires high { payload + 32 < 2 ^ 64 }
-    requires base { IsWordOf (M.regions memory.now) payload }
-    requires size { IsWordOf (M.regions memory.now) (payload + 8) }
-    requires next { IsWordOf (M.regions memory.now) (payload + 16) }
-    requires flags { IsWordOf (M.regions memory.now) (payload + 24) }
+    requires { HasPayload (M.regions memory.now) payload }
     ensures told { result ≡ record { base = M.word memory.now payload; size = M.word memory.now (payload + 8); next = M.word memory.now (payload + 16); flags = M.word memory.now (payload + 24) % 2 ^ 32 } }
     ensures counted { steps.new ≡ steps.old + 4 }
 {
@@ -59,7 +56,7 @@ impl<A: Allocator> Dlmalloc<A> {
     /// Hands all segments but extern ones to the system, and answers the bytes of those that it took, and the system (dlmalloc:
     /// `Dlmalloc::destroy`).
     pub fn destroy<L: Ledger>(self, steps: &mut Steps<L>) -> (u64, A)
-        requires sound { IsSound A.regions A.word self }
+        requires sound { IsSoundBy A.Links self }
         ensures { AreGivenBack A.regions A.word A.follows (taken_back (A.frees self.system) (filter is_own (segments_of A.word self))) self.system result.0 result.1 }
     {
         if self.size == 0 {
@@ -80,10 +77,10 @@ impl<A: Allocator> Dlmalloc<A> {
     /// Hands to the system each segment after the head that is free up to its record and is the heap's to give back. It
     /// answers the bytes of those that the system took (dlmalloc: `release_unused_segments`).
     pub(crate) fn release_unused_segments<L: Ledger>(&mut self, steps: &mut Steps<L>) -> u64
-        requires intact { IsIntact A.regions A.word self.old }
+        requires intact { IsIntactBy A.Links self.old }
         requires there { 0 < self.old.size }
         ensures passed { IsPassed A.regions A.word A.follows (A.frees self.old.system) (A.parts self.old.system) self.old result self.new }
-        ensures linked { IsBinned A.regions A.word self.new }
+        ensures linked { IsBinnedBy A.Links self.new }
         ensures counted { steps.new ≤ steps.old + pass_steps (state_of A.word self.old) }
     {
         let mut released = 0;
@@ -107,9 +104,9 @@ impl<A: Allocator> Dlmalloc<A> {
     /// Counts a freed chunk, given the address of the free chunk that it became part of: if that is large and in a bin,
     /// the countdown falls by one, and at 0 a release pass is made (dlmalloc: `Dlmalloc::free`).
     pub(crate) fn count_free<L: Ledger>(&mut self, chunk: u64, steps: &mut Steps<L>)
-        requires intact { IsIntact A.regions A.word self.old }
+        requires intact { IsIntactBy A.Links self.old }
         requires free { (at : ℕ) × IsFreeAround (state_of A.word self.old) at chunk }
-        ensures linked { IsBinned A.regions A.word self.new }
+        ensures linked { IsBinnedBy A.Links self.new }
         ensures counted { (at : ℕ) → IsFreeAround (state_of A.word self.old) at chunk → IsCounted A.regions A.word A.follows (A.frees self.old.system) (A.parts self.old.system) self.old at self.new }
         ensures bounded { steps.new ≤ steps.old + 1 + pass_steps (state_of A.word self.old) }
     {
@@ -125,7 +122,7 @@ impl<A: Allocator> Dlmalloc<A> {
 
     /// Whether a free chunk is large and in a bin.
     fn is_counted<L: Ledger>(&self, chunk: u64, steps: &mut Steps<L>) -> bool
-        requires sound { IsSound A.regions A.word self.now }
+        requires sound { IsSoundBy A.Links self.now }
         requires free { (at : ℕ) × IsFreeAround (state_of A.word self.now) at chunk }
         ensures told { (at : ℕ) → IsFreeAround (state_of A.word self.now) at chunk → result ≡ is_counted (state_of A.word self.now) at }
         ensures counted { steps.new ≤ steps.old + 1 }
@@ -156,12 +153,12 @@ impl<A: Allocator> Dlmalloc<A> {
         told: &SegmentRecord,
         steps: &mut Steps<L>,
     ) -> bool
-        requires intact { IsIntact A.regions A.word self.old }
+        requires intact { IsIntactBy A.Links self.old }
         requires there { 0 < self.old.size }
         requires chained { IsChained A.word self.old before told.now }
         ensures answer { (c : IsChained A.word self.old before told.now) → result ≡ (A.frees self.old.system && may_leave (A.parts self.old.system) c.segment) }
         ensures visited { (c : IsChained A.word self.old before told.now) → IsVisited A.regions A.word A.follows (may_leave (A.parts self.old.system) c.segment) result self.old before told.now c self.new }
-        ensures linked { IsBinned A.regions A.word self.new }
+        ensures linked { IsBinnedBy A.Links self.new }
         ensures index { (c : IsChained A.word self.old before told.now) → IsReindexed A.regions A.word (after_visit (A.frees self.old.system) (A.parts self.old.system) c.segment) self.old self.new }
         ensures counted { steps.new ≤ steps.old + 328 }
     {
@@ -186,7 +183,7 @@ impl<A: Allocator> Dlmalloc<A> {
         told: &SegmentRecord,
         steps: &mut Steps<L>,
     ) -> bool
-        requires sound { IsSound A.regions A.word self.old }
+        requires sound { IsSoundBy A.Links self.old }
         requires there { 0 < self.old.size }
         requires chained { IsChained A.word self.old before told.now }
         requires may { (c : IsChained A.word self.old before told.now) → may_leave (A.parts self.old.system) c.segment ≡ true }
@@ -236,9 +233,7 @@ impl<A: Allocator> Dlmalloc<A> {
         requires word { before ≢ 0 → IsWordOf (A.regions self.old.system) (before + 16) }
         ensures fields { self.new ≡ record self.old { system = self.new.system; next = if before == 0 then next else self.old.next } }
         ensures here { before ≢ 0 → A.word self.new.system (before + 16) ≡ next }
-        ensures elsewhere { (k : ℕ) → IsWordOf (A.regions self.old.system) k → (before ≢ 0 → k ≢ before + 16) → A.word self.new.system k ≡ A.word self.old.system k }
-        ensures regions { A.regions self.new.system ≡ A.regions self.old.system }
-        ensures follows { A.follows self.old.system [] self.new.system }
+        ensures rest { KeepsWords A.Links (λ k. before ≢ 0 → k ≢ before + 16) self.old.system self.new.system }
         ensures counted { steps.new ≤ steps.old + 1 }
     {
         if before == 0 {

@@ -1,13 +1,11 @@
 // Resizing a chunk where it stands.
-ghost use Rattle.std.specs.Prelude.{◌≡◌, ◌≢◌, ℕ, ◌+◌, ◌-◌, ◌%◌, ◌<◌, ◌≤◌, nat_le, if◌then◌else◌, [], ◌∷◌, true, false, None, Some};
-ghost use Rattle.dlmalloc_chunks.specs.declared.extent.Kind.TheVariants.{Used, Free, Top};
-ghost use Rattle.dlmalloc.specs.Extents.{extent_at, IsChunkSize};
-ghost use Rattle.dlmalloc.specs.State.{extents_in};
+ghost use Rattle.std.specs.Prelude.{◌≡◌, ℕ, ◌+◌, ◌<◌, ◌≤◌, true, false, None, Some};
+ghost use Rattle.dlmalloc_chunks.specs.declared.extent.Kind.TheVariants.{Used, Free};
 ghost use Rattle.dlmalloc.specs.Resized.{grown_into, in_place, HasSameOthers, CanTakeFree};
-ghost use Rattle.dlmalloc.specs.Heap.{state_of, IsSound};
-ghost use Rattle.dlmalloc.specs.Turned.{MovesBesideBins};
+ghost use Rattle.dlmalloc.specs.Heap.{state_of, IsSoundBy};
+ghost use Rattle.dlmalloc.specs.OneChunk.{IsUsedAt, CanResize, IsPartJoined, CanTakeOfTop, TakesOfTop, ResizesOne};
 ghost use Rattle.dlmalloc.specs.Order.{TurnsInOrder};
-ghost use Rattle.dlmalloc.specs.Binned.{IsFreeAt, IsIntact};
+ghost use Rattle.dlmalloc.specs.Binned.{IsIntactBy};
 
 use crate::heap::Dlmalloc;
 use crate::layout::{HEAD, LEAST_CHUNK, PINUSE};
@@ -21,11 +19,9 @@ impl<A: Allocator> Dlmalloc<A> {
     /// free chunk after it, if both have room for them (dlmalloc: `try_realloc_chunk`). False if neither fits; then
     /// nothing is changed.
     pub(crate) fn resize_chunk<L: Ledger>(&mut self, at: u64, n: u64, steps: &mut Steps<L>) -> bool
-        requires intact { IsIntact A.regions A.word self.old }
-        requires chunk { (size : ℕ) × (extent_at at (extents_in (state_of A.word self.old)) ≡ Some (record { at = at; size = size; kind = Used })) }
-        requires bytes { IsChunkSize n }
+        requires { CanResize A.Links self.old at n }
         ensures resized { result ≡ true → in_place (state_of A.word self.old) at n ≡ Some (state_of A.word self.new) }
-        ensures held { result ≡ true → (size : ℕ) × (extent_at at (extents_in (state_of A.word self.new)) ≡ Some (record { at = at; size = size; kind = Used })) × (n ≤ size) × (size < n + 32) }
+        ensures held { result ≡ true → (size : ℕ) × IsUsedAt (state_of A.word self.new) at size × (n ≤ size) × (size < n + 32) }
         ensures others { HasSameOthers (state_of A.word self.old) (state_of A.word self.new) at at }
         ensures turned { TurnsInOrder A.regions A.word A.follows self.old self.new }
         ensures none { result ≡ false → in_place (state_of A.word self.old) at n ≡ None }
@@ -63,16 +59,9 @@ impl<A: Allocator> Dlmalloc<A> {
 
     /// Takes bytes of the top into the chunk before it. The top keeps a rest.
     fn grow_into_top<L: Ledger>(&mut self, at: u64, size: u64, n: u64, steps: &mut Steps<L>)
-        requires sound { IsSound A.regions A.word self.old }
-        requires chunk { extent_at at (extents_in (state_of A.word self.old)) ≡ Some (record { at = at; size = size; kind = Used }) }
-        requires next { at + size ≡ self.old.top }
-        requires whole { n % 16 ≡ 0 }
-        requires more { size < n }
-        requires room { n < size + self.old.top_size }
-        ensures state { state_of A.word self.new ≡ grown_into (state_of A.word self.old) (record { at = at; size = size; kind = Used }) (record { at = at + size; size = self.old.top_size; kind = Top }) n }
-        ensures held { extent_at at (extents_in (state_of A.word self.new)) ≡ Some (record { at = at; size = n; kind = Used }) }
-        ensures others { HasSameOthers (state_of A.word self.old) (state_of A.word self.new) at at }
-        ensures moves { MovesBesideBins A.regions A.word A.follows self.old [] [] self.new }
+        requires sound { IsSoundBy A.Links self.old }
+        requires take { CanTakeOfTop A.word self.old at size n }
+        ensures grown { TakesOfTop A.Links self.old at size n self.new }
         ensures counted { steps.new ≡ steps.old + 5 }
     {
         self.top = at + n;
@@ -92,12 +81,11 @@ impl<A: Allocator> Dlmalloc<A> {
         n: u64,
         steps: &mut Steps<L>,
     )
-        requires intact { IsIntact A.regions A.word self.old }
+        requires intact { IsIntactBy A.Links self.old }
         requires take { CanTakeFree (state_of A.word self.old) at size free n }
         ensures state { state_of A.word self.new ≡ grown_into (state_of A.word self.old) (record { at = at; size = size; kind = Used }) (record { at = at + size; size = free; kind = Free }) n }
-        ensures held { (whole : ℕ) × (extent_at at (extents_in (state_of A.word self.new)) ≡ Some (record { at = at; size = whole; kind = Used })) × (n ≤ whole) × (whole < n + 32) }
-        ensures others { HasSameOthers (state_of A.word self.old) (state_of A.word self.new) at at }
-        ensures turned { TurnsInOrder A.regions A.word A.follows self.old self.new }
+        ensures held { (whole : ℕ) × IsUsedAt (state_of A.word self.new) at whole × (n ≤ whole) × (whole < n + 32) }
+        ensures grown { ResizesOne A.Links self.old at self.new }
         ensures counted { steps.new ≤ steps.old + 331 }
     {
         let was_victim = at + size == self.victim;
@@ -117,13 +105,9 @@ impl<A: Allocator> Dlmalloc<A> {
     /// Takes bytes of a free chunk that is in no bin into the chunk before it. A rest of less than 32 bytes goes with
     /// them; any other stays free, and is the victim if the free chunk was.
     fn join_part<L: Ledger>(&mut self, at: u64, size: u64, free: u64, n: u64, steps: &mut Steps<L>)
-        requires sound { IsSound A.regions A.word self.old }
+        requires sound { IsSoundBy A.Links self.old }
         requires take { CanTakeFree (state_of A.word self.old) at size free n }
-        ensures state { state_of A.word self.new ≡ grown_into (state_of A.word self.old) (record { at = at; size = size; kind = Used }) (record { at = at + size; size = free; kind = Free }) n }
-        ensures held { (whole : ℕ) × (extent_at at (extents_in (state_of A.word self.new)) ≡ Some (record { at = at; size = whole; kind = Used })) × (n ≤ whole) × (whole < n + 32) }
-        ensures others { HasSameOthers (state_of A.word self.old) (state_of A.word self.new) at at }
-        ensures rest { n + 32 ≤ size + free → IsFreeAt (state_of A.word self.new) (at + n) (size + free - n) }
-        ensures moves { MovesBesideBins A.regions A.word A.follows self.old ((at + size) ∷ []) (if nat_le (n + 32) (size + free) then (at + n) ∷ [] else []) self.new }
+        ensures joined { IsPartJoined A.regions A.word A.follows self.old at size free n self.new }
         ensures counted { steps.new ≤ steps.old + 6 }
     {
         let all = size + free;

@@ -2,11 +2,11 @@
 ghost use Rattle.std.specs.Prelude.{◌≡◌, ◌+◌, ◌-◌, ◌%◌, ◌^◌, ◌<◌, ◌≤◌, true, false, nat_lt, if◌then◌else◌, []};
 ghost use Rattle.heap_memory.specs.Runs.{is_in_units};
 ghost use Rattle.dlmalloc.specs.Trimmed.{cut_of, may_go, is_cut};
-ghost use Rattle.dlmalloc.specs.Shortened.{IsShortened, IsCutBack, IsTrimmed};
+ghost use Rattle.dlmalloc.specs.Shortened.{IsShortened, IsCutBack, IsTrimmedBy};
 ghost use Rattle.dlmalloc.specs.Order.{KeepsIndex};
-ghost use Rattle.dlmalloc.specs.Binned.{IsBinned, IsIntact};
+ghost use Rattle.dlmalloc.specs.Binned.{IsBinnedBy, IsIntactBy};
 ghost use Rattle.dlmalloc.specs.Counts.{pass_steps};
-ghost use Rattle.dlmalloc.specs.Heap.{state_of, IsSound};
+ghost use Rattle.dlmalloc.specs.Heap.{state_of, IsSoundBy};
 
 use crate::heap::Dlmalloc;
 use crate::layout::{FOOT, TRIM_THRESHOLD};
@@ -22,9 +22,9 @@ impl<A: Allocator> Dlmalloc<A> {
     /// `pad` is too large for a request, or there is no segment, nothing is done. At most 2 words are loaded or stored
     /// besides those of the release pass, 512 for each segment.
     pub fn trim<L: Ledger>(&mut self, pad: u64, steps: &mut Steps<L>) -> bool
-        requires intact { IsIntact A.regions A.word self.old }
-        ensures trimmed { IsTrimmed A.regions A.word A.follows (A.frees self.old.system) (A.parts self.old.system) (A.unit self.old.system) self.old pad result self.new }
-        ensures linked { IsBinned A.regions A.word self.new }
+        requires intact { IsIntactBy A.Links self.old }
+        ensures trimmed { IsTrimmedBy A.Links A.Allocator.own self.old pad result self.new }
+        ensures linked { IsBinnedBy A.Links self.new }
         ensures counted { steps.new ≤ steps.old + 2 + pass_steps (state_of A.word self.old) }
     {
         if pad >= max_request(self.granularity) || self.size == 0 {
@@ -50,13 +50,13 @@ impl<A: Allocator> Dlmalloc<A> {
 
     /// Cuts the top as a trim does. True exactly if bytes went back.
     fn trim_top<L: Ledger>(&mut self, pad: u64, steps: &mut Steps<L>) -> bool
-        requires intact { IsIntact A.regions A.word self.old }
+        requires intact { IsIntactBy A.Links self.old }
         requires there { 0 < self.old.size }
         requires small { pad + 81 < 2 ^ 64 }
         ensures answer { result ≡ is_cut (A.parts self.old.system) (A.unit self.old.system) pad (state_of A.word self.old) }
         ensures cut { IsCutBack A.regions A.word A.follows (A.parts self.old.system) (A.unit self.old.system) self.old pad self.new }
         ensures there { 0 < self.new.size }
-        ensures linked { IsBinned A.regions A.word self.new }
+        ensures linked { IsBinnedBy A.Links self.new }
         ensures index { KeepsIndex A.regions A.word self.old self.new }
         ensures counted { steps.new ≤ steps.old + 2 }
     {
@@ -67,7 +67,7 @@ impl<A: Allocator> Dlmalloc<A> {
 
     /// The whole granularities at the end of the top without which it has more than `pad` bytes besides its foot.
     fn spare(&self, pad: u64) -> u64
-        requires sound { IsSound A.regions A.word self.now }
+        requires sound { IsSoundBy A.Links self.now }
         requires there { 0 < self.now.size }
         requires small { pad + 81 < 2 ^ 64 }
         ensures is { result ≡ cut_of (state_of A.word self.now) pad }
@@ -87,7 +87,7 @@ impl<A: Allocator> Dlmalloc<A> {
     /// Gives the last `cut` bytes of the head segment back, of which the top keeps more than 80. True exactly if the
     /// system takes them; false changes nothing.
     fn cut_top<L: Ledger>(&mut self, cut: u64, steps: &mut Steps<L>) -> bool
-        requires sound { IsSound A.regions A.word self.old }
+        requires sound { IsSoundBy A.Links self.old }
         requires there { 0 < self.old.size }
         requires whole { cut % 16 ≡ 0 }
         requires room { cut + 80 < self.old.top_size }

@@ -1,14 +1,14 @@
 // Walking over the chunks before the top, and choosing the one that serves a request.
-ghost use Rattle.std.specs.Prelude.{◌≡◌, ◌≢◌, ℕ, ◌+◌, ◌-◌, ◌<◌, ◌≤◌, ◌&&◌, if◌then◌else◌, map, option_map, [], Some, None, IfSome, ◌^◌, ◌↔◌, ◌++◌, OnOk, IfOk};
-ghost use Rattle.heap_memory.specs.Regions.{IsWordOf};
+ghost use Rattle.std.specs.Prelude.{◌≡◌, ◌≢◌, ℕ, ◌+◌, ◌-◌, ◌<◌, ◌≤◌, ◌&&◌, if◌then◌else◌, map, option_map, [], Some, None, IfSome, ◌↔◌, ◌++◌, OnOk, IfOk};
 ghost use Rattle.dlmalloc_chunks.specs.declared.extent.Extent.{Extent};
 ghost use Rattle.dlmalloc_chunks.specs.declared.extent.Kind.TheVariants.{Used, Free, Top};
 ghost use Rattle.dlmalloc_chunks.specs.Chunk.{HasHead};
 ghost use Rattle.dlmalloc.specs.Extents.{extent_at};
 ghost use Rattle.dlmalloc.specs.State.{is_free_below_top, shown, extents_in, is_binned};
 ghost use Rattle.dlmalloc.specs.Choice.{least_fit, goes_first, chosen, IsChosen};
+ghost use Rattle.dlmalloc.specs.Stored.{LiesInItsSegment};
 ghost use Rattle.dlmalloc.specs.Walk.{chunk_told, chunks_between, IsChunkRun};
-ghost use Rattle.dlmalloc.specs.Binned.{IsIntact, IsMember};
+ghost use Rattle.dlmalloc.specs.Binned.{IsIntactBy, IsMember};
 ghost use Rattle.dlmalloc.specs.declared.walk.Place.{Place};
 ghost use Rattle.dlmalloc.specs.declared.walk.Choice.TheVariants.{Chunk, Top as OfTop};
 ghost use Rattle.dlmalloc.specs.declared.walk.Tail.TheVariants.{OneRecord};
@@ -89,13 +89,7 @@ impl<A: Allocator> Dlmalloc<A> {
 
     /// The segment whose record has its payload at an address.
     pub(crate) fn span_at<L: Ledger>(&self, payload: u64, steps: &mut Steps<L>) -> Span
-        requires low { 16 < payload }
-        requires high { payload + 16 < 2 ^ 64 }
-        requires base { IsWordOf (A.regions self.now.system) payload }
-        requires size { IsWordOf (A.regions self.now.system) (payload + 8) }
-        requires next { IsWordOf (A.regions self.now.system) (payload + 16) }
-        requires ends { A.word self.now.system payload + A.word self.now.system (payload + 8) < 2 ^ 64 }
-        requires within { payload ≤ A.word self.now.system payload + A.word self.now.system (payload + 8) }
+        requires { LiesInItsSegment (A.regions self.now.system) (A.word self.now.system) payload }
         ensures { result ≡ record { from = A.word self.now.system payload; to = payload - 16; tail = OneRecord (A.word self.now.system payload + A.word self.now.system (payload + 8) - (payload - 16)); next = A.word self.now.system (payload + 16) } }
     {
         let from = self.system.load_counted(payload, steps);
@@ -112,7 +106,7 @@ impl<A: Allocator> Dlmalloc<A> {
 
     /// The least chunk in a bin that has at least `n` bytes.
     pub(crate) fn find_free<L: Ledger>(&self, n: u64, steps: &mut Steps<L>) -> Option<Place>
-        requires intact { IsIntact A.regions A.word self.now }
+        requires intact { IsIntactBy A.Links self.now }
         ensures least { least_fit (state_of A.word self.now) n ≡ option_map (λ place. place.size) result }
         ensures there { IfSome result (λ place. extent_at place.at (extents_in (state_of A.word self.now)) ≡ Some (record { at = place.at; size = place.size; kind = Free })) }
         ensures other { IfSome result (λ place. place.at ≢ self.now.victim) }
@@ -144,12 +138,11 @@ impl<A: Allocator> Dlmalloc<A> {
 
     /// What serves a request of `n` bytes (dlmalloc: `malloc`).
     pub(crate) fn choose<L: Ledger>(&self, n: u64, steps: &mut Steps<L>) -> Option<Choice>
-        requires intact { IsIntact A.regions A.word self.now }
+        requires intact { IsIntactBy A.Links self.now }
         requires there { 0 < self.now.size }
         requires least { 32 ≤ n }
         ensures none { result ≡ None → chosen (state_of A.word self.now) n ≡ None }
         ensures chunk { (place : Place) → result ≡ Some (Chunk place) → IsChosen (state_of A.word self.now) n (record { at = place.at; size = place.size; kind = Free }) }
-        ensures there { (place : Place) → result ≡ Some (Chunk place) → extent_at place.at (extents_in (state_of A.word self.now)) ≡ Some (record { at = place.at; size = place.size; kind = Free }) }
         ensures fits { (place : Place) → result ≡ Some (Chunk place) → n ≤ place.size }
         ensures top { result ≡ Some OfTop → IsChosen (state_of A.word self.now) n (record { at = self.now.top; size = self.now.top_size; kind = Top }) }
         ensures top_fits { result ≡ Some OfTop → n < self.now.top_size }

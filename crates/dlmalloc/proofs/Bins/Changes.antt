@@ -1,5 +1,6 @@
 -- Chunks go into bins and leave them, and the heap moves.
 use Rattle.dlmalloc.proofs.Names.{◌≡◌, ◌≢◌, ℕ, ◌+◌, ◌<◌, ◌≤◌, ◌⊎◌, inl, inr, List, [], ◌∷◌, Some, IsTrue, refl, sym, ◌∙◌, ap, subst, arith, list_any, AllByRecursion, Grant, IsWordOf, Event, Extent, Free, Record, Bins, IsIn, with_chunk, without_chunk, OnlyLinksChange, IndexStays, extent_at, Segment, extents_in, IsFlaggedRun, has_byte_in, segments_of, state_of, IsSound, IsFreeAt, HoldsBut, IsBinnedBut, IsBinned, OnlyFreeChange, IsRebinned, FreeMoves, MovesBesideBins, Dlmalloc}
+use Rattle.dlmalloc.specs.Order.{KeepsIndex}
 use Rattle.bins.specs.Linked.{IsLinked, IsFreshChunk}
 use Rattle.dlmalloc.proofs.Words.Telling.{IsTelling, sound_told, state_told}
 use Rattle.dlmalloc.proofs.Bins.Held.{AreAccounted, binned_one, unbinned_one, still_free, holds_moved, looser, tighter}
@@ -175,6 +176,19 @@ same_bins countdown b = record {
   holds =
       record { all = b.holds.all; free = b.holds.free; no_victim = b.holds.no_victim; not_loose = b.holds.not_loose };
 }
+
+-- the bins do not depend on the settings
+pub same_settings : {A : Type 0} (regions : A → List Grant) (word : A → ℕ → ℕ) (heap : Dlmalloc A) (granularity rate countdown : ℕ) →
+    KeepsIndex regions word heap (record heap { granularity = granularity; rate = rate; countdown = countdown })
+same_settings regions word heap granularity rate countdown b = (
+  record {
+    index = b.index;
+    linked = b.linked;
+    holds =
+        record { all = b.holds.all; free = b.holds.free; no_victim = b.holds.no_victim; not_loose = b.holds.not_loose };
+  },
+  λ n. refl,
+)
 
 abbrev pub same_check : {A : Type 0} {regions : A → List Grant} {word : A → ℕ → ℕ} {heap : Dlmalloc A} (check : ℕ) →
     IsBinned regions word heap → IsBinned regions word (record heap { trim_check = check })

@@ -1,11 +1,10 @@
 -- What is in no bin while a free chunk is cut.
-use Rattle.dlmalloc.proofs.Names.{◌≡◌, ◌≢◌, ℕ, ◌+◌, ◌<◌, ◌≤◌, ◌⊎◌, inl, inr, Bool, true, false, ◌==◌, ◌&&◌, nat_le, nat_lt, if◌then◌else◌, List, [], ◌∷◌, refl, sym, ◌∙◌, ap, subst, arith, nat_tests, Grant, Used, Free, Event, IsIn, IndexStays, HeapState, victim_after, taken, grown_into, state_of, IsSound, IsFreeAt, IsBinnedBut, IsBinned, FreeMoves, IsMoved, Dlmalloc, KeepsOrder, AreInOrder}
+use Rattle.dlmalloc.proofs.Names.{◌≡◌, ◌≢◌, ℕ, ◌+◌, ◌<◌, ◌≤◌, ◌⊎◌, inl, inr, Bool, true, false, ◌==◌, ◌&&◌, nat_le, nat_lt, if◌then◌else◌, List, [], ◌∷◌, refl, sym, ◌∙◌, ap, subst, arith, nat_tests, Grant, Used, Free, Event, IsIn, IndexStays, HeapState, victim_after, taken, grown_into, state_of, IsSound, IsFreeAt, IsBinnedBut, IsBinned, FreeMoves, IsMoved, Dlmalloc, KeepsOrder, AreInOrder, IsChunkCut, IsPartJoined}
 use Rattle.dlmalloc.proofs.Extents.Lookup.{extent, nat_is}
 use Rattle.dlmalloc.proofs.Cuts.Chosen.{free_low}
 use Rattle.dlmalloc.proofs.Bins.Held.{AreAccounted}
 use Rattle.dlmalloc.proofs.Bins.Changes.{binned_moved}
 use Rattle.dlmalloc.proofs.Bins.Order.{order_same}
-use Rattle.dlmalloc.proofs.Resizing.IntoFree.{IsPartJoined}
 
 -- The chunk at an address gave way, and left `more` free, or nothing.
 module _ {A : Type 0} {regions : A → List Grant} {word : A → ℕ → ℕ} {old : Dlmalloc A} (new : Dlmalloc A)
@@ -120,19 +119,11 @@ victim_of heap at size n was rest small first second third =
 
 -- ---- a chunk is taken
 
--- n bytes of a free chunk were taken, and the bins are as before
-pub record IsChunkCut {A : Type 0} (regions : A → List Grant) (word : A → ℕ → ℕ) (follows : A → List Event → A → Type 0) (old : Dlmalloc A) (at size n : ℕ)
-    (new : Dlmalloc A) : Type 0 where
-  pub moved : IsMoved regions word follows old new
-  pub state : state_of word new ≡ taken (state_of word old) (extent at size Free) n
-  pub free : FreeMoves (state_of word old) (state_of word new) (at ∷ []) (if nat_le (n + 32) size then (at + n) ∷ [] else [])
-  pub bins : new.bins ≡ old.bins
-
 module _ (stays : IndexStays) {A : Type 0} {regions : A → List Grant} {word : A → ℕ → ℕ} {follows : A → List Event → A → Type 0}
     {old new : Dlmalloc A} (sound : IsSound regions word old) {at size n : ℕ} (cut : IsChunkCut regions word follows old at size n new) where
   pub victim_is : (was rest small : Bool) → (at == old.victim) ≡ was → nat_le (n + 32) size ≡ rest → nat_lt n 256 ≡ small →
       new.victim ≡ (if was then (if rest then at + n else 0) else if rest && small then at + n else old.victim)
-  victim_is was rest small first second third = ap (λ s. s.victim) cut.state ∙ victim_of (state_of word old) at size n was rest small first second third
+  victim_is was rest small first second third = ap (λ s. s.victim) cut.taken.state ∙ victim_of (state_of word old) at size n was rest small first second third
 
   -- of the victim
   pub victim_taken : at ≡ old.victim → KeepsOrder regions word old new
@@ -143,22 +134,22 @@ module _ (stays : IndexStays) {A : Type 0} {regions : A → List Grant} {word : 
 
       go : (t : Bool) → nat_le (n + 32) size ≡ t → (after : IsBinned regions word new) × AreInOrder b.index after.index
       go true test = (
-        victim_rest stays sound cut.moved cut.bins at (at + n) (moves_rest (at + n) n size cut.free (grind (arith, nat_tests))) is
+        victim_rest stays sound cut.moves.moved cut.moves.bins at (at + n) (moves_rest (at + n) n size cut.moves.free (grind (arith, nat_tests))) is
             (victim_is true true (nat_lt n 256) mine test refl) b,
         order_same b.index,
       )
       go false test = (
-        victim_gone stays sound cut.moved cut.bins at (at + n) (moves_whole (at + n) n size cut.free (grind (arith, nat_tests))) is
+        victim_gone stays sound cut.moves.moved cut.moves.bins at (at + n) (moves_whole (at + n) n size cut.moves.free (grind (arith, nat_tests))) is
             (victim_is true false (nat_lt n 256) mine test refl) b,
         order_same b.index,
       )
 
   -- the old victim is free still, unless there was none
   pub old_victim_free : at ≢ old.victim → old.victim_size ≢ 0 → IsFreeAt (state_of word new) old.victim old.victim_size
-  old_victim_free other some = victim_free new sound cut.free (sound.victim some) other
+  old_victim_free other some = victim_free new sound cut.moves.free (sound.victim some) other
 
   pub old_victim_none : old.victim_size ≡ 0 → (bytes : ℕ) → IsFreeAt (state_of word new) old.victim bytes → ⊥
-  old_victim_none none bytes free = (let low = free_low cut.moved.sound free in let zero = sound.no_victim none in omega arith)
+  old_victim_none none bytes free = (let low = free_low cut.moves.moved.sound free in let zero = sound.no_victim none in omega arith)
 
   module _ (other : at ≢ old.victim) where
     pub apart : (at == old.victim) ≡ false
@@ -168,12 +159,12 @@ module _ (stays : IndexStays) {A : Type 0} {regions : A → List Grant} {word : 
     abbrev pub whole_taken : IsBinnedBut (at ∷ []) regions word old → size < n + 32 → IsBinned regions word new
     whole_taken loose little =
         let test : nat_le (n + 32) size ≡ false = grind (arith, nat_tests) in
-        binned_gone stays sound cut.moved cut.bins at (at + n) (moves_whole (at + n) n size cut.free little)
+        binned_gone stays sound cut.moves.moved cut.moves.bins at (at + n) (moves_whole (at + n) n size cut.moves.free little)
         (victim_is false false (nat_lt n 256) apart test refl) loose
 
     module _ (room : n + 32 ≤ size) where
       abbrev parts : FreeMoves (state_of word old) (state_of word new) (at ∷ []) ((at + n) ∷ [])
-      parts = moves_rest (at + n) n size cut.free room
+      parts = moves_rest (at + n) n size cut.moves.free room
 
       rests : nat_le (n + 32) size ≡ true
       rests = grind (arith, nat_tests)
@@ -186,14 +177,14 @@ module _ (stays : IndexStays) {A : Type 0} {regions : A → List Grant} {word : 
 
       -- with a rest that is not the victim
       abbrev pub large_taken : 256 ≤ n → IsBinnedBut (at ∷ []) regions word old → IsBinnedBut ((at + n) ∷ []) regions word new
-      large_taken many = binned_rest stays sound cut.moved cut.bins at (at + n) parts (large_victim many)
+      large_taken many = binned_rest stays sound cut.moves.moved cut.moves.bins at (at + n) parts (large_victim many)
 
       -- with a rest that is
       abbrev pub small_taken : n < 256 → IsBinnedBut (at ∷ []) regions word old → IsBinnedBut (old.victim ∷ []) regions word new
-      small_taken small = small_rest stays sound cut.moved cut.bins at (at + n) parts (small_victim small)
+      small_taken small = small_rest stays sound cut.moves.moved cut.moves.bins at (at + n) parts (small_victim small)
 
       pub large_other : 256 ≤ n → at + n ≢ new.victim
-      large_other many = rest_no_victim stays sound cut.moved cut.bins at (at + n) parts other (large_victim many) (omega arith)
+      large_other many = rest_no_victim stays sound cut.moves.moved cut.moves.bins at (at + n) parts other (large_victim many) (omega arith)
 
       pub small_other : n < 256 → old.victim_size ≢ 0 → old.victim ≢ new.victim
       small_other small some same = rest_other new sound parts (at + n) (inl refl) (sound.victim some) other (sym (small_victim small) ∙ sym same)
@@ -206,7 +197,7 @@ module _ (stays : IndexStays) {A : Type 0} {regions : A → List Grant} {word : 
 
 module _ (stays : IndexStays) {A : Type 0} {regions : A → List Grant} {word : A → ℕ → ℕ} {follows : A → List Event → A → Type 0}
     {old new : Dlmalloc A} (sound : IsSound regions word old) {at size free n : ℕ}
-    (joined : IsPartJoined regions word follows old at size free n new) (bins : new.bins ≡ old.bins) where
+    (joined : IsPartJoined regions word follows old at size free n new) where
   victim_grown : new.victim ≡ (grown_into (state_of word old) (extent at size Used) (extent (at + size) free Free) n).victim
   victim_grown = ap (λ s. s.victim) joined.state
 
@@ -219,14 +210,14 @@ module _ (stays : IndexStays) {A : Type 0} {regions : A → List Grant} {word : 
 
       go : (t : Bool) → nat_le (n + 32) (size + free) ≡ t → (after : IsBinned regions word new) × ((k : ℕ) → after.index k ≡ b.index k)
       go true test = (
-        victim_rest stays sound joined.moved bins (at + size) (at + n)
-            (moves_rest (at + n) n (size + free) joined.free (grind (arith, nat_tests))) is
+        victim_rest stays sound joined.moves.moved joined.moves.bins (at + size) (at + n)
+            (moves_rest (at + n) n (size + free) joined.moves.free (grind (arith, nat_tests))) is
             (victim_grown ∙ rw (mine, test) refl) b,
         λ k. refl,
       )
       go false test = (
-        victim_gone stays sound joined.moved bins (at + size) (at + n)
-            (moves_whole (at + n) n (size + free) joined.free (grind (arith, nat_tests))) is
+        victim_gone stays sound joined.moves.moved joined.moves.bins (at + size) (at + n)
+            (moves_whole (at + n) n (size + free) joined.moves.free (grind (arith, nat_tests))) is
             (victim_grown ∙ rw (mine, test) refl) b,
         λ k. refl,
       )
@@ -237,17 +228,17 @@ module _ (stays : IndexStays) {A : Type 0} {regions : A → List Grant} {word : 
 
     abbrev pub into_whole : IsBinnedBut ((at + size) ∷ []) regions word old → size + free < n + 32 → IsBinned regions word new
     into_whole loose little =
-        binned_gone stays sound joined.moved bins (at + size) (at + n) (moves_whole (at + n) n (size + free) joined.free little) same_victim loose
+        binned_gone stays sound joined.moves.moved joined.moves.bins (at + size) (at + n) (moves_whole (at + n) n (size + free) joined.moves.free little) same_victim loose
 
     abbrev pub into_part : IsBinnedBut ((at + size) ∷ []) regions word old → n + 32 ≤ size + free → IsBinnedBut ((at + n) ∷ []) regions word new
     into_part loose room =
-        binned_rest stays sound joined.moved bins (at + size) (at + n) (moves_rest (at + n) n (size + free) joined.free room) same_victim loose
+        binned_rest stays sound joined.moves.moved joined.moves.bins (at + size) (at + n) (moves_rest (at + n) n (size + free) joined.moves.free room) same_victim loose
 
     pub part_other : n + 32 ≤ size + free → 0 < n → at + n ≢ new.victim
-    part_other room some = rest_no_victim stays sound joined.moved bins (at + size) (at + n)
-        (moves_rest (at + n) n (size + free) joined.free room) other same_victim (omega arith)
+    part_other room some = rest_no_victim stays sound joined.moves.moved joined.moves.bins (at + size) (at + n)
+        (moves_rest (at + n) n (size + free) joined.moves.free room) other same_victim (omega arith)
 
     -- what came was no free chunk
     pub part_came : n + 32 ≤ size + free → size < n → {m : ℕ} → IsFreeAt (state_of word old) (at + n) m → ⊥
-    part_came room more {m} is_free = ((moves_rest (at + n) n (size + free) joined.free room).stays (at + n) m is_free
+    part_came room more {m} is_free = ((moves_rest (at + n) n (size + free) joined.moves.free room).stays (at + n) m is_free
         (λ is. elim is [ inl same ↦ (let e = same in omega arith) | inr none ↦ none ])).1 (inl refl)

@@ -1,5 +1,5 @@
 -- A grant is put before the head segment, or before one that a record describes.
-use Rattle.dlmalloc.proofs.Names.{◌≡◌, ◌≢◌, ℕ, ◌+◌, ◌-◌, ◌%◌, ◌^◌, ◌<◌, ◌≤◌, inl, inr, false, ◌==◌, List, [], ◌∷◌, ◌++◌, Some, refl, sym, ◌∙◌, ap, subst, arith, ⊤, Grant, Event, IsWordOf, Extent, HasHead, extent_at, Segment, put_before, IsFreshGrant, IsPrepended, IsInRecord, IsHeadBehind, IsToldBehind, IsSegment, AreSegments, record_of, AreRecords, state_of, AreTold, IsSound, Dlmalloc}
+use Rattle.dlmalloc.proofs.Names.{◌≡◌, ◌≢◌, ℕ, ◌+◌, ◌-◌, ◌%◌, ◌^◌, ◌<◌, ◌≤◌, inl, inr, false, ◌==◌, List, [], ◌∷◌, ◌++◌, Some, refl, sym, ◌∙◌, ap, subst, arith, ⊤, Grant, Event, IsWordOf, Extent, HasHead, extent_at, Segment, put_before, IsFreshGrant, HasRoomFor, IsPrepended, CanHoldTwo, IsInRecord, IsHeadBehind, IsToldBehind, IsSegment, AreSegments, record_of, AreRecords, state_of, AreTold, IsSound, Dlmalloc}
 use Rattle.dlmalloc.proofs.Extents.Lookup.{nat_isnt}
 use Rattle.dlmalloc.proofs.Segments.Among.{all_at}
 use Rattle.dlmalloc.proofs.Segments.HeadTop.{top_low}
@@ -9,13 +9,26 @@ use Rattle.dlmalloc.proofs.Grants.PutBefore.{IsInTwo, IsJoining, before_means, f
 use Rattle.dlmalloc.proofs.Grants.SegmentBehind.{told_around}
 
 -- the heads of the two parts of a grant are granted
-pub part_head : {regions : List Grant} {segments : List Segment} {grant : Grant} → IsFreshGrant regions segments grant →
+part_head : {regions : List Grant} {segments : List Segment} {grant : Grant} → IsFreshGrant regions segments grant →
     (k : ℕ) → grant.base ≤ k → k + 16 ≤ grant.base + grant.size → k % 16 ≡ 0 → HasHead regions k
 part_head fresh k low high m = record {
   aligned = omega arith;
   small = omega arith;
   granted = record { granted = fresh.run.covered (k + 8) (omega arith) (omega arith); aligned = omega arith };
 }
+
+pub two_heads : {regions : List Grant} {segments : List Segment} {grant : Grant} {n : ℕ} → HasRoomFor n regions segments grant →
+    CanHoldTwo regions grant.base n (grant.size - n)
+two_heads {grant} {n} has =
+    let f = has.fresh in let whole = has.bytes.whole in let room = has.room in let least = has.bytes.least in let high = f.high in
+    record {
+      head = part_head f grant.base (omega arith) (omega arith) f.base_aligned;
+      behind = part_head f (grant.base + n) (omega arith) (omega arith) (omega arith);
+      first = whole;
+      second = omega (arith, f.size_aligned, whole);
+      least = least;
+      ends = omega arith;
+    }
 
 -- what is found after the two parts of a grant
 behind_two : (grant : Grant) (n : ℕ) (segment : Segment) (k : ℕ) {one : Extent} → segment.base ≡ grant.base + grant.size → n < grant.size →

@@ -1,5 +1,5 @@
 -- A request at an alignment above 16: its sizes, and the block that it is given.
-use Rattle.dlmalloc.proofs.Names.{◌≡◌, ℕ, ◌+◌, ◌-◌, ◌*◌, ◌/◌, ◌%◌, ◌^◌, ◌<◌, ◌≤◌, ◌⊎◌, Bool, true, false, ◌==◌, nat_lt, if◌then◌else◌, List, [], Some, refl, sym, ◌∙◌, ap, subst, arith, IsPowerOfTwo, nat_tests, Grant, Event, IsWordOf, padded, enlarged, limit, Used, size_of, extent_at, extents_in, IsBlock, IsInside, HasOneMore, aligned_place, lead_freed, aligned, HasOneMoved, KeepsOthers, state_of, IsSound, IsServed, IsServedAligned, Dlmalloc}
+use Rattle.dlmalloc.proofs.Names.{◌≡◌, ℕ, ◌+◌, ◌-◌, ◌*◌, ◌/◌, ◌%◌, ◌^◌, ◌<◌, ◌≤◌, ◌⊎◌, Bool, true, false, ◌==◌, nat_lt, if◌then◌else◌, List, refl, sym, ◌∙◌, ap, subst, arith, IsPowerOfTwo, nat_tests, Grant, Event, IsWordOf, padded, enlarged, limit, Used, size_of, extent_at, extents_in, IsBlock, IsInside, HasOneMore, aligned_place, lead_freed, aligned, state_of, IsSound, IsServed, IsServedAligned, IsAligned, Dlmalloc}
 use Rattle.dlmalloc.specs.Requested.{IsPassedOver}
 use Rattle.dlmalloc.specs.Order.{KeepsOrderThrough}
 use Rattle.dlmalloc.proofs.Extents.Lookup.{extent, the_extent}
@@ -82,22 +82,6 @@ module _ {A : Type 0} {regions : A → List Grant} {word : A → ℕ → ℕ} {h
       }
 
 -- ---- the block that is handed out
-
--- what is left of a greater block
-pub record IsAligned {A : Type 0} (regions : A → List Grant) (word : A → ℕ → ℕ) (follows : A → List Event → A → Type 0)
-    (old : Dlmalloc A) (ptr align n result : ℕ) (new : Dlmalloc A) : Type 0 where
-  pub place : result ≡ aligned_place (ptr - 16) align
-  pub multiple : (result + 16) % align ≡ 0
-  pub state : state_of word new ≡ aligned (state_of word old) (ptr - 16) align n
-  pub held : (size : ℕ) × (extent_at result (extents_in (state_of word new)) ≡ Some (extent result size Used)) × (n ≤ size) × (size ≤ n + 32)
-  pub others : HasOneMoved (state_of word old) (state_of word new) (ptr - 16) result
-  pub kept : KeepsOthers (state_of word old) (ptr - 16) (word old.system) (word new.system)
-  pub words : (k : ℕ) → IsWordOf (regions old.system) k → IsPassedOver (state_of word old)
-      (lead_freed (state_of word old) (ptr - 16) result) (state_of word new) k → word new.system k ≡ word old.system k
-  pub sound : IsSound regions word new
-  pub regions_same : regions new.system ≡ regions old.system
-  pub followed : follows old.system [] new.system
-  pub order : KeepsOrderThrough regions word (lead_freed (state_of word old) (ptr - 16) result) old new
 
 pub served_aligned : {A : Type 0} {regions : A → List Grant} {word : A → ℕ → ℕ} {zeros : A → Bool} {follows : A → List Event → A → Type 0}
     {old middle new : Dlmalloc A} (size : ℕ) {align n greater result : ℕ} → n ≡ padded size → size + 8 ≤ n → n ≤ size + 32 →

@@ -1,5 +1,5 @@
 -- A chunk in use takes bytes of a free chunk after it, or all of them.
-use Rattle.dlmalloc.proofs.Names.{◌≡◌, ◌≢◌, ℕ, ◌+◌, ◌-◌, ◌%◌, ◌^◌, ◌<◌, ◌≤◌, inl, inr, Bool, true, false, ◌==◌, nat_le, if◌then◌else◌, List, [], ◌∷◌, ◌++◌, None, Some, refl, sym, ◌∙◌, ap, subst, arith, nat_tests, Grant, Event, AreStored, HasHead, HasFoot, Extent, Used, Free, Top, Record, pinuse_of, head_of, with_pinuse, extent_at, Tiles, last_kind, extents_in, CanTakeFree, HasSameOthers, IsMoved, IsMove, IsRunOf, grown_into, segments_of, state_of, IsSound, Dlmalloc, IsFreeAt, FreeMoves}
+use Rattle.dlmalloc.proofs.Names.{◌≡◌, ◌≢◌, ℕ, ◌+◌, ◌-◌, ◌%◌, ◌^◌, ◌<◌, ◌≤◌, inl, inr, Bool, true, false, ◌==◌, nat_le, if◌then◌else◌, List, [], ◌∷◌, ◌++◌, None, Some, refl, sym, ◌∙◌, ap, subst, arith, nat_tests, Grant, Event, AreStored, HasHead, HasFoot, Extent, Used, Free, Top, Record, pinuse_of, head_of, with_pinuse, extent_at, Tiles, last_kind, extents_in, CanTakeFree, IsMove, IsRunOf, grown_into, segments_of, state_of, IsSound, Dlmalloc, IsFreeAt, IsPartJoined}
 use Rattle.dlmalloc.proofs.Extents.Lookup.{extent, the_extent, nat_isnt, found_here, found_either, the_one}
 use Rattle.dlmalloc.proofs.Extents.Tiling.{sized, tiles_le}
 use Rattle.dlmalloc.proofs.Resizing.TwoExtents.{differ, no_kind, no_other, only_second, found_second, second_there}
@@ -11,16 +11,6 @@ use Rattle.dlmalloc.proofs.Moves.OfFreeExtents.{free_moves}
 use Rattle.dlmalloc.proofs.Moves.OfHeaps.{IsStep, found_new, found_again}
 use Rattle.dlmalloc.proofs.Extents.RunReplaced.{step_beside, HasNext, has_next, with_next, behind, run_word}
 use Rattle.dlmalloc.proofs.Frees.Behind.{next_there, place}
-
--- The chunk has taken bytes of the free one: those up to n, or all if less than 32 would be left.
-pub record IsPartJoined {A : Type 0} (regions : A → List Grant) (word : A → ℕ → ℕ) (follows : A → List Event → A → Type 0)
-    (old : Dlmalloc A) (at size length n : ℕ) (new : Dlmalloc A) : Type 0 where
-  pub state : state_of word new ≡ grown_into (state_of word old) (extent at size Used) (extent (at + size) length Free) n
-  pub held : (whole : ℕ) × (extent_at at (extents_in (state_of word new)) ≡ Some (extent at whole Used)) × (n ≤ whole) × (whole < n + 32)
-  pub others : HasSameOthers (state_of word old) (state_of word new) at at
-  pub free : FreeMoves (state_of word old) (state_of word new) ((at + size) ∷ []) (if nat_le (n + 32) (size + length) then (at + n) ∷ [] else [])
-  pub rest : n + 32 ≤ size + length → IsFreeAt (state_of word new) (at + n) (size + length - n)
-  pub moved : IsMoved regions word follows old new
 
 module _ {A : Type 0} {regions : A → List Grant} {word : A → ℕ → ℕ} {heap : Dlmalloc A} (sound : IsSound regions word heap) {at size length n : ℕ}
     (can : CanTakeFree (state_of word heap) at size length n) where
@@ -124,11 +114,14 @@ module _ {A : Type 0} {regions : A → List Grant} {word : A → ℕ → ℕ} {h
             state = taken.state;
             held = (n, taken.held, omega arith, omega arith);
             others = taken.others;
-            free = rw has_rest (free_moves sound step ((at + size) ∷ []) ((at + n) ∷ []) (only_second at size free) (only_second at n rest)
-                (λ k is. inr (second_there at size free [] (omega (arith, both.here.1.size.1)) k is))
-                (λ k is. inr (second_there at n rest [] (omega (arith, least)) k is)));
             rest = λ room. rest_there victim victim_size;
-            moved = record { sound = taken.sound; words = taken.words; regions_same = same; followed = followed };
+            moves = record {
+              free = rw has_rest (free_moves sound step ((at + size) ∷ []) ((at + n) ∷ []) (only_second at size free) (only_second at n rest)
+                  (λ k is. inr (second_there at size free [] (omega (arith, both.here.1.size.1)) k is))
+                  (λ k is. inr (second_there at n rest [] (omega (arith, least)) k is)));
+              moved = record { sound = taken.sound; words = taken.words; regions_same = same; followed = followed };
+              bins = refl;
+            };
           }
 
       -- it was the victim, and its rest is
@@ -234,13 +227,16 @@ module _ {A : Type 0} {regions : A → List Grant} {word : A → ℕ → ℕ} {h
             state = taken.state;
             held = (size + length, taken.held, can.room, no_room);
             others = taken.others;
-            free = rw no_rest (free_moves sound step ((at + size) ∷ []) [] (λ k bytes found. elim (found_either k (chunk ∷ free ∷ []) (last ∷ []) found) [
-              | inl first ↦ only_second at size free k bytes first
-              | inr later ↦ absurd (no_last (ap (λ e. e.kind) (the_one k last later.1)))
-            ]) (λ k bytes found. no_kind (extent at (size + length) Used) last Free (λ is. cc) no_last k found refl)
-                (λ k is. inr (second_there at size free (last ∷ []) (omega (arith, both.here.1.size.1)) k is)) (λ k none. absurd none));
             rest = λ room. absurd (omega arith);
-            moved = record { sound = taken.sound; words = taken.words; regions_same = same; followed = followed };
+            moves = record {
+              free = rw no_rest (free_moves sound step ((at + size) ∷ []) [] (λ k bytes found. elim (found_either k (chunk ∷ free ∷ []) (last ∷ []) found) [
+                | inl first ↦ only_second at size free k bytes first
+                | inr later ↦ absurd (no_last (ap (λ e. e.kind) (the_one k last later.1)))
+              ]) (λ k bytes found. no_kind (extent at (size + length) Used) last Free (λ is. cc) no_last k found refl)
+                  (λ k is. inr (second_there at size free (last ∷ []) (omega (arith, both.here.1.size.1)) k is)) (λ k none. absurd none));
+              moved = record { sound = taken.sound; words = taken.words; regions_same = same; followed = followed };
+              bins = refl;
+            };
           }
 
       -- it was the victim, and there is none now

@@ -1,5 +1,5 @@
 -- A chunk in use takes bytes of the top after it.
-use Rattle.dlmalloc.proofs.Names.{◌≡◌, ℕ, ◌+◌, ◌-◌, ◌%◌, ◌<◌, ◌≤◌, inr, true, List, [], ◌∷◌, ◌++◌, Some, refl, sym, ◌∙◌, ap, subst, arith, Grant, IsStored, AreStored, HasHead, Extent, Used, Free, Top, Record, pinuse_of, head_of, extent_at, last_kind, extents_in, IsMove, IsRunOf, segments_of, state_of, IsSound, Dlmalloc, FreeMoves}
+use Rattle.dlmalloc.proofs.Names.{◌≡◌, ℕ, ◌+◌, ◌-◌, ◌≤◌, inr, true, List, [], ◌∷◌, ◌++◌, Some, refl, sym, ◌∙◌, ap, subst, arith, Grant, IsStored, AreStored, HasHead, Extent, Used, Free, Top, Record, pinuse_of, head_of, extent_at, last_kind, IsMove, IsRunOf, segments_of, state_of, IsSound, Dlmalloc, FreeMoves, CanTakeOfTop}
 use Rattle.dlmalloc.proofs.Extents.Lookup.{extent, found_here, found_later}
 use Rattle.dlmalloc.proofs.Extents.OneMoreUsed.{none_outside}
 use Rattle.dlmalloc.proofs.Cuts.FreeExtent.{stored_over}
@@ -13,16 +13,8 @@ use Rattle.dlmalloc.proofs.Segments.HeadTold.{head_is}
 use Rattle.dlmalloc.proofs.Extents.Top.{is_top}
 use Rattle.dlmalloc.proofs.Frees.WhatCallsWant.{next_top}
 
--- A chunk in use stands before the top, which can give it bytes up to n and keep a rest.
-pub record CanTakeTop {A : Type 0} (word : A → ℕ → ℕ) (heap : Dlmalloc A) (at size n : ℕ) : Type 0 where
-  pub there : extent_at at (extents_in (state_of word heap)) ≡ Some (extent at size Used)
-  pub touch : at + size ≡ heap.top
-  pub whole : n % 16 ≡ 0
-  pub more : size < n
-  pub room : n < size + heap.top_size
-
 module _ {A : Type 0} {regions : A → List Grant} {word : A → ℕ → ℕ} {heap : Dlmalloc A} (sound : IsSound regions word heap) {at size n : ℕ}
-    (can : CanTakeTop word heap at size n) where
+    (can : CanTakeOfTop word heap at size n) where
   abbrev words : ℕ → ℕ
   words = word heap.system
 
@@ -32,11 +24,11 @@ module _ {A : Type 0} {regions : A → List Grant} {word : A → ℕ → ℕ} {h
   abbrev top : Extent
   top = extent (at + size) heap.top_size Top
 
-  next_is : (next sound can.there).next ≡ top
-  next_is = next_top sound can.there can.touch ∙ ap (λ a. extent a heap.top_size Top) (sym can.touch)
+  next_is : (next sound can.chunk).next ≡ top
+  next_is = next_top sound can.chunk can.next ∙ ap (λ a. extent a heap.top_size Top) (sym can.next)
 
   abbrev both : IsRunOf words (segments_of word heap) at (at + size + heap.top_size) (chunk ∷ top ∷ [])
-  both = two sound can.there next_is
+  both = two sound can.chunk next_is
 
   least : 32 ≤ n
   least = omega (arith, both.here.1.size.1)
@@ -46,11 +38,11 @@ module _ {A : Type 0} {regions : A → List Grant} {word : A → ℕ → ℕ} {h
 
   pub top_first_head : HasHead (regions heap.system) at
   top_first_head =
-      head_there sound can.there next_is at (omega arith) (omega (arith, high sound can.there next_is, rest_room)) (omega (arith, both.here.1.whole))
+      head_there sound can.chunk next_is at (omega arith) (omega (arith, high sound can.chunk next_is, rest_room)) (omega (arith, both.here.1.whole))
 
   pub top_rest_head : HasHead (regions heap.system) (at + n)
   top_rest_head =
-      head_there sound can.there next_is (at + n) (omega arith) (omega (arith, high sound can.there next_is, rest_room)) (omega (arith, both.here.1.whole))
+      head_there sound can.chunk next_is (at + n) (omega arith) (omega (arith, high sound can.chunk next_is, rest_room)) (omega (arith, both.here.1.whole))
 
   head_segment : both.front ≡ []
   head_segment = (is_top sound both.front both.segment both.back both.is {at = (at + size)} {size = heap.top_size} (ap (extent_at (at + size)) both.extents
@@ -89,7 +81,7 @@ module _ {A : Type 0} {regions : A → List Grant} {word : A → ℕ → ℕ} {h
 
     -- the top keeps the rest
     pub into_top : IsEnlarged regions word heap chunk top n n after
-    into_top = enlarged sound can.there next_is (same_system ∙ same_middle) parts step refl (λ i. extent at n Used ∷ extent (at + n) (sym rest_is i) Top ∷ [])
+    into_top = enlarged sound can.chunk next_is (same_system ∙ same_middle) parts step refl (λ i. extent at n Used ∷ extent (at + n) (sym rest_is i) Top ∷ [])
         (record {
           held = found_here (extent at n Used) (extent (at + n) rest Top ∷ []);
           kept = λ used is other found. absurd (no_other chunk top (λ is. cc) is other found);

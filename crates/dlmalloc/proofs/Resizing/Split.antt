@@ -1,5 +1,5 @@
 -- A chunk in use is split into two.
-use Rattle.dlmalloc.proofs.Names.{◌≡◌, ◌≢◌, ℕ, ◌+◌, ◌-◌, ◌%◌, ◌^◌, ◌<◌, ◌≤◌, inl, inr, true, List, [], ◌∷◌, Some, refl, sym, ◌∙◌, ap, subst, arith, Grant, Event, IsWordOf, IsStored, AreStored, HasHead, Extent, Kind, Used, Free, Top, Record, pinuse_of, head_of, pinuse_of-head_of, extent_at, is_used, HasChunk, extents_in, exchanged, halves, CanSplit, HasSameOthers, IsMoved, IsMove, IsRunOf, segments_of, state_of, IsSound, Dlmalloc, FreeMoves}
+use Rattle.dlmalloc.proofs.Names.{◌≡◌, ◌≢◌, ℕ, ◌+◌, ◌-◌, ◌%◌, ◌^◌, ◌<◌, ◌≤◌, inl, inr, true, List, [], ◌∷◌, Some, refl, sym, ◌∙◌, ap, subst, arith, Grant, Event, IsStored, AreStored, HasHead, Extent, Kind, Used, Free, Top, Record, pinuse_of, head_of, pinuse_of-head_of, extent_at, is_used, HasChunk, halves, CanSplit, IsMove, IsRunOf, segments_of, state_of, IsSound, Dlmalloc, IsSplit}
 use Rattle.dlmalloc.proofs.Extents.Lookup.{extent, found_here, the_one}
 use Rattle.dlmalloc.proofs.Cuts.FreeExtent.{stored_over}
 use Rattle.dlmalloc.proofs.Extents.Tiling.{tiles_le, plain_chunk}
@@ -30,17 +30,6 @@ split_used {old} {before} at size n stands whole least room stored =
       );
       kept = λ k word more. stored.elsewhere k word (more.0, (more.1.0, tt));
     }
-
--- What a split leaves: two chunks in use, and all else as it was.
-pub record IsSplit {A : Type 0} (regions : A → List Grant) (word : A → ℕ → ℕ) (follows : A → List Event → A → Type 0)
-    (old : Dlmalloc A) (at size n : ℕ) (new : Dlmalloc A) : Type 0 where
-  pub state : state_of word new ≡ exchanged (state_of word old) at (halves n)
-  pub first : extent_at at (extents_in (state_of word new)) ≡ Some (extent at n Used)
-  pub second : extent_at (at + n) (extents_in (state_of word new)) ≡ Some (extent (at + n) (size - n) Used)
-  pub others : HasSameOthers (state_of word old) (state_of word new) at (at + n)
-  pub words : (k : ℕ) → IsWordOf (regions old.system) k → k ≢ at + 8 → k ≢ at + n + 8 → word new.system k ≡ word old.system k
-  pub free : FreeMoves (state_of word old) (state_of word new) [] []
-  pub moved : IsMoved regions word follows old new
 
 module _ {A : Type 0} {regions : A → List Grant} {word : A → ℕ → ℕ} {heap : Dlmalloc A} (sound : IsSound regions word heap) {at size n : ℕ}
     (can : CanSplit (state_of word heap) at size n) where
@@ -125,14 +114,17 @@ module _ {A : Type 0} {regions : A → List Grant} {word : A → ℕ → ℕ} {h
         only = λ used is other_at other_end there. found_before sound step used.at (λ here. absurd (neither used other_at other_end here)) there;
       };
       words = λ k inside first second. stores.elsewhere k inside (first, (second, tt));
-      free = free_moves sound step [] [] (λ k bytes found. (let no : Used ≡ Free = used_one k found in cc))
-          (λ k bytes found. no_kind (extent at n Used) (extent (at + n) (size - n) Used) Free (λ is. cc) (λ is. cc) k found refl)
-          (λ k none. absurd none) (λ k none. absurd none);
-      moved = record {
-        sound = stays_sound sound step same refl refl refl refl sound.no_victim
-            (λ more. found_again sound step heap.victim (λ here. absurd (let no : Used ≡ Free = used_one heap.victim here in cc)) (sound.victim more));
-        words = keeps_words sound step;
-        regions_same = same;
-        followed = followed;
+      moves = record {
+        free = free_moves sound step [] [] (λ k bytes found. (let no : Used ≡ Free = used_one k found in cc))
+            (λ k bytes found. no_kind (extent at n Used) (extent (at + n) (size - n) Used) Free (λ is. cc) (λ is. cc) k found refl)
+            (λ k none. absurd none) (λ k none. absurd none);
+        moved = record {
+          sound = stays_sound sound step same refl refl refl refl sound.no_victim
+              (λ more. found_again sound step heap.victim (λ here. absurd (let no : Used ≡ Free = used_one heap.victim here in cc)) (sound.victim more));
+          words = keeps_words sound step;
+          regions_same = same;
+          followed = followed;
+        };
+        bins = refl;
       };
     }

@@ -1,9 +1,8 @@
 -- A chunk in use is split, and one of the two is freed.
-use Rattle.dlmalloc.proofs.Names.{◌≡◌, ◌≢◌, ℕ, ◌+◌, ◌-◌, inl, inr, List, Some, refl, sym, ◌∙◌, ap, subst, arith, Grant, Event, IsWordOf, Extent, Used, extent_at, extents_in, HasOneMore, IsBoundary, IsInFree, IsOwn, OnlyOwnChange, freed, exchanged, halves, tail_freed, CanSplit, HasSameOthers, HasOneMoved, KeepsOthers, state_of, IsSound, IsTurned, Dlmalloc}
+use Rattle.dlmalloc.proofs.Names.{◌≡◌, ◌≢◌, ℕ, ◌+◌, ◌-◌, inl, inr, List, Some, refl, sym, ◌∙◌, ap, subst, arith, Grant, Event, IsWordOf, Extent, Used, extent_at, extents_in, HasOneMore, IsBoundary, IsInFree, IsOwn, OnlyOwnChange, freed, exchanged, halves, tail_freed, CanSplit, HasSameOthers, HasOneMoved, KeepsOthers, state_of, IsSound, IsTurned, Dlmalloc, IsSplit}
 use Rattle.dlmalloc.proofs.Extents.Lookup.{extent}
 use Rattle.dlmalloc.proofs.Laws.{used_apart}
 use Rattle.dlmalloc.proofs.Frees.Behind.{next_boundary}
-use Rattle.dlmalloc.proofs.Resizing.Split.{IsSplit}
 use Rattle.dlmalloc.proofs.Blocks.WordsKept.{blocks_law, keeps_on}
 
 module _ {A : Type 0} {regions : A → List Grant} {word : A → ℕ → ℕ} {follows : A → List Event → A → Type 0} {heap middle new : Dlmalloc A}
@@ -11,11 +10,11 @@ module _ {A : Type 0} {regions : A → List Grant} {word : A → ℕ → ℕ} {f
     (split : IsSplit regions word follows heap at size n middle) (moved : IsTurned regions word follows middle new) where
   -- a word that is granted before is granted after the split
   still : (k : ℕ) → IsWordOf (regions heap.system) k → IsWordOf (regions middle.system) k
-  still k is = subst (λ rs. IsWordOf rs k) (sym split.moved.regions_same) is
+  still k is = subst (λ rs. IsWordOf rs k) (sym split.moves.moved.regions_same) is
 
   -- what is in no free extent is in none after the split
   no_free : (k : ℕ) → (IsInFree (state_of word heap) k → ⊥) → IsInFree (state_of word middle) k → ⊥
-  no_free k was f = was (record { at = f.at; size = f.size; free = (split.free.was f.at f.size f.free (λ none. none)).0; low = f.low; high = f.high })
+  no_free k was f = was (record { at = f.at; size = f.size; free = (split.moves.free.was f.at f.size f.free (λ none. none)).0; low = f.low; high = f.high })
 
   -- no other extent in use begins in the chunk
   inside : {used : Extent} → used.at ≢ at → extent_at used.at (extents_in (state_of word heap)) ≡ Some used → used.at ≢ at + n
@@ -67,8 +66,8 @@ module _ {A : Type 0} {regions : A → List Grant} {word : A → ℕ → ℕ} {f
 
     pub lead_kept : KeepsOthers (state_of word heap) at (word heap.system) (word new.system)
     lead_kept blocks others =
-        keeps_on (blocks_law sound split.moved.sound (λ k inside was own. split.moved.words k inside (λ boundary. own (inl boundary))) blocks
-        (λ used there is. (let o = others used is there in (o.1, then_there used is o.0 o.1)))) (blocks_law split.moved.sound moved.sound moved.words blocks
+        keeps_on (blocks_law sound split.moves.moved.sound (λ k inside was own. split.moves.moved.words k inside (λ boundary. own (inl boundary))) blocks
+        (λ used there is. (let o = others used is there in (o.1, then_there used is o.0 o.1)))) (blocks_law split.moves.moved.sound moved.sound moved.words blocks
         (λ used there is. (let o = others used is there in (then_there used is o.0 o.1, less.only used is (then_there used is o.0 o.1) o.0))))
       where
         then_there : (used : Extent) → used.kind ≡ Used → used.at ≢ at → extent_at used.at (extents_in (state_of word heap)) ≡ Some used →

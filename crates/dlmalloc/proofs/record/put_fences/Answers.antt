@@ -1,7 +1,11 @@
 use Rattle.dlmalloc.proofs.Names.{inl, inr, arith}
 use Rattle.dlmalloc.proofs.record.put_fences.Goals as goal
 
-pub returns-clause-elsewhere : goal.returns-clause-elsewhere
-returns-clause-elsewhere g c = λ k inside out.
+pub returns-clause-rest : goal.returns-clause-rest
+returns-clause-rest g c =
     let high = c.loop-at.invariant.high in
-    c.loop-at.invariant.elsewhere k inside (elim out [ inl below ↦ inl below | inr above ↦ inr (omega arith) ])
+    record {
+      elsewhere = λ k inside out. c.loop-at.invariant.elsewhere k inside (elim out [ inl below ↦ inl below | inr above ↦ inr (omega arith) ]);
+      regions_same = c.loop-at.invariant.regions;
+      followed = c.loop-at.invariant.follows;
+    }

@@ -21,13 +21,15 @@ pub returns-then-from-self-2-clause-same : goal.returns-then-from-self-2-clause-
 returns-then-from-self-2-clause-same g c = not_rebinned g.A.Links.follows c.requires.sound (g.A.Links.follows_none c.args.self.now.system)
 
 -- it goes into its bin
-pub bin-requires-clause-free : goal.bin-requires-clause-free
-bin-requires-clause-free g c = elim (c.requires.joined) [ inl top ↦ absurd (c.if-from-self.false top.0) | inr beside ↦ beside.1 ]
-
-pub bin-requires-clause-loose : goal.bin-requires-clause-loose
-bin-requires-clause-loose g c = ([], c.requires.loose)
+pub bin-requires : goal.bin-requires
+bin-requires g c = record {
+  sound = c.requires.sound;
+  free = elim (c.requires.joined) [ inl top ↦ absurd (c.if-from-self.false top.0) | inr beside ↦ beside.1 ];
+  other = c.if-from-self-2.false;
+  loose = ([], c.requires.loose);
+}
 
 pub returns-clause-binned : goal.returns-clause-binned
 returns-clause-binned g c = λ b.
-    let after = c.bin.ensures.binned [] b (λ none. none) in
+    let after = c.bin.ensures.bins.binned [] b (λ none. none) in
     (after.0, added_as (c.args.to - c.args.from) c.args.from b.index after.0.index after.1)

@@ -1,4 +1,4 @@
-use Rattle.dlmalloc.proofs.Names.{◌≡◌, ℕ, ◌-◌, ◌≤◌, ◌==◌, Some, refl, sym, ◌∙◌, ap, arith, Used, extents_in, size_where, IsBlock, state_of}
+use Rattle.dlmalloc.proofs.Names.{◌≡◌, ℕ, ◌-◌, ◌≤◌, ◌==◌, refl, arith, Used, extents_in, size_where, IsBlock, state_of}
 use Rattle.dlmalloc.proofs.Extents.Lookup.{extent}
 use Rattle.dlmalloc.proofs.Blocks.Chunks.{block_chunk, block_head}
 use Rattle.dlmalloc.proofs.Resizing.InPlaceOrElsewhere.{size_at, block_told}
@@ -36,13 +36,11 @@ size-size-requires g c =
 pub overflow_sub-size : goal.overflow_sub-size
 overflow_sub-size g c = long g (goal.at.overflow_sub-size g c).After-size-size
 
-pub resize_or_move-requires-clause-align : goal.resize_or_move-requires-clause-align
-resize_or_move-requires-clause-align g c = (4, refl)
-
-pub resize_or_move-requires-clause-held : goal.resize_or_move-requires-clause-held
-resize_or_move-requires-clause-held g c =
-    let now = (goal.at.resize_or_move-requires-clause-held g c).After-size-size in
-    let read = size_read g now in let long = long g now in omega arith
+pub resize_or_move-requires-clause-holds : goal.resize_or_move-requires-clause-holds
+resize_or_move-requires-clause-holds g c =
+    let at = goal.at.resize_or_move-requires-clause-holds g c in
+    let read = size_read g at.After-size-size in let long = long g at.After-size-size in
+    record { intact = c.requires.intact; align = (4, refl); block = block g at.In-Some; held = omega arith }
 
 pub returns-in-Some-clause-reallocated : goal.returns-in-Some-clause-reallocated
 returns-in-Some-clause-reallocated g c =

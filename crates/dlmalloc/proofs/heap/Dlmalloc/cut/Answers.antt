@@ -13,7 +13,7 @@ returns-in-Some-Chunk-clause-cut g c =
     let place = c.in-Some-Chunk.place in let is = ap Some c.in-Some-Chunk.field-0-is in
     let chosen = c.in-Some-Chunk.ensures.chunk place is in
     cut_here c.requires.intact.sound c.args.n chosen (c.in-Some-Chunk.ensures.fits place is)
-    (free_below c.requires.intact.sound chosen.there) c.take.ensures.taken.state c.take.ensures.taken.more c.take.ensures.turned.moved
+    (free_below c.requires.intact.sound chosen.there) c.take.ensures.took.taken.state c.take.ensures.took.taken.more c.take.ensures.took.turned.moved
 
 pub returns-in-Some-Top-clause-cut : goal.returns-in-Some-Top-clause-cut
 returns-in-Some-Top-clause-cut g c =
@@ -22,14 +22,19 @@ returns-in-Some-Top-clause-cut g c =
     subst (λ k. IsCutOut g.A.Links.regions g.A.Links.word g.A.Allocator.zeros g.A.Links.follows heap c.args.n k c.take_top.new.self)
     (sym c.take_top.ensures.chunk)
     (cut_here c.requires.intact.sound c.args.n chosen (omega arith) (free_below c.requires.intact.sound chosen.there)
-    c.take_top.ensures.taken.state c.take_top.ensures.taken.more (as_turned c.take_top.ensures.moves.moved))
+    c.take_top.ensures.cut.taken.state c.take_top.ensures.cut.taken.more (as_turned c.take_top.ensures.cut.moves.moved))
 
-pub cut_new-requires-clause-none : goal.cut_new-requires-clause-none
-cut_new-requires-clause-none g c = elim c.if-self-gt0.branch [
-  | then-self-gt0+in-None w ↦ w.in-None.ensures.none refl
-  | else-self-gt0 w ↦ none_chosen_empty g.A.Links.regions g.A.Links.word c.args.self.now
-      (let none = w.if-self-gt0.false in omega arith) c.args.n c.requires.bytes.least
-]
+pub cut_new-requires : goal.cut_new-requires
+cut_new-requires g c = record {
+  intact = c.requires.intact;
+  none = elim c.if-self-gt0.branch [
+    | then-self-gt0+in-None w ↦ w.in-None.ensures.none refl
+    | else-self-gt0 w ↦ none_chosen_empty g.A.Links.regions g.A.Links.word c.args.self.now
+        (let none = w.if-self-gt0.false in omega arith) c.args.n c.requires.bytes.least
+  ];
+  bytes = c.requires.bytes;
+  small = c.requires.small;
+}
 
 pub returns-in-Some-Chunk-clause-member : goal.returns-in-Some-Chunk-clause-member
 returns-in-Some-Chunk-clause-member g c = λ size is.
@@ -41,7 +46,7 @@ returns-in-Some-Top-clause-member g c = λ size is. absurd (top_no_bins size (c.
 
 pub returns-in-Some-Top-clause-bins : goal.returns-in-Some-Top-clause-bins
 returns-in-Some-Top-clause-bins g c =
-    let e = c.take_top.ensures in
+    let e = c.take_top.ensures.cut in
     bins_kept (λ b. (binned_beside c.index_stays.ensures c.requires.intact.sound e.moves (ap (λ s. s.victim) e.taken.state) b, order_same b.index))
     c.requires.intact.linked
 
@@ -62,7 +67,7 @@ returns-clause-counted g c = λ some. absurd (some (elim c.if-self-gt0.branch [
 pub take-requires-clause-cut : goal.take-requires-clause-cut
 take-requires-clause-cut g c =
     let place = c.in-Some-Chunk.place in let is = ap Some c.in-Some-Chunk.field-0-is in
-    record { chunk = c.in-Some-Chunk.ensures.there place is; bytes = c.requires.bytes; fits = c.in-Some-Chunk.ensures.fits place is }
+    record { chunk = (c.in-Some-Chunk.ensures.chunk place is).there; bytes = c.requires.bytes; fits = c.in-Some-Chunk.ensures.fits place is }
 
 pub take-requires-clause-member : goal.take-requires-clause-member
 take-requires-clause-member g c = c.in-Some-Chunk.ensures.member c.in-Some-Chunk.place (ap Some c.in-Some-Chunk.field-0-is)

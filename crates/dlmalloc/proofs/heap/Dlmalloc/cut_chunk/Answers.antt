@@ -48,15 +48,16 @@ returns-then-at-self g c =
     let less = c.if-rest-lt-LEAST_CHUNK.true in let e = c.set_inuse_and_pinuse.ensures.stores in
     let t = whole_victim c.requires.sound c.args.n c.requires.cut.chunk c.set_inuse_and_pinuse.new.memory e.regions (omega arith) e.stored c.if-at-self.true in
     record {
-      taken = record { state = t.take.state; more = t.take.more };
-      rest = t.rest;
-      moves = record {
-        moved = record { sound = t.take.sound; words = t.take.words; regions_same = e.regions; followed = e.follows };
-        free = t.free;
-        bins = refl;
+      cut = record {
+        taken = record { state = t.take.state; more = t.take.more };
+        rest = t.rest;
+        moves = record {
+          moved = record { sound = t.take.sound; words = t.take.words; regions_same = e.regions; followed = e.follows };
+          free = t.free;
+          bins = refl;
+        };
       };
-      counted =
-          omega arith;
+      counted = omega arith;
     }
 
 pub returns-else-at-self : goal.returns-else-at-self
@@ -64,15 +65,16 @@ returns-else-at-self g c =
     let less = c.if-rest-lt-LEAST_CHUNK.true in let e = c.set_inuse_and_pinuse.ensures.stores in
     let t = whole_other c.requires.sound c.args.n c.requires.cut.chunk c.set_inuse_and_pinuse.new.memory e.regions (omega arith) e.stored c.if-at-self.false in
     record {
-      taken = record { state = t.take.state; more = t.take.more };
-      rest = t.rest;
-      moves = record {
-        moved = record { sound = t.take.sound; words = t.take.words; regions_same = e.regions; followed = e.follows };
-        free = t.free;
-        bins = refl;
+      cut = record {
+        taken = record { state = t.take.state; more = t.take.more };
+        rest = t.rest;
+        moves = record {
+          moved = record { sound = t.take.sound; words = t.take.words; regions_same = e.regions; followed = e.follows };
+          free = t.free;
+          bins = refl;
+        };
       };
-      counted =
-          omega arith;
+      counted = omega arith;
     }
 
 pub returns-then-at-self-2 : goal.returns-then-at-self-2
@@ -89,15 +91,16 @@ returns-then-at-self-2 g c =
       | then-at-self-2-via-else-at-self-2+then-n-lt-LEAST_LARGE w ↦ inr w.if-n-lt-LEAST_LARGE.true
     ]) in
     record {
-      taken = record { state = t.take.state; more = t.take.more };
-      rest = t.rest;
-      moves = record {
-        moved = record { sound = t.take.sound; words = t.take.words; regions_same = same; followed = search rules };
-        free = t.free;
-        bins = refl;
+      cut = record {
+        taken = record { state = t.take.state; more = t.take.more };
+        rest = t.rest;
+        moves = record {
+          moved = record { sound = t.take.sound; words = t.take.words; regions_same = same; followed = search rules };
+          free = t.free;
+          bins = refl;
+        };
       };
-      counted =
-          omega arith;
+      counted = omega arith;
     }
 
 pub returns-else-n-lt-LEAST_LARGE : goal.returns-else-n-lt-LEAST_LARGE
@@ -111,13 +114,14 @@ returns-else-n-lt-LEAST_LARGE g c =
     let t = split_other c.requires.sound c.args.n c.requires.cut.chunk system same c.requires.cut.bytes.whole c.requires.cut.bytes.least (omega arith) stored
     c.if-at-self-2.false c.if-n-lt-LEAST_LARGE.false in
     record {
-      taken = record { state = t.take.state; more = t.take.more };
-      rest = t.rest;
-      moves = record {
-        moved = record { sound = t.take.sound; words = t.take.words; regions_same = same; followed = search rules };
-        free = t.free;
-        bins = refl;
+      cut = record {
+        taken = record { state = t.take.state; more = t.take.more };
+        rest = t.rest;
+        moves = record {
+          moved = record { sound = t.take.sound; words = t.take.words; regions_same = same; followed = search rules };
+          free = t.free;
+          bins = refl;
+        };
       };
-      counted =
-          omega arith;
+      counted = omega arith;
     }

@@ -60,12 +60,14 @@ put_before-requires g c =
     let now = (goal.at.put_before-requires g c).In_ok-grant in
     record {
       intact = record { sound = sound g now; linked = binned g now c.requires.intact.linked };
-      grant = record {
-        fresh = fresh g now;
-        bytes = c.requires.bytes;
-        room = (let e = c.asked-asked.ensures.enough in let long = c.in_ok-grant.ensures.good.long in omega arith);
+      before = record {
+        room = record {
+          fresh = fresh g now;
+          bytes = c.requires.bytes;
+          room = (let e = c.asked-asked.ensures.enough in let long = c.in_ok-grant.ensures.good.long in omega arith);
+        };
+        behind = c.in-Some.ensures.found;
       };
-      behind = c.in-Some.ensures.found;
     }
 
 pub join-requires : goal.join-requires
@@ -126,7 +128,7 @@ take_top-requires g c =
 pub returns-in-None-clause-cut : goal.returns-in-None-clause-cut
 returns-in-None-clause-cut g c =
     let heap = c.args.self.now in let middle = c.join.new.self in let new = c.take_top.new.self in
-    let grown = grown g (goal.at.returns-in-None-clause-cut g c).After-join in let e = c.take_top.ensures in
+    let grown = grown g (goal.at.returns-in-None-clause-cut g c).After-join in let e = c.take_top.ensures.cut in
     let events = Granted (round_up (c.args.n + 96) heap.granularity) grown.grant ∷ [] in
     subst (λ k. IsCutOut g.A.Links.regions g.A.Links.word g.A.Allocator.zeros g.A.Links.follows heap c.args.n k new) (sym c.take_top.ensures.chunk)
     (cut_new c.requires.intact.sound c.args.n grown e.taken.state e.taken.more e.moves.moved e.head e.foot e.others c.requires.none
@@ -153,6 +155,6 @@ returns-in-Some-clause-bins g c =
 pub returns-in-None-clause-bins : goal.returns-in-None-clause-bins
 returns-in-None-clause-bins g c =
     let now = goal.at.returns-in-None-clause-bins g c in
-    let grown = grown g now.After-join in let e = c.take_top.ensures in
+    let grown = grown g now.After-join in let e = c.take_top.ensures.cut in
     bins_kept (λ b. (let after = c.join.ensures.bins.order (binned g now.In_ok-grant b) in
     (binned_beside c.index_stays.ensures grown.sound e.moves (ap (λ s. s.victim) e.taken.state) after.0, after.1))) c.requires.intact.linked

@@ -32,7 +32,7 @@ pub returns-clause-cut : goal.returns-clause-cut
 returns-clause-cut g c = λ is.
     let regions = g.A.Links.regions in let word = g.A.Links.word in let heap = c.args.self.now in
     let less = c.args.cut in let freed = c.free_part.ensures in let middle = c.free_part.new.self in
-    let closed = c.close_top.ensures in let new = c.close_top.new.self in
+    let closed = c.close_top.ensures.closed in let new = c.close_top.new.self in
     let whole = whole_each (regions heap.system) (g.A.Links.whole heap.system) in
     let taken = c.if-not-free_part.false in
     let after : Dlmalloc _ = record heap {
@@ -42,12 +42,12 @@ returns-clause-cut g c = λ is.
           heap.base + (heap.size - less) - 80 - heap.top;
       trim_check = trim_threshold;
     } in
-    let is : new ≡ after = closed.fields in
+    let is : new ≡ after = c.close_top.ensures.fields in
     subst (λ h. IsShortened regions word g.A.Links.follows heap less h) (sym is) (is_shortened c.requires.sound c.requires.there less c.requires.whole
-    c.requires.room whole new.system (closed.regions ∙ freed.regions taken) closed.head closed.foot_head
-    (λ k inside at_top at_foot. (let was = subst (λ rs. IsWordOf rs k) closed.regions inside in closed.elsewhere k was at_top at_foot ∙ freed.words k was))
+    c.requires.room whole new.system (closed.regions_same ∙ freed.regions taken) closed.head closed.foot_head
+    (λ k inside at_top at_foot. (let was = subst (λ rs. IsWordOf rs k) closed.regions_same inside in closed.elsewhere k was at_top at_foot ∙ freed.words k was))
     (g.A.Links.follows_on heap.system middle new.system (Released heap.base heap.size (heap.size - less) ∷ []) []
-    (Released heap.base heap.size (heap.size - less) ∷ []) (freed.follows taken) closed.follows refl))
+    (Released heap.base heap.size (heap.size - less) ∷ []) (freed.follows taken) closed.followed refl))
 
 pub returns-clause-there : goal.returns-clause-there
 returns-clause-there g c =

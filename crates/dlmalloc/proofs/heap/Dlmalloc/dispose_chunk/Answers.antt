@@ -33,16 +33,16 @@ unbin_between-requires g c = record {
 pub unbin_between-requires-2 : goal.unbin_between-requires-2
 unbin_between-requires-2 g c =
     let begin = c.free_begin-from.ensures.value in let end = c.free_end-to.ensures.value in
-    let there = some_segment g.A.Links.word c.args.self.now c.args.at c.requires.chunk in let state = c.unbin_between.ensures.same.state in
+    let there = some_segment g.A.Links.word c.args.self.now c.args.at c.requires.chunk in let state = c.unbin_between.ensures.bins.same.state in
     record {
-      sound = c.unbin_between.ensures.same.sound;
+      sound = c.unbin_between.ensures.bins.same.sound;
       free = λ more. subst (λ s. IsFreeAt s (c.args.at + c.args.size) (c.free_end-to.result - (c.args.at + c.args.size))) (sym state)
           (right_free c.requires.intact.sound c.requires.chunk begin end there more);
       none = λ less n free. right_none c.requires.intact.sound c.requires.chunk begin end there less n
           (subst (λ s. IsFreeAt s (c.args.at + c.args.size) n) state free);
       binned = (
         c.free_begin-from.result ∷ [],
-        (c.unbin_between.ensures.loose [] c.requires.intact.linked (λ none. none)).0,
+        (c.unbin_between.ensures.bins.loose [] c.requires.intact.linked (λ none. none)).0,
         two c.requires.intact.sound c.requires.chunk
             begin end,
       );
@@ -53,8 +53,8 @@ unbin_between-requires-2 g c =
 pub join_free-requires : goal.join_free-requires
 join_free-requires g c =
     let begin = c.free_begin-from.ensures.value in let end = c.free_end-to.ensures.value in
-    let left = rebinned_on g.A.Links.regions g.A.Links.word g.A.Links.follows g.A.Links.follows_on c.unbin_between.ensures.same
-    c.unbin_between-2.ensures.same in
+    let left = rebinned_on g.A.Links.regions g.A.Links.word g.A.Links.follows g.A.Links.follows_on c.unbin_between.ensures.bins.same
+    c.unbin_between-2.ensures.bins.same in
     record {
       sound = left.sound;
       chunk = still_there c.requires.intact.sound c.requires.chunk begin end left;
@@ -73,13 +73,13 @@ bin_joined-requires-clause-joined g c = c.join_free.ensures.joined
 pub returns : goal.returns
 returns g c =
     let word = g.A.Links.word in let old = c.args.self.now in let new = c.bin_joined.new.self in
-    let left = rebinned_on g.A.Links.regions word g.A.Links.follows g.A.Links.follows_on c.unbin_between.ensures.same c.unbin_between-2.ensures.same in
+    let left = rebinned_on g.A.Links.regions word g.A.Links.follows g.A.Links.follows_on c.unbin_between.ensures.bins.same c.unbin_between-2.ensures.bins.same in
     let e = c.join_free.ensures in let last = c.bin_joined.ensures.same in let from = c.free_begin-from.result in
     let to = c.free_end-to.result in let begin = c.free_begin-from.ensures.value in
     let end = c.free_end-to.ensures.value in
     let order : KeepsOrder g.A.Links.regions word old new = λ b.
-    let one = c.unbin_between.ensures.loose [] b (λ none. none) in
-    let second = c.unbin_between-2.ensures.loose (from ∷ []) one.0 (two c.requires.intact.sound c.requires.chunk begin end) in
+    let one = c.unbin_between.ensures.bins.loose [] b (λ none. none) in
+    let second = c.unbin_between-2.ensures.bins.loose (from ∷ []) one.0 (two c.requires.intact.sound c.requires.chunk begin end) in
     let joined = joined_loose c.requires.intact.sound c.requires.chunk begin end left c.index_stays.ensures second.0
     e.moves.moved e.moves.free e.victim e.moves.bins in
     let after = c.bin_joined.ensures.binned joined in (
@@ -88,11 +88,13 @@ returns g c =
           (λ is. joined_other c.requires.intact.sound c.requires.chunk begin end (b.holds.free from (to - from) is)),
     ) in
     record {
-      state = last.state ∙ (e.state ∙ ap (λ s. freed s c.args.at) left.state);
-      less = subst (λ s. HasOneMore s (state_of word old) c.args.at) (sym last.state)
-          (subst (λ s. HasOneMore (state_of word c.join_free.new.self) s c.args.at) left.state e.less);
-      records = λ one is there. ap (λ s. extent_at one.at (extents_in s)) last.state
-          ∙ e.records one is (ap (λ s. extent_at one.at (extents_in s)) left.state ∙ there);
+      freed = record {
+        state = last.state ∙ (e.freed.state ∙ ap (λ s. freed s c.args.at) left.state);
+        less = subst (λ s. HasOneMore s (state_of word old) c.args.at) (sym last.state)
+            (subst (λ s. HasOneMore (state_of word c.join_free.new.self) s c.args.at) left.state e.freed.less);
+        records = λ one is there. ap (λ s. extent_at one.at (extents_in s)) last.state
+            ∙ e.freed.records one is (ap (λ s. extent_at one.at (extents_in s)) left.state ∙ there);
+      };
       around = subst (λ s. IsFreeAround s c.args.at c.free_begin-from.result) (sym last.state) e.around;
       turned = record {
         moved = turned g.A.Links.regions word g.A.Links.follows g.A.Links.follows_on left e.moves.moved last;
@@ -103,7 +105,7 @@ returns g c =
 
 pub bin_joined-requires-clause-loose : goal.bin_joined-requires-clause-loose
 bin_joined-requires-clause-loose g c =
-    let first = c.unbin_between.ensures in let second = c.unbin_between-2.ensures in let e = c.join_free.ensures in
+    let first = c.unbin_between.ensures.bins in let second = c.unbin_between-2.ensures.bins in let e = c.join_free.ensures in
     let begin = c.free_begin-from.ensures.value in let end = c.free_end-to.ensures.value in
     let left = rebinned_on g.A.Links.regions g.A.Links.word g.A.Links.follows g.A.Links.follows_on first.same second.same in
     let one = first.loose [] c.requires.intact.linked (λ none. none) in

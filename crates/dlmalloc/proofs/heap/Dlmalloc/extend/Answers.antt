@@ -10,38 +10,28 @@ overflow_add-self g c =
     let high = c.requires.fresh.high in let begins = m.0 in
     grind arith
 
-pub close_top-requires-clause-low : goal.close_top-requires-clause-low
-close_top-requires-clause-low g c = top_low c.requires.sound c.requires.there
-
-pub close_top-requires-clause-room : goal.close_top-requires-clause-room
-close_top-requires-clause-room g c =
-    let e = ends c.requires.sound c.requires.there in let long = c.requires.fresh.long in
-    omega arith
-
-pub close_top-requires-clause-high : goal.close_top-requires-clause-high
-close_top-requires-clause-high g c =
-    let m = behind_means c.args.grant.now (bare_head c.args.self.now) c.requires.behind in
-    let high = c.requires.fresh.high in
-    omega arith
-
-pub close_top-requires-clause-top : goal.close_top-requires-clause-top
-close_top-requires-clause-top g c = top_word c.requires.sound c.requires.there
-
-pub close_top-requires-clause-foot : goal.close_top-requires-clause-foot
-close_top-requires-clause-foot g c =
+pub close_top-requires : goal.close_top-requires
+close_top-requires g c =
     let heap = c.args.self.now in let grant = c.args.grant.now in let f = c.requires.fresh in
     let m = behind_means grant (bare_head heap) c.requires.behind in
     let whole = end_whole c.requires.sound c.requires.there in
+    let e = ends c.requires.sound c.requires.there in let long = f.long in let high = f.high in
     record {
-      granted = f.run.covered (heap.base + (heap.size + grant.size) - 72) (omega arith) (omega arith);
-      aligned = omega arith;
+      low = top_low c.requires.sound c.requires.there;
+      room = omega arith;
+      high = omega arith;
+      top = top_word c.requires.sound c.requires.there;
+      foot = record {
+        granted = f.run.covered (heap.base + (heap.size + grant.size) - 72) (omega arith) (omega arith);
+        aligned = omega arith;
+      };
     }
 
 pub returns : goal.returns
 returns g c =
     let regions = g.A.Links.regions in let word = g.A.Links.word in let heap = c.args.self.now in
     let grant = c.args.grant.now in let fresh = c.requires.fresh in let there = c.requires.there in
-    let closed = c.close_top.ensures in let new = c.close_top.new.self in
+    let closed = c.close_top.ensures.closed in let new = c.close_top.new.self in
     let m = behind_means grant (bare_head heap) c.requires.behind in
     let long = fresh.long in let e = ends c.requires.sound there in
     let some : 0 < heap.size + grant.size = omega arith in
@@ -50,12 +40,12 @@ returns g c =
       some = there;
       behind = c.requires.behind;
       whole = whole_each (regions heap.system) (g.A.Links.whole heap.system);
-      same = closed.regions;
+      same = closed.regions_same;
       head = closed.head;
       foot = closed.foot_head;
       kept = closed.elsewhere;
     } in
-    let is : new ≡ extended_heap heap grant new.system = closed.fields in
+    let is : new ≡ extended_heap heap grant new.system = c.close_top.ensures.fields in
     record {
       admitted = record {
         joined = subst (λ h. IsAdmitted regions word g.A.Links.follows heap grant h) (sym is) (record {
@@ -64,8 +54,8 @@ returns g c =
           there = some;
           room = omega arith;
           begins = inr (there, c.requires.behind, refl);
-          regions_same = closed.regions;
-          followed = closed.follows;
+          regions_same = closed.regions_same;
+          followed = closed.followed;
           used = extended_used c.requires.sound stored;
           words = extended_words c.requires.sound stored;
           new_words = λ k inside low high a b. closed.elsewhere k inside a (λ at_foot. b (omega arith));

@@ -10,5 +10,5 @@ dispose_chunk-requires-clause-chunk g c = block_chunk g.A.Links.regions g.A.Link
     c.requires.block.1 c.size-size.result c.size-size.ensures.value
 
 pub returns-clause-freed : goal.returns-clause-freed
-returns-clause-freed g c = freed_block c.args.ptr c.requires.intact.sound c.dispose_chunk.ensures.state
-    c.dispose_chunk.ensures.less c.dispose_chunk.ensures.turned.moved c.dispose_chunk.ensures.turned.bins.order
+returns-clause-freed g c = freed_block c.args.ptr c.requires.intact.sound c.dispose_chunk.ensures.freed.state
+    c.dispose_chunk.ensures.freed.less c.dispose_chunk.ensures.turned.moved c.dispose_chunk.ensures.turned.bins.order

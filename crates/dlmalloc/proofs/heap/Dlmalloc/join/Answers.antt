@@ -1,3 +1,4 @@
+use Rattle.dlmalloc.proofs.Names.{sym, ◌∙◌, arith, nat_tests}
 use Rattle.dlmalloc.proofs.Grants.WithBins.{as_joined, admitted_binned}
 use Rattle.dlmalloc.proofs.Bins.Order.{order_same, bins_kept}
 use Rattle.dlmalloc.proofs.heap.Dlmalloc.join.Goals as goal
@@ -19,3 +20,14 @@ returns-then-is_behind g c =
       bins = bins_kept (λ b. (admitted_binned c.index_stays.ensures c.requires.intact.sound e.joined e.free e.same b, order_same b.index))
           c.requires.intact.linked;
     }
+
+pub add_segment-requires : goal.add_segment-requires
+add_segment-requires g c = record {
+  intact = c.requires.intact;
+  segment = record {
+    there = (let other = c.if-self-eq0.false in grind (arith, nat_tests));
+    fresh = c.requires.fresh;
+    apart = c.requires.apart;
+    beside = sym c.is_behind.ensures ∙ c.if-is_behind.false;
+  };
+}

@@ -36,9 +36,7 @@ returns-then-self-to g c =
     let o = top_victim c.requires.sound c.requires.chunk c.requires.from c.requires.to c.if-to-self.true c.store_counted.new.self
     c.store_counted.ensures.regions c.store_counted.ensures.stored c.if-from-self.true c.if-self-to.true in
     record {
-      state = o.state;
-      less = o.less;
-      records = o.records;
+      freed = record { state = o.state; less = o.less; records = o.records };
       around = o.around;
       joined = o.joined;
       victim = inr (c.if-from-self.true, c.if-self-to.true, inl refl);
@@ -60,9 +58,7 @@ returns-else-from-self g c =
     let o = top_other c.requires.sound c.requires.chunk c.requires.from c.requires.to c.if-to-self.true c.store_counted.new.self c.store_counted.ensures.regions
     c.store_counted.ensures.stored out in
     record {
-      state = o.state;
-      less = o.less;
-      records = o.records;
+      freed = record { state = o.state; less = o.less; records = o.records };
       around = o.around;
       joined = o.joined;
       victim = inl refl;
@@ -77,18 +73,16 @@ returns-else-from-self g c =
 pub returns-then-self-to-2 : goal.returns-then-self-to-2
 returns-then-self-to-2 g c =
     let on = goes_on c.requires.sound c.requires.chunk c.requires.from c.requires.to c.if-to-self.false in
-    let o = as_victim c.requires.sound c.requires.chunk c.requires.from c.requires.to on c.make_free.new.memory c.make_free.ensures.regions
-    c.make_free.ensures.stored
+    let o = as_victim c.requires.sound c.requires.chunk c.requires.from c.requires.to on c.make_free.new.memory c.make_free.ensures.freed.regions_same
+    c.make_free.ensures.freed.stored
     c.if-from-self-2.true c.if-self-to-2.true in
     record {
-      state = o.state;
-      less = o.less;
-      records = o.records;
+      freed = record { state = o.state; less = o.less; records = o.records };
       around = o.around;
       joined = o.joined;
       victim = inr (c.if-from-self-2.true, c.if-self-to-2.true, inr refl);
       moves = record {
-        moved = record { sound = o.sound; words = o.words; regions_same = search rules; followed = search rules };
+        moved = record { sound = o.sound; words = o.words; regions_same = c.make_free.ensures.freed.regions_same; followed = c.make_free.ensures.freed.followed };
         free = o.free;
         bins = refl;
       };
@@ -103,17 +97,15 @@ returns-else-from-self-2 g c =
       | else-from-self-2-via-then-from-self-2+else-self-to-2 w ↦ inr w.if-self-to-2.false
       | else-from-self-2-via-else-from-self-2 w ↦ inl w.if-from-self-2.false
     ] in
-    let o = as_other c.requires.sound c.requires.chunk c.requires.from c.requires.to on c.make_free.new.memory c.make_free.ensures.regions
-    c.make_free.ensures.stored out in
+    let o = as_other c.requires.sound c.requires.chunk c.requires.from c.requires.to on c.make_free.new.memory c.make_free.ensures.freed.regions_same
+    c.make_free.ensures.freed.stored out in
     record {
-      state = o.state;
-      less = o.less;
-      records = o.records;
+      freed = record { state = o.state; less = o.less; records = o.records };
       around = o.around;
       joined = o.joined;
       victim = inl refl;
       moves = record {
-        moved = record { sound = o.sound; words = o.words; regions_same = search rules; followed = search rules };
+        moved = record { sound = o.sound; words = o.words; regions_same = c.make_free.ensures.freed.regions_same; followed = c.make_free.ensures.freed.followed };
         free = o.free;
         bins = refl;
       };

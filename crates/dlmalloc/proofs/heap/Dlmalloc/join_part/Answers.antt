@@ -55,13 +55,8 @@ pub returns-then-was_victim : goal.returns-then-was_victim
 returns-then-was_victim g c =
     let less = c.if-rest-lt-LEAST_CHUNK.true in let room = c.requires.take.room in let e = c.set_inuse.ensures.stores in
     let can = c.requires.take in
-    let t = whole_victim c.requires.sound can e.regions g.A.Links.follows e.follows (omega arith) e.stored c.if-was_victim.true in
     record {
-      state = t.state;
-      held = t.held;
-      others = t.others;
-      rest = t.rest;
-      moves = record { moved = t.moved; free = t.free; bins = refl };
+      joined = whole_victim c.requires.sound can e.regions g.A.Links.follows e.follows (omega arith) e.stored c.if-was_victim.true;
       counted = omega arith;
     }
 
@@ -69,13 +64,8 @@ pub returns-else-was_victim : goal.returns-else-was_victim
 returns-else-was_victim g c =
     let less = c.if-rest-lt-LEAST_CHUNK.true in let room = c.requires.take.room in let e = c.set_inuse.ensures.stores in
     let can = c.requires.take in
-    let t = whole_binned c.requires.sound can e.regions g.A.Links.follows e.follows (omega arith) e.stored c.if-was_victim.false in
     record {
-      state = t.state;
-      held = t.held;
-      others = t.others;
-      rest = t.rest;
-      moves = record { moved = t.moved; free = t.free; bins = refl };
+      joined = whole_binned c.requires.sound can e.regions g.A.Links.follows e.follows (omega arith) e.stored c.if-was_victim.false;
       counted = omega arith;
     }
 
@@ -86,13 +76,8 @@ returns-then-was_victim-2 g c =
     let can = c.requires.take in
     let stored = free_stores c.requires.sound can first.regions first.stored second.stored in
     let followed = g.A.Links.follows_on _ _ _ [] [] [] first.follows second.follows refl in
-    let t = into_victim c.requires.sound can (second.regions ∙ first.regions) g.A.Links.follows followed (omega arith) stored c.if-was_victim-2.true in
     record {
-      state = t.state;
-      held = t.held;
-      others = t.others;
-      rest = t.rest;
-      moves = record { moved = t.moved; free = t.free; bins = refl };
+      joined = into_victim c.requires.sound can (second.regions ∙ first.regions) g.A.Links.follows followed (omega arith) stored c.if-was_victim-2.true;
       counted = omega arith;
     }
 
@@ -103,12 +88,7 @@ returns-else-was_victim-2 g c =
     let can = c.requires.take in
     let stored = free_stores c.requires.sound can first.regions first.stored second.stored in
     let followed = g.A.Links.follows_on _ _ _ [] [] [] first.follows second.follows refl in
-    let t = into_binned c.requires.sound can (second.regions ∙ first.regions) g.A.Links.follows followed (omega arith) stored c.if-was_victim-2.false in
     record {
-      state = t.state;
-      held = t.held;
-      others = t.others;
-      rest = t.rest;
-      moves = record { moved = t.moved; free = t.free; bins = refl };
+      joined = into_binned c.requires.sound can (second.regions ∙ first.regions) g.A.Links.follows followed (omega arith) stored c.if-was_victim-2.false;
       counted = omega arith;
     }

@@ -1,7 +1,7 @@
 use Rattle.dlmalloc.proofs.Names.{◌≡◌, ◌+◌, ◌≤◌, None, refl, subst, arith, rules, padded, chosen, state_of, limit}
 use Rattle.dlmalloc.proofs.Bins.Members.{member_high}
 use Rattle.dlmalloc.specs.Served.{IsRefusedWith}
-use Rattle.dlmalloc.proofs.Requests.Aligned.{limit_small, enlarged_is, too_large, IsAligned, served_aligned}
+use Rattle.dlmalloc.proofs.Requests.Aligned.{limit_small, enlarged_is, too_large, served_aligned}
 use Rattle.dlmalloc.proofs.heap.Dlmalloc.memalign.Goals.{then-size-limit-via-then-size-limit, then-size-limit-via-else-size-limit+then-align-limit}
 use Rattle.dlmalloc.proofs.heap.Dlmalloc.memalign.Goals as goal
 
@@ -34,23 +34,8 @@ overflow_add-n-2 g c =
 
 pub returns-in-Ok-clause-served : goal.returns-in-Ok-clause-served
 returns-in-Ok-clause-served g c =
-    let e = c.align_block.ensures in let n = c.request2size-n.ensures in
-    let left : IsAligned g.A.Links.regions g.A.Links.word g.A.Links.follows c.c_malloc.new.self c.in-Ok.block c.args.align c.request2size-n.result
-    c.align_block.result c.align_block.new.self =
-    record {
-      place = e.place;
-      multiple = e.multiple;
-      state = e.state;
-      held = e.held;
-      others = e.others;
-      kept = e.kept;
-      words = e.words;
-      sound = e.intact.sound;
-      regions_same = e.regions;
-      followed = e.follows;
-      order = e.order;
-    } in
-    served_aligned c.args.size n.is n.holds n.near c.in-Ok.ensures.served left
+    let n = c.request2size-n.ensures in
+    served_aligned c.args.size n.is n.holds n.near c.in-Ok.ensures.served c.align_block.ensures.aligned
 
 pub returns-in-Err-clause-refused : goal.returns-in-Err-clause-refused
 returns-in-Err-clause-refused g c =
@@ -60,7 +45,7 @@ returns-in-Err-clause-refused g c =
 pub returns-in-Ok-clause-member : goal.returns-in-Ok-clause-member
 returns-in-Ok-clause-member g c =
     member_high g.A.Links.regions g.A.Links.word c.args.self.now c.args.size c.args.align c.in-Ok.block c.requires.align.1
-    (enlarged_is c.args.size c.args.align c.request2size-n.ensures.is) c.align_block.ensures.place c.in-Ok.ensures.member
+    (enlarged_is c.args.size c.args.align c.request2size-n.ensures.is) c.align_block.ensures.aligned.place c.in-Ok.ensures.member
 
 pub returns-in-Ok-clause-counted : goal.returns-in-Ok-clause-counted
 returns-in-Ok-clause-counted g c = λ some.

@@ -16,7 +16,7 @@ returns g c =
     let heap = c.args.self.now in let middle = c.prepend.new.self in let new = c.dispose_chunk.new.self in
     let first = c.prepend.ensures.put.prepended in let last = c.dispose_chunk.ensures in
     record {
-      put = put_before_is c.requires.grant.bytes.least first last.state last.less last.turned.moved last.records
+      put = put_before_is c.requires.before.room.bytes.least first last.freed.state last.freed.less last.turned.moved last.freed.records
           (g.A.Links.follows_on heap.system middle.system new.system [] [] [] first.followed last.turned.moved.followed refl);
       bins = bins_kept (λ b. last.turned.bins.order (prepended_binned first c.index_stays.ensures c.requires.intact.sound c.prepend.ensures.put.same b))
           c.requires.intact.linked;

@@ -35,7 +35,7 @@ unbin-requires g c =
 
 pub hand_out-requires : goal.hand_out-requires
 hand_out-requires g c =
-    let same = c.unbin.ensures.same in
+    let same = c.unbin.ensures.bins.same in
     let fixed = g.met.A.Allocator.fixed c.args.self.now.system c.unbin.new.self.system _ same.followed in
     record {
       sound = same.sound;
@@ -58,27 +58,27 @@ returns-then-hand_out g c =
     let heap = c.args.self.now in let middle = c.unbin.new.self in let told = c.args.told.now in
     let new = c.hand_out.new.self in let e = c.hand_out.ensures in let frees = g.A.Allocator.frees heap.system in
     let parts = g.A.Allocator.parts heap.system in
-    let fixed = g.met.A.Allocator.fixed heap.system middle.system _ c.unbin.ensures.same.followed in
+    let fixed = g.met.A.Allocator.fixed heap.system middle.system _ c.unbin.ensures.bins.same.followed in
     let takes : true ≡ frees = sym c.if-hand_out.true ∙ (e.answer ∙ fixed.frees_same) in
     let may : (chained : IsChained g.A.Links.word heap c.args.before told) → true ≡ may_leave parts chained.segment = λ chained.
     sym c.if-not-may_leave.false ∙ (c.may_leave.ensures.told ∙ test_is c.requires.intact.sound chained parts) in
     let chain : (chained : IsChained g.A.Links.word heap c.args.before told) → IsChained g.A.Links.word middle c.args.before told = λ chained.
-    chained_then c.requires.intact.sound c.unbin.ensures.same chained in
+    chained_then c.requires.intact.sound c.unbin.ensures.bins.same chained in
     let visited : (chained : IsChained g.A.Links.word heap c.args.before told) → IsVisited g.A.Links.regions g.A.Links.word g.A.Links.follows true true heap
-    c.args.before told chained new = λ chained. visited_then g.A.Links.follows g.A.Links.follows_on c.requires.intact.sound chained c.unbin.ensures.same
+    c.args.before told chained new = λ chained. visited_then g.A.Links.follows g.A.Links.follows_on c.requires.intact.sound chained c.unbin.ensures.bins.same
     (subst (λ leaves. IsVisited g.A.Links.regions g.A.Links.word g.A.Links.follows true leaves middle c.args.before told (chain chained) new)
     c.if-hand_out.true (e.visited (chain chained))) in
     let moves = subst (λ left. FreeMoves (state_of g.A.Links.word middle) (state_of g.A.Links.word new)
     (if left then told.base ∷ [] else []) []) c.if-hand_out.true e.free in
     let after : (loose : IsBinnedBut (told.base ∷ []) g.A.Links.regions g.A.Links.word middle) → IsBinned g.A.Links.regions g.A.Links.word new = λ loose.
-    binned_without c.index_stays.ensures c.unbin.ensures.same.sound (e.visited (chain c.requires.chained)) e.words e.bins moves loose in
+    binned_without c.index_stays.ensures c.unbin.ensures.bins.same.sound (e.visited (chain c.requires.chained)) e.words e.bins moves loose in
     record {
       answer = λ chained. (λ i. takes i && may chained i);
       visited = λ chained. subst (λ handed. IsVisited g.A.Links.regions g.A.Links.word g.A.Links.follows handed true heap
           c.args.before told chained new) (may chained) (visited chained);
-      linked = after (c.unbin.ensures.loose [] c.requires.intact.linked (λ none. none)).0;
+      linked = after (c.unbin.ensures.bins.loose [] c.requires.intact.linked (λ none. none)).0;
       index = λ chained b.
-          let left = c.unbin.ensures.loose [] b (λ none. none) in let base = base_is c.requires.intact.sound chained in
+          let left = c.unbin.ensures.bins.loose [] b (λ none. none) in let base = base_is c.requires.intact.sound chained in
           let size = ap (λ n. n - 80) (size_is c.requires.intact.sound chained) in
           (after left.0, λ n. left.1 n ∙ visit_left frees parts chained.segment b.index n base size (may chained) takes);
       counted = (let tested = c.may_leave.ensures.counted in let left = c.unbin.ensures.counted in let handed = e.counted in omega arith);
@@ -89,7 +89,7 @@ returns-then-hand_out g c =
 pub bin-requires : goal.bin-requires
 bin-requires g c =
     let heap = c.args.self.now in let middle = c.unbin.new.self in let told = c.args.told.now in
-    let new = c.hand_out.new.self in let chained = c.requires.chained in let same = c.unbin.ensures.same in
+    let new = c.hand_out.new.self in let chained = c.requires.chained in let same = c.unbin.ensures.bins.same in
     let may = sym c.if-not-may_leave.false ∙ (c.may_leave.ensures.told ∙ test_is c.requires.intact.sound chained (g.A.Allocator.parts heap.system)) in
     let first = first_is_free c.requires.intact.sound chained
     (last_test (is_own chained.segment) (g.A.Allocator.parts heap.system) (is_unused chained.segment) may) in
@@ -103,7 +103,7 @@ bin-requires g c =
       loose = (
         [],
         loose_still c.index_stays.ensures same.sound visited c.hand_out.ensures.words c.hand_out.ensures.bins moves
-            (c.unbin.ensures.loose [] c.requires.intact.linked (λ none. none)).0,
+            (c.unbin.ensures.bins.loose [] c.requires.intact.linked (λ none. none)).0,
       );
     }
 
@@ -112,31 +112,31 @@ returns g c =
     let heap = c.args.self.now in let middle = c.unbin.new.self in let told = c.args.told.now in
     let new = c.hand_out.new.self in let e = c.hand_out.ensures in let frees = g.A.Allocator.frees heap.system in
     let parts = g.A.Allocator.parts heap.system in
-    let fixed = g.met.A.Allocator.fixed heap.system middle.system _ c.unbin.ensures.same.followed in
+    let fixed = g.met.A.Allocator.fixed heap.system middle.system _ c.unbin.ensures.bins.same.followed in
     let takes : false ≡ frees = sym c.if-hand_out.false ∙ (e.answer ∙ fixed.frees_same) in
     let may : (chained : IsChained g.A.Links.word heap c.args.before told) → true ≡ may_leave parts chained.segment = λ chained.
     sym c.if-not-may_leave.false ∙ (c.may_leave.ensures.told ∙ test_is c.requires.intact.sound chained parts) in
     let chain : (chained : IsChained g.A.Links.word heap c.args.before told) → IsChained g.A.Links.word middle c.args.before told = λ chained.
-    chained_then c.requires.intact.sound c.unbin.ensures.same chained in
+    chained_then c.requires.intact.sound c.unbin.ensures.bins.same chained in
     let visited : (chained : IsChained g.A.Links.word heap c.args.before told) → IsVisited g.A.Links.regions g.A.Links.word g.A.Links.follows true false heap
-    c.args.before told chained new = λ chained. visited_then g.A.Links.follows g.A.Links.follows_on c.requires.intact.sound chained c.unbin.ensures.same
+    c.args.before told chained new = λ chained. visited_then g.A.Links.follows g.A.Links.follows_on c.requires.intact.sound chained c.unbin.ensures.bins.same
     (subst (λ leaves. IsVisited g.A.Links.regions g.A.Links.word g.A.Links.follows true leaves middle c.args.before told (chain chained) new)
     c.if-hand_out.false (e.visited (chain chained))) in
     let moves = subst (λ left. FreeMoves (state_of g.A.Links.word middle) (state_of g.A.Links.word new)
     (if left then told.base ∷ [] else []) []) c.if-hand_out.false e.free in
     let after : (loose : IsBinnedBut (told.base ∷ []) g.A.Links.regions g.A.Links.word middle) →
     IsBinnedBut (told.base ∷ []) g.A.Links.regions g.A.Links.word new = λ loose.
-    loose_still c.index_stays.ensures c.unbin.ensures.same.sound (e.visited (chain c.requires.chained)) e.words e.bins moves loose in
+    loose_still c.index_stays.ensures c.unbin.ensures.bins.same.sound (e.visited (chain c.requires.chained)) e.words e.bins moves loose in
     record {
       answer = λ chained. (λ i. takes i && may chained i);
       visited = λ chained. subst (λ handed. IsVisited g.A.Links.regions g.A.Links.word g.A.Links.follows handed false heap
           c.args.before told chained c.bin.new.self) (may chained)
-          (visited_binned g.A.Links.follows g.A.Links.follows_on c.requires.intact.sound chained new (visited chained) c.bin.ensures.same);
-      linked = (c.bin.ensures.binned [] (after (c.unbin.ensures.loose [] c.requires.intact.linked (λ none. none)).0) (λ none. none)).0;
+          (visited_binned g.A.Links.follows g.A.Links.follows_on c.requires.intact.sound chained new (visited chained) c.bin.ensures.bins.same);
+      linked = (c.bin.ensures.bins.binned [] (after (c.unbin.ensures.bins.loose [] c.requires.intact.linked (λ none. none)).0) (λ none. none)).0;
       index = λ chained b.
-          let left = c.unbin.ensures.loose [] b (λ none. none) in let base = base_is c.requires.intact.sound chained in
+          let left = c.unbin.ensures.bins.loose [] b (λ none. none) in let base = base_is c.requires.intact.sound chained in
           let size = ap (λ n. n - 80) (size_is c.requires.intact.sound chained) in
-          let last = c.bin.ensures.binned [] (after left.0) (λ none. none) in (
+          let last = c.bin.ensures.bins.binned [] (after left.0) (λ none. none) in (
             last.0,
             λ n. last.1 n ∙ (with_same (told.size - 80) told.base left.0.index
                 (without_chunk (told.size - 80) told.base b.index) n (left.1 n)

@@ -49,8 +49,14 @@ returns-then-more-self-clause-none g c =
     let room : nat_lt c.args.n (c.size-size.result + c.args.self.now.top_size) ≡ false = grind (arith, nat_tests) in
     λ no. has_no_room (state_of g.A.Links.word c.args.self.now) c.args.n there more (top_behind c.requires.intact.sound there c.if-next-self.true) room
 
-pub grow_into_top-requires-clause-chunk : goal.grow_into_top-requires-clause-chunk
-grow_into_top-requires-clause-chunk g c = chunk_told c.requires.intact.sound c.requires.chunk.1 c.size-size.ensures.value
+pub grow_into_top-requires-clause-take : goal.grow_into_top-requires-clause-take
+grow_into_top-requires-clause-take g c = record {
+  chunk = chunk_told c.requires.intact.sound c.requires.chunk.1 c.size-size.ensures.value;
+  next = c.if-next-self.true;
+  whole = c.requires.bytes.whole;
+  more = c.if-n-size.false;
+  room = (let more = c.if-n-size.false in let much = c.if-more-self.false in omega arith);
+}
 
 pub returns-then-next-self-clause-resized : goal.returns-then-next-self-clause-resized
 returns-then-next-self-clause-resized g c =
@@ -58,7 +64,7 @@ returns-then-next-self-clause-resized g c =
     let more = c.if-n-size.false in let much = c.if-more-self.false in
     let room : nat_lt c.args.n (c.size-size.result + c.args.self.now.top_size) ≡ true = grind (arith, nat_tests) in
     λ yes. grows (state_of g.A.Links.word c.args.self.now) c.args.n there more
-    (top_behind c.requires.intact.sound there c.if-next-self.true) room ∙ ap Some (sym c.grow_into_top.ensures.state)
+    (top_behind c.requires.intact.sound there c.if-next-self.true) room ∙ ap Some (sym c.grow_into_top.ensures.grown.state)
 
 pub inuse-requires : goal.inuse-requires
 inuse-requires g c =
@@ -108,7 +114,7 @@ returns-clause-resized g c =
 
 pub returns-then-next-self-clause-turned : goal.returns-then-next-self-clause-turned
 returns-then-next-self-clause-turned g c =
-    let e = c.grow_into_top.ensures in
+    let e = c.grow_into_top.ensures.grown in
     record {
       moved = as_turned e.moves.moved;
       bins = bins_kept (λ b. (binned_beside c.index_stays.ensures c.requires.intact.sound e.moves (ap (λ s. s.victim) e.state) b, order_same b.index))

@@ -1,11 +1,15 @@
 use Rattle.dlmalloc.proofs.Names.{◌≡◌, ◌≢◌, ◌<◌, inl, None, true, refl, sym, ap, subst, arith, rules, nat_le, nat_tests, limit, state_of, IsMemberServed, padded, chosen, asked, pass_steps}
 use Rattle.dlmalloc.proofs.Resizing.InPlaceOrElsewhere.{chunk_there, stays_there}
 use Rattle.dlmalloc.proofs.Blocks.HandedOut.{on_ok}
+use Rattle.dlmalloc.specs.OneChunk.{HoldsBytes}
 use Rattle.dlmalloc.proofs.heap.Dlmalloc.resize_or_move.Goals as goal
 
-pub resize_chunk-requires-clause-chunk : goal.resize_chunk-requires-clause-chunk
-resize_chunk-requires-clause-chunk g c =
-    (c.requires.block.1.extent.size, chunk_there c.requires.block.1)
+pub resize_chunk-requires : goal.resize_chunk-requires
+resize_chunk-requires g c = record {
+  intact = c.requires.holds.intact;
+  chunk = (c.requires.holds.block.1.extent.size, chunk_there c.requires.holds.block.1);
+  bytes = search rules;
+}
 
 pub returns-then-resize_chunk-clause-resized : goal.returns-then-resize_chunk-clause-resized
 returns-then-resize_chunk-clause-resized g c =
@@ -15,7 +19,7 @@ returns-then-resize_chunk-clause-resized g c =
     inl (
       c.requires.least,
       refl,
-      stays_there c.requires.intact.sound c.requires.block.1 c.requires.held small request.is request.holds request.near
+      stays_there c.requires.holds.intact.sound c.requires.holds.block.1 c.requires.holds.held small request.is request.holds request.near
           (done.resized yes) (done.held yes) done.others done.turned.moved done.turned.bins.order,
     )
 
@@ -29,13 +33,17 @@ returns-then-size-max_request-clause-refused g c =
         followed = search rules;
         refused = search rules;
         state = refl;
-        sound = c.requires.intact.sound;
+        sound = c.requires.holds.intact.sound;
         regions_same = refl;
         words = λ k is. refl;
         index = λ b. (b, λ n. refl);
       };
       untouched = λ large. refl;
     }
+
+pub move_block-requires : goal.move_block-requires
+move_block-requires g c = subst (λ heap. HoldsBytes g.A.Links heap c.args.ptr c.args.held c.args.align)
+    (sym (c.resize_chunk.ensures.same c.if-resize_chunk.false)) c.requires.holds
 
 pub returns-clause-member : goal.returns-clause-member
 returns-clause-member g c =

@@ -26,13 +26,7 @@ pub returns : goal.returns
 returns g c =
     let first = c.set_inuse.ensures.stores in let second = c.set_size_and_pinuse_of_inuse_chunk.ensures.stores in
     let followed = g.A.Links.follows_on _ _ _ [] [] [] first.follows second.follows refl in
-    let s = is_split c.requires.sound c.requires.split first.regions second.regions first.stored second.stored followed in
     record {
-      state = s.state;
-      first = s.first;
-      second = s.second;
-      others = s.others;
-      words = s.words;
-      moves = record { moved = s.moved; free = s.free; bins = refl };
+      split = is_split c.requires.sound c.requires.split first.regions second.regions first.stored second.stored followed;
       counted = (let told = c.set_inuse.ensures.counted in let more = c.set_size_and_pinuse_of_inuse_chunk.ensures.counted in omega arith);
     }

@@ -19,14 +19,16 @@ returns g c =
     let t = top_taken c.requires.sound c.requires.there c.args.n c.requires.bytes.whole c.requires.bytes.least c.requires.fits system same stored in
     record {
       chunk = search rules;
-      taken = record { state = t.state; more = t.more };
-      head = head_boundary c.requires.sound c.requires.there c.args.n c.requires.bytes.whole c.requires.bytes.least c.requires.fits system same stored;
-      foot = foot_boundary c.requires.sound c.requires.there c.args.n c.requires.bytes.whole c.requires.bytes.least c.requires.fits system same stored;
-      others = others_still c.requires.sound c.requires.there c.args.n c.requires.bytes.whole c.requires.bytes.least c.requires.fits system same stored;
-      moves = record {
-        moved = record { sound = t.sound; words = t.words; regions_same = same; followed = search rules };
-        free = top_free c.requires.sound c.requires.there c.args.n c.requires.bytes.whole c.requires.bytes.least c.requires.fits system same stored;
-        bins = refl;
+      cut = record {
+        taken = record { state = t.state; more = t.more };
+        head = head_boundary c.requires.sound c.requires.there c.args.n c.requires.bytes.whole c.requires.bytes.least c.requires.fits system same stored;
+        foot = foot_boundary c.requires.sound c.requires.there c.args.n c.requires.bytes.whole c.requires.bytes.least c.requires.fits system same stored;
+        others = others_still c.requires.sound c.requires.there c.args.n c.requires.bytes.whole c.requires.bytes.least c.requires.fits system same stored;
+        moves = record {
+          moved = record { sound = t.sound; words = t.words; regions_same = same; followed = search rules };
+          free = top_free c.requires.sound c.requires.there c.args.n c.requires.bytes.whole c.requires.bytes.least c.requires.fits system same stored;
+          bins = refl;
+        };
       };
       counted = omega arith;
     }

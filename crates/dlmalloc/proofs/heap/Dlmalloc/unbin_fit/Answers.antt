@@ -11,13 +11,14 @@ unlink_fit-requires g c =
     let oldest = subst (λ n. 256 ≤ n → c.args.at ≡ first_or 0 (r.1.index n)) size fit.oldest in
     record { linked = (r.1.index, r.1.linked, is_binned c.requires.sound c.requires.free r.1 c.requires.other r.2, oldest) }
 
-pub returns-clause-same : goal.returns-clause-same
-returns-clause-same g c =
-    let b = c.requires.binned.1 in let e = c.unlink_fit.ensures in
-    relinked c.requires.sound c.requires.free b c.unlink_fit.new.memory c.unlink_fit.new.self e.unlinked.regions
-    (e.unlinked.words b.index b.linked (is_binned c.requires.sound c.requires.free b c.requires.other c.requires.binned.2)) e.unlinked.follows
-
-pub returns-clause-loose : goal.returns-clause-loose
-returns-clause-loose g c = λ loose b apart.
-    let linked = c.unlink_fit.ensures.unlinked.linked b.index b.linked (is_binned c.requires.sound c.requires.free b c.requires.other apart) in
-    (now_loose c.requires.sound c.requires.free b c.unlink_fit.new.memory linked (returns-clause-same g c).state, λ n. refl)
+pub returns-clause-bins : goal.returns-clause-bins
+returns-clause-bins g c =
+    let first = c.requires.binned.1 in let e = c.unlink_fit.ensures in
+    let same = relinked c.requires.sound c.requires.free first c.unlink_fit.new.memory c.unlink_fit.new.self e.unlinked.regions
+    (e.unlinked.words first.index first.linked (is_binned c.requires.sound c.requires.free first c.requires.other c.requires.binned.2)) e.unlinked.follows in
+    record {
+      loose = λ loose b apart.
+          let linked = e.unlinked.linked b.index b.linked (is_binned c.requires.sound c.requires.free b c.requires.other apart) in
+          (now_loose c.requires.sound c.requires.free b c.unlink_fit.new.memory linked same.state, λ n. refl);
+      same = same;
+    }
