@@ -8,8 +8,12 @@ use Rattle.address_space.proofs.Duplicated.{AreDuplicated, duplicated_kept, dupl
 use Rattle.address_space.proofs.DuplicatedWords.{duplicated_words}
 use Rattle.address_space.proofs.space.Space.copy_clear.Goals as goal
 
-pub map_range-requires-clause-unmapped : goal.map_range-requires-clause-unmapped
-map_range-requires-clause-unmapped c = clear_walks (tables_of c.args.self.now) c.args.target c.args.pages c.args.self.now.kept c.requires.target c.requires.clear
+pub map_range-requires-clause-mappable : goal.map_range-requires-clause-mappable
+map_range-requires-clause-mappable c = record {
+  range = c.requires.target;
+  unmapped = clear_walks (tables_of c.args.self.now) c.args.target c.args.pages c.args.self.now.kept c.requires.target c.requires.clear;
+  room = c.requires.frames;
+}
 
 pub copy_pages-requires-clause-tables : goal.copy_pages-requires-clause-tables
 copy_pages-requires-clause-tables c =

@@ -1,12 +1,16 @@
-use Rattle.std.proofs.Common.{rules, ◌+◌, ℕ, refl, subst}
+use Rattle.std.proofs.Common.{◌+◌, ℕ, refl, subst}
 use Rattle.meminterval.specs.Tree.{entries}
 use Rattle.address_space.specs.Joining.{IsRunAdded}
 use Rattle.address_space.specs.Seen.{tables_of}
-use Rattle.address_space.proofs.Mapped.{mapped_kept, mapped_map}
+use Rattle.address_space.proofs.Mapped.{clear_walks, mapped_kept, mapped_map}
 use Rattle.address_space.proofs.space.Space.map_clear.Goals as goal
 
 pub map_range-requires-clause-mappable : goal.map_range-requires-clause-mappable
-map_range-requires-clause-mappable c = record { range = c.requires.range; unmapped = search rules; room = c.requires.frames }
+map_range-requires-clause-mappable c = record {
+  range = c.requires.range;
+  unmapped = clear_walks (tables_of c.args.self.now) c.args.first c.args.pages c.args.self.now.kept c.requires.range c.requires.clear;
+  room = c.requires.frames;
+}
 
 pub invariant_of-self-2 : goal.invariant_of-self-2
 invariant_of-self-2 c = record {

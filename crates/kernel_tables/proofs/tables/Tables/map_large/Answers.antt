@@ -51,7 +51,7 @@ pub returns-in-None-clause-change : goal.returns-in-None-clause-change
 returns-in-None-clause-change c =
     let added = c.map_large.ensures.put.added in
     made c.in-None.ensures (only_seen c.self.view_is c.map_large.ensures.put.same_area added.size (λ l n met lt is. added.stayed l n met (omega (arith, lt)) is)
-    (λ other canonical not. c.map_large.ensures.others.elsewhere other canonical (other_slot c.args.page other not)))
+    (λ other canonical not. c.map_large.ensures.put.others.elsewhere other canonical (other_slot c.args.page other not)))
     (λ other place canonical not is.
     stays_mapped c.self.inside.memory.words c.map_large.new.frames.words c.self.inside.free c.map_large.new.pool
     c.self.inside.root c.args.page c.args.frame c.args.rights
