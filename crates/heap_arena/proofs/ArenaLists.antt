@@ -1,5 +1,5 @@
 -- A list of arenas, of which the first has to do with a call, or the others.
-use Rattle.std.specs.Prelude.{◌≡◌, ◌≢◌, ℕ, zero, suc, ◌+◌, ◌*◌, ◌^◌, ◌<◌, ◌≤◌, ◌-◌, ◌/◌, Bool, true, false, ◌&&◌, ◌||◌, nat_le, nat_lt, if◌then◌else◌, List, [], ◌∷◌, ◌++◌, Some, Result, Ok, Err, IfOk, IfErr, OnErr, IsTrue, length, take, drop, insert, slice_index, slice_index_or, slice_set}
+use Rattle.std.specs.Prelude.{◌≡◌, ◌≢◌, ℕ, zero, suc, ◌+◌, ◌*◌, ◌^◌, ◌<◌, ◌≤◌, ◌⊎◌, ◌-◌, ◌/◌, Bool, true, false, ◌&&◌, ◌||◌, nat_le, nat_lt, if◌then◌else◌, max, List, [], ◌∷◌, ◌++◌, Some, Result, Ok, Err, IfErr, OnErr, IsTrue, length, take, drop, insert, slice_index, slice_index_or, slice_set}
 use Rattle.std.specs.List.{AllByRecursion, AllZip, list_all, list_any, refill}
 use Rattle.std.proofs.Common.{◌∙◌, ap, sym, subst, refl, inl, inr, arith, append-nil, drop_of_length-le, take_all}
 use Rattle.std.proofs.lemmas.Bool.Decides.{nat_tests}
@@ -10,8 +10,8 @@ use Rattle.heap_memory.specs.Events.{Granted, Refused, Released}
 use Rattle.heap_memory.specs.Words.{IsStored}
 use borrow.Rule.Slice.PartMut.{put_mid}
 use Rattle.heap_arena.specs.Grants.{are_between}
-use Rattle.heap_arena.specs.Arena.{regions_of, word_of, end_of, has_room, top_without, IsSameArena, IsArenaAfter, IsTakenBack, IsWrittenAt, KeepsOthers}
-use Rattle.heap_arena.specs.Arenas.{are_in_order, regions_of_all, word_among, place_for, overlaps, AreAfter, IsOnlyWritten, AreWrittenAt, IsAdded}
+use Rattle.heap_arena.specs.Arena.{regions_of, word_of, end_of, has_room, top_without, IsSameArena, IsArenaAfter, IsGrantedAtTop, IsTakenBack, IsUnwritten, IsWrittenAt, KeepsOthers}
+use Rattle.heap_arena.specs.Arenas.{are_in_order, regions_of_all, word_among, place_for, overlaps, AreAfter, AreTakenBack, AreUnwritten, AreWrittenAt, IsAdded, IsGrantedAmong, IsGrantedByOne, IsOnlyWritten}
 use Rattle.heap_arena.specs.declared.arena.Arena.{Arena}
 use Rattle.heap_arena.proofs.GrantLemmas.{granted_between}
 use Rattle.heap_arena.specs.ArenaLaws.{after_none, after_other}
@@ -154,12 +154,6 @@ zip_first R same (arena ∷ arenas) d new some here = (here, all arenas)
 pub set_same : (arenas : List Arena) (d new : Arena) → 0 < length arenas → new ≡ slice_index_or arenas 0 d → slice_set arenas 0 new ≡ arenas
 set_same [] d new some same = absurd (omega (arith, some))
 set_same (arena ∷ arenas) d new some same = ap (λ (a : Arena). a ∷ arenas) same
-
--- of a grant, what two things say of it
-pub of_grant : (P Q S : Grant → Type 0) (answer : Result Grant GrantFault) →
-    ((grant : Grant) → P grant → Q grant → S grant) → IfOk answer P → IfOk answer Q → IfOk answer S
-of_grant P Q S (Ok grant) both first second = both grant first second
-of_grant P Q S (Err fault) both first second = tt
 
 -- ---- a word that is stored
 
@@ -325,6 +319,62 @@ module _ (grant : Grant) (size : ℕ) where
       subst (λ (xs : List Arena). AreAfter (arena ∷ arenas) (Granted size grant ∷ []) xs) (sym (put_rest arena arenas news))
       (after_other size grant arena (grind (arith, nat_tests, past)), after)
 
+pub granted_first : (arenas : List Arena) (d new : Arena) (size : ℕ) (grant : Grant) → 0 < length arenas → IsTrue (are_in_order arenas) → 0 < size →
+    IsGrantedAtTop size (slice_index_or arenas 0 d) grant new → IsArenaAfter (slice_index_or arenas 0 d) (Granted size grant ∷ []) new →
+    IsGrantedAmong size arenas grant (slice_set arenas 0 new)
+granted_first [] d new size grant some order bytes at_top after = absurd (omega (arith, some))
+granted_first (arena ∷ arenas) d new size grant some order bytes at_top after =
+    let place = at_top.place in
+    let base : arena.top ≡ grant.base = sym (ap (λ (g : Grant). g.base) place) in
+    let is_size : grant.size ≡ size = ap (λ (g : Grant). g.size) place in
+    let ends = grant_ends arena grant size place at_top.room in
+    let before : grant.base < end_of arena = omega (arith, ends, is_size, bytes) in
+    record {
+      place = (
+        ap (λ (b : Bool). if b then Some arena.top else place_for arenas size) at_top.room ∙ ap (λ (n : ℕ). Some n) base,
+        is_size,
+        ap (λ (g : Grant). g.flags) place,
+      );
+      by_one = zip_first (λ x y. (y ≡ x) ⊎ ((x.top ≡ grant.base) × (y.top ≡ grant.base + size) × (y.peak ≡ max x.peak (grant.base + size)))) (λ x. inl refl)
+          (arena ∷ arenas) d new some
+          (inr (base, at_top.top ∙ ap (λ (n : ℕ). n + size) base, at_top.peak ∙ ap (λ (n : ℕ). max arena.peak (n + size)) base));
+      good = at_top.good;
+      apart = apart_first d grant (arena ∷ arenas) some order ends at_top.apart;
+      regions = regions_first d grant (arena ∷ arenas) new some order before at_top.regions;
+      follows = after_first grant size (arena ∷ arenas) d new some order before after;
+    }
+
+pub granted_rest : (arenas news : List Arena) (d : Arena) (size : ℕ) (grant : Grant) → 0 < length arenas → IsTrue (are_in_order arenas) →
+    has_room (slice_index_or arenas 0 d) size ≡ false → IsGrantedAmong size (rest_of arenas) grant news →
+    IsGrantedAmong size arenas grant (put_mid 1 (length arenas - 1) arenas news)
+granted_rest [] news d size grant some order full given = absurd (omega (arith, some))
+granted_rest (arena ∷ arenas) news d size grant some order full given =
+    let rest = subst (λ (xs : List Arena). IsGrantedAmong size xs grant news) (rest_is arena arenas) given in
+    record {
+      place = (ap (λ (b : Bool). if b then Some arena.top else place_for arenas size) full ∙ rest.place.0, rest.place.1, rest.place.2);
+      by_one = subst (λ (xs : List Arena). IsGrantedByOne grant.base size (arena ∷ arenas) xs) (sym (put_rest arena arenas news)) (inl refl, rest.by_one);
+      good = rest.good;
+      apart = apart_rest grant size (arena ∷ arenas) order given.place.0 given.apart;
+      regions = regions_rest grant size (arena ∷ arenas) news order given.place.0 some given.regions;
+      follows = after_rest grant size (arena ∷ arenas) news some order given.place.0 given.follows;
+    }
+
+-- ---- words that stay
+
+unwritten_none : (arena : Arena) → IsUnwritten arena arena
+unwritten_none arena = record { same = record { base = refl; len = refl; table = refl }; words = refl }
+
+pub unwritten_first : (arenas : List Arena) (d new : Arena) → 0 < length arenas → IsUnwritten (slice_index_or arenas 0 d) new →
+    AreUnwritten arenas (slice_set arenas 0 new)
+unwritten_first arenas d new some here = zip_first (λ x y. IsUnwritten x y) unwritten_none arenas d new some here
+
+pub unwritten_rest : (arenas news : List Arena) → 0 < length arenas → AreUnwritten (rest_of arenas) news →
+    AreUnwritten arenas (put_mid 1 (length arenas - 1) arenas news)
+unwritten_rest [] news some given = absurd (omega (arith, some))
+unwritten_rest (arena ∷ arenas) news some given =
+    subst (λ (xs : List Arena). AreUnwritten (arena ∷ arenas) xs) (sym (put_rest arena arenas news))
+    (unwritten_none arena, subst (λ (xs : List Arena). AreUnwritten xs news) (rest_is arena arenas) given)
+
 -- ---- words that are written one after the other
 
 only_none : (at : ℕ) (arenas : List Arena) → IsOnlyWritten at 0 arenas arenas
@@ -444,23 +494,26 @@ module _ (R S : Arena → Arena → Type 0) where
   zip_map more (x ∷ xs) [] are = elim are [ ]
   zip_map more (x ∷ xs) (y ∷ ys) are = (more x y are.0, zip_map more xs ys are.1)
 
-pub words_same : (xs ys : List Arena) → AllZip (λ x y. IsSameArena x y) xs ys →
-    AllZip (λ x y. y.words.now ≡ x.words.now) xs ys → (at : ℕ) → word_among ys at ≡ word_among xs at
-words_same [] [] same are at = refl
-words_same [] (y ∷ ys) same are at = elim same [ ]
-words_same (x ∷ xs) [] same are at = elim same [ ]
-words_same (x ∷ xs) (y ∷ ys) same are at =
-    let base = same.0.base in
-    let end : end_of y ≡ end_of x = ap (λ (n : ℕ). y.base + 8 * n) same.0.len ∙ omega (arith, base) in
+pub unwritten_order : (xs ys : List Arena) → AreUnwritten xs ys → IsTrue (are_in_order xs) → IsTrue (are_in_order ys)
+unwritten_order xs ys are = order_same xs ys (zip_map (λ x y. IsUnwritten x y) (λ x y. IsSameArena x y) (λ x y one. one.same) xs ys are)
+
+pub words_same : (xs ys : List Arena) → AreUnwritten xs ys → (at : ℕ) → word_among ys at ≡ word_among xs at
+words_same [] [] are at = refl
+words_same [] (y ∷ ys) are at = elim are [ ]
+words_same (x ∷ xs) [] are at = elim are [ ]
+words_same (x ∷ xs) (y ∷ ys) are at =
+    let same = are.0.same in
+    let base = same.base in
+    let end : end_of y ≡ end_of x = ap (λ (n : ℕ). y.base + 8 * n) same.len ∙ omega (arith, base) in
     let here : word_of y at ≡ word_of x at = ap (λ (n : ℕ). slice_index y.words.now ((at - n) / 8)) base
-    ∙ ap (λ (ws : List ℕ). slice_index ws ((at - x.base) / 8)) are.0 in
+    ∙ ap (λ (ws : List ℕ). slice_index ws ((at - x.base) / 8)) are.0.words in
     ap (λ (e : ℕ). if nat_lt at e then word_of y at else word_among ys at) end
     ∙ (ap (λ (w : ℕ). if nat_lt at (end_of x) then w else word_among ys at) here
-    ∙ ap (λ (w : ℕ). if nat_lt at (end_of x) then word_of x at else w) (words_same xs ys same.1 are.1 at))
+    ∙ ap (λ (w : ℕ). if nat_lt at (end_of x) then word_of x at else w) (words_same xs ys are.1 at))
 
 -- what came back is as if it were never granted, but for the peak
 module _ (low high : ℕ) (x y : Arena) (taken : IsTakenBack low high x y) where
-  pub taken_same : IsSameArena x y
+  taken_same : IsSameArena x y
   taken_same = record { base = taken.base; len = ap (λ (ws : List ℕ). length ws) taken.words; table = taken.table }
 
   pub taken_after : (at old_size new_size : ℕ) → low ≡ at + new_size → high ≡ at + old_size → IsArenaAfter x (Released at old_size new_size ∷ []) y
@@ -471,6 +524,16 @@ module _ (low high : ℕ) (x y : Arena) (taken : IsTakenBack low high x y) where
     placed = tt;
     untouched = λ i behind. ap (λ (ws : List ℕ). slice_index ws i) taken.words;
   }
+
+module _ (low high : ℕ) (olds news : List Arena) (back : AreTakenBack low high olds news) where
+  pub taken_unwritten : AreUnwritten olds news
+  taken_unwritten = zip_map (λ x y. IsTakenBack low high x y) (λ x y. IsUnwritten x y)
+      (λ x y one. record { same = taken_same low high x y one; words = one.words }) olds news back.taken
+
+  pub all_taken_after : (at old_size new_size : ℕ) → low ≡ at + new_size → high ≡ at + old_size → AreAfter olds (Released at old_size new_size ∷ []) news
+  all_taken_after at old_size new_size begins ends =
+      zip_map (λ x y. IsTakenBack low high x y) (λ x y. IsArenaAfter x (Released at old_size new_size ∷ []) y)
+      (λ x y one. taken_after low high x y one at old_size new_size begins ends) olds news back.taken
 
 -- a refusal changes nothing
 pub refused_all : (answer : Result Grant GrantFault) (size : ℕ) (olds news : List Arena) → OnErr answer (news ≡ olds) →

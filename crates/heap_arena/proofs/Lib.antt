@@ -1,3 +1,4 @@
 mod ArenaLists
 mod GrantLemmas
 mod Runs
+mod TraitClauses

@@ -1,11 +1,12 @@
 -- What an arena shows: its regions, its words, and what it denies (own).
 use Rattle.std.specs.Prelude.{◌≡◌, ℕ, ◌+◌, ◌-◌, ◌*◌, ◌/◌, ◌<◌, ◌≤◌, ⊤, max, Bool, true, false, ◌&&◌, nat_le, nat_lt, if◌then◌else◌, List, [], ◌∷◌, IsTrue, refl, length, slice_index, slice_set}
+use Rattle.std.specs.List.{AllByRecursion}
 use Rattle.heap_memory.specs.declared.grant.Grant.{Grant}
 use Rattle.heap_memory.specs.declared.grant.GrantFault.{GrantFault}
 use Rattle.heap_memory.specs.declared.grant.GrantFault.TheVariants.{NoSpace}
 use Rattle.heap_memory.specs.Allocator.{IsFixed}
 use Rattle.heap_memory.specs.Events.{Event, Granted, Refused, Released}
-use Rattle.heap_memory.specs.Regions.{is_granted}
+use Rattle.heap_memory.specs.Regions.{is_granted, with_grant, IsApart, IsGoodGrant}
 use Rattle.heap_memory.specs.Runs.{begins_in, without_run}
 use Rattle.heap_memory.specs.Words.{IsBeside, IsStored}
 use Rattle.heap_arena.specs.Grants.{grants}
@@ -98,6 +99,21 @@ pub record IsWordPut (at value : ℕ) (old new : Arena) : Type 0 where
   pub stored : IsStored (regions_of old) (word_of old) at value (word_of new)
   pub words : new.words.now ≡ slice_set old.words.now ((at - old.base) / 8) value
   pub written : IsWrittenAt at 1 old new
+
+-- No word was written.
+pub record IsUnwritten (old new : Arena) : Type 0 where
+  pub same : IsSameArena old new
+  pub words : new.words.now ≡ old.words.now
+
+-- A request for `size` bytes was granted after all grants.
+pub record IsGrantedAtTop (size : ℕ) (old : Arena) (grant : Grant) (new : Arena) : Type 0 where
+  pub room : has_room old size ≡ true
+  pub place : grant ≡ record { base = old.top; size = size; flags = 0 }
+  pub good : IsGoodGrant size grant
+  pub apart : AllByRecursion (IsApart grant.base (grant.base + grant.size)) (regions_of old)
+  pub regions : regions_of new ≡ with_grant grant (regions_of old)
+  pub top : new.top ≡ old.top + size
+  pub peak : new.peak ≡ max old.peak (old.top + size)
 
 pub same_fixed : (x y : Arena) → IsFixed (λ arena. false) (λ arena. true) (λ arena. true) (λ arena. 1) x y
 same_fixed x y = record { zeros_same = refl; frees_same = refl; parts_same = refl; unit_same = refl }

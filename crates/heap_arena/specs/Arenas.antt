@@ -1,16 +1,17 @@
 -- Several arenas, by ascending address: their grants, their words, and what they deny (own).
 use Rattle.std.specs.Prelude.{◌≡◌, ◌≢◌, ℕ, ◌+◌, ◌≤◌, ◌⊎◌, max, Bool, true, false, ◌&&◌, nat_le, nat_lt, if◌then◌else◌, List, [], ◌∷◌, ◌++◌, Option, Some, None, IsTrue, length, insert}
-use Rattle.std.specs.List.{list_all, list_any, AllZip}
+use Rattle.std.specs.List.{list_all, list_any, AllByRecursion, AllZip}
 use Rattle.heap_memory.specs.declared.grant.Grant.{Grant}
 use Rattle.heap_memory.specs.declared.grant.GrantFault.{GrantFault}
 use Rattle.heap_memory.specs.declared.grant.GrantFault.TheVariants.{NoSpace}
-use Rattle.heap_memory.specs.Events.{Event}
-use Rattle.heap_memory.specs.Regions.{IsWordOf}
+use Rattle.heap_memory.specs.Events.{Event, Granted}
+use Rattle.heap_memory.specs.Regions.{IsWordOf, IsApart, IsGoodGrant, with_grant}
+use Rattle.heap_memory.specs.Runs.{without_run}
 use Rattle.heap_memory.specs.Words.{IsStored}
 use Rattle.heap_arena.specs.declared.arena.Arena.{Arena}
 use Rattle.heap_arena.specs.declared.add_fault.AddFault.{AddFault}
 use Rattle.heap_arena.specs.declared.add_fault.AddFault.TheVariants.{InUse, Overlaps, NoPlace}
-use Rattle.heap_arena.specs.Arena.{regions_of, word_of, end_of, has_room, IsArenaAfter, KeepsOthers}
+use Rattle.heap_arena.specs.Arena.{regions_of, word_of, end_of, has_room, IsArenaAfter, IsTakenBack, IsUnwritten, KeepsOthers}
 
 -- whether each ends before every later one begins
 abbrev pub are_in_order : List Arena → Bool
@@ -38,11 +39,20 @@ AreAfter old events new = AllZip (λ x y. IsArenaAfter x events y) old new
 
 -- no word of any was written
 abbrev pub AreUnwritten : List Arena → List Arena → Type 0
-AreUnwritten old new = AllZip (λ x y. y.words.now ≡ x.words.now) old new
+AreUnwritten old new = AllZip (λ x y. IsUnwritten x y) old new
 
 -- One arena granted a number of bytes from an address on, and all others are as they were.
 abbrev pub IsGrantedByOne : ℕ → ℕ → List Arena → List Arena → Type 0
 IsGrantedByOne address size old new = AllZip (λ x y. (y ≡ x) ⊎ ((x.top ≡ address) × (y.top ≡ address + size) × (y.peak ≡ max x.peak (address + size)))) old new
+
+-- A request for `size` bytes was granted, by the first arena that has room for them.
+pub record IsGrantedAmong (size : ℕ) (old : List Arena) (grant : Grant) (new : List Arena) : Type 0 where
+  pub place : (place_for old size ≡ Some grant.base) × (grant.size ≡ size) × (grant.flags ≡ 0)
+  pub by_one : IsGrantedByOne grant.base size old new
+  pub good : IsGoodGrant size grant
+  pub apart : AllByRecursion (IsApart grant.base (grant.base + grant.size)) (regions_of_all old)
+  pub regions : regions_of_all new ≡ with_grant grant (regions_of_all old)
+  pub follows : AreAfter old (Granted size grant ∷ []) new
 
 -- `count` words from an address on were written, and no other, granted or not; nothing was granted, and nothing was
 -- given back.
@@ -60,6 +70,11 @@ pub record AreWrittenAt (at count : ℕ) (old new : List Arena) : Type 0 where
 pub record IsWordPutAmong (at value : ℕ) (old new : List Arena) : Type 0 where
   pub stored : IsStored (regions_of_all old) (word_among old) at value (word_among new)
   pub written : AreWrittenAt at 1 old new
+
+-- The bytes from an address on and below another one, the end of a run, were given back: each arena's own.
+pub record AreTakenBack (low high : ℕ) (old new : List Arena) : Type 0 where
+  pub taken : AllZip (λ x y. IsTakenBack low high x y) old new
+  pub regions : regions_of_all new ≡ without_run low high (regions_of_all old)
 
 -- a request is denied if no arena has room for it
 abbrev pub IsDeniedByAll : List Arena → ℕ → GrantFault → Type 0

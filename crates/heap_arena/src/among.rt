@@ -1,11 +1,8 @@
 // Calls of several arenas, by ascending address: each is of the first arena that has to do with it, or of all.
 ghost use Rattle.std.specs.Prelude.{◌≡◌, ◌+◌, ◌%◌, ◌<◌, ◌≤◌, false, [], ◌∷◌, Some, IfOk, IfErr, IfSome, IfNone, OnErr, IsTrue, length, insert};
-ghost use Rattle.std.specs.List.{AllByRecursion, AllZip, list_any};
-ghost use Rattle.heap_memory.specs.Events.{Granted};
-ghost use Rattle.heap_memory.specs.Regions.{IsWordOf, IsApart, IsGoodGrant, with_grant};
-ghost use Rattle.heap_memory.specs.Runs.{without_run};
-ghost use Rattle.heap_arena.specs.Arena.{IsSameArena, IsTakenBack};
-ghost use Rattle.heap_arena.specs.Arenas.{are_in_order, regions_of_all, word_among, place_for, overlaps, AreAfter, AreUnwritten, IsGrantedByOne, IsWordPutAmong, IsDeniedByAll};
+ghost use Rattle.std.specs.List.{list_any};
+ghost use Rattle.heap_memory.specs.Regions.{IsWordOf};
+ghost use Rattle.heap_arena.specs.Arenas.{are_in_order, regions_of_all, word_among, overlaps, AreTakenBack, AreUnwritten, IsGrantedAmong, IsWordPutAmong, IsDeniedByAll};
 
 use crate::arena::Arena;
 use heap_memory::{Allocator, Grant, GrantFault, Memory};
@@ -49,14 +46,8 @@ pub(crate) fn alloc_among<'a>(arenas: &mut [Arena<'a>], size: u64) -> Result<Gra
     requires some { 0 < size }
     requires whole { size % 16 ≡ 0 }
     requires order { IsTrue (are_in_order arenas.old) }
-    ensures place { IfOk result (λ grant. (place_for arenas.old size ≡ Some grant.base) × (grant.size ≡ size) × (grant.flags ≡ 0)) }
-    ensures by_one { IfOk result (λ grant. IsGrantedByOne grant.base size arenas.old arenas.new) }
+    ensures ok { IfOk result (λ grant. IsGrantedAmong size arenas.old grant arenas.new) }
     ensures unwritten { AreUnwritten arenas.old arenas.new }
-    ensures arenas { AllZip (λ x y. IsSameArena x y) arenas.old arenas.new }
-    ensures good { IfOk result (λ grant. IsGoodGrant size grant) }
-    ensures apart { IfOk result (λ grant. AllByRecursion (IsApart grant.base (grant.base + grant.size)) (regions_of_all arenas.old)) }
-    ensures regions { IfOk result (λ grant. regions_of_all arenas.new ≡ with_grant grant (regions_of_all arenas.old)) }
-    ensures after { IfOk result (λ grant. AreAfter arenas.old (Granted size grant ∷ []) arenas.new) }
     ensures same { OnErr result (arenas.new ≡ arenas.old) }
     ensures denied { IfErr result (λ fault. IsDeniedByAll arenas.old size fault) }
 {
@@ -72,8 +63,7 @@ pub(crate) fn alloc_among<'a>(arenas: &mut [Arena<'a>], size: u64) -> Result<Gra
 /// Takes the bytes from `low` on and below `high`, the end of a run, back: each arena those that are its own.
 pub(crate) fn take_back_among<'a>(arenas: &mut [Arena<'a>], low: u64, high: u64)
     requires { low % 16 ≡ 0 }
-    ensures taken { AllZip (λ x y. IsTakenBack low high x y) arenas.old arenas.new }
-    ensures regions { regions_of_all arenas.new ≡ without_run low high (regions_of_all arenas.old) }
+    ensures { AreTakenBack low high arenas.old arenas.new }
 {
     if !arenas.is_empty() {
         arenas[0].take_back(low, high);

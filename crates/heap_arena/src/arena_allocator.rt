@@ -1,16 +1,14 @@
 // What an arena grants and takes back.
-ghost use Rattle.std.specs.Prelude.{◌≡◌, ℕ, ◌+◌, ◌%◌, ◌<◌, ◌≤◌, ◌==◌, max, true, false, if◌then◌else◌, [], ◌∷◌, IfOk, IfErr, OnErr, IsTrue, refl};
+ghost use Rattle.std.specs.Prelude.{◌≡◌, ◌+◌, ◌%◌, ◌<◌, ◌≤◌, ◌==◌, true, false, if◌then◌else◌, [], ◌∷◌, IfOk, IfErr, OnErr, IsTrue, refl};
 ghost use Rattle.std.specs.Int.{is_power_of_two};
-ghost use Rattle.std.specs.List.{AllByRecursion};
 ghost use Rattle.heap_memory.specs.Events.{Granted, Refused, Released};
-ghost use Rattle.heap_memory.specs.Regions.{IsWordOf, IsApart, IsGoodGrant, with_grant};
-ghost use Rattle.heap_memory.specs.Runs.{IsRun, is_in_units, without_run};
+ghost use Rattle.heap_memory.specs.Runs.{IsRun};
 
 use crate::arena::Arena;
 use heap_memory::{Allocator, Grant, GrantFault};
 
 impl<'a> Allocator for Arena<'a> {
-    ghost use Rattle.heap_arena.specs.Arena.{regions_of, word_of, has_room, IsArenaAfter, IsDenied, same_fixed};
+    ghost use Rattle.heap_arena.specs.Arena.{regions_of, IsArenaAfter, IsDenied, IsGrantedAtTop, IsTakenBack, IsUnwritten, same_fixed};
 
     ghost denies = { λ arena size fault. IsDenied arena size fault };
 
@@ -35,21 +33,12 @@ impl<'a> Allocator for Arena<'a> {
     fn alloc(&mut self, size: u64) -> Result<Grant, GrantFault>
         requires some { 0 < size }
         requires whole { size % 16 ≡ 0 }
-        ensures place { IfOk result (λ grant. grant ≡ record { base = self.old.top; size = size; flags = 0 }) }
-        ensures top { IfOk result (λ grant. self.new.top ≡ self.old.top + size) }
-        ensures peak { IfOk result (λ grant. self.new.peak ≡ max self.old.peak (self.old.top + size)) }
-        ensures good { IfOk result (λ grant. IsGoodGrant size grant) }
-        ensures apart { IfOk result (λ grant. AllByRecursion (IsApart grant.base (grant.base + grant.size)) (regions_of self.old)) }
-        ensures regions { IfOk result (λ grant. regions_of self.new ≡ with_grant grant (regions_of self.old)) }
-        ensures zeros { IfOk result (λ grant. false ≡ true → (at : ℕ) → grant.base ≤ at → at < grant.base + grant.size → at % 8 ≡ 0 → word_of self.new at ≡ 0) }
+        ensures ok { IfOk result (λ grant. IsGrantedAtTop size self.old grant self.new) }
         ensures follows { IfOk result (λ grant. IsArenaAfter self.old (Granted size grant ∷ []) self.new) }
-        ensures words { (at : ℕ) → IsWordOf (regions_of self.old) at → word_of self.new at ≡ word_of self.old at }
-        ensures all_words { self.new.words.now ≡ self.old.words.now }
+        ensures unwritten { IsUnwritten self.old self.new }
         ensures same { OnErr result (self.new ≡ self.old) }
-        ensures err { OnErr result (regions_of self.new ≡ regions_of self.old) }
         ensures err_follows { IfErr result (λ fault. IsArenaAfter self.old (Refused size fault ∷ []) self.new) }
         ensures denied { IfErr result (λ fault. IsDenied self.old size fault) }
-        ensures room { IfOk result (λ grant. has_room self.old size ≡ true) }
     {
         if !self.has_room(size) {
             return Err(GrantFault::NoSpace);
@@ -72,13 +61,9 @@ impl<'a> Allocator for Arena<'a> {
         requires some { 0 < new_size }
         requires within { new_size ≤ old_size }
         requires whole { new_size % 16 ≡ 0 }
-        ensures answer { result ≡ is_in_units 1 new_size }
-        ensures regions { regions_of self.new ≡ without_run (at + new_size) (at + old_size) (regions_of self.old) }
-        ensures words { (k : ℕ) → IsWordOf (regions_of self.new) k → word_of self.new k ≡ word_of self.old k }
-        ensures all_words { self.new.words.now ≡ self.old.words.now }
+        ensures answer { result ≡ true }
+        ensures taken { IsTakenBack (at + new_size) (at + old_size) self.old self.new }
         ensures follows { IsArenaAfter self.old (Released at old_size new_size ∷ []) self.new }
-        ensures same { result ≡ false → self.new ≡ self.old }
-        ensures peak { self.new.peak ≡ self.old.peak }
         ensures top { self.new.top ≡ (if at + old_size == self.old.top then at + new_size else self.old.top) }
     {
         self.take_back(at + new_size, at + old_size);
@@ -89,12 +74,8 @@ impl<'a> Allocator for Arena<'a> {
     fn free(&mut self, at: u64, size: u64) -> bool
         requires { IsRun (regions_of self.old) at (at + size) }
         ensures answer { result ≡ true }
-        ensures regions { regions_of self.new ≡ without_run at (at + size) (regions_of self.old) }
-        ensures words { (k : ℕ) → IsWordOf (regions_of self.new) k → word_of self.new k ≡ word_of self.old k }
-        ensures all_words { self.new.words.now ≡ self.old.words.now }
+        ensures taken { IsTakenBack at (at + size) self.old self.new }
         ensures follows { IsArenaAfter self.old (Released at size 0 ∷ []) self.new }
-        ensures same { result ≡ false → self.new ≡ self.old }
-        ensures peak { self.new.peak ≡ self.old.peak }
         ensures top { self.new.top ≡ (if at + size == self.old.top then at else self.old.top) }
     {
         self.take_back(at, at + size);

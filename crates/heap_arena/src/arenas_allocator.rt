@@ -1,18 +1,16 @@
 // What several arenas grant and take back.
 ghost use Rattle.std.specs.Prelude.{◌≡◌, ℕ, ◌+◌, ◌%◌, ◌<◌, ◌≤◌, true, false, [], ◌∷◌, Some, IfOk, IfErr, OnErr, IsTrue, refl};
 ghost use Rattle.std.specs.Int.{is_power_of_two};
-ghost use Rattle.std.specs.List.{AllByRecursion, AllZip};
-ghost use Rattle.heap_memory.specs.Events.{Granted, Refused, Released};
-ghost use Rattle.heap_memory.specs.Regions.{IsWordOf, IsApart, IsGoodGrant, with_grant};
-ghost use Rattle.heap_memory.specs.Runs.{IsRun, is_in_units, without_run};
+ghost use Rattle.heap_memory.specs.Events.{Refused, Released};
+ghost use Rattle.heap_memory.specs.Regions.{IsWordOf};
+ghost use Rattle.heap_memory.specs.Runs.{IsRun};
 
 use crate::among::{alloc_among, take_back_among};
 use crate::arenas::Arenas;
 use heap_memory::{Allocator, Grant, GrantFault};
 
 impl<'a, const N: usize> Allocator for Arenas<'a, N> {
-    ghost use Rattle.heap_arena.specs.Arena.{IsTakenBack};
-    ghost use Rattle.heap_arena.specs.Arenas.{regions_of_all, word_among, place_for, AreAfter, AreUnwritten, IsGrantedByOne, IsDeniedByAll};
+    ghost use Rattle.heap_arena.specs.Arenas.{regions_of_all, word_among, AreAfter, AreTakenBack, AreUnwritten, IsGrantedAmong, IsDeniedByAll};
     ghost use Rattle.heap_arena.specs.ArenasLaws.{all_ordered};
 
     ghost denies = { λ a size fault. IsDeniedByAll a.arenas.items size fault };
@@ -38,17 +36,10 @@ impl<'a, const N: usize> Allocator for Arenas<'a, N> {
     fn alloc(&mut self, size: u64) -> Result<Grant, GrantFault>
         requires some { 0 < size }
         requires whole { size % 16 ≡ 0 }
-        ensures place { IfOk result (λ grant. (place_for self.old.arenas.items size ≡ Some grant.base) × (grant.size ≡ size) × (grant.flags ≡ 0)) }
-        ensures by_one { IfOk result (λ grant. IsGrantedByOne grant.base size self.old.arenas.items self.new.arenas.items) }
+        ensures ok { IfOk result (λ grant. IsGrantedAmong size self.old.arenas.items grant self.new.arenas.items) }
         ensures unwritten { AreUnwritten self.old.arenas.items self.new.arenas.items }
-        ensures good { IfOk result (λ grant. IsGoodGrant size grant) }
-        ensures apart { IfOk result (λ grant. AllByRecursion (IsApart grant.base (grant.base + grant.size)) (regions_of_all self.old.arenas.items)) }
-        ensures regions { IfOk result (λ grant. regions_of_all self.new.arenas.items ≡ with_grant grant (regions_of_all self.old.arenas.items)) }
-        ensures zeros { IfOk result (λ grant. false ≡ true → (at : ℕ) → grant.base ≤ at → at < grant.base + grant.size → at % 8 ≡ 0 → word_among self.new.arenas.items at ≡ 0) }
-        ensures follows { IfOk result (λ grant. AreAfter self.old.arenas.items (Granted size grant ∷ []) self.new.arenas.items) }
         ensures words { (at : ℕ) → IsWordOf (regions_of_all self.old.arenas.items) at → word_among self.new.arenas.items at ≡ word_among self.old.arenas.items at }
         ensures same { OnErr result (self.new.arenas.items ≡ self.old.arenas.items) }
-        ensures err { OnErr result (regions_of_all self.new.arenas.items ≡ regions_of_all self.old.arenas.items) }
         ensures err_follows { IfErr result (λ fault. AreAfter self.old.arenas.items (Refused size fault ∷ []) self.new.arenas.items) }
         ensures denied { IfErr result (λ fault. IsDeniedByAll self.old.arenas.items size fault) }
     {
@@ -61,12 +52,10 @@ impl<'a, const N: usize> Allocator for Arenas<'a, N> {
         requires some { 0 < new_size }
         requires within { new_size ≤ old_size }
         requires whole { new_size % 16 ≡ 0 }
-        ensures answer { result ≡ is_in_units 1 new_size }
-        ensures regions { regions_of_all self.new.arenas.items ≡ without_run (at + new_size) (at + old_size) (regions_of_all self.old.arenas.items) }
+        ensures answer { result ≡ true }
         ensures words { (k : ℕ) → IsWordOf (regions_of_all self.new.arenas.items) k → word_among self.new.arenas.items k ≡ word_among self.old.arenas.items k }
-        ensures taken { AllZip (λ x y. IsTakenBack (at + new_size) (at + old_size) x y) self.old.arenas.items self.new.arenas.items }
+        ensures taken { AreTakenBack (at + new_size) (at + old_size) self.old.arenas.items self.new.arenas.items }
         ensures follows { AreAfter self.old.arenas.items (Released at old_size new_size ∷ []) self.new.arenas.items }
-        ensures same { result ≡ false → self.new ≡ self.old }
     {
         take_back_among(self.arenas.as_mut_slice(), at + new_size, at + old_size);
         true
@@ -76,11 +65,9 @@ impl<'a, const N: usize> Allocator for Arenas<'a, N> {
     fn free(&mut self, at: u64, size: u64) -> bool
         requires { IsRun (regions_of_all self.old.arenas.items) at (at + size) }
         ensures answer { result ≡ true }
-        ensures regions { regions_of_all self.new.arenas.items ≡ without_run at (at + size) (regions_of_all self.old.arenas.items) }
         ensures words { (k : ℕ) → IsWordOf (regions_of_all self.new.arenas.items) k → word_among self.new.arenas.items k ≡ word_among self.old.arenas.items k }
-        ensures taken { AllZip (λ x y. IsTakenBack at (at + size) x y) self.old.arenas.items self.new.arenas.items }
+        ensures taken { AreTakenBack at (at + size) self.old.arenas.items self.new.arenas.items }
         ensures follows { AreAfter self.old.arenas.items (Released at size 0 ∷ []) self.new.arenas.items }
-        ensures same { result ≡ false → self.new ≡ self.old }
     {
         take_back_among(self.arenas.as_mut_slice(), at, at + size);
         true

@@ -1,27 +1,24 @@
 use Rattle.std.specs.Prelude.{◌≡◌, [], ◌∷◌, List, OnErr, IfErr}
-use Rattle.std.specs.List.{AllZip}
 use Rattle.std.proofs.Common.{◌∙◌, rules, ap, sym, subst}
 use Rattle.heap_memory.specs.Events.{Refused}
 use Rattle.heap_arena.specs.declared.arena.Arena.{Arena}
-use Rattle.heap_arena.specs.Arena.{IsSameArena}
-use Rattle.heap_arena.specs.Arenas.{word_among, AreAfter}
-use Rattle.heap_arena.proofs.ArenaLists.{refilled, order_same, words_same, refused_all}
+use Rattle.heap_arena.specs.Arenas.{word_among, AreAfter, AreUnwritten}
+use Rattle.heap_arena.proofs.ArenaLists.{refilled, unwritten_order, words_same, refused_all}
 use Rattle.heap_arena.proofs.arenas_allocator.ArenasAllocator.alloc.Goals as goal
 
 pub invariant_of-self : goal.invariant_of-self
 invariant_of-self g c =
     let olds = c.args.self.now.arenas.items in
     let news = c.alloc_among.new.arenas in
-    let same = subst (λ (xs : List Arena). AllZip (λ x y. IsSameArena x y) xs news) c.as_mut_slice.ensures.value c.alloc_among.ensures.arenas in
-    record { in_order = rw (refilled olds news (search rules)) (order_same olds news same c.args.self.now.in_order) }
+    let words = subst (λ (xs : List Arena). AreUnwritten xs news) c.as_mut_slice.ensures.value c.alloc_among.ensures.unwritten in
+    record { in_order = rw (refilled olds news (search rules)) (unwritten_order olds news words c.args.self.now.in_order) }
 
 pub returns-clause-words : goal.returns-clause-words
 returns-clause-words g c = λ at is.
     let olds = c.args.self.now.arenas.items in
     let news = c.alloc_among.new.arenas in
-    let same = subst (λ (xs : List Arena). AllZip (λ x y. IsSameArena x y) xs news) c.as_mut_slice.ensures.value c.alloc_among.ensures.arenas in
-    let words = subst (λ (xs : List Arena). AllZip (λ x y. y.words.now ≡ x.words.now) xs news) c.as_mut_slice.ensures.value c.alloc_among.ensures.unwritten in
-    ap (λ (xs : List Arena). word_among xs at) (refilled olds news (search rules)) ∙ words_same olds news same words at
+    let words = subst (λ (xs : List Arena). AreUnwritten xs news) c.as_mut_slice.ensures.value c.alloc_among.ensures.unwritten in
+    ap (λ (xs : List Arena). word_among xs at) (refilled olds news (search rules)) ∙ words_same olds news words at
 
 pub returns-clause-err_follows : goal.returns-clause-err_follows
 returns-clause-err_follows g c =

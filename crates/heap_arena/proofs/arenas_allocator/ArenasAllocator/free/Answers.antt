@@ -1,13 +1,10 @@
-use Rattle.std.specs.Prelude.{◌≡◌, ◌+◌, ◌%◌, ◌^◌, ◌<◌, [], ◌∷◌, List}
-use Rattle.std.specs.List.{AllZip}
+use Rattle.std.specs.Prelude.{◌≡◌, ◌+◌, ◌%◌, ◌^◌, ◌<◌, List}
 use Rattle.std.proofs.Common.{◌∙◌, rules, ap, subst, arith, refl}
-use Rattle.heap_memory.specs.Events.{Released}
 use Rattle.heap_memory.specs.RunLaws.{run_aligned, run_bounded}
 use Rattle.heap_arena.specs.declared.arena.Arena.{Arena}
-use Rattle.heap_arena.specs.Arena.{IsSameArena, IsArenaAfter, IsTakenBack}
-use Rattle.heap_arena.specs.Arenas.{regions_of_all, word_among}
+use Rattle.heap_arena.specs.Arenas.{regions_of_all, word_among, AreTakenBack}
 use Rattle.heap_arena.specs.ArenasLaws.{all_whole}
-use Rattle.heap_arena.proofs.ArenaLists.{refilled, zip_map, order_same, words_same, taken_same, taken_after}
+use Rattle.heap_arena.proofs.ArenaLists.{refilled, unwritten_order, words_same, taken_unwritten, all_taken_after}
 use Rattle.heap_arena.proofs.arenas_allocator.ArenasAllocator.free.Goals as goal
 
 pub overflow_add-at : goal.overflow_add-at
@@ -26,31 +23,20 @@ pub invariant_of-self : goal.invariant_of-self
 invariant_of-self g c =
     let olds = c.args.self.now.arenas.items in
     let news = c.take_back_among.new.arenas in
-    let taken = subst (λ (xs : List Arena). AllZip (λ x y. IsTakenBack c.args.at (c.args.at + c.args.size) x y) xs news)
-    c.as_mut_slice.ensures.value c.take_back_among.ensures.taken in
-    let same = zip_map (λ x y. IsTakenBack c.args.at (c.args.at + c.args.size) x y) (λ x y. IsSameArena x y)
-    (λ x y back. taken_same c.args.at (c.args.at + c.args.size) x y back) olds news taken in
-    record { in_order = rw (refilled olds news (search rules)) (order_same olds news same c.args.self.now.in_order) }
+    let back = subst (λ (xs : List Arena). AreTakenBack c.args.at (c.args.at + c.args.size) xs news) c.as_mut_slice.ensures.value c.take_back_among.ensures in
+    record { in_order = rw (refilled olds news (search rules)) (unwritten_order olds news (taken_unwritten c.args.at (c.args.at + c.args.size) olds news back) c.args.self.now.in_order) }
 
 pub returns-clause-words : goal.returns-clause-words
 returns-clause-words g c = λ k is.
     let olds = c.args.self.now.arenas.items in
     let news = c.take_back_among.new.arenas in
-    let taken = subst (λ (xs : List Arena). AllZip (λ x y. IsTakenBack c.args.at (c.args.at + c.args.size) x y) xs news)
-    c.as_mut_slice.ensures.value c.take_back_among.ensures.taken in
-    let same = zip_map (λ x y. IsTakenBack c.args.at (c.args.at + c.args.size) x y) (λ x y. IsSameArena x y)
-    (λ x y back. taken_same c.args.at (c.args.at + c.args.size) x y back) olds news taken in
-    let words = zip_map (λ x y. IsTakenBack c.args.at (c.args.at + c.args.size) x y) (λ x y. y.words.now ≡ x.words.now)
-    (λ x y back. back.words) olds news taken in
-    ap (λ (xs : List Arena). word_among xs k) (refilled olds news (search rules)) ∙ words_same olds news same words k
+    let back = subst (λ (xs : List Arena). AreTakenBack c.args.at (c.args.at + c.args.size) xs news) c.as_mut_slice.ensures.value c.take_back_among.ensures in
+    ap (λ (xs : List Arena). word_among xs k) (refilled olds news (search rules))
+    ∙ words_same olds news (taken_unwritten c.args.at (c.args.at + c.args.size) olds news back) k
 
 pub returns-clause-follows : goal.returns-clause-follows
 returns-clause-follows g c =
     let olds = c.args.self.now.arenas.items in
     let news = c.take_back_among.new.arenas in
-    let taken = subst (λ (xs : List Arena). AllZip (λ x y. IsTakenBack c.args.at (c.args.at + c.args.size) x y) xs news)
-    c.as_mut_slice.ensures.value c.take_back_among.ensures.taken in
-    rw (refilled olds news (search rules)) (zip_map (λ x y. IsTakenBack c.args.at (c.args.at + c.args.size) x y)
-    (λ x y. IsArenaAfter x (Released c.args.at c.args.size 0 ∷ []) y)
-    (λ x y back. taken_after c.args.at (c.args.at + c.args.size) x y back c.args.at c.args.size 0 (omega arith) refl)
-    olds news taken)
+    let back = subst (λ (xs : List Arena). AreTakenBack c.args.at (c.args.at + c.args.size) xs news) c.as_mut_slice.ensures.value c.take_back_among.ensures in
+    rw (refilled olds news (search rules)) (all_taken_after c.args.at (c.args.at + c.args.size) olds news back c.args.at c.args.size 0 (omega arith) refl)
