@@ -1,10 +1,10 @@
 //! Reading and writing bytes.
-ghost use Rattle.std.specs.Prelude.{◌≡◌, ℕ, ◌+◌, ◌*◌, ◌/◌, ◌^◌, ◌<◌, ◌≤◌, IfOk, OnOk, OnErr, Err, IfSome, IfNone, IsTrue, Some, None, true, false, length, if◌then◌else◌};
+ghost use Rattle.std.specs.Prelude.{◌≡◌, ◌+◌, ◌*◌, ◌/◌, ◌^◌, ◌<◌, ◌≤◌, IfOk, OnOk, Err, IfSome, IfNone, Some, None, true, false, length, if◌then◌else◌};
 ghost use Rattle.meminterval.specs.Tree.{entries};
 ghost use Rattle.address_space.specs.Runs.{AreRuns, rights_in};
 ghost use Rattle.address_space.specs.Space.{page_map_of};
 ghost use Rattle.address_space.specs.Seen.{tables_of, KeptIfErr};
-ghost use Rattle.address_space.specs.Access.{rights_deny, denial_code, IsFirstByte, IsAccessGranted, IsAccessDenied, AreBytesAt, IsAccessAnswer};
+ghost use Rattle.address_space.specs.Access.{rights_deny, IsFirstByte, IsAccessGranted, IsAccessDenied, AreBytesAt, IsAccessAnswer};
 ghost use Rattle.address_space.specs.Changing.{AreBytesStored};
 ghost use Rattle.x86_flags.specs.PageFaultErrorCode.{page_fault_bits};
 

@@ -1,5 +1,5 @@
 //! Unmapping pages, and changing their rights.
-ghost use Rattle.std.specs.Prelude.{◌≡◌, ◌+◌, ◌-◌, ◌*◌, ◌/◌, ◌^◌, ◌<◌, ◌≤◌, IsTrue, IsSome, IfOk, IfErr, OnOk, OnErr};
+ghost use Rattle.std.specs.Prelude.{◌+◌, ◌-◌, ◌*◌, ◌/◌, ◌^◌, ◌<◌, ◌≤◌, IsSome, IfOk, IfErr, OnOk};
 ghost use Rattle.paging_core.specs.Address.{IsCanonicalRange};
 ghost use Rattle.address_space.specs.Space.{page_map_of};
 ghost use Rattle.address_space.specs.Seen.{tables_of, KeptIfErr};

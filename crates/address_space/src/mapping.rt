@@ -1,12 +1,7 @@
 //! Mapping pages.
-ghost use Rattle.std.specs.Prelude.{◌≡◌, ℕ, ◌+◌, ◌/◌, ◌^◌, ◌≤◌, ◌↔◌, IsTrue, IfOk, OnOk, OnErr};
-ghost use Rattle.paging_core.specs.Address.{IsCanonicalRange};
-ghost use Rattle.paging_core.specs.Missing.{missing_of};
-ghost use Rattle.paging_core.specs.Pool.{free_count};
-ghost use Rattle.address_space.specs.PageMap.{AreNoneMapped};
-ghost use Rattle.address_space.specs.Space.{page_map_of};
+ghost use Rattle.std.specs.Prelude.{◌/◌, IfOk, OnOk};
 ghost use Rattle.address_space.specs.Seen.{tables_of, KeptIfErr};
-ghost use Rattle.address_space.specs.Mapping.{HasFrames, ArePagesMapped, IsMapAnswer, IsPlaceAnswer};
+ghost use Rattle.address_space.specs.Mapping.{ArePagesMapped, IsMapAnswer, IsPlaceAnswer};
 
 use crate::range::{first_page, first_page_below};
 use crate::runs;

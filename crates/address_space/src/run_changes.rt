@@ -1,5 +1,5 @@
 //! Runs whose pages leave, get other rights, or are copied.
-ghost use Rattle.std.specs.Prelude.{◌≡◌, ◌+◌, ◌^◌, ◌<◌, ◌≤◌, true, false, IsSome, IfOk, IfErr, OnOk, OnErr};
+ghost use Rattle.std.specs.Prelude.{◌≡◌, ◌+◌, ◌^◌, ◌<◌, ◌≤◌, false, IsSome, IfOk, IfErr, OnOk, OnErr};
 ghost use Rattle.meminterval.specs.Tree.{entries};
 ghost use Rattle.address_space.specs.Runs.{AreRuns, IsAmong, rights_in, crosses};
 ghost use Rattle.address_space.specs.Joining.{IsRunAdded};
