@@ -1,4 +1,4 @@
-use Rattle.std.proofs.Common.{◌≡◌, ◌+◌, ◌/◌, ◌%◌, ◌<◌, ap, ◌∙◌, subst, sym, arith, slice_index, Some, IsSome}
+use Rattle.std.proofs.Common.{rules, ◌≡◌, ◌+◌, ◌/◌, ◌%◌, ◌<◌, ap, ◌∙◌, subst, sym, arith, slice_index, Some, IsSome}
 use Rattle.paging_core.specs.Memory.{byte_of}
 use Rattle.paging_core.specs.Walk.{walk_of, reached}
 use Rattle.mapped_regions.specs.Shown.{paged_view}
@@ -8,12 +8,14 @@ use Rattle.mapped_regions.proofs.regions.MappedRegions.byte.Goals as goal
 pub new-place-requires : goal.new-place-requires
 new-place-requires c = word_canonical c.args.address c.requires.canonical
 
-pub load_word-word-requires-clause-mapped : goal.load_word-word-requires-clause-mapped
-load_word-word-requires-clause-mapped c =
-    let at = c.new-place.ensures in
-    let same : c.new-place.result / 4096 ≡ c.args.address / 4096 = omega arith in
-    subst (λ page. IsSome (walk_of c.args.self.now.frames c.args.self.now.root page)) (sym same)
-    (mapped_at (paged_view c.args.self.now) c.args.address c.args.self.now.mapped c.requires.canonical c.requires.there)
+pub load_word-word-requires-clause-page : goal.load_word-word-requires-clause-page
+load_word-word-requires-clause-page c = record {
+  rooted = search rules;
+  mapped = let at = c.new-place.ensures in
+      let same : c.new-place.result / 4096 ≡ c.args.address / 4096 = omega arith in
+      subst (λ page. IsSome (walk_of c.args.self.now.frames c.args.self.now.root page)) (sym same)
+      (mapped_at (paged_view c.args.self.now) c.args.address c.args.self.now.mapped c.requires.canonical c.requires.there);
+}
 
 pub returns : goal.returns
 returns c =

@@ -1,4 +1,4 @@
-use Rattle.std.proofs.Common.{◌≡◌, ℕ, ◌+◌, ◌-◌, ◌*◌, ◌/◌, ◌%◌, ◌^◌, ap, ◌∙◌, subst, sym, arith, IsSome}
+use Rattle.std.proofs.Common.{rules, ◌≡◌, ℕ, ◌+◌, ◌-◌, ◌*◌, ◌/◌, ◌%◌, ◌^◌, ap, ◌∙◌, subst, sym, arith, IsSome}
 use Rattle.std.specs.List.{AllByRecursion}
 use Rattle.paging_core.specs.Address.{IsCanonicalRange}
 use Rattle.paging_core.specs.Walk.{walk_of}
@@ -22,23 +22,20 @@ cut-requires c = record { within = range_ends c.args.start c.args.pages c.requir
 pub new-requires : goal.new-requires
 new-requires c = range_canonical c.args.start c.args.pages c.requires.range
 
-pub unmap_pages-requires-clause-range : goal.unmap_pages-requires-clause-range
-unmap_pages-requires-clause-range c =
-    let first : c.containing_address.result ≡ c.args.start / 4096 = c.containing_address.ensures ∙ ap (λ a. a / 4096) c.new.ensures in
-    subst (λ f. IsCanonicalRange f c.args.pages) (sym first) c.requires.range.1
-
-pub unmap_pages-requires-clause-mapped : goal.unmap_pages-requires-clause-mapped
-unmap_pages-requires-clause-mapped c = λ k less.
-    let first : c.containing_address.result ≡ c.args.start / 4096 = c.containing_address.ensures ∙ ap (λ a. a / 4096) c.new.ensures in
-    subst (λ f. IsSome (walk_of c.args.self.now.frames c.args.self.now.root (f + k))) (sym first)
-    (held_mapped (paged_view c.args.self.now) c.args.start c.args.pages k c.args.self.now.mapped c.requires.range c.requires.held less)
-
-pub unmap_pages-requires-clause-ends : goal.unmap_pages-requires-clause-ends
-unmap_pages-requires-clause-ends c =
-    let first : c.containing_address.result ≡ c.args.start / 4096 = c.containing_address.ensures ∙ ap (λ a. a / 4096) c.new.ensures in
-    subst (λ f. NoLargePageReachesOver c.args.self.now.frames c.args.self.now.root f c.args.pages) (sym first)
-    (none_over (paged_view c.args.self.now) c.args.start c.args.pages c.args.self.now.mapped c.requires.range
-    c.requires.ends)
+pub unmap_pages-requires-clause-unmappable : goal.unmap_pages-requires-clause-unmappable
+unmap_pages-requires-clause-unmappable c = record {
+  rooted = search rules;
+  range = let first : c.containing_address.result ≡ c.args.start / 4096 = c.containing_address.ensures ∙ ap (λ a. a / 4096) c.new.ensures in
+      subst (λ f. IsCanonicalRange f c.args.pages) (sym first) c.requires.range.1;
+  mapped = λ k less.
+      let first : c.containing_address.result ≡ c.args.start / 4096 = c.containing_address.ensures ∙ ap (λ a. a / 4096) c.new.ensures in
+      subst (λ f. IsSome (walk_of c.args.self.now.frames c.args.self.now.root (f + k))) (sym first)
+      (held_mapped (paged_view c.args.self.now) c.args.start c.args.pages k c.args.self.now.mapped c.requires.range c.requires.held less);
+  ends = let first : c.containing_address.result ≡ c.args.start / 4096 = c.containing_address.ensures ∙ ap (λ a. a / 4096) c.new.ensures in
+      subst (λ f. NoLargePageReachesOver c.args.self.now.frames c.args.self.now.root f c.args.pages) (sym first)
+      (none_over (paged_view c.args.self.now) c.args.start c.args.pages c.args.self.now.mapped c.requires.range
+      c.requires.ends);
+}
 
 -- what is seen after the pages left
 abbrev after : After-forget_pages → Paged

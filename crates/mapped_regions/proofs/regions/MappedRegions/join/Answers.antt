@@ -1,4 +1,4 @@
-use Rattle.std.proofs.Common.{◌≡◌, ◌+◌, ◌-◌, ◌/◌, ◌%◌, ◌^◌, refl, ap, ◌∙◌, subst, sym, arith, None}
+use Rattle.std.proofs.Common.{rules, ◌≡◌, ◌+◌, ◌-◌, ◌/◌, ◌%◌, ◌^◌, refl, ap, ◌∙◌, subst, sym, arith, None}
 use Rattle.paging_core.specs.Walk.{walk_of}
 use Rattle.heap_model.specs.Machine.{Paged}
 use Rattle.heap_model.proofs.Regions.{within_bounds}
@@ -11,12 +11,16 @@ use Rattle.mapped_regions.proofs.NewSlots.{none_behind, runs_used, by_address}
 use Rattle.mapped_regions.proofs.regions.MappedRegions.join.Goals as goal
 use Rattle.mapped_regions.proofs.regions.MappedRegions.join.Goals.{After-list_large}
 
-pub map_pages-stop-requires-clause-unmapped : goal.map_pages-stop-requires-clause-unmapped
-map_pages-stop-requires-clause-unmapped c = λ k less.
-    let first : c.containing_address.result ≡ c.args.region.start / 4096 = c.containing_address.ensures ∙ ap (λ a. a / 4096) c.new.ensures in
-    subst (λ f. walk_of c.args.self.now.frames c.args.self.now.root (f + k) ≡ None) (sym first)
-    (unmapped (paged_view c.args.self.now) c.args.region.start c.args.region.pages k c.args.self.now.mapped c.requires.can
-    less)
+pub map_pages-stop-requires-clause-mappable : goal.map_pages-stop-requires-clause-mappable
+map_pages-stop-requires-clause-mappable c = record {
+  range = search rules;
+  unmapped = λ k less.
+      let first : c.containing_address.result ≡ c.args.region.start / 4096 = c.containing_address.ensures ∙ ap (λ a. a / 4096) c.new.ensures in
+      subst (λ f. walk_of c.args.self.now.frames c.args.self.now.root (f + k) ≡ None) (sym first)
+      (unmapped (paged_view c.args.self.now) c.args.region.start c.args.region.pages k c.args.self.now.mapped c.requires.can
+      less);
+  room = search rules;
+}
 
 pub overflow_sub-self-2 : goal.overflow_sub-self-2
 overflow_sub-self-2 c =

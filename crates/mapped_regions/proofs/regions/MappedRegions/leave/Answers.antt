@@ -1,4 +1,4 @@
-use Rattle.std.proofs.Common.{◌≡◌, ◌+◌, ◌/◌, ◌^◌, ap, ◌∙◌, subst, sym, arith, IsSome}
+use Rattle.std.proofs.Common.{rules, ◌≡◌, ◌+◌, ◌/◌, ◌^◌, ap, ◌∙◌, subst, sym, arith, IsSome}
 use Rattle.std.specs.List.{AllByRecursion}
 use Rattle.paging_core.specs.Address.{IsCanonicalRange}
 use Rattle.paging_core.specs.Walk.{walk_of}
@@ -26,27 +26,24 @@ new-requires c =
     range_canonical c.args.region.now.start c.args.region.now.pages (listed_range (paged_view c.args.self.now)
     c.args.region.now.start c.args.region.now.pages c.args.self.now.mapped c.requires.there)
 
-pub unmap_pages-requires-clause-range : goal.unmap_pages-requires-clause-range
-unmap_pages-requires-clause-range c =
-    let first : c.containing_address.result ≡ c.args.region.now.start / 4096 = c.containing_address.ensures ∙ ap (λ a. a / 4096) c.new.ensures in
-    subst (λ f. IsCanonicalRange f c.args.region.now.pages) (sym first)
-    (listed_range (paged_view c.args.self.now) c.args.region.now.start c.args.region.now.pages c.args.self.now.mapped
-    c.requires.there).1
-
-pub unmap_pages-requires-clause-mapped : goal.unmap_pages-requires-clause-mapped
-unmap_pages-requires-clause-mapped c = λ k less.
-    let first : c.containing_address.result ≡ c.args.region.now.start / 4096 = c.containing_address.ensures ∙ ap (λ a. a / 4096) c.new.ensures in
-    let range = listed_range (paged_view c.args.self.now) c.args.region.now.start c.args.region.now.pages c.args.self.now.mapped c.requires.there in
-    subst (λ f. IsSome (walk_of c.args.self.now.frames c.args.self.now.root (f + k))) (sym first)
-    (mapped (paged_view c.args.self.now) c.args.region.now.start c.args.region.now.pages k c.args.self.now.mapped range c.requires.there less)
-
-pub unmap_pages-requires-clause-ends : goal.unmap_pages-requires-clause-ends
-unmap_pages-requires-clause-ends c =
-    let first : c.containing_address.result ≡ c.args.region.now.start / 4096 = c.containing_address.ensures ∙ ap (λ a. a / 4096) c.new.ensures in
-    let range = listed_range (paged_view c.args.self.now) c.args.region.now.start c.args.region.now.pages c.args.self.now.mapped c.requires.there in
-    subst (λ f. NoLargePageReachesOver c.args.self.now.frames c.args.self.now.root f c.args.region.now.pages) (sym first)
-    (none_over (paged_view c.args.self.now) c.args.region.now.start c.args.region.now.pages c.args.self.now.mapped range
-    (listed_ends c.args.region.now.start c.args.region.now.pages 0 (2 ^ 64) (paged_view c.args.self.now).regions c.count.ensures.laid c.requires.there))
+pub unmap_pages-requires-clause-unmappable : goal.unmap_pages-requires-clause-unmappable
+unmap_pages-requires-clause-unmappable c = record {
+  rooted = search rules;
+  range = let first : c.containing_address.result ≡ c.args.region.now.start / 4096 = c.containing_address.ensures ∙ ap (λ a. a / 4096) c.new.ensures in
+      subst (λ f. IsCanonicalRange f c.args.region.now.pages) (sym first)
+      (listed_range (paged_view c.args.self.now) c.args.region.now.start c.args.region.now.pages c.args.self.now.mapped
+      c.requires.there).1;
+  mapped = λ k less.
+      let first : c.containing_address.result ≡ c.args.region.now.start / 4096 = c.containing_address.ensures ∙ ap (λ a. a / 4096) c.new.ensures in
+      let range = listed_range (paged_view c.args.self.now) c.args.region.now.start c.args.region.now.pages c.args.self.now.mapped c.requires.there in
+      subst (λ f. IsSome (walk_of c.args.self.now.frames c.args.self.now.root (f + k))) (sym first)
+      (mapped (paged_view c.args.self.now) c.args.region.now.start c.args.region.now.pages k c.args.self.now.mapped range c.requires.there less);
+  ends = let first : c.containing_address.result ≡ c.args.region.now.start / 4096 = c.containing_address.ensures ∙ ap (λ a. a / 4096) c.new.ensures in
+      let range = listed_range (paged_view c.args.self.now) c.args.region.now.start c.args.region.now.pages c.args.self.now.mapped c.requires.there in
+      subst (λ f. NoLargePageReachesOver c.args.self.now.frames c.args.self.now.root f c.args.region.now.pages) (sym first)
+      (none_over (paged_view c.args.self.now) c.args.region.now.start c.args.region.now.pages c.args.self.now.mapped range
+      (listed_ends c.args.region.now.start c.args.region.now.pages 0 (2 ^ 64) (paged_view c.args.self.now).regions c.count.ensures.laid c.requires.there));
+}
 
 -- what is seen after the region left
 abbrev after : After-forget_pages → Paged
