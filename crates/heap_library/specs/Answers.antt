@@ -1,12 +1,11 @@
 -- What the calls of a heap over arenas answer (own).
 use Rattle.std.specs.Prelude.{◌≡◌, ◌↔◌, ℕ, Bool, List, OnOk, IfOk, IfErr, IsErr, Result}
 use Rattle.dlmalloc.specs.Blocks.{BlocksAreApart}
-use Rattle.dlmalloc.specs.Heap.{state_of}
 use Rattle.dlmalloc.specs.Order.{KeepsIndex}
 use Rattle.dlmalloc.specs.State.{HeapState}
 use Rattle.dlmalloc.specs.declared.heap.Dlmalloc.{Dlmalloc}
 use Rattle.heap_arena.specs.Arena.{regions_of, word_of}
-use Rattle.heap_arena.specs.Arenas.{word_among, IsAdded}
+use Rattle.heap_arena.specs.Arenas.{IsAdded}
 use Rattle.heap_arena.specs.declared.add_fault.AddFault.{AddFault}
 use Rattle.heap_arena.specs.declared.arena.Arena.{Arena}
 use Rattle.sound_heap.specs.Heap.{IsRequestRefused}
@@ -44,4 +43,3 @@ pub record IsArenaAnswered {A T : Type 0} (arenas : A → List Arena) (most : �
   pub taken : OnOk answer (IsAdded (arenas old.system) arena (arenas new.system))
   pub err : IfErr answer (λ refusal. IsArenaRefused (arenas old.system) most arena refusal.0 refusal.1 (arenas new.system))
   pub others : new ≡ record old { system = new.system }
-  pub state : state_of (λ a. word_among (arenas a)) new ≡ state_of (λ a. word_among (arenas a)) old

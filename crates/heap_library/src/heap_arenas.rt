@@ -1,5 +1,6 @@
 // A heap over several arenas.
 ghost use Rattle.std.specs.Prelude.{◌≡◌, ℕ};
+ghost use Rattle.dlmalloc.specs.Heap.{state_of};
 ghost use Rattle.heap_arena.specs.Arenas.{regions_of_all, word_among};
 ghost use Rattle.heap_library.specs.Answers.{IsArenaAnswered};
 ghost use Rattle.sound_heap.specs.Heap.{IsIntact};
@@ -15,6 +16,7 @@ fn add<'a, const N: usize>(
 ) -> Result<(), (AddFault, Arena<'a>)>
     requires { IsIntact (λ a. regions_of_all a.arenas.items) (λ a at. word_among a.arenas.items at) heap.old }
     ensures answered { IsArenaAnswered (λ a. a.arenas.items) N heap.old arena.entry result heap.new }
+    ensures state { state_of (λ a at. word_among a.arenas.items at) heap.new ≡ state_of (λ a at. word_among a.arenas.items at) heap.old }
     ensures intact { IsIntact (λ a. regions_of_all a.arenas.items) (λ a at. word_among a.arenas.items at) heap.new }
 {
     heap.rests_outside();
@@ -29,7 +31,8 @@ pub fn add_arena<'a, const N: usize>(
     heap: &mut Heap<Arenas<'a, N>>,
     arena: Arena<'a>,
 ) -> Result<(), (AddFault, Arena<'a>)>
-    ensures { IsArenaAnswered (λ a. a.arenas.items) N heap.old arena.entry result heap.new }
+    ensures answered { IsArenaAnswered (λ a. a.arenas.items) N heap.old arena.entry result heap.new }
+    ensures state { state_of (λ a at. word_among a.arenas.items at) heap.new ≡ state_of (λ a at. word_among a.arenas.items at) heap.old }
 {
     add(&mut heap.heap, arena)
 }

@@ -18,6 +18,8 @@ returns-clause-answered g c = record {
       (refused_arena c.allocator_mut.result.now.arenas.items c.add.new.self.arenas.items g.row.N c.args.arena c.add.result
       c.add.ensures.err c.add.ensures.back c.add.ensures.same);
   others = refl;
-  state = (added_intact (λ a. a.arenas.items) c.args.heap.now c.allocator_mut.result.now c.add.new.self c.add.result c.args.arena
-      c.rests_outside.ensures c.requires c.allocator_mut.ensures.value c.add.ensures.ok c.add.ensures.same).1;
 }
+
+pub returns-clause-state : goal.returns-clause-state
+returns-clause-state g c = (added_intact (λ a. a.arenas.items) c.args.heap.now c.allocator_mut.result.now c.add.new.self c.add.result c.args.arena
+      c.rests_outside.ensures c.requires c.allocator_mut.ensures.value c.add.ensures.ok c.add.ensures.same).1
