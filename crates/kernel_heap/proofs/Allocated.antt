@@ -1,15 +1,15 @@
 -- A request was granted, or refused: what a heap over the system sees of it.
-use Rattle.std.proofs.Common.{◌≡◌, ℕ, ◌+◌, ◌-◌, ◌/◌, ◌%◌, ◌^◌, ◌<◌, ◌≤◌, [], ◌∷◌, Result, Ok, Err, IfErr, OnErr, map, refl, sym, ap, ◌∙◌, subst, arith, Some}
+use Rattle.std.proofs.Common.{◌≡◌, ℕ, ◌+◌, ◌-◌, ◌/◌, ◌%◌, ◌^◌, ◌<◌, ◌≤◌, [], ◌∷◌, Result, Ok, Err, IfOk, IfErr, OnErr, map, refl, sym, ap, ◌∙◌, subst, arith, Some}
 use Rattle.std.specs.List.{AllByRecursion}
 use Rattle.paging_core.specs.Walk.{walk_of, place_with as granted_place}
 use Rattle.heap_memory.specs.declared.grant.Grant.{Grant}
 use Rattle.heap_memory.specs.declared.grant.GrantFault.{GrantFault}
-use Rattle.heap_memory.specs.Events.{Refused}
 use Rattle.heap_memory.specs.Regions.{IsWordOf, IsApart, IsGoodGrant, with_grant}
 use Rattle.heap_model.specs.Request.{pages_in}
 use Rattle.heap_model.specs.Room.{heap_region, heap_rights}
 use Rattle.heap_model.specs.Machine.{Paged, OnlyHeapBytesChange}
-use Rattle.kernel_heap.specs.Follows.{Follows, still_none}
+use Rattle.kernel_heap.specs.Follows.{still_none}
+use Rattle.kernel_heap.specs.Grants.{IsGrantSeen, IsDenialSeen}
 use Rattle.kernel_heap.specs.Layout.{IsPagedKept, IsGrantedFor, MayDeny}
 use Rattle.kernel_heap.specs.Words.{heap_regions, grant_of, grants_of}
 use Rattle.mapped_regions.specs.Mapped.{word_reached}
@@ -59,8 +59,19 @@ module _ (old new : Paged) (asked : ℕ) (grant : Grant) (kept : IsPagedKept old
   pub words : (at : ℕ) → IsWordOf (grants_of old) at → word_reached new at ≡ word_reached old at
   words = words_added old new grant.base (pages_in asked) heap_rights kept is.granted.grant
 
+  -- so a heap sees it
+  pub granted : IsGrantSeen old new asked grant
+  granted = record { good = good; apart = apart; flags = is.flags; regions = regions; zeros = zeros; follows = (old, new, still_none old, is, still_none new) }
+
+-- the words stay whatever is answered
+pub words_stay : (old new : Paged) (asked : ℕ) (answer : Result Grant GrantFault) → IsPagedKept old →
+    IfOk answer (λ grant. IsGrantedFor old new asked grant) → OnErr answer (new ≡ old) →
+    (at : ℕ) → IsWordOf (grants_of old) at → word_reached new at ≡ word_reached old at
+words_stay old new asked (Ok grant) kept ok err at word = words old new asked grant kept ok at word
+words_stay old new asked (Err fault) kept ok err at word = ap (λ p. word_reached p at) err
+
 -- a refusal is an event that changes nothing
-pub follows_refused : (old new : Paged) (asked : ℕ) (answer : Result Grant GrantFault) → OnErr answer (new ≡ old) →
-    IfErr answer (λ fault. MayDeny old asked fault) → IfErr answer (λ fault. Follows old (Refused asked fault ∷ []) new)
-follows_refused old new asked (Ok grant) same lacks = tt
-follows_refused old new asked (Err fault) same lacks = (old, still_none old, lacks, subst (OnlyHeapBytesChange old) (sym same) (still_none old))
+pub denied : (old new : Paged) (asked : ℕ) (answer : Result Grant GrantFault) → OnErr answer (new ≡ old) →
+    IfErr answer (λ fault. MayDeny old asked fault) → IfErr answer (λ fault. IsDenialSeen old new asked fault)
+denied old new asked (Ok grant) same lacks = tt
+denied old new asked (Err fault) same lacks = record { may = lacks; follows = (old, still_none old, lacks, subst (OnlyHeapBytesChange old) (sym same) (still_none old)) }

@@ -28,6 +28,7 @@ use Rattle.heap_model.proofs.Ended.{left_at, outline_left, good_ended}
 use Rattle.heap_model.proofs.Shortened.{none_gone, good_cut}
 use Rattle.heap_model.proofs.Slots.{settled_same}
 use Rattle.kernel_heap.specs.System.{paged, pageless_frames}
+use Rattle.kernel_heap.specs.Moves.{marks_of, AreRegionsTold}
 use Rattle.kernel_heap.specs.Words.{heap_regions}
 use Rattle.kernel_heap.specs.Heap.{regions, word, follows, heap_state}
 use Rattle.dlmalloc.specs.Blocks.{ArePlaced}
@@ -41,7 +42,8 @@ use Rattle.kernel_heap.proofs.Full.{behind}
 use Rattle.kernel_heap.proofs.HeapRegions.{all_more, granted_same}
 use Rattle.kernel_heap.proofs.Laid.{block_place, block_there, live_left}
 use Rattle.kernel_heap.proofs.KeptEnd.{IsHeadAt, free_part, part_stays}
-use Rattle.kernel_heap.proofs.ReleasedRegions.{AreWholeReleases, AreReleases, AreShortened, IsShortenedBy, follows_shortened}
+use Rattle.kernel_heap.proofs.ShortenedRegions.{AreShortened}
+use Rattle.kernel_heap.proofs.ReleasedRegions.{AreWholeReleases, AreReleases, IsShortenedBy, follows_shortened}
 use Rattle.kernel_heap.proofs.ReleasedState.{left_state, regions_cut, frames_left, enough_left, stands_left}
 
 -- ---- what a free does further grants nothing
@@ -202,14 +204,11 @@ module _ {top : ℕ} (heap new : Dlmalloc PagedSystem) (blocks : List (Option Li
     stands = stands_now;
   }
 
-  pub step_ended : (answered : Option (List Region)) →
-      ((paged new.system).joins ≡ (paged heap.system).joins → pageless_frames (paged new.system) ≡ pageless_frames (paged heap.system) → answered ≡ None) →
-      (((paged new.system).joins ≡ (paged heap.system).joins → pageless_frames (paged new.system) ≡ pageless_frames
-      (paged heap.system) → ⊥) → answered ≡ Some left) →
+  pub step_ended : (answered : Option (List Region)) → AreRegionsTold (paged new.system) (marks_of (paged heap.system)) answered →
       IsStep s (Free number) (record { reply = Done; regions = answered; large = None }) m'
-  step_ended answered same other = elim (same_or_other (pageless_frames (paged new.system)) (pageless_frames (paged heap.system))) [
+  step_ended answered told = elim (same_or_other (pageless_frames (paged new.system)) (pageless_frames (paged heap.system))) [
     | inl few ↦ subst (λ (list : Option (List Region)). IsStep s (Free number)
-        (record { reply = Done; regions = list; large = None }) m') (sym (same short.joins few)) (step_kept few)
+        (record { reply = Done; regions = list; large = None }) m') (sym (told.none short.joins few)) (step_kept few)
     | inr more ↦ subst (λ (list : Option (List Region)). IsStep s (Free number)
-        (record { reply = Done; regions = list; large = None }) m') (sym (other (λ joins few. more few))) (step_cut more)
+        (record { reply = Done; regions = list; large = None }) m') (sym (told.changed (λ joins few. more few))) (step_cut more)
   ]

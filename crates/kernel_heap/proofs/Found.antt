@@ -43,6 +43,7 @@ use Rattle.mapped_regions.specs.Mapped.{AreRunsUsed}
 use Rattle.kernel_heap.specs.Layout.{IsGrantedFor}
 use Rattle.kernel_heap.specs.Words.{heap_regions}
 use Rattle.kernel_heap.specs.System.{paged, pageless_frames}
+use Rattle.kernel_heap.specs.Moves.{marks_of, AreRegionsTold, AreSlotsTold}
 use Rattle.kernel_heap.specs.Heap.{regions, follows, heap_state}
 use Rattle.kernel_heap.specs.Machine.{seen_of}
 use Rattle.kernel_heap.specs.LaidOut.{IsLaidOut}
@@ -53,7 +54,7 @@ use Rattle.kernel_heap.proofs.HeapRegions.{all_more, granted_same, heap_joined, 
 use Rattle.kernel_heap.proofs.Numbers.{same_or_other}
 use Rattle.kernel_heap.proofs.Places.{range_within}
 use Rattle.kernel_heap.proofs.Refused.{regions_are, place_same}
-use Rattle.kernel_heap.proofs.ReleasedRegions.{AreShortened, shortened_still, shortened_then}
+use Rattle.kernel_heap.proofs.ShortenedRegions.{AreShortened, shortened_still, shortened_then}
 use Rattle.kernel_heap.proofs.ReleasedState.{left_state, regions_cut, frames_left, enough_left, stands_left}
 
 -- a chunk is found with one region more at most
@@ -423,25 +424,20 @@ module _ {top : ℕ} (heap middle new : Dlmalloc PagedSystem) (blocks blocks' : 
 
   -- The whole step, where the regions are listed if one joined, or other frames have no page than before; and the slots of the one that joined.
   pub step_found : (answered : Option (List Region)) (large : Option (List ℕ)) →
-      ((paged new.system).joins ≡ (paged heap.system).joins → pageless_frames (paged new.system) ≡ pageless_frames (paged heap.system) → answered ≡ None) →
-      (((paged new.system).joins ≡ (paged heap.system).joins → pageless_frames (paged new.system) ≡ pageless_frames
-      (paged heap.system) → ⊥) → answered ≡ Some left) →
-      ((paged new.system).joins ≡ (paged heap.system).joins → large ≡ None) →
-      (((paged new.system).joins ≡ (paged heap.system).joins → ⊥) → large ≡ listed_slots (paged new.system).slots) →
-      IsFoundStep (answered, large)
-  step_found answered large same other none told = elim found [
+      AreRegionsTold (paged new.system) (marks_of (paged heap.system)) answered → AreSlotsTold heap new large → IsFoundStep (answered, large)
+  step_found answered large regions_are slots = elim found [
     | inl here ↦ (
         let joins : (paged new.system).joins ≡ (paged heap.system).joins = short.joins ∙ ap (λ (p : Paged). p.joins) here.1.others in
         elim (same_or_other (pageless_frames (paged new.system)) (pageless_frames (paged heap.system))) [
-          | inl few ↦ subst IsFoundStep (λ i. (sym (same joins few) i, sym (none joins) i))
+          | inl few ↦ subst IsFoundStep (λ i. (sym (regions_are.none joins few) i, sym (slots.none joins) i))
               (step_here here.1 few, subst (AreRunsUsedFor (paged heap.system) (paged middle.system)) (sym (placed_none s call number address)) tt)
-          | inr more ↦ subst IsFoundStep (λ i. (sym (other (λ j few. more few)) i, sym (none joins) i))
+          | inr more ↦ subst IsFoundStep (λ i. (sym (regions_are.changed (λ j few. more few)) i, sym (slots.none joins) i))
               (step_cut here.1 more, subst (AreRunsUsedFor (paged heap.system) (paged middle.system)) (sym (none_listed here.1)) tt)
         ])
     | inr there ↦ (let followed = there.4 in
         let differ = joined there.2 followed.0 followed.1 followed.2 there.0 followed.3 followed.4 there.5 in
-        let slots_are = told differ ∙ ap listed_slots (slots_kept there.2 followed.0 followed.1 followed.2 there.0 followed.3 followed.4 there.5) in
-        subst IsFoundStep (λ i. (sym (other (λ j few. differ j)) i, sym slots_are i)) (
+        let slots_are = slots.joined differ ∙ ap listed_slots (slots_kept there.2 followed.0 followed.1 followed.2 there.0 followed.3 followed.4 there.5) in
+        subst IsFoundStep (λ i. (sym (regions_are.changed (λ j few. differ j)) i, sym slots_are i)) (
           step_granted there.2 followed.0 followed.1 followed.2 there.0 followed.3 followed.4 there.5,
           subst (AreRunsUsedFor (paged heap.system) (paged middle.system))
               (sym (pages_are there.2 followed.0 followed.1 followed.2 there.0 followed.3 followed.4 there.5))

@@ -19,7 +19,6 @@ use Rattle.heap_model.specs.declared.region.Region.{Region}
 use Rattle.heap_model.specs.declared.call.Call.TheVariants.{Malloc, Calloc}
 use Rattle.heap_model.specs.declared.answer.Reply.TheVariants.{Block as Placed}
 use Rattle.heap_model.specs.State.{State, Cell, Fresh, Known, Block, block_at, is_within}
-use Rattle.heap_model.specs.Slots.{listed_slots}
 use Rattle.heap_model.specs.Place.{meets_any}
 use Rattle.heap_model.specs.Memory.{HoldsBytes}
 use Rattle.heap_model.specs.Refusal.{refuse_request}
@@ -29,7 +28,8 @@ use Rattle.heap_model.specs.Room.{IsGrowth}
 use Rattle.heap_model.proofs.Known.{known_within}
 use Rattle.heap_model.proofs.Shortened.{good_there, good_over}
 use Rattle.heap_model.proofs.Placed.{outline_of, outline_push, length_outline, known_alike, holds_pushed, good_placed}
-use Rattle.kernel_heap.specs.System.{paged, pageless_frames}
+use Rattle.kernel_heap.specs.System.{paged}
+use Rattle.kernel_heap.specs.Moves.{marks_of, AreRegionsTold, AreSlotsTold}
 use Rattle.kernel_heap.specs.Words.{heap_regions}
 use Rattle.kernel_heap.specs.Heap.{regions, word, follows, heap_state}
 use Rattle.kernel_heap.specs.Machine.{seen_of}
@@ -45,7 +45,7 @@ use Rattle.kernel_heap.proofs.Found.{step_found}
 use Rattle.kernel_heap.proofs.Laid.{next_live, block_there, live_kept, live_apart}
 use Rattle.kernel_heap.proofs.Refused.{not_refused, wanted_asked}
 use Rattle.kernel_heap.specs.Follows.{still_none}
-use Rattle.kernel_heap.proofs.ReleasedRegions.{AreShortened, shortened_still}
+use Rattle.kernel_heap.proofs.ShortenedRegions.{AreShortened, shortened_still}
 use Rattle.kernel_heap.proofs.Still.{granted_within}
 
 -- the block that is handed out, as the state has it
@@ -147,12 +147,7 @@ module _ {top : ℕ} (heap new : Dlmalloc PagedSystem) (blocks : List (Option Li
   no_part one is = absurd (let no : None ≡ Some one = is in cc)
 
   module _ (power : is_power_of_two align ≡ true) (answered : Option (List Region)) (large : Option (List ℕ))
-      (same : (paged new.system).joins ≡ (paged heap.system).joins → pageless_frames (paged new.system) ≡ pageless_frames (paged heap.system) → answered ≡ None)
-      (other : ((paged new.system).joins ≡ (paged heap.system).joins → pageless_frames (paged new.system) ≡ pageless_frames
-      (paged heap.system) → ⊥) → answered ≡ Some (heap_regions (paged new.system).regions))
-      (none : (paged new.system).joins ≡ (paged heap.system).joins → large ≡ None)
-      (told : ((paged new.system).joins ≡ (paged heap.system).joins → ⊥) →
-      large ≡ listed_slots (paged new.system).slots) where
+      (told : AreRegionsTold (paged new.system) (marks_of (paged heap.system)) answered) (slots : AreSlotsTold heap new large) where
     -- what an answer to a request is, and what is said of its new pages
     abbrev IsRequestStep : Bool → Type 0
     IsRequestStep cleared =
@@ -169,7 +164,7 @@ module _ {top : ℕ} (heap new : Dlmalloc PagedSystem) (blocks : List (Option Li
         (found power) None whole no_part out.granularity stays s good stands
         (Malloc size align) (length blocks) address (after_it Fresh) refl (not_at_once power) refl
         (λ list grown growth cut same still. (number, subst (IsGrowth s (wanted size align)) (sym (same refl)) growth))
-        (lives_same Fresh) (holds Fresh fresh) (good_blocks Fresh) answered large same other none told
+        (lives_same Fresh) (holds Fresh fresh) (good_blocks Fresh) answered large told slots
 
     -- its bytes are zero
     step_cleared : ((k : ℕ) → k < size → reached (paged new.system).words (paged new.system).root (address + k) ≡ Some 0) →
@@ -181,7 +176,7 @@ module _ {top : ℕ} (heap new : Dlmalloc PagedSystem) (blocks : List (Option Li
         (found power) None whole no_part out.granularity stays s good stands
         (Calloc size align) (length blocks) address (after_it (Known 0)) refl (not_at_once power) refl
         (λ list grown growth cut same still. (number, subst (IsGrowth s (wanted size align)) (sym (same refl)) growth))
-        (lives_same (Known 0)) (holds (Known 0) zero_there) (good_blocks (Known 0)) answered large same other none told
+        (lives_same (Known 0)) (holds (Known 0) zero_there) (good_blocks (Known 0)) answered large told slots
 
     pub step_request : (cleared : Bool) → (cleared ≡ true → AreZero (word new.system) address size) → IsRequestStep cleared
     step_request false zeros = step_handed

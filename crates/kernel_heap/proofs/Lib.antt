@@ -1,4 +1,5 @@
 pub mod Numbers
+pub mod Outcomes
 pub mod NoneLive
 pub mod Places
 pub mod Pages
@@ -33,6 +34,7 @@ pub mod Probed
 pub mod UserRegions
 pub mod RunPages
 pub mod ReleasedWords
+pub mod ShortenedRegions
 pub mod ReleasedRegions
 pub mod ReleasedSlots
 pub mod KeptEnd
@@ -41,6 +43,7 @@ pub mod Ended
 pub mod SettingChanges
 pub mod Told
 pub mod LastingPages
+pub mod Served
 pub mod Trimmed
 pub mod Reset
 pub mod Registers

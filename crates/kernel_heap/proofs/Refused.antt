@@ -213,10 +213,9 @@ pub step_denied : {top : ℕ} → (heap new : Dlmalloc PagedSystem) → IsGranul
     (limit s.granularity ≤ asked → must_refuse s call ≡ Some TooLarge) →
     (asked < limit s.granularity → must_refuse s call ≡ None) →
     wanted_by s call ≡ Some n → (error : MallocError) → IsRefusedWith regions word follows refuses denies heap asked error
-    new → (answer : Answer) → IsRefusalOf error answer → IsStep s call answer (seen_of top new blocks)
-step_denied {top = top} heap new granularity blocks laid s good stands call asked n same large small wants error denied answer given =
-    subst (λ (m : Seen). IsStep s call answer m) (sym (seen_denied heap new blocks asked error denied top))
-    (subst (λ (a : Answer). IsStep s call a (seen_of top heap blocks)) (sym given.2) (go error given.0 given.1 denied.refused))
+    new → (refusal : Refusal) → refusal_of error ≡ Some refusal → IsStep s call (refused_with refusal) (seen_of top new blocks)
+step_denied {top = top} heap new granularity blocks laid s good stands call asked n same large small wants error denied refusal is =
+    subst (λ (m : Seen). IsStep s call (refused_with refusal) m) (sym (seen_denied heap new blocks asked error denied top)) (go error refusal is denied.refused)
   where
     go : (error : MallocError) (refusal : Refusal) → refusal_of error ≡ Some refusal →
         IsMallocRefused denies heap.system (heap_state heap) asked error →

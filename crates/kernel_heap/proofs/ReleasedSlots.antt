@@ -22,7 +22,7 @@ use Rattle.mapped_regions.specs.Regions.{kind_at}
 use Rattle.mapped_regions.specs.Mapped.{IsRegion, IsMapped}
 use Rattle.mapped_regions.proofs.Mapped.{some_mapped}
 use Rattle.kernel_heap.proofs.HeapRegions.{kind_some}
-use Rattle.kernel_heap.proofs.ReleasedRegions.{AreShortened, some_not_none}
+use Rattle.kernel_heap.proofs.ShortenedRegions.{AreShortened, some_not_none}
 
 -- a region that has a slot whole has each of its addresses
 whole_within : (slot at : ℕ) (regions : List Region) → slot ≤ at → at < slot + 2 ^ 21 → is_whole_in regions slot ≡ true → list_any (is_within at) regions ≡ true

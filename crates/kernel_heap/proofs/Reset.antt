@@ -42,7 +42,8 @@ use Rattle.kernel_heap.specs.LaidOut.{HaveRegions, IsLaidOut}
 use Rattle.kernel_heap.specs.declared.paged_system.PagedSystem.{PagedSystem}
 use Rattle.kernel_heap.proofs.HeapRegions.{all_more}
 use Rattle.kernel_heap.proofs.Numbers.{same_or_other}
-use Rattle.kernel_heap.proofs.ReleasedRegions.{AreShortened, follows_whole}
+use Rattle.kernel_heap.proofs.ShortenedRegions.{AreShortened}
+use Rattle.kernel_heap.proofs.ReleasedRegions.{follows_whole}
 use Rattle.kernel_heap.proofs.ReleasedState.{left_state, regions_cut, frames_left, enough_left, stands_left}
 use Rattle.kernel_heap.proofs.SegmentsLeft.{HaveAll, have_all, have_without}
 use Rattle.kernel_heap.proofs.Ended.{whole_releases}

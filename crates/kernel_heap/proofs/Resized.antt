@@ -19,6 +19,7 @@ use Rattle.dlmalloc.specs.Requested.{asked, IsFound, IsMemberServed}
 use Rattle.dlmalloc.specs.Moved.{others_at, IsGivenSize, HasByteOf}
 use Rattle.dlmalloc.specs.Served.{IsRefusedWith}
 use Rattle.dlmalloc.specs.declared.malloc_error.MallocError.{MallocError}
+use Rattle.heap_model.specs.declared.answer.Refusal.{Refusal}
 use Rattle.heap_model.specs.declared.answer.Answer.{Answer}
 use Rattle.dlmalloc.specs.declared.heap.Dlmalloc.{Dlmalloc}
 use Rattle.heap_model.specs.declared.live.Live.{Live}
@@ -26,7 +27,6 @@ use Rattle.heap_model.specs.declared.region.Region.{Region}
 use Rattle.heap_model.specs.declared.answer.Reply.TheVariants.{Block as Placed}
 use Rattle.heap_model.specs.declared.answer.Refusal.TheVariants.{UnknownBlock}
 use Rattle.heap_model.specs.State.{State, Known, Block, block_at, cell_at, is_within}
-use Rattle.heap_model.specs.Slots.{listed_slots}
 use Rattle.heap_model.specs.Place.{meets_any}
 use Rattle.heap_model.specs.Memory.{HoldsBytes}
 use Rattle.heap_model.specs.Room.{IsGrowth}
@@ -40,7 +40,7 @@ use Rattle.heap_model.proofs.Placed.{outline_of, outline_at}
 use Rattle.heap_model.proofs.Resized.{length-resized, outline_changed, good_resized, holds_resized}
 use Rattle.heap_model.proofs.Shortened.{good_there, good_over}
 use Rattle.kernel_heap.specs.Follows.{still_none}
-use Rattle.kernel_heap.specs.System.{paged, pageless_frames}
+use Rattle.kernel_heap.specs.System.{paged}
 use Rattle.kernel_heap.specs.Words.{heap_regions}
 use Rattle.mapped_regions.specs.Mapped.{word_reached}
 use Rattle.kernel_heap.specs.Heap.{regions, word, follows, refuses, denies, heap_state}
@@ -49,7 +49,7 @@ use Rattle.kernel_heap.specs.Numbered.{live_at}
 use Rattle.kernel_heap.specs.LaidOut.{IsLaidOut}
 use Rattle.kernel_heap.specs.Refusing.{IsRefusalOf}
 use Rattle.kernel_heap.specs.Blocks.{resizing, align_kept, IsResizedTo}
-use Rattle.kernel_heap.specs.Moves.{IsToldFrom, AreSlotsTold, HeapMoves}
+use Rattle.kernel_heap.specs.Moves.{marks_of, AreRegionsTold, IsToldFrom, AreSlotsTold, HeapMoves}
 use Rattle.kernel_heap.specs.declared.numbered_heap.NumberedHeap.{NumberedHeap}
 use Rattle.kernel_heap.specs.declared.paged_system.PagedSystem.{PagedSystem}
 use Rattle.kernel_heap.proofs.BlockPlaces.{byte_kept, bytes_within}
@@ -60,7 +60,7 @@ use Rattle.kernel_heap.proofs.Full.{behind}
 use Rattle.kernel_heap.proofs.Laid.{next_live, block_place, block_there, live_stays, live_beside}
 use Rattle.kernel_heap.proofs.Refused.{refused_with, step_refused, step_denied, wanted_asked, large_resizing, not_refused_resizing}
 use Rattle.kernel_heap.proofs.Numbers.{same_or_other}
-use Rattle.kernel_heap.proofs.ReleasedRegions.{AreShortened, shortened_still}
+use Rattle.kernel_heap.proofs.ShortenedRegions.{AreShortened, shortened_still}
 use Rattle.kernel_heap.proofs.Still.{granted_within}
 
 -- an extent that is found elsewhere is found among the others
@@ -287,13 +287,9 @@ module _ {top : ℕ} (heap new : Dlmalloc PagedSystem) (blocks : List (Option Li
   pub step_resized : IsPowerOfTwo align → ((grant : Grant) → 0 < grant.size →
       regions out.middle.system ≡ with_grant grant (regions heap.system) → HasByteOf grant (regions new.system)) →
       (answered : Option (List Region)) (large : Option (List ℕ)) →
-      ((paged new.system).joins ≡ (paged heap.system).joins → pageless_frames (paged new.system) ≡ pageless_frames (paged heap.system) → answered ≡ None) →
-      (((paged new.system).joins ≡ (paged heap.system).joins → pageless_frames (paged new.system) ≡ pageless_frames
-      (paged heap.system) → ⊥) → answered ≡ Some (heap_regions (paged new.system).regions)) →
-      ((paged new.system).joins ≡ (paged heap.system).joins → large ≡ None) →
-      (((paged new.system).joins ≡ (paged heap.system).joins → ⊥) → large ≡ listed_slots (paged new.system).slots) →
+      AreRegionsTold (paged new.system) (marks_of (paged heap.system)) answered → AreSlotsTold heap new large →
       IsStep s (resizing keeps number size) (record { reply = Placed number address; regions = answered; large = large }) (seen_of top new blocks')
-  step_resized is_power stays answered large same other none told =
+  step_resized is_power stays answered large told slots =
       let moved = moved_shortened heap new live.address live.size align size address out in
       let power : is_power_of_two align ≡ true = test_of_power align is_power in
       let small : asked size align < limit s.granularity = subst (λ g. asked size align < limit g) stands.granularity out.small in
@@ -312,7 +308,7 @@ module _ {top : ℕ} (heap new : Dlmalloc PagedSystem) (blocks : List (Option Li
         here = λ at. still (out.here (at ∙ block_address)).1;
         growth = record { grown = grown; growth = subst (λ a. IsGrowth s (wanted size a) grown) (sym align_same) growth; cut = cut };
       }))
-      lives_same holds good_blocks answered large same other none told).0
+      lives_same holds good_blocks answered large told slots).0
 
 -- no block has the number
 pub step_unknown : {top : ℕ} → (heap : Dlmalloc PagedSystem) (blocks : List (Option Live)) (number size : ℕ) (keeps : Bool)
@@ -340,8 +336,8 @@ pub step_not_resized : {top : ℕ} → (heap new : Dlmalloc PagedSystem) → IsG
     (s : State) (good : IsGood s) (stands : Stands (seen_of top heap blocks) s) → IsPowerOfTwo (align_kept keeps live) →
     (error : MallocError) → IsRefusedWith regions word follows refuses denies heap (asked size (align_kept keeps live))
     error new →
-    (answer : Answer) → IsRefusalOf error answer → IsStep s (resizing keeps number size) answer (seen_of top new blocks)
-step_not_resized {top = top} heap new granularity blocks number size keeps live laid is s good stands power error denied answer given =
+    (refusal : Refusal) → refusal_of error ≡ Some refusal → IsStep s (resizing keeps number size) (refused_with refusal) (seen_of top new blocks)
+step_not_resized {top = top} heap new granularity blocks number size keeps live laid is s good stands power error denied refusal given =
     let old = behind heap blocks laid s good stands number live is in
     let align : align_then keeps old.0 ≡ align_kept keeps live = same keeps old.0 old.2 in
     step_denied heap new granularity blocks laid s good stands (resizing keeps number size)
@@ -354,7 +350,7 @@ step_not_resized {top = top} heap new granularity blocks number size keeps live 
     ∙ not_refused_resizing s.granularity size (align_then keeps) old.0
     (subst (λ a. asked size a < limit s.granularity) (sym align) less)))
     (wanted_resizing keeps s number size ∙ (ap (option_map (λ (b : Block). wanted size (align_then keeps b))) old.1 ∙ ap (λ a. Some (wanted size a)) align))
-    error denied answer given
+    error denied refusal given
   where
     same : (keeps : Bool) (block : Block) → outline block ≡ live → align_then keeps block ≡ align_kept keeps live
     same true block is = ap (λ (l : Live). l.align) is

@@ -5,55 +5,41 @@ use Rattle.std.specs.Prelude.{OnErr}
 use Rattle.std.specs.declared.alloc.AllocError.{AllocError}
 use Rattle.heap_model.specs.declared.answer.Answer.{Answer}
 use Rattle.heap_model.specs.declared.call.Call.{Call}
-use Rattle.heap_model.specs.Machine.{Stands, IsStep}
-use Rattle.heap_model.specs.Run.{IsGood}
-use Rattle.heap_model.specs.State.{State}
+use Rattle.heap_model.specs.Machine.{IsStep}
 use Rattle.x86_registers.specs.Cr3.{root_of}
 use Rattle.x86_registers.specs.declared.cpu.Cpu.{Cpu}
 use Rattle.sound_heap.specs.Heap.{IsIntact}
 use Rattle.kernel_heap.specs.Heap.{regions, word}
-use Rattle.kernel_heap.specs.Kept.{lasting_pages, AreRunsUsedFor, IsSeenAsBefore, IsReachedByte}
-use Rattle.kernel_heap.specs.Machine.{seen_with, system_of}
-use Rattle.kernel_heap.specs.Moves.{HeapMoves, KeepsStateAndBins}
+use Rattle.kernel_heap.specs.Machine.{seen_with}
+use Rattle.kernel_heap.specs.Served.{HasServed, HasNotServed}
 use Rattle.kernel_heap.specs.Parts.{Parts}
 use Rattle.kernel_heap.specs.Registers.{cpu_after}
 use Rattle.kernel_heap.specs.Steps.{HasStepped, HasNotStepped, StepsTo}
-use Rattle.kernel_heap.specs.System.{paged}
 
 module _ (old new : Parts) (call : Call) where
   -- a numbered heap that served a call over the root in CR3
   pub stepped : (result : Result Answer AllocError) → new.cpu.cr3 ≡ old.cpu.cr3 → IsIntact regions word new.heap.heap →
-      ((top : ℕ) (s : State) → IsGood s → Stands (seen_with top old.heap) s → IfOk result (λ answer. IsStep s call answer (seen_with top new.heap))) →
-      ((top : ℕ) (s : State) → IsGood s → Stands (seen_with top old.heap) s →
-      IfOk result (λ answer. AreRunsUsedFor (paged (system_of old.heap)) (paged (system_of new.heap))
-      (lasting_pages s call answer))) →
-      IfOk result (λ answer. HeapMoves old.heap call answer.reply answer.large new.heap) →
-      IfOk result (λ answer. IsSeenAsBefore answer.reply old.heap new.heap) →
-      IfOk result (λ answer. new.cpu ≡ cpu_after old.cpu call answer.reply) →
-      IfOk result (λ answer. IsReachedByte (paged (system_of new.heap)) call answer.reply) →
+      IfOk result (λ answer. HasServed old.heap call answer new.heap) → IfOk result (λ answer. new.cpu ≡ cpu_after old.cpu call answer.reply) →
       IfOk result (λ answer. HasStepped old call answer new)
-  stepped (Ok answer) root intact allowed runs heap kept registers reached =
+  stepped (Ok answer) root intact served registers =
       let top : root_of new.cpu.cr3 ≡ root_of old.cpu.cr3 = ap root_of root in
       record {
-        allowed = λ s good stands. subst (λ (top : ℕ). IsStep s call answer (seen_with top new.heap)) (sym top) (allowed (root_of old.cpu.cr3) s good stands);
-        heap = heap;
+        allowed = λ s good stands. subst (λ (top : ℕ). IsStep s call answer (seen_with top new.heap)) (sym top) (served.allowed (root_of old.cpu.cr3) s good stands);
+        heap = served.heap;
         intact = intact;
-        kept = λ told. ap (λ (top : ℕ). seen_with top new.heap) top ∙ kept told (root_of old.cpu.cr3);
-        runs = λ s good stands. runs (root_of old.cpu.cr3) s good stands;
+        kept = λ told. ap (λ (top : ℕ). seen_with top new.heap) top ∙ served.kept told (root_of old.cpu.cr3);
+        runs = served.runs (root_of old.cpu.cr3);
         registers = registers;
-        reached = reached;
+        reached = served.reached;
       }
-  stepped (Err error) root intact allowed runs heap kept registers reached = tt
+  stepped (Err error) root intact served registers = tt
 
   -- and one that could not
-  pub not_stepped : (result : Result Answer AllocError) → new.cpu ≡ old.cpu →
-      ((top : ℕ) → OnErr result (seen_with top new.heap ≡ seen_with top old.heap)) →
-      OnErr result (KeepsStateAndBins old.heap.heap new.heap.heap) →
-      OnErr result (HasNotStepped old new)
-  not_stepped (Ok answer) registers same still = tt
-  not_stepped (Err error) registers same still = record {
-    same = ap (λ (top : ℕ). seen_with top new.heap) (ap (λ (cpu : Cpu). root_of cpu.cr3) registers) ∙ same (root_of old.cpu.cr3);
-    still = still;
+  pub not_stepped : (result : Result Answer AllocError) → new.cpu ≡ old.cpu → OnErr result (HasNotServed old.heap new.heap) → OnErr result (HasNotStepped old new)
+  not_stepped (Ok answer) registers served = tt
+  not_stepped (Err error) registers served = record {
+    same = ap (λ (top : ℕ). seen_with top new.heap) (ap (λ (cpu : Cpu). root_of cpu.cr3) registers) ∙ served.same (root_of old.cpu.cr3);
+    still = served.still;
     registers = registers;
   }
 

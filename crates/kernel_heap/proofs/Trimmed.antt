@@ -26,6 +26,7 @@ use Rattle.heap_model.proofs.Placed.{outline_of}
 use Rattle.heap_model.proofs.Shortened.{length_cut, none_gone, good_cut}
 use Rattle.heap_model.proofs.Slots.{settled_same}
 use Rattle.kernel_heap.specs.System.{paged, pageless_frames}
+use Rattle.kernel_heap.specs.Moves.{marks_of, AreRegionsTold}
 use Rattle.kernel_heap.specs.Words.{heap_regions}
 use Rattle.kernel_heap.specs.Heap.{regions, word, follows, heap_state}
 use Rattle.kernel_heap.specs.Machine.{seen_of}
@@ -38,7 +39,8 @@ use Rattle.kernel_heap.proofs.HeapRegions.{all_more}
 use Rattle.kernel_heap.proofs.Laid.{block_there, block_moved}
 use Rattle.kernel_heap.proofs.Numbers.{same_or_other}
 use Rattle.kernel_heap.proofs.KeptEnd.{IsHeadAt, trim_part, part_stays}
-use Rattle.kernel_heap.proofs.ReleasedRegions.{AreShortened, IsShortenedBy, follows_shortened}
+use Rattle.kernel_heap.proofs.ShortenedRegions.{AreShortened}
+use Rattle.kernel_heap.proofs.ReleasedRegions.{IsShortenedBy, follows_shortened}
 use Rattle.kernel_heap.proofs.ReleasedState.{left_state, regions_cut, frames_left, enough_left, stands_left}
 use Rattle.kernel_heap.proofs.Still.{granted_within}
 use Rattle.kernel_heap.proofs.SegmentsLeft.{Has, have_all, have_trimmed}
@@ -173,15 +175,12 @@ module _ (heap new : Dlmalloc PagedSystem) (blocks : List (Option Live)) (pad : 
     other_left differ same = differ (let pages = pages_left in let total = ap total_pages same in omega (arith, pages, total))
 
     -- the regions are listed where another number of frames has no page
-    pub step_trimmed : (answered : Option (List Region)) →
-        ((paged new.system).joins ≡ (paged heap.system).joins → pageless_frames (paged new.system) ≡ pageless_frames (paged heap.system) → answered ≡ None) →
-        (((paged new.system).joins ≡ (paged heap.system).joins → pageless_frames (paged new.system) ≡ pageless_frames
-        (paged heap.system) → ⊥) → answered ≡ Some left) →
+    pub step_trimmed : (answered : Option (List Region)) → AreRegionsTold (paged new.system) (marks_of (paged heap.system)) answered →
         IsStep s (Trim pad) (record { reply = Trimmed (is_some answered); regions = answered; large = None }) (seen_of top new blocks)
-    step_trimmed answered same other = elim (same_or_other (pageless_frames (paged new.system)) (pageless_frames (paged heap.system))) [
+    step_trimmed answered told = elim (same_or_other (pageless_frames (paged new.system)) (pageless_frames (paged heap.system))) [
       | inl is ↦ subst (λ (a : Option (List Region)). IsStep s (Trim pad)
           (record { reply = Trimmed (is_some a); regions = a; large = None }) (seen_of top new blocks))
-          (sym (same short.joins is)) (record {
+          (sym (told.none short.joins is)) (record {
             allowed = record { reply = (refl, (none_cut s.heap, refl)); listed = tt; large = tt };
             good = good;
             stands = subst (Stands (seen_of top new blocks)) (ap (λ (list : List Region). left_state s list s.blocks)
@@ -189,7 +188,7 @@ module _ (heap new : Dlmalloc PagedSystem) (blocks : List (Option Live)) (pad : 
           })
       | inr differ ↦ subst (λ (a : Option (List Region)). IsStep s (Trim pad)
           (record { reply = Trimmed (is_some a); regions = a; large = None }) (seen_of top new blocks))
-          (sym (other (λ joins few. differ few))) (record {
+          (sym (told.changed (λ joins few. differ few))) (record {
             allowed = record { reply = (refl, (cut_now, refl)); listed = other_left differ; large = tt };
             good = good_now;
             stands = stands_now;

@@ -16,7 +16,7 @@ use Rattle.heap_model.specs.Request.{pages_in}
 use Rattle.heap_model.specs.Machine.{Paged, OnlyHeapBytesChange}
 use Rattle.mapped_regions.specs.Mapped.{word_reached}
 use Rattle.kernel_heap.specs.declared.flat_window.FlatWindow.{FlatWindow}
-use Rattle.kernel_heap.specs.FlatWindow.{IsCovered, flat_word, IsLonger, ArePutAt}
+use Rattle.kernel_heap.specs.FlatWindow.{IsCovered, AreCovered, flat_word, IsLonger, ArePutAt}
 use Rattle.kernel_heap.specs.Follows.{Follows}
 use Rattle.kernel_heap.specs.Layout.{IsPagedKept, CanGrant, IsGrantedFor}
 use Rattle.kernel_heap.specs.Released.{IsReleasedFor}
@@ -75,9 +75,12 @@ twin_put old new flat flat' at count told twin still here elsewhere put = record
     go k word (inr from) (inr above) = put.elsewhere k word.aligned (twin.covered k word) (inr above) ∙ (twin.equal k word ∙ sym (elsewhere k word (inr above)))
 
 -- there are flat words for those of a run
-pub covered_run : (p : Paged) (flat : FlatWindow) (at count : ℕ) → IsTwin p flat → AreWordsOf (grants_of p) at count →
-    (k : ℕ) → k % 8 ≡ 0 → at ≤ k → k < at + 8 * count → IsCovered flat k
-covered_run p flat at count twin words k m low high = twin.covered k (record { granted = words.granted k low high; aligned = m })
+pub covered_run : (p : Paged) (flat : FlatWindow) (at count : ℕ) → IsTwin p flat → AreWordsOf (grants_of p) at count → AreCovered flat at count
+covered_run p flat at count twin words = record {
+  covered = λ k m low high. twin.covered k (record { granted = words.granted k low high; aligned = m });
+  aligned = words.aligned;
+  small = words.small;
+}
 
 pub twin_filled : (old new : Paged) (flat flat' : FlatWindow) (at count value : ℕ) → IsTwin old flat → OnlyHeapBytesChange old new →
     AreFilled (grants_of old) (word_reached old) at count value (word_reached new) → ArePutAt flat flat' at count (λ k. value) → IsTwin new flat'

@@ -167,11 +167,9 @@ module _ (m : Seen) (s : State) (start pages : ℕ) (good : IsGood s) (stands : 
       step_unmapped m new s start pages good there (stands_unmapped m new s start pages good stands there left.gone left.whole regions)
 
   -- pages are not mapped, or not unmapped
-  pub map_denied : (rights : Rights) (fault : MapFault) → IsMapRefused m.paged start pages fault → (answer : Answer) →
-      IsRefusal (map_refusal fault) answer → IsStep s (Map start pages rights) answer m
-  map_denied rights fault why answer given =
-      subst (λ (a : Answer). IsStep s (Map start pages rights) a m) (sym given.2)
-      (step_refused m s (Map start pages rights) given.0 (map_refused rights fault given.0 given.1 why) good stands)
+  pub map_denied : (rights : Rights) (fault : MapFault) → IsMapRefused m.paged start pages fault → (refusal : Refusal) →
+      map_refusal fault ≡ Some refusal → IsStep s (Map start pages rights) (refused_with refusal) m
+  map_denied rights fault why refusal is = step_refused m s (Map start pages rights) refusal (map_refused rights fault refusal is why) good stands
 
   pub unmap_denied : (fault : UnmapFault) → IsUnmapRefused m.paged start pages fault → IsStep s (Unmap start pages) (refused_with (unmap_refusal fault)) m
   unmap_denied fault why = step_refused m s (Unmap start pages) (unmap_refusal fault) (unmap_refused fault why) good stands

@@ -1,15 +1,20 @@
 -- The block that a call is served, or gives another size.
-use Rattle.std.specs.Prelude.{ℕ, Bool, true, false}
-use Rattle.dlmalloc.specs.Requested.{IsServedAt}
+use Rattle.std.specs.Prelude.{◌≡◌, ◌≢◌, ◌-◌, ◌≤◌, ℕ, Bool, true, false, None}
+use Rattle.dlmalloc_chunks.specs.Request.{padded}
+use Rattle.dlmalloc.specs.Requested.{asked, IsServedAt, IsMemberServed}
+use Rattle.dlmalloc.specs.Resized.{in_place}
+use Rattle.dlmalloc.specs.Served.{IsRefusedWith}
 use Rattle.dlmalloc.specs.State.{HeapState}
 use Rattle.dlmalloc.specs.Written.{IsServedCleared}
-use Rattle.dlmalloc.specs.Moved.{IsResized}
+use Rattle.dlmalloc.specs.Moved.{IsResized, IsGivenSize}
 use Rattle.dlmalloc.specs.declared.heap.Dlmalloc.{Dlmalloc}
+use Rattle.dlmalloc.specs.declared.malloc_error.MallocError.{MallocError}
+use Rattle.dlmalloc.specs.declared.malloc_error.MallocError.TheVariants.{TooLarge}
 use Rattle.sound_heap.specs.Heap.{usable}
 use Rattle.heap_model.specs.declared.live.Live.{Live}
 use Rattle.heap_model.specs.declared.call.Call.{Call}
 use Rattle.heap_model.specs.declared.call.Call.TheVariants.{Malloc, Calloc, Realloc, CRealloc}
-use Rattle.kernel_heap.specs.Heap.{regions, word, follows, zeros, heap_state}
+use Rattle.kernel_heap.specs.Heap.{regions, word, follows, zeros, refuses, denies, heap_state}
 use Rattle.kernel_heap.specs.declared.paged_system.PagedSystem.{PagedSystem}
 
 -- a block is handed out, and is cleared then where that is asked for
@@ -41,3 +46,14 @@ bytes_kept false heap live = usable heap live.address
 abbrev pub IsResizedTo : Bool → Dlmalloc PagedSystem → Live → ℕ → ℕ → Dlmalloc PagedSystem → Type 0
 IsResizedTo keeps old live size address new =
     IsResized regions word zeros follows true true 4096 old live.address (bytes_kept keeps (heap_state old) live) (align_kept keeps live) size address new
+
+-- So it gets it at an address: as the heap tells, with its bytes, and elsewhere only where the order of the bins has a place.
+pub record IsLiveResized (keeps : Bool) (old : Dlmalloc PagedSystem) (live : Live) (size address : ℕ) (new : Dlmalloc PagedSystem) : Type 0 where
+  pub given : IsGivenSize regions word follows true true 4096 old live.address live.size (align_kept keeps live) size address new
+  pub resized : IsResizedTo keeps old live size address new
+  pub member : address ≢ live.address → IsMemberServed regions word old size (align_kept keeps live) address
+
+-- So it does not: the heap refuses it, and up to alignment 16 it cannot get that size where it stands.
+pub record IsLiveRefused (keeps : Bool) (old : Dlmalloc PagedSystem) (live : Live) (size : ℕ) (error : MallocError) (new : Dlmalloc PagedSystem) : Type 0 where
+  pub refused : IsRefusedWith regions word follows refuses denies old (asked size (align_kept keeps live)) error new
+  pub tried : error ≢ TooLarge → align_kept keeps live ≤ 16 → in_place (heap_state old) (live.address - 16) (padded size) ≡ None

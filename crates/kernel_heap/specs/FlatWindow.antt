@@ -1,5 +1,5 @@
 -- Flat words from an address on (own).
-use Rattle.std.specs.Prelude.{◌≡◌, ℕ, ◌+◌, ◌-◌, ◌*◌, ◌/◌, ◌%◌, ◌<◌, ◌≤◌, length, slice_index}
+use Rattle.std.specs.Prelude.{◌≡◌, ℕ, ◌+◌, ◌-◌, ◌*◌, ◌/◌, ◌%◌, ◌^◌, ◌<◌, ◌≤◌, length, slice_index}
 use Rattle.heap_memory.specs.Words.{IsBeside}
 use Rattle.kernel_heap.specs.declared.flat_window.FlatWindow.{FlatWindow}
 
@@ -10,6 +10,12 @@ IsCovered flat at = (flat.base ≤ at) × (at < flat.base + 8 * length flat.word
 -- the word there
 abbrev pub flat_word : FlatWindow → ℕ → ℕ
 flat_word flat at = slice_index flat.words.items ((at - flat.base) / 8)
+
+-- `count` words stand from a multiple of 8 on, below 2^64
+pub record AreCovered (flat : FlatWindow) (at count : ℕ) : Type 0 where
+  pub covered : (k : ℕ) → k % 8 ≡ 0 → at ≤ k → k < at + 8 * count → IsCovered flat k
+  pub aligned : at % 8 ≡ 0
+  pub small : at + 8 * count ≤ 2 ^ 64
 
 -- other words that begin at the same address: no fewer
 pub record IsLonger (old new : FlatWindow) : Type 0 where

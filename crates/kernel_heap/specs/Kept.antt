@@ -13,9 +13,14 @@ use Rattle.mapped_regions.specs.Mapped.{AreRunsUsed}
 use Rattle.kernel_heap.specs.declared.numbered_heap.NumberedHeap.{NumberedHeap}
 use Rattle.kernel_heap.specs.Machine.{seen_with}
 
+-- the byte is the one that the walk reaches, where the call is a probe
+abbrev pub IsReachedBy : Paged → Call → ℕ → Type 0
+IsReachedBy p (Probe at access user) byte = reached p.words p.root at ≡ Some byte
+IsReachedBy p call byte = ⊤
+
 -- a byte that a probe shows is the one that the walk reaches
 abbrev pub IsReachedByte : Paged → Call → Reply → Type 0
-IsReachedByte p (Probe at access user) (Byte byte) = reached p.words p.root at ≡ Some byte
+IsReachedByte p call (Byte byte) = IsReachedBy p call byte
 IsReachedByte p call reply = ⊤
 
 -- Whether a call takes no memory: a write, an unmap, a probe or a setting. Such a call is always answered.

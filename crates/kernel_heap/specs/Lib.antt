@@ -6,6 +6,7 @@ pub mod Beside
 pub mod Released
 pub mod Follows
 pub mod Ordered
+pub mod Grants
 pub mod Heap
 pub mod Parts
 pub mod Registers
@@ -17,6 +18,7 @@ pub mod Refusing
 pub mod Blocks
 pub mod Kept
 pub mod Moves
+pub mod Served
 pub mod Steps
 pub mod Written
 pub mod Runs

@@ -1,5 +1,5 @@
 -- How the heap moves in a step.
-use Rattle.std.specs.Prelude.{◌≡◌, ◌≢◌, ℕ, Bool, true, false, List, Option, None, MatchOption, if◌then◌else◌}
+use Rattle.std.specs.Prelude.{◌≡◌, ◌≢◌, ℕ, Bool, true, false, List, [], Option, Some, None, MatchOption, if◌then◌else◌}
 use Rattle.dlmalloc.specs.Requested.{asked, IsMemberServed}
 use Rattle.dlmalloc.specs.State.{countdown_from}
 use Rattle.dlmalloc.specs.AfterFree.{IsFreed}
@@ -15,14 +15,21 @@ use Rattle.heap_model.specs.declared.call.Call.TheVariants.{Malloc, Calloc, Real
 use Rattle.heap_model.specs.declared.answer.Reply.{Reply}
 use Rattle.heap_model.specs.declared.answer.Reply.TheVariants.{Block as Placed, Done, Trimmed, Accepted, Released, Extents as Listed, Refused}
 use Rattle.heap_model.specs.declared.answer.Refusal.{Refusal}
-use Rattle.kernel_heap.specs.System.{paged}
+use Rattle.heap_model.specs.declared.region.Region.{Region}
+use Rattle.kernel_heap.specs.System.{paged, pageless_frames}
+use Rattle.kernel_heap.specs.Words.{heap_regions}
 use Rattle.kernel_heap.specs.Heap.{regions, word, follows, denies, refuses, heap_state}
 use Rattle.kernel_heap.specs.declared.paged_system.PagedSystem.{PagedSystem}
+use Rattle.kernel_heap.specs.declared.numbered_heap.Marks.{Marks}
 use Rattle.kernel_heap.specs.declared.numbered_heap.NumberedHeap.{NumberedHeap}
-use Rattle.kernel_heap.specs.Machine.{heap_of}
+use Rattle.kernel_heap.specs.Machine.{heap_of, system_of}
 use Rattle.kernel_heap.specs.Numbered.{live_at}
 use Rattle.kernel_heap.specs.Refusing.{error_of, HasNoneFor, HasNoneBeside}
 use Rattle.kernel_heap.specs.Blocks.{IsServedFor, IsResizedTo}
+
+-- A heap stays in its state, and each size of its bins keeps its chunks, in their order.
+abbrev pub KeepsStateAndBins : Dlmalloc PagedSystem → Dlmalloc PagedSystem → Type 0
+KeepsStateAndBins old new = (heap_state new ≡ heap_state old) × KeepsIndex regions word old new
 
 -- A heap once the slots of the region that joined last are told: its system keeps them no more, and nothing else is different.
 pub record IsToldFrom (before now : Dlmalloc PagedSystem) : Type 0 where
@@ -35,16 +42,30 @@ pub record AreSlotsTold (old new : Dlmalloc PagedSystem) (large : Option (List �
   pub none : (paged new.system).joins ≡ (paged old.system).joins → large ≡ None
   pub joined : ((paged new.system).joins ≡ (paged old.system).joins → ⊥) → large ≡ listed_slots (paged new.system).slots
 
+-- what tells whether regions come or go behind this moment
+abbrev pub marks_of : Paged → Marks
+marks_of p = record { joins = p.joins; pageless = pageless_frames p }
+
+-- The regions that a call tells: none if none came or went since the marks, and else all of the heap.
+pub record AreRegionsTold (p : Paged) (before : Marks) (told : Option (List Region)) : Type 0 where
+  pub none : p.joins ≡ before.joins → pageless_frames p ≡ before.pageless → told ≡ None
+  pub changed : (p.joins ≡ before.joins → pageless_frames p ≡ before.pageless → ⊥) → told ≡ Some (heap_regions p.regions)
+
+-- The slots of a region that joined since the marks were told: the system keeps them no more. Where none joined, nothing was done.
+pub record HasToldSlots (old : NumberedHeap) (before : Marks) (told : Option (List ℕ)) (new : NumberedHeap) : Type 0 where
+  pub none : (paged (system_of old)).joins ≡ before.joins → told ≡ None × new ≡ old
+  pub slots : ((paged (system_of old)).joins ≡ before.joins → ⊥) → told ≡ listed_slots (paged (system_of old)).slots
+  pub taken : ((paged (system_of old)).joins ≡ before.joins → ⊥) → paged (system_of new) ≡ record (paged (system_of old)) { slots = [] }
+  pub rest : new.heap ≡ record old.heap { system = new.heap.system }
+  pub blocks : new.blocks ≡ old.blocks
+  pub still : KeepsStateAndBins old.heap new.heap
+
 -- The slots that a map tells: exactly those among its pages that one entry maps now, by ascending address, or none if there are
 -- none. No page of them was mapped before, so this call made each of them large.
 pub record AreMapSlotsTold (p : Paged) (start pages : ℕ) (large : Option (List ℕ)) : Type 0 where
   pub slots : List ℕ
   pub exactly : AreLargeSlots p.words p.root start pages slots
   pub listed : large ≡ listed_slots slots
-
--- A heap stays in its state, and each size of its bins keeps its chunks, in their order.
-abbrev pub KeepsStateAndBins : Dlmalloc PagedSystem → Dlmalloc PagedSystem → Type 0
-KeepsStateAndBins old new = (heap_state new ≡ heap_state old) × KeepsIndex regions word old new
 
 -- Something was done to the system of a heap, beside it: the heap's regions stay, and so it stays in its state.
 pub record IsKeptBeside (old new : Dlmalloc PagedSystem) : Type 0 where

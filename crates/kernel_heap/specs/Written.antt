@@ -39,3 +39,16 @@ pub record AreInPage (p : Paged) (at count : ℕ) : Type 0 where
   pub words : AreWordsOf (grants_of p) at count
   pub some : 0 < count
   pub page : at % 4096 / 8 + count ≤ 512
+
+-- `count` words of the regions may be copied from one place to another, which is apart from it
+pub record AreCopyable (regions : List Grant) (from to count : ℕ) : Type 0 where
+  pub source : AreWordsOf regions from count
+  pub target : AreWordsOf regions to count
+  pub apart : (from + 8 * count ≤ to) ⊎ (to + 8 * count ≤ from)
+
+-- how many words from an address on are put next, of those that are left: no more than stand in its page, and 64 at most
+pub record IsNextRun (at left run : ℕ) : Type 0 where
+  pub few : run ≤ left
+  pub short : run ≤ 64
+  pub page : at % 4096 / 8 + run ≤ 512
+  pub some : 0 < left → 0 < run

@@ -1,9 +1,8 @@
 // What is done to the system of a heap beside the heap: it stays in its state, with its regions and the order of its bins.
-ghost use Rattle.std.specs.Prelude.{◌≡◌, [], IfErr, OnOk, OnErr, length};
+ghost use Rattle.std.specs.Prelude.{◌≡◌, [], IfErr, OnOk, length};
 ghost use Rattle.heap_model.specs.Slots.{listed_slots};
-ghost use Rattle.mapped_regions.specs.Mapped.{CanMap, IsRegionJoined, IsLeft};
-ghost use Rattle.mapped_regions.specs.UserRegions.{user_region, IsMapRefused, IsUnmapRefused, CanUnmap};
 ghost use Rattle.sound_heap.specs.Heap.{AreInBlock};
+ghost use Rattle.kernel_heap.specs.Beside.{IsUserMapped, IsMapDenied, IsUserUnmapped, IsUnmapDenied};
 ghost use Rattle.kernel_heap.specs.Heap.{heap_state};
 ghost use Rattle.kernel_heap.specs.Moves.{IsKeptBeside};
 ghost use Rattle.kernel_heap.specs.System.{paged};
@@ -21,10 +20,8 @@ pub(crate) fn map(
     pages: u64,
     rights: Rights,
 ) -> Result<(), MapFault>
-    ensures ok { OnOk result (IsRegionJoined (paged heap.old.system) (paged heap.new.system) (user_region start pages rights)) }
-    ensures can { OnOk result (CanMap (paged heap.old.system) start pages) }
-    ensures err { OnErr result (paged heap.new.system ≡ paged heap.old.system) }
-    ensures refused { IfErr result (λ fault. IsMapRefused (paged heap.old.system) start pages fault) }
+    ensures ok { OnOk result (IsUserMapped (paged heap.old.system) (paged heap.new.system) start pages rights) }
+    ensures err { IfErr result (λ fault. IsMapDenied (paged heap.old.system) (paged heap.new.system) start pages fault) }
     ensures kept { IsKeptBeside heap.old heap.new }
 {
     heap.heap.rests_outside();
@@ -34,10 +31,8 @@ pub(crate) fn map(
 
 /// Unmaps a region of the user.
 pub(crate) fn unmap(heap: &mut Heap<PagedSystem>, start: u64, pages: u64) -> Result<(), UnmapFault>
-    ensures ok { OnOk result (IsLeft (paged heap.old.system) (paged heap.new.system) start pages) }
-    ensures can { OnOk result (CanUnmap (paged heap.old.system) start pages) }
-    ensures err { OnErr result (paged heap.new.system ≡ paged heap.old.system) }
-    ensures refused { IfErr result (λ fault. IsUnmapRefused (paged heap.old.system) start pages fault) }
+    ensures ok { OnOk result (IsUserUnmapped (paged heap.old.system) (paged heap.new.system) start pages) }
+    ensures err { IfErr result (λ fault. IsUnmapDenied (paged heap.old.system) (paged heap.new.system) start pages fault) }
     ensures kept { IsKeptBeside heap.old heap.new }
 {
     heap.heap.rests_outside();

@@ -1,15 +1,11 @@
 // Bytes of live blocks.
-ghost use Rattle.std.specs.Prelude.{◌≡◌, ℕ, IfOk, IfErr, IsOk, Some};
+ghost use Rattle.std.specs.Prelude.{◌≡◌, IfOk, IfErr, Some};
 ghost use Rattle.dlmalloc.specs.Blocks.{ArePlaced};
-ghost use Rattle.heap_model.specs.State.{State};
-ghost use Rattle.heap_model.specs.Run.{IsGood};
-ghost use Rattle.heap_model.specs.Machine.{Stands, IsStep};
 ghost use Rattle.kernel_heap.specs.Heap.{regions};
-ghost use Rattle.kernel_heap.specs.Machine.{seen_with, system_of, heap_of};
+ghost use Rattle.kernel_heap.specs.Machine.{system_of, heap_of};
 ghost use Rattle.kernel_heap.specs.Numbered.{live_at, refuse_live, HasBytes};
 ghost use Rattle.kernel_heap.specs.LaidOut.{IsNumberedSound};
-ghost use Rattle.kernel_heap.specs.Kept.{IsSeenAsBefore};
-ghost use Rattle.kernel_heap.specs.Moves.{KeepsStateAndBins};
+ghost use Rattle.kernel_heap.specs.Served.{HasServed};
 
 use crate::beside;
 use crate::numbered_heap::{NumberedHeap, refused};
@@ -38,9 +34,7 @@ impl NumberedHeap {
     pub(crate) fn write(&mut self, number: u64, offset: u64, bytes: &[u8]) -> Answer
         requires sound { IsNumberedSound self.old }
         ensures sound { IsNumberedSound self.new }
-        ensures ok { (top : ℕ) (s : State) → IsGood s → Stands (seen_with top self.old) s → IsStep s (Call.Write number offset bytes.now) result (seen_with top self.new) }
-        ensures heap { KeepsStateAndBins self.old.heap self.new.heap }
-        ensures kept { IsSeenAsBefore result.reply self.old self.new }
+        ensures ok { HasServed self.old (Call.Write number offset bytes.now) result self.new }
     {
         match self.find_bytes(number, offset, bytes.len() as u64) {
             Ok(address) => {
@@ -58,7 +52,7 @@ impl NumberedHeap {
     /// Reads bytes of a block.
     pub(crate) fn read(&self, number: u64, offset: u64, count: u64) -> Result<Answer, AllocError>
         requires sound { IsNumberedSound self.now }
-        ensures ok { (top : ℕ) (s : State) → IsGood s → Stands (seen_with top self.now) s → IfOk result (λ answer. IsStep s (Call.Read number offset count) answer (seen_with top self.now)) }
+        ensures ok { IfOk result (λ answer. HasServed self.now (Call.Read number offset count) answer self.now) }
     {
         match self.find_bytes(number, offset, count) {
             Ok(address) => Ok(Answer {

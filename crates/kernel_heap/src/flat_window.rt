@@ -1,5 +1,5 @@
 // Words from an address on, one after the other.
-ghost use Rattle.std.specs.Prelude.{◌≡◌, ◌≢◌, ℕ, ◌+◌, ◌-◌, ◌*◌, ◌%◌, ◌^◌, ◌<◌, ◌≤◌, ◌⊎◌, IfSome, IfNone, OnOk};
+ghost use Rattle.std.specs.Prelude.{◌≡◌, ◌≢◌, ℕ, ◌+◌, ◌-◌, ◌*◌, ◌%◌, ◌<◌, ◌≤◌, ◌⊎◌, IfSome, IfNone, OnOk};
 
 use std::alloc::{AllocError, Global};
 
@@ -12,7 +12,7 @@ pub(crate) struct FlatWindow {
 }
 
 impl FlatWindow {
-    ghost use Rattle.kernel_heap.specs.FlatWindow.{IsCovered, flat_word, IsLonger, ArePutAt};
+    ghost use Rattle.kernel_heap.specs.FlatWindow.{IsCovered, AreCovered, flat_word, IsLonger, ArePutAt};
 
     /// No words yet.
     pub fn new(alloc: Global, base: u64) -> FlatWindow
@@ -70,9 +70,7 @@ impl FlatWindow {
 
     /// Puts the same word at each of `count` places, from an address on, and changes no other.
     pub fn fill(&mut self, at: u64, count: u64, value: u64)
-        requires covered { (k : ℕ) → k % 8 ≡ 0 → at ≤ k → k < at + 8 * count → IsCovered self.old k }
-        requires aligned { at % 8 ≡ 0 }
-        requires small { at + 8 * count ≤ 2 ^ 64 }
+        requires { AreCovered self.old at count }
         ensures { ArePutAt self.old self.new at count (λ k. value) }
     {
         for i in 0..count {
@@ -82,12 +80,8 @@ impl FlatWindow {
 
     /// Copies `count` words from one place to another, apart from it, and changes no other.
     pub fn copy(&mut self, from: u64, to: u64, count: u64)
-        requires from { (k : ℕ) → k % 8 ≡ 0 → from ≤ k → k < from + 8 * count → IsCovered self.old k }
-        requires to { (k : ℕ) → k % 8 ≡ 0 → to ≤ k → k < to + 8 * count → IsCovered self.old k }
-        requires from_aligned { from % 8 ≡ 0 }
-        requires to_aligned { to % 8 ≡ 0 }
-        requires from_small { from + 8 * count ≤ 2 ^ 64 }
-        requires to_small { to + 8 * count ≤ 2 ^ 64 }
+        requires from { AreCovered self.old from count }
+        requires to { AreCovered self.old to count }
         requires apart { (from + 8 * count ≤ to) ⊎ (to + 8 * count ≤ from) }
         ensures { ArePutAt self.old self.new to count (λ k. flat_word self.old (from + (k - to))) }
     {

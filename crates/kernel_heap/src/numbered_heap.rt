@@ -1,19 +1,10 @@
 // A heap over a paged system, and the blocks that were handed out of it, by number.
 ghost use Rattle.std.specs.Prelude.{◌≡◌, ◌≢◌, ℕ, ◌-◌, ◌<◌, ◌≤◌, ◌++◌, ◌∷◌, true, Some, None, IfOk, IfErr, OnErr, [], vec_capacity, length};
-ghost use Rattle.dlmalloc_chunks.specs.Request.{padded};
 ghost use Rattle.dlmalloc.specs.Blocks.{BlocksAreApart};
-ghost use Rattle.dlmalloc.specs.Moved.{IsGivenSize};
-ghost use Rattle.dlmalloc.specs.Requested.{asked, IsMemberServed};
-ghost use Rattle.dlmalloc.specs.Resized.{in_place};
-ghost use Rattle.dlmalloc.specs.Served.{IsRefusedWith};
-ghost use Rattle.heap_model.specs.State.{State};
-ghost use Rattle.heap_model.specs.Run.{IsGood};
-ghost use Rattle.heap_model.specs.Machine.{Stands, IsStep};
-ghost use Rattle.heap_model.specs.Slots.{listed_slots};
-ghost use Rattle.kernel_heap.specs.Heap.{regions, word, follows, denies, refuses, heap_state};
+ghost use Rattle.kernel_heap.specs.Heap.{heap_state};
 ghost use Rattle.kernel_heap.specs.LaidOut.{IsLive};
 ghost use Rattle.kernel_heap.specs.Refusing.{refusal_of, IsRefusalOf};
-ghost use Rattle.kernel_heap.specs.Blocks.{align_kept, IsResizedTo};
+ghost use Rattle.kernel_heap.specs.Blocks.{align_kept, IsLiveResized, IsLiveRefused};
 
 use crate::beside;
 use crate::numbered_blocks::NumberedBlocks;
@@ -53,11 +44,8 @@ fn resize_live(
     keeps_alignment: bool,
 ) -> Result<u64, MallocError>
     requires block { IsLive (heap_state heap.old) live }
-    ensures ok { IfOk result (λ address. IsGivenSize regions word follows true true 4096 heap.old live.address live.size (align_kept keeps_alignment live) size address heap.new) }
-    ensures resized { IfOk result (λ address. IsResizedTo keeps_alignment heap.old live size address heap.new) }
-    ensures member { IfOk result (λ address. address ≢ live.address → IsMemberServed regions word heap.old size (align_kept keeps_alignment live) address) }
-    ensures err { IfErr result (λ error. IsRefusedWith regions word follows refuses denies heap.old (asked size (align_kept keeps_alignment live)) error heap.new) }
-    ensures tried { IfErr result (λ error. error ≢ MallocError.TooLarge → align_kept keeps_alignment live ≤ 16 → in_place (heap_state heap.old) (live.address - 16) (padded size) ≡ None) }
+    ensures ok { IfOk result (λ address. IsLiveResized keeps_alignment heap.old live size address heap.new) }
+    ensures err { IfErr result (λ error. IsLiveRefused keeps_alignment heap.old live size error heap.new) }
     ensures apart { BlocksAreApart (heap_state heap.new) }
 {
     if keeps_alignment {
@@ -101,13 +89,13 @@ pub(crate) struct NumberedHeap {
 
 impl NumberedHeap {
     ghost use Rattle.kernel_heap.specs.Words.{heap_regions};
-    ghost use Rattle.kernel_heap.specs.System.{paged, pageless_frames};
-    ghost use Rattle.kernel_heap.specs.Machine.{seen_with, system_of};
+    ghost use Rattle.kernel_heap.specs.System.{paged};
+    ghost use Rattle.kernel_heap.specs.Machine.{system_of};
     ghost use Rattle.kernel_heap.specs.Numbered.{live_at};
     ghost use Rattle.kernel_heap.specs.LaidOut.{IsNumberedSound};
     ghost use Rattle.kernel_heap.specs.Blocks.{request, resizing};
-    ghost use Rattle.kernel_heap.specs.Kept.{lasting_pages, AreRunsUsedFor, IsSeenAsBefore};
-    ghost use Rattle.kernel_heap.specs.Moves.{HeapMoves, KeepsStateAndBins};
+    ghost use Rattle.kernel_heap.specs.Moves.{marks_of, AreRegionsTold, HasToldSlots};
+    ghost use Rattle.kernel_heap.specs.Served.{HasServed, IsServed};
 
     /// Hands out a block of `size` bytes at a multiple of `align`, of value 0 where that is asked for. The answer and the
     /// block have their places before anything changes.
@@ -120,12 +108,7 @@ impl NumberedHeap {
     ) -> Result<Answer, AllocError>
         requires sound { IsNumberedSound self.old }
         ensures sound { IsNumberedSound self.new }
-        ensures ok { (top : ℕ) (s : State) → IsGood s → Stands (seen_with top self.old) s → IfOk result (λ answer. IsStep s (request cleared size align) answer (seen_with top self.new)) }
-        ensures err { (top : ℕ) → OnErr result (seen_with top self.new ≡ seen_with top self.old) }
-        ensures runs { (top : ℕ) (s : State) → IsGood s → Stands (seen_with top self.old) s → IfOk result (λ answer. AreRunsUsedFor (paged (system_of self.old)) (paged (system_of self.new)) (lasting_pages s (request cleared size align) answer)) }
-        ensures heap { IfOk result (λ answer. HeapMoves self.old (request cleared size align) answer.reply answer.large self.new) }
-        ensures kept { IfOk result (λ answer. IsSeenAsBefore answer.reply self.old self.new) }
-        ensures heap_err { OnErr result (KeepsStateAndBins self.old.heap self.new.heap) }
+        ensures served { IsServed self.old (request cleared size align) result self.new }
     {
         if !align.is_power_of_two() {
             return Ok(refused(Refusal::BadAlign));
@@ -161,11 +144,7 @@ impl NumberedHeap {
     ) -> Result<Answer, AllocError>
         requires sound { IsNumberedSound self.old }
         ensures sound { IsNumberedSound self.new }
-        ensures ok { (top : ℕ) (s : State) → IsGood s → Stands (seen_with top self.old) s → IfOk result (λ answer. IsStep s (resizing keeps_alignment number size) answer (seen_with top self.new)) }
-        ensures err { (top : ℕ) → OnErr result (seen_with top self.new ≡ seen_with top self.old) }
-        ensures heap { IfOk result (λ answer. HeapMoves self.old (resizing keeps_alignment number size) answer.reply answer.large self.new) }
-        ensures kept { IfOk result (λ answer. IsSeenAsBefore answer.reply self.old self.new) }
-        ensures heap_err { OnErr result (KeepsStateAndBins self.old.heap self.new.heap) }
+        ensures served { IsServed self.old (resizing keeps_alignment number size) result self.new }
     {
         let Some(live) = self.live(number) else {
             return Ok(refused(Refusal::UnknownBlock));
@@ -223,8 +202,7 @@ impl NumberedHeap {
 
     /// What tells whether regions come or go behind this moment.
     pub(crate) fn marks(&self) -> Marks
-        ensures joins { result.joins ≡ (paged (system_of self.now)).joins }
-        ensures pageless { result.pageless ≡ pageless_frames (paged (system_of self.now)) }
+        ensures { result ≡ marks_of (paged (system_of self.now)) }
     {
         let system = self.heap.system();
         Marks {
@@ -237,8 +215,7 @@ impl NumberedHeap {
     pub(crate) fn changed_regions(&mut self, before: Marks) -> Option<RegionList>
         requires empty { self.old.list.items ≡ [] }
         requires places { length (paged (system_of self.old)).regions ≤ vec_capacity self.old.list }
-        ensures same { (paged (system_of self.old)).joins ≡ before.joins → pageless_frames (paged (system_of self.old)) ≡ before.pageless → result ≡ None }
-        ensures other { ((paged (system_of self.old)).joins ≡ before.joins → pageless_frames (paged (system_of self.old)) ≡ before.pageless → ⊥) → result ≡ Some (heap_regions (paged (system_of self.old)).regions) }
+        ensures told { AreRegionsTold (paged (system_of self.old)) before result }
         ensures blocks { self.new.blocks ≡ self.old.blocks }
         ensures heap { self.new.heap ≡ self.old.heap }
     {
@@ -253,13 +230,8 @@ impl NumberedHeap {
     /// told once.
     pub(crate) fn new_slots(&mut self, before: Marks) -> Option<SlotList>
         requires sound { IsNumberedSound self.old }
-        ensures none { (paged (system_of self.old)).joins ≡ before.joins → result ≡ None × self.new ≡ self.old }
-        ensures slots { ((paged (system_of self.old)).joins ≡ before.joins → ⊥) → result ≡ listed_slots (paged (system_of self.old)).slots }
-        ensures paged { ((paged (system_of self.old)).joins ≡ before.joins → ⊥) → paged (system_of self.new) ≡ record (paged (system_of self.old)) { slots = [] } }
         ensures sound { IsNumberedSound self.new }
-        ensures heap { KeepsStateAndBins self.old.heap self.new.heap }
-        ensures rest { self.new.heap ≡ record self.old.heap { system = self.new.heap.system } }
-        ensures blocks { self.new.blocks ≡ self.old.blocks }
+        ensures told { HasToldSlots self.old before result self.new }
     {
         if self.marks().joins == before.joins {
             return None;
@@ -284,11 +256,7 @@ impl NumberedHeap {
     pub(crate) fn free(&mut self, number: u64) -> Result<Answer, AllocError>
         requires sound { IsNumberedSound self.old }
         ensures sound { IsNumberedSound self.new }
-        ensures ok { (top : ℕ) (s : State) → IsGood s → Stands (seen_with top self.old) s → IfOk result (λ answer. IsStep s (Call.Free number) answer (seen_with top self.new)) }
-        ensures err { (top : ℕ) → OnErr result (seen_with top self.new ≡ seen_with top self.old) }
-        ensures heap { IfOk result (λ answer. HeapMoves self.old (Call.Free number) answer.reply answer.large self.new) }
-        ensures kept { IfOk result (λ answer. IsSeenAsBefore answer.reply self.old self.new) }
-        ensures heap_err { OnErr result (KeepsStateAndBins self.old.heap self.new.heap) }
+        ensures served { IsServed self.old (Call.Free number) result self.new }
     {
         let Some(live) = self.live(number) else {
             return Ok(refused(Refusal::UnknownBlock));
@@ -311,8 +279,7 @@ impl NumberedHeap {
     /// Lists the extents of the heap.
     pub(crate) fn extents(&self) -> Result<Answer, AllocError>
         requires sound { IsNumberedSound self.now }
-        ensures ok { (top : ℕ) (s : State) → IsGood s → Stands (seen_with top self.now) s → IfOk result (λ answer. IsStep s Call.Extents answer (seen_with top self.now)) }
-        ensures heap { IfOk result (λ answer. HeapMoves self.now Call.Extents answer.reply answer.large self.now) }
+        ensures ok { IfOk result (λ answer. HasServed self.now Call.Extents answer self.now) }
     {
         self.heap.is_intact();
         Ok(Answer {

@@ -1,10 +1,11 @@
 // Words of the regions of a paged system, in a row: those of a page by one walk for many.
-ghost use Rattle.std.specs.Prelude.{◌≡◌, ℕ, ◌+◌, ◌*◌, ◌/◌, ◌%◌, ◌<◌, ◌≤◌, ◌⊎◌};
+ghost use Rattle.std.specs.Prelude.{◌+◌, ◌*◌, ◌≤◌, ◌⊎◌};
 ghost use Rattle.heap_memory.specs.Words.{AreWordsOf, AreFilled, AreCopied};
 ghost use Rattle.heap_model.specs.Machine.{OnlyHeapBytesChange};
 ghost use Rattle.mapped_regions.specs.Mapped.{word_reached};
 ghost use Rattle.kernel_heap.specs.System.{paged};
 ghost use Rattle.kernel_heap.specs.Words.{grants_of};
+ghost use Rattle.kernel_heap.specs.Written.{IsNextRun};
 
 use crate::paged_system::PagedSystem;
 use paging_core::{PageSize, Size4KiB};
@@ -14,10 +15,7 @@ const RUN_WORDS: usize = 64;
 
 /// How many words from a multiple of 8 on are put next, of those that are left: as many as stand in its page.
 fn run_of(at: u64, left: u64) -> u64
-    ensures few { result ≤ left }
-    ensures short { result ≤ 64 }
-    ensures page { at % 4096 / 8 + result ≤ 512 }
-    ensures some { 0 < left → 0 < result }
+    ensures { IsNextRun at left result }
 {
     let in_page = (Size4KiB::SIZE - at % Size4KiB::SIZE).div_ceil(8);
     in_page.min(RUN_WORDS as u64).min(left)

@@ -1,13 +1,8 @@
 // A call goes to the function of the numbered heap that serves it.
-ghost use Rattle.std.specs.Prelude.{◌≡◌, ℕ, IsTrue, IfOk, IsOk, OnErr};
-ghost use Rattle.heap_model.specs.State.{State};
-ghost use Rattle.heap_model.specs.Run.{IsGood};
-ghost use Rattle.heap_model.specs.Machine.{Stands, IsStep};
-ghost use Rattle.kernel_heap.specs.System.{paged};
-ghost use Rattle.kernel_heap.specs.Machine.{seen_with, system_of};
+ghost use Rattle.std.specs.Prelude.{IsTrue, IfOk, IsOk, OnErr};
 ghost use Rattle.kernel_heap.specs.LaidOut.{IsNumberedSound};
-ghost use Rattle.kernel_heap.specs.Kept.{is_always_answered, lasting_pages, AreRunsUsedFor, IsSeenAsBefore, IsReachedByte};
-ghost use Rattle.kernel_heap.specs.Moves.{HeapMoves, KeepsStateAndBins};
+ghost use Rattle.kernel_heap.specs.Served.{HasServed, HasNotServed};
+ghost use Rattle.kernel_heap.specs.Kept.{is_always_answered};
 
 use crate::numbered_heap::NumberedHeap;
 use heap_model::{Answer, Call};
@@ -19,13 +14,8 @@ impl NumberedHeap {
     pub(crate) fn serve(&mut self, call: &Call) -> Result<Answer, AllocError>
         requires sound { IsNumberedSound self.old }
         ensures sound { IsNumberedSound self.new }
-        ensures ok { (top : ℕ) (s : State) → IsGood s → Stands (seen_with top self.old) s → IfOk result (λ answer. IsStep s call.now answer (seen_with top self.new)) }
-        ensures err { (top : ℕ) → OnErr result (seen_with top self.new ≡ seen_with top self.old) }
-        ensures runs { (top : ℕ) (s : State) → IsGood s → Stands (seen_with top self.old) s → IfOk result (λ answer. AreRunsUsedFor (paged (system_of self.old)) (paged (system_of self.new)) (lasting_pages s call.now answer)) }
-        ensures heap { IfOk result (λ answer. HeapMoves self.old call.now answer.reply answer.large self.new) }
-        ensures kept { IfOk result (λ answer. IsSeenAsBefore answer.reply self.old self.new) }
-        ensures heap_err { OnErr result (KeepsStateAndBins self.old.heap self.new.heap) }
-        ensures reached { IfOk result (λ answer. IsReachedByte (paged (system_of self.new)) call.now answer.reply) }
+        ensures ok { IfOk result (λ answer. HasServed self.old call.now answer self.new) }
+        ensures err { OnErr result (HasNotServed self.old self.new) }
         ensures answered { IsTrue (is_always_answered call.now) → IsOk result }
     {
         match call {

@@ -1,12 +1,6 @@
 // The settings of the heap: for multiples of how many bytes it asks, and how often it makes a release pass.
-ghost use Rattle.std.specs.Prelude.{ℕ};
-ghost use Rattle.heap_model.specs.State.{State};
-ghost use Rattle.heap_model.specs.Run.{IsGood};
-ghost use Rattle.heap_model.specs.Machine.{Stands, IsStep};
-ghost use Rattle.kernel_heap.specs.Machine.{seen_with};
 ghost use Rattle.kernel_heap.specs.LaidOut.{IsNumberedSound};
-ghost use Rattle.kernel_heap.specs.Kept.{IsSeenAsBefore};
-ghost use Rattle.kernel_heap.specs.Moves.{HeapMoves};
+ghost use Rattle.kernel_heap.specs.Served.{HasServed};
 
 use crate::numbered_heap::NumberedHeap;
 use heap_model::{Answer, Call, Reply};
@@ -16,9 +10,7 @@ impl NumberedHeap {
     pub(crate) fn set_rate(&mut self, rate: u64) -> Answer
         requires sound { IsNumberedSound self.old }
         ensures sound { IsNumberedSound self.new }
-        ensures ok { (top : ℕ) (s : State) → IsGood s → Stands (seen_with top self.old) s → IsStep s (Call.SetRate rate) result (seen_with top self.new) }
-        ensures heap { HeapMoves self.old (Call.SetRate rate) result.reply result.large self.new }
-        ensures kept { IsSeenAsBefore result.reply self.old self.new }
+        ensures ok { HasServed self.old (Call.SetRate rate) result self.new }
     {
         self.heap.set_release_rate(rate);
         Answer {
@@ -32,9 +24,7 @@ impl NumberedHeap {
     pub(crate) fn set_granularity(&mut self, granularity: u64) -> Answer
         requires sound { IsNumberedSound self.old }
         ensures sound { IsNumberedSound self.new }
-        ensures ok { (top : ℕ) (s : State) → IsGood s → Stands (seen_with top self.old) s → IsStep s (Call.SetGranularity granularity) result (seen_with top self.new) }
-        ensures heap { HeapMoves self.old (Call.SetGranularity granularity) result.reply result.large self.new }
-        ensures kept { IsSeenAsBefore result.reply self.old self.new }
+        ensures ok { HasServed self.old (Call.SetGranularity granularity) result self.new }
     {
         Answer {
             reply: Reply::Accepted(self.heap.set_granularity(granularity)),

@@ -1,12 +1,7 @@
 // Memory of the heap that goes back to the system, as calls of the machine.
-ghost use Rattle.std.specs.Prelude.{◌≡◌, ℕ, IfOk, OnErr};
-ghost use Rattle.heap_model.specs.State.{State};
-ghost use Rattle.heap_model.specs.Run.{IsGood};
-ghost use Rattle.heap_model.specs.Machine.{Stands, IsStep};
-ghost use Rattle.kernel_heap.specs.Machine.{seen_with};
+ghost use Rattle.std.specs.Prelude.{IfOk, OnErr};
 ghost use Rattle.kernel_heap.specs.LaidOut.{IsNumberedSound};
-ghost use Rattle.kernel_heap.specs.Kept.{IsSeenAsBefore};
-ghost use Rattle.kernel_heap.specs.Moves.{HeapMoves, KeepsStateAndBins};
+ghost use Rattle.kernel_heap.specs.Served.{IsServed};
 
 use crate::numbered_heap::NumberedHeap;
 use crate::paged_system::PagedSystem;
@@ -19,11 +14,7 @@ impl NumberedHeap {
     pub(crate) fn trim(&mut self, pad: u64) -> Result<Answer, AllocError>
         requires sound { IsNumberedSound self.old }
         ensures sound { IsNumberedSound self.new }
-        ensures ok { (top : ℕ) (s : State) → IsGood s → Stands (seen_with top self.old) s → IfOk result (λ answer. IsStep s (Call.Trim pad) answer (seen_with top self.new)) }
-        ensures err { (top : ℕ) → OnErr result (seen_with top self.new ≡ seen_with top self.old) }
-        ensures heap { IfOk result (λ answer. HeapMoves self.old (Call.Trim pad) answer.reply answer.large self.new) }
-        ensures kept { IfOk result (λ answer. IsSeenAsBefore answer.reply self.old self.new) }
-        ensures heap_err { OnErr result (KeepsStateAndBins self.old.heap self.new.heap) }
+        ensures served { IsServed self.old (Call.Trim pad) result self.new }
     {
         let count = self.heap.system().region_count();
         self.list.clear();
@@ -45,11 +36,7 @@ impl NumberedHeap {
     pub(crate) fn reset(&mut self) -> Result<Answer, AllocError>
         requires sound { IsNumberedSound self.old }
         ensures sound { IsNumberedSound self.new }
-        ensures ok { (top : ℕ) (s : State) → IsGood s → Stands (seen_with top self.old) s → IfOk result (λ answer. IsStep s Call.Reset answer (seen_with top self.new)) }
-        ensures err { (top : ℕ) → OnErr result (seen_with top self.new ≡ seen_with top self.old) }
-        ensures heap { IfOk result (λ answer. HeapMoves self.old Call.Reset answer.reply answer.large self.new) }
-        ensures kept { IfOk result (λ answer. IsSeenAsBefore answer.reply self.old self.new) }
-        ensures heap_err { OnErr result (KeepsStateAndBins self.old.heap self.new.heap) }
+        ensures served { IsServed self.old Call.Reset result self.new }
     {
         let other = PagedSystem::new(self.alloc, Size4KiB::SIZE, 1, 1)?;
         let free = self.heap.system().free_frames();

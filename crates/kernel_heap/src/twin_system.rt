@@ -1,6 +1,5 @@
 // A paged system with flat words beside it.
-ghost use Rattle.std.specs.Prelude.{◌≡◌, ℕ, ◌+◌, ◌*◌, ◌%◌, ◌<◌, ◌≤◌, ◌⊎◌, [], ◌∷◌, true, refl, IsTrue, IfSome, IfNone, IfOk, IfErr, OnErr};
-ghost use Rattle.std.specs.List.{AllByRecursion};
+ghost use Rattle.std.specs.Prelude.{◌≡◌, ℕ, ◌+◌, ◌*◌, ◌%◌, ◌<◌, true, refl, IsTrue, IfSome, IfNone, IfOk, IfErr, OnErr};
 ghost use Rattle.std.specs.Int.{is_power_of_two};
 ghost use Rattle.kernel_heap.specs.Config.{IsHeapWindow};
 ghost use Rattle.kernel_heap.specs.System.{paged};
@@ -27,12 +26,10 @@ pub struct TwinSystem {
 
 impl TwinSystem {
     ghost use Rattle.heap_memory.specs.Regions.{IsWordOf};
-    ghost use Rattle.heap_memory.specs.Words.{IsStored, AreWordsOf, AreFilled, AreCopied};
-    ghost use Rattle.heap_model.specs.Machine.{OnlyHeapBytesChange};
     ghost use Rattle.mapped_regions.specs.Mapped.{word_reached};
     ghost use Rattle.kernel_heap.specs.Layout.{IsNew, IsGrantedFor, MayDeny};
     ghost use Rattle.kernel_heap.specs.FlatWindow.{IsCovered, flat_word};
-    ghost use Rattle.kernel_heap.specs.TwinSystem.{paged_of, IsFlatCleared};
+    ghost use Rattle.kernel_heap.specs.TwinSystem.{paged_of, IsFlatCleared, IsWordIn, AreWordsIn, AreCopyableIn, IsWordOfBoth, IsStoredInBoth, AreFilledInBoth, AreCopiedInBoth};
     ghost use Rattle.kernel_heap.specs.Words.{grants_of};
 
     /// A system with a window of `pages` pages from the address `base` on, and with `frames` frames, of which one
@@ -71,9 +68,8 @@ impl TwinSystem {
 
     /// The word at a multiple of 8 in the regions: that of the flat words, and that which the walk reaches.
     fn word(&self, at: u64) -> u64
-        requires { IsWordOf (grants_of (paged_of self.now)) at }
-        ensures reached { result ≡ word_reached (paged_of self.now) at }
-        ensures flat { result ≡ flat_word self.now.flat at }
+        requires { IsWordIn self.now at }
+        ensures { IsWordOfBoth self.now at result }
     {
         let word = self.mapped.word(at);
         if word != self.flat.word(at) {
@@ -84,10 +80,8 @@ impl TwinSystem {
 
     /// Puts a word at a multiple of 8 in the regions, into both, and changes nothing else.
     fn set_word(&mut self, at: u64, value: u64)
-        requires { IsWordOf (grants_of (paged_of self.old)) at }
-        ensures still { OnlyHeapBytesChange (paged_of self.old) (paged_of self.new) }
-        ensures stored { IsStored (grants_of (paged_of self.old)) (word_reached (paged_of self.old)) at value (word_reached (paged_of self.new)) }
-        ensures flat { IsStored (grants_of (paged_of self.old)) (flat_word self.old.flat) at value (flat_word self.new.flat) }
+        requires { IsWordIn self.old at }
+        ensures { IsStoredInBoth self.old self.new at value }
     {
         self.mapped.set_word(at, value);
         self.flat.set_word(at, value);
@@ -95,10 +89,8 @@ impl TwinSystem {
 
     /// Puts the same word at each of `count` places, from an address on, into both, and changes nothing else.
     fn fill_words(&mut self, at: u64, count: u64, value: u64)
-        requires { AreWordsOf (grants_of (paged_of self.old)) at count }
-        ensures still { OnlyHeapBytesChange (paged_of self.old) (paged_of self.new) }
-        ensures filled { AreFilled (grants_of (paged_of self.old)) (word_reached (paged_of self.old)) at count value (word_reached (paged_of self.new)) }
-        ensures flat { AreFilled (grants_of (paged_of self.old)) (flat_word self.old.flat) at count value (flat_word self.new.flat) }
+        requires { AreWordsIn self.old at count }
+        ensures { AreFilledInBoth self.old self.new at count value }
     {
         self.mapped.fill_words(at, count, value);
         self.flat.fill(at, count, value);
@@ -106,12 +98,8 @@ impl TwinSystem {
 
     /// Copies `count` words from one place to another, apart from it, in both, and changes nothing else.
     fn copy_words(&mut self, from: u64, to: u64, count: u64)
-        requires from { AreWordsOf (grants_of (paged_of self.old)) from count }
-        requires to { AreWordsOf (grants_of (paged_of self.old)) to count }
-        requires apart { (from + 8 * count ≤ to) ⊎ (to + 8 * count ≤ from) }
-        ensures still { OnlyHeapBytesChange (paged_of self.old) (paged_of self.new) }
-        ensures copied { AreCopied (grants_of (paged_of self.old)) (word_reached (paged_of self.old)) from to count (word_reached (paged_of self.new)) }
-        ensures flat { AreCopied (grants_of (paged_of self.old)) (flat_word self.old.flat) from to count (flat_word self.new.flat) }
+        requires { AreCopyableIn self.old from to count }
+        ensures { AreCopiedInBoth self.old self.new from to count }
     {
         self.mapped.copy_words(from, to, count);
         self.flat.copy(from, to, count);
@@ -139,12 +127,9 @@ impl TwinSystem {
 }
 
 impl Links for TwinSystem {
-    ghost use Rattle.heap_memory.specs.Regions.{IsWordOf};
-    ghost use Rattle.heap_memory.specs.Words.{IsStored, AreWordsOf, AreFilled, AreCopied};
-    ghost use Rattle.kernel_heap.specs.FlatWindow.{flat_word};
     ghost use Rattle.kernel_heap.specs.Follows.{Follows, still_none, follows_on as paged_follows_on};
     ghost use Rattle.kernel_heap.specs.Ordered.{regions_whole};
-    ghost use Rattle.kernel_heap.specs.TwinSystem.{paged_of};
+    ghost use Rattle.kernel_heap.specs.TwinSystem.{paged_of, IsWordIn, AreWordsIn, AreCopyableIn, IsWordOfBoth, IsStoredInBoth, AreFilledInBoth, AreCopiedInBoth};
     ghost use Rattle.kernel_heap.specs.Words.{grants_of};
     ghost use Rattle.mapped_regions.specs.Mapped.{word_reached};
 
@@ -162,9 +147,8 @@ impl Links for TwinSystem {
 
     /// The word at an address, which both have. It is one step.
     fn load_counted<L: Ledger>(&self, at: u64, steps: &mut Steps<L>) -> u64
-        requires { IsWordOf (grants_of (paged_of self.now)) at }
-        ensures value { result ≡ word_reached (paged_of self.now) at }
-        ensures flat { result ≡ flat_word self.now.flat at }
+        requires { IsWordIn self.now at }
+        ensures both { IsWordOfBoth self.now at result }
         ensures counted { steps.new ≡ steps.old + 1 }
     {
         steps.tick();
@@ -173,11 +157,8 @@ impl Links for TwinSystem {
 
     /// Puts a word at an address, into both, and changes nothing else. It is one step.
     fn store_counted<L: Ledger>(&mut self, at: u64, value: u64, steps: &mut Steps<L>)
-        requires { IsWordOf (grants_of (paged_of self.old)) at }
-        ensures stored { IsStored (grants_of (paged_of self.old)) (word_reached (paged_of self.old)) at value (word_reached (paged_of self.new)) }
-        ensures flat { IsStored (grants_of (paged_of self.old)) (flat_word self.old.flat) at value (flat_word self.new.flat) }
-        ensures regions { grants_of (paged_of self.new) ≡ grants_of (paged_of self.old) }
-        ensures follows { Follows (paged_of self.old) [] (paged_of self.new) }
+        requires { IsWordIn self.old at }
+        ensures both { IsStoredInBoth self.old self.new at value }
         ensures counted { steps.new ≡ steps.old + 1 }
     {
         self.set_word(at, value);
@@ -186,11 +167,8 @@ impl Links for TwinSystem {
 
     /// Puts the same word at each of `count` places, into both, and changes nothing else. Each is one step.
     fn fill_counted<L: Ledger>(&mut self, at: u64, count: u64, value: u64, steps: &mut Steps<L>)
-        requires { AreWordsOf (grants_of (paged_of self.old)) at count }
-        ensures filled { AreFilled (grants_of (paged_of self.old)) (word_reached (paged_of self.old)) at count value (word_reached (paged_of self.new)) }
-        ensures flat { AreFilled (grants_of (paged_of self.old)) (flat_word self.old.flat) at count value (flat_word self.new.flat) }
-        ensures regions { grants_of (paged_of self.new) ≡ grants_of (paged_of self.old) }
-        ensures follows { Follows (paged_of self.old) [] (paged_of self.new) }
+        requires { AreWordsIn self.old at count }
+        ensures both { AreFilledInBoth self.old self.new at count value }
         ensures counted { steps.new ≡ steps.old + count }
     {
         self.fill_words(at, count, value);
@@ -200,13 +178,8 @@ impl Links for TwinSystem {
     /// Copies `count` words from one place to another, apart from it, in both, and changes nothing else. Each is two
     /// steps.
     fn copy_counted<L: Ledger>(&mut self, from: u64, to: u64, count: u64, steps: &mut Steps<L>)
-        requires from { AreWordsOf (grants_of (paged_of self.old)) from count }
-        requires to { AreWordsOf (grants_of (paged_of self.old)) to count }
-        requires apart { (from + 8 * count ≤ to) ⊎ (to + 8 * count ≤ from) }
-        ensures copied { AreCopied (grants_of (paged_of self.old)) (word_reached (paged_of self.old)) from to count (word_reached (paged_of self.new)) }
-        ensures flat { AreCopied (grants_of (paged_of self.old)) (flat_word self.old.flat) from to count (flat_word self.new.flat) }
-        ensures regions { grants_of (paged_of self.new) ≡ grants_of (paged_of self.old) }
-        ensures follows { Follows (paged_of self.old) [] (paged_of self.new) }
+        requires { AreCopyableIn self.old from to count }
+        ensures both { AreCopiedInBoth self.old self.new from to count }
         ensures counted { steps.new ≡ steps.old + 2 * count }
     {
         self.copy_words(from, to, count);
@@ -215,17 +188,13 @@ impl Links for TwinSystem {
 }
 
 impl Memory for TwinSystem {
-    ghost use Rattle.heap_memory.specs.Regions.{IsWordOf};
-    ghost use Rattle.heap_memory.specs.Words.{IsStored};
     ghost use Rattle.kernel_heap.specs.FlatWindow.{flat_word};
-    ghost use Rattle.kernel_heap.specs.Follows.{Follows};
-    ghost use Rattle.kernel_heap.specs.TwinSystem.{paged_of};
-    ghost use Rattle.kernel_heap.specs.Words.{grants_of};
+    ghost use Rattle.kernel_heap.specs.TwinSystem.{paged_of, IsWordIn, IsStoredInBoth};
     ghost use Rattle.mapped_regions.specs.Mapped.{word_reached};
 
     /// The word at an address, which both have.
     fn load(&self, at: u64) -> u64
-        requires { IsWordOf (grants_of (paged_of self.now)) at }
+        requires { IsWordIn self.now at }
         ensures reached { result ≡ word_reached (paged_of self.now) at }
         ensures flat { result ≡ flat_word self.now.flat at }
     {
@@ -234,20 +203,16 @@ impl Memory for TwinSystem {
 
     /// Puts a word at an address, into both, and changes nothing else.
     fn store(&mut self, at: u64, value: u64)
-        requires { IsWordOf (grants_of (paged_of self.old)) at }
-        ensures stored { IsStored (grants_of (paged_of self.old)) (word_reached (paged_of self.old)) at value (word_reached (paged_of self.new)) }
-        ensures flat { IsStored (grants_of (paged_of self.old)) (flat_word self.old.flat) at value (flat_word self.new.flat) }
-        ensures regions { grants_of (paged_of self.new) ≡ grants_of (paged_of self.old) }
-        ensures follows { Follows (paged_of self.old) [] (paged_of self.new) }
+        requires { IsWordIn self.old at }
+        ensures both { IsStoredInBoth self.old self.new at value }
     {
         self.set_word(at, value);
     }
 }
 
 impl Allocator for TwinSystem {
-    ghost use Rattle.heap_memory.specs.Events.{Granted, Refused};
-    ghost use Rattle.heap_memory.specs.Regions.{IsWordOf, IsApart, IsGoodGrant, with_grant};
-    ghost use Rattle.kernel_heap.specs.Follows.{Follows};
+    ghost use Rattle.heap_memory.specs.Regions.{IsWordOf};
+    ghost use Rattle.kernel_heap.specs.Grants.{IsGrantSeen, IsDenialSeen};
     ghost use Rattle.kernel_heap.specs.Words.{grants_of};
     ghost use Rattle.mapped_regions.specs.Mapped.{word_reached};
     ghost use Rattle.kernel_heap.specs.Layout.{MayDeny};
@@ -276,18 +241,11 @@ impl Allocator for TwinSystem {
     fn alloc(&mut self, size: u64) -> Result<Grant, GrantFault>
         requires some { 0 < size }
         requires whole { size % 16 ≡ 0 }
-        ensures good { IfOk result (λ grant. IsGoodGrant size grant) }
-        ensures apart { IfOk result (λ grant. AllByRecursion (IsApart grant.base (grant.base + grant.size)) (grants_of (paged_of self.old))) }
-        ensures flags { IfOk result (λ grant. grant.flags ≡ 0) }
-        ensures regions { IfOk result (λ grant. grants_of (paged_of self.new) ≡ with_grant grant (grants_of (paged_of self.old))) }
-        ensures zeros { IfOk result (λ grant.
-            (at : ℕ) → grant.base ≤ at → at < grant.base + grant.size → at % 8 ≡ 0 → word_reached (paged_of self.new) at ≡ 0) }
+        ensures granted { IfOk result (λ grant. IsGrantSeen (paged_of self.old) (paged_of self.new) size grant) }
         ensures flat { IfOk result (λ grant. IsFlatCleared self.new grant) }
-        ensures follows { IfOk result (λ grant. Follows (paged_of self.old) (Granted size grant ∷ []) (paged_of self.new)) }
-        ensures err_follows { IfErr result (λ fault. Follows (paged_of self.old) (Refused size fault ∷ []) (paged_of self.new)) }
         ensures words { (at : ℕ) → IsWordOf (grants_of (paged_of self.old)) at → word_reached (paged_of self.new) at ≡ word_reached (paged_of self.old) at }
         ensures err { OnErr result (paged_of self.new ≡ paged_of self.old) }
-        ensures denied { IfErr result (λ fault. MayDeny (paged_of self.old) size fault) }
+        ensures refused { IfErr result (λ fault. IsDenialSeen (paged_of self.old) (paged_of self.new) size fault) }
     {
         self.grant_bytes(size)
     }

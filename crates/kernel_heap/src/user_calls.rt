@@ -1,14 +1,8 @@
 // Regions of the user, as calls of the machine.
-ghost use Rattle.std.specs.Prelude.{◌≡◌, ℕ, IfOk, OnErr, None};
-ghost use Rattle.heap_model.specs.State.{State};
-ghost use Rattle.kernel_heap.specs.System.{paged};
-ghost use Rattle.heap_model.specs.Run.{IsGood};
-ghost use Rattle.heap_model.specs.Machine.{Stands, IsStep};
-ghost use Rattle.kernel_heap.specs.Machine.{seen_with, system_of};
+ghost use Rattle.std.specs.Prelude.{◌≡◌, IfOk, OnErr, None};
 ghost use Rattle.kernel_heap.specs.LaidOut.{IsNumberedSound};
+ghost use Rattle.kernel_heap.specs.Served.{HasServed, IsServed};
 ghost use Rattle.kernel_heap.specs.Refusing.{map_refusal, unmap_refusal, IsRefusal};
-ghost use Rattle.kernel_heap.specs.Kept.{lasting_pages, AreRunsUsedFor, IsSeenAsBefore};
-ghost use Rattle.kernel_heap.specs.Moves.{HeapMoves, KeepsStateAndBins};
 
 use crate::beside;
 use crate::numbered_heap::{NumberedHeap, refused};
@@ -51,12 +45,7 @@ impl NumberedHeap {
     ) -> Result<Answer, AllocError>
         requires sound { IsNumberedSound self.old }
         ensures sound { IsNumberedSound self.new }
-        ensures ok { (top : ℕ) (s : State) → IsGood s → Stands (seen_with top self.old) s → IfOk result (λ answer. IsStep s (Call.Map start pages rights) answer (seen_with top self.new)) }
-        ensures runs { (top : ℕ) (s : State) → IsGood s → Stands (seen_with top self.old) s → IfOk result (λ answer. AreRunsUsedFor (paged (system_of self.old)) (paged (system_of self.new)) (lasting_pages s (Call.Map start pages rights) answer)) }
-        ensures err { (top : ℕ) → OnErr result (seen_with top self.new ≡ seen_with top self.old) }
-        ensures heap { IfOk result (λ answer. HeapMoves self.old (Call.Map start pages rights) answer.reply answer.large self.new) }
-        ensures heap_err { OnErr result (KeepsStateAndBins self.old.heap self.new.heap) }
-        ensures kept { IfOk result (λ answer. IsSeenAsBefore answer.reply self.old self.new) }
+        ensures served { IsServed self.old (Call.Map start pages rights) result self.new }
     {
         let before = self.marks();
         match beside::map(&mut self.heap, start, pages, rights) {
@@ -73,9 +62,7 @@ impl NumberedHeap {
     pub(crate) fn unmap(&mut self, start: u64, pages: u64) -> Answer
         requires sound { IsNumberedSound self.old }
         ensures sound { IsNumberedSound self.new }
-        ensures ok { (top : ℕ) (s : State) → IsGood s → Stands (seen_with top self.old) s → IsStep s (Call.Unmap start pages) result (seen_with top self.new) }
-        ensures heap { KeepsStateAndBins self.old.heap self.new.heap }
-        ensures kept { IsSeenAsBefore result.reply self.old self.new }
+        ensures ok { HasServed self.old (Call.Unmap start pages) result self.new }
     {
         match beside::unmap(&mut self.heap, start, pages) {
             Ok(()) => Answer {

@@ -1,12 +1,11 @@
 use Rattle.std.proofs.Common.{◌≡◌, ◌∙◌, ap, subst}
-use Rattle.std.specs.Prelude.{IfErr, OnOk, OnErr}
+use Rattle.std.specs.Prelude.{IfErr, OnOk}
 use Rattle.dlmalloc.specs.declared.heap.Dlmalloc.{Dlmalloc}
-use Rattle.mapped_regions.specs.Mapped.{CanMap, IsRegionJoined}
-use Rattle.mapped_regions.specs.UserRegions.{user_region, IsMapRefused}
-use Rattle.kernel_heap.specs.Beside.{KeepsHeapWords}
+use Rattle.kernel_heap.specs.Beside.{KeepsHeapWords, IsUserMapped, IsMapDenied}
 use Rattle.kernel_heap.specs.Moves.{IsKeptBeside}
 use Rattle.kernel_heap.specs.System.{paged}
 use Rattle.kernel_heap.specs.declared.paged_system.PagedSystem.{PagedSystem}
+use Rattle.kernel_heap.proofs.Outcomes.{both_ok, both_err}
 use Rattle.kernel_heap.proofs.Laid.{intact_beside, kept_beside}
 use Rattle.kernel_heap.proofs.beside.map.Goals as goal
 
@@ -19,23 +18,15 @@ invariant_of-heap c =
 
 pub returns-clause-ok : goal.returns-clause-ok
 returns-clause-ok c =
-    subst (λ (s : PagedSystem). OnOk c.map.result (IsRegionJoined (paged s) (paged c.map.new.self) (user_region c.args.start c.args.pages c.args.rights)))
-    (c.allocator_mut.ensures.value ∙ ap (λ (h : Dlmalloc PagedSystem). h.system) c.heap.view_is) c.map.ensures.ok
-
-pub returns-clause-can : goal.returns-clause-can
-returns-clause-can c =
-    subst (λ (s : PagedSystem). OnOk c.map.result (CanMap (paged s) c.args.start c.args.pages))
-    (c.allocator_mut.ensures.value ∙ ap (λ (h : Dlmalloc PagedSystem). h.system) c.heap.view_is) c.map.ensures.can
+    subst (λ (s : PagedSystem). OnOk c.map.result (IsUserMapped (paged s) (paged c.map.new.self) c.args.start c.args.pages c.args.rights))
+    (c.allocator_mut.ensures.value ∙ ap (λ (h : Dlmalloc PagedSystem). h.system) c.heap.view_is)
+    (both_ok c.map.result _ _ _ c.map.ensures.can c.map.ensures.ok (λ can now. record { can = can; joined = now }))
 
 pub returns-clause-err : goal.returns-clause-err
 returns-clause-err c =
-    subst (λ (s : PagedSystem). OnErr c.map.result (paged c.map.new.self ≡ paged s))
-    (c.allocator_mut.ensures.value ∙ ap (λ (h : Dlmalloc PagedSystem). h.system) c.heap.view_is) c.map.ensures.err
-
-pub returns-clause-refused : goal.returns-clause-refused
-returns-clause-refused c =
-    subst (λ (s : PagedSystem). IfErr c.map.result (λ fault. IsMapRefused (paged s) c.args.start c.args.pages fault))
-    (c.allocator_mut.ensures.value ∙ ap (λ (h : Dlmalloc PagedSystem). h.system) c.heap.view_is) c.map.ensures.refused
+    subst (λ (s : PagedSystem). IfErr c.map.result (λ fault. IsMapDenied (paged s) (paged c.map.new.self) c.args.start c.args.pages fault))
+    (c.allocator_mut.ensures.value ∙ ap (λ (h : Dlmalloc PagedSystem). h.system) c.heap.view_is)
+    (both_err c.map.result _ _ _ c.map.ensures.err c.map.ensures.refused (λ fault same why. record { why = why; same = same }))
 
 pub returns-clause-kept : goal.returns-clause-kept
 returns-clause-kept c =

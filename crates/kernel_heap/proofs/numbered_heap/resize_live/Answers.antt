@@ -10,23 +10,12 @@ realloc-requires c = record { block = (c.args.live.size, c.requires.block.block)
 
 pub returns-then-keeps_alignment-clause-ok : goal.returns-then-keeps_alignment-clause-ok
 returns-then-keeps_alignment-clause-ok c = rw c.if-keeps_alignment.true
-    (IfOk-weaker c.realloc_aligned.result _ _ (λ address out. out.given) c.realloc_aligned.ensures.ok)
-
-pub returns-then-keeps_alignment-clause-resized : goal.returns-then-keeps_alignment-clause-resized
-returns-then-keeps_alignment-clause-resized c = rw c.if-keeps_alignment.true
-    (IfOk-weaker c.realloc_aligned.result _ _ (λ address out. out.resized) c.realloc_aligned.ensures.ok)
-
-pub returns-then-keeps_alignment-clause-member : goal.returns-then-keeps_alignment-clause-member
-returns-then-keeps_alignment-clause-member c = rw c.if-keeps_alignment.true
-    (IfOk-weaker c.realloc_aligned.result _ _ (λ address out. out.member) c.realloc_aligned.ensures.ok)
+    (IfOk-weaker c.realloc_aligned.result _ _ (λ address out. record { given = out.given; resized = out.resized; member = out.member })
+    c.realloc_aligned.ensures.ok)
 
 pub returns-then-keeps_alignment-clause-err : goal.returns-then-keeps_alignment-clause-err
 returns-then-keeps_alignment-clause-err c = rw c.if-keeps_alignment.true
-    (IfErr-weaker c.realloc_aligned.result _ _ (λ error out. out.refused) c.realloc_aligned.ensures.err)
-
-pub returns-then-keeps_alignment-clause-tried : goal.returns-then-keeps_alignment-clause-tried
-returns-then-keeps_alignment-clause-tried c = rw c.if-keeps_alignment.true
-    (IfErr-weaker c.realloc_aligned.result _ _ (λ error out. out.tried) c.realloc_aligned.ensures.err)
+    (IfErr-weaker c.realloc_aligned.result _ _ (λ error out. record { refused = out.refused; tried = out.tried }) c.realloc_aligned.ensures.err)
 
 -- as many bytes are kept as its chunk held, so as many as it had
 pub returns-else-keeps_alignment-clause-ok : goal.returns-else-keeps_alignment-clause-ok
@@ -34,23 +23,13 @@ returns-else-keeps_alignment-clause-ok c =
     let heap = c.args.heap.now in
     let live = c.args.live in
     rw c.if-keeps_alignment.false
-    (IfOk-weaker c.realloc.result _ _ (λ address out. given_fewer heap c.realloc.new.self live.address
-    (usable (heap_state heap) live.address) c.args.size 16 address live.size
-    (enough (heap_state heap) live.address live.size c.requires.block.block) out.given)
-    c.realloc.ensures.ok)
-
-pub returns-else-keeps_alignment-clause-resized : goal.returns-else-keeps_alignment-clause-resized
-returns-else-keeps_alignment-clause-resized c = rw c.if-keeps_alignment.false
-    (IfOk-weaker c.realloc.result _ _ (λ address out. out.resized) c.realloc.ensures.ok)
-
-pub returns-else-keeps_alignment-clause-member : goal.returns-else-keeps_alignment-clause-member
-returns-else-keeps_alignment-clause-member c = rw c.if-keeps_alignment.false
-    (IfOk-weaker c.realloc.result _ _ (λ address out. out.member) c.realloc.ensures.ok)
+    (IfOk-weaker c.realloc.result _ _ (λ address out. record {
+      given = given_fewer heap c.realloc.new.self live.address (usable (heap_state heap) live.address) c.args.size 16 address live.size
+          (enough (heap_state heap) live.address live.size c.requires.block.block) out.given;
+      resized = out.resized;
+      member = out.member;
+    }) c.realloc.ensures.ok)
 
 pub returns-else-keeps_alignment-clause-err : goal.returns-else-keeps_alignment-clause-err
 returns-else-keeps_alignment-clause-err c = rw c.if-keeps_alignment.false
-    (IfErr-weaker c.realloc.result _ _ (λ error out. out.refused) c.realloc.ensures.err)
-
-pub returns-else-keeps_alignment-clause-tried : goal.returns-else-keeps_alignment-clause-tried
-returns-else-keeps_alignment-clause-tried c = rw c.if-keeps_alignment.false
-    (IfErr-weaker c.realloc.result _ _ (λ error out. out.tried) c.realloc.ensures.err)
+    (IfErr-weaker c.realloc.result _ _ (λ error out. record { refused = out.refused; tried = out.tried }) c.realloc.ensures.err)

@@ -13,13 +13,12 @@ returns-in-Ok-clause-ok c =
     let new : Parts = record { heap = c.serve-served.new.self; cpu = c.note_fault.new.cpu } in
     let call = c.args.call.now in
     let registers : IfOk c.serve-served.result (λ answer. new.cpu ≡ cpu_after old.cpu call answer.reply) = search rules in
-    let serve = c.serve-served.ensures in
     subst (λ (parts : Parts). IfOk c.serve-served.result (λ answer. HasStepped parts call answer new)) c.self.view_is
-    (stepped old new call c.serve-served.result c.note_fault.ensures.root c.is_intact.ensures serve.ok serve.runs serve.heap serve.kept registers serve.reached)
+    (stepped old new call c.serve-served.result c.note_fault.ensures.root c.is_intact.ensures c.serve-served.ensures.ok registers)
 
 pub returns-in_default-clause-err : goal.returns-in_default-clause-err
 returns-in_default-clause-err c =
     let old : Parts = record { heap = c.self.inside.heap; cpu = c.self.inside.cpu } in
     let new : Parts = record { heap = c.serve-served.new.self; cpu = c.self.inside.cpu } in
     subst (λ (parts : Parts). OnErr c.serve-served.result (HasNotStepped parts new)) c.self.view_is
-    (not_stepped old new c.args.call.now c.serve-served.result refl c.serve-served.ensures.err c.serve-served.ensures.heap_err)
+    (not_stepped old new c.args.call.now c.serve-served.result refl c.serve-served.ensures.err)

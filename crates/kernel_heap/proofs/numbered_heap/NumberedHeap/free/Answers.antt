@@ -1,7 +1,7 @@
-use Rattle.std.proofs.Common.{rules, arith, ◌≤◌, vec_capacity, ◌≡◌, ◌∙◌, ap, sym, length, None}
+use Rattle.std.proofs.Common.{rules, arith, ◌≤◌, vec_capacity, ◌≡◌, ◌∙◌, ap, refl, sym, subst, length, None}
 use Rattle.heap_model.proofs.Shortened.{length_cut}
 use Rattle.kernel_heap.specs.System.{paged}
-use Rattle.kernel_heap.proofs.Laid.{laid_ended, still_err}
+use Rattle.kernel_heap.proofs.Laid.{laid_ended}
 use Rattle.kernel_heap.proofs.Ended.{free_shortened, step_ended}
 use Rattle.heap_model.specs.declared.call.Call.TheVariants.{Free}
 use Rattle.heap_model.specs.declared.answer.Refusal.TheVariants.{UnknownBlock}
@@ -10,6 +10,9 @@ use Rattle.kernel_heap.specs.Machine.{seen_with}
 use Rattle.kernel_heap.specs.Numbered.{live_at}
 use Rattle.kernel_heap.proofs.BlockBytes.{unknown_same}
 use Rattle.kernel_heap.proofs.Refused.{step_refused}
+use Rattle.kernel_heap.proofs.Served.{served, served_refused, unserved, answered}
+use Rattle.kernel_heap.specs.Moves.{AreRegionsTold}
+use Rattle.kernel_heap.specs.declared.numbered_heap.Marks.{Marks}
 use Rattle.kernel_heap.proofs.numbered_heap.NumberedHeap.free.Goals as goal
 
 pub free-requires : goal.free-requires
@@ -31,26 +34,23 @@ returns-clause-sound c =
     rw (c.changed_regions.ensures.heap, c.changed_regions.ensures.blocks, c.end.ensures)
     (laid_ended c.args.self.now.heap c.free.new.self c.args.self.now.blocks.items c.args.number c.in-Some.live c.requires.sound is c.free.ensures.freed)
 
-pub returns-clause-ok : goal.returns-clause-ok
-returns-clause-ok c = λ top s good stands.
+pub returns-clause-served : goal.returns-clause-served
+returns-clause-served c = answered (
     let is = sym c.live.ensures ∙ c.in-Some.is in
-    rw (c.changed_regions.ensures.heap, c.changed_regions.ensures.blocks, c.end.ensures)
+    let told = subst (λ (m : Marks). AreRegionsTold (paged c.free.new.self.system) m c.changed_regions.result) c.marks-before.ensures c.changed_regions.ensures.told in
+    served tt tt
+    (λ top s good stands. rw (c.changed_regions.ensures.heap, c.changed_regions.ensures.blocks, c.end.ensures)
     (step_ended c.args.self.now.heap c.free.new.self c.args.self.now.blocks.items c.args.number c.in-Some.live
     c.requires.sound is c.free.ensures.freed c.blocks_are_placed.ensures c.blocks_are_placed-2.ensures s good stands
-    c.changed_regions.result
-    (λ joins few. c.changed_regions.ensures.same (joins ∙ sym c.marks-before.ensures.joins) (few ∙ sym c.marks-before.ensures.pageless))
-    (λ other. c.changed_regions.ensures.other (λ joins few. other (joins ∙ c.marks-before.ensures.joins) (few ∙ c.marks-before.ensures.pageless))))
+    c.changed_regions.result told))
+    (rw (is, c.changed_regions.ensures.heap) c.free.ensures.freed) (λ same. absurd (cc)))
 
-pub returns-clause-heap : goal.returns-clause-heap
-returns-clause-heap c =
-    let is = sym c.live.ensures ∙ c.in-Some.is in
-    rw (is, c.changed_regions.ensures.heap) c.free.ensures.freed
-
-pub returns-in_default-clause-ok : goal.returns-in_default-clause-ok
-returns-in_default-clause-ok c = λ top s good stands.
+pub returns-in_default-clause-served : goal.returns-in_default-clause-served
+returns-in_default-clause-served c = answered (
     let none : live_at c.args.self.now.blocks.items c.args.number ≡ None = search rules in
-    rw c.refused.ensures (step_refused (seen_with top c.args.self.now) s (Free c.args.number) UnknownBlock
-    (ap refuse_block (unknown_same (seen_with top c.args.self.now) s c.args.number stands none)) good stands)
+    served_refused UnknownBlock c.refused.ensures
+    (λ top s good stands. step_refused (seen_with top c.args.self.now) s (Free c.args.number) UnknownBlock
+    (ap refuse_block (unknown_same (seen_with top c.args.self.now) s c.args.number stands none)) good stands) refl (λ top. refl))
 
-pub returns-in_err-reserve-clause-heap_err : goal.returns-in_err-reserve-clause-heap_err
-returns-in_err-reserve-clause-heap_err c = still_err c.from_residual.result c.args.self.now.heap
+pub returns-in_err-reserve-clause-served : goal.returns-in_err-reserve-clause-served
+returns-in_err-reserve-clause-served c = unserved c.from_residual.result _ c.from_residual.ensures.1 refl refl

@@ -1,3 +1,4 @@
+use Rattle.std.proofs.Common.{rules}
 use Rattle.kernel_heap.proofs.Laid.{laid_still, still_none}
 use Rattle.kernel_heap.proofs.numbered_heap.NumberedHeap.new_slots.Goals as goal
 
@@ -6,11 +7,22 @@ returns-clause-sound c =
     let kept = c.take_slots.ensures.kept in
     laid_still c.args.self.now.heap c.take_slots.new.heap c.args.self.now.blocks.items c.requires.sound kept.regions_same kept.still.0
 
-pub returns-then-marks-before-clause-heap : goal.returns-then-marks-before-clause-heap
-returns-then-marks-before-clause-heap c = still_none c.args.self.now.heap
+pub returns-clause-told : goal.returns-clause-told
+returns-clause-told c = record {
+  none = search rules;
+  slots = search rules;
+  taken = search rules;
+  rest = c.take_slots.ensures.kept.rest;
+  blocks = search rules;
+  still = c.take_slots.ensures.kept.still;
+}
 
-pub returns-clause-heap : goal.returns-clause-heap
-returns-clause-heap c = c.take_slots.ensures.kept.still
-
-pub returns-clause-rest : goal.returns-clause-rest
-returns-clause-rest c = c.take_slots.ensures.kept.rest
+pub returns-then-marks-before-clause-told : goal.returns-then-marks-before-clause-told
+returns-then-marks-before-clause-told c = record {
+  none = search rules;
+  slots = search rules;
+  taken = search rules;
+  rest = search rules;
+  blocks = search rules;
+  still = still_none c.args.self.now.heap;
+}

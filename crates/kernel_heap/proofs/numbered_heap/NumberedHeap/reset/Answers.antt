@@ -1,8 +1,8 @@
-use Rattle.std.proofs.Common.{◌≡◌, ◌-◌, ◌∙◌, ap, arith, Some}
+use Rattle.std.proofs.Common.{◌≡◌, ◌-◌, ◌∙◌, ap, refl, arith, Some}
 use Rattle.paging_core.specs.Pool.{free_count}
 use Rattle.kernel_heap.specs.System.{paged}
 use Rattle.kernel_heap.proofs.Reset.{laid_reset, more_free, step_reset, spare_window}
-use Rattle.kernel_heap.proofs.Laid.{still_err}
+use Rattle.kernel_heap.proofs.Served.{served, unserved, answered}
 use Rattle.kernel_heap.proofs.numbered_heap.NumberedHeap.reset.Goals as goal
 use Rattle.kernel_heap.proofs.numbered_heap.NumberedHeap.reset.Goals.{then-frames-eq0, else-frames-eq0}
 
@@ -15,9 +15,6 @@ returns-clause-sound c =
     (laid_reset c.args.self.now.heap c.reset.new.self c.is_intact.ensures.sound c.args.self.now.blocks.items c.reset.result
     c.requires.sound c.reset.ensures.ended c.reset.ensures.state)
 
-pub returns-clause-heap : goal.returns-clause-heap
-returns-clause-heap c = c.reset.ensures.state
-
 -- frames are given back, and none is taken
 pub overflow_sub-frames : goal.overflow_sub-frames
 overflow_sub-frames c =
@@ -29,13 +26,13 @@ overflow_sub-frames c =
     ∙ ap (λ system. free_count (paged system).free) c.system-2.ensures in
     omega (arith, more, before, now)
 
-pub returns-clause-ok : goal.returns-clause-ok
-returns-clause-ok c = λ top s good stands.
+pub returns-clause-served : goal.returns-clause-served
+returns-clause-served c = answered (
     let before : c.free_frames-free.result ≡ free_count (paged c.args.self.now.heap.system).free =
     c.free_frames-free.ensures ∙ ap (λ system. free_count (paged system).free) c.system.ensures in
     let now : c.free_frames.result ≡ free_count (paged c.reset.new.self.system).free = c.free_frames.ensures
     ∙ ap (λ system. free_count (paged system).free) c.system-2.ensures in
-    rw c.end_all.ensures
+    served tt tt (λ top s good stands. rw c.end_all.ensures
     (step_reset c.args.self.now.heap c.reset.new.self c.is_intact.ensures.sound c.args.self.now.blocks.items c.reset.result
     c.requires.sound c.reset.ensures.ended c.reset.ensures.state
     s good stands (c.free_frames.result - c.free_frames-free.result) c.if-frames-eq0.result (λ i. now i - before i)
@@ -46,7 +43,8 @@ returns-clause-ok c = λ top s good stands.
     (λ some. elim c.if-frames-eq0.branch [
       | then-frames-eq0 w ↦ absurd (some w.if-frames-eq0.true)
       | else-frames-eq0 w ↦ w.result-is ∙ ap Some w.new-else-frames-eq0.ensures
-    ]))
+    ])))
+    c.reset.ensures.state (λ same. absurd (cc)))
 
-pub returns-in_err-other-clause-heap_err : goal.returns-in_err-other-clause-heap_err
-returns-in_err-other-clause-heap_err c = still_err c.from_residual.result c.args.self.now.heap
+pub returns-in_err-other-clause-served : goal.returns-in_err-other-clause-served
+returns-in_err-other-clause-served c = unserved c.from_residual.result _ c.from_residual.ensures.1 refl refl

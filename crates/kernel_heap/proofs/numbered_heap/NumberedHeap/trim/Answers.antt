@@ -1,7 +1,9 @@
-use Rattle.std.proofs.Common.{rules, arith, ◌≤◌, vec_capacity, ◌≡◌, ◌∙◌, ap, sym, length}
+use Rattle.std.proofs.Common.{rules, arith, ◌≤◌, vec_capacity, ◌≡◌, ◌∙◌, ap, refl, subst, length}
 use Rattle.kernel_heap.specs.System.{paged}
 use Rattle.kernel_heap.proofs.Trimmed.{laid_trimmed, few_left, step_trimmed}
-use Rattle.kernel_heap.proofs.Laid.{still_err}
+use Rattle.kernel_heap.proofs.Served.{served, unserved, answered}
+use Rattle.kernel_heap.specs.Moves.{AreRegionsTold}
+use Rattle.kernel_heap.specs.declared.numbered_heap.Marks.{Marks}
 use Rattle.kernel_heap.proofs.numbered_heap.NumberedHeap.trim.Goals as goal
 
 -- the list has a place for each region that is left
@@ -18,17 +20,15 @@ returns-clause-sound c =
     rw (c.changed_regions-regions.ensures.heap, c.changed_regions-regions.ensures.blocks)
     (laid_trimmed c.args.self.now.heap c.trim.new.self c.args.self.now.blocks.items c.args.pad c.trim.result c.requires.sound c.trim.ensures.trimmed)
 
-pub returns-clause-ok : goal.returns-clause-ok
-returns-clause-ok c = λ top s good stands.
-    rw (c.is_some.ensures, c.changed_regions-regions.ensures.heap, c.changed_regions-regions.ensures.blocks)
+pub returns-clause-served : goal.returns-clause-served
+returns-clause-served c = answered (
+    let regions = c.changed_regions-regions in
+    let told = subst (λ (m : Marks). AreRegionsTold (paged c.trim.new.self.system) m regions.result) c.marks-before.ensures regions.ensures.told in
+    served tt tt
+    (λ top s good stands. rw (c.is_some.ensures, regions.ensures.heap, regions.ensures.blocks)
     (step_trimmed c.args.self.now.heap c.trim.new.self c.args.self.now.blocks.items c.args.pad c.trim.result
-    c.requires.sound c.trim.ensures.trimmed c.blocks_are_placed.ensures c.blocks_are_placed-2.ensures
-    s good stands c.changed_regions-regions.result
-    (λ joins few. c.changed_regions-regions.ensures.same (joins ∙ sym c.marks-before.ensures.joins) (few ∙ sym c.marks-before.ensures.pageless))
-    (λ other. c.changed_regions-regions.ensures.other (λ joins few. other (joins ∙ c.marks-before.ensures.joins) (few ∙ c.marks-before.ensures.pageless))))
+    c.requires.sound c.trim.ensures.trimmed c.blocks_are_placed.ensures c.blocks_are_placed-2.ensures s good stands regions.result told))
+    (rw regions.ensures.heap (c.trim.result, c.trim.ensures.trimmed)) (λ same. absurd (cc)))
 
-pub returns-clause-heap : goal.returns-clause-heap
-returns-clause-heap c = rw c.changed_regions-regions.ensures.heap (c.trim.result, c.trim.ensures.trimmed)
-
-pub returns-in_err-reserve-clause-heap_err : goal.returns-in_err-reserve-clause-heap_err
-returns-in_err-reserve-clause-heap_err c = still_err c.from_residual.result c.args.self.now.heap
+pub returns-in_err-reserve-clause-served : goal.returns-in_err-reserve-clause-served
+returns-in_err-reserve-clause-served c = unserved c.from_residual.result _ c.from_residual.ensures.1 refl refl

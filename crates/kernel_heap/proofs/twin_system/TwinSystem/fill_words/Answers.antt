@@ -1,9 +1,9 @@
 use Rattle.kernel_heap.specs.System.{paged}
-use Rattle.kernel_heap.proofs.Twins.{covered_run, twin_filled, flat_filled}
+use Rattle.kernel_heap.proofs.Twins.{still_grants, covered_run, twin_filled, flat_filled}
 use Rattle.kernel_heap.proofs.twin_system.TwinSystem.fill_words.Goals as goal
 
-pub fill-requires-clause-covered : goal.fill-requires-clause-covered
-fill-requires-clause-covered c = covered_run (paged c.args.self.now.mapped) c.args.self.now.flat c.args.at c.args.count c.args.self.now.twin c.requires
+pub fill-requires : goal.fill-requires
+fill-requires c = covered_run (paged c.args.self.now.mapped) c.args.self.now.flat c.args.at c.args.count c.args.self.now.twin c.requires
 
 pub invariant_of-self : goal.invariant_of-self
 invariant_of-self c = record {
@@ -12,6 +12,11 @@ invariant_of-self c = record {
       c.fill_words.ensures.still c.fill_words.ensures.filled c.fill.ensures;
 }
 
-pub returns-clause-flat : goal.returns-clause-flat
-returns-clause-flat c = flat_filled (paged c.args.self.now.mapped) c.args.self.now.flat c.fill.new.self c.args.at
-    c.args.count c.args.value c.args.self.now.twin c.fill.ensures
+pub returns : goal.returns
+returns c = record {
+  regions = still_grants (paged c.args.self.now.mapped) (paged c.fill_words.new.self) c.fill_words.ensures.still;
+  follows = c.fill_words.ensures.still;
+  filled = c.fill_words.ensures.filled;
+  flat = flat_filled (paged c.args.self.now.mapped) c.args.self.now.flat c.fill.new.self c.args.at
+      c.args.count c.args.value c.args.self.now.twin c.fill.ensures;
+}

@@ -1,4 +1,4 @@
-use Rattle.std.proofs.Common.{◌≡◌, ◌<◌, Result, Ok, Err, IfErr, subst, sym, arith}
+use Rattle.std.proofs.Common.{rules, ◌≡◌, ◌<◌, Result, Ok, Err, IfErr, subst, sym, arith}
 use Rattle.std.specs.Result.{IsErrAnd}
 use Rattle.heap_memory.specs.declared.grant.GrantFault.{GrantFault}
 use Rattle.heap_model.specs.Request.{pages_in}
@@ -36,12 +36,16 @@ returns-in_err-place-clause-lacks c =
     let e : fault ≡ c.in_err-place.field-0.0 = cc in
     subst (λ (f : GrantFault). LacksPlaceOrFrames (paged c.args.self.now.mapped) (pages_in c.args.size) f) (sym e) lacks)
 
-pub fill-requires-clause-covered : goal.fill-requires-clause-covered
-fill-requires-clause-covered c = λ k m low high.
-    covered_grant (paged c.args.self.now.mapped) (paged c.grant_bytes.new.self) c.args.self.now.flat c.cover.new.self
-    c.pages_in-pages.result c.args.size c.in_ok-place.place c.in_ok-grant.grant
-    c.args.self.now.twin c.pages_in-pages.ensures c.in_ok-place.ensures.ok c.in_ok-grant.ensures.ok c.in-Ok.ensures.reached k low
-    (let s = c.in_ok-grant.ensures.ok.size in omega arith)
+pub fill-requires : goal.fill-requires
+fill-requires c = record {
+  covered = λ k m low high.
+      covered_grant (paged c.args.self.now.mapped) (paged c.grant_bytes.new.self) c.args.self.now.flat c.cover.new.self
+      c.pages_in-pages.result c.args.size c.in_ok-place.place c.in_ok-grant.grant
+      c.args.self.now.twin c.pages_in-pages.ensures c.in_ok-place.ensures.ok c.in_ok-grant.ensures.ok c.in-Ok.ensures.reached k low
+      (let s = c.in_ok-grant.ensures.ok.size in omega arith);
+  aligned = search rules;
+  small = search rules;
+}
 
 pub invariant_of-self-2 : goal.invariant_of-self-2
 invariant_of-self-2 c = record {

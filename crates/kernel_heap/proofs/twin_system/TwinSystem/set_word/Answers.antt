@@ -1,5 +1,5 @@
 use Rattle.kernel_heap.specs.System.{paged}
-use Rattle.kernel_heap.proofs.Twins.{twin_stored, flat_stored}
+use Rattle.kernel_heap.proofs.Twins.{still_grants, twin_stored, flat_stored}
 use Rattle.kernel_heap.proofs.twin_system.TwinSystem.set_word.Goals as goal
 
 pub set_word-requires-2-clause-covered : goal.set_word-requires-2-clause-covered
@@ -12,7 +12,11 @@ invariant_of-self c = record {
       c.set_word.ensures.still c.set_word.ensures.stored c.set_word-2.ensures.longer c.set_word-2.ensures.here c.set_word-2.ensures.elsewhere;
 }
 
-pub returns-clause-flat : goal.returns-clause-flat
-returns-clause-flat c =
-    flat_stored (paged c.args.self.now.mapped) c.args.self.now.flat c.set_word-2.new.self c.args.at c.args.value
-    c.args.self.now.twin c.set_word-2.ensures.here c.set_word-2.ensures.elsewhere
+pub returns : goal.returns
+returns c = record {
+  regions = still_grants (paged c.args.self.now.mapped) (paged c.set_word.new.self) c.set_word.ensures.still;
+  follows = c.set_word.ensures.still;
+  stored = c.set_word.ensures.stored;
+  flat = flat_stored (paged c.args.self.now.mapped) c.args.self.now.flat c.set_word-2.new.self c.args.at c.args.value
+      c.args.self.now.twin c.set_word-2.ensures.here c.set_word-2.ensures.elsewhere;
+}
