@@ -15,7 +15,7 @@ abbrev pub HasFrames : Tables → ℕ → ℕ → Type 0
 HasFrames t first pages = pages + missing_of t.words t.root first pages ≤ free_count t.free
 
 -- pages in one canonical half of which none is mapped, and for which there are frames
-pub record CanMap (t : Tables) (first pages : ℕ) : Type 0 where
+pub record CanMapPages (t : Tables) (first pages : ℕ) : Type 0 where
   pub range : IsCanonicalRange first pages
   pub within : first + pages ≤ 2 ^ 52
   pub clear : AreNoneMapped (page_map_of t) first pages

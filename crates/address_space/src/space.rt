@@ -7,7 +7,7 @@ ghost use Rattle.meminterval.specs.Tree.{entries};
 ghost use Rattle.address_space.specs.Runs.{areas_of};
 ghost use Rattle.address_space.specs.Space.{AreTablesKept, AreTablesKept-prop, page_map_of};
 ghost use Rattle.address_space.specs.PageMap.{AreNoneMapped, IsPagePlace, HasNoPagePlace};
-ghost use Rattle.address_space.specs.Mapping.{CanMap, HasFrames, ArePagesMapped};
+ghost use Rattle.address_space.specs.Mapping.{CanMapPages, HasFrames, ArePagesMapped};
 
 use crate::area::AreaList;
 use crate::runs;
@@ -127,7 +127,7 @@ impl Space {
         pages: u64,
         rights: Rights,
     ) -> Result<(), AllocError>
-        requires { CanMap (tables_of self.old) first pages }
+        requires { CanMapPages (tables_of self.old) first pages }
         ensures ok { OnOk result (ArePagesMapped (tables_of self.old) (tables_of self.new) first pages rights) }
         ensures err { KeptIfErr result self.old self.new }
     {

@@ -6,8 +6,8 @@ use Rattle.heap_cells.specs.declared.scale.Row.{Row}
 use Rattle.heap_cells.specs.Spans.{used_in}
 
 -- a scale in which cells can be drawn: of some calls, in cells of 2 to 8 pixels
-abbrev pub IsScale : Scale → Type 0
-IsScale scale = (0 < scale.calls) × (2 ≤ scale.side) × (scale.side ≤ 8)
+abbrev pub IsCellScale : Scale → Type 0
+IsCellScale scale = (0 < scale.calls) × (2 ≤ scale.side) × (scale.side ≤ 8)
 
 -- the columns of all cells: they are 1024 pixels wide together
 abbrev pub cell_columns : Scale → ℕ

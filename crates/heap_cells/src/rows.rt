@@ -1,6 +1,6 @@
 // The rows of cells of bands.
 ghost use Rattle.std.specs.Prelude.{◌≡◌, ◌<◌, ◌≤◌, ◌+◌, ◌^◌, ◌++◌, OnOk, IfOk};
-ghost use Rattle.heap_cells.specs.Shades.{IsScale};
+ghost use Rattle.heap_cells.specs.Shades.{IsCellScale};
 ghost use Rattle.heap_cells.specs.Rows.{IsDrawn, drawn_band, rows_of, row_start, row_at, row_bars, rows_from, band_bars, all_bars};
 
 use crate::bars::{Bar, push_bars};
@@ -32,7 +32,7 @@ fn drawn_band(band: Band) -> Band
 // The number of rows of a band.
 #[tactic(auto, using(crate::proofs::Numbers::quotient_least))]
 fn rows_of(scale: Scale, band: Band) -> u128
-    requires scale { IsScale scale }
+    requires scale { IsCellScale scale }
     requires height { band.height ≤ 2 ^ 40 }
     ensures value { result ≡ rows_of scale band }
     ensures few { result ≤ 2 ^ 40 }
@@ -42,7 +42,7 @@ fn rows_of(scale: Scale, band: Band) -> u128
 
 // The address at which a row begins.
 fn row_start(scale: Scale, band: Band, row: u128) -> u128
-    requires scale { IsScale scale }
+    requires scale { IsCellScale scale }
     requires band { IsDrawn band }
     requires row { row ≤ rows_of scale band }
     requires some { 1 ≤ rows_of scale band }
@@ -57,7 +57,7 @@ fn row_start(scale: Scale, band: Band, row: u128) -> u128
 // A row of a band.
 #[tactic(auto, using(crate::proofs::Numbers::row_within))]
 fn row_at(scale: Scale, band: Band, row: u128) -> Row
-    requires scale { IsScale scale }
+    requires scale { IsCellScale scale }
     requires band { IsDrawn band }
     requires row { row < rows_of scale band }
     ensures value { result ≡ row_at scale band row }
@@ -81,7 +81,7 @@ fn push_row(
     row: Row,
     spans: &[Span],
 ) -> Result<(), AllocError>
-    requires scale { IsScale scale }
+    requires scale { IsCellScale scale }
     requires shades { shades ≤ 4 }
     requires row { (row.low < row.high) × (row.high < 2 ^ 100) }
     ensures { OnOk result (bars.new.items ≡ bars.old.items ++ row_bars scale shades row spans.now) }
@@ -102,7 +102,7 @@ fn push_rows(
     first: u128,
     number: u128,
 ) -> Result<(), AllocError>
-    requires scale { IsScale scale }
+    requires scale { IsCellScale scale }
     requires shades { shades ≤ 4 }
     requires band { IsDrawn band }
     requires rows { first + number ≤ rows_of scale band }
@@ -134,7 +134,7 @@ fn push_band(
     spans: &[Span],
     whole: Band,
 ) -> Result<(), AllocError>
-    requires scale { IsScale scale }
+    requires scale { IsCellScale scale }
     requires shades { shades ≤ 4 }
     ensures { OnOk result (bars.new.items ≡ bars.old.items ++ band_bars scale shades spans.now whole) }
 {
@@ -151,7 +151,7 @@ pub fn all_bars(
     spans: &[Span],
     bands: &[Band],
 ) -> Result<Vec<Bar>, AllocError>
-    requires scale { IsScale scale }
+    requires scale { IsCellScale scale }
     requires shades { shades ≤ 4 }
     ensures { IfOk result (λ bars. bars.items ≡ all_bars scale shades spans.now bands.now) }
 {

@@ -1,6 +1,6 @@
 // The shades of a row of cells.
 ghost use Rattle.std.specs.Prelude.{◌≡◌, ◌<◌, ◌≤◌, ◌^◌, IfOk};
-ghost use Rattle.heap_cells.specs.Shades.{IsScale, shade_of, row_shades};
+ghost use Rattle.heap_cells.specs.Shades.{IsCellScale, shade_of, row_shades};
 
 use crate::scale::{Row, Scale, columns_of};
 use crate::spans::Span;
@@ -24,7 +24,7 @@ pub fn row_shades(
     row: Row,
     spans: &[Span],
 ) -> Result<Vec<u128>, AllocError>
-    requires scale { IsScale scale }
+    requires scale { IsCellScale scale }
     requires shades { shades ≤ 4 }
     requires row { (row.low < row.high) × (row.high < 2 ^ 100) }
     ensures { IfOk result (λ all. all.items ≡ row_shades scale shades row spans.now) }

@@ -2,7 +2,7 @@
 ghost use Rattle.std.specs.Prelude.{◌≡◌, ◌<◌, ◌≤◌, ◌+◌, ◌^◌, ℕ, nat_eq, if◌then◌else◌, IfOk, slice_index, vec_len};
 ghost use Rattle.std.specs.List.{sum_by};
 ghost use Rattle.heap_cells.specs.Spans.{overlap};
-ghost use Rattle.heap_cells.specs.Shades.{IsScale, cell_columns};
+ghost use Rattle.heap_cells.specs.Shades.{IsCellScale, cell_columns};
 ghost use Rattle.heap_cells.specs.Changes.{first_column, change_call, changed_bytes};
 
 use crate::scale::{Row, Scale, columns_of};
@@ -28,7 +28,7 @@ fn call_of(change: Change, span: Span) -> u64
 
 // The first column that shows the heap after a call.
 fn first_column(scale: Scale, call: u64) -> u128
-    requires scale { IsScale scale }
+    requires scale { IsCellScale scale }
     ensures { result ≡ first_column scale call }
 {
     let columns = u128::from(columns_of(scale));
@@ -37,7 +37,7 @@ fn first_column(scale: Scale, call: u64) -> u128
 
 // Adds the bytes of a span in its column.
 fn count(sums: &mut Vec<u128>, scale: Scale, change: Change, row: Row, span: Span)
-    requires scale { IsScale scale }
+    requires scale { IsCellScale scale }
     requires small { (k : ℕ) → k < vec_len sums.old → slice_index sums.old.items k ≤ 2 ^ 127 }
     ensures each { (k : ℕ) → k < vec_len sums.old → slice_index sums.new.items k ≡ slice_index sums.old.items k + (if nat_eq k (first_column scale (change_call change span)) then overlap row.low row.high span else 0) }
     ensures length { vec_len sums.new ≡ vec_len sums.old }
@@ -61,7 +61,7 @@ pub fn changes(
     row: Row,
     spans: &[Span],
 ) -> Result<Vec<u128>, AllocError>
-    requires scale { IsScale scale }
+    requires scale { IsCellScale scale }
     ensures each { IfOk result (λ sums. (k : ℕ) → k < cell_columns scale → slice_index sums.items k ≡ changed_bytes scale change row spans.now k) }
     ensures length { IfOk result (λ sums. vec_len sums ≡ cell_columns scale) }
     ensures few { IfOk result (λ sums. sum_by (overlap row.low row.high) spans.now < 2 ^ 127) }

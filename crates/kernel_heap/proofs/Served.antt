@@ -14,7 +14,7 @@ use Rattle.kernel_heap.specs.declared.numbered_heap.NumberedHeap.{NumberedHeap}
 use Rattle.kernel_heap.specs.Kept.{IsSeenAsBefore, IsReachedByte}
 use Rattle.kernel_heap.specs.Machine.{seen_of, seen_with, system_of}
 use Rattle.kernel_heap.specs.Moves.{HeapMoves, KeepsStateAndBins}
-use Rattle.kernel_heap.specs.Served.{HasServed, HasNotServed, IsServed}
+use Rattle.kernel_heap.specs.Served.{HasServedCall, HasNotServed, IsCallServed}
 use Rattle.kernel_heap.specs.System.{paged}
 use Rattle.kernel_heap.proofs.Laid.{still_none}
 use Rattle.kernel_heap.proofs.LastingPages.{AsksForNone, runs_none, runs_refused}
@@ -24,7 +24,7 @@ module _ {old new : NumberedHeap} {call : Call} {answer : Answer} where
   -- no page is new where the call asks for none
   pub served : AsksForNone call → IsReachedByte (paged (system_of new)) call answer.reply →
       ((top : ℕ) (s : State) → IsGood s → Stands (seen_with top old) s → IsStep s call answer (seen_with top new)) →
-      HeapMoves old call answer.reply answer.large new → IsSeenAsBefore answer.reply old new → HasServed old call answer new
+      HeapMoves old call answer.reply answer.large new → IsSeenAsBefore answer.reply old new → HasServedCall old call answer new
   served asks reached allowed heap kept = record {
     allowed = allowed;
     heap = heap;
@@ -36,9 +36,9 @@ module _ {old new : NumberedHeap} {call : Call} {answer : Answer} where
   -- a refused call leaves all that is seen
   pub served_refused : (why : Refusal) → answer ≡ refused_with why →
       ((top : ℕ) (s : State) → IsGood s → Stands (seen_with top old) s → IsStep s call (refused_with why) (seen_with top new)) →
-      HeapMoves old call (Refused why) None new → ((top : ℕ) → seen_with top new ≡ seen_with top old) → HasServed old call answer new
+      HeapMoves old call (Refused why) None new → ((top : ℕ) → seen_with top new ≡ seen_with top old) → HasServedCall old call answer new
   served_refused why is allowed heap same =
-      subst (λ (a : Answer). HasServed old call a new) (sym is)
+      subst (λ (a : Answer). HasServedCall old call a new) (sym is)
       (record {
         allowed = allowed;
         heap = heap;
@@ -57,10 +57,10 @@ not_served old new (Err error) heap blocks = record {
 }
 
 pub unserved : {old new : NumberedHeap} {call : Call} (result : Result Answer AllocError) (Q : AllocError → Type 0) → IsErrAnd result Q →
-    new.heap ≡ old.heap → new.blocks.items ≡ old.blocks.items → IsServed old call result new
+    new.heap ≡ old.heap → new.blocks.items ≡ old.blocks.items → IsCallServed old call result new
 unserved (Ok answer) Q is heap blocks = absurd is
 unserved {old = old} {new = new} (Err error) Q is heap blocks = record { ok = tt; err = not_served old new (Err error) heap blocks }
 
 -- the call was answered
-pub answered : {old new : NumberedHeap} {call : Call} {answer : Answer} → HasServed old call answer new → IsServed old call (Ok answer) new
+pub answered : {old new : NumberedHeap} {call : Call} {answer : Answer} → HasServedCall old call answer new → IsCallServed old call (Ok answer) new
 answered is = record { ok = is; err = tt }

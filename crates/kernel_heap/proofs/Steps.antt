@@ -11,7 +11,7 @@ use Rattle.x86_registers.specs.declared.cpu.Cpu.{Cpu}
 use Rattle.sound_heap.specs.Heap.{IsIntact}
 use Rattle.kernel_heap.specs.Heap.{regions, word}
 use Rattle.kernel_heap.specs.Machine.{seen_with}
-use Rattle.kernel_heap.specs.Served.{HasServed, HasNotServed}
+use Rattle.kernel_heap.specs.Served.{HasServedCall, HasNotServed}
 use Rattle.kernel_heap.specs.Parts.{Parts}
 use Rattle.kernel_heap.specs.Registers.{cpu_after}
 use Rattle.kernel_heap.specs.Steps.{HasStepped, HasNotStepped, StepsTo}
@@ -19,7 +19,7 @@ use Rattle.kernel_heap.specs.Steps.{HasStepped, HasNotStepped, StepsTo}
 module _ (old new : Parts) (call : Call) where
   -- a numbered heap that served a call over the root in CR3
   pub stepped : (result : Result Answer AllocError) → new.cpu.cr3 ≡ old.cpu.cr3 → IsIntact regions word new.heap.heap →
-      IfOk result (λ answer. HasServed old.heap call answer new.heap) → IfOk result (λ answer. new.cpu ≡ cpu_after old.cpu call answer.reply) →
+      IfOk result (λ answer. HasServedCall old.heap call answer new.heap) → IfOk result (λ answer. new.cpu ≡ cpu_after old.cpu call answer.reply) →
       IfOk result (λ answer. HasStepped old call answer new)
   stepped (Ok answer) root intact served registers =
       let top : root_of new.cpu.cr3 ≡ root_of old.cpu.cr3 = ap root_of root in

@@ -13,7 +13,7 @@ use Rattle.kernel_heap.specs.Moves.{HeapMoves, KeepsStateAndBins}
 use Rattle.kernel_heap.specs.System.{paged}
 
 -- A numbered heap answered a call, whatever frame is in CR3.
-pub record HasServed (old : NumberedHeap) (call : Call) (answer : Answer) (new : NumberedHeap) : Type 0 where
+pub record HasServedCall (old : NumberedHeap) (call : Call) (answer : Answer) (new : NumberedHeap) : Type 0 where
   -- The answer is allowed in each good state for which it stood, and it stands for the state that the answer leaves.
   pub allowed : (top : ℕ) (s : State) → IsGood s → Stands (seen_with top old) s → IsStep s call answer (seen_with top new)
   -- The heap moved as the answer tells.
@@ -33,6 +33,6 @@ pub record HasNotServed (old new : NumberedHeap) : Type 0 where
   pub still : KeepsStateAndBins old.heap new.heap
 
 -- A call was answered, or memory was wanting.
-pub record IsServed (old : NumberedHeap) (call : Call) (result : Result Answer AllocError) (new : NumberedHeap) : Type 0 where
-  pub ok : IfOk result (λ answer. HasServed old call answer new)
+pub record IsCallServed (old : NumberedHeap) (call : Call) (result : Result Answer AllocError) (new : NumberedHeap) : Type 0 where
+  pub ok : IfOk result (λ answer. HasServedCall old call answer new)
   pub err : OnErr result (HasNotServed old new)

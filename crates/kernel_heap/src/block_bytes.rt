@@ -5,7 +5,7 @@ ghost use Rattle.kernel_heap.specs.Heap.{regions};
 ghost use Rattle.kernel_heap.specs.Machine.{system_of, heap_of};
 ghost use Rattle.kernel_heap.specs.Numbered.{live_at, refuse_live, HasBytes};
 ghost use Rattle.kernel_heap.specs.LaidOut.{IsNumberedSound};
-ghost use Rattle.kernel_heap.specs.Served.{HasServed};
+ghost use Rattle.kernel_heap.specs.Served.{HasServedCall};
 
 use crate::beside;
 use crate::numbered_heap::{NumberedHeap, refused};
@@ -34,7 +34,7 @@ impl NumberedHeap {
     pub(crate) fn write(&mut self, number: u64, offset: u64, bytes: &[u8]) -> Answer
         requires sound { IsNumberedSound self.old }
         ensures sound { IsNumberedSound self.new }
-        ensures ok { HasServed self.old (Call.Write number offset bytes.now) result self.new }
+        ensures ok { HasServedCall self.old (Call.Write number offset bytes.now) result self.new }
     {
         match self.find_bytes(number, offset, bytes.len() as u64) {
             Ok(address) => {
@@ -52,7 +52,7 @@ impl NumberedHeap {
     /// Reads bytes of a block.
     pub(crate) fn read(&self, number: u64, offset: u64, count: u64) -> Result<Answer, AllocError>
         requires sound { IsNumberedSound self.now }
-        ensures ok { IfOk result (λ answer. HasServed self.now (Call.Read number offset count) answer self.now) }
+        ensures ok { IfOk result (λ answer. HasServedCall self.now (Call.Read number offset count) answer self.now) }
     {
         match self.find_bytes(number, offset, count) {
             Ok(address) => Ok(Answer {

@@ -1,7 +1,7 @@
 // A call goes to the function of the numbered heap that serves it.
 ghost use Rattle.std.specs.Prelude.{IsTrue, IfOk, IsOk, OnErr};
 ghost use Rattle.kernel_heap.specs.LaidOut.{IsNumberedSound};
-ghost use Rattle.kernel_heap.specs.Served.{HasServed, HasNotServed};
+ghost use Rattle.kernel_heap.specs.Served.{HasServedCall, HasNotServed};
 ghost use Rattle.kernel_heap.specs.Kept.{is_always_answered};
 
 use crate::numbered_heap::NumberedHeap;
@@ -14,7 +14,7 @@ impl NumberedHeap {
     pub(crate) fn serve(&mut self, call: &Call) -> Result<Answer, AllocError>
         requires sound { IsNumberedSound self.old }
         ensures sound { IsNumberedSound self.new }
-        ensures ok { IfOk result (λ answer. HasServed self.old call.now answer self.new) }
+        ensures ok { IfOk result (λ answer. HasServedCall self.old call.now answer self.new) }
         ensures err { OnErr result (HasNotServed self.old self.new) }
         ensures answered { IsTrue (is_always_answered call.now) → IsOk result }
     {

@@ -1,6 +1,6 @@
 // The settings of the heap: for multiples of how many bytes it asks, and how often it makes a release pass.
 ghost use Rattle.kernel_heap.specs.LaidOut.{IsNumberedSound};
-ghost use Rattle.kernel_heap.specs.Served.{HasServed};
+ghost use Rattle.kernel_heap.specs.Served.{HasServedCall};
 
 use crate::numbered_heap::NumberedHeap;
 use heap_model::{Answer, Call, Reply};
@@ -10,7 +10,7 @@ impl NumberedHeap {
     pub(crate) fn set_rate(&mut self, rate: u64) -> Answer
         requires sound { IsNumberedSound self.old }
         ensures sound { IsNumberedSound self.new }
-        ensures ok { HasServed self.old (Call.SetRate rate) result self.new }
+        ensures ok { HasServedCall self.old (Call.SetRate rate) result self.new }
     {
         self.heap.set_release_rate(rate);
         Answer {
@@ -24,7 +24,7 @@ impl NumberedHeap {
     pub(crate) fn set_granularity(&mut self, granularity: u64) -> Answer
         requires sound { IsNumberedSound self.old }
         ensures sound { IsNumberedSound self.new }
-        ensures ok { HasServed self.old (Call.SetGranularity granularity) result self.new }
+        ensures ok { HasServedCall self.old (Call.SetGranularity granularity) result self.new }
     {
         Answer {
             reply: Reply::Accepted(self.heap.set_granularity(granularity)),

@@ -5,7 +5,7 @@ use Rattle.paging_core.specs.Area.{Area}
 use Rattle.paging_core.specs.Outcomes.{IsPageTakenOut, IsPageRegranted, IsLargeTakenOut, IsSlotRegranted}
 use Rattle.paging_core.specs.PageChanges.{removal, regrant, IsPageChanged}
 use Rattle.paging_core.specs.declared.page_table.Rights.{Rights}
-use Rattle.kernel_tables.specs.Changes.{IsEntryCleared, IsEntryGranted, IsSlotCleared, IsSlotGranted}
+use Rattle.kernel_tables.specs.Changes.{IsEntryCleared, IsEntryGranted, IsLargeSlotCleared, IsLargeSlotGranted}
 use Rattle.kernel_tables.specs.TableState.{TableState, leads}
 use Rattle.kernel_tables.proofs.Changed.{only_seen, other_page, other_slot}
 use Rattle.kernel_tables.proofs.RangeChanged.{slot_granted}
@@ -45,10 +45,10 @@ module _ {old inside : TableState} {words : List ℕ} {area : Area} {free : List
         larges = all.larges;
       })
 
-  pub slot_cleared : {slot : ℕ} → IsLargeTakenOut area inside.words words inside.root free slot → IsSlotCleared old (with_words inside words area) slot
+  pub slot_cleared : {slot : ℕ} → IsLargeTakenOut area inside.words words inside.root free slot → IsLargeSlotCleared old (with_words inside words area) slot
   slot_cleared {slot} gone =
       let all = gone.removed in
-      subst (λ (s : TableState). IsSlotCleared s (with_words inside words area) slot) view (record {
+      subst (λ (s : TableState). IsLargeSlotCleared s (with_words inside words area) slot) view (record {
         only = only_seen refl same all.size (λ l n met lt is. all.others l n (omega (arith, lt)) (λ e _. absurd (omega (arith, lt, e))) ∙ is)
             (λ other canonical not. gone.elsewhere other canonical (other_slot slot other not));
         free = refl;
@@ -58,10 +58,10 @@ module _ {old inside : TableState} {words : List ℕ} {area : Area} {free : List
       })
 
   pub slot_has_rights : {slot : ℕ} {rights : Rights} → IsSlotRegranted area inside.words words inside.root free slot rights →
-      IsSlotGranted old (with_words inside words area) slot rights
+      IsLargeSlotGranted old (with_words inside words area) slot rights
   slot_has_rights {slot} {rights} regranted =
       let all = regranted.granted in
-      subst (λ (s : TableState). IsSlotGranted s (with_words inside words area) slot rights) view (record {
+      subst (λ (s : TableState). IsLargeSlotGranted s (with_words inside words area) slot rights) view (record {
         only = only_seen refl same all.size (λ l n met lt is. all.others l n (omega (arith, lt)) (λ e _. absurd (omega (arith, lt, e))) ∙ is)
             (λ other canonical not. regranted.elsewhere other canonical (other_slot slot other not));
         free = refl;

@@ -11,7 +11,7 @@ use Rattle.paging_core.specs.Walk.{Place}
 use Rattle.paging_core.specs.declared.page_table.Rights.{Rights}
 use Rattle.paging_core.proofs.Ranges.{missing_none}
 use Rattle.kernel_tables.specs.Changes.{IsMappedInARow}
-use Rattle.kernel_tables.specs.Ranges.{lies_in_half, lowest, lowest_mapped, tables_wanted, map_range_fault, becomes_large, AreSlotsLarge, IsRangeMappable}
+use Rattle.kernel_tables.specs.Ranges.{lies_in_half, lowest, lowest_mapped, tables_wanted, map_range_fault, becomes_large, AreSlotsLarge, IsMappableRange}
 use Rattle.kernel_tables.specs.TableState.{TableState, leads, limit_of}
 use Rattle.kernel_tables.specs.declared.range_fault.RangeFault.TheVariants.{NotCanonical, IsMapped, PastLimit, InArea, NoFrames}
 use Rattle.kernel_tables.proofs.RangeMapped.{becomes}
@@ -36,7 +36,7 @@ unmapped_of (Some x) e = absurd (cc)
 
 pub no_range_fault : (state : TableState) (page pages frame : ℕ) → 0 < pages → IsTrue (is_canonical (page * 4096)) →
     map_range_fault state page pages frame ≡ None →
-    IsRangeMappable state page pages frame
+    IsMappableRange state page pages frame
 no_range_fault state page pages frame some canonical none =
     let zero_not : (pages == 0) ≡ false = grind (arith, nat_tests) in
     let f = go (pages == 0) (lies_in_half page pages) (lowest_mapped state page pages)

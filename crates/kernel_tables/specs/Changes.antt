@@ -53,7 +53,7 @@ pub record IsEntryGranted (old new : TableState) (page : ℕ) (rights : Rights) 
   pub larges : (n : ℕ) → large_of new.words new.root n ≡ large_of old.words old.root n
 
 -- The pages of the slot lead nowhere, and it is not large. No frame is taken, and each other slot is large as it was.
-pub record IsSlotCleared (old new : TableState) (slot : ℕ) : Type 0 where
+pub record IsLargeSlotCleared (old new : TableState) (slot : ℕ) : Type 0 where
   pub only : ChangesOnly (pages_of_slot slot) old new
   pub free : new.free ≡ old.free
   pub unmapped : (k : ℕ) → k < 512 → leads new (512 * slot + k) ≡ None
@@ -62,7 +62,7 @@ pub record IsSlotCleared (old new : TableState) (slot : ℕ) : Type 0 where
 
 -- The slot is large as it was, and its pages lead where they led, with these rights. No frame is taken, and each other slot is
 -- large as it was.
-pub record IsSlotGranted (old new : TableState) (slot : ℕ) (rights : Rights) : Type 0 where
+pub record IsLargeSlotGranted (old new : TableState) (slot : ℕ) (rights : Rights) : Type 0 where
   pub only : ChangesOnly (pages_of_slot slot) old new
   pub free : new.free ≡ old.free
   pub granted : (k : ℕ) → k < 512 → IfSome (leads old (512 * slot + k)) (λ was. leads new (512 * slot + k) ≡ Some (place_with was.frame rights))

@@ -70,7 +70,7 @@ map_range_fault state page pages frame =
     else None))
 
 -- Nothing hinders that the range is mapped to the frames.
-pub record IsRangeMappable (state : TableState) (page pages frame : ℕ) : Type 0 where
+pub record IsMappableRange (state : TableState) (page pages frame : ℕ) : Type 0 where
   pub range : IsCanonicalRange page pages
   pub unmapped : (k : ℕ) → k < pages → leads state (page + k) ≡ None
   pub below : frame + pages ≤ limit_of state

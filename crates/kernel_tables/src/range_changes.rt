@@ -6,7 +6,7 @@ ghost use Rattle.paging_core.specs.LargeChanges.{IsLargeSplit};
 ghost use Rattle.paging_core.specs.Pool.{free_count};
 ghost use Rattle.paging_core.specs.Prefix.{prefix_of};
 ghost use Rattle.paging_core.specs.Walk.{reach, large_of, place_with};
-ghost use Rattle.kernel_tables.specs.Changes.{ChangesOnly, ChangesNone, IsChange, IsEntryCleared, IsEntryGranted, IsSlotCleared, IsSlotGranted, IsRangeUnmapped, IsRangeGranted};
+ghost use Rattle.kernel_tables.specs.Changes.{ChangesOnly, ChangesNone, IsChange, IsEntryCleared, IsEntryGranted, IsLargeSlotCleared, IsLargeSlotGranted, IsRangeUnmapped, IsRangeGranted};
 ghost use Rattle.kernel_tables.specs.Faults.{entry_fault, split_of};
 ghost use Rattle.kernel_tables.specs.Flush.{pages_of_range};
 ghost use Rattle.kernel_tables.specs.Ranges.{has_page_of, lies_whole, is_cut, is_split, splits, change_range_fault, AreWithin, AreNotLarge, AreSlotsGranted, IsMappedWhole};
@@ -141,7 +141,7 @@ impl<'a> Tables<'a> {
     /// Unmaps the large page.
     fn clear_slot(&mut self, slot: Page<Size2MiB>)
         requires { IsLarge self.old slot }
-        ensures { IsSlotCleared self.old self.new slot }
+        ensures { IsLargeSlotCleared self.old self.new slot }
     {
         unmap_large(&mut self.memory, self.root, slot);
     }
@@ -157,7 +157,7 @@ impl<'a> Tables<'a> {
     /// Gives the pages of the large page these rights.
     fn grant_slot(&mut self, slot: Page<Size2MiB>, rights: Rights)
         requires { IsLarge self.old slot }
-        ensures { IsSlotGranted self.old self.new slot rights }
+        ensures { IsLargeSlotGranted self.old self.new slot rights }
     {
         protect_large(&mut self.memory, self.root, slot, rights);
     }

@@ -8,7 +8,7 @@ ghost use Rattle.paging_core.specs.Walk.{reach};
 ghost use Rattle.kernel_tables.specs.Changes.{ChangesOnly, IsChange, IsMappedInARow};
 ghost use Rattle.kernel_tables.specs.Faults.{IsPageMappable, IsLargeMappable};
 ghost use Rattle.kernel_tables.specs.Flush.{no_page, page_alone, pages_of_slot, pages_of_range};
-ghost use Rattle.kernel_tables.specs.Ranges.{map_range_fault, IsRangeMappable};
+ghost use Rattle.kernel_tables.specs.Ranges.{map_range_fault, IsMappableRange};
 
 use crate::range_checks::slot_at;
 use crate::range_fault::RangeFault;
@@ -82,7 +82,7 @@ impl<'a> Tables<'a> {
 
     /// Maps the range, which nothing hinders.
     fn map_all(&mut self, page: Page, pages: u64, frame: PhysFrame, rights: Rights)
-        requires mappable { IsRangeMappable self.old page pages frame }
+        requires mappable { IsMappableRange self.old page pages frame }
         requires fits { frame + pages ≤ 2 ^ 40 }
         ensures only { ChangesOnly (pages_of_range page pages) self.old self.new }
         ensures mapped { IsMappedInARow self.old self.new page pages frame rights }

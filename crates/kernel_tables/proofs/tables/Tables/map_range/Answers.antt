@@ -1,11 +1,11 @@
 use Rattle.std.proofs.Common.{refl, sym, arith}
-use Rattle.kernel_tables.specs.Ranges.{IsRangeMappable}
+use Rattle.kernel_tables.specs.Ranges.{IsMappableRange}
 use Rattle.kernel_tables.proofs.Changed.{range_flush, made}
 use Rattle.kernel_tables.proofs.RangeFaults.{no_range_fault, none_mapped}
 use Rattle.kernel_tables.proofs.tables.Tables.map_range.Goals as goal
 use Rattle.kernel_tables.proofs.tables.Tables.map_range.Goals.{In-None}
 
-open_range : (c : goal.In-None) → IsRangeMappable c.args.self.now c.args.page c.args.pages c.args.frame
+open_range : (c : goal.In-None) → IsMappableRange c.args.self.now c.args.page c.args.pages c.args.frame
 open_range c = no_range_fault c.args.self.now c.args.page c.args.pages c.args.frame (omega (arith, c.if-pages-eq0.false))
     c.in-None.ensures.canonical (sym c.in-None.ensures.fault)
 
