@@ -7,10 +7,10 @@ use Rattle.paging_core.specs.Address.{is_canonical}
 use Rattle.paging_core.specs.Walk.{Place, large_of}
 use Rattle.heap_model.specs.State.{State}
 use Rattle.heap_model.specs.Slots.{IsSlot, has_slot, slot_number}
-use Rattle.kernel_heap.specs.System.{paged}
+use Rattle.paged_systems.specs.System.{paged}
 use Rattle.kernel_heap.specs.Machine.{system_of}
 use Rattle.kernel_heap.specs.declared.machine.Machine.{Machine}
-use Rattle.kernel_heap.specs.declared.paged_system.PagedSystem.{PagedSystem}
+use Rattle.paged_systems.specs.declared.paged_system.PagedSystem.{PagedSystem}
 use Rattle.heap_program.specs.Progress.{IsAt}
 
 same_number : (m n : ℕ) → (m == n) ≡ true → m ≡ n

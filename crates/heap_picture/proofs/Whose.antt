@@ -11,7 +11,7 @@ use Rattle.heap_model.specs.State.{is_within, end_of_region}
 use Rattle.heap_model.specs.Slots.{slot_number, has_whole, is_whole_in}
 use Rattle.heap_model.specs.Machine.{Paged, rights_of}
 use Rattle.mapped_regions.specs.Regions.{AreLaid, kind_at}
-use Rattle.kernel_heap.specs.Layout.{IsPagedKept}
+use Rattle.paged_systems.specs.Layout.{IsPagedKept}
 use Rattle.heap_tables.specs.declared.lines.Line.{Line}
 use Rattle.heap_tables.specs.declared.owners.Owned.{Owned}
 use Rattle.heap_tables.specs.declared.owners.Owner.{Owner}

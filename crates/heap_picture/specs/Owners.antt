@@ -4,7 +4,7 @@ use Rattle.std.specs.List.{AllByRecursion}
 use Rattle.heap_model.specs.declared.region.Region.{Region}
 use Rattle.heap_model.specs.State.{is_within}
 use Rattle.heap_model.specs.Machine.{Paged}
-use Rattle.kernel_heap.specs.Layout.{IsPagedKept}
+use Rattle.paged_systems.specs.Layout.{IsPagedKept}
 use Rattle.heap_tables.specs.declared.lines.Line.{Line}
 use Rattle.heap_tables.specs.declared.owners.Owned.{Owned}
 use Rattle.heap_tables.specs.declared.owners.Owner.{Owner}

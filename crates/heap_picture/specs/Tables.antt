@@ -8,7 +8,7 @@ use Rattle.heap_model.specs.declared.call.Call.{Call}
 use Rattle.heap_model.specs.State.{State}
 use Rattle.kernel_heap.specs.declared.machine.Machine.{Machine}
 use Rattle.kernel_heap.specs.Machine.{system_of}
-use Rattle.kernel_heap.specs.System.{paged}
+use Rattle.paged_systems.specs.System.{paged}
 use Rattle.heap_tables.specs.Tables.{tables_text, tables_height}
 use Rattle.heap_picture.specs.Owners.{lines_in}
 use Rattle.heap_picture.specs.Picture.{head_text}

@@ -1,6 +1,6 @@
 // Whose the pages of a machine are.
 ghost use Rattle.std.specs.Prelude.{◌≡◌, map, IfOk};
-ghost use Rattle.kernel_heap.specs.System.{paged};
+ghost use Rattle.paged_systems.specs.System.{paged};
 ghost use Rattle.heap_picture.specs.Owners.{owned_by, owned_regions, lines_in};
 
 use heap_tables::{Line, Owned, Owner, table_lines};

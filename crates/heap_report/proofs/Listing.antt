@@ -13,7 +13,7 @@ use Rattle.heap_model.specs.State.{State}
 use Rattle.heap_model.specs.Answer.{IsAllowed, IsReply, after, changed, new_pages, slots_of, with_regions}
 use Rattle.heap_model.specs.Extents.{IsTiling}
 use Rattle.kernel_heap.specs.declared.machine.Machine.{Machine}
-use Rattle.kernel_heap.specs.declared.paged_system.PagedSystem.{PagedSystem}
+use Rattle.paged_systems.specs.declared.paged_system.PagedSystem.{PagedSystem}
 use Rattle.kernel_heap.specs.Heap.{word}
 use Rattle.kernel_heap.specs.Moves.{HeapMoves}
 use Rattle.kernel_heap.specs.Steps.{StepsTo}

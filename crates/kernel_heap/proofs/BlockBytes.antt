@@ -20,20 +20,20 @@ use Rattle.heap_model.specs.Machine.{Paged, Seen, Stands, IsStep, outline}
 use Rattle.heap_model.proofs.Placed.{outline_at}
 use Rattle.heap_model.proofs.Known.{good_known}
 use Rattle.heap_model.proofs.Written.{stands_written}
-use Rattle.kernel_heap.specs.Follows.{still_none}
-use Rattle.kernel_heap.specs.Words.{heap_regions}
-use Rattle.kernel_heap.specs.System.{paged}
+use Rattle.paged_systems.specs.Follows.{still_none}
+use Rattle.paged_systems.specs.Words.{heap_regions}
+use Rattle.paged_systems.specs.System.{paged}
 use Rattle.kernel_heap.specs.Heap.{regions, word, heap_state}
 use Rattle.kernel_heap.specs.Machine.{seen_of}
 use Rattle.kernel_heap.specs.Numbered.{live_at, refuse_live, HasBytes}
 use Rattle.kernel_heap.specs.LaidOut.{IsLaidOut}
-use Rattle.kernel_heap.specs.Written.{AreHeapBytes, AreRead, AreBytesWritten}
-use Rattle.kernel_heap.specs.declared.paged_system.PagedSystem.{PagedSystem}
+use Rattle.paged_systems.specs.Written.{AreHeapBytes, AreRead, AreBytesWritten}
+use Rattle.paged_systems.specs.declared.paged_system.PagedSystem.{PagedSystem}
 use Rattle.kernel_heap.proofs.BlockPlaces.{bytes_within}
 use Rattle.kernel_heap.proofs.Full.{behind}
-use Rattle.kernel_heap.proofs.HeapRegions.{granted_same}
+use Rattle.paged_systems.proofs.HeapRegions.{granted_same}
 use Rattle.kernel_heap.proofs.Laid.{block_place, block_there}
-use Rattle.kernel_heap.proofs.Numbers.{not_less}
+use Rattle.paged_systems.proofs.Numbers.{not_less}
 use Rattle.kernel_heap.proofs.Refused.{regions_are}
 
 -- both the machine and the state refuse bytes alike, and blocks

@@ -9,11 +9,11 @@ use Rattle.dlmalloc.specs.Extents.{extent_at}
 use Rattle.dlmalloc.specs.Blocks.{IsBlock, ArePlaced, KeepsBlocks}
 use Rattle.dlmalloc.specs.declared.heap.Dlmalloc.{Dlmalloc}
 use Rattle.mapped_regions.specs.Mapped.{word_reached}
-use Rattle.kernel_heap.specs.System.{paged}
+use Rattle.paged_systems.specs.System.{paged}
 use Rattle.kernel_heap.specs.Heap.{regions, word, heap_state}
-use Rattle.kernel_heap.specs.Written.{AreHeapBytes}
-use Rattle.kernel_heap.specs.declared.paged_system.PagedSystem.{PagedSystem}
-use Rattle.kernel_heap.proofs.Bytes.{reached_byte}
+use Rattle.paged_systems.specs.Written.{AreHeapBytes}
+use Rattle.paged_systems.specs.declared.paged_system.PagedSystem.{PagedSystem}
+use Rattle.paged_systems.proofs.Bytes.{reached_byte}
 use Rattle.kernel_heap.proofs.Laid.{block_place}
 
 -- each byte of a block lies in the regions

@@ -27,19 +27,19 @@ use Rattle.heap_model.proofs.Placed.{outline_of}
 use Rattle.heap_model.proofs.Ended.{left_at, outline_left, good_ended}
 use Rattle.heap_model.proofs.Shortened.{none_gone, good_cut}
 use Rattle.heap_model.proofs.Slots.{settled_same}
-use Rattle.kernel_heap.specs.System.{paged, pageless_frames}
+use Rattle.paged_systems.specs.System.{paged, pageless_frames}
 use Rattle.kernel_heap.specs.Moves.{marks_of, AreRegionsTold}
-use Rattle.kernel_heap.specs.Words.{heap_regions}
+use Rattle.paged_systems.specs.Words.{heap_regions}
 use Rattle.kernel_heap.specs.Heap.{regions, word, follows, heap_state}
 use Rattle.dlmalloc.specs.Blocks.{ArePlaced}
 use Rattle.kernel_heap.specs.Machine.{seen_of}
 use Rattle.kernel_heap.specs.Numbered.{live_at}
 use Rattle.kernel_heap.specs.LaidOut.{IsLaidOut}
-use Rattle.kernel_heap.specs.declared.paged_system.PagedSystem.{PagedSystem}
-use Rattle.kernel_heap.proofs.Numbers.{same_or_other}
+use Rattle.paged_systems.specs.declared.paged_system.PagedSystem.{PagedSystem}
+use Rattle.paged_systems.proofs.Numbers.{same_or_other}
 use Rattle.kernel_heap.proofs.BlockPlaces.{byte_kept}
 use Rattle.kernel_heap.proofs.Full.{behind}
-use Rattle.kernel_heap.proofs.HeapRegions.{all_more, granted_same}
+use Rattle.paged_systems.proofs.HeapRegions.{all_more, granted_same}
 use Rattle.kernel_heap.proofs.Laid.{block_place, block_there, live_left}
 use Rattle.kernel_heap.proofs.KeptEnd.{IsHeadAt, free_part, part_stays}
 use Rattle.kernel_heap.proofs.ShortenedRegions.{AreShortened}

@@ -40,19 +40,19 @@ use Rattle.heap_model.proofs.Shortened.{none_gone, good_cut, none_new_left, new_
 use Rattle.heap_model.proofs.Slots.{settled_same}
 use Rattle.mapped_regions.specs.Regions.{AreLaid}
 use Rattle.mapped_regions.specs.Mapped.{AreRunsUsed}
-use Rattle.kernel_heap.specs.Layout.{IsGrantedFor}
-use Rattle.kernel_heap.specs.Words.{heap_regions}
-use Rattle.kernel_heap.specs.System.{paged, pageless_frames}
+use Rattle.paged_systems.specs.Layout.{IsGrantedFor}
+use Rattle.paged_systems.specs.Words.{heap_regions}
+use Rattle.paged_systems.specs.System.{paged, pageless_frames}
 use Rattle.kernel_heap.specs.Moves.{marks_of, AreRegionsTold, AreSlotsTold}
 use Rattle.kernel_heap.specs.Heap.{regions, follows, heap_state}
 use Rattle.kernel_heap.specs.Machine.{seen_of}
 use Rattle.kernel_heap.specs.LaidOut.{IsLaidOut}
 use Rattle.kernel_heap.specs.Kept.{AreRunsUsedFor}
-use Rattle.kernel_heap.specs.declared.paged_system.PagedSystem.{PagedSystem}
+use Rattle.paged_systems.specs.declared.paged_system.PagedSystem.{PagedSystem}
 use Rattle.kernel_heap.proofs.Full.{no_room}
-use Rattle.kernel_heap.proofs.HeapRegions.{all_more, granted_same, heap_joined, joined_state}
-use Rattle.kernel_heap.proofs.Numbers.{same_or_other}
-use Rattle.kernel_heap.proofs.Places.{range_within}
+use Rattle.paged_systems.proofs.HeapRegions.{all_more, granted_same, heap_joined, joined_state}
+use Rattle.paged_systems.proofs.Numbers.{same_or_other}
+use Rattle.paged_systems.proofs.Places.{range_within}
 use Rattle.kernel_heap.proofs.Refused.{regions_are, place_same}
 use Rattle.kernel_heap.proofs.ShortenedRegions.{AreShortened, shortened_still, shortened_then}
 use Rattle.kernel_heap.proofs.ReleasedState.{left_state, regions_cut, frames_left, enough_left, stands_left}

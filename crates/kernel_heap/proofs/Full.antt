@@ -14,14 +14,14 @@ use Rattle.heap_model.specs.Run.{IsGood}
 use Rattle.heap_model.specs.Machine.{Stands, outline}
 use Rattle.heap_model.proofs.Booleans.{or_cases}
 use Rattle.heap_model.proofs.Placed.{behind_outline, outline_at}
-use Rattle.kernel_heap.specs.Words.{heap_regions, grant_of}
-use Rattle.kernel_heap.specs.System.{paged}
+use Rattle.paged_systems.specs.Words.{heap_regions, grant_of}
+use Rattle.paged_systems.specs.System.{paged}
 use Rattle.kernel_heap.specs.Heap.{heap_state}
 use Rattle.kernel_heap.specs.Machine.{seen_of}
 use Rattle.kernel_heap.specs.Numbered.{live_at}
 use Rattle.kernel_heap.specs.LaidOut.{has_region, IsLaidOut}
-use Rattle.kernel_heap.specs.declared.paged_system.PagedSystem.{PagedSystem}
-use Rattle.kernel_heap.proofs.HeapRegions.{heap_of_all}
+use Rattle.paged_systems.specs.declared.paged_system.PagedSystem.{PagedSystem}
+use Rattle.paged_systems.proofs.HeapRegions.{heap_of_all}
 use Rattle.kernel_heap.proofs.SegmentRegions.{has_bounds}
 use Rattle.kernel_heap.proofs.Laid.{block_is}
 

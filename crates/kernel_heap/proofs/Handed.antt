@@ -28,9 +28,9 @@ use Rattle.heap_model.specs.Room.{IsGrowth}
 use Rattle.heap_model.proofs.Known.{known_within}
 use Rattle.heap_model.proofs.Shortened.{good_there, good_over}
 use Rattle.heap_model.proofs.Placed.{outline_of, outline_push, length_outline, known_alike, holds_pushed, good_placed}
-use Rattle.kernel_heap.specs.System.{paged}
+use Rattle.paged_systems.specs.System.{paged}
 use Rattle.kernel_heap.specs.Moves.{marks_of, AreRegionsTold, AreSlotsTold}
-use Rattle.kernel_heap.specs.Words.{heap_regions}
+use Rattle.paged_systems.specs.Words.{heap_regions}
 use Rattle.kernel_heap.specs.Heap.{regions, word, follows, heap_state}
 use Rattle.kernel_heap.specs.Machine.{seen_of}
 use Rattle.kernel_heap.specs.Numbered.{live_at}
@@ -38,15 +38,15 @@ use Rattle.kernel_heap.specs.LaidOut.{IsLaidOut}
 use Rattle.sound_heap.specs.Heap.{AreZero}
 use Rattle.kernel_heap.specs.Blocks.{request}
 use Rattle.kernel_heap.specs.Kept.{lasting_pages, AreRunsUsedFor}
-use Rattle.kernel_heap.specs.declared.paged_system.PagedSystem.{PagedSystem}
+use Rattle.paged_systems.specs.declared.paged_system.PagedSystem.{PagedSystem}
 use Rattle.kernel_heap.proofs.BlockPlaces.{byte_kept, bytes_within}
-use Rattle.kernel_heap.proofs.Bytes.{zero_reached}
+use Rattle.paged_systems.proofs.Bytes.{zero_reached}
 use Rattle.kernel_heap.proofs.Found.{step_found}
 use Rattle.kernel_heap.proofs.Laid.{next_live, block_there, live_kept, live_apart}
 use Rattle.kernel_heap.proofs.Refused.{not_refused, wanted_asked}
-use Rattle.kernel_heap.specs.Follows.{still_none}
+use Rattle.paged_systems.specs.Follows.{still_none}
 use Rattle.kernel_heap.proofs.ShortenedRegions.{AreShortened, shortened_still}
-use Rattle.kernel_heap.proofs.Still.{granted_within}
+use Rattle.paged_systems.proofs.Still.{granted_within}
 
 -- the block that is handed out, as the state has it
 abbrev pub next_block : ℕ → ℕ → ℕ → Cell → Block

@@ -3,7 +3,7 @@ use Rattle.std.proofs.Common.{ℕ, ◌≤◌, true, arith}
 use Rattle.dlmalloc.specs.Moved.{IsGivenSize}
 use Rattle.dlmalloc.specs.declared.heap.Dlmalloc.{Dlmalloc}
 use Rattle.kernel_heap.specs.Heap.{regions, word, follows}
-use Rattle.kernel_heap.specs.declared.paged_system.PagedSystem.{PagedSystem}
+use Rattle.paged_systems.specs.declared.paged_system.PagedSystem.{PagedSystem}
 
 pub given_fewer : (heap new : Dlmalloc PagedSystem) (from held size align address fewer : ℕ) → fewer ≤ held →
     IsGivenSize regions word follows true true 4096 heap from held align size address new →

@@ -16,11 +16,11 @@ use Rattle.heap_model.specs.Place.{meets, meets_any}
 use Rattle.heap_model.specs.Machine.{Paged}
 use Rattle.heap_model.proofs.Booleans.{or_left, or_right, or_cases}
 use Rattle.heap_model.proofs.Regions.{within_bounds, meets_true}
-use Rattle.kernel_heap.specs.System.{paged}
-use Rattle.kernel_heap.specs.Words.{heap_regions}
+use Rattle.paged_systems.specs.System.{paged}
+use Rattle.paged_systems.specs.Words.{heap_regions}
 use Rattle.kernel_heap.specs.Heap.{regions, word, heap_state}
-use Rattle.kernel_heap.specs.declared.paged_system.PagedSystem.{PagedSystem}
-use Rattle.kernel_heap.proofs.HeapRegions.{granted_same, heap_any}
+use Rattle.paged_systems.specs.declared.paged_system.PagedSystem.{PagedSystem}
+use Rattle.paged_systems.proofs.HeapRegions.{granted_same, heap_any}
 use Rattle.kernel_heap.proofs.ReleasedRegions.{IsShortenedBy}
 
 -- the head segment of a heap has these bytes

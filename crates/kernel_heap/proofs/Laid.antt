@@ -17,9 +17,9 @@ use Rattle.heap_model.specs.declared.live.Live.{Live}
 use Rattle.heap_model.proofs.Placed.{appended, stays, last_at}
 use Rattle.heap_model.proofs.Ended.{left_at}
 use Rattle.heap_model.proofs.Resized.{replaced_at, replaced_stays, replaced_here}
-use Rattle.kernel_heap.specs.Beside.{KeepsHeapWords}
-use Rattle.kernel_heap.specs.Words.{heap_regions, grant_of, grants_of}
-use Rattle.kernel_heap.specs.System.{paged}
+use Rattle.paged_systems.specs.Beside.{KeepsHeapWords}
+use Rattle.paged_systems.specs.Words.{heap_regions, grant_of, grants_of}
+use Rattle.paged_systems.specs.System.{paged}
 use Rattle.kernel_heap.specs.Heap.{follows, refuses, denies, regions, word, heap_state}
 use Rattle.dlmalloc.specs.Requested.{asked, IsHandedOut}
 use Rattle.dlmalloc.specs.Moved.{IsGivenSize}
@@ -29,8 +29,8 @@ use Rattle.kernel_heap.specs.Machine.{seen_of}
 use Rattle.kernel_heap.specs.Numbered.{live_at}
 use Rattle.kernel_heap.specs.LaidOut.{HaveRegions, IsLive, IsLaidOut}
 use Rattle.kernel_heap.specs.Moves.{KeepsStateAndBins, IsKeptBeside}
-use Rattle.kernel_heap.specs.declared.paged_system.PagedSystem.{PagedSystem}
-use Rattle.kernel_heap.proofs.Numbers.{same_or_other}
+use Rattle.paged_systems.specs.declared.paged_system.PagedSystem.{PagedSystem}
+use Rattle.paged_systems.proofs.Numbers.{same_or_other}
 use Rattle.kernel_heap.proofs.SegmentRegions.{have_found}
 use Rattle.kernel_heap.proofs.SegmentsLeft.{have_all, have_freed}
 

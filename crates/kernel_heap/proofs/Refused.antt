@@ -29,19 +29,29 @@ use Rattle.heap_model.specs.Answer.{after}
 use Rattle.heap_model.specs.Run.{IsGood}
 use Rattle.heap_model.specs.Machine.{Seen, Stands, IsStep}
 use Rattle.heap_model.proofs.Added.{missing_same}
-use Rattle.kernel_heap.specs.Words.{heap_regions}
-use Rattle.kernel_heap.specs.System.{paged}
+use Rattle.paged_systems.specs.Words.{heap_regions}
+use Rattle.paged_systems.specs.System.{paged}
 use Rattle.kernel_heap.specs.Heap.{regions, word, follows, refuses, denies, heap_state}
 use Rattle.kernel_heap.specs.Machine.{seen_of}
 use Rattle.kernel_heap.specs.LaidOut.{IsLaidOut}
 use Rattle.kernel_heap.specs.Refusing.{refusal_of, IsRefusalOf}
 use Rattle.kernel_heap.specs.Blocks.{request}
-use Rattle.kernel_heap.specs.declared.paged_system.PagedSystem.{PagedSystem}
-use Rattle.kernel_heap.proofs.HeapRegions.{heap_of_all}
+use Rattle.paged_systems.specs.declared.paged_system.PagedSystem.{PagedSystem}
+use Rattle.paged_systems.proofs.HeapRegions.{heap_of_all}
 use Rattle.kernel_heap.proofs.Full.{no_room}
-use Rattle.kernel_heap.proofs.Pages.{pages_some, asked_some}
-use Rattle.kernel_heap.proofs.Places.{range_within}
+use Rattle.paged_systems.proofs.Pages.{pages_some}
+use Rattle.paged_systems.proofs.Places.{range_within}
 use Rattle.kernel_heap.proofs.Laid.{seen_denied}
+use Rattle.std.proofs.lemmas.Nat.{div-add-mod'}
+use Rattle.std.proofs.Math.Nat.{mod-lt}
+
+-- what is asked for with a chunk of n bytes
+asked_some : (n granularity : ℕ) → IsGranularity granularity → 0 < round_up (n + 96) granularity
+asked_some n granularity is =
+    let least : 16 ≤ granularity = is.1 in
+    let parts : (n + 96 + (granularity - 1)) / granularity * granularity + (n + 96 + (granularity - 1)) % granularity ≡ n + 96 + (granularity - 1) = div-add-mod' (n + 96 + (granularity - 1)) granularity in
+    let less : (n + 96 + (granularity - 1)) % granularity < granularity = mod-lt (n + 96 + (granularity - 1)) (omega arith) in
+    omega arith
 
 abbrev pub refused_with : Refusal → Answer
 refused_with refusal = record { reply = Refused refusal; regions = None; large = None }

@@ -26,15 +26,15 @@ use Rattle.mapped_regions.specs.Regions.{AreLaid}
 use Rattle.mapped_regions.proofs.Laying.{laid_cut}
 use Rattle.mapped_regions.specs.Mapped.{AreGone}
 use Rattle.mapped_regions.proofs.Looked.{first_canonical}
-use Rattle.kernel_heap.specs.Layout.{IsPagedKept}
-use Rattle.kernel_heap.specs.Released.{IsReleasedFor}
-use Rattle.kernel_heap.specs.Follows.{Follows, still_none}
-use Rattle.kernel_heap.specs.Words.{heap_regions, grant_of, grants_of}
-use Rattle.kernel_heap.proofs.HeapRegions.{granted_same, not_of_user}
-use Rattle.kernel_heap.proofs.Numbers.{is_less, not_less}
-use Rattle.kernel_heap.proofs.ReleasedWords.{cut_range, kept_cut}
-use Rattle.kernel_heap.proofs.RunPages.{AreBeside, is_own, own_granted, none_of_user, begins, count_is, run_own}
-use Rattle.kernel_heap.proofs.Still.{kept_still}
+use Rattle.paged_systems.specs.Layout.{IsPagedKept}
+use Rattle.paged_systems.specs.Released.{IsReleasedFor}
+use Rattle.paged_systems.specs.Follows.{Follows, still_none}
+use Rattle.paged_systems.specs.Words.{heap_regions, grant_of, grants_of}
+use Rattle.paged_systems.proofs.HeapRegions.{granted_same, not_of_user}
+use Rattle.paged_systems.proofs.Numbers.{is_less, not_less}
+use Rattle.paged_systems.proofs.ReleasedWords.{cut_range, kept_cut}
+use Rattle.paged_systems.proofs.RunPages.{AreBeside, is_own, own_granted, none_of_user, begins, count_is, run_own}
+use Rattle.paged_systems.proofs.Still.{kept_still}
 use Rattle.kernel_heap.proofs.ShortenedRegions.{user_regions, cut_are, users_apart, users_stay, AreShortened, some_not_none, shortened_still, shortened_then, shortened_on}
 
 -- the slot that a range cuts which leaves from a page on

@@ -21,7 +21,7 @@ use Rattle.heap_model.proofs.Slots.{same_slot, whole_bounds}
 use Rattle.mapped_regions.specs.Regions.{kind_at}
 use Rattle.mapped_regions.specs.Mapped.{IsRegion, IsMapped}
 use Rattle.mapped_regions.proofs.Mapped.{some_mapped}
-use Rattle.kernel_heap.proofs.HeapRegions.{kind_some}
+use Rattle.paged_systems.proofs.HeapRegions.{kind_some}
 use Rattle.kernel_heap.proofs.ShortenedRegions.{AreShortened, some_not_none}
 
 -- a region that has a slot whole has each of its addresses

@@ -27,8 +27,8 @@ use Rattle.heap_model.proofs.Moved.{user_of_machine}
 use Rattle.mapped_regions.specs.Regions.{AreLaid, kind_at}
 use Rattle.mapped_regions.proofs.AllRegions.{Sorted, sorted_with}
 use Rattle.mapped_regions.specs.Mapped.{IsMapped}
-use Rattle.kernel_heap.specs.Words.{heap_regions}
-use Rattle.kernel_heap.proofs.HeapRegions.{all_more, heap_first, user_first, heap_of_all, user_any, within_canonical}
+use Rattle.paged_systems.specs.Words.{heap_regions}
+use Rattle.paged_systems.proofs.HeapRegions.{all_more, heap_first, user_first, heap_of_all, user_any, within_canonical}
 use Rattle.kernel_heap.proofs.ShortenedRegions.{user_regions, AreShortened}
 use Rattle.kernel_heap.proofs.ReleasedSlots.{are_settled}
 use Rattle.kernel_heap.proofs.UserRegions.{all_of_heap, all_of_users, sorted}

@@ -32,16 +32,16 @@ use Rattle.heap_model.proofs.Placed.{length_outline}
 use Rattle.heap_model.proofs.Ended.{none_live, good_none, holds_ended_all}
 use Rattle.heap_model.proofs.Shortened.{pages_cut, none_gone, good_cut}
 use Rattle.heap_model.proofs.Slots.{settled_same}
-use Rattle.kernel_heap.specs.Config.{IsHeapWindow}
-use Rattle.kernel_heap.specs.System.{paged}
-use Rattle.kernel_heap.specs.Words.{heap_regions, grant_of}
+use Rattle.paged_systems.specs.Window.{IsHeapWindow}
+use Rattle.paged_systems.specs.System.{paged}
+use Rattle.paged_systems.specs.Words.{heap_regions, grant_of}
 use Rattle.kernel_heap.specs.Heap.{regions, word, follows, heap_state}
 use Rattle.kernel_heap.specs.Machine.{seen_of}
 use Rattle.kernel_heap.specs.Numbered.{live_at}
 use Rattle.kernel_heap.specs.LaidOut.{HaveRegions, IsLaidOut}
-use Rattle.kernel_heap.specs.declared.paged_system.PagedSystem.{PagedSystem}
-use Rattle.kernel_heap.proofs.HeapRegions.{all_more}
-use Rattle.kernel_heap.proofs.Numbers.{same_or_other}
+use Rattle.paged_systems.specs.declared.paged_system.PagedSystem.{PagedSystem}
+use Rattle.paged_systems.proofs.HeapRegions.{all_more}
+use Rattle.paged_systems.proofs.Numbers.{same_or_other}
 use Rattle.kernel_heap.proofs.ShortenedRegions.{AreShortened}
 use Rattle.kernel_heap.proofs.ReleasedRegions.{follows_whole}
 use Rattle.kernel_heap.proofs.ReleasedState.{left_state, regions_cut, frames_left, enough_left, stands_left}

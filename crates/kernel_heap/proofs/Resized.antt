@@ -39,9 +39,9 @@ use Rattle.heap_model.proofs.Known.{known_within}
 use Rattle.heap_model.proofs.Placed.{outline_of, outline_at}
 use Rattle.heap_model.proofs.Resized.{length-resized, outline_changed, good_resized, holds_resized}
 use Rattle.heap_model.proofs.Shortened.{good_there, good_over}
-use Rattle.kernel_heap.specs.Follows.{still_none}
-use Rattle.kernel_heap.specs.System.{paged}
-use Rattle.kernel_heap.specs.Words.{heap_regions}
+use Rattle.paged_systems.specs.Follows.{still_none}
+use Rattle.paged_systems.specs.System.{paged}
+use Rattle.paged_systems.specs.Words.{heap_regions}
 use Rattle.mapped_regions.specs.Mapped.{word_reached}
 use Rattle.kernel_heap.specs.Heap.{regions, word, follows, refuses, denies, heap_state}
 use Rattle.kernel_heap.specs.Machine.{seen_of}
@@ -51,17 +51,17 @@ use Rattle.kernel_heap.specs.Refusing.{IsRefusalOf}
 use Rattle.kernel_heap.specs.Blocks.{resizing, align_kept, IsResizedTo}
 use Rattle.kernel_heap.specs.Moves.{marks_of, AreRegionsTold, IsToldFrom, AreSlotsTold, HeapMoves}
 use Rattle.kernel_heap.specs.declared.numbered_heap.NumberedHeap.{NumberedHeap}
-use Rattle.kernel_heap.specs.declared.paged_system.PagedSystem.{PagedSystem}
+use Rattle.paged_systems.specs.declared.paged_system.PagedSystem.{PagedSystem}
 use Rattle.kernel_heap.proofs.BlockPlaces.{byte_kept, bytes_within}
-use Rattle.kernel_heap.proofs.Bytes.{reached_byte}
+use Rattle.paged_systems.proofs.Bytes.{reached_byte}
 use Rattle.kernel_heap.proofs.Ended.{free_shortened, free_leaves_part}
 use Rattle.kernel_heap.proofs.Found.{step_found}
 use Rattle.kernel_heap.proofs.Full.{behind}
 use Rattle.kernel_heap.proofs.Laid.{next_live, block_place, block_there, live_stays, live_beside}
 use Rattle.kernel_heap.proofs.Refused.{refused_with, step_refused, step_denied, wanted_asked, large_resizing, not_refused_resizing}
-use Rattle.kernel_heap.proofs.Numbers.{same_or_other}
+use Rattle.paged_systems.proofs.Numbers.{same_or_other}
 use Rattle.kernel_heap.proofs.ShortenedRegions.{AreShortened, shortened_still}
-use Rattle.kernel_heap.proofs.Still.{granted_within}
+use Rattle.paged_systems.proofs.Still.{granted_within}
 
 -- an extent that is found elsewhere is found among the others
 other_there : (at : ℕ) (extent : Extent) (extents : List Extent) → extent.at ≢ at →

@@ -14,8 +14,8 @@ use Rattle.dlmalloc.specs.declared.heap.Dlmalloc.{Dlmalloc}
 use Rattle.heap_model.proofs.Booleans.{or_left, or_right, or_cases}
 use Rattle.kernel_heap.specs.Heap.{follows, regions, heap_state}
 use Rattle.kernel_heap.specs.LaidOut.{has_region, HaveRegions}
-use Rattle.kernel_heap.specs.declared.paged_system.PagedSystem.{PagedSystem}
-use Rattle.kernel_heap.proofs.HeapRegions.{all_more}
+use Rattle.paged_systems.specs.declared.paged_system.PagedSystem.{PagedSystem}
+use Rattle.paged_systems.proofs.HeapRegions.{all_more}
 
 -- ---- single segments
 

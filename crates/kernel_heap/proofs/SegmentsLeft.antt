@@ -15,11 +15,11 @@ use Rattle.heap_model.specs.declared.region.Region.{Region}
 use Rattle.heap_model.specs.State.{end_of_region}
 use Rattle.heap_model.proofs.Booleans.{or_left, or_right, or_cases}
 use Rattle.mapped_regions.specs.Regions.{AreLaid}
-use Rattle.kernel_heap.specs.Words.{heap_regions, grant_of}
+use Rattle.paged_systems.specs.Words.{heap_regions, grant_of}
 use Rattle.kernel_heap.specs.LaidOut.{has_region, HaveRegions}
-use Rattle.kernel_heap.proofs.HeapRegions.{all_more}
+use Rattle.paged_systems.proofs.HeapRegions.{all_more}
 use Rattle.kernel_heap.proofs.SegmentRegions.{has_bounds, have_changed}
-use Rattle.kernel_heap.proofs.Releasing.{heap_grants}
+use Rattle.paged_systems.proofs.Releasing.{heap_grants}
 
 -- the segments have a region that has bytes
 abbrev pub Has : List Segment → Grant → Type 0

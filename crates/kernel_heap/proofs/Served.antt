@@ -15,7 +15,7 @@ use Rattle.kernel_heap.specs.Kept.{IsSeenAsBefore, IsReachedByte}
 use Rattle.kernel_heap.specs.Machine.{seen_of, seen_with, system_of}
 use Rattle.kernel_heap.specs.Moves.{HeapMoves, KeepsStateAndBins}
 use Rattle.kernel_heap.specs.Served.{HasServedCall, HasNotServed, IsCallServed}
-use Rattle.kernel_heap.specs.System.{paged}
+use Rattle.paged_systems.specs.System.{paged}
 use Rattle.kernel_heap.proofs.Laid.{still_none}
 use Rattle.kernel_heap.proofs.LastingPages.{AsksForNone, runs_none, runs_refused}
 use Rattle.kernel_heap.proofs.Refused.{refused_with}

@@ -4,11 +4,11 @@ use Rattle.dlmalloc.specs.Extents.{extent_at}
 use Rattle.dlmalloc.specs.State.{Segment, extents_in}
 use Rattle.dlmalloc.specs.declared.heap.Dlmalloc.{Dlmalloc}
 use Rattle.heap_model.specs.declared.live.Live.{Live}
-use Rattle.kernel_heap.specs.System.{paged}
+use Rattle.paged_systems.specs.System.{paged}
 use Rattle.kernel_heap.specs.Heap.{regions, heap_state}
 use Rattle.kernel_heap.specs.Machine.{seen_of}
 use Rattle.kernel_heap.specs.LaidOut.{HaveRegions, IsLaidOut}
-use Rattle.kernel_heap.specs.declared.paged_system.PagedSystem.{PagedSystem}
+use Rattle.paged_systems.specs.declared.paged_system.PagedSystem.{PagedSystem}
 use Rattle.kernel_heap.proofs.Laid.{block_there, block_moved}
 
 module _ (heap new : Dlmalloc PagedSystem) (blocks : List (Option Live)) (system : new.system ≡ heap.system) where

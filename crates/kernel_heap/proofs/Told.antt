@@ -6,15 +6,15 @@ use Rattle.heap_model.specs.State.{State}
 use Rattle.heap_model.specs.Answer.{NewPages}
 use Rattle.heap_model.specs.Machine.{Paged, IsStep}
 use Rattle.heap_model.proofs.Moved.{stands_taken}
-use Rattle.kernel_heap.specs.System.{paged}
+use Rattle.paged_systems.specs.System.{paged}
 use Rattle.kernel_heap.specs.Machine.{system_of, seen_with}
 use Rattle.kernel_heap.specs.Kept.{AreRunsUsedFor}
 use Rattle.kernel_heap.specs.Moves.{marks_of, AreSlotsTold, HasToldSlots, IsToldFrom}
 use Rattle.dlmalloc.specs.declared.heap.Dlmalloc.{Dlmalloc}
-use Rattle.kernel_heap.specs.declared.paged_system.PagedSystem.{PagedSystem}
+use Rattle.paged_systems.specs.declared.paged_system.PagedSystem.{PagedSystem}
 use Rattle.kernel_heap.specs.declared.numbered_heap.Marks.{Marks}
 use Rattle.kernel_heap.specs.declared.numbered_heap.NumberedHeap.{NumberedHeap}
-use Rattle.kernel_heap.proofs.Numbers.{same_or_other}
+use Rattle.paged_systems.proofs.Numbers.{same_or_other}
 
 module _ {before : Marks} {large : Option (List ℕ)} (old new : NumberedHeap) (told : HasToldSlots old before large new) where
   pub step_told : (top : ℕ) (s : State) (call : Call) (answer : Answer) → IsStep s call answer (seen_with top old) → IsStep s call answer (seen_with top new)

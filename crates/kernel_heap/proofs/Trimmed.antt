@@ -25,24 +25,24 @@ use Rattle.heap_model.proofs.Known.{known_within}
 use Rattle.heap_model.proofs.Placed.{outline_of}
 use Rattle.heap_model.proofs.Shortened.{length_cut, none_gone, good_cut}
 use Rattle.heap_model.proofs.Slots.{settled_same}
-use Rattle.kernel_heap.specs.System.{paged, pageless_frames}
+use Rattle.paged_systems.specs.System.{paged, pageless_frames}
 use Rattle.kernel_heap.specs.Moves.{marks_of, AreRegionsTold}
-use Rattle.kernel_heap.specs.Words.{heap_regions}
+use Rattle.paged_systems.specs.Words.{heap_regions}
 use Rattle.kernel_heap.specs.Heap.{regions, word, follows, heap_state}
 use Rattle.kernel_heap.specs.Machine.{seen_of}
 use Rattle.kernel_heap.specs.Numbered.{live_at}
 use Rattle.kernel_heap.specs.LaidOut.{has_region, HaveRegions, IsLive, IsLaidOut}
-use Rattle.kernel_heap.specs.declared.paged_system.PagedSystem.{PagedSystem}
+use Rattle.paged_systems.specs.declared.paged_system.PagedSystem.{PagedSystem}
 use Rattle.kernel_heap.proofs.BlockPlaces.{byte_kept}
 use Rattle.kernel_heap.proofs.Ended.{trim_gives_back}
-use Rattle.kernel_heap.proofs.HeapRegions.{all_more}
+use Rattle.paged_systems.proofs.HeapRegions.{all_more}
 use Rattle.kernel_heap.proofs.Laid.{block_there, block_moved}
-use Rattle.kernel_heap.proofs.Numbers.{same_or_other}
+use Rattle.paged_systems.proofs.Numbers.{same_or_other}
 use Rattle.kernel_heap.proofs.KeptEnd.{IsHeadAt, trim_part, part_stays}
 use Rattle.kernel_heap.proofs.ShortenedRegions.{AreShortened}
 use Rattle.kernel_heap.proofs.ReleasedRegions.{IsShortenedBy, follows_shortened}
 use Rattle.kernel_heap.proofs.ReleasedState.{left_state, regions_cut, frames_left, enough_left, stands_left}
-use Rattle.kernel_heap.proofs.Still.{granted_within}
+use Rattle.paged_systems.proofs.Still.{granted_within}
 use Rattle.kernel_heap.proofs.SegmentsLeft.{Has, have_all, have_trimmed}
 
 -- ---- the granularity stays

@@ -29,7 +29,7 @@ use Rattle.mapped_regions.specs.declared.map_fault.UnmapFault.{UnmapFault}
 use Rattle.mapped_regions.specs.declared.map_fault.UnmapFault.TheVariants as Unmapping
 use Rattle.mapped_regions.specs.Mapped.{IsPageRange, HasFrames, CanMap, IsRegionJoined, IsLeft}
 use Rattle.mapped_regions.specs.UserRegions.{meets_any_heap, has_user_region, IsMapRefused, IsUnmapRefused, CanUnmap}
-use Rattle.kernel_heap.specs.System.{paged}
+use Rattle.paged_systems.specs.System.{paged}
 use Rattle.kernel_heap.specs.Refusing.{map_refusal, unmap_refusal, IsRefusal}
 use Rattle.kernel_heap.proofs.Refused.{refused_with, step_refused}
 

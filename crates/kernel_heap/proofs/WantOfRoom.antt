@@ -21,7 +21,7 @@ use Rattle.kernel_heap.specs.Refusing.{refusal_of, error_of, is_for_room, HasNon
 use Rattle.kernel_heap.specs.Blocks.{request, resizing, align_kept}
 use Rattle.kernel_heap.specs.Kept.{leaves_all, IsSeenAsBefore}
 use Rattle.kernel_heap.specs.Moves.{IsLeftByRefusal, HeapMoves}
-use Rattle.kernel_heap.specs.declared.paged_system.PagedSystem.{PagedSystem}
+use Rattle.paged_systems.specs.declared.paged_system.PagedSystem.{PagedSystem}
 use Rattle.kernel_heap.specs.declared.numbered_heap.NumberedHeap.{NumberedHeap}
 
 -- a size that is too large wants no room

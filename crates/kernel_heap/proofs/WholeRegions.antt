@@ -15,12 +15,12 @@ use Rattle.heap_model.specs.State.{end_of_region, is_within}
 use Rattle.heap_model.specs.Extents.{begins_at, ends_at, AreRuns}
 use Rattle.heap_model.proofs.Booleans.{or_left, or_right, or_cases}
 use Rattle.heap_model.proofs.Regions.{within_bounds}
-use Rattle.kernel_heap.specs.Words.{heap_regions, grant_of}
-use Rattle.kernel_heap.specs.System.{paged}
+use Rattle.paged_systems.specs.Words.{heap_regions, grant_of}
+use Rattle.paged_systems.specs.System.{paged}
 use Rattle.kernel_heap.specs.Heap.{regions, word, heap_state}
 use Rattle.kernel_heap.specs.LaidOut.{has_region, HaveRegions}
-use Rattle.kernel_heap.specs.declared.paged_system.PagedSystem.{PagedSystem}
-use Rattle.kernel_heap.proofs.HeapRegions.{granted_same}
+use Rattle.paged_systems.specs.declared.paged_system.PagedSystem.{PagedSystem}
+use Rattle.paged_systems.proofs.HeapRegions.{granted_same}
 use Rattle.kernel_heap.proofs.SegmentRegions.{has_bounds}
 
 -- ---- whole regions in a range

@@ -15,7 +15,7 @@ use Rattle.heap_model.specs.declared.live.Live.{Live}
 use Rattle.heap_model.specs.declared.call.Call.{Call}
 use Rattle.heap_model.specs.declared.call.Call.TheVariants.{Malloc, Calloc, Realloc, CRealloc}
 use Rattle.kernel_heap.specs.Heap.{regions, word, follows, zeros, refuses, denies, heap_state}
-use Rattle.kernel_heap.specs.declared.paged_system.PagedSystem.{PagedSystem}
+use Rattle.paged_systems.specs.declared.paged_system.PagedSystem.{PagedSystem}
 
 -- a block is handed out, and is cleared then where that is asked for
 abbrev pub IsServedFor : Bool → Dlmalloc PagedSystem → ℕ → ℕ → ℕ → Dlmalloc PagedSystem → Type 0

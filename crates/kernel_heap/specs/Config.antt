@@ -1,17 +1,10 @@
 -- Configurations from which a machine can be made.
 use Rattle.std.specs.Prelude.{◌≡◌, ℕ, ◌+◌, ◌-◌, ◌*◌, ◌/◌, ◌%◌, ◌^◌, ◌<◌, ◌≤◌}
-use Rattle.paging_core.specs.Address.{IsCanonicalRange}
+use Rattle.paged_systems.specs.Window.{IsHeapWindow}
 use Rattle.dlmalloc.specs.Heap.{IsGranularity}
 use Rattle.heap_model.specs.declared.config.Config.{Config}
 use Rattle.kernel_heap.specs.declared.run_error.RunError.{RunError}
 use Rattle.kernel_heap.specs.declared.run_error.RunError.TheVariants.{BadWindow, BadGranularity, TooFewFrames, OutOfMemory}
-
--- a window of whole pages in one canonical half, without the first and the last page of the address space
-pub record IsHeapWindow (base pages : ℕ) : Type 0 where
-  pub whole : base % 4096 ≡ 0
-  pub canonical : IsCanonicalRange (base / 4096) pages
-  pub after_first : 4096 ≤ base
-  pub before_last : base + 4096 * pages ≤ 2 ^ 64 - 4096
 
 -- a good window, an accepted granularity, and a frame for the root table
 pub record IsGoodConfig (config : Config) : Type 0 where

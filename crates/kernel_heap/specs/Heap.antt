@@ -6,12 +6,12 @@ use Rattle.heap_memory.specs.Events.{Event}
 use Rattle.dlmalloc.specs.State.{HeapState}
 use Rattle.dlmalloc.specs.Heap.{state_of}
 use Rattle.dlmalloc.specs.declared.heap.Dlmalloc.{Dlmalloc}
-use Rattle.kernel_heap.specs.Layout.{MayDeny}
-use Rattle.kernel_heap.specs.Words.{grants_of}
+use Rattle.paged_systems.specs.Layout.{MayDeny}
+use Rattle.paged_systems.specs.Words.{grants_of}
 use Rattle.mapped_regions.specs.Mapped.{word_reached}
-use Rattle.kernel_heap.specs.Follows.{Follows}
-use Rattle.kernel_heap.specs.System.{paged}
-use Rattle.kernel_heap.specs.declared.paged_system.PagedSystem.{PagedSystem}
+use Rattle.paged_systems.specs.Follows.{Follows}
+use Rattle.paged_systems.specs.System.{paged}
+use Rattle.paged_systems.specs.declared.paged_system.PagedSystem.{PagedSystem}
 
 -- a paged system, as a heap over it sees it
 abbrev pub regions : PagedSystem → List Grant

@@ -1,12 +1,4 @@
 pub mod Config
-pub mod Layout
-pub mod System
-pub mod Words
-pub mod Beside
-pub mod Released
-pub mod Follows
-pub mod Ordered
-pub mod Grants
 pub mod Heap
 pub mod Parts
 pub mod Registers
@@ -20,8 +12,4 @@ pub mod Kept
 pub mod Moves
 pub mod Served
 pub mod Steps
-pub mod Written
 pub mod Runs
-pub mod FlatWindow
-pub mod Twin
-pub mod TwinSystem

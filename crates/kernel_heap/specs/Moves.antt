@@ -16,10 +16,10 @@ use Rattle.heap_model.specs.declared.answer.Reply.{Reply}
 use Rattle.heap_model.specs.declared.answer.Reply.TheVariants.{Block as Placed, Done, Trimmed, Accepted, Released, Extents as Listed, Refused}
 use Rattle.heap_model.specs.declared.answer.Refusal.{Refusal}
 use Rattle.heap_model.specs.declared.region.Region.{Region}
-use Rattle.kernel_heap.specs.System.{paged, pageless_frames}
-use Rattle.kernel_heap.specs.Words.{heap_regions}
+use Rattle.paged_systems.specs.System.{paged, pageless_frames}
+use Rattle.paged_systems.specs.Words.{heap_regions}
 use Rattle.kernel_heap.specs.Heap.{regions, word, follows, denies, refuses, heap_state}
-use Rattle.kernel_heap.specs.declared.paged_system.PagedSystem.{PagedSystem}
+use Rattle.paged_systems.specs.declared.paged_system.PagedSystem.{PagedSystem}
 use Rattle.kernel_heap.specs.declared.numbered_heap.Marks.{Marks}
 use Rattle.kernel_heap.specs.declared.numbered_heap.NumberedHeap.{NumberedHeap}
 use Rattle.kernel_heap.specs.Machine.{heap_of, system_of}

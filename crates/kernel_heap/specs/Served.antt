@@ -10,7 +10,7 @@ use Rattle.kernel_heap.specs.declared.numbered_heap.NumberedHeap.{NumberedHeap}
 use Rattle.kernel_heap.specs.Kept.{lasting_pages, AreRunsUsedFor, IsSeenAsBefore, IsReachedByte}
 use Rattle.kernel_heap.specs.Machine.{seen_with, system_of}
 use Rattle.kernel_heap.specs.Moves.{HeapMoves, KeepsStateAndBins}
-use Rattle.kernel_heap.specs.System.{paged}
+use Rattle.paged_systems.specs.System.{paged}
 
 -- A numbered heap answered a call, whatever frame is in CR3.
 pub record HasServedCall (old : NumberedHeap) (call : Call) (answer : Answer) (new : NumberedHeap) : Type 0 where

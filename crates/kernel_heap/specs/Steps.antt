@@ -13,7 +13,7 @@ use Rattle.kernel_heap.specs.Machine.{seen, system_of, heap_of}
 use Rattle.kernel_heap.specs.Moves.{HeapMoves, KeepsStateAndBins}
 use Rattle.kernel_heap.specs.Parts.{Parts}
 use Rattle.kernel_heap.specs.Registers.{machine_cpu, cpu_after}
-use Rattle.kernel_heap.specs.System.{paged}
+use Rattle.paged_systems.specs.System.{paged}
 
 -- A machine to which no call came yet: it stands for the first state, which is good, its heap has nothing, and its CR3 names its root
 -- table.

@@ -2,13 +2,13 @@
 ghost use Rattle.std.specs.Prelude.{◌≡◌, [], IfErr, OnOk, length};
 ghost use Rattle.heap_model.specs.Slots.{listed_slots};
 ghost use Rattle.sound_heap.specs.Heap.{AreInBlock};
-ghost use Rattle.kernel_heap.specs.Beside.{IsUserMapped, IsMapDenied, IsUserUnmapped, IsUnmapDenied};
+ghost use Rattle.paged_systems.specs.Beside.{IsUserMapped, IsMapDenied, IsUserUnmapped, IsUnmapDenied};
 ghost use Rattle.kernel_heap.specs.Heap.{heap_state};
 ghost use Rattle.kernel_heap.specs.Moves.{IsKeptBeside};
-ghost use Rattle.kernel_heap.specs.System.{paged};
-ghost use Rattle.kernel_heap.specs.Written.{AreBytesWritten};
+ghost use Rattle.paged_systems.specs.System.{paged};
+ghost use Rattle.paged_systems.specs.Written.{AreBytesWritten};
 
-use crate::paged_system::PagedSystem;
+use paged_systems::PagedSystem;
 use heap_model::{Rights, SlotList};
 use mapped_regions::{MapFault, UnmapFault};
 use sound_heap::Heap;

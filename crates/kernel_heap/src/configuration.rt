@@ -1,6 +1,7 @@
 // Whether a machine can be made from a configuration.
 ghost use Rattle.std.specs.Prelude.{◌≡◌, ◌↔◌, IsTrue, IfErr, OnOk};
-ghost use Rattle.kernel_heap.specs.Config.{IsHeapWindow, IsGoodConfig, IsConfigRefused};
+ghost use Rattle.kernel_heap.specs.Config.{IsGoodConfig, IsConfigRefused};
+ghost use Rattle.paged_systems.specs.Window.{IsHeapWindow};
 
 use crate::run_error::RunError;
 use dlmalloc::is_granularity;

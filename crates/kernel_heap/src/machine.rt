@@ -7,7 +7,7 @@ ghost use Rattle.kernel_heap.specs.Registers.{machine_cpu, cpu_after};
 use crate::configuration::check;
 use crate::numbered_blocks::NumberedBlocks;
 use crate::numbered_heap::NumberedHeap;
-use crate::paged_system::PagedSystem;
+use paged_systems::PagedSystem;
 use crate::run_error::RunError;
 use heap_model::{Answer, Call, Config, Reply};
 use paging_core::PhysFrame;

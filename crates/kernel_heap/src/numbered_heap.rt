@@ -8,7 +8,7 @@ ghost use Rattle.kernel_heap.specs.Blocks.{align_kept, IsLiveResized, IsLiveRefu
 
 use crate::beside;
 use crate::numbered_blocks::NumberedBlocks;
-use crate::paged_system::PagedSystem;
+use paged_systems::PagedSystem;
 use dlmalloc::MallocError;
 use heap_memory::GrantFault;
 use heap_model::{Answer, Call, Live, Refusal, Region, RegionList, Reply, SlotList};
@@ -88,8 +88,8 @@ pub(crate) struct NumberedHeap {
 }
 
 impl NumberedHeap {
-    ghost use Rattle.kernel_heap.specs.Words.{heap_regions};
-    ghost use Rattle.kernel_heap.specs.System.{paged};
+    ghost use Rattle.paged_systems.specs.Words.{heap_regions};
+    ghost use Rattle.paged_systems.specs.System.{paged};
     ghost use Rattle.kernel_heap.specs.Machine.{system_of};
     ghost use Rattle.kernel_heap.specs.Numbered.{live_at};
     ghost use Rattle.kernel_heap.specs.LaidOut.{IsNumberedSound};

@@ -4,7 +4,7 @@ ghost use Rattle.heap_model.specs.State.{State};
 ghost use Rattle.heap_model.specs.Probe.{rights_grant, is_access_granted, probe_fault_code, access_bit};
 ghost use Rattle.heap_model.specs.Run.{IsGood};
 ghost use Rattle.heap_model.specs.Machine.{Stands, IsStep};
-ghost use Rattle.kernel_heap.specs.System.{paged};
+ghost use Rattle.paged_systems.specs.System.{paged};
 ghost use Rattle.kernel_heap.specs.Machine.{seen_with, system_of};
 ghost use Rattle.kernel_heap.specs.Kept.{IsReachedByte};
 ghost use Rattle.x86_flags.specs.PageFaultErrorCode.{page_fault_bits};

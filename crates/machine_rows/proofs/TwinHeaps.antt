@@ -9,9 +9,9 @@ use Rattle.dlmalloc.specs.Extents.{extent_at}
 use Rattle.dlmalloc.specs.State.{HeapState, extents_in, is_victim, shown}
 use Rattle.dlmalloc.specs.Blocks.{IsBlock, HasBlock}
 use Rattle.dlmalloc.proofs.Extents.Lookup.{extent, found}
-use Rattle.kernel_heap.specs.TwinSystem.{paged_of}
-use Rattle.kernel_heap.specs.Words.{grants_of}
-use Rattle.kernel_heap.specs.declared.twin_system.TwinSystem.{TwinSystem}
+use Rattle.paged_systems.specs.TwinSystem.{paged_of}
+use Rattle.paged_systems.specs.Words.{grants_of}
+use Rattle.paged_systems.specs.declared.twin_system.TwinSystem.{TwinSystem}
 use Rattle.mapped_regions.specs.Mapped.{word_reached}
 
 -- a twin system, as a heap over it sees it

@@ -1,7 +1,7 @@
 //! Ends of runs that a paged system takes back: rows whose answers are known.
 ghost use Rattle.std.specs.Prelude.{◌≡◌, IfOk, []};
-ghost use Rattle.kernel_heap.specs.System.{paged};
-ghost use Rattle.kernel_heap.specs.Words.{grants_of};
+ghost use Rattle.paged_systems.specs.System.{paged};
+ghost use Rattle.paged_systems.specs.Words.{grants_of};
 
 use heap_memory::Allocator;
 use kernel_heap::{PagedSystem, Rights};

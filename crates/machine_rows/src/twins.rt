@@ -1,7 +1,7 @@
 //! Pages with flat words beside them, alone and under a heap.
 ghost use Rattle.std.specs.Prelude.{◌≡◌, ◌%◌, ◌<◌, IfOk};
-ghost use Rattle.kernel_heap.specs.Layout.{IsNew};
-ghost use Rattle.kernel_heap.specs.TwinSystem.{paged_of};
+ghost use Rattle.paged_systems.specs.Layout.{IsNew};
+ghost use Rattle.paged_systems.specs.TwinSystem.{paged_of};
 
 use crate::checks::same;
 use crate::twin_rows::word_of_both;

@@ -5,8 +5,8 @@ use Rattle.heap_model.specs.declared.region.Region.{Region}
 use Rattle.heap_program.specs.Text.{region_line}
 use Rattle.kernel_heap.specs.Machine.{system_of}
 use Rattle.kernel_heap.specs.Parts.{Parts}
-use Rattle.kernel_heap.specs.System.{paged}
-use Rattle.kernel_heap.specs.declared.paged_system.PagedSystem.{PagedSystem}
+use Rattle.paged_systems.specs.System.{paged}
+use Rattle.paged_systems.specs.declared.paged_system.PagedSystem.{PagedSystem}
 use Rattle.x86_registers.specs.declared.cpu.Cpu.{Cpu}
 use Rattle.memory_image.specs.Image.{registers_line, memory_text, image_text}
 

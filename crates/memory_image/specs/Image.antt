@@ -5,7 +5,7 @@ use Rattle.paging_core.specs.Memory.{frame_count}
 use Rattle.heap_program.specs.Text.{hexadecimal, region_line}
 use Rattle.kernel_heap.specs.Machine.{system_of}
 use Rattle.kernel_heap.specs.Parts.{Parts}
-use Rattle.kernel_heap.specs.System.{paged}
+use Rattle.paged_systems.specs.System.{paged}
 use Rattle.x86_registers.specs.declared.cpu.Cpu.{Cpu}
 
 -- a number after a space

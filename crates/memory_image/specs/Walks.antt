@@ -6,7 +6,7 @@ use Rattle.paging_core.specs.Walk.{walk_of}
 use Rattle.heap_model.specs.Machine.{Paged}
 use Rattle.heap_program.specs.Text.{hexadecimal}
 use Rattle.kernel_heap.specs.Machine.{system_of}
-use Rattle.kernel_heap.specs.System.{paged}
+use Rattle.paged_systems.specs.System.{paged}
 use Rattle.kernel_heap.specs.Parts.{Parts}
 
 -- the physical address at which the walk over the raw words arrives, from a canonical address whose page is mapped

@@ -1,6 +1,6 @@
 // A machine that says of each probe where its walk arrives.
 ghost use Rattle.std.specs.Prelude.{◌≡◌, ◌++◌, OnOk, string_bytes};
-ghost use Rattle.kernel_heap.specs.System.{paged};
+ghost use Rattle.paged_systems.specs.System.{paged};
 ghost use Rattle.memory_image.specs.Traced.{probed_address, IsTracing};
 ghost use Rattle.memory_image.specs.TracedLaws.{tracing_none, tracing_on};
 ghost use Rattle.memory_image.specs.Walks.{place_from, place_walked, cr2_line};

@@ -2,7 +2,7 @@
 use Rattle.std.specs.Prelude.{◌≡◌, ℕ, List}
 use Rattle.paging_core.specs.declared.page_table.Rights.{Rights}
 use Rattle.x86_instructions.specs.declared.tlb.FlushCommand.{FlushCommand}
-use Rattle.kernel_heap.specs.System.{paged}
+use Rattle.paged_systems.specs.System.{paged}
 use Rattle.mapped_regions.specs.Mapped.{CanMap, IsRegionJoined, IsLeft}
 use Rattle.mapped_regions.specs.UserRegions.{user_region, CanUnmap}
 use Rattle.tlb_cache.specs.Cache.{AgreesWithTables, left_by_all}

@@ -3,10 +3,10 @@ ghost use Rattle.paging_core.specs.Address.{is_canonical};
 ghost use Rattle.mapped_regions.specs.Mapped.{IsPageRange};
 ghost use Rattle.mapped_regions.specs.UserRegions.{IsMapRefused, CanUnmap};
 ghost use Rattle.paging_core.specs.Memory.{frame_count};
-ghost use Rattle.kernel_heap.specs.Config.{IsHeapWindow};
-ghost use Rattle.kernel_heap.specs.Layout.{IsNew};
-ghost use Rattle.kernel_heap.specs.System.{paged};
-ghost use Rattle.kernel_heap.specs.Beside.{KeepsHeapWords};
+ghost use Rattle.paged_systems.specs.Window.{IsHeapWindow};
+ghost use Rattle.paged_systems.specs.Layout.{IsNew};
+ghost use Rattle.paged_systems.specs.System.{paged};
+ghost use Rattle.paged_systems.specs.Beside.{KeepsHeapWords};
 ghost use Rattle.tlb_cache.specs.Cache.{AgreesWithTables, AgreesWithTables-prop, IsLookedUp, left_by_all};
 ghost use Rattle.tlb_cache.specs.Cached.{IsProbed, IsCachedRefused, Flushes, flush_of};
 

@@ -1,5 +1,5 @@
 use Rattle.std.proofs.Common.{ℕ, ◌^◌, List, sym, ◌∙◌, ap, subst}
-use Rattle.kernel_heap.specs.System.{paged}
+use Rattle.paged_systems.specs.System.{paged}
 use Rattle.heap_tables.specs.declared.owners.Owned.{Owned}
 use Rattle.heap_tables.specs.Joining.{joined_table_lines}
 use Rattle.heap_tables.specs.Owners.{AreOwnedAscending}

@@ -1,6 +1,6 @@
 use Rattle.std.proofs.Common.{◌≡◌, ◌++◌, List, ◌∙◌, ap, codes, length, string_bytes}
 use Rattle.std.proofs.lemmas.Result.{on_ok_weaker}
-use Rattle.kernel_heap.specs.System.{paged}
+use Rattle.paged_systems.specs.System.{paged}
 use Rattle.heap_tables.specs.Tables.{tables_text, tables_height}
 use Rattle.heap_tables.specs.declared.lines.Line.{Line}
 use Rattle.heap_picture.specs.Style.{style}

@@ -2,8 +2,8 @@ use Rattle.std.proofs.Common.{◌≡◌, ℕ, List, ◌++◌, string_bytes, ◌�
 use Rattle.std.proofs.lemmas.Result.{on_ok_weaker}
 use Rattle.std.specs.List.{flat_map}
 use Rattle.kernel_heap.specs.Machine.{seen, system_of}
-use Rattle.kernel_heap.specs.System.{paged}
-use Rattle.kernel_heap.specs.declared.paged_system.PagedSystem.{PagedSystem}
+use Rattle.paged_systems.specs.System.{paged}
+use Rattle.paged_systems.specs.declared.paged_system.PagedSystem.{PagedSystem}
 use Rattle.paging_core.specs.Pool.{free_count}
 use Rattle.heap_program.specs.Text.{region_line, counts_line}
 use Rattle.heap_program.proofs.Texts.{end_told}

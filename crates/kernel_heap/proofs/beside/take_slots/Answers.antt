@@ -1,10 +1,10 @@
 use Rattle.std.proofs.Common.{◌≡◌, ◌∙◌, [], ap, subst}
 use Rattle.dlmalloc.specs.declared.heap.Dlmalloc.{Dlmalloc}
 use Rattle.heap_model.specs.Slots.{listed_slots}
-use Rattle.kernel_heap.specs.Beside.{KeepsHeapWords}
+use Rattle.paged_systems.specs.Beside.{KeepsHeapWords}
 use Rattle.kernel_heap.specs.Moves.{IsKeptBeside}
-use Rattle.kernel_heap.specs.System.{paged}
-use Rattle.kernel_heap.specs.declared.paged_system.PagedSystem.{PagedSystem}
+use Rattle.paged_systems.specs.System.{paged}
+use Rattle.paged_systems.specs.declared.paged_system.PagedSystem.{PagedSystem}
 use Rattle.kernel_heap.proofs.Laid.{intact_beside, kept_beside}
 use Rattle.kernel_heap.proofs.beside.take_slots.Goals as goal
 

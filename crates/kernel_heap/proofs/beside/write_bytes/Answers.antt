@@ -3,10 +3,10 @@ use Rattle.dlmalloc.specs.declared.heap.Dlmalloc.{Dlmalloc}
 use Rattle.sound_heap.specs.Heap.{AreInBlock}
 use Rattle.kernel_heap.specs.Heap.{heap_state}
 use Rattle.kernel_heap.specs.Moves.{IsKeptBeside}
-use Rattle.kernel_heap.specs.System.{paged}
-use Rattle.kernel_heap.specs.Words.{grants_of}
-use Rattle.kernel_heap.specs.Written.{AreHeapBytes, AreBytesWritten}
-use Rattle.kernel_heap.specs.declared.paged_system.PagedSystem.{PagedSystem}
+use Rattle.paged_systems.specs.System.{paged}
+use Rattle.paged_systems.specs.Words.{grants_of}
+use Rattle.paged_systems.specs.Written.{AreHeapBytes, AreBytesWritten}
+use Rattle.paged_systems.specs.declared.paged_system.PagedSystem.{PagedSystem}
 use Rattle.kernel_heap.proofs.BlockBytes.{block_inside, only_blocks}
 use Rattle.kernel_heap.proofs.Laid.{intact_outside, kept_outside}
 use Rattle.kernel_heap.proofs.beside.write_bytes.Goals as goal

@@ -3,8 +3,8 @@ use Rattle.std.proofs.lemmas.Bool.Decides.{nat_tests}
 use Rattle.heap_memory.specs.declared.grant.Grant.{Grant}
 use Rattle.heap_memory.specs.Regions.{with_grant}
 use Rattle.heap_memory.specs.Runs.{IsRun}
-use Rattle.kernel_heap.specs.System.{paged}
-use Rattle.kernel_heap.specs.Words.{grants_of}
+use Rattle.paged_systems.specs.System.{paged}
+use Rattle.paged_systems.specs.Words.{grants_of}
 use Rattle.machine_rows.proofs.releases.given_back.Goals as goal
 
 -- two grants, one after the other, are a run

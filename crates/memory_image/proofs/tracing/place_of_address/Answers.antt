@@ -1,7 +1,7 @@
 use Rattle.std.proofs.Common.{◌/◌, ◌<◌, ℕ, List, sym, ◌∙◌, ap, subst, rules}
 use Rattle.paging_core.specs.Memory.{frame_count}
 use Rattle.paging_core.specs.Walk.{walk_of}
-use Rattle.kernel_heap.specs.System.{paged}
+use Rattle.paged_systems.specs.System.{paged}
 use Rattle.memory_image.proofs.Walked.{walked_none, walked_some}
 use Rattle.memory_image.proofs.tracing.place_of_address.Goals as goal
 

@@ -1,6 +1,6 @@
 use Rattle.std.proofs.Common.{rules, arith, ◌≤◌, vec_capacity, ◌≡◌, ◌∙◌, ap, refl, sym, subst, length, None}
 use Rattle.heap_model.proofs.Shortened.{length_cut}
-use Rattle.kernel_heap.specs.System.{paged}
+use Rattle.paged_systems.specs.System.{paged}
 use Rattle.kernel_heap.proofs.Laid.{laid_ended}
 use Rattle.kernel_heap.proofs.Ended.{free_shortened, step_ended}
 use Rattle.heap_model.specs.declared.call.Call.TheVariants.{Free}

@@ -12,7 +12,7 @@ use Rattle.heap_model.specs.Refusal.{refuse_request}
 use Rattle.heap_model.specs.Machine.{Stands}
 use Rattle.heap_model.specs.Run.{IsGood}
 use Rattle.heap_model.specs.State.{State}
-use Rattle.kernel_heap.specs.System.{paged}
+use Rattle.paged_systems.specs.System.{paged}
 use Rattle.kernel_heap.specs.Heap.{regions, word, zeros, follows}
 use Rattle.kernel_heap.specs.Machine.{system_of, seen_with}
 use Rattle.kernel_heap.specs.Blocks.{request, IsServedFor}
@@ -20,7 +20,7 @@ use Rattle.kernel_heap.specs.Kept.{lasting_pages, leaves_all}
 use Rattle.kernel_heap.specs.Moves.{AreRegionsTold, IsToldFrom, AreSlotsTold, HeapMoves}
 use Rattle.kernel_heap.specs.declared.numbered_heap.Marks.{Marks}
 use Rattle.kernel_heap.specs.declared.numbered_heap.NumberedHeap.{NumberedHeap}
-use Rattle.kernel_heap.specs.declared.paged_system.PagedSystem.{PagedSystem}
+use Rattle.paged_systems.specs.declared.paged_system.PagedSystem.{PagedSystem}
 use Rattle.kernel_heap.proofs.Laid.{laid_handed, laid_denied, seen_denied}
 use Rattle.kernel_heap.proofs.Found.{few_regions}
 use Rattle.kernel_heap.proofs.Handed.{step_request}

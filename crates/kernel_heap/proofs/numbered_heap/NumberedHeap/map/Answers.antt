@@ -7,12 +7,12 @@ use Rattle.heap_model.specs.declared.region.Region.{Region}
 use Rattle.heap_model.specs.Room.{user_region}
 use Rattle.heap_model.specs.Machine.{Paged, AreLargeSlots, IsStep}
 use Rattle.mapped_regions.specs.Mapped.{IsRegionJoined}
-use Rattle.kernel_heap.specs.System.{paged}
+use Rattle.paged_systems.specs.System.{paged}
 use Rattle.kernel_heap.specs.Machine.{system_of, seen_with}
 use Rattle.kernel_heap.specs.Moves.{marks_of}
 use Rattle.kernel_heap.specs.declared.numbered_heap.Marks.{Marks}
 use Rattle.kernel_heap.specs.declared.numbered_heap.NumberedHeap.{NumberedHeap}
-use Rattle.kernel_heap.specs.declared.paged_system.PagedSystem.{PagedSystem}
+use Rattle.paged_systems.specs.declared.paged_system.PagedSystem.{PagedSystem}
 use Rattle.kernel_heap.proofs.Refused.{refused_with}
 use Rattle.kernel_heap.proofs.Served.{served_refused, answered}
 use Rattle.kernel_heap.proofs.Laid.{laid_still, seen_beside, seen_refused, still_on}

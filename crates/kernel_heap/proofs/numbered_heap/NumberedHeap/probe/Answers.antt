@@ -5,7 +5,7 @@ use Rattle.heap_model.specs.Machine.{rights_of}
 use Rattle.heap_model.specs.Probe.{is_access_granted, probe_fault_code}
 use Rattle.x86_flags.specs.PageFaultErrorCode.{page_fault_bits}
 use Rattle.heap_model.proofs.Probed.{step_byte, step_fault}
-use Rattle.kernel_heap.specs.System.{paged}
+use Rattle.paged_systems.specs.System.{paged}
 use Rattle.kernel_heap.specs.Machine.{seen_with}
 use Rattle.kernel_heap.proofs.numbered_heap.NumberedHeap.probe.Goals as goal
 

@@ -1,6 +1,6 @@
 use Rattle.std.proofs.Common.{◌∙◌, refl, subst, sym}
-use Rattle.kernel_heap.specs.System.{paged}
-use Rattle.kernel_heap.specs.Written.{AreHeapBytes, AreRead}
+use Rattle.paged_systems.specs.System.{paged}
+use Rattle.paged_systems.specs.Written.{AreHeapBytes, AreRead}
 use Rattle.kernel_heap.proofs.BlockBytes.{block_inside, in_block, refuse_same, step_read}
 use Rattle.heap_model.specs.declared.call.Call.TheVariants.{Read}
 use Rattle.kernel_heap.specs.Machine.{seen_with}

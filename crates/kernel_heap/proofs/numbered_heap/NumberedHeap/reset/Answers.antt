@@ -1,6 +1,6 @@
 use Rattle.std.proofs.Common.{◌≡◌, ◌-◌, ◌∙◌, ap, refl, arith, Some}
 use Rattle.paging_core.specs.Pool.{free_count}
-use Rattle.kernel_heap.specs.System.{paged}
+use Rattle.paged_systems.specs.System.{paged}
 use Rattle.kernel_heap.proofs.Reset.{laid_reset, more_free, step_reset, spare_window}
 use Rattle.kernel_heap.proofs.Served.{served, unserved, answered}
 use Rattle.kernel_heap.proofs.numbered_heap.NumberedHeap.reset.Goals as goal

@@ -1,5 +1,5 @@
 use Rattle.std.proofs.Common.{rules, arith, ◌≤◌, vec_capacity, ◌≡◌, ◌∙◌, ap, refl, subst, length}
-use Rattle.kernel_heap.specs.System.{paged}
+use Rattle.paged_systems.specs.System.{paged}
 use Rattle.kernel_heap.proofs.Trimmed.{laid_trimmed, few_left, step_trimmed}
 use Rattle.kernel_heap.proofs.Served.{served, unserved, answered}
 use Rattle.kernel_heap.specs.Moves.{AreRegionsTold}

@@ -2,7 +2,7 @@ use Rattle.std.proofs.Common.{ℕ, ◌∙◌, None, ap, subst, sym}
 use Rattle.heap_model.specs.declared.call.Call.TheVariants.{Unmap}
 use Rattle.heap_model.specs.declared.answer.Reply.TheVariants.{Done}
 use Rattle.heap_model.specs.Machine.{IsStep}
-use Rattle.kernel_heap.specs.System.{paged}
+use Rattle.paged_systems.specs.System.{paged}
 use Rattle.kernel_heap.specs.Machine.{seen_with}
 use Rattle.kernel_heap.specs.Refusing.{unmap_refusal}
 use Rattle.kernel_heap.proofs.Refused.{refused_with}

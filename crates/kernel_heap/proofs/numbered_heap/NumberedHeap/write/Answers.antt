@@ -1,5 +1,5 @@
 use Rattle.std.proofs.Common.{◌∙◌, length, refl, None, subst, sym}
-use Rattle.kernel_heap.specs.System.{paged}
+use Rattle.paged_systems.specs.System.{paged}
 use Rattle.kernel_heap.proofs.BlockBytes.{in_block, refuse_same, step_written}
 use Rattle.heap_model.specs.declared.call.Call.TheVariants.{Write}
 use Rattle.heap_model.specs.declared.answer.Reply.TheVariants.{Done}

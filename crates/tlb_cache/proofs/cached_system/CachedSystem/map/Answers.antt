@@ -1,5 +1,5 @@
 use Rattle.mapped_regions.specs.UserRegions.{user_region}
-use Rattle.kernel_heap.specs.System.{paged}
+use Rattle.paged_systems.specs.System.{paged}
 use Rattle.tlb_cache.proofs.System.{map_agrees, both}
 use Rattle.tlb_cache.proofs.cached_system.CachedSystem.map.Goals as goal
 

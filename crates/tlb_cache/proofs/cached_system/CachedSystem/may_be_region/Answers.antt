@@ -1,6 +1,6 @@
 use Rattle.std.proofs.Common.{◌≡◌, ◌≤◌, ap, ◌∙◌, arith}
 use Rattle.paging_core.specs.Memory.{frame_count}
-use Rattle.kernel_heap.specs.System.{paged}
+use Rattle.paged_systems.specs.System.{paged}
 use Rattle.tlb_cache.proofs.Ranges.{within_frames}
 use Rattle.tlb_cache.proofs.cached_system.CachedSystem.may_be_region.Goals as goal
 use Rattle.tlb_cache.proofs.cached_system.CachedSystem.may_be_region.Goals.{then-pages-eq0-via-then-pages-eq0, then-pages-eq0-via-else-pages-eq0+then-pages-from}

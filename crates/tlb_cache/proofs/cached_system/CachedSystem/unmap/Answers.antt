@@ -1,6 +1,6 @@
 use Rattle.std.proofs.Common.{◌≡◌, List, ◌∙◌, ap, sym, subst}
 use Rattle.x86_instructions.specs.declared.tlb.FlushCommand.{FlushCommand}
-use Rattle.kernel_heap.specs.System.{paged}
+use Rattle.paged_systems.specs.System.{paged}
 use Rattle.tlb_cache.specs.Cache.{Cache, AgreesWithTables, left_by_all}
 use Rattle.tlb_cache.specs.Cached.{Flushes}
 use Rattle.tlb_cache.proofs.System.{left_agrees}

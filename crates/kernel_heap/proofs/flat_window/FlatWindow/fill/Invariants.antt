@@ -1,5 +1,0 @@
-use Rattle.kernel_heap.specs.FlatWindow.{ArePutAt}
-use Rattle.kernel_heap.proofs.flat_window.FlatWindow.fill.Given as goal
-
-abbrev pub invariant-loop-i : goal.invariant-loop-i
-invariant-loop-i l = ArePutAt l.fn.self l.self l.at l.i (λ k. l.value)

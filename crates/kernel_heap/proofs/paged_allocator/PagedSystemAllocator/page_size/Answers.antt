@@ -1,7 +1,0 @@
-use lib.Count.{ones}
-use Rattle.std.proofs.Common.{refl}
-use Rattle.kernel_heap.proofs.paged_allocator.PagedSystemAllocator.page_size.Goals as goal
-
-pub returns-clause-power : goal.returns-clause-power
-unfolding ones
-returns-clause-power c = refl

@@ -1,4 +1,0 @@
-use Rattle.kernel_heap.proofs.paged_system.PagedSystem.plan.Goals as goal
-
-pub has_frames-requires : goal.has_frames-requires
-has_frames-requires c = c.in-Some.ensures.range.1

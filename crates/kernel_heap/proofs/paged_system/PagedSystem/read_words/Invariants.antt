@@ -1,7 +1,0 @@
-use Rattle.std.proofs.Common.{◌+◌, ◌*◌}
-use Rattle.kernel_heap.specs.System.{paged}
-use Rattle.kernel_heap.specs.Written.{AreRead}
-use Rattle.kernel_heap.proofs.paged_system.PagedSystem.read_words.Given as goal
-
-abbrev pub invariant-loop-k : goal.invariant-loop-k
-invariant-loop-k l = AreRead (paged l.self) l.address (l.done + 8 * l.k) l.bytes.items

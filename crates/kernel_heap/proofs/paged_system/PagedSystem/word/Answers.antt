@@ -1,6 +1,0 @@
-use Rattle.kernel_heap.specs.System.{paged}
-use Rattle.kernel_heap.proofs.Still.{mapped_word}
-use Rattle.kernel_heap.proofs.paged_system.PagedSystem.word.Goals as goal
-
-pub word-requires : goal.word-requires
-word-requires c = record { word = mapped_word (paged c.args.self.now) c.args.at c.args.self.now.kept c.requires }

@@ -1,0 +1,13 @@
+pub mod Window
+pub mod Layout
+pub mod System
+pub mod Words
+pub mod Beside
+pub mod Released
+pub mod Follows
+pub mod Ordered
+pub mod Grants
+pub mod Written
+pub mod FlatWindow
+pub mod Twin
+pub mod TwinSystem
