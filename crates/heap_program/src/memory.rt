@@ -1,6 +1,6 @@
 // A source and a sink in memory that go piece by piece, and of which chosen calls fail.
 ghost use Rattle.std.specs.Prelude.{◌≡◌, ◌<◌, ◌≤◌, ◌↔◌, ⊤, ◌++◌, List, [], ℕ, Some, length, min, take, IfOk, OnOk, OnErr, IsErr, IsErrOf, IsTrue};
-ghost use Rattle.heap_program.specs.Faults.{HasRisen};
+ghost use Rattle.heap_program.specs.Faults.{KeepsCount};
 ghost use Rattle.heap_program.specs.Planned.{fails_next, after_call, planned};
 
 use crate::sink::{Sink, SinkFault};
@@ -99,8 +99,7 @@ impl Source for MemorySource {
         ensures end { IfOk result (λ n. n ≡ 0 → 0 < length buf.old → self.new.left ≡ []) }
         ensures unread { OnErr result (self.new.left ≡ self.old.left) }
         ensures piece { self.new.piece ≡ self.old.piece }
-        ensures later { self.old.calls.faults ≤ self.new.calls.faults }
-        ensures cause { IsErr result → HasRisen self.old.calls.faults self.new.calls.faults }
+        ensures faults { KeepsCount (IsErr result) self.old.calls.faults self.new.calls.faults }
     {
         if self.plan.fails() {
             return Err(Failed);
@@ -182,8 +181,7 @@ impl Sink for MemorySink {
         ensures unwritten { OnErr result (self.new.taken ≡ self.old.taken) }
         ensures flushed { self.new.flushed ≡ self.old.flushed }
         ensures piece { self.new.piece ≡ self.old.piece }
-        ensures later { self.old.calls.faults ≤ self.new.calls.faults }
-        ensures cause { IsErrOf result SinkFault.Failed → HasRisen self.old.calls.faults self.new.calls.faults }
+        ensures faults { KeepsCount (IsErrOf result SinkFault.Failed) self.old.calls.faults self.new.calls.faults }
     {
         if self.plan.fails() {
             return Err(SinkFault::Failed);
@@ -203,8 +201,7 @@ impl Sink for MemorySink {
         ensures kept { OnErr result (self.new.flushed ≡ self.old.flushed) }
         ensures taken { self.new.taken ≡ self.old.taken }
         ensures piece { self.new.piece ≡ self.old.piece }
-        ensures later { self.old.calls.faults ≤ self.new.calls.faults }
-        ensures cause { IsErr result → HasRisen self.old.calls.faults self.new.calls.faults }
+        ensures faults { KeepsCount (IsErr result) self.old.calls.faults self.new.calls.faults }
     {
         if self.plan.fails() {
             return Err(SinkFault::Failed);

@@ -1,7 +1,7 @@
 // Where the output goes.
 ghost use Rattle.std.specs.Prelude.{◌≡◌, ◌≤◌, ◌<◌, ⊤, List, [], ℕ, Option, Some, None, length, take, ◌++◌, IfOk, IfErr, IsOk, OnOk, OnErr, IsErrOf};
 ghost use Rattle.std.specs.Io.KnownBytes.{Appends, Keeps};
-ghost use Rattle.heap_program.specs.Faults.{HasRisen, IsFaultCounted};
+ghost use Rattle.heap_program.specs.Faults.{KeepsCount, IsFaultCounted};
 ghost use Rattle.heap_program.specs.Flushed.{IsAllFlushed};
 
 use std::alloc::{AllocError, Global};
@@ -42,8 +42,7 @@ pub trait Sink {
         ensures told { IfOk result (λ n. Appends (taken self.old) (taken self.new) (take n bytes.now)) }
         ensures err { OnErr result (Keeps (taken self.old) (taken self.new)) }
         ensures flushed_err { OnErr result (flushed self.new ≡ flushed self.old) }
-        ensures later { faults self.old ≤ faults self.new }
-        ensures cause { IsErrOf result SinkFault.Failed → HasRisen (faults self.old) (faults self.new) }
+        ensures faults { KeepsCount (IsErrOf result SinkFault.Failed) (faults self.old) (faults self.new) }
         ensures memory { IsErrOf result SinkFault.OutOfMemory → needs_memory self.old };
 
     /// Flushes all that is taken.
@@ -51,8 +50,7 @@ pub trait Sink {
         ensures all { OnOk result (IsAllFlushed (taken self.new) (flushed self.new)) }
         ensures told { Keeps (taken self.old) (taken self.new) }
         ensures flushed_err { OnErr result (flushed self.new ≡ flushed self.old) }
-        ensures later { faults self.old ≤ faults self.new }
-        ensures cause { IsErrOf result SinkFault.Failed → HasRisen (faults self.old) (faults self.new) }
+        ensures faults { KeepsCount (IsErrOf result SinkFault.Failed) (faults self.old) (faults self.new) }
         ensures memory { IsErrOf result SinkFault.OutOfMemory → needs_memory self.old };
 }
 
@@ -149,8 +147,7 @@ impl<W: Write> Sink for WriterSink<W> {
         ensures err { OnErr result (Keeps (W.contents self.old.writer) (W.contents self.new.writer)) }
         ensures which { IfErr result (λ fault. fault ≡ SinkFault.Failed) }
         ensures counted { IsFaultCounted result self.old.faults self.new.faults }
-        ensures later { self.old.faults ≤ self.new.faults }
-        ensures cause { IsErrOf result SinkFault.Failed → HasRisen self.old.faults self.new.faults }
+        ensures faults { KeepsCount (IsErrOf result SinkFault.Failed) self.old.faults self.new.faults }
     {
         if bytes.is_empty() {
             return Ok(0);
@@ -170,8 +167,7 @@ impl<W: Write> Sink for WriterSink<W> {
         ensures told { Keeps (W.contents self.old.writer) (W.contents self.new.writer) }
         ensures which { IfErr result (λ fault. fault ≡ SinkFault.Failed) }
         ensures counted { IsFaultCounted result self.old.faults self.new.faults }
-        ensures later { self.old.faults ≤ self.new.faults }
-        ensures cause { IsErrOf result SinkFault.Failed → HasRisen self.old.faults self.new.faults }
+        ensures faults { KeepsCount (IsErrOf result SinkFault.Failed) self.old.faults self.new.faults }
     {
         'tries: for _ in 0..u64::MAX {
             match self.writer.flush() {

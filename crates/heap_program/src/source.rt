@@ -1,7 +1,7 @@
 // Where the input comes from.
 ghost use Rattle.std.specs.Prelude.{◌≡◌, ◌≤◌, ◌<◌, ◌++◌, List, ℕ, Option, Some, length, min, take, drop, IfOk, IsOkAnd, OnErr, IsErr};
 ghost use Rattle.std.specs.Io.KnownBytes.{Consumes, Keeps, IsAtEnd};
-ghost use Rattle.heap_program.specs.Faults.{HasRisen, IsFaultCounted};
+ghost use Rattle.heap_program.specs.Faults.{KeepsCount, IsFaultCounted};
 
 use std::io::{ErrorKind, Read};
 use std::marker::Model;
@@ -27,8 +27,7 @@ pub trait Source {
         ensures told { IfOk result (λ n. Consumes (left self.old) (left self.new) (take n buf.new)) }
         ensures end { IfOk result (λ n. n ≡ 0 → 0 < length buf.old → IsAtEnd (left self.new)) }
         ensures err { OnErr result (Keeps (left self.old) (left self.new)) }
-        ensures later { faults self.old ≤ faults self.new }
-        ensures cause { IsErr result → HasRisen (faults self.old) (faults self.new) };
+        ensures faults { KeepsCount (IsErr result) (faults self.old) (faults self.new) };
 }
 
 // Copies the first n bytes.
@@ -112,8 +111,7 @@ impl<R: Read> Source for ReaderSource<R> {
         ensures end { IfOk result (λ n. n ≡ 0 → 0 < length buf.old → IsAtEnd (R.remaining self.new.reader)) }
         ensures err { OnErr result (Keeps (R.remaining self.old.reader) (R.remaining self.new.reader)) }
         ensures counted { IsFaultCounted result self.old.faults self.new.faults }
-        ensures later { self.old.faults ≤ self.new.faults }
-        ensures cause { IsErr result → HasRisen self.old.faults self.new.faults }
+        ensures faults { KeepsCount (IsErr result) self.old.faults self.new.faults }
     {
         'tries: for _ in 0..u64::MAX {
             match self.reader.read(buf) {
