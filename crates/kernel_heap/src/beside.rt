@@ -8,9 +8,9 @@ ghost use Rattle.kernel_heap.specs.Moves.{IsKeptBeside};
 ghost use Rattle.paged_systems.specs.System.{paged};
 ghost use Rattle.paged_systems.specs.Written.{AreBytesWritten};
 
-use paged_systems::PagedSystem;
 use heap_model::{Rights, SlotList};
 use mapped_regions::{MapFault, UnmapFault};
+use paged_systems::PagedSystem;
 use sound_heap::Heap;
 
 /// Maps pages as a region of the user.

@@ -8,10 +8,10 @@ ghost use Rattle.kernel_heap.specs.Blocks.{align_kept, IsLiveResized, IsLiveRefu
 
 use crate::beside;
 use crate::numbered_blocks::NumberedBlocks;
-use paged_systems::PagedSystem;
 use dlmalloc::MallocError;
 use heap_memory::GrantFault;
 use heap_model::{Answer, Call, Live, Refusal, Region, RegionList, Reply, SlotList};
+use paged_systems::PagedSystem;
 use sound_heap::Heap;
 use std::alloc::{AllocError, Global};
 

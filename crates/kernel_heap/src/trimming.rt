@@ -4,8 +4,8 @@ ghost use Rattle.kernel_heap.specs.LaidOut.{IsNumberedSound};
 ghost use Rattle.kernel_heap.specs.Served.{IsCallServed};
 
 use crate::numbered_heap::NumberedHeap;
-use paged_systems::PagedSystem;
 use heap_model::{Answer, Call, RegionList, Reply};
+use paged_systems::PagedSystem;
 use paging_core::{PageSize, Size4KiB};
 use std::alloc::AllocError;
 

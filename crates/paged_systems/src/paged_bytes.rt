@@ -73,12 +73,7 @@ impl PagedSystem {
     }
 
     /// Reads `count` bytes from an address on. Their places are reserved before the first is read.
-    pub fn read_bytes(
-        &self,
-        alloc: Global,
-        address: u64,
-        count: u64,
-    ) -> Result<Bytes, AllocError>
+    pub fn read_bytes(&self, alloc: Global, address: u64, count: u64) -> Result<Bytes, AllocError>
         requires { AreHeapBytes (paged self.now) address count }
         ensures { IfOk result (λ bytes. AreRead (paged self.now) address count bytes) }
     {

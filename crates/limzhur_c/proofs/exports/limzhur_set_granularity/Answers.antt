@@ -9,5 +9,5 @@ use Rattle.limzhur_c.proofs.exports.limzhur_set_granularity.Goals as goal
 pub returns-clause-set : goal.returns-clause-set
 returns-clause-set c =
     subst (λ (heap : Dlmalloc Arena). IsOnlySet (record (arena_heap_state heap) {
-      granularity = if c.set_granularity.result then c.args.bytes else heap.granularity
+      granularity = if c.set_granularity.result then c.args.bytes else heap.granularity;
     }) heap c.set_granularity.new.self) c.open.ensures.heap c.set_granularity.ensures.set
