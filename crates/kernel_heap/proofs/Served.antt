@@ -14,7 +14,7 @@ use Rattle.kernel_heap.specs.declared.numbered_heap.NumberedHeap.{NumberedHeap}
 use Rattle.kernel_heap.specs.Kept.{IsSeenAsBefore, IsReachedByte}
 use Rattle.kernel_heap.specs.Machine.{seen_of, seen_with, system_of}
 use Rattle.kernel_heap.specs.Moves.{HeapMoves, KeepsStateAndBins}
-use Rattle.kernel_heap.specs.Served.{HasServedCall, HasNotServed, IsCallServed}
+use Rattle.kernel_heap.specs.Served.{HasServedCall, HasNotServed, IsServedOrNot}
 use Rattle.paged_systems.specs.System.{paged}
 use Rattle.kernel_heap.proofs.Laid.{still_none}
 use Rattle.kernel_heap.proofs.LastingPages.{AsksForNone, runs_none, runs_refused}
@@ -57,10 +57,10 @@ not_served old new (Err error) heap blocks = record {
 }
 
 pub unserved : {old new : NumberedHeap} {call : Call} (result : Result Answer AllocError) (Q : AllocError → Type 0) → IsErrAnd result Q →
-    new.heap ≡ old.heap → new.blocks.items ≡ old.blocks.items → IsCallServed old call result new
+    new.heap ≡ old.heap → new.blocks.items ≡ old.blocks.items → IsServedOrNot old call result new
 unserved (Ok answer) Q is heap blocks = absurd is
 unserved {old = old} {new = new} (Err error) Q is heap blocks = record { ok = tt; err = not_served old new (Err error) heap blocks }
 
 -- the call was answered
-pub answered : {old new : NumberedHeap} {call : Call} {answer : Answer} → HasServedCall old call answer new → IsCallServed old call (Ok answer) new
+pub answered : {old new : NumberedHeap} {call : Call} {answer : Answer} → HasServedCall old call answer new → IsServedOrNot old call (Ok answer) new
 answered is = record { ok = is; err = tt }

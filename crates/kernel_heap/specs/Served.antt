@@ -33,6 +33,6 @@ pub record HasNotServed (old new : NumberedHeap) : Type 0 where
   pub still : KeepsStateAndBins old.heap new.heap
 
 -- A call was answered, or memory was wanting.
-pub record IsCallServed (old : NumberedHeap) (call : Call) (result : Result Answer AllocError) (new : NumberedHeap) : Type 0 where
+pub record IsServedOrNot (old : NumberedHeap) (call : Call) (result : Result Answer AllocError) (new : NumberedHeap) : Type 0 where
   pub ok : IfOk result (λ answer. HasServedCall old call answer new)
   pub err : OnErr result (HasNotServed old new)

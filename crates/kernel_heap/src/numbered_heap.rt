@@ -95,7 +95,7 @@ impl NumberedHeap {
     ghost use Rattle.kernel_heap.specs.LaidOut.{IsNumberedSound};
     ghost use Rattle.kernel_heap.specs.Blocks.{request, resizing};
     ghost use Rattle.kernel_heap.specs.Moves.{marks_of, AreRegionsTold, HasToldSlots};
-    ghost use Rattle.kernel_heap.specs.Served.{HasServedCall, IsCallServed};
+    ghost use Rattle.kernel_heap.specs.Served.{HasServedCall, IsServedOrNot};
 
     /// Hands out a block of `size` bytes at a multiple of `align`, of value 0 where that is asked for. The answer and the
     /// block have their places before anything changes.
@@ -108,7 +108,7 @@ impl NumberedHeap {
     ) -> Result<Answer, AllocError>
         requires sound { IsNumberedSound self.old }
         ensures sound { IsNumberedSound self.new }
-        ensures served { IsCallServed self.old (request cleared size align) result self.new }
+        ensures served { IsServedOrNot self.old (request cleared size align) result self.new }
     {
         if !align.is_power_of_two() {
             return Ok(refused(Refusal::BadAlign));
@@ -144,7 +144,7 @@ impl NumberedHeap {
     ) -> Result<Answer, AllocError>
         requires sound { IsNumberedSound self.old }
         ensures sound { IsNumberedSound self.new }
-        ensures served { IsCallServed self.old (resizing keeps_alignment number size) result self.new }
+        ensures served { IsServedOrNot self.old (resizing keeps_alignment number size) result self.new }
     {
         let Some(live) = self.live(number) else {
             return Ok(refused(Refusal::UnknownBlock));
@@ -256,7 +256,7 @@ impl NumberedHeap {
     pub(crate) fn free(&mut self, number: u64) -> Result<Answer, AllocError>
         requires sound { IsNumberedSound self.old }
         ensures sound { IsNumberedSound self.new }
-        ensures served { IsCallServed self.old (Call.Free number) result self.new }
+        ensures served { IsServedOrNot self.old (Call.Free number) result self.new }
     {
         let Some(live) = self.live(number) else {
             return Ok(refused(Refusal::UnknownBlock));

@@ -1,7 +1,7 @@
 // Memory of the heap that goes back to the system, as calls of the machine.
 ghost use Rattle.std.specs.Prelude.{IfOk, OnErr};
 ghost use Rattle.kernel_heap.specs.LaidOut.{IsNumberedSound};
-ghost use Rattle.kernel_heap.specs.Served.{IsCallServed};
+ghost use Rattle.kernel_heap.specs.Served.{IsServedOrNot};
 
 use crate::numbered_heap::NumberedHeap;
 use heap_model::{Answer, Call, RegionList, Reply};
@@ -14,7 +14,7 @@ impl NumberedHeap {
     pub(crate) fn trim(&mut self, pad: u64) -> Result<Answer, AllocError>
         requires sound { IsNumberedSound self.old }
         ensures sound { IsNumberedSound self.new }
-        ensures served { IsCallServed self.old (Call.Trim pad) result self.new }
+        ensures served { IsServedOrNot self.old (Call.Trim pad) result self.new }
     {
         let count = self.heap.system().region_count();
         self.list.clear();
@@ -36,7 +36,7 @@ impl NumberedHeap {
     pub(crate) fn reset(&mut self) -> Result<Answer, AllocError>
         requires sound { IsNumberedSound self.old }
         ensures sound { IsNumberedSound self.new }
-        ensures served { IsCallServed self.old Call.Reset result self.new }
+        ensures served { IsServedOrNot self.old Call.Reset result self.new }
     {
         let other = PagedSystem::new(self.alloc, Size4KiB::SIZE, 1, 1)?;
         let free = self.heap.system().free_frames();

@@ -1,7 +1,7 @@
 // Regions of the user, as calls of the machine.
 ghost use Rattle.std.specs.Prelude.{◌≡◌, IfOk, OnErr, None};
 ghost use Rattle.kernel_heap.specs.LaidOut.{IsNumberedSound};
-ghost use Rattle.kernel_heap.specs.Served.{HasServedCall, IsCallServed};
+ghost use Rattle.kernel_heap.specs.Served.{HasServedCall, IsServedOrNot};
 ghost use Rattle.kernel_heap.specs.Refusing.{map_refusal, unmap_refusal, IsRefusal};
 
 use crate::beside;
@@ -45,7 +45,7 @@ impl NumberedHeap {
     ) -> Result<Answer, AllocError>
         requires sound { IsNumberedSound self.old }
         ensures sound { IsNumberedSound self.new }
-        ensures served { IsCallServed self.old (Call.Map start pages rights) result self.new }
+        ensures served { IsServedOrNot self.old (Call.Map start pages rights) result self.new }
     {
         let before = self.marks();
         match beside::map(&mut self.heap, start, pages, rights) {
