@@ -1,7 +1,7 @@
 // Calls of a heap, each with a counter of its own.
 ghost use Rattle.std.specs.Prelude.{◌≡◌, ◌↔◌, Some, IfOk, IfErr, IsTrue, filter};
 ghost use Rattle.std.specs.Int.{IsPowerOfTwo};
-ghost use Rattle.dlmalloc.specs.Binned.{IsIntact};
+ghost use Rattle.dlmalloc.specs.Binned.{IsIntactBy};
 ghost use Rattle.dlmalloc.specs.Blocks.{IsBlock, HasBlock, usable};
 ghost use Rattle.dlmalloc.specs.Heap.{state_of, IsSound};
 ghost use Rattle.dlmalloc.specs.Served.{IsRefusedWith};
@@ -37,11 +37,11 @@ pub(crate) fn hand_out<A: Allocator, L: Ledger>(
     blank: Blank,
 ) -> Result<u64, MallocError>
     requires blank { IsBlankOf L.name L.parts blank }
-    requires intact { IsIntact A.regions A.word heap.old }
+    requires intact { IsIntactBy A.Links heap.old }
     requires align { IsPowerOfTwo align }
     ensures ok { IfOk result (λ address. IsBlockHandedOut A.regions A.word A.zeros A.follows heap.old size align cleared address heap.new) }
     ensures err { IfErr result (λ error. IsRefusedWith A.regions A.word A.follows A.refuses A.denies heap.old (asked size align) error heap.new) }
-    ensures intact { IsIntact A.regions A.word heap.new }
+    ensures intact { IsIntactBy A.Links heap.new }
     ensures apart { AreBlocksApart A.word heap.new }
 {
     let mut steps = Steps::<L>::new(blank);
@@ -62,11 +62,11 @@ pub(crate) fn resize<A: Allocator, L: Ledger>(
     blank: Blank,
 ) -> Result<u64, MallocError>
     requires blank { IsBlankOf L.name L.parts blank }
-    requires intact { IsIntact A.regions A.word heap.old }
+    requires intact { IsIntactBy A.Links heap.old }
     requires block { HasBlock (state_of A.word heap.old) address }
     ensures ok { IfOk result (λ to. IsReallocated A.regions A.word A.zeros A.follows (A.frees heap.old.system) (A.parts heap.old.system) (A.unit heap.old.system) heap.old address (usable (state_of A.word heap.old) address) 16 size to heap.new) }
     ensures err { IfErr result (λ error. IsReallocRefused A.regions A.word A.follows A.refuses A.denies heap.old (Some address) 16 size error heap.new) }
-    ensures intact { IsIntact A.regions A.word heap.new }
+    ensures intact { IsIntactBy A.Links heap.new }
     ensures apart { AreBlocksApart A.word heap.new }
 {
     let answer = heap.c_realloc(Some(address), size, &mut Steps::<L>::new(blank));
@@ -84,12 +84,12 @@ pub(crate) fn resize_aligned<A: Allocator, L: Ledger>(
     blank: Blank,
 ) -> Result<u64, MallocError>
     requires blank { IsBlankOf L.name L.parts blank }
-    requires intact { IsIntact A.regions A.word heap.old }
+    requires intact { IsIntactBy A.Links heap.old }
     requires align { IsPowerOfTwo align }
     requires block { IsBlock (state_of A.word heap.old) address held }
     ensures ok { IfOk result (λ to. IsReallocated A.regions A.word A.zeros A.follows (A.frees heap.old.system) (A.parts heap.old.system) (A.unit heap.old.system) heap.old address held align size to heap.new) }
     ensures err { IfErr result (λ error. IsReallocRefused A.regions A.word A.follows A.refuses A.denies heap.old (Some address) align size error heap.new) }
-    ensures intact { IsIntact A.regions A.word heap.new }
+    ensures intact { IsIntactBy A.Links heap.new }
     ensures apart { AreBlocksApart A.word heap.new }
 {
     let answer = heap.realloc(address, held, align, size, &mut Steps::<L>::new(blank));
@@ -100,10 +100,10 @@ pub(crate) fn resize_aligned<A: Allocator, L: Ledger>(
 /// Gives a block back.
 pub(crate) fn free<A: Allocator, L: Ledger>(heap: &mut Dlmalloc<A>, address: u64, blank: Blank)
     requires blank { IsBlankOf L.name L.parts blank }
-    requires intact { IsIntact A.regions A.word heap.old }
+    requires intact { IsIntactBy A.Links heap.old }
     requires block { HasBlock (state_of A.word heap.old) address }
     ensures freed { IsFreed A.regions A.word A.follows (A.frees heap.old.system) (A.parts heap.old.system) (A.unit heap.old.system) heap.old address heap.new }
-    ensures intact { IsIntact A.regions A.word heap.new }
+    ensures intact { IsIntactBy A.Links heap.new }
 {
     heap.c_free(Some(address), &mut Steps::<L>::new(blank));
 }
@@ -111,9 +111,9 @@ pub(crate) fn free<A: Allocator, L: Ledger>(heap: &mut Dlmalloc<A>, address: u64
 /// Gives memory back to the system that no block needs.
 pub(crate) fn trim<A: Allocator, L: Ledger>(heap: &mut Dlmalloc<A>, pad: u64, blank: Blank) -> bool
     requires blank { IsBlankOf L.name L.parts blank }
-    requires intact { IsIntact A.regions A.word heap.old }
+    requires intact { IsIntactBy A.Links heap.old }
     ensures trimmed { IsTrimmed A.regions A.word A.follows (A.frees heap.old.system) (A.parts heap.old.system) (A.unit heap.old.system) heap.old pad result heap.new }
-    ensures intact { IsIntact A.regions A.word heap.new }
+    ensures intact { IsIntactBy A.Links heap.new }
 {
     heap.trim(pad, &mut Steps::<L>::new(blank))
 }
