@@ -1,5 +1,5 @@
 -- A request is refused.
-use Rattle.std.proofs.Common.{◌≡◌, ℕ, ◌+◌, ◌<◌, ◌≤◌, inl, inr, Bool, nat_le, if◌then◌else◌, refl, sym, ap, ◌∙◌, subst, arith, List, Option, Some, None, true, false}
+use Rattle.std.proofs.Common.{◌≡◌, ℕ, ◌+◌, ◌-◌, ◌*◌, ◌/◌, ◌%◌, ◌<◌, ◌≤◌, inl, inr, Bool, nat_le, if◌then◌else◌, refl, sym, ap, ◌∙◌, subst, arith, List, Option, Some, None, true, false}
 use Rattle.std.proofs.lemmas.Bool.Decides.{nat_tests}
 use Rattle.heap_memory.specs.declared.grant.GrantFault.TheVariants.{NoSpace as SystemNoSpace, NoFrames as SystemNoFrames, OutOfMemory as SystemOutOfMemory}
 use Rattle.std.specs.Int.{is_power_of_two}

@@ -47,7 +47,7 @@ use Rattle.kernel_heap.specs.Heap.{regions, word, follows, refuses, denies, heap
 use Rattle.kernel_heap.specs.Machine.{seen_of}
 use Rattle.kernel_heap.specs.Numbered.{live_at}
 use Rattle.kernel_heap.specs.LaidOut.{IsLaidOut}
-use Rattle.kernel_heap.specs.Refusing.{IsRefusalOf}
+use Rattle.kernel_heap.specs.Refusing.{IsRefusalOf, refusal_of}
 use Rattle.kernel_heap.specs.Blocks.{resizing, align_kept, IsResizedTo}
 use Rattle.kernel_heap.specs.Moves.{marks_of, AreRegionsTold, IsToldFrom, AreSlotsTold, HeapMoves}
 use Rattle.kernel_heap.specs.declared.numbered_heap.NumberedHeap.{NumberedHeap}

@@ -59,7 +59,7 @@ not_served old new (Err error) heap blocks = record {
 pub unserved : {old new : NumberedHeap} {call : Call} (result : Result Answer AllocError) (Q : AllocError → Type 0) → IsErrAnd result Q →
     new.heap ≡ old.heap → new.blocks.items ≡ old.blocks.items → IsServedOrNot old call result new
 unserved (Ok answer) Q is heap blocks = absurd is
-unserved {old = old} {new = new} (Err error) Q is heap blocks = record { ok = tt; err = not_served old new (Err error) heap blocks }
+unserved {old = old} {new = new} (Err error) Q is heap blocks = record { ok = tt; err = not_served {T = Answer} old new (Err error) heap blocks }
 
 -- the call was answered
 pub answered : {old new : NumberedHeap} {call : Call} {answer : Answer} → HasServedCall old call answer new → IsServedOrNot old call (Ok answer) new
