@@ -9,7 +9,7 @@ use Rattle.meminterval.specs.Entries.{without_key}
 use Rattle.meminterval.specs.Interval.{by_ends, with_end}
 use Rattle.paging_core.specs.declared.page_table.Rights.{Rights}
 use Rattle.address_space.specs.Runs.{RunsFollow, HasRun, rights_in, has_run_at, crosses}
-use Rattle.address_space.specs.RunChanges.{IsCut, IsOwnRun, IsSet, KeepsApart, IsParted}
+use Rattle.address_space.specs.RunChanges.{IsCut, IsOwnRun, IsSet, IsParted}
 use Rattle.address_space.proofs.Splits.{follow_append}
 use Rattle.address_space.proofs.Changes.{holds_inside}
 use Rattle.address_space.proofs.OneRun.{run_of, run_follow, run_rights, run_apart, run_begins, start_apart, IsReplaced, replaced_follow, replaced_inside, replaced_outside, replaced_begins, replaced_apart, among, shortened, deleted}

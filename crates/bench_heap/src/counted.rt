@@ -1,5 +1,5 @@
 // A system that counts the words that are loaded and stored in it.
-ghost use Rattle.std.specs.Prelude.{◌≡◌, ℕ, List, refl};
+ghost use Rattle.std.specs.Prelude.{◌≡◌};
 
 use heap_memory::{Allocator, Grant, GrantFault, Links, Steps};
 use std::cell::Cell;

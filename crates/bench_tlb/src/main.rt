@@ -4,7 +4,7 @@
 //! Standard output says what the calls found, standard error what processor time each took.
 #![tactic(auto)]
 
-ghost use Rattle.std.specs.Prelude.{◌≡◌, ℕ, ◌^◌, ◌<◌, ◌≤◌, None, length};
+ghost use Rattle.std.specs.Prelude.{◌^◌, ◌<◌, ◌≤◌};
 ghost use Rattle.paging_core.specs.Memory.{frame_count};
 
 use measuring::{Watch, numbers};

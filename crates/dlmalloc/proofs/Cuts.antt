@@ -7,4 +7,5 @@ pub mod FreeChunk
 pub mod StateAfter
 pub mod Top
 pub mod BinsMeanwhile
+pub mod Grown
 pub mod OneStepOrTwo

@@ -1,11 +1,10 @@
 -- A heap before and after it asked its system for a region.
-use Rattle.std.specs.Prelude.{◌≡◌, ◌≢◌, ℕ, ◌+◌, ◌-◌, ◌%◌, ◌^◌, ◌<◌, ◌≤◌, ◌⊎◌, Bool, true, false, List, [], ◌∷◌, None, Some}
+use Rattle.std.specs.Prelude.{◌≡◌, ◌≢◌, ℕ, ◌+◌, ◌-◌, ◌%◌, ◌^◌, ◌<◌, ◌≤◌, ◌⊎◌, true, false, List, [], None, Some}
 use Rattle.std.specs.List.{AllByRecursion}
 use Rattle.heap_memory.specs.declared.grant.Grant.{Grant}
 use Rattle.heap_memory.specs.declared.links.Links.{Ghosts as Links}
-use Rattle.heap_memory.specs.Regions.{IsWordOf, IsApart, with_grant}
-use Rattle.heap_memory.specs.Events.{Event, Granted}
-use Rattle.dlmalloc_chunks.specs.Request.{round_up}
+use Rattle.heap_memory.specs.Regions.{IsWordOf}
+use Rattle.heap_memory.specs.Events.{Event}
 use Rattle.dlmalloc_chunks.specs.declared.extent.Extent.{Extent}
 use Rattle.dlmalloc_chunks.specs.declared.extent.Kind.TheVariants.{Used}
 use Rattle.dlmalloc.specs.Extents.{extent_at, IsChunkSize}
@@ -125,24 +124,6 @@ pub record IsNewSegment {A : Type 0} (links : Links A) (heap : Dlmalloc A) (gran
   pub fresh : IsFreshGrant (links.regions heap.system) (segments_of links.word heap) grant
   pub apart : is_put_before grant (segments_of links.word heap) ≡ false
   pub beside : is_behind grant (record { base = heap.base; size = heap.size; flags = heap.flags; extents = [] }) ≡ false
-
--- A region was granted, with room for a chunk of n bytes at the top. The extents in use are the same.
-pub record IsGrown {A : Type 0} (regions : A → List Grant) (word : A → ℕ → ℕ) (zeros : A → Bool) (follows : A → List Event → A → Type 0) (old : Dlmalloc A) (n : ℕ) (new : Dlmalloc A) : Type 0 where
-  pub grant : Grant
-  pub followed : follows old.system (Granted (round_up (n + 96) old.granularity) grant ∷ []) new.system
-  pub apart : is_put_before grant (state_of word old).segments ≡ false
-  pub state : state_of word new ≡ granted grant n (state_of word old)
-  pub sound : IsSound regions word new
-  pub there : 0 < new.size
-  pub room : n < new.top_size
-  pub long : n + 96 ≤ grant.size
-  pub begins : BeginsTop old grant new.top
-  pub with_it : regions new.system ≡ with_grant grant (regions old.system)
-  pub fresh : AllByRecursion (IsApart grant.base (grant.base + grant.size)) (regions old.system)
-  pub used : HasSameUsed (state_of word old) (state_of word new)
-  pub words : OnlyOwnOrTagsChange (regions old.system) (state_of word old) (state_of word new) (word old.system) (word new.system)
-  -- of the grant only the heads of the top and of its foot are written
-  pub new_words : zeros old.system ≡ true → (k : ℕ) → grant.base ≤ k → k < grant.base + grant.size → k % 8 ≡ 0 → k ≢ new.top + 8 → k ≢ new.top + new.top_size + 8 → word new.system k ≡ 0
 
 -- After some events nothing was granted, and all is as it was.
 pub record IsAsItWas {A : Type 0} (regions : A → List Grant) (word : A → ℕ → ℕ) (follows : A → List Event → A → Type 0) (refuses : A → A → Type 0) (events : List Event) (old new : Dlmalloc A) : Type 0 where

@@ -3,6 +3,7 @@ use Rattle.std.specs.Prelude.{◌≡◌, ◌≢◌, ℕ, ◌+◌, ◌-◌, ◌%�
 use Rattle.std.specs.Int.{IsPowerOfTwo}
 use Rattle.heap_memory.specs.declared.grant.Grant.{Grant}
 use Rattle.heap_memory.specs.declared.links.Links.{Ghosts as Links}
+use Rattle.heap_memory.specs.Asks.{AsksNothing}
 use Rattle.heap_memory.specs.Events.{Event}
 use Rattle.heap_memory.specs.Regions.{IsWordOf}
 use Rattle.dlmalloc_chunks.specs.declared.extent.Extent.{Extent}
@@ -94,13 +95,13 @@ pub record CanLoseLead (heap : HeapState) (at size place : ℕ) : Type 0 where
 
 -- What stood before a place in a chunk in use was freed: what is left of the chunk begins there. Other blocks keep their words, and the
 -- system was asked for nothing.
-pub record LosesLead {A : Type 0} (regions : A → List Grant) (word : A → ℕ → ℕ) (follows : A → List Event → A → Type 0) (old : Dlmalloc A) (at place : ℕ) (new : Dlmalloc A) : Type 0 where
-  pub others : HasOneMoved (state_of word old) (state_of word new) at place
-  pub kept : KeepsOthers (state_of word old) at (word old.system) (word new.system)
-  pub sound : IsSound regions word new
-  pub bins : KeepsBinsInOrder regions word old new
-  pub regions_same : regions new.system ≡ regions old.system
-  pub followed : follows old.system [] new.system
+pub record LosesLead {A : Type 0} (links : Links A) (old : Dlmalloc A) (at place : ℕ) (new : Dlmalloc A) : Type 0 where
+  pub others : HasOneMoved (state_of links.word old) (state_of links.word new) at place
+  pub kept : KeepsOthers (state_of links.word old) at (links.word old.system) (links.word new.system)
+  pub sound : IsSoundBy links new
+  pub bins : KeepsBinsInOrder links.regions links.word old new
+  pub asks : AsksNothing links old.system new.system
+  pub open asks use *
 
 -- A chunk in use has n bytes: what is behind them can be freed.
 pub record CanLoseTail (heap : HeapState) (at size n : ℕ) : Type 0 where

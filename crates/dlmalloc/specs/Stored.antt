@@ -1,22 +1,17 @@
 -- What calls need that store into the memory of a heap, and what they leave there.
-use Rattle.std.specs.Prelude.{◌≡◌, ◌≢◌, ℕ, ◌+◌, ◌-◌, ◌%◌, ◌^◌, ◌<◌, ◌≤◌, Bool, true, false, List, []}
+use Rattle.std.specs.Prelude.{◌≡◌, ◌≢◌, ℕ, ◌+◌, ◌-◌, ◌%◌, ◌^◌, ◌<◌, ◌≤◌, Bool, true, false, List}
 use Rattle.heap_memory.specs.declared.grant.Grant.{Grant}
 use Rattle.heap_memory.specs.declared.links.Links.{Ghosts as Links}
 use Rattle.heap_memory.specs.Regions.{IsWordOf}
-use Rattle.dlmalloc_chunks.specs.Chunk.{HasHead, HasFoot, AreStored}
+use Rattle.heap_memory.specs.Asks.{AsksNothing}
+use Rattle.dlmalloc_chunks.specs.Chunk.{HasHead, HasFoot}
 use Rattle.dlmalloc_chunks.specs.Head.{pinuse_of}
 
 -- Of the granted words those of a kind are as they were, and the system was asked for nothing.
 pub record KeepsWords {A : Type 0} (links : Links A) (kept : ℕ → Type 0) (old new : A) : Type 0 where
   pub elsewhere : (k : ℕ) → IsWordOf (links.regions old) k → kept k → links.word new k ≡ links.word old k
-  pub regions_same : links.regions new ≡ links.regions old
-  pub followed : links.follows old [] new
-
--- Some stores were made one after another, and the system was asked for nothing.
-pub record StoresAlone {A : Type 0} (links : Links A) (stores : List (ℕ × ℕ)) (old new : A) : Type 0 where
-  pub stored : AreStored (links.regions old) (links.word old) stores (links.word new)
-  pub regions_same : links.regions new ≡ links.regions old
-  pub followed : links.follows old [] new
+  pub asks : AsksNothing links old new
+  pub open asks use *
 
 -- ---- the top
 
@@ -33,8 +28,8 @@ pub record IsTopClosed {A : Type 0} (links : Links A) (top end : ℕ) (old new :
   pub head : links.word new (top + 8) ≡ end - 80 - top + 1
   pub foot_head : links.word new (end - 72) ≡ 80
   pub elsewhere : (k : ℕ) → IsWordOf (links.regions old) k → k ≢ top + 8 → k ≢ end - 72 → links.word new k ≡ links.word old k
-  pub regions_same : links.regions new ≡ links.regions old
-  pub followed : links.follows old [] new
+  pub asks : AsksNothing links old new
+  pub open asks use *
 
 -- ---- chunks
 

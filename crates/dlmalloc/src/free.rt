@@ -1,9 +1,9 @@
 // Freeing a block.
 ghost use Rattle.std.specs.Prelude.{◌≡◌, ◌≢◌, ℕ, ◌+◌, ◌-◌, ◌^◌, ◌<◌, ◌≤◌, ◌==◌, true, false, if◌then◌else◌, [], ◌∷◌, IfSome, IfNone};
-ghost use Rattle.dlmalloc_chunks.specs.Chunk.{HasHead};
+ghost use Rattle.dlmalloc_chunks.specs.Chunk.{HasHead, StoresWords};
 ghost use Rattle.dlmalloc_chunks.specs.Head.{size_of, pinuse_of, free_of, head_of, without_pinuse};
 ghost use Rattle.dlmalloc.specs.OneChunk.{IsUsedAt, IsChunkFreed};
-ghost use Rattle.dlmalloc.specs.Stored.{StoresAlone, CanHoldFree, CanLookBack};
+ghost use Rattle.dlmalloc.specs.Stored.{CanHoldFree, CanLookBack};
 ghost use Rattle.dlmalloc.specs.Blocks.{IsBlock};
 ghost use Rattle.dlmalloc.specs.Released.{IsFreeAround};
 ghost use Rattle.dlmalloc.specs.Heap.{state_of, IsSoundBy};
@@ -183,7 +183,7 @@ fn make_free<M: Links, L: Ledger>(
     steps: &mut Steps<L>,
 )
     requires { CanHoldFree (M.regions memory.old) (M.word memory.old) chunk size is_told }
-    ensures freed { StoresAlone M.Links
+    ensures freed { StoresWords M.Links
         ((chunk + size + 8, without_pinuse (M.word memory.old (chunk + size + 8))) ∷ (chunk + 8, head_of size true false) ∷ (chunk + size, size) ∷ []) memory.old memory.new }
     ensures counted { steps.new ≤ steps.old + 4 }
 {

@@ -1,6 +1,5 @@
 // Asking the system for a region, and what becomes of it.
-ghost use Rattle.std.specs.Prelude.{◌≡◌, ℕ, ◌+◌, ◌-◌, ◌%◌, ◌^◌, ◌<◌, ◌≤◌, ◌⊎◌, true, false, ◌&&◌, ◌==◌, nat_le, nat_lt, if◌then◌else◌, [], ◌∷◌, None, Some, IfOk, IfErr};
-ghost use Rattle.std.specs.List.{AllByRecursion};
+ghost use Rattle.std.specs.Prelude.{◌≡◌, ◌+◌, ◌-◌, ◌%◌, ◌^◌, ◌<◌, ◌≤◌, true, false, ◌&&◌, ◌==◌, nat_le, nat_lt, if◌then◌else◌, [], ◌∷◌, None, Some, IfOk, IfErr};
 ghost use Rattle.dlmalloc_chunks.specs.Request.{round_up};
 ghost use Rattle.heap_memory.specs.Events.{Refused};
 ghost use Rattle.dlmalloc_chunks.specs.Chunk.{HasFoot};

@@ -1,4 +1,4 @@
-ghost use Rattle.std.specs.Prelude.{◌≡◌, ◌↔◌, ◌≢◌, ℕ, ◌+◌, ◌≤◌, if◌then◌else◌, IsTrue};
+ghost use Rattle.std.specs.Prelude.{◌≡◌, ◌↔◌, if◌then◌else◌, IsTrue};
 ghost use Rattle.dlmalloc.specs.State.{new_heap, countdown_from};
 ghost use Rattle.dlmalloc.specs.Heap.{state_of, IsSoundBy, IsGranularity};
 ghost use Rattle.dlmalloc.specs.Order.{KeepsIndex};

@@ -1,10 +1,10 @@
 // Requests for blocks.
-ghost use Rattle.std.specs.Prelude.{◌≡◌, ◌≢◌, ℕ, ◌+◌, ◌-◌, ◌^◌, ◌<◌, ◌≤◌, [], ◌∷◌, None, IfOk, IfErr};
+ghost use Rattle.std.specs.Prelude.{◌≢◌, ◌+◌, ◌-◌, ◌^◌, ◌<◌, ◌≤◌, [], ◌∷◌, None, IfOk, IfErr};
 ghost use Rattle.std.specs.Int.{IsPowerOfTwo};
 ghost use Rattle.dlmalloc.specs.Extents.{IsChunkSize};
 ghost use Rattle.dlmalloc.specs.Choice.{chosen};
 ghost use Rattle.dlmalloc.specs.Heap.{state_of};
-ghost use Rattle.dlmalloc.specs.Grown.{IsAsItWas, MustGrow};
+ghost use Rattle.dlmalloc.specs.Grown.{IsAsItWas};
 ghost use Rattle.dlmalloc.specs.Outcome.{IsAllocatedBy};
 ghost use Rattle.dlmalloc.specs.Requested.{asked};
 ghost use Rattle.dlmalloc.specs.Order.{KeepsBinsInOrder, KeepsOrder};

@@ -6,7 +6,6 @@ ghost use Rattle.dlmalloc_chunks.specs.Request.{enlarged, padded};
 ghost use Rattle.dlmalloc.specs.Extents.{IsChunkSize};
 ghost use Rattle.dlmalloc.specs.Blocks.{IsBlock};
 ghost use Rattle.dlmalloc.specs.Boundaries.{IsOwn};
-ghost use Rattle.dlmalloc.specs.Resized.{HasSameOthers};
 ghost use Rattle.dlmalloc.specs.Aligned.{aligned_place, lead_freed, tail_cut};
 ghost use Rattle.dlmalloc.specs.Heap.{state_of};
 ghost use Rattle.dlmalloc.specs.OneChunk.{IsUsedAt, IsAligned, LosesLead, CanLoseLead, CanLoseTail, ResizesOne};
@@ -101,7 +100,7 @@ impl<A: Allocator> Dlmalloc<A> {
         requires can { CanLoseLead (state_of A.word self.old) at size place }
         ensures state { state_of A.word self.new ≡ lead_freed (state_of A.word self.old) at place }
         ensures chunk { IsUsedAt (state_of A.word self.new) place (size - (place - at)) }
-        ensures lead { LosesLead A.regions A.word A.follows self.old at place self.new }
+        ensures lead { LosesLead A.Links self.old at place self.new }
         ensures words { (k : ℕ) → IsWordOf (A.regions self.old.system) k → (IsOwn (state_of A.word self.old) k → ⊥) → (IsOwn (state_of A.word self.new) k → ⊥) → A.word self.new.system k ≡ A.word self.old.system k }
         ensures counted { steps.new ≤ steps.old + 534 }
     {

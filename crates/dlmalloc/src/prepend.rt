@@ -4,7 +4,7 @@ ghost use Rattle.std.specs.List.{list_any};
 ghost use Rattle.heap_memory.specs.Regions.{IsWordOf};
 ghost use Rattle.dlmalloc_chunks.specs.Head.{head_of};
 ghost use Rattle.dlmalloc.specs.Granted.{is_before, is_put_before};
-ghost use Rattle.dlmalloc.specs.Heap.{state_of, segments_of, IsSoundBy};
+ghost use Rattle.dlmalloc.specs.Heap.{segments_of, IsSoundBy};
 ghost use Rattle.dlmalloc.specs.Grown.{IsPutBefore, IsPrependedBesideBins};
 ghost use Rattle.dlmalloc.specs.Prepended.{IsBehindAt, CanPutBefore};
 ghost use Rattle.dlmalloc.specs.Stored.{KeepsWords, CanHoldTwo};

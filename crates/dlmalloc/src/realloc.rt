@@ -1,5 +1,5 @@
 // Blocks that get another size.
-ghost use Rattle.std.specs.Prelude.{◌≡◌, ◌≢◌, ℕ, ◌+◌, ◌*◌, ◌-◌, ◌%◌, ◌<◌, ◌≤◌, min, None, Some, IfOk, IfErr, IfSome, MatchOption};
+ghost use Rattle.std.specs.Prelude.{◌≡◌, ◌≢◌, ◌+◌, ◌*◌, ◌-◌, ◌<◌, ◌≤◌, min, None, Some, IfOk, IfErr, IfSome, MatchOption};
 ghost use Rattle.std.specs.Int.{IsPowerOfTwo};
 ghost use Rattle.dlmalloc_chunks.specs.Request.{padded};
 ghost use Rattle.dlmalloc.specs.OneChunk.{HoldsBytes};

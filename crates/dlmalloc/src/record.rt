@@ -1,9 +1,10 @@
 // The record at the end of a segment that is not the head.
 ghost use Rattle.std.specs.Prelude.{◌≡◌, ℕ, ◌+◌, ◌%◌, ◌^◌, ◌<◌, ◌≤◌, ◌⊎◌, true, [], ◌∷◌};
 ghost use Rattle.heap_memory.specs.Regions.{IsWordOf};
+ghost use Rattle.dlmalloc_chunks.specs.Chunk.{StoresWords};
 ghost use Rattle.dlmalloc_chunks.specs.Head.{head_of};
 ghost use Rattle.dlmalloc.specs.Record.{IsRecordAt};
-ghost use Rattle.dlmalloc.specs.Stored.{KeepsWords, StoresAlone, CanHoldRecord};
+ghost use Rattle.dlmalloc.specs.Stored.{KeepsWords, CanHoldRecord};
 
 use crate::layout::{BLOCK, CINUSE, FENCE, FENCES, HEAD, PINUSE, RECORD_CHUNK};
 use heap_memory::{Links, Steps};
@@ -57,7 +58,7 @@ fn put_payload<M: Links, L: Ledger>(
     requires high { at + 48 < 2 ^ 64 }
     requires granted { (k : ℕ) → at < k → k < at + 48 → k % 8 ≡ 0 → IsWordOf (M.regions memory.old) k }
     requires aligned { at % 8 ≡ 0 }
-    ensures { StoresAlone M.Links
+    ensures { StoresWords M.Links
         ((at + 8, head) ∷ (at + 16, told.now.base) ∷ (at + 16 + 8, told.now.size) ∷ (at + 16 + 16, told.now.next) ∷ (at + 16 + 24, told.now.flags) ∷ []) memory.old memory.new }
 {
     let payload = at + BLOCK;

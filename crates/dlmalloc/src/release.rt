@@ -1,5 +1,5 @@
 // Giving whole segments back to the system.
-ghost use Rattle.std.specs.Prelude.{◌≡◌, ◌≢◌, ℕ, ◌+◌, ◌-◌, ◌%◌, ◌^◌, ◌<◌, ◌≤◌, true, false, not, ◌&&◌, ◌==◌, max, if◌then◌else◌, filter, [], ◌∷◌};
+ghost use Rattle.std.specs.Prelude.{◌≡◌, ◌≢◌, ℕ, ◌+◌, ◌-◌, ◌%◌, ◌^◌, ◌<◌, ◌≤◌, true, false, ◌&&◌, ◌==◌, max, if◌then◌else◌, filter, [], ◌∷◌};
 ghost use Rattle.heap_memory.specs.Regions.{IsWordOf};
 ghost use Rattle.heap_memory.specs.Runs.{IsRun};
 ghost use Rattle.dlmalloc_chunks.specs.Chunk.{HasHead};

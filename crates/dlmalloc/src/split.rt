@@ -3,7 +3,7 @@ ghost use Rattle.std.specs.Prelude.{◌≡◌, ◌≢◌, ℕ, ◌+◌, ◌-◌,
 ghost use Rattle.heap_memory.specs.Regions.{IsWordOf};
 ghost use Rattle.dlmalloc.specs.Boundaries.{IsInFree, IsOwn};
 ghost use Rattle.dlmalloc.specs.Freed.{freed};
-ghost use Rattle.dlmalloc.specs.Resized.{exchanged, halves, tail_freed, HasSameOthers, CanSplit};
+ghost use Rattle.dlmalloc.specs.Resized.{exchanged, halves, tail_freed, CanSplit};
 ghost use Rattle.dlmalloc.specs.Heap.{state_of, IsSoundBy};
 ghost use Rattle.dlmalloc.specs.OneChunk.{IsUsedAt, IsSplit, LosesLead, ResizesOne};
 ghost use Rattle.dlmalloc.specs.Binned.{IsIntactBy};
@@ -46,7 +46,7 @@ impl<A: Allocator> Dlmalloc<A> {
         requires split { CanSplit (state_of A.word self.old) at size n }
         ensures state { state_of A.word self.new ≡ freed (exchanged (state_of A.word self.old) at (halves n)) at }
         ensures second { IsUsedAt (state_of A.word self.new) (at + n) (size - n) }
-        ensures lead { LosesLead A.regions A.word A.follows self.old at (at + n) self.new }
+        ensures lead { LosesLead A.Links self.old at (at + n) self.new }
         ensures words { (k : ℕ) → IsWordOf (A.regions self.old.system) k → k ≢ at + 8 → (IsInFree (state_of A.word self.old) k → ⊥) → (IsOwn (state_of A.word self.new) k → ⊥) → A.word self.new.system k ≡ A.word self.old.system k }
         ensures counted { steps.new ≤ steps.old + 534 }
     {

@@ -1,13 +1,13 @@
 // Walking over the chunks before the top, and choosing the one that serves a request.
-ghost use Rattle.std.specs.Prelude.{◌≡◌, ◌≢◌, ℕ, ◌+◌, ◌-◌, ◌<◌, ◌≤◌, ◌&&◌, if◌then◌else◌, map, option_map, [], Some, None, IfSome, ◌↔◌, ◌++◌, OnOk, IfOk};
+ghost use Rattle.std.specs.Prelude.{◌≡◌, ◌≢◌, ◌+◌, ◌-◌, ◌<◌, ◌≤◌, if◌then◌else◌, option_map, Some, None, IfSome};
 ghost use Rattle.dlmalloc_chunks.specs.declared.extent.Extent.{Extent};
 ghost use Rattle.dlmalloc_chunks.specs.declared.extent.Kind.TheVariants.{Used, Free, Top};
 ghost use Rattle.dlmalloc_chunks.specs.Chunk.{HasHead};
 ghost use Rattle.dlmalloc.specs.Extents.{extent_at};
-ghost use Rattle.dlmalloc.specs.State.{is_free_below_top, shown, extents_in, is_binned};
+ghost use Rattle.dlmalloc.specs.State.{is_free_below_top, extents_in};
 ghost use Rattle.dlmalloc.specs.Choice.{least_fit, goes_first, chosen, IsChosen};
 ghost use Rattle.dlmalloc.specs.Stored.{LiesInItsSegment};
-ghost use Rattle.dlmalloc.specs.Walk.{chunk_told, chunks_between, IsChunkRun};
+ghost use Rattle.dlmalloc.specs.Walk.{chunk_told};
 ghost use Rattle.dlmalloc.specs.Binned.{IsIntactBy, IsMember};
 ghost use Rattle.dlmalloc.specs.declared.walk.Place.{Place};
 ghost use Rattle.dlmalloc.specs.declared.walk.Choice.TheVariants.{Chunk, Top as OfTop};

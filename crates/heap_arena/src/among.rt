@@ -1,5 +1,5 @@
 // Calls of several arenas, by ascending address: each is of the first arena that has to do with it, or of all.
-ghost use Rattle.std.specs.Prelude.{◌≡◌, ◌+◌, ◌%◌, ◌<◌, ◌≤◌, false, [], ◌∷◌, Some, IfOk, IfErr, IfSome, IfNone, OnErr, IsTrue, length, insert};
+ghost use Rattle.std.specs.Prelude.{◌≡◌, ◌+◌, ◌%◌, ◌<◌, ◌≤◌, false, [], Some, IfOk, IfErr, IfSome, IfNone, OnErr, IsTrue, length, insert};
 ghost use Rattle.std.specs.List.{list_any};
 ghost use Rattle.heap_memory.specs.Regions.{IsWordOf};
 ghost use Rattle.heap_arena.specs.Arenas.{are_in_order, regions_of_all, word_among, overlaps, AreTakenBack, AreUnwritten, IsGrantedAmong, IsWordPutAmong, IsDeniedByAll};

@@ -17,7 +17,7 @@ pub struct Arenas<'a, const N: usize> {
 }
 
 impl<'a, const N: usize> Arenas<'a, N> {
-    ghost use Rattle.std.specs.Prelude.{◌≡◌, ℕ, ◌≤◌, [], length, slice_get, OnErr, OnOk, IfErr, IfSome, IfNone};
+    ghost use Rattle.std.specs.Prelude.{◌≡◌, ◌≤◌, [], length, slice_get, OnErr, OnOk, IfErr, IfSome, IfNone};
     ghost use Rattle.heap_arena.specs.Arenas.{IsAdded, IsNotAdded};
 
     /// No arenas: each request is denied.

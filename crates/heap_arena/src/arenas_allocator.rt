@@ -1,5 +1,5 @@
 // What several arenas grant and take back.
-ghost use Rattle.std.specs.Prelude.{◌≡◌, ℕ, ◌+◌, ◌%◌, ◌<◌, ◌≤◌, true, false, [], ◌∷◌, Some, IfOk, IfErr, OnErr, IsTrue, refl};
+ghost use Rattle.std.specs.Prelude.{◌≡◌, ℕ, ◌+◌, ◌%◌, ◌<◌, ◌≤◌, true, false, [], ◌∷◌, IfOk, IfErr, OnErr, IsTrue, refl};
 ghost use Rattle.std.specs.Int.{is_power_of_two};
 ghost use Rattle.heap_memory.specs.Events.{Refused, Released};
 ghost use Rattle.heap_memory.specs.Regions.{IsWordOf};

@@ -1,5 +1,5 @@
 // The bars of a row.
-ghost use Rattle.std.specs.Prelude.{◌≡◌, ◌<◌, ◌≤◌, ◌^◌, ◌++◌, OnOk};
+ghost use Rattle.std.specs.Prelude.{◌≡◌, ◌<◌, ◌≤◌, ◌++◌, OnOk};
 ghost use Rattle.heap_cells.specs.Bars.{bar_of, bars_of};
 
 use std::alloc::AllocError;

@@ -1,5 +1,5 @@
 // How a run is cut into cells.
-ghost use Rattle.std.specs.Prelude.{◌≡◌, ◌<◌, ◌≤◌};
+ghost use Rattle.std.specs.Prelude.{◌≡◌, ◌≤◌};
 ghost use Rattle.heap_cells.specs.Shades.{cell_columns};
 
 /// How a run is cut into cells.

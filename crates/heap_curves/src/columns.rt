@@ -1,5 +1,5 @@
 // The columns of the curves: one for each call, and 1024 at most.
-ghost use Rattle.std.specs.Prelude.{◌≡◌, ◌≤◌, ◌+◌, IfOk, length};
+ghost use Rattle.std.specs.Prelude.{◌≡◌, ◌≤◌, ◌+◌, IfOk};
 ghost use Rattle.heap_curves.specs.Columns.{bytes_counted, greatest, columns_number, column_start, columns_of};
 
 use heap_history::Moment;

@@ -1,5 +1,5 @@
 // A heap over words of the caller, whose calls look at what they are given.
-ghost use Rattle.std.specs.Prelude.{◌≡◌, ◌≢◌, ℕ, ◌*◌, ◌%◌, ◌^◌, ◌<◌, ◌≤◌, true, false, IsTrue, length};
+ghost use Rattle.std.specs.Prelude.{◌≡◌, ◌*◌, ◌%◌, ◌<◌, ◌≤◌, true, false, IsTrue, length};
 ghost use Rattle.heap_memory.specs.Regions.{is_granted};
 ghost use Rattle.heap_arena.specs.Arena.{regions_of};
 ghost use Rattle.heap_library.specs.Marks.{is_marked};
@@ -59,7 +59,7 @@ fn words_for_table(rest: usize, granularity: u64) -> usize
 }
 
 impl<'a> CheckedHeap<'a> {
-    ghost use Rattle.std.specs.Prelude.{◌≡◌, ◌≢◌, ◌↔◌, ℕ, ◌+◌, ◌-◌, ◌*◌, ◌/◌, ◌%◌, ◌^◌, ◌<◌, ◌≤◌, min, true, false, if◌then◌else◌, Some, None, IfOk, IfSome, IfNone, IsTrue, length, take, drop};
+    ghost use Rattle.std.specs.Prelude.{◌≡◌, ◌↔◌, ◌+◌, ◌-◌, ◌*◌, ◌/◌, ◌%◌, ◌<◌, ◌≤◌, min, true, false, if◌then◌else◌, Some, None, IfOk, IfSome, IfNone, IsTrue, length, take, drop};
     ghost use Rattle.heap_memory.specs.Words.{IsStored};
     ghost use Rattle.dlmalloc.specs.State.{countdown_from};
     ghost use Rattle.dlmalloc.specs.Heap.{IsGranularity};

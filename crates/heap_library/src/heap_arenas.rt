@@ -1,5 +1,5 @@
 // A heap over several arenas.
-ghost use Rattle.std.specs.Prelude.{◌≡◌, ℕ};
+ghost use Rattle.std.specs.Prelude.{◌≡◌};
 ghost use Rattle.dlmalloc.specs.Heap.{state_of};
 ghost use Rattle.heap_arena.specs.Arenas.{regions_of_all, word_among};
 ghost use Rattle.heap_library.specs.Answers.{IsArenaAnswered};

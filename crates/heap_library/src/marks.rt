@@ -1,5 +1,5 @@
 // Marks at addresses.
-ghost use Rattle.std.specs.Prelude.{◌≡◌, ◌≢◌, ℕ, ◌^◌, ◌<◌, true, false, length, replicate};
+ghost use Rattle.std.specs.Prelude.{◌≡◌, ℕ, ◌<◌, true, false, length, replicate};
 
 /// A bit for each 16 bytes from an address on.
 #[derive(Drop)]

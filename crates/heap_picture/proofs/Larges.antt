@@ -1,5 +1,5 @@
 -- Slots, one after another.
-use Rattle.std.proofs.Common.{◌≡◌, ℕ, suc, ◌+◌, ◌-◌, ◌*◌, ◌/◌, List, Bool, true, false, refl, sym, ◌∙◌, ap, add-one, arith}
+use Rattle.std.proofs.Common.{◌≡◌, ℕ, suc, ◌+◌, ◌-◌, ◌*◌, ◌/◌, List, Bool, refl, sym, ◌∙◌, ap, add-one}
 use Rattle.std.specs.Prelude.{if◌then◌else◌}
 use Rattle.heap_model.specs.Slots.{has_slot}
 use Rattle.heap_model.specs.declared.region.Region.{Region}

@@ -2,8 +2,6 @@
 use Rattle.std.specs.Prelude.{◌≡◌, ℕ, List, [], ◌∷◌, map, codes, String, string_bytes, if◌then◌else◌}
 use Rattle.std.specs.Str.{bytes_eq}
 use Rattle.std.specs.declared.alloc.Global.{Global}
-use Rattle.dlmalloc_chunks.specs.declared.extent.Extent.{Extent}
-use Rattle.heap_model.specs.State.{State}
 use Rattle.heap_program.specs.Streams.{Streams}
 use Rattle.heap_report.specs.declared.reported.Reported.{Reported}
 use Rattle.heap_report.specs.Reported.{EndText}

@@ -1,5 +1,5 @@
 // The regions as a picture lists them.
-ghost use Rattle.std.specs.Prelude.{◌≡◌, ◌≤◌, ◌<◌, ◌+◌, ◌^◌, IfOk};
+ghost use Rattle.std.specs.Prelude.{◌≡◌, ◌<◌, ◌+◌, ◌^◌, IfOk};
 ghost use Rattle.heap_model.specs.State.{total_pages};
 ghost use Rattle.heap_picture.specs.Lines.{same, same_rights, adjoins, with_adjoining, region_lines, most_pages};
 

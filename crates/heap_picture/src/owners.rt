@@ -1,5 +1,5 @@
 // Whose the pages of a machine are.
-ghost use Rattle.std.specs.Prelude.{◌≡◌, map, IfOk};
+ghost use Rattle.std.specs.Prelude.{◌≡◌, IfOk};
 ghost use Rattle.paged_systems.specs.System.{paged};
 ghost use Rattle.heap_picture.specs.Owners.{owned_by, owned_regions, lines_in};
 

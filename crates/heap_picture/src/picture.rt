@@ -1,5 +1,5 @@
 // The picture of a run.
-ghost use Rattle.std.specs.Prelude.{◌≡◌, ◌≤◌, ◌^◌, ◌<◌, ◌++◌, map, string_bytes, OnOk};
+ghost use Rattle.std.specs.Prelude.{◌≡◌, ◌≤◌, ◌<◌, ◌++◌, map, string_bytes, OnOk};
 ghost use Rattle.std.specs.Str.{bytes_eq};
 ghost use Rattle.dlmalloc_chunks.specs.Tiling.{AreInSegments};
 ghost use Rattle.heap_model.specs.State.{State};

@@ -1,7 +1,6 @@
 // The page tables that a run leaves.
 ghost use Rattle.std.specs.Prelude.{◌≡◌, ◌++◌, ⊤, OnOk, string_bytes};
 ghost use Rattle.paged_systems.specs.System.{paged};
-ghost use Rattle.heap_model.specs.State.{State};
 ghost use Rattle.heap_picture.specs.Style.{style};
 ghost use Rattle.heap_picture.specs.Tables.{drawing_of, tables_drawing};
 

@@ -1,8 +1,6 @@
 // A machine answers each call, and says that a bad line is one.
-ghost use Rattle.std.specs.Prelude.{◌≡◌, ◌∷◌, [], OnOk, string_bytes};
 ghost use Rattle.heap_program.specs.Answering.{IsAnswering};
 ghost use Rattle.heap_program.specs.AnsweringLaws.{answering_none, answering_on};
-ghost use Rattle.heap_program.specs.Responses.{HasResponded};
 
 use crate::respond::Respond;
 use crate::text::push_answer;

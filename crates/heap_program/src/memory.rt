@@ -1,5 +1,5 @@
 // A source and a sink in memory that go piece by piece, and of which chosen calls fail.
-ghost use Rattle.std.specs.Prelude.{◌≡◌, ◌<◌, ◌≤◌, ◌↔◌, ⊤, ◌++◌, List, [], ℕ, Some, length, min, take, IfOk, OnOk, OnErr, IsErr, IsErrOf, IsTrue};
+ghost use Rattle.std.specs.Prelude.{◌≡◌, ◌<◌, ◌≤◌, ◌↔◌, ⊤, ◌++◌, [], Some, length, min, take, IfOk, OnOk, OnErr, IsErr, IsErrOf, IsTrue};
 ghost use Rattle.heap_program.specs.Faults.{KeepsCount};
 ghost use Rattle.heap_program.specs.Planned.{fails_next, after_call, planned};
 

@@ -1,5 +1,5 @@
 // What responds to the lines of an input.
-ghost use Rattle.std.specs.Prelude.{◌≡◌, ℕ, List, [], ◌∷◌, ◌++◌, Option, OnOk, string_bytes};
+ghost use Rattle.std.specs.Prelude.{ℕ, List, [], ◌∷◌, ◌++◌, Option, OnOk, string_bytes};
 ghost use Rattle.heap_model.specs.declared.call.Call.{Call};
 ghost use Rattle.heap_program.specs.Responses.{HasResponded};
 

@@ -7,7 +7,7 @@ use Rattle.heap_model.specs.Answer.{after}
 use Rattle.heap_model.specs.Run.{IsAllowedRun}
 use Rattle.heap_model.specs.State.{State, start}
 use Rattle.heap_recorder.specs.Run.{Notes, nothing, noted, notes_from, moment, bytes_after}
-use Rattle.heap_recorder.specs.Shown.{count_shown, shows_stay, has_block, state_after, EachBlockIsDrawnOnce}
+use Rattle.heap_recorder.specs.Shown.{count_shown, has_block, state_after, EachBlockIsDrawnOnce}
 use Rattle.heap_recorder.specs.Sizes.{sizes_after}
 use Rattle.heap_recorder.specs.Stays.{stays_after}
 use Rattle.heap_recorder.proofs.Later.{ArePast, showing, later, past_later, showing_later, showing_last, shows_all}

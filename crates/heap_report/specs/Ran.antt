@@ -1,8 +1,6 @@
 -- What comes of words that are the command of a program that tells of a run.
 use Rattle.std.specs.Prelude.{◌≡◌, ℕ, List, map, String, string_bytes}
 use Rattle.std.specs.declared.alloc.Global.{Global}
-use Rattle.dlmalloc_chunks.specs.declared.extent.Extent.{Extent}
-use Rattle.heap_model.specs.State.{State}
 use Rattle.heap_program.specs.Streams.{Streams}
 use Rattle.heap_report.specs.declared.reported.Reported.{Reported}
 use Rattle.heap_report.specs.Reported.{EndText}

@@ -1,14 +1,14 @@
 -- The lines of page tables are what walks find.
-use Rattle.std.proofs.Common.{◌≡◌, ◌<◌, ◌^◌, ℕ, List, Bool, false, Some, None, sym, ◌∙◌, ap, subst, arith}
+use Rattle.std.proofs.Common.{◌≡◌, ◌<◌, ◌^◌, ℕ, List, false, Some, None, sym, ◌∙◌, ap, subst, arith}
 use Rattle.std.specs.List.{list_any}
 use Rattle.paging_core.specs.Prefix.{prefix_of}
 use Rattle.paging_core.specs.Walk.{reach, walk_of, top}
 use Rattle.paging_core.proofs.Prefixes.{reach_root}
 use Rattle.heap_tables.specs.declared.lines.Line.{Line}
 use Rattle.heap_tables.specs.declared.owners.Owned.{Owned}
-use Rattle.heap_tables.specs.Lines.{lines_under, entry_lines_of}
-use Rattle.heap_tables.specs.Joining.{joined_lines, joined_table_lines}
-use Rattle.heap_tables.specs.Walked.{AreTableLines, AreOwned, AreWalked, IsOwned, IsWalked, EachPageIsInItsLine, line_has_page}
+use Rattle.heap_tables.specs.Lines.{entry_lines_of}
+use Rattle.heap_tables.specs.Joining.{joined_table_lines}
+use Rattle.heap_tables.specs.Walked.{AreOwned, AreWalked, IsOwned, IsWalked, EachPageIsInItsLine, line_has_page}
 use Rattle.heap_tables.proofs.Joins.{walked_joined, owned_joined, has_joined, greatest_joined}
 use Rattle.heap_tables.proofs.Belonging.{all_owned}
 use Rattle.heap_tables.proofs.Walks.{under_hold, all_walked}

@@ -1,7 +1,6 @@
 -- A place, and what is below it.
-use Rattle.std.proofs.Common.{◌≡◌, ◌<◌, ◌≤◌, ℕ, zero, suc, ◌+◌, ◌-◌, ◌%◌, List, [], ◌∷◌, ◌++◌, refl, ◌∙◌, ap, arith}
+use Rattle.std.proofs.Common.{◌≡◌, ◌≤◌, ℕ, zero, suc, ◌+◌, ◌-◌, ◌%◌, List, [], ◌∷◌, refl, ◌∙◌, ap, arith}
 use Rattle.paging_core.specs.Walk.{Place}
-use Rattle.heap_tables.specs.declared.lines.Line.{Line}
 use Rattle.heap_tables.specs.declared.owners.Owned.{Owned}
 use Rattle.heap_tables.specs.Lines.{line_of, lowest_page_below, entries_lines, lines_under}
 

@@ -1,16 +1,12 @@
 -- What lines say is what walks find.
-use Rattle.std.proofs.Common.{◌≡◌, ◌<◌, ◌≤◌, ℕ, zero, suc, ◌+◌, ◌-◌, ◌*◌, ◌/◌, ◌%◌, ◌^◌, Bool, true, false, ◌||◌, List, [], ◌∷◌, ◌++◌, Option, Some, None, nat_eq, nat_le, nat_lt, refl, sym, ◌∙◌, ap, subst, arith}
-use Rattle.std.specs.List.{list_any, AllByRecursion}
-use Rattle.std.proofs.lemmas.Bool.Decides.{nat_tests}
-use Rattle.std.proofs.lemmas.List.Folds.{list_any-append}
-use Rattle.paging_core.specs.Prefix.{prefix_of}
-use Rattle.paging_core.specs.Walk.{Place, step, large_step, large_from, large_of, next_from, page_in, reach, walk_of, top}
-use Rattle.paging_core.proofs.Reach.{reach_suc, reach_last, reach_in, reach_none, large_is}
-use Rattle.paging_core.proofs.Prefixes.{prefix_parent, prefix_more, walk_reach, walk_stops, none_more, reach_root}
+use Rattle.std.proofs.Common.{◌≡◌, ◌<◌, ◌≤◌, ℕ, zero, suc, ◌+◌, ◌-◌, ◌*◌, ◌/◌, ◌%◌, ◌^◌, List, [], ◌∷◌, ◌++◌, Option, Some, None, ◌∙◌, ap, subst, arith}
+use Rattle.std.specs.List.{AllByRecursion}
+use Rattle.paging_core.specs.Walk.{Place, step, large_step, large_from, large_of, next_from, reach, walk_of}
+use Rattle.paging_core.proofs.Reach.{reach_suc, reach_last, reach_in, large_is}
 use Rattle.heap_tables.specs.declared.lines.Line.{Line}
 use Rattle.heap_tables.specs.declared.owners.Owned.{Owned}
-use Rattle.heap_tables.specs.Lines.{line_of, large_lines, lines_below, large_entry_of, entry_lines, entries_lines, lowest_page_below, lines_under, entry_lines_of}
-use Rattle.heap_tables.specs.Walked.{place_in, IsWalked, line_has_page}
+use Rattle.heap_tables.specs.Lines.{line_of, large_lines, lines_below, large_entry_of, entry_lines, entries_lines, lowest_page_below, lines_under}
+use Rattle.heap_tables.specs.Walked.{IsWalked}
 
 -- an entry of a table that is met leads where the walk goes on
 pub step_met : (words : List ℕ) (root l number index : ℕ) (table : Place) → l ≤ 3 → index < 512 → reach words root (3 - l) number ≡ Some table →

@@ -1,5 +1,5 @@
 -- A line of page tables as a row of a drawing.
-use Rattle.std.specs.Prelude.{ℕ, zero, suc, ◌+◌, ◌-◌, ◌*◌, ◌/◌, ◌%◌, ◌^◌, max, Bool, ◌&&◌, nat_eq, nat_lt, nat_le, List, [], ◌∷◌, ◌++◌, codes, if◌then◌else◌}
+use Rattle.std.specs.Prelude.{ℕ, zero, suc, ◌+◌, ◌-◌, ◌*◌, ◌/◌, max, Bool, nat_eq, List, [], ◌++◌, codes, if◌then◌else◌}
 use Rattle.heap_lines.specs.Written.{rights_word}
 use Rattle.heap_map.specs.Words.{hexadecimal, commas, quantity}
 use Rattle.heap_map.specs.Shapes.{text_at, rect, titled}

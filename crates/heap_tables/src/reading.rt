@@ -1,12 +1,12 @@
 // The lines of page tables, read from their words.
-ghost use Rattle.std.specs.Prelude.{◌≡◌, ◌+◌, ◌-◌, ◌*◌, ◌<◌, ◌≤◌, ◌^◌, ◌++◌, ◌∷◌, [], IfOk, OnOk};
+ghost use Rattle.std.specs.Prelude.{◌≡◌, ◌+◌, ◌-◌, ◌*◌, ◌<◌, ◌≤◌, ◌^◌, ◌++◌, IfOk, OnOk};
 ghost use Rattle.std.specs.Option.{option_map};
 ghost use Rattle.paging_core.specs.Memory.{frame_count};
-ghost use Rattle.paging_core.specs.Walk.{mapped_place, step, top};
-ghost use Rattle.heap_tables.specs.Lines.{line_of, large_lines, large_entry_of, lowest_page_below, entry_lines, entries_lines, lines_under, entry_lines_of};
+ghost use Rattle.paging_core.specs.Walk.{mapped_place, top};
+ghost use Rattle.heap_tables.specs.Lines.{line_of, large_lines, large_entry_of, lowest_page_below, entry_lines, lines_under};
 ghost use Rattle.heap_tables.specs.Joining.{joined_table_lines};
 ghost use Rattle.heap_tables.specs.Owners.{AreOwnedAscending};
-ghost use Rattle.heap_tables.specs.Walked.{AreWalked, AreOwned, AreTableLines};
+ghost use Rattle.heap_tables.specs.Walked.{AreWalked, AreOwned};
 
 use crate::entries::{large_entry_of, next};
 use crate::joining::joined;

@@ -2,8 +2,8 @@
 ghost use Rattle.std.specs.Prelude.{◌≡◌, ◌<◌, ◌≤◌, ◌+◌, ◌^◌, ◌++◌, ◌*◌, nat_lt, if◌then◌else◌, length, drop, take, OnOk, string_bytes};
 ghost use Rattle.std.specs.List.{sum_by, list_any};
 ghost use Rattle.heap_tables.specs.Rows.{line_pages};
-ghost use Rattle.heap_tables.specs.Uses.{use_count, same_use, uses_of};
-ghost use Rattle.heap_tables.specs.Tables.{table_rows_text, rows_shown, rows_number, more_words, more_text, list_text, lines_heading, entries_heading, title_words, columns_heading, heading_text, use_class, use_words, one_words, count_words, count_text, frames_legend_text, main_use, square_grown, square_frames, square_title, square_text, squares_text, squares_number, scale_words, frames_text, below_rows, tables_height, tables_text};
+ghost use Rattle.heap_tables.specs.Uses.{same_use, uses_of};
+ghost use Rattle.heap_tables.specs.Tables.{table_rows_text, rows_shown, more_words, more_text, list_text, lines_heading, entries_heading, title_words, columns_heading, heading_text, use_class, use_words, one_words, count_words, count_text, frames_legend_text, main_use, square_frames, square_title, square_text, squares_text, squares_number, scale_words, frames_text, below_rows, tables_height, tables_text};
 
 use crate::lines::Line;
 use crate::rows::{pages_of, push_row};

@@ -1,5 +1,5 @@
 // The frames of a memory, by their use.
-ghost use Rattle.std.specs.Prelude.{◌≡◌, ◌≤◌, List, ◌∷◌, length, IfOk};
+ghost use Rattle.std.specs.Prelude.{◌≡◌, List, ◌∷◌, length, IfOk};
 ghost use Rattle.heap_tables.specs.declared.lines.Line.{Line};
 ghost use Rattle.heap_tables.specs.Uses.{use_of_owner, use_in, uses_of, same_use, use_count};
 

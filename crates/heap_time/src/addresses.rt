@@ -3,7 +3,7 @@ ghost use Rattle.std.specs.Prelude.{◌≡◌, ◌<◌, ◌≤◌, ◌^◌, ◌+
 ghost use Rattle.std.specs.List.{All};
 ghost use Rattle.heap_map.specs.Words.{hexadecimal};
 ghost use Rattle.heap_time.specs.Bands.{IsBand};
-ghost use Rattle.heap_time.specs.Addresses.{beside_text, folded_words, step_grown, step_of, tick_text, ticks_text, top_text, band_ticks_text, band_scale_text, address_text, addresses_text};
+ghost use Rattle.heap_time.specs.Addresses.{beside_text, folded_words, step_of, tick_text, ticks_text, top_text, band_ticks_text, band_scale_text, address_text, addresses_text};
 
 use crate::bands::place_of;
 use heap_history::Band;

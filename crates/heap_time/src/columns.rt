@@ -1,5 +1,5 @@
 // What is said of columns of the run.
-ghost use Rattle.std.specs.Prelude.{◌≡◌, ◌<◌, ◌^◌, ◌++◌, OnOk, string_bytes};
+ghost use Rattle.std.specs.Prelude.{◌≡◌, ◌<◌, ◌++◌, OnOk, string_bytes};
 ghost use Rattle.heap_time.specs.Columns.{last_call, live_words, moment_words, moment_title, column_text, columns_text};
 
 use heap_history::Moment;

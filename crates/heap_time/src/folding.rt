@@ -1,6 +1,6 @@
 // Ranges between neighbouring edges, and which of them are folded.
-ghost use Rattle.std.specs.Prelude.{◌≡◌, ◌<◌, ◌≤◌, ◌^◌, length, IfOk, if◌then◌else◌};
-ghost use Rattle.heap_time.specs.Axis.{ranges_of, range_size, is_folded, greater, greatest_range, scaled_bytes, is_too_great, folded_to, folds_from, folds_of};
+ghost use Rattle.std.specs.Prelude.{◌≡◌, ◌<◌, IfOk, if◌then◌else◌};
+ghost use Rattle.heap_time.specs.Axis.{ranges_of, range_size, is_folded, greater, greatest_range, scaled_bytes, is_too_great, folds_of};
 
 use std::alloc::{AllocError, Global};
 

@@ -1,6 +1,6 @@
 // What is written on stays.
 ghost use Rattle.std.specs.Prelude.{◌≡◌, ◌++◌, OnOk, string_bytes};
-ghost use Rattle.std.specs.List.{All, flat_map};
+ghost use Rattle.std.specs.List.{All};
 ghost use Rattle.heap_time.specs.Bands.{IsBand};
 ghost use Rattle.heap_time.specs.Labels.{stay_letters, short_label, long_label, label_at, label_in, has_label_room, stay_label_text, labels_text};
 

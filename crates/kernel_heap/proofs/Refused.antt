@@ -34,7 +34,7 @@ use Rattle.paged_systems.specs.System.{paged}
 use Rattle.kernel_heap.specs.Heap.{regions, word, follows, refuses, denies, heap_state}
 use Rattle.kernel_heap.specs.Machine.{seen_of}
 use Rattle.kernel_heap.specs.LaidOut.{IsLaidOut}
-use Rattle.kernel_heap.specs.Refusing.{refusal_of, IsRefusalOf}
+use Rattle.kernel_heap.specs.Refusing.{refusal_of}
 use Rattle.kernel_heap.specs.Blocks.{request}
 use Rattle.paged_systems.specs.declared.paged_system.PagedSystem.{PagedSystem}
 use Rattle.paged_systems.proofs.HeapRegions.{heap_of_all}

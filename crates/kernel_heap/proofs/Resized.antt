@@ -20,7 +20,6 @@ use Rattle.dlmalloc.specs.Moved.{others_at, IsGivenSize, HasByteOf}
 use Rattle.dlmalloc.specs.Served.{IsRefusedWith}
 use Rattle.dlmalloc.specs.declared.malloc_error.MallocError.{MallocError}
 use Rattle.heap_model.specs.declared.answer.Refusal.{Refusal}
-use Rattle.heap_model.specs.declared.answer.Answer.{Answer}
 use Rattle.dlmalloc.specs.declared.heap.Dlmalloc.{Dlmalloc}
 use Rattle.heap_model.specs.declared.live.Live.{Live}
 use Rattle.heap_model.specs.declared.region.Region.{Region}
@@ -47,7 +46,7 @@ use Rattle.kernel_heap.specs.Heap.{regions, word, follows, refuses, denies, heap
 use Rattle.kernel_heap.specs.Machine.{seen_of}
 use Rattle.kernel_heap.specs.Numbered.{live_at}
 use Rattle.kernel_heap.specs.LaidOut.{IsLaidOut}
-use Rattle.kernel_heap.specs.Refusing.{IsRefusalOf, refusal_of}
+use Rattle.kernel_heap.specs.Refusing.{refusal_of}
 use Rattle.kernel_heap.specs.Blocks.{resizing, align_kept, IsResizedTo}
 use Rattle.kernel_heap.specs.Moves.{marks_of, AreRegionsTold, IsToldFrom, AreSlotsTold, HeapMoves}
 use Rattle.kernel_heap.specs.declared.numbered_heap.NumberedHeap.{NumberedHeap}

@@ -1,12 +1,11 @@
 -- Regions of the user are mapped and unmapped: the answer is allowed, and the machine stands for the state after it.
-use Rattle.std.proofs.Common.{◌≡◌, ◌≢◌, ℕ, ◌+◌, ◌/◌, ◌<◌, ◌≤◌, ◌||◌, nat_lt, List, [], ◌∷◌, refl, sym, ap, ◌∙◌, subst, arith, Bool, true, false, Some, None}
+use Rattle.std.proofs.Common.{◌≡◌, ◌≢◌, ℕ, ◌+◌, ◌/◌, ◌<◌, ◌≤◌, ◌||◌, nat_lt, List, [], ◌∷◌, refl, sym, ap, ◌∙◌, arith, Bool, true, false, Some, None}
 use Rattle.std.specs.List.{list_any, AllByRecursion}
 use Rattle.std.proofs.lemmas.Bool.Decides.{nat_tests}
 use Rattle.paging_core.specs.Walk.{reached}
 use Rattle.paging_core.specs.declared.page_table.Rights.{Rights}
 use Rattle.heap_model.specs.declared.region.Region.{Region}
 use Rattle.heap_model.specs.declared.call.Call.TheVariants.{Map, Unmap}
-use Rattle.heap_model.specs.declared.answer.Answer.{Answer}
 use Rattle.heap_model.specs.declared.answer.Refusal.{Refusal}
 use Rattle.heap_model.specs.declared.answer.Reply.TheVariants.{Done}
 use Rattle.heap_model.specs.State.{State, end_of_region}
@@ -30,7 +29,7 @@ use Rattle.mapped_regions.specs.declared.map_fault.UnmapFault.TheVariants as Unm
 use Rattle.mapped_regions.specs.Mapped.{IsPageRange, HasFrames, CanMap, IsRegionJoined, IsLeft}
 use Rattle.mapped_regions.specs.UserRegions.{meets_any_heap, has_user_region, IsMapRefused, IsUnmapRefused, CanUnmap}
 use Rattle.paged_systems.specs.System.{paged}
-use Rattle.kernel_heap.specs.Refusing.{map_refusal, unmap_refusal, IsRefusal}
+use Rattle.kernel_heap.specs.Refusing.{map_refusal, unmap_refusal}
 use Rattle.kernel_heap.proofs.Refused.{refused_with, step_refused}
 
 -- ---- regions of a good state

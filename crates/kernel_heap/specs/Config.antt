@@ -1,5 +1,5 @@
 -- Configurations from which a machine can be made.
-use Rattle.std.specs.Prelude.{◌≡◌, ℕ, ◌+◌, ◌-◌, ◌*◌, ◌/◌, ◌%◌, ◌^◌, ◌<◌, ◌≤◌}
+use Rattle.std.specs.Prelude.{◌≡◌, ◌<◌}
 use Rattle.paged_systems.specs.Window.{IsHeapWindow}
 use Rattle.dlmalloc.specs.Heap.{IsGranularity}
 use Rattle.heap_model.specs.declared.config.Config.{Config}

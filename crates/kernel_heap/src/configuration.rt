@@ -1,5 +1,5 @@
 // Whether a machine can be made from a configuration.
-ghost use Rattle.std.specs.Prelude.{◌≡◌, ◌↔◌, IsTrue, IfErr, OnOk};
+ghost use Rattle.std.specs.Prelude.{◌↔◌, IsTrue, IfErr, OnOk};
 ghost use Rattle.kernel_heap.specs.Config.{IsGoodConfig, IsConfigRefused};
 ghost use Rattle.paged_systems.specs.Window.{IsHeapWindow};
 

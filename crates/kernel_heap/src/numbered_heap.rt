@@ -1,5 +1,5 @@
 // A heap over a paged system, and the blocks that were handed out of it, by number.
-ghost use Rattle.std.specs.Prelude.{◌≡◌, ◌≢◌, ℕ, ◌-◌, ◌<◌, ◌≤◌, ◌++◌, ◌∷◌, true, Some, None, IfOk, IfErr, OnErr, [], vec_capacity, length};
+ghost use Rattle.std.specs.Prelude.{◌≡◌, ◌<◌, ◌≤◌, ◌++◌, ◌∷◌, Some, None, IfOk, IfErr, OnErr, [], vec_capacity, length};
 ghost use Rattle.dlmalloc.specs.Blocks.{BlocksAreApart};
 ghost use Rattle.kernel_heap.specs.Heap.{heap_state};
 ghost use Rattle.kernel_heap.specs.LaidOut.{IsLive};

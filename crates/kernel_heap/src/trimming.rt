@@ -1,5 +1,4 @@
 // Memory of the heap that goes back to the system, as calls of the machine.
-ghost use Rattle.std.specs.Prelude.{IfOk, OnErr};
 ghost use Rattle.kernel_heap.specs.LaidOut.{IsNumberedSound};
 ghost use Rattle.kernel_heap.specs.Served.{IsServedOrNot};
 

@@ -1,5 +1,5 @@
 //! The calls on large pages: 512 pages in a row that are mapped by one entry, to 512 frames in a row.
-ghost use Rattle.std.specs.Prelude.{◌≡◌, ◌+◌, ◌*◌, ◌<◌, ◌≤◌, ◌^◌, ◌↔◌, None, Some, IsSome, IfSome, OnOk};
+ghost use Rattle.std.specs.Prelude.{◌≡◌, ◌+◌, ◌*◌, ◌<◌, ◌↔◌, None, Some, IsSome, IfSome, OnOk};
 ghost use Rattle.std.specs.Option.{option_map};
 ghost use Rattle.paging_core.specs.Large.{slot_of, missing_above};
 ghost use Rattle.paging_core.specs.Walk.{reach, large_of, mapped_place};

@@ -1,5 +1,5 @@
 //! The calls that change ranges of pages that are mapped.
-ghost use Rattle.std.specs.Prelude.{◌≡◌, ℕ, ◌+◌, ◌-◌, ◌*◌, ◌/◌, ◌%◌, ◌^◌, ◌<◌, ◌≤◌, true, false, None, Some, IsTrue, IsFalse, IsSome, IfSome, OnOk, if◌then◌else◌};
+ghost use Rattle.std.specs.Prelude.{◌≡◌, ℕ, ◌+◌, ◌-◌, ◌/◌, ◌<◌, ◌≤◌, true, false, None, Some, IsTrue, IsFalse, IsSome, IfSome, OnOk, if◌then◌else◌};
 ghost use Rattle.paging_core.specs.Address.{IsCanonicalRange};
 ghost use Rattle.paging_core.specs.Large.{slot_of};
 ghost use Rattle.paging_core.specs.LargeChanges.{IsLargeSplit};

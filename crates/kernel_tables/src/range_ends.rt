@@ -1,5 +1,5 @@
 //! What hinders a change of the pages of a range: pages that are not mapped, and large pages that reach over its ends.
-ghost use Rattle.std.specs.Prelude.{◌≡◌, ℕ, ◌+◌, ◌-◌, ◌*◌, ◌/◌, ◌%◌, ◌^◌, ◌<◌, ◌≤◌, None, IsSome};
+ghost use Rattle.std.specs.Prelude.{◌≡◌, ℕ, ◌+◌, ◌-◌, ◌*◌, ◌/◌, ◌%◌, ◌<◌, ◌≤◌, None, IsSome};
 ghost use Rattle.paging_core.specs.Address.{IsCanonicalRange};
 ghost use Rattle.kernel_tables.specs.Ranges.{lowest_unmapped, is_split, splits, change_range_fault};
 ghost use Rattle.kernel_tables.specs.TableState.{leads, IsPage};

@@ -1,5 +1,5 @@
 // Where a heap begins: in memory that C gives for good.
-ghost use Rattle.std.specs.Prelude.{◌≡◌, ℕ, ◌+◌, ◌*◌, ◌%◌, ◌^◌, ◌<◌, ◌≤◌, List, length};
+ghost use Rattle.std.specs.Prelude.{◌≡◌, ℕ, ◌*◌, ◌^◌, ◌<◌, List, length};
 ghost use types.Logic.{sem};
 ghost use base.Fraction.{full_share};
 ghost use denote.Array.{Array};

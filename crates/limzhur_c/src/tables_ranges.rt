@@ -1,5 +1,5 @@
 // What a C program or kernel calls of ranges of pages.
-ghost use Rattle.std.specs.Prelude.{◌≡◌, ◌≢◌, ◌/◌, Some};
+ghost use Rattle.std.specs.Prelude.{◌≡◌, ◌/◌, Some};
 ghost use Rattle.kernel_tables.specs.Changes.{IsMappedInARow, IsRangeUnmapped, IsRangeGranted};
 ghost use Rattle.limzhur_c.specs.TablesAnswers.{IsRangeTold};
 ghost use Rattle.limzhur_c.specs.TablesCodes.{range_code, fault_detail, map_range_cause, change_range_cause};

@@ -1,5 +1,5 @@
 // Walks that begin where an earlier one ended: at the page's frame, or at the table or the large page of its slot.
-ghost use Rattle.std.specs.Prelude.{◌≡◌, ℕ, ◌+◌, ◌*◌, ◌/◌, ◌%◌, ◌^◌, ◌<◌, List};
+ghost use Rattle.std.specs.Prelude.{◌≡◌, ℕ, ◌/◌, ◌%◌, ◌^◌, ◌<◌, List};
 ghost use Rattle.paging_core.specs.Memory.{frame_count, word_at};
 ghost use Rattle.paging_core.specs.Prefix.{prefix_of};
 ghost use Rattle.mapped_regions.specs.MetSlots.{HasPage, IsTable, IsLargePage, IsMapOf, LeadsTo, AreTablesMet, KeepsNone, IsKept, KeepsToo};

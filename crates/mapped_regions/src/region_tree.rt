@@ -1,5 +1,5 @@
 //! Regions by page number.
-ghost use Rattle.std.specs.Prelude.{◌≡◌, ℕ, ◌+◌, ◌-◌, ◌*◌, ◌%◌, ◌^◌, ◌<◌, ◌≤◌, IfSome, IfNone, [], ◌∷◌, ◌++◌};
+ghost use Rattle.std.specs.Prelude.{◌≡◌, ◌+◌, ◌-◌, ◌*◌, ◌^◌, ◌<◌, ◌≤◌, IfNone, [], ◌∷◌, ◌++◌};
 ghost use Rattle.std.specs.Prelude.{IsFalse, IsTrue, OnOk, OnErr, filter, find, map, length, vec_len, vec_capacity};
 ghost use Rattle.std.specs.List.{list_any};
 ghost use Rattle.heap_model.specs.Place.{meets, meets_any, with_region};
@@ -99,7 +99,7 @@ pub struct RegionTree {
 }
 
 impl Model for RegionTree {
-    ghost use Rattle.std.specs.Prelude.{ℕ, List, ◌^◌};
+    ghost use Rattle.std.specs.Prelude.{List, ◌^◌};
     ghost use Rattle.heap_model.specs.declared.region.Region.{Region};
     ghost use Rattle.meminterval.specs.Tree.{entries};
     ghost use Rattle.mapped_regions.specs.Pairs.{pair_regions, IsTreeKept};

@@ -1,5 +1,5 @@
 // Regions that are mapped in page tables over a physical memory.
-ghost use Rattle.std.specs.Prelude.{◌≡◌, ℕ, ◌+◌, ◌*◌, ◌/◌, ◌%◌, ◌^◌, ◌≤◌, ◌<◌, ◌↔◌, IsTrue, IsSome, IfOk, IfSome, IfNone, OnOk, OnErr, List, Bool, set, filter, length, slice_index, vec_capacity, Some, [], ◌⊎◌, ◌≢◌};
+ghost use Rattle.std.specs.Prelude.{◌≡◌, ℕ, ◌+◌, ◌*◌, ◌/◌, ◌%◌, ◌^◌, ◌≤◌, ◌<◌, ◌↔◌, IsTrue, IsSome, IfOk, IfSome, IfNone, OnOk, List, Bool, set, filter, length, slice_index, Some, [], ◌⊎◌, ◌≢◌};
 ghost use Rattle.std.specs.List.{list_any};
 ghost use Rattle.std.specs.Option.{option_map};
 ghost use Rattle.paging_core.specs.Address.{is_canonical, IsCanonicalRange};

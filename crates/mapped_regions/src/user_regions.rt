@@ -1,5 +1,5 @@
 // Regions of the user: pages that are mapped and unmapped at an address that the caller names.
-ghost use Rattle.std.specs.Prelude.{◌≡◌, ◌*◌, ◌/◌, ◌+◌, ◌^◌, ◌≤◌, ◌↔◌, IsTrue, IfErr, OnOk, OnErr};
+ghost use Rattle.std.specs.Prelude.{◌/◌, ◌+◌, ◌^◌, ◌≤◌, ◌↔◌, IsTrue, IfErr, OnOk};
 ghost use Rattle.mapped_regions.specs.Mapped.{IsPageRange, CanMap, IsRegionJoined, IsLeft};
 ghost use Rattle.mapped_regions.specs.Shown.{paged_view, KeptIfErr};
 ghost use Rattle.mapped_regions.specs.UserRegions.{user_region, IsMapRefused, IsUnmapRefused, CanUnmap};

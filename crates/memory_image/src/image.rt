@@ -1,5 +1,5 @@
 // The image of a machine.
-ghost use Rattle.std.specs.Prelude.{◌≡◌, ◌<◌, ◌++◌, List, OnOk, length, slice_index, string_bytes};
+ghost use Rattle.std.specs.Prelude.{◌≡◌, ◌<◌, ◌++◌, OnOk, length, slice_index, string_bytes};
 ghost use Rattle.std.specs.List.{flat_map};
 ghost use Rattle.heap_program.specs.Text.{region_line};
 ghost use Rattle.memory_image.specs.Image.{number_text, registers_line, word_line, word_lines, memory_text, image_text};

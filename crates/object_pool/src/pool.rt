@@ -1,8 +1,7 @@
 //! The pool.
-ghost use Rattle.std.specs.Prelude.{◌≡◌, ◌≢◌, ℕ, ◌+◌, ◌-◌, ◌*◌, ◌/◌, ◌^◌, ◌<◌, ◌≤◌, Bool, true, false, if◌then◌else◌, [], ◌∷◌, ◌++◌, IfOk, IfErr, OnErr, OnOk, Some, None, Err, IsSome, IsTrue, ◌↔◌, length, vec_len, vec_capacity};
-ghost use Rattle.dlmalloc_chunks.specs.Request.{padded};
+ghost use Rattle.std.specs.Prelude.{◌≡◌, ◌+◌, ◌-◌, ◌*◌, ◌^◌, ◌<◌, ◌≤◌, true, false, [], IfOk, IfErr, OnErr, OnOk, Some, None, Err, IsSome, IsTrue, ◌↔◌, length, vec_len, vec_capacity};
 ghost use Rattle.object_pool.specs.Places.{HasPlacesFor, KeepsSlots};
-ghost use Rattle.object_pool.specs.Lists.{Lists, empty, object_of, object_count, slab_count, IsNewKey, keys_of, inserted, with_new_bytes, without_object, LacksSlot, HasAllSlots};
+ghost use Rattle.object_pool.specs.Lists.{Lists, empty, object_of, object_count, slab_count, IsNewKey, keys_of, inserted, with_new_bytes, without_object, HasAllSlots};
 
 use crate::Bytes;
 use crate::key::Key;

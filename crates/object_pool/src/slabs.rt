@@ -1,13 +1,12 @@
 // Slabs: blocks of a heap, each with places for 64 objects.
-ghost use Rattle.std.specs.Prelude.{◌≡◌, ◌≢◌, ℕ, ◌+◌, ◌*◌, ◌<◌, ◌≤◌, [], ◌∷◌, ◌++◌, IfOk, IfErr, length, vec_len, vec_capacity};
+ghost use Rattle.std.specs.Prelude.{◌≡◌, ◌+◌, ◌*◌, ◌<◌, ◌≤◌, IfOk, IfErr, length, vec_len, vec_capacity};
 ghost use Rattle.dlmalloc_chunks.specs.Request.{limit, padded};
 ghost use Rattle.dlmalloc.specs.AfterFree.{IsFreed};
 ghost use Rattle.dlmalloc.specs.Binned.{IsBinned};
-ghost use Rattle.dlmalloc.specs.Blocks.{IsBlock, ArePlaced};
+ghost use Rattle.dlmalloc.specs.Blocks.{ArePlaced};
 ghost use Rattle.dlmalloc.specs.Grown.{IsAsItWas};
-ghost use Rattle.dlmalloc.specs.Heap.{state_of, IsGranularity, IsSound};
-ghost use Rattle.dlmalloc.specs.Requested.{IsHandedOut, IsMemberServed, IsServedAt};
-ghost use Rattle.dlmalloc.specs.Served.{IsDenied, IsRefusedWith, refused_events};
+ghost use Rattle.dlmalloc.specs.Heap.{state_of, IsGranularity};
+ghost use Rattle.dlmalloc.specs.Served.{IsDenied, refused_events};
 ghost use Rattle.sound_heap.specs.Heap.{HasBlock, AreInBlock, StaysInState};
 ghost use Rattle.object_pool.specs.Bytes.{AreGranted, IsWritten};
 ghost use Rattle.object_pool.specs.Emptied.{IsEmptied};

@@ -1,5 +1,5 @@
 // The slots of a pool: which have an object, and which may be used again.
-ghost use Rattle.std.specs.Prelude.{◌≡◌, ℕ, ◌+◌, ◌-◌, ◌^◌, ◌<◌, ◌≤◌, ◌↔◌, [], length, vec_len, vec_capacity, IsTrue, OnOk, OnErr};
+ghost use Rattle.std.specs.Prelude.{◌≡◌, ◌+◌, ◌-◌, ◌^◌, ◌<◌, ◌≤◌, ◌↔◌, [], length, vec_capacity, IsTrue, OnOk};
 ghost use Rattle.object_pool.specs.Slots.{AreFreed, AreYoung, IsKeyLive, IsNextSlot, IsReleased, IsTaken, keys_from, used_count};
 
 use crate::key::Key;

@@ -1,5 +1,5 @@
 // The paged system as a memory: each load and store walks the raw tables.
-ghost use Rattle.std.specs.Prelude.{◌≡◌, ℕ, ◌+◌, ◌*◌, ◌%◌, ◌≤◌, ◌⊎◌, [], List};
+ghost use Rattle.std.specs.Prelude.{◌*◌};
 ghost use Rattle.paged_systems.specs.System.{paged};
 
 use crate::paged_system::PagedSystem;

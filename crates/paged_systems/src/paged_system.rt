@@ -1,5 +1,5 @@
 // The paged system: regions of the heap in a window, and regions of the user anywhere.
-ghost use Rattle.std.specs.Prelude.{◌≡◌, ℕ, ◌+◌, ◌*◌, ◌/◌, ◌^◌, ◌<◌, ◌≤◌, ◌%◌, IsTrue, IsSome, Some, option_map, IfOk, IfErr, OnOk, OnErr, length, vec_capacity, []};
+ghost use Rattle.std.specs.Prelude.{◌≡◌, ℕ, ◌+◌, ◌*◌, ◌/◌, ◌^◌, ◌<◌, ◌≤◌, ◌%◌, IsTrue, IsSome, Some, option_map, IfOk, IfErr, OnErr, length, vec_capacity, []};
 ghost use Rattle.paging_core.specs.Address.{is_canonical};
 ghost use Rattle.paging_core.specs.Pool.{free_count};
 ghost use Rattle.paging_core.specs.Walk.{walk_of, reached};
@@ -56,7 +56,7 @@ pub struct PagedSystem {
 }
 
 impl PagedSystem {
-    ghost use Rattle.paged_systems.specs.Layout.{IsNew, CanGrant, LacksPlaceOrFrames, MayDeny, IsGranted, IsGrantedFor};
+    ghost use Rattle.paged_systems.specs.Layout.{IsNew, CanGrant, LacksPlaceOrFrames, MayDeny, IsGrantedFor};
     ghost use Rattle.paged_systems.specs.System.{paged};
     ghost use Rattle.paged_systems.specs.Words.{heap_regions, grants_of};
     ghost use Rattle.mapped_regions.specs.Mapped.{word_reached};

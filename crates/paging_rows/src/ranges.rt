@@ -1,8 +1,8 @@
-ghost use Rattle.std.specs.Prelude.{◌≡◌, ℕ, ◌+◌, ◌*◌, ◌<◌, ◌≤◌, ◌-◌, ◌%◌, ◌/◌, ◌^◌, Bool, false, None, length};
+ghost use Rattle.std.specs.Prelude.{◌≡◌, ℕ, ◌+◌, ◌*◌, ◌<◌, ◌≤◌, ◌-◌, ◌^◌, false, None, length};
 ghost use Rattle.paging_core.specs.Memory.{frame_count};
 ghost use Rattle.paging_core.specs.Pool.{is_frame_free, FreeBelow};
 ghost use Rattle.paging_core.specs.Tree.{IsTree};
-ghost use Rattle.paging_core.specs.Walk.{reach, walk_of};
+ghost use Rattle.paging_core.specs.Walk.{walk_of};
 
 use crate::checks::same;
 use page_ranges::*;

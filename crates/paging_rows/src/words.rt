@@ -1,5 +1,5 @@
 //! Words and pages that are read, written and copied through the walk.
-ghost use Rattle.std.specs.Prelude.{◌≡◌, ◌+◌, ◌<◌, ◌≤◌, IsTrue, IfOk, IsSome};
+ghost use Rattle.std.specs.Prelude.{◌≡◌, ◌+◌, ◌<◌, IsTrue, IfOk, IsSome};
 ghost use Rattle.paging_core.specs.Memory.{frame_count};
 ghost use Rattle.paging_core.specs.Walk.{walk_of};
 

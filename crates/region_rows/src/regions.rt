@@ -1,5 +1,5 @@
 //! Rows whose answers are known.
-ghost use Rattle.std.specs.Prelude.{◌≡◌, ◌*◌, ◌^◌, ◌<◌, ◌≤◌, ◌||◌, nat_le, IfSome};
+ghost use Rattle.std.specs.Prelude.{◌≡◌, ◌*◌, ◌^◌, ◌<◌, ◌||◌, nat_le, IfSome};
 ghost use Rattle.std.specs.List.{list_all};
 ghost use Rattle.heap_model.specs.State.{end_of_region, is_within};
 ghost use Rattle.mapped_regions.specs.Regions.{AreHeld, IsRegionBoundary};

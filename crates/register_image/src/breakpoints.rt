@@ -1,5 +1,5 @@
 // Values of DR7.
-ghost use Rattle.std.specs.Prelude.{◌≡◌, ◌++◌, OnOk, codes, string_bytes};
+ghost use Rattle.std.specs.Prelude.{◌≡◌, ◌++◌, OnOk, string_bytes};
 ghost use Rattle.x86_flags.specs.BreakpointCondition.{condition_bits};
 ghost use Rattle.x86_flags.specs.BreakpointSize.{size_bits, size_bytes};
 ghost use Rattle.x86_flags.specs.DebugAddressRegisterNumber.{register_number};

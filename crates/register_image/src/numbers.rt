@@ -1,5 +1,5 @@
 // Numbers of an answer.
-ghost use Rattle.std.specs.Prelude.{◌≡◌, ◌++◌, Option, OnOk, string_bytes};
+ghost use Rattle.std.specs.Prelude.{◌≡◌, ◌++◌, OnOk, string_bytes};
 ghost use Rattle.std.specs.List.{flat_map};
 ghost use Rattle.register_image.specs.Numbers.{line, number_text, value_text};
 

@@ -1,5 +1,5 @@
 -- What an access gives, if the walk finds its page.
-use Rattle.std.proofs.Common.{◌≡◌, ℕ, ◌+◌, ◌*◌, ◌/◌, ◌%◌, ◌^◌, Bool, true, false, is_some, IsTrue, Option, Some, None, option_map, refl, sym, ap, ◌∙◌}
+use Rattle.std.proofs.Common.{◌≡◌, ℕ, ◌/◌, ◌%◌, Bool, true, false, is_some, IsTrue, Option, Some, option_map, sym, ap, ◌∙◌}
 use Rattle.paging_core.specs.Address.{is_canonical}
 use Rattle.paging_core.specs.Memory.{word_at, byte_of}
 use Rattle.paging_core.specs.Walk.{Place, walk_of}

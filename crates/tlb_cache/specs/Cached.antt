@@ -1,5 +1,5 @@
 -- A paged system with a cache of its translations.
-use Rattle.std.specs.Prelude.{◌≡◌, ℕ, ◌+◌, ◌*◌, ◌/◌, ◌<◌, ◌≤◌, nat_lt, not, is_some, if◌then◌else◌, Bool, true, IsTrue, IsFalse, List, filter, Option, Some, None, option_map}
+use Rattle.std.specs.Prelude.{◌≡◌, ℕ, ◌+◌, ◌*◌, ◌/◌, ◌<◌, ◌≤◌, nat_lt, is_some, if◌then◌else◌, Bool, true, IsTrue, IsFalse, List, Option, Some, None, option_map}
 use Rattle.std.specs.List.{list_any}
 use Rattle.paging_core.specs.Address.{is_canonical}
 use Rattle.paging_core.specs.Memory.{frame_count}
@@ -16,7 +16,6 @@ use Rattle.heap_model.specs.Probe.{is_access_granted, probe_fault_code}
 use Rattle.mapped_regions.specs.Mapped.{IsPageRange}
 use Rattle.mapped_regions.specs.UserRegions.{IsUnmapRefused}
 use Rattle.tlb_cache.specs.Covered.{covers}
-use Rattle.tlb_cache.specs.declared.entry.TlbEntry.{TlbEntry}
 use Rattle.tlb_cache.specs.declared.probed.Probed.{Probed}
 use Rattle.tlb_cache.specs.declared.probed.Probed.TheVariants.{Byte, Fault, NotCanonical}
 use Rattle.tlb_cache.specs.declared.cached_fault.CachedFault.{CachedFault}

@@ -1,5 +1,5 @@
 //! An access to one byte, by what is kept of its page, or else by the walk.
-ghost use Rattle.std.specs.Prelude.{◌≡◌, ◌+◌, ◌*◌, ◌/◌, ◌%◌, ◌^◌, ◌<◌, Some, IsTrue, IfSome, option_map};
+ghost use Rattle.std.specs.Prelude.{◌≡◌, ◌*◌, ◌/◌, ◌%◌, ◌<◌, Some, IsTrue, IfSome, option_map};
 ghost use Rattle.paging_core.specs.Address.{is_canonical};
 ghost use Rattle.paging_core.specs.Memory.{frame_count, word_at, byte_of};
 ghost use Rattle.paging_core.specs.Walk.{walk_of, mapped_place};

@@ -1,4 +1,4 @@
-ghost use Rattle.std.specs.Prelude.{◌≡◌, ◌+◌, ◌*◌, ◌/◌, ◌%◌, ◌^◌, ◌<◌, ◌≤◌, ◌++◌, true, [], IsTrue, IsFalse, IfOk, IfErr, OnOk, OnErr};
+ghost use Rattle.std.specs.Prelude.{◌≡◌, ◌+◌, ◌/◌, ◌%◌, ◌^◌, ◌<◌, ◌≤◌, ◌++◌, true, [], IsTrue, IsFalse, IfOk, IfErr, OnOk, OnErr};
 ghost use Rattle.paging_core.specs.Address.{is_canonical};
 ghost use Rattle.mapped_regions.specs.Mapped.{IsPageRange};
 ghost use Rattle.mapped_regions.specs.UserRegions.{IsMapRefused, CanUnmap};

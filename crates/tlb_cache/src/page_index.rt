@@ -3,7 +3,7 @@
 //! A chain leads from the newest entry to older ones. Entries leave only from the old end, so what leaves is at the end
 //! of its chain, and no link has to be taken out: one that leads to a place whose entry left, or to a newer one that
 //! took the place, is known by the age there.
-ghost use Rattle.std.specs.Prelude.{◌≡◌, ℕ, ◌+◌, ◌*◌, ◌^◌, ◌<◌, ◌≤◌, List, [], ◌∷◌, ◌++◌, length, slice_index, IfOk};
+ghost use Rattle.std.specs.Prelude.{◌≡◌, ℕ, ◌+◌, ◌*◌, ◌^◌, ◌<◌, List, [], ◌∷◌, ◌++◌, length, slice_index, IfOk};
 ghost use Rattle.tlb_cache.specs.Chains.{hash_of, place_at, next_place, count_up_to, Leads};
 
 use std::alloc::{AllocError, Global};

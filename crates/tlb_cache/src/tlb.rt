@@ -1,10 +1,10 @@
-ghost use Rattle.std.specs.Prelude.{◌≡◌, ℕ, ◌+◌, ◌-◌, ◌*◌, ◌^◌, ◌<◌, ◌≤◌, ◌≢◌, ◌↔◌, Bool, not, [], ◌∷◌, ◌++◌, List, length, take, drop, slice_get, slice_index, filter, Contains, Some, IsTrue, IsFalse, IsSome, is_some, IfOk, OnOk, IfSome, OnSome, MatchOption, option_map};
+ghost use Rattle.std.specs.Prelude.{◌≡◌, ℕ, ◌+◌, ◌-◌, ◌*◌, ◌^◌, ◌<◌, ◌≤◌, not, [], ◌∷◌, ◌++◌, length, take, drop, slice_get, filter, Contains, Some, IsTrue, IsFalse, IsSome, is_some, IfOk, OnOk, IfSome};
 ghost use Rattle.circular_buffer.specs.Buffer.{keep_last};
 ghost use Rattle.paging_core.specs.Address.{is_canonical};
 ghost use Rattle.paging_core.specs.Memory.{frame_count};
 ghost use Rattle.tlb_cache.specs.Cache.{has_page, cached_pages, IsAgeOf, AreOfDistinctPages, AgreesWithTables, kept, left_by};
 ghost use Rattle.tlb_cache.specs.PageIndex.{Indexes};
-ghost use Rattle.tlb_cache.specs.Covered.{covers, is_among};
+ghost use Rattle.tlb_cache.specs.Covered.{is_among};
 
 use crate::covered::{Pages, covered};
 use crate::entry::{TlbEntry, Translated};

@@ -1,5 +1,5 @@
 // The accesses to a byte.
-ghost use Rattle.std.specs.Prelude.{◌≡◌, ◌≤◌, ◌++◌, Bool, OnOk, string_bytes};
+ghost use Rattle.std.specs.Prelude.{◌≡◌, ◌++◌, OnOk, string_bytes};
 ghost use Rattle.paging_core.specs.ProcessorAccess.{access_of};
 ghost use Rattle.paging_core.specs.declared.processor_access.AccessKind.{AccessKind};
 ghost use Rattle.walk_image.specs.Walked.{answer_text, accesses_text, walk_line};

@@ -1,6 +1,6 @@
 //! Access to the ports of devices.
 
-ghost use Rattle.std.specs.Prelude.{◌≡◌, ◌==◌, ⊤, Some};
+ghost use Rattle.std.specs.Prelude.{◌≡◌, ◌==◌, ⊤};
 ghost use Rattle.x86_instructions.specs.Ports.{was_read, was_written};
 
 mod access;

@@ -1,6 +1,6 @@
 -- A chunk that is cut, as one step or as two.
 use Rattle.dlmalloc.proofs.Names.{◌≡◌, ◌≢◌, ℕ, ◌+◌, ◌-◌, ◌^◌, ◌<◌, ◌≤◌, inl, inr, Bool, true, false, ◌==◌, List, [], ◌∷◌, Some, None, refl, sym, ◌∙◌, ap, subst, arith, nat_tests, Grant, Event, Granted, IsWordOf, padded, limit, round_up, Extent, Free, Top, Record, extent_at, extents_in, is_free_below_top, IsBlock, HasOneMore, IsBoundary, IsOwn, IsInRecord, OnlyOwnOrTagsChange, chosen, IsChosen, taken, state_of, IsSound, IsBehindTop, IsObtained, IsMoved, IsCutOut, IsServed, IsTurned, KeepsOrder, Dlmalloc}
-use Rattle.dlmalloc.specs.Grown.{IsGrown}
+use Rattle.dlmalloc.proofs.Cuts.Grown.{IsGrown}
 use Rattle.dlmalloc.proofs.Extents.Lookup.{extent, nat_is, the_extent}
 use Rattle.dlmalloc.proofs.Blocks.WordsKept.{blocks_law, blocks_law_tags}
 use Rattle.dlmalloc.proofs.Blocks.Chunks.{block_placed}

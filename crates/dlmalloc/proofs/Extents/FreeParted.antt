@@ -3,7 +3,7 @@ use Rattle.dlmalloc.proofs.Names.{◌≡◌, ◌≢◌, ℕ, ◌+◌, ◌-◌, �
 use Rattle.dlmalloc.specs.Extents.{is_free}
 use Rattle.dlmalloc.specs.FreeExtents.{HasUsedBetween, AreParted, IsUnused, HasOneFree, EachHasOneFree}
 use Rattle.dlmalloc.proofs.Extents.Lookup.{extent, found, found_either, found_here, at_one, of_two}
-use Rattle.dlmalloc.proofs.Extents.Tiling.{tiles_le, tiles_split}
+use Rattle.dlmalloc.proofs.Extents.Tiling.{tiles_split}
 use Rattle.dlmalloc.proofs.Extents.OneMoreUsed.{AreDistinct, tiles_distinct}
 use Rattle.dlmalloc.proofs.Segments.Among.{in_part, distinct_later, among_all}
 use Rattle.dlmalloc.proofs.Extents.FromWords.{nothing}

@@ -1,9 +1,9 @@
 //! Flushes on all processors at once.
 
-ghost use Rattle.std.specs.Prelude.{◌≡◌, ◌++◌, ◌+◌, ◌-◌, ◌*◌, ◌%◌, ◌^◌, ◌<◌, ◌≤◌, ◌↔◌, true, ⊤, Some, length, vec_len, vec_capacity, IsTrue, IsOk, IsSome, IfOk, IfErr, IfSome, OnOk, OnErr};
+ghost use Rattle.std.specs.Prelude.{◌≡◌, ◌++◌, ◌+◌, ◌-◌, ◌%◌, ◌^◌, ◌<◌, ◌≤◌, ◌↔◌, true, ⊤, Some, length, vec_len, vec_capacity, IsTrue, IsOk, IsSome, IfOk, IfErr, IfSome, OnOk, OnErr};
 ghost use Rattle.paging_core.specs.Steps.{half_pages, position};
 ghost use Rattle.x86_instructions.specs.Flushed.{FlushesRange};
-ghost use Rattle.x86_instructions.specs.Invlpgb.{bit_if, command, commands_of, identifiers_of, limits_of, options_of, turn_command, turn_commands, whole};
+ghost use Rattle.x86_instructions.specs.Invlpgb.{bit_if, commands_of, identifiers_of, limits_of, options_of, turn_command, turn_commands, whole};
 ghost use Rattle.x86_instructions.specs.Turns.{greatest_count};
 
 use super::{FlushCommand, FlushList};

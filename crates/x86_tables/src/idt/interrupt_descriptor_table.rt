@@ -1,6 +1,6 @@
 //! The table of gates.
 
-ghost use Rattle.std.specs.Prelude.{◌≡◌, ◌-◌, ◌≤◌, ◌↔◌, IsTrue, IsSome, IfSome, slice_range};
+ghost use Rattle.std.specs.Prelude.{◌≡◌, ◌-◌, ◌↔◌, IsTrue, IsSome, IfSome};
 ghost use Rattle.std.specs.Borrow.{sem};
 ghost use Rattle.std.specs.Option.{option_map};
 ghost use Rattle.x86_tables.specs.InterruptDescriptorTable.{new_table, gate_of, entry_of, has_slice, slice_of, lends_entry, lends_slice, lends_slice_if};

@@ -6,6 +6,5 @@ returns-clause-rest g c =
     let high = c.loop-at.invariant.high in
     record {
       elsewhere = λ k inside out. c.loop-at.invariant.elsewhere k inside (elim out [ inl below ↦ inl below | inr above ↦ inr (omega arith) ]);
-      regions_same = c.loop-at.invariant.regions;
-      followed = c.loop-at.invariant.follows;
+      asks = record { regions = c.loop-at.invariant.regions; follows = c.loop-at.invariant.follows };
     }

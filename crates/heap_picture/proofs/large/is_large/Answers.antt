@@ -1,4 +1,4 @@
-use Rattle.std.proofs.Common.{◌≡◌, ◌∙◌, refl}
+use Rattle.std.proofs.Common.{◌∙◌, refl}
 use Rattle.paging_core.specs.Address.{is_canonical}
 use Rattle.heap_picture.proofs.Slots.{none_met, not_true, large_seen}
 use Rattle.heap_picture.proofs.large.is_large.Goals as goal

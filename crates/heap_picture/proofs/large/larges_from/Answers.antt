@@ -1,4 +1,4 @@
-use Rattle.std.proofs.Common.{ℕ, ◌+◌, ◌∙◌, ap, sym, true, false, refl, arith}
+use Rattle.std.proofs.Common.{ℕ, ◌∙◌, ap, sym, true, false, arith}
 use Rattle.heap_picture.specs.Large.{larges_from}
 use Rattle.heap_picture.proofs.Larges.{larges_none, larges_more}
 use Rattle.heap_picture.proofs.large.larges_from.Goals as goal

@@ -1,4 +1,4 @@
-use Rattle.std.proofs.Common.{ℕ, max, ap, sym, ◌∙◌, arith}
+use Rattle.std.proofs.Common.{arith}
 use Rattle.heap_picture.proofs.Joins.{most_more, most_none, none}
 use Rattle.heap_picture.proofs.lines.most_pages.Goals as goal
 

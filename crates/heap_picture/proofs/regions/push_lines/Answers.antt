@@ -1,4 +1,4 @@
-use Rattle.std.proofs.Common.{ℕ, ◌+◌, ◌*◌, ◌++◌, ◌∙◌, ap, refl, string_bytes, arith}
+use Rattle.std.proofs.Common.{◌+◌, ◌++◌, refl, string_bytes, arith}
 use Rattle.heap_picture.specs.Regions.{region_lines_text}
 use Rattle.heap_picture.proofs.Joins.{none}
 use Rattle.heap_picture.proofs.Pictures.{lines_put, lines_end}

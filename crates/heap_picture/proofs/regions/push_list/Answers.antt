@@ -1,4 +1,4 @@
-use Rattle.std.proofs.Common.{ℕ, ◌-◌, refl, length, take, drop, length-drop, string_bytes, arith}
+use Rattle.std.proofs.Common.{◌-◌, refl, length, take, drop, length-drop, string_bytes, arith}
 use Rattle.std.proofs.lemmas.Result.{on_ok_weaker}
 use Rattle.std.proofs.lemmas.List.{take_all}
 use Rattle.heap_picture.proofs.Pictures.{list_whole}

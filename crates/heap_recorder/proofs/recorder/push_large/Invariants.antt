@@ -1,4 +1,4 @@
-use Rattle.std.proofs.Common.{◌≡◌, ◌++◌, ◌-◌, map, take}
+use Rattle.std.proofs.Common.{◌≡◌, ◌++◌, map, take}
 use Rattle.heap_recorder.specs.Run.{large_page}
 use Rattle.heap_recorder.proofs.recorder.push_large.Given as goal
 

@@ -1,6 +1,4 @@
-use Rattle.std.proofs.Common.{rules, sym, subst, ◌∙◌}
-use Rattle.heap_model.specs.declared.config.Config.{Config}
-use Rattle.heap_report.specs.Telling.{TellsOf}
+use Rattle.std.proofs.Common.{rules}
 use Rattle.heap_report.proofs.tell.tell_main.Goals as goal
 
 pub returns-in-Some-clause-tells : goal.returns-in-Some-clause-tells

@@ -1,4 +1,4 @@
-use Rattle.std.proofs.Common.{◌≡◌, ◌≤◌, ℕ, ◌-◌, ◌%◌, List, [], ◌∷◌, ◌++◌, sym, ◌∙◌, ap, arith}
+use Rattle.std.proofs.Common.{◌≡◌, ◌≤◌, ℕ, ◌-◌, ◌%◌, List, ◌∷◌, ◌++◌, sym, ◌∙◌, ap, arith}
 use Rattle.paging_core.specs.Walk.{mapped_place}
 use Rattle.heap_tables.specs.declared.lines.Line.{Line}
 use Rattle.heap_tables.specs.Lines.{line_of, lowest_page_below, entries_lines, lines_under}

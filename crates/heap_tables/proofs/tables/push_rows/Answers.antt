@@ -1,4 +1,4 @@
-use Rattle.std.proofs.Common.{ℕ, ◌+◌, ◌*◌, ◌++◌, ◌∙◌, ap, refl, string_bytes, arith}
+use Rattle.std.proofs.Common.{◌+◌, ◌++◌, refl, string_bytes, arith}
 use Rattle.heap_tables.specs.Tables.{table_rows_text}
 use Rattle.heap_tables.proofs.Joins.{none}
 use Rattle.heap_tables.proofs.Drawn.{rows_put, rows_end}

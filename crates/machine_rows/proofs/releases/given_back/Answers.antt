@@ -1,10 +1,8 @@
-use Rattle.std.proofs.Common.{◌≡◌, ℕ, ◌+◌, ◌<◌, ◌≤◌, List, [], ◌∷◌, Bool, true, false, cond, nat_lt, inl, inr, sym, ap, ◌∙◌, subst, arith}
+use Rattle.std.proofs.Common.{◌≡◌, ◌+◌, ◌<◌, List, [], ◌∷◌, Bool, false, cond, nat_lt, inr, sym, ap, ◌∙◌, subst, arith}
 use Rattle.std.proofs.lemmas.Bool.Decides.{nat_tests}
 use Rattle.heap_memory.specs.declared.grant.Grant.{Grant}
 use Rattle.heap_memory.specs.Regions.{with_grant}
 use Rattle.heap_memory.specs.Runs.{IsRun}
-use Rattle.paged_systems.specs.System.{paged}
-use Rattle.paged_systems.specs.Words.{grants_of}
 use Rattle.machine_rows.proofs.releases.given_back.Goals as goal
 
 -- two grants, one after the other, are a run

@@ -1,4 +1,4 @@
-use Rattle.std.proofs.Common.{ℕ, ◌+◌, ◌∙◌, false, refl, sym, subst, arith}
+use Rattle.std.proofs.Common.{ℕ, ◌∙◌, false, refl, sym, subst, arith}
 use Rattle.meminterval.specs.Tree.{entries}
 use Rattle.address_space.specs.RunChanges.{AreRightsCopied}
 use Rattle.address_space.specs.PageCopies.{ArePagesCopied, IsMappedRange}

@@ -62,11 +62,11 @@ returns-clause-aligned g c =
       kept = kept_on c.args.self.now before.lead.others before.lead.kept before.lead.sound behind.resized.others behind.resized.turned.moved;
       words = λ k inside passed.
           let lead = λ (own : IsOwn (state_of g.A.Links.word c.free_before.new.self) k). passed.1 (subst (λ s. IsOwn s k) before.state own) in
-          behind.resized.turned.moved.words k (subst (λ rs. IsWordOf rs k) (sym before.lead.regions_same) inside) (λ free. lead (inr free)) passed.2
+          behind.resized.turned.moved.words k (subst (λ rs. IsWordOf rs k) (sym before.lead.regions) inside) (λ free. lead (inr free)) passed.2
           ∙ before.words k inside passed.0 lead;
       sound = behind.resized.turned.moved.sound;
-      regions_same = behind.resized.turned.moved.regions_same ∙ before.lead.regions_same;
-      followed = g.A.Links.follows_on _ _ _ [] [] [] before.lead.followed behind.resized.turned.moved.followed refl;
+      regions_same = behind.resized.turned.moved.regions_same ∙ before.lead.regions;
+      followed = g.A.Links.follows_on _ _ _ [] [] [] before.lead.follows behind.resized.turned.moved.followed refl;
       order = λ b.
           let lead = before.lead.bins.order b in let tail = behind.resized.turned.bins.order lead.0 in
           (lead.0.index, subst (λ s. HoldsBinned s lead.0.index) before.state lead.0.holds, lead.1, tail);

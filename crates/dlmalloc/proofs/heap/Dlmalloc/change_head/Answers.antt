@@ -31,7 +31,7 @@ put_record-requires g c =
       room = omega arith;
       high = omega arith;
       granted = λ k low high m.
-          subst (λ rs. IsWordOf rs k) (sym c.leave_top-record.ensures.rest.regions_same) (head_word sound there k (omega arith) (omega arith) m);
+          subst (λ rs. IsWordOf rs k) (sym c.leave_top-record.ensures.rest.regions) (head_word sound there k (omega arith) (omega arith) m);
     }
 
 pub overflow_add-end : goal.overflow_add-end
@@ -49,7 +49,7 @@ overflow_add-self g c =
 pub make_head-requires : goal.make_head-requires
 make_head-requires g c =
     let f = c.requires.segment.fresh in let grant = c.args.grant.now in let long = f.long in
-    let same = sym (c.put_record.ensures.rest.regions_same ∙ c.leave_top-record.ensures.rest.regions_same) in
+    let same = sym (c.put_record.ensures.rest.regions ∙ c.leave_top-record.ensures.rest.regions) in
     record {
       low = omega arith;
       room = omega arith;
@@ -74,9 +74,9 @@ returns g c =
     let told : IsRecordAt (word system) at (record_of_head heap) (heap.base + heap.size) (at == heap.top) =
     told_same at heap left.fields put.told in
     let into : (k : ℕ) → IsWordOf (regions heap.system) k → IsWordOf (regions middle.system) k =
-    λ k inside. subst (λ rs. IsWordOf rs k) (sym left.rest.regions_same) inside in
+    λ k inside. subst (λ rs. IsWordOf rs k) (sym left.rest.regions) inside in
     let onto : (k : ℕ) → IsWordOf (regions heap.system) k → IsWordOf (regions system) k =
-    λ k inside. subst (λ rs. IsWordOf rs k) (sym (put.rest.regions_same ∙ left.rest.regions_same)) inside in
+    λ k inside. subst (λ rs. IsWordOf rs k) (sym (put.rest.regions ∙ left.rest.regions)) inside in
     let of_head : (k : ℕ) → heap.base ≤ k → k < heap.base + heap.size → k % 8 ≡ 0 → word new.system k ≡ word system k = λ k from to m.
     made.elsewhere k (onto k (head_word c.requires.sound there k from to m)) (λ is. elim apart [ inl before ↦ omega arith | inr behind ↦ omega arith ])
     (λ is. elim apart [ inl before ↦ omega arith | inr behind ↦ omega arith ]) in
@@ -85,7 +85,7 @@ returns g c =
       some = there;
       beside = c.requires.segment.beside;
       no_join = c.requires.segment.apart;
-      same = made.regions_same ∙ (put.rest.regions_same ∙ left.rest.regions_same);
+      same = made.regions ∙ (put.rest.regions ∙ left.rest.regions);
       at_is = left.place;
       head = made.head;
       foot = made.foot_head;
@@ -98,7 +98,7 @@ returns g c =
           (elim out [ inl before ↦ inl before | inr behind ↦ inr (omega arith) ]) ∙ left.rest.elsewhere k inside free);
     } in
     let added = new_added g.A.Links.follows c.requires.sound stored (g.A.Links.follows_on heap.system system new.system [] [] []
-    (g.A.Links.follows_on heap.system middle.system system [] [] [] left.rest.followed put.rest.followed refl) made.followed refl) in
+    (g.A.Links.follows_on heap.system middle.system system [] [] [] left.rest.follows put.rest.follows refl) made.follows refl) in
     let is = c.make_head.ensures.fields ∙ ap (λ h. new_head h grant new.system at) left.fields in
     record {
       admitted = record {

@@ -1,4 +1,4 @@
-use Rattle.dlmalloc.proofs.Names.{rules, sym, round_up, IsFull, ◌≡◌, ℕ, ◌+◌, ◌≤◌, ◌∙◌, false, List, [], ◌∷◌, refl, ap, subst, arith, unwrap_or, Event, Granted, is_put_before, granted, HasSameUsed, segments_of, state_of, IsSound, IsFreshGrant, IsBinned, IsCutOut, IsInFree}
+use Rattle.dlmalloc.proofs.Names.{rules, sym, round_up, IsFull, ◌≡◌, ℕ, ◌+◌, ◌≤◌, ◌∙◌, false, List, [], ◌∷◌, refl, ap, subst, arith, Event, Granted, is_put_before, granted, HasSameUsed, segments_of, state_of, IsSound, IsFreshGrant, IsBinned, IsCutOut, IsInFree}
 use Rattle.heap_memory.specs.Events.{Refused}
 use Rattle.heap_memory.specs.declared.grant.GrantFault.{GrantFault}
 use Rattle.dlmalloc.proofs.Segments.RegionsMore.{word_kept, word_new}
@@ -7,7 +7,7 @@ use Rattle.dlmalloc.proofs.Grants.CutFromStart.{cut_before}
 use Rattle.dlmalloc.proofs.Laws.{as_it_was, as_binned}
 use Rattle.dlmalloc.proofs.Requests.Plain.{if_err}
 use Rattle.dlmalloc.proofs.Bins.Order.{order_same, bins_kept}
-use Rattle.dlmalloc.specs.Grown.{IsGrown}
+use Rattle.dlmalloc.proofs.Cuts.Grown.{IsGrown}
 use Rattle.dlmalloc.proofs.Extents.NoRoom.{full}
 use Rattle.dlmalloc.proofs.Bins.Changes.{binned_beside}
 use Rattle.dlmalloc.proofs.Cuts.Chosen.{top_below}

@@ -44,10 +44,10 @@ returns-clause-cut g c = λ is.
     } in
     let is : new ≡ after = c.close_top.ensures.fields in
     subst (λ h. IsShortened regions word g.A.Links.follows heap less h) (sym is) (is_shortened c.requires.sound c.requires.there less c.requires.whole
-    c.requires.room whole new.system (closed.regions_same ∙ freed.regions taken) closed.head closed.foot_head
-    (λ k inside at_top at_foot. (let was = subst (λ rs. IsWordOf rs k) closed.regions_same inside in closed.elsewhere k was at_top at_foot ∙ freed.words k was))
+    c.requires.room whole new.system (closed.regions ∙ freed.regions taken) closed.head closed.foot_head
+    (λ k inside at_top at_foot. (let was = subst (λ rs. IsWordOf rs k) closed.regions inside in closed.elsewhere k was at_top at_foot ∙ freed.words k was))
     (g.A.Links.follows_on heap.system middle new.system (Released heap.base heap.size (heap.size - less) ∷ []) []
-    (Released heap.base heap.size (heap.size - less) ∷ []) (freed.follows taken) closed.followed refl))
+    (Released heap.base heap.size (heap.size - less) ∷ []) (freed.follows taken) closed.follows refl))
 
 pub returns-clause-there : goal.returns-clause-there
 returns-clause-there g c =

@@ -1,4 +1,5 @@
-use Rattle.dlmalloc.proofs.Names.{[], refl, ◌∙◌, ap, arith}
+use Rattle.dlmalloc.proofs.Names.{ap, arith}
+use Rattle.heap_memory.specs.AskLaws.{asks_on}
 use Rattle.dlmalloc.proofs.Bins.Changes.{binned_beside}
 use Rattle.dlmalloc.proofs.Resizing.SplitAndFreed.{lead_state, lead_second, lead_others, lead_kept, lead_words}
 use Rattle.dlmalloc.proofs.Bins.Order.{bins_kept}
@@ -25,8 +26,8 @@ returns g c =
         sound = freed.turned.moved.sound;
         bins = bins_kept (λ b. freed.turned.bins.order (binned_beside c.index_stays.ensures sound e.moves (ap (λ s. s.victim) e.state) b))
             c.requires.intact.linked;
-        regions_same = freed.turned.moved.regions_same ∙ e.moves.moved.regions_same;
-        followed = g.A.Links.follows_on _ _ _ [] [] [] e.moves.moved.followed freed.turned.moved.followed refl;
+        asks = asks_on (record { regions = e.moves.moved.regions_same; follows = e.moves.moved.followed })
+            (record { regions = freed.turned.moved.regions_same; follows = freed.turned.moved.followed });
       };
       words = lead_words sound can e freed.turned.moved freed.freed.state freed.freed.less;
       counted = (let told = c.split.ensures.counted in let more = freed.counted in omega arith);

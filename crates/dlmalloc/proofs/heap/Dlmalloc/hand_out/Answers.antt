@@ -39,13 +39,13 @@ gone : (g : _) (c : After-set_next g) → g.A.Links.regions c.set_next.new.self.
     ≡ without_run c.args.told.now.base (c.args.told.now.base + c.args.told.now.size) (g.A.Links.regions c.args.self.now.system)
 gone g c =
     let told = c.args.told.now in
-    c.set_next.ensures.rest.regions_same ∙ (c.free.ensures.regions c.if-not-free.false
+    c.set_next.ensures.rest.regions ∙ (c.free.ensures.regions c.if-not-free.false
     ∙ ap (λ now. without_run told.base (told.base + told.size) (g.A.Links.regions now.system)) c.forget.ensures)
 
 kept : (g : _) (c : After-set_next g) → (k : ℕ) → IsWordOf (g.A.Links.regions c.set_next.new.self.system) k →
     (c.args.before ≢ 0 → k ≢ c.args.before + 16) → g.A.Links.word c.set_next.new.self.system k ≡ g.A.Links.word c.args.self.now.system k
 kept g c k inside other =
-    let inside' = subst (λ rs. IsWordOf rs k) c.set_next.ensures.rest.regions_same inside in
+    let inside' = subst (λ rs. IsWordOf rs k) c.set_next.ensures.rest.regions inside in
     c.set_next.ensures.rest.elsewhere k inside' other ∙ (c.free.ensures.words k inside' ∙ ap (λ now. g.A.Links.word now.system k) c.forget.ensures)
 
 pub returns-clause-visited : goal.returns-clause-visited
@@ -54,7 +54,7 @@ returns-clause-visited g c = λ chained.
     let freed = subst (λ (now : Dlmalloc g.row.A.Denot). g.A.Links.follows now.system (Released told.base told.size 0 ∷ []) c.free.new.self) c.forget.ensures
     (c.free.ensures.follows c.if-not-free.false) in
     let followed = g.A.Links.follows_on heap.system c.free.new.self system (Released told.base told.size 0 ∷ []) []
-    (Released told.base told.size 0 ∷ []) freed c.set_next.ensures.rest.followed refl in
+    (Released told.base told.size 0 ∷ []) freed c.set_next.ensures.rest.follows refl in
     let unused = last_test (is_own chained.segment) (g.A.Allocator.parts heap.system) (is_unused chained.segment) (sym (c.requires.may chained)) in
     let visited = leaves c.requires.sound chained system (gone g c) (kept g c) c.set_next.ensures.here unused g.A.Links.follows followed in
     let same : c.set_next.new.self ≡ left_heap c.requires.sound chained system (gone g c) (kept g c) c.set_next.ensures.here unused =

@@ -73,7 +73,7 @@ returns-else-from-self g c =
 pub returns-then-self-to-2 : goal.returns-then-self-to-2
 returns-then-self-to-2 g c =
     let on = goes_on c.requires.sound c.requires.chunk c.requires.from c.requires.to c.if-to-self.false in
-    let o = as_victim c.requires.sound c.requires.chunk c.requires.from c.requires.to on c.make_free.new.memory c.make_free.ensures.freed.regions_same
+    let o = as_victim c.requires.sound c.requires.chunk c.requires.from c.requires.to on c.make_free.new.memory c.make_free.ensures.freed.regions
     c.make_free.ensures.freed.stored
     c.if-from-self-2.true c.if-self-to-2.true in
     record {
@@ -82,7 +82,7 @@ returns-then-self-to-2 g c =
       joined = o.joined;
       victim = inr (c.if-from-self-2.true, c.if-self-to-2.true, inr refl);
       moves = record {
-        moved = record { sound = o.sound; words = o.words; regions_same = c.make_free.ensures.freed.regions_same; followed = c.make_free.ensures.freed.followed };
+        moved = record { sound = o.sound; words = o.words; regions_same = c.make_free.ensures.freed.regions; followed = c.make_free.ensures.freed.follows };
         free = o.free;
         bins = refl;
       };
@@ -97,7 +97,7 @@ returns-else-from-self-2 g c =
       | else-from-self-2-via-then-from-self-2+else-self-to-2 w ↦ inr w.if-self-to-2.false
       | else-from-self-2-via-else-from-self-2 w ↦ inl w.if-from-self-2.false
     ] in
-    let o = as_other c.requires.sound c.requires.chunk c.requires.from c.requires.to on c.make_free.new.memory c.make_free.ensures.freed.regions_same
+    let o = as_other c.requires.sound c.requires.chunk c.requires.from c.requires.to on c.make_free.new.memory c.make_free.ensures.freed.regions
     c.make_free.ensures.freed.stored out in
     record {
       freed = record { state = o.state; less = o.less; records = o.records };
@@ -105,7 +105,7 @@ returns-else-from-self-2 g c =
       joined = o.joined;
       victim = inl refl;
       moves = record {
-        moved = record { sound = o.sound; words = o.words; regions_same = c.make_free.ensures.freed.regions_same; followed = c.make_free.ensures.freed.followed };
+        moved = record { sound = o.sound; words = o.words; regions_same = c.make_free.ensures.freed.regions; followed = c.make_free.ensures.freed.follows };
         free = o.free;
         bins = refl;
       };

@@ -12,23 +12,23 @@ returns g c =
     let is : new ≡ after = c.make_head.ensures.fields in
     let long = fresh.long in
     let some : 0 < grant.size = omega arith in
-    let sound = opened_sound new.system c.requires.sound fresh made.regions_same made.head made.foot_head c.requires.none c.countdown_from-self.ensures in
+    let sound = opened_sound new.system c.requires.sound fresh made.regions made.head made.foot_head c.requires.none c.countdown_from-self.ensures in
     record {
       admitted = record {
         joined = subst (λ h. IsAdmitted regions word g.A.Links.follows heap grant h) (sym is) (record {
-          state = opened_state new.system c.requires.sound fresh made.regions_same made.head made.foot_head c.requires.none c.countdown_from-self.ensures;
+          state = opened_state new.system c.requires.sound fresh made.regions made.head made.foot_head c.requires.none c.countdown_from-self.ensures;
           sound = sound;
           there = some;
           room = omega arith;
           begins = inl refl;
-          regions_same = made.regions_same;
-          followed = made.followed;
-          used = opened_used new.system c.requires.sound fresh made.regions_same made.head made.foot_head c.requires.none c.countdown_from-self.ensures;
+          regions_same = made.regions;
+          followed = made.follows;
+          used = opened_used new.system c.requires.sound fresh made.regions made.head made.foot_head c.requires.none c.countdown_from-self.ensures;
           words = λ k inside apart recorded. (let tags = head_tags sound some k apart in made.elsewhere k inside tags.0 (λ is. tags.1 (omega arith)));
           new_words = λ k inside low high a b. made.elsewhere k inside a (λ is. b (omega arith));
         });
         free = subst (λ h. FreeMoves (state_of word heap) (state_of word h) [] []) (sym is)
-            (opened_free new.system c.requires.sound fresh made.regions_same made.head made.foot_head c.requires.none c.countdown_from-self.ensures);
+            (opened_free new.system c.requires.sound fresh made.regions made.head made.foot_head c.requires.none c.countdown_from-self.ensures);
         same = subst (λ h. IsSameBins heap h) (sym is) (record { bins = refl; victim = refl });
       };
     }

@@ -21,10 +21,10 @@ returns g c =
       least = c.requires.before.room.bytes.least;
       room = c.requires.before.room.room;
       whole = whole_each (regions heap.system) (g.A.Links.whole heap.system);
-      same = put.rest.regions_same;
+      same = put.rest.regions;
       first = put.first;
       second = put.second;
-      followed = put.rest.followed;
+      followed = put.rest.follows;
     } in
     record {
       put = record { prepended = before_head c.requires.sound halves c.requires.before.behind (λ k inside first second. put.rest.elsewhere k inside (first, second)); same = record { bins = refl; victim = refl } };

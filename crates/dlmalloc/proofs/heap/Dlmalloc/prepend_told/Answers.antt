@@ -58,11 +58,11 @@ returns g c =
       least = c.requires.before.room.bytes.least;
       room = c.requires.before.room.room;
       whole = whole_each (regions heap.system) (g.A.Links.whole heap.system);
-      same = put.rest.regions_same ∙ same;
+      same = put.rest.regions ∙ same;
       first = put.first;
       second = put.second;
       followed = g.A.Links.follows_on heap.system at_second system [] [] []
-          (g.A.Links.follows_on heap.system at_first at_second [] [] [] one.follows two.follows refl) put.rest.followed refl;
+          (g.A.Links.follows_on heap.system at_first at_second [] [] [] one.follows two.follows refl) put.rest.follows refl;
     } in
     record {
       put = record {

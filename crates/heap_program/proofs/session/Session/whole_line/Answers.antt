@@ -1,4 +1,4 @@
-use Rattle.std.proofs.Common.{◌≡◌, Option, ◌∷◌, [], refl, subst}
+use Rattle.std.proofs.Common.{Option, ◌∷◌, [], refl, subst}
 use Rattle.std.proofs.lemmas.Result.{on_ok_weaker}
 use Rattle.heap_model.specs.declared.call.Call.{Call}
 use Rattle.heap_program.proofs.Runs.{responded_whole}

@@ -1,4 +1,4 @@
-use Rattle.std.proofs.Common.{rules, arith, ℕ, ◌+◌, ◌≤◌, vec_capacity, ◌≡◌, ◌∙◌, ap, refl, sym, subst, length, List, Option, None, Some, Bool, true, false}
+use Rattle.std.proofs.Common.{rules, arith, ℕ, ◌+◌, ◌≤◌, vec_capacity, ◌≡◌, ◌∙◌, ap, refl, subst, length, List, Option, None, Some, Bool, true, false}
 use Rattle.std.specs.Int.{is_power_of_two}
 use Rattle.std.proofs.lemmas.Result.{IfOk-weaker, on_err_weaker}
 use Rattle.dlmalloc_chunks.specs.Request.{padded, wanted}

@@ -1,4 +1,4 @@
-use Rattle.std.proofs.Common.{refl, rules, ap, subst}
+use Rattle.std.proofs.Common.{rules, ap, subst}
 use Rattle.object_pool.specs.Pool.{KeepsAll}
 use Rattle.object_pool.proofs.pool.Pool.add_slab.Goals as goal
 

@@ -1,4 +1,4 @@
-use Rattle.std.proofs.Common.{◌≡◌, ◌≤◌, ap, ◌∙◌, arith}
+use Rattle.std.proofs.Common.{◌≤◌, ap, ◌∙◌, arith}
 use Rattle.paging_core.specs.Memory.{frame_count}
 use Rattle.paged_systems.specs.System.{paged}
 use Rattle.tlb_cache.proofs.Ranges.{within_frames}
