@@ -1,7 +1,7 @@
 //! A heap of blocks in memory that is granted in regions (dlmalloc: `Dlmalloc`).
 //!
-//! Blocks stand in chunks, and chunks tile a segment: each begins where the one before ends. The head words of the
-//! chunks alone say what a heap is: its segments and their extents.
+//! Blocks stand in chunks, and chunks tile a segment: each begins where the one before ends. What a heap is
+//! stands in its fields and in words of the memory: the records say its segments, and the head words of the chunks their extents.
 #![tactic(auto)]
 
 mod binning;

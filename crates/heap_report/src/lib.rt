@@ -2,8 +2,8 @@
 //! its last state say.
 //!
 //! `report_main` is the command: it takes calls as lines, as `heap run` does, and writes its report at the end of the
-//! input. What it tells is a text of the last state, of the bytes that are live in it and were at most, and of its extents;
-//! `tell_main` is the same for any such text (`Tell`).
+//! input. Its text is one of the last state, of the bytes that are live in it and were at most, and of its extents;
+//! `tell_main` writes any text of the machine, the calls and their answers (`Tell`).
 #![tactic(auto)]
 
 mod laws;

@@ -32,19 +32,19 @@ is_always_answered (SetRate rate) = true
 is_always_answered (SetGranularity granularity) = true
 is_always_answered call = false
 
--- The pages that an answer to a call maps, where no page leaves in the same call: those of a map, or those that were granted for a
+-- The pages that an answer to a call maps, if no page leaves in the same call: those of a map, or those that were granted for a
 -- new block.
 abbrev pub lasting_pages : State → Call → Answer → Option NewPages
 lasting_pages s (Realloc number size) answer = None
 lasting_pages s (CRealloc number size) answer = None
 lasting_pages s call answer = new_pages s call answer.reply answer.regions
 
--- Where a slot lies whole among them, had no table, and is not mapped by one entry now, no run of frames is free that it could have.
+-- If a slot lies whole among them, had no table, and is not mapped by one entry now, no run of frames is free that it could have.
 abbrev pub AreRunsUsedFor : Paged → Paged → Option NewPages → Type 0
 AreRunsUsedFor old new None = ⊤
 AreRunsUsedFor old new (Some pages) = AreRunsUsed old new pages.start pages.pages
 
--- Whether a reply tells that nothing was changed: the call was refused, or looked at bytes, at a byte or at the extents, or met a
+-- Whether a reply says that nothing was changed: the call was refused, or looked at bytes, at a byte or at the extents, or met a
 -- fault, or a setting was not accepted.
 abbrev pub leaves_all : Reply → Bool
 leaves_all (Refused why) = true

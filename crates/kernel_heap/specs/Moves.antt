@@ -42,11 +42,11 @@ pub record AreSlotsTold (old new : Dlmalloc PagedSystem) (large : Option (List �
   pub none : (paged new.system).joins ≡ (paged old.system).joins → large ≡ None
   pub joined : ((paged new.system).joins ≡ (paged old.system).joins → ⊥) → large ≡ listed_slots (paged new.system).slots
 
--- what tells whether regions come or go behind this moment
+-- by what it is seen whether regions come or go after this moment
 abbrev pub marks_of : Paged → Marks
 marks_of p = record { joins = p.joins; pageless = pageless_frames p }
 
--- The regions that a call tells: none if none came or went since the marks, and else all of the heap.
+-- The regions that a call lists: none if none came or went since the marks, and else all of the heap.
 pub record AreRegionsTold (p : Paged) (before : Marks) (told : Option (List Region)) : Type 0 where
   pub none : p.joins ≡ before.joins → pageless_frames p ≡ before.pageless → told ≡ None
   pub changed : (p.joins ≡ before.joins → pageless_frames p ≡ before.pageless → ⊥) → told ≡ Some (heap_regions p.regions)

@@ -5,8 +5,8 @@ use Rattle.heap_model.specs.Machine.{Paged}
 use Rattle.mapped_regions.specs.Mapped.{IsMapped, AreGone}
 use Rattle.paged_systems.specs.Words.{grants_of}
 
--- What is behind the first `left` bytes of a run was given back, in whole pages; where that is nothing, the system is as
--- it was. Its tables, frames and regions go together as ever.
+-- What is after the first `left` bytes of a run was given back, in whole pages; if that is nothing, the system is as it
+-- was. Its tables, frames and regions go together as ever.
 pub record IsReleasedFor (old new : Paged) (at size left : ℕ) : Type 0 where
   pub run : IsRun (grants_of old) at (at + size)
   pub within : left ≤ size

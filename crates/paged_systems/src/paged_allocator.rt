@@ -55,7 +55,7 @@ impl Allocator for PagedSystem {
         self.grant_bytes(size)
     }
 
-    /// Gives the pages behind the first `new_size` bytes of a run back, where these are whole pages. It takes no memory.
+    /// Gives the pages after the first `new_size` bytes of a run back, if these are whole pages. It takes no memory.
     fn free_part(&mut self, at: u64, old_size: u64, new_size: u64) -> bool {
         if new_size % Size4KiB::SIZE != 0 {
             return false;

@@ -1,5 +1,5 @@
-// Bytes of the regions of a paged system, in a row: whole words by a walk each, and the bytes before and behind them one
-// by one.
+// Bytes of the regions of a paged system, in a row: whole words by a walk each, and the bytes before and after them one by
+// one.
 ghost use Rattle.std.specs.Prelude.{◌≡◌, ℕ, ◌+◌, ◌*◌, ◌%◌, ◌<◌, ◌≤◌, IfOk, OnOk, length, slice_index};
 ghost use Rattle.std.specs.Int.{w64, to_le_bytes};
 ghost use Rattle.paged_systems.specs.System.{paged};
@@ -33,7 +33,7 @@ fn word_of_bytes(bytes: &[u8], place: usize) -> u64
 }
 
 impl PagedSystem {
-    /// Reads bytes one by one behind the first `done`, until those from the address on are `count`.
+    /// Reads bytes one by one after the first `done`, until those from the address on are `count`.
     fn read_each(
         &self,
         address: u64,
@@ -52,7 +52,7 @@ impl PagedSystem {
         Ok(())
     }
 
-    /// Reads `words` words behind the first `done` bytes from the address on, each by one walk.
+    /// Reads `words` words after the first `done` bytes from the address on, each by one walk.
     fn read_words(
         &self,
         address: u64,

@@ -137,7 +137,7 @@ impl PagedSystem {
         self.regions.list_of_heap(list)
     }
 
-    /// The place of this number of pages, where they have one and can be granted there.
+    /// The place of this number of pages, if they have one and can be granted there.
     pub(crate) fn plan(&self, pages: u64) -> Result<u64, GrantFault>
         requires some { 0 < pages }
         ensures ok { IfOk result (λ place. CanGrant (paged self.now) pages place) }
@@ -171,7 +171,7 @@ impl PagedSystem {
         }
     }
 
-    /// What may be done at an address: the rights of its page, where it is mapped, by a walk.
+    /// What may be done at an address: the rights of its page, if it is mapped, by a walk.
     pub fn rights_at(&self, address: u64) -> Option<Rights>
         requires { IsTrue (is_canonical address) }
         ensures region { result ≡ option_map (λ kind. kind.1) (kind_at (paged self.now).regions address) }
@@ -189,7 +189,7 @@ impl PagedSystem {
         self.regions.byte(address)
     }
 
-    /// Gives back what is behind the first `left` bytes of a run, in whole pages: their frames are free again, and the
+    /// Gives back what is after the first `left` bytes of a run, in whole pages: their frames are free again, and the
     /// tables stay. It takes no memory.
     pub(crate) fn release(&mut self, at: u64, size: u64, left: u64)
         requires run { IsRun (grants_of (paged self.old)) at (at + size) }

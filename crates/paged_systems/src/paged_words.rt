@@ -13,7 +13,7 @@ use paging_core::{PageSize, Size4KiB};
 /// How many words are put by one walk at most.
 const RUN_WORDS: usize = 64;
 
-/// How many words from a multiple of 8 on are put next, of those that are left: as many as stand in its page.
+/// How many words from a multiple of 8 on are put next, of those that are left: no more than stand in its page, and 64 at most.
 fn run_of(at: u64, left: u64) -> u64
     ensures { IsNextRun at left result }
 {

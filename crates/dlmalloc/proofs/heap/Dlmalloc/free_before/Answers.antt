@@ -17,8 +17,7 @@ returns-then-place-at-clause-lead g c =
       kept = search rules;
       sound = c.requires.intact.sound;
       bins = bins_same c.requires.intact.linked;
-      regions_same = refl;
-      followed = g.A.Links.follows_none c.args.self.now.system;
+      asks = record { regions = refl; follows = g.A.Links.follows_none c.args.self.now.system };
     }
 
 pub free_lead-requires-clause-split : goal.free_lead-requires-clause-split
