@@ -137,8 +137,9 @@ impl PagedSystem {
         self.regions.list_of_heap(list)
     }
 
-    /// The place of this number of pages, if they have one and can be granted there.
-    pub(crate) fn plan(&self, pages: u64) -> Result<u64, GrantFault>
+    /// The address where a grant of this number of pages would begin now. Nothing is granted. `NoSpace` if the window has no
+    /// place for them, and `NoFrames` if it has, but too few frames are free for them and the tables that they lack.
+    pub fn plan(&self, pages: u64) -> Result<u64, GrantFault>
         requires some { 0 < pages }
         ensures ok { IfOk result (λ place. CanGrant (paged self.now) pages place) }
         ensures lacks { IfErr result (λ fault. LacksPlaceOrFrames (paged self.now) pages fault) }
