@@ -4,7 +4,7 @@ use base.Fml.{GName}
 use borrow.Follows.Closed.{read_of}
 use mathlib.Core.Logic.{◌⊎◌}
 use mathlib.Core.Option as found
-use Rattle.std.proofs.lemmas.Bool.{cases_lt}
+use Rattle.std.proofs.lemmas.Bool.{cases_lt, lt-ltb, le-ltb}
 use Rattle.std.specs.List.{slice_get}
 use Rattle.std.specs.Option.{option_map}
 use Rattle.std.specs.declared.alloc.Global.{Global}
@@ -19,7 +19,7 @@ use Rattle.meminterval.specs.Subtree.{tree_of, IsRecorded}
 use Rattle.meminterval.specs.Place.{put_value}
 use Rattle.meminterval.specs.Tree as tree
 use Rattle.meminterval.specs.Tree.{levels, visited}
-use Rattle.meminterval.proofs.Places.{get_back, get_front, lt_false, lt_true}
+use Rattle.meminterval.proofs.Places.{get_back, get_front}
 
 -- what a lender ends as, by equal functions
 pub read_same : {D E : Type 0} (m : found.Option GName) {F G : E → D} {x y : D} → ((w : E) → F w ≡ G w) → x ≡ y → read_of m F x ≡ read_of m G y
@@ -37,11 +37,11 @@ module _ {T V : Type 0} where
   -- the rest of the way after one turn
   pub after_right : (b : Box (Node T V) Global) (d k : ℕ) → k < length (visited (tree_of b.value.right)) →
       left_after (suc d) (Fork b) (suc k) ≡ left_after d b.value.right k
-  after_right b d k h = rw (lt_true k (length (visited (tree_of b.value.right))) h) refl
+  after_right b d k h = rw (lt-ltb k (length (visited (tree_of b.value.right))) h) refl
 
   pub after_left : (b : Box (Node T V) Global) (d k : ℕ) → length (visited (tree_of b.value.right)) ≤ k →
       left_after (suc d) (Fork b) (suc k) ≡ left_after d b.value.left (k - length (visited (tree_of b.value.right)))
-  after_left b d k h = rw (lt_false k (length (visited (tree_of b.value.right))) h) refl
+  after_left b d k h = rw (le-ltb k (length (visited (tree_of b.value.right))) h) refl
 
   -- a way that ends within a number of turns ends there within more
   pub ends : (d m : ℕ) (t : Subtree T V) (k : ℕ) → d ≤ m → left_after d t k ≡ 0 →
@@ -52,11 +52,11 @@ module _ {T V : Type 0} where
   ends (suc d) zero (Fork' p l i v g n s r) (suc k) le h = absurd (omega (arith, le))
   ends (suc d) (suc m) (Fork' p l i v g n s r) (suc k) le h = elim (cases_lt k (length (visited (tree_of r)))) [
     | inl lt ↦
-        let b = lt_true k (length (visited (tree_of r))) lt in
+        let b = lt-ltb k (length (visited (tree_of r))) lt in
         let ih = ends d m r k (omega (arith, le)) (rw b at h) in
         (rw b ih.0, λ w. rw b (ap (λ x. Fork' p l i v g n s x) (ih.1 w)))
     | inr ge ↦
-        let b = lt_false k (length (visited (tree_of r))) ge in
+        let b = le-ltb k (length (visited (tree_of r))) ge in
         let ih = ends d m l (k - length (visited (tree_of r))) (omega (arith, le)) (rw b at h) in
         (rw b ih.0, λ w. rw b (ap (λ x. Fork' p x i v g n s r) (ih.1 w)))
   ]
@@ -70,11 +70,11 @@ module _ {T V : Type 0} where
   nothing (suc d) zero (Fork' p l i v g n s r) (suc k) le h = absurd (omega (arith, le))
   nothing (suc d) (suc m) (Fork' p l i v g n s r) (suc k) le h = elim (cases_lt k (length (visited (tree_of r)))) [
     | inl lt ↦
-        let b = lt_true k (length (visited (tree_of r))) lt in
+        let b = lt-ltb k (length (visited (tree_of r))) lt in
         let ih = nothing d m r k (omega (arith, le)) (rw b at h) in
         (rw b ih.0, λ w. rw b (ap (λ x. Fork' p l i v g n s x) (ih.1 w)))
     | inr ge ↦
-        let b = lt_false k (length (visited (tree_of r))) ge in
+        let b = le-ltb k (length (visited (tree_of r))) ge in
         let ih = nothing d m l (k - length (visited (tree_of r))) (omega (arith, le)) (rw b at h) in
         (rw b ih.0, λ w. rw b (ap (λ x. Fork' p x i v g n s r) (ih.1 w)))
   ]
@@ -100,17 +100,17 @@ module _ {T V : Type 0} where
       (subst (λ (y : ℕ). Goes zero e (suc m) (Fork' p l i v g u s r) (suc k) (whole l i v g u s r) y) at
       (subst (λ (y : ℕ). Goes zero y (suc m) (Fork' p l i v g u s r) (suc k) (whole l i v g u s r) k) size
       (elim (cases_lt k (length (visited (tree_of r)))) [
-        | inl lt ↦ let b = lt_true k (length (visited (tree_of r))) lt in (rw b refl, λ w. rw b refl)
-        | inr ge ↦ let b = lt_false k (length (visited (tree_of r))) ge in (rw b refl, λ w. rw b refl)
+        | inl lt ↦ let b = lt-ltb k (length (visited (tree_of r))) lt in (rw b refl, λ w. rw b refl)
+        | inr ge ↦ let b = le-ltb k (length (visited (tree_of r))) ge in (rw b refl, λ w. rw b refl)
       ])))
   further (suc d) e zero (Fork' p l i v g u s r) (suc k) q n j f h = absurd (omega (arith, q))
   further (suc d) e (suc m) (Fork' p l i v g u s r) (suc k) q n j f h = elim (cases_lt k (length (visited (tree_of r)))) [
     | inl lt ↦
-        let b = lt_true k (length (visited (tree_of r))) lt in
+        let b = lt-ltb k (length (visited (tree_of r))) lt in
         let ih = further d e m r k (omega (arith, q)) n j (rw b at f) (rw b at h) in
         (rw b ih.0, λ w. rw b (ap (λ x. Fork' p l i v g u s x) (ih.1 w)))
     | inr ge ↦
-        let b = lt_false k (length (visited (tree_of r))) ge in
+        let b = le-ltb k (length (visited (tree_of r))) ge in
         let ih = further d e m l (k - length (visited (tree_of r))) (omega (arith, q)) n j (rw b at f) (rw b at h) in
         (rw b ih.0, λ w. rw b (ap (λ x. Fork' p x i v g u s r) (ih.1 w)))
   ]
@@ -123,8 +123,8 @@ module _ {T V : Type 0} where
   recorded_at cmp zero (Fork' p l i v g u s r) (suc k) a n f =
       let same : whole l i v g u s r ≡ n = cc in subst (λ (x : Node T V). IsRecorded cmp x.left × IsRecorded cmp x.right) same (a.0, a.1)
   recorded_at cmp (suc d) (Fork' p l i v g u s r) (suc k) a n f = elim (cases_lt k (length (visited (tree_of r)))) [
-    | inl lt ↦ recorded_at cmp d r k a.1 n (rw (lt_true k (length (visited (tree_of r))) lt) at f)
-    | inr ge ↦ recorded_at cmp d l (k - length (visited (tree_of r))) a.0 n (rw (lt_false k (length (visited (tree_of r))) ge) at f)
+    | inl lt ↦ recorded_at cmp d r k a.1 n (rw (lt-ltb k (length (visited (tree_of r))) lt) at f)
+    | inr ge ↦ recorded_at cmp d l (k - length (visited (tree_of r))) a.0 n (rw (le-ltb k (length (visited (tree_of r))) ge) at f)
   ]
 
   -- what is put back where it was changes nothing
@@ -136,24 +136,24 @@ module _ {T V : Type 0} where
       let same : whole l i v g u s r ≡ n = cc in subst (λ (x : Node T V). put_reached zero (Fork' p l i v g u s r) (suc k) x ≡ Fork' p l i v g u s r) same refl
   put_back (suc d) (Fork' p l i v g u s r) (suc k) n f = elim (cases_lt k (length (visited (tree_of r)))) [
     | inl lt ↦
-        let b = lt_true k (length (visited (tree_of r))) lt in
+        let b = lt-ltb k (length (visited (tree_of r))) lt in
         let ih : put_reached d r k n ≡ r = put_back d r k n (rw b at f) in rw b (ap (λ x. Fork' p l i v g u s x) ih)
     | inr ge ↦
-        let b = lt_false k (length (visited (tree_of r))) ge in
+        let b = le-ltb k (length (visited (tree_of r))) ge in
         let ih : put_reached d l (k - length (visited (tree_of r))) n ≡ l =
         put_back d l (k - length (visited (tree_of r))) n (rw b at f) in rw b (ap (λ x. Fork' p x i v g u s r) ih)
   ]
 
   pub turn_back : (n : Node T V) (j : ℕ) → put_turn n j (turn n j) ≡ n
   turn_back n j = elim (cases_lt j (length (visited (tree_of n.right)))) [
-    | inl lt ↦ rw (lt_true j (length (visited (tree_of n.right))) lt) refl
-    | inr ge ↦ rw (lt_false j (length (visited (tree_of n.right))) ge) refl
+    | inl lt ↦ rw (lt-ltb j (length (visited (tree_of n.right))) lt) refl
+    | inr ge ↦ rw (le-ltb j (length (visited (tree_of n.right))) ge) refl
   ]
 
   pub recorded_turn : (cmp : T → T → Ordering) (n : Node T V) (j : ℕ) → IsRecorded cmp n.left → IsRecorded cmp n.right → IsRecorded cmp (turn n j)
   recorded_turn cmp n j a b = elim (cases_lt j (length (visited (tree_of n.right)))) [
-    | inl lt ↦ rw (lt_true j (length (visited (tree_of n.right))) lt) b
-    | inr ge ↦ rw (lt_false j (length (visited (tree_of n.right))) ge) a
+    | inl lt ↦ rw (lt-ltb j (length (visited (tree_of n.right))) lt) b
+    | inr ge ↦ rw (le-ltb j (length (visited (tree_of n.right))) ge) a
   ]
 
 -- at the end of the way
@@ -175,10 +175,10 @@ module _ {T V : Type 0} where
       (arith, lt, size_of l r (i, v), no_levels l (omega (arith, low)), no_levels r (omega (arith, low))))
   value_reached (suc d) (Fork' p l i v g u s r) (suc k) low lt = elim (cases_lt k (length (visited (tree_of r)))) [
     | inl less ↦
-        let b = lt_true k (length (visited (tree_of r))) less in
+        let b = lt-ltb k (length (visited (tree_of r))) less in
         rw (b, get_front (visited (tree_of r)) (visited (tree_of l)) k less) (value_reached d r k (omega (arith, low)) less)
     | inr ge ↦
-        let b = lt_false k (length (visited (tree_of r))) ge in
+        let b = le-ltb k (length (visited (tree_of r))) ge in
         rw (b, get_back (visited (tree_of r)) (visited (tree_of l)) k ge)
         (value_reached d l (k - length (visited (tree_of r))) (omega (arith, low))
         (omega (arith, lt, ge, size_of l r (i, v))))
@@ -194,10 +194,10 @@ module _ {T V : Type 0} where
       (omega (arith, lt, size_of l r (i, v), no_levels l (omega (arith, low)), no_levels r (omega (arith, low))))
   value_put (suc d) (Fork' p l i v g u s r) (suc k) low lt n f w = elim (cases_lt k (length (visited (tree_of r)))) [
     | inl less ↦
-        let b = lt_true k (length (visited (tree_of r))) less in
+        let b = lt-ltb k (length (visited (tree_of r))) less in
         let ih = value_put d r k (omega (arith, low)) less n (rw b at f) w in rw b (ap (λ x. Fork' p l i v g u s x) ih)
     | inr ge ↦
-        let b = lt_false k (length (visited (tree_of r))) ge in
+        let b = le-ltb k (length (visited (tree_of r))) ge in
         let ih = value_put d l (k - length (visited (tree_of r))) (omega (arith, low))
         (omega (arith, lt, ge, size_of l r (i, v))) n (rw b at f) w in rw b (ap (λ x. Fork' p x i v g u s r) ih)
   ]

@@ -1,6 +1,6 @@
 -- Another value at a place in the order of a query.
 use Rattle.std.proofs.Common.{◌≡◌, ℕ, zero, suc, ◌+◌, ◌-◌, ◌<◌, ◌≤◌, Bool, true, false, cond, nat_lt, List, [], ◌∷◌, ◌++◌, length, Some, refl, sym, ap, subst, ◌∙◌, arith, max, map, inl, inr, drop}
-use Rattle.std.proofs.lemmas.Bool.{cases_lt}
+use Rattle.std.proofs.lemmas.Bool.{cases_lt, lt-ltb, le-ltb}
 use Rattle.std.proofs.lemmas.List.{map-append, length-map, drop-append-le}
 use Rattle.std.proofs.Math.Seq.{drop-append-add}
 use Rattle.std.specs.List.{slice_get}
@@ -32,12 +32,6 @@ module _ {A : Type 0} where
   get_back [] ys k h = ap (λ n. slice_get ys n) (omega arith)
   get_back (x ∷ xs) ys zero h = absurd (omega (arith, h))
   get_back (x ∷ xs) ys (suc k) h = get_back xs ys k (omega (arith, h)) ∙ ap (λ n. slice_get ys n) (omega arith)
-
-pub lt_true : (k n : ℕ) → k < n → nat_lt k n ≡ true
-lt_true k n h = grind (arith, nat_tests)
-
-pub lt_false : (k n : ℕ) → n ≤ k → nat_lt k n ≡ false
-lt_false k n h = grind (arith, nat_tests)
 
 module _ {X : Type 0} where
   cond_both : (P : X → Type 0) (b : Bool) (x y : X) → P x → P y → P (cond b x y)
@@ -106,12 +100,12 @@ module _ {T V : Type 0} (w : V) where
   drop_at (tree.Fork l e r) (suc k) = elim (cases_lt k (length (visited r))) [
     | inl lt ↦
         let lt' : suc k ≤ length (visited (map_at (with_value w) r k)) = rw (length_same r k) (omega (arith, lt)) in
-        rw (lt_true k (length (visited r)) lt) (drop-append-le (suc k) (visited (map_at (with_value w) r k)) (visited l) lt'
+        rw (lt-ltb k (length (visited r)) lt) (drop-append-le (suc k) (visited (map_at (with_value w) r k)) (visited l) lt'
         ∙ ap (λ es. es ++ visited l) (drop_at r k) ∙ sym (drop-append-le (suc k) (visited r) (visited l)
         (omega (arith, lt))))
     | inr ge ↦
         let n : suc k ≡ length (visited r) + suc (k - length (visited r)) = omega (arith, ge) in
-        rw (lt_false k (length (visited r)) ge) (ap (λ m. drop m (visited r ++ visited
+        rw (le-ltb k (length (visited r)) ge) (ap (λ m. drop m (visited r ++ visited
         (map_at (with_value w) l (k - length (visited r))))) n ∙ drop-append-add (visited r)
         (visited (map_at (with_value w) l (k - length (visited r)))) (suc (k - length (visited r)))
         ∙ drop_at l (k - length (visited r)) ∙ sym (ap (λ m. drop m (visited r ++ visited l)) n
@@ -188,10 +182,10 @@ module _ {T V : Type 0} (w : V) where
 module _ {T V : Type 0} (w : V) (b : Box (Node T V) Global) (k : ℕ) where
   pub put_right : k < length (visited (tree_of b.value.right)) → put_value w (Fork b) (suc k) ≡ Fork
       (record b { value = record b.value { right = put_value w b.value.right k } })
-  put_right h = rw (lt_true k (length (visited (tree_of b.value.right))) h) refl
+  put_right h = rw (lt-ltb k (length (visited (tree_of b.value.right))) h) refl
 
   pub put_left : length (visited (tree_of b.value.right)) ≤ k → put_value w (Fork b) (suc k) ≡ Fork
       (record b {
         value = record b.value { left = put_value w b.value.left (k - length (visited (tree_of b.value.right))) };
       })
-  put_left h = rw (lt_false k (length (visited (tree_of b.value.right))) h) refl
+  put_left h = rw (le-ltb k (length (visited (tree_of b.value.right))) h) refl

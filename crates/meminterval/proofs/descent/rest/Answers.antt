@@ -1,7 +1,7 @@
 use Rattle.std.proofs.Common.{◌≡◌, ◌<◌, ◌≤◌, length, refl, arith}
+use Rattle.std.proofs.lemmas.Bool.{lt-ltb, le-ltb}
 use Rattle.meminterval.specs.Subtree.{tree_of}
 use Rattle.meminterval.specs.Tree.{visited}
-use Rattle.meminterval.proofs.Places.{lt_false, lt_true}
 use Rattle.meminterval.proofs.Trees.{length_visited}
 use Rattle.meminterval.proofs.descent.rest.Goals as goal
 
@@ -9,11 +9,11 @@ pub returns-then-place-right_size : goal.returns-then-place-right_size
 returns-then-place-right_size g c =
     let right = tree_of c.args.node.now.right in
     let lt : c.args.place < length (visited right) = omega (arith, c.size-right_size.ensures, length_visited right, c.if-place-right_size.true) in
-    rw (lt_true c.args.place (length (visited right)) lt) refl
+    rw (lt-ltb c.args.place (length (visited right)) lt) refl
 
 pub returns-else-place-right_size : goal.returns-else-place-right_size
 returns-else-place-right_size g c =
     let right = tree_of c.args.node.now.right in
     let same : c.size-right_size.result ≡ length (visited right) = omega (arith, c.size-right_size.ensures, length_visited right) in
     let ge : length (visited right) ≤ c.args.place = omega (arith, same, c.if-place-right_size.false) in
-    rw (lt_false c.args.place (length (visited right)) ge, same) refl
+    rw (le-ltb c.args.place (length (visited right)) ge, same) refl
