@@ -184,6 +184,11 @@ bytes_on words at (suc n) m =
     ap (bytes_at words at) more ∙ ap (λ (bs : List ℕ). byte_in words at ∷ bs)
     (bytes_on words (at + 1) n m ∙ ap (λ a. bytes_at words (at + 1) n ++ bytes_at words a m) place)
 
+-- bytes that were read in two parts
+pub bytes_parts : (words : ℕ → ℕ) (at n m count : ℕ) (first last : List ℕ) → n + m ≡ count → first ≡ bytes_at words at n →
+    last ≡ bytes_at words (at + n) m → first ++ last ≡ bytes_at words at count
+bytes_parts words at n m count first last sum front back = rw (front, back) (sym (bytes_on words at n m) ∙ ap (bytes_at words at) sum)
+
 both : {a b : ℕ} {xs ys : List ℕ} → a ≡ b → xs ≡ ys → a ∷ xs ≡ b ∷ ys
 both first rest i = first i ∷ rest i
 

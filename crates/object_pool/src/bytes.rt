@@ -1,10 +1,9 @@
 // Bytes of granted memory, in a row: whole words at once, and the bytes before and after them one by one.
-ghost use Rattle.std.specs.Prelude.{◌≡◌, ℕ, ◌+◌, ◌*◌, ◌%◌, ◌<◌, ◌≤◌, IfOk, OnOk, length, slice_index};
+ghost use Rattle.std.specs.Prelude.{◌≡◌, ℕ, ◌+◌, ◌%◌, ◌<◌, ◌≤◌, length, slice_index};
 ghost use Rattle.std.specs.Int.{w64, to_le_bytes};
 ghost use Rattle.object_pool.specs.Bytes.{AreBytesPut, AreGranted, bytes_at};
 
 use heap_memory::{Links, Memory};
-use std::alloc::{AllocError, Global};
 
 /// How many bytes of a run stand before its first whole word.
 fn bytes_before_words(address: u64, count: u64) -> u64
@@ -28,62 +27,54 @@ fn word_of_bytes(bytes: &[u8], place: usize) -> u64
     u64::from_le_bytes(word)
 }
 
-/// Reads bytes one by one after the first `done`, until those from the address on are `count`.
-fn read_each<M: Memory>(
-    memory: &M,
-    address: u64,
-    done: u64,
-    count: u64,
-    bytes: &mut Vec<u8>,
-) -> Result<(), AllocError>
-    requires inside { AreGranted (M.regions memory.now) address count }
-    requires few { done ≤ count }
-    requires read { bytes.old.items ≡ bytes_at (M.word memory.now) address done }
-    ensures { OnOk result (bytes.new.items ≡ bytes_at (M.word memory.now) address count) }
+/// Reads the bytes from an address on one by one.
+fn read_each<M: Memory>(memory: &M, address: u64, bytes: &mut [u8])
+    requires { AreGranted (M.regions memory.now) address (length bytes.old) }
+    ensures { bytes.new ≡ bytes_at (M.word memory.now) address (length bytes.old) }
 {
-    for k in done..count {
-        bytes.push(memory.load_byte(address + k))?;
+    for k in 0..bytes.len() {
+        bytes[k] = memory.load_byte(address + k as u64);
     }
-    Ok(())
 }
 
-/// Reads the given number of words after the first `done` bytes from the address on.
-fn read_words<M: Memory>(
-    memory: &M,
-    address: u64,
-    done: u64,
-    words: u64,
-    bytes: &mut Vec<u8>,
-) -> Result<(), AllocError>
-    requires inside { AreGranted (M.regions memory.now) address (done + 8 * words) }
-    requires aligned { 0 < words → (address + done) % 8 ≡ 0 }
-    requires read { bytes.old.items ≡ bytes_at (M.word memory.now) address done }
-    ensures { OnOk result (bytes.new.items ≡ bytes_at (M.word memory.now) address (done + 8 * words)) }
+/// Reads the bytes of whole words from an address on.
+fn read_words<M: Memory>(memory: &M, address: u64, bytes: &mut [u8])
+    requires inside { AreGranted (M.regions memory.now) address (length bytes.old) }
+    requires aligned { 0 < length bytes.old → address % 8 ≡ 0 }
+    requires whole { length bytes.old % 8 ≡ 0 }
+    ensures { bytes.new ≡ bytes_at (M.word memory.now) address (length bytes.old) }
 {
-    for k in 0..words {
-        let word = memory.load(address + (done + 8 * k));
-        bytes.extend_from_slice(&word.to_le_bytes())?;
+    for k in 0..bytes.len() / 8 {
+        let word = memory.load(address + 8 * k as u64);
+        bytes[8 * k..8 * k + 8].copy_from_slice(&word.to_le_bytes());
     }
-    Ok(())
 }
 
-/// Reads `count` bytes from an address on. Their places are reserved before the first is read.
-pub(crate) fn read_bytes<M: Memory>(
-    memory: &M,
-    alloc: Global,
-    address: u64,
-    count: u64,
-) -> Result<Vec<u8>, AllocError>
-    requires { AreGranted (M.regions memory.now) address count }
-    ensures { IfOk result (λ bytes. bytes.items ≡ bytes_at (M.word memory.now) address count) }
+/// Reads the bytes from a multiple of 8 on, whole words first.
+fn read_from_word<M: Memory>(memory: &M, address: u64, bytes: &mut [u8])
+    requires inside { AreGranted (M.regions memory.now) address (length bytes.old) }
+    requires aligned { 0 < length bytes.old → address % 8 ≡ 0 }
+    ensures { bytes.new ≡ bytes_at (M.word memory.now) address (length bytes.old) }
 {
-    let mut bytes = Vec::with_capacity(alloc, count as usize)?;
-    let head = bytes_before_words(address, count);
-    let words = (count - head) / 8;
-    read_each(memory, address, 0, head, &mut bytes)?;
-    read_words(memory, address, head, words, &mut bytes)?;
-    read_each(memory, address, head + 8 * words, count, &mut bytes)?;
-    Ok(bytes)
+    let whole = bytes.len() / 8 * 8;
+    let (words, last) = bytes.split_at_mut(whole);
+    read_words(memory, address, words);
+    if last.len() > 0 {
+        read_each(memory, address + whole as u64, last);
+    }
+}
+
+/// Reads the bytes from an address on, as many as there are places for.
+pub(crate) fn read_bytes<M: Memory>(memory: &M, address: u64, bytes: &mut [u8])
+    requires { AreGranted (M.regions memory.now) address (length bytes.old) }
+    ensures { bytes.new ≡ bytes_at (M.word memory.now) address (length bytes.old) }
+{
+    let head = bytes_before_words(address, bytes.len() as u64);
+    let (first, rest) = bytes.split_at_mut(head as usize);
+    read_each(memory, address, first);
+    if rest.len() > 0 {
+        read_from_word(memory, address + head, rest);
+    }
 }
 
 /// Puts the bytes at an address one by one, and changes nothing else.

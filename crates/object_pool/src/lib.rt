@@ -20,6 +20,8 @@
 //!     let other = pool.insert(&[2; 24])?;   // Key { index: 1, generation: 0 }
 //!     pool.set(key, &[3; 24]);              // true
 //!     pool.get(key)?;                       // Some: the bytes [3; 24]
+//!     pool.read(key, &mut buffer);          // true, and the buffer has them
+//!     pool.at(key);                         // Some: the address at which they lie
 //!     pool.remove(key);                     // true
 //!     pool.get(key)?;                       // None, from now on
 //!     pool.set(key, &[4; 24]);              // false, and nothing changes
@@ -29,7 +31,7 @@
 //!
 //! # What calls cost, and when they fail
 //!
-//! `get`, `set`, `remove` and an `insert` that finds a free slot cost what the size of an object costs, however many objects
+//! `get`, `read`, `set`, `remove` and an `insert` that finds a free slot cost what the size of an object costs, however many objects
 //! there are; bytes move by words if these are whole. An `insert` without a free slot takes a slab first. A step of `keys`
 //! looks at the slots that it passes. Only `insert`, for a slab, and `get`, for the bytes that it answers, take memory.
 //!

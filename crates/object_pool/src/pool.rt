@@ -1,5 +1,6 @@
 //! The pool.
-ghost use Rattle.std.specs.Prelude.{◌≡◌, ◌+◌, ◌-◌, ◌*◌, ◌^◌, ◌<◌, ◌≤◌, true, false, [], IfOk, IfErr, OnErr, OnOk, Some, None, Err, IsSome, IsTrue, ◌↔◌, length, vec_len, vec_capacity};
+ghost use Rattle.std.specs.Prelude.{◌≡◌, ◌+◌, ◌-◌, ◌*◌, ◌^◌, ◌<◌, ◌≤◌, true, false, [], IfOk, IfErr, OnErr, OnOk, Some, None, Err, IsSome, IfSome, IsTrue, ◌↔◌, length, vec_len, vec_capacity};
+ghost use Rattle.object_pool.specs.Bytes.{AreGranted, bytes_at};
 ghost use Rattle.object_pool.specs.Places.{HasPlacesFor, KeepsSlots};
 ghost use Rattle.object_pool.specs.Lists.{Lists, empty, object_of, object_count, slab_count, IsNewKey, keys_of, inserted, with_new_bytes, without_object, HasAllSlots};
 
@@ -52,7 +53,7 @@ impl<A: Allocator + Memory> Model for Pool<A> {
 impl<A: Allocator + Memory> Pool<A> {
     ghost use Rattle.object_pool.specs.Emptied.{IsEmptied};
     ghost use Rattle.sound_heap.specs.Heap.{StaysInState};
-    ghost use Rattle.object_pool.specs.Pool.{ChangesSlabsAlone, HasFreeSlot, HasSlotsInSlabs, IsSlabAdded, AreSlabsLaidOut, IsPoolRefused, IsSlabRefused, IsUnchanged, Keeps, LacksFreeSlot, PlacesAreApart, StandsForLists, TakesSlabIfNeeded};
+    ghost use Rattle.object_pool.specs.Pool.{ChangesSlabsAlone, HasFreeSlot, HasSlotsInSlabs, IsSlabAdded, AreSlabsLaidOut, IsPoolRefused, IsSlabRefused, IsUnchanged, Keeps, LacksFreeSlot, PlacesAreApart, StandsForLists, TakesSlabIfNeeded, slot_address};
 
     /// A pool without objects or slabs, for objects of `size` bytes, over a heap.
     pub fn new(alloc: Global, heap: Heap<A>, size: u64) -> Pool<A>
@@ -133,7 +134,8 @@ impl<A: Allocator + Memory> Pool<A> {
         }
     }
 
-    /// The bytes of a key's object. None exactly if the key has no object.
+    /// A copy of the bytes of a key's object; `None` if the key has no object. It takes memory for the copy, and fails only for want of
+    /// that: `read` takes none.
     pub fn get(&self, key: Key) -> Result<Option<Bytes>, AllocError>
         ensures ok { (lists : Lists) → StandsForLists A.word self.now lists → IfOk result (λ object. object ≡ object_of key lists.entries) }
         ensures err { (lists : Lists) → StandsForLists A.word self.now lists → OnErr result (IsSome (object_of key lists.entries)) }
@@ -141,7 +143,38 @@ impl<A: Allocator + Memory> Pool<A> {
         if !self.slots.has(key) {
             return Ok(None);
         }
-        Ok(Some(self.slabs.read(self.alloc, key.index)?))
+        let mut bytes = vec![in self.alloc; 0; self.slabs.size as usize]?;
+        self.slabs.read(key.index, bytes.as_mut_slice());
+        Ok(Some(Bytes::from_vec(bytes)))
+    }
+
+    /// Reads the bytes of a key's object into `bytes`. False if the key has no object; then `bytes` stay as they were. It takes no
+    /// memory.
+    pub fn read(&self, key: Key, bytes: &mut [u8]) -> bool
+        requires many { length bytes.old ≡ self.now.size }
+        ensures answer { (lists : Lists) → StandsForLists A.word self.now lists → IsTrue result ↔ IsSome (object_of key lists.entries) }
+        ensures object { (lists : Lists) → StandsForLists A.word self.now lists → result ≡ true → object_of key lists.entries ≡ Some bytes.new }
+        ensures same { result ≡ false → bytes.new ≡ bytes.old }
+    {
+        if !self.slots.has(key) {
+            return false; // and `bytes` stay
+        }
+        self.slabs.read(key.index, bytes);
+        true
+    }
+
+    /// The address of a key's object in the heap's memory; `None` if the key has no object. The object stays there until it is removed:
+    /// its slab stays, and a slot never moves.
+    pub fn at(&self, key: Key) -> Option<u64>
+        ensures answer { (lists : Lists) → StandsForLists A.word self.now lists → IsSome result ↔ IsSome (object_of key lists.entries) }
+        ensures place { IfSome result (λ address. address ≡ slot_address self.now.slabs self.now.size key.index) }
+        ensures object { (lists : Lists) → StandsForLists A.word self.now lists → IfSome result (λ address. object_of key lists.entries ≡ Some (bytes_at (A.word self.now.heap.system) address self.now.size)) }
+        ensures granted { IfSome result (λ address. AreGranted (A.regions self.now.heap.system) address self.now.size) }
+    {
+        if !self.slots.has(key) {
+            return None;
+        }
+        Some(self.slabs.place(key.index))
     }
 
     /// Gives a key's object other bytes. False exactly if the key has no object; then nothing changes. It takes no memory.

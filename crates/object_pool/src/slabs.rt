@@ -12,12 +12,10 @@ ghost use Rattle.object_pool.specs.Bytes.{AreGranted, IsWritten};
 ghost use Rattle.object_pool.specs.Emptied.{IsEmptied};
 ghost use Rattle.object_pool.specs.Pool.{object_bytes_at, slot_address, IsObjectPut, IsSlabAdded, IsSlotThere, AreSlabsLaidOut, KeepsAll};
 
-use crate::Bytes;
 use crate::bytes::{read_bytes, write_bytes};
 use dlmalloc::MallocError;
 use heap_memory::{Allocator, GrantFault, Links, Memory};
 use sound_heap::Heap;
-use std::alloc::{AllocError, Global};
 
 /// How many slots stand in a slab.
 pub(crate) const SLOTS: u64 = 64;
@@ -74,7 +72,7 @@ impl<A: Allocator + Memory> Slabs<A> {
     }
 
     /// The place of a slot. It is granted, with the bytes of an object.
-    fn place(&self, index: u32) -> u64
+    pub(crate) fn place(&self, index: u32) -> u64
         requires { IsSlotThere A.regions A.word self.now.heap self.now.size self.now.places.items index }
         ensures place { result ≡ slot_address self.now.places.items self.now.size index }
         ensures granted { AreGranted (A.regions self.now.heap.system) result self.now.size }
@@ -84,14 +82,14 @@ impl<A: Allocator + Memory> Slabs<A> {
         self.places[(slot / SLOTS) as usize] + self.size * (slot % SLOTS)
     }
 
-    /// The bytes at the place of a slot.
-    pub(crate) fn read(&self, alloc: Global, index: u32) -> Result<Bytes, AllocError>
-        requires { IsSlotThere A.regions A.word self.now.heap self.now.size self.now.places.items index }
-        ensures { IfOk result (λ bytes. bytes ≡ object_bytes_at A.word self.now.heap self.now.places.items self.now.size index) }
+    /// Reads the bytes at the place of a slot.
+    pub(crate) fn read(&self, index: u32, bytes: &mut [u8])
+        requires slot { IsSlotThere A.regions A.word self.now.heap self.now.size self.now.places.items index }
+        requires many { length bytes.old ≡ self.now.size }
+        ensures { bytes.new ≡ object_bytes_at A.word self.now.heap self.now.places.items self.now.size index }
     {
         let place = self.place(index);
-        let bytes = read_bytes(self.heap.system(), alloc, place, self.size)?;
-        Ok(Bytes::from_vec(bytes))
+        read_bytes(self.heap.system(), place, bytes);
     }
 
     /// Puts bytes at the place of a slot.

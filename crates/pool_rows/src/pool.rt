@@ -80,6 +80,19 @@ fn expect_bytes<R: Abort>(
     expect_object(rt, pool, key, Some(bytes))
 }
 
+/// Reads the second of two objects of 24 bytes in place: the first slab is a block of the region's first chunk.
+fn find_in_place<R: Abort>(rt: &R, pool: &Pool<FlatSystem>)
+    requires { pool.now.size ≡ 24 }
+{
+    let mut bytes = [7u8; 24];
+    assert!(rt; !pool.read(key(0, 0), &mut bytes));
+    same(rt, bytes.as_slice(), [7u8; 24].as_slice());
+    assert!(rt; pool.read(key(1, 0), &mut bytes));
+    same(rt, bytes.as_slice(), [1u8; 24].as_slice());
+    assert!(rt; pool.at(key(0, 0)).is_none());
+    same(rt, pool.at(key(1, 0)), Some(0x1_0010 + 24));
+}
+
 /// Inserts, removes and sets objects of 24 bytes.
 fn use_slots_again<R: Abort>(rt: &R, pool: &mut Pool<FlatSystem>) -> Result<(), AllocError>
     requires { pool.old.size ≡ 24 }
@@ -97,6 +110,7 @@ fn use_slots_again<R: Abort>(rt: &R, pool: &mut Pool<FlatSystem>) -> Result<(), 
     assert!(rt; pool.set(key(1, 0), &a));
     expect_bytes(rt, pool, key(1, 0), &a)?;
     expect_bytes(rt, pool, key(0, 1), &c)?;
+    find_in_place(rt, pool);
     same(rt, pool.len(), 2);
     same(rt, pool.slabs(), 1);
     same(rt, pool.heap().granularity(), 65536);
