@@ -6,6 +6,7 @@ use Rattle.std.proofs.lemmas.Bool.Decides.{nat_tests}
 use Rattle.heap_memory.specs.declared.grant.Grant.{Grant}
 use Rattle.heap_memory.specs.declared.grant.GrantFault.{GrantFault}
 use Rattle.heap_memory.specs.Regions.{is_granted, with_grant, IsApart, IsWordOf}
+use Rattle.heap_memory.specs.RunLaws.{granted_before}
 use Rattle.heap_memory.specs.Events.{Granted, Refused, Released}
 use Rattle.heap_memory.specs.Words.{IsStored}
 use borrow.Rule.Slice.PartMut.{put_mid}
@@ -14,7 +15,7 @@ use Rattle.heap_arena.specs.Arena.{regions_of, word_of, end_of, has_room, top_wi
 use Rattle.heap_arena.specs.Arenas.{are_in_order, regions_of_all, word_among, place_for, overlaps, AreAfter, AreTakenBack, AreUnwritten, AreWrittenAt, IsAdded, IsGrantedAmong, IsGrantedByOne, IsOnlyWritten}
 use Rattle.heap_arena.specs.declared.arena.Arena.{Arena}
 use Rattle.heap_arena.proofs.GrantLemmas.{granted_between}
-use Rattle.heap_arena.specs.ArenaLaws.{after_none, after_other}
+use Rattle.heap_arena.specs.ArenaLaws.{after_none, after_other, ever_before}
 use Rattle.heap_arena.specs.ArenasLaws.{inside, order_rest, rest_behind, all_after_none, all_after_refused, all_after_on}
 
 -- ---- grants, and others after them
@@ -522,7 +523,10 @@ module _ (low high : ℕ) (x y : Arena) (taken : IsTakenBack low high x y) where
     top = taken.top ∙ (ap (λ (n : ℕ). top_without x.base n high x.top) begins ∙ ap (λ (n : ℕ). top_without x.base (at + new_size) n x.top) ends);
     peak = taken.peak;
     placed = tt;
-    untouched = λ i behind. ap (λ (ws : List ℕ). slice_index ws i) taken.words;
+    granted = λ k is.
+        ever_before x (Released at old_size new_size ∷ []) k
+        (granted_before low high (regions_of x) k (subst (λ (rs : List Grant). IsTrue (is_granted rs k)) taken.regions is));
+    untouched = λ i never. ap (λ (ws : List ℕ). slice_index ws i) taken.words;
   }
 
 module _ (low high : ℕ) (olds news : List Arena) (back : AreTakenBack low high olds news) where

@@ -1,10 +1,14 @@
 -- Words of an arena in a row.
-use Rattle.std.specs.Prelude.{◌≡◌, ℕ, ◌+◌, ◌-◌, ◌*◌, ◌/◌, ◌<◌, ◌≤◌, ◌⊎◌, List, ◌++◌, length}
-use Rattle.std.proofs.Common.{◌∙◌, ap, arith, inl, inr, get_or, take, drop}
+use Rattle.std.specs.Prelude.{◌≡◌, ℕ, ◌+◌, ◌-◌, ◌*◌, ◌/◌, ◌%◌, ◌<◌, ◌≤◌, ◌⊎◌, Bool, true, false, nat_le, nat_lt, List, [], ◌++◌, IsTrue, length}
+use Rattle.std.proofs.Common.{◌∙◌, ap, refl, subst, arith, inl, inr, get_or, take, drop}
+use Rattle.std.proofs.lemmas.Bool.Decides.{nat_tests}
 use borrow.Rule.Slice.PartMut.{post_of, put_mid}
 use Rattle.std.proofs.lemmas.List.{get_or-take, get_or-drop, get_or_append_left, get_or-append_right, length-take-le}
-use Rattle.heap_memory.specs.Words.{AreWordsOf}
-use Rattle.heap_arena.specs.Arena.{regions_of, IsSameArena, IsWrittenAt, KeepsOthers}
+use Rattle.heap_memory.specs.declared.grant.Grant.{Grant}
+use Rattle.heap_memory.specs.Regions.{is_granted}
+use Rattle.heap_memory.specs.Words.{IsBeside, AreWordsOf}
+use Rattle.heap_arena.specs.Arena.{regions_of, is_ever_granted, IsSameArena, IsWrittenAt, KeepsOthers}
+use Rattle.heap_arena.specs.ArenaLaws.{ever_before, not_so}
 use Rattle.heap_arena.specs.declared.arena.Arena.{Arena}
 use Rattle.heap_arena.proofs.GrantLemmas.{granted_between}
 
@@ -24,30 +28,40 @@ module _ (arena : Arena) (at count : ℕ) (some : 0 < count) (run : AreWordsOf (
       let risen = arena.risen in
       omega (arith, low, last.1, risen, end, whole, begin, some)
 
-  pub ends_below : at + 8 * count ≤ arena.top
-  ends_below =
-      let last = granted_between arena.base arena.top (regions_of arena) (at + 8 * count - 1) arena.between
-      (run.granted (at + 8 * count - 1) (omega (arith, some)) (omega (arith, some))) in
-      omega (arith, last.1, some)
+-- a call that changes no words but some that are granted, and neither the grants nor where they end
+module _ (old new : Arena) (at count : ℕ) (granted : (k : ℕ) → at ≤ k → k < at + 8 * count → k % 8 ≡ 0 → IsTrue (is_granted (regions_of old) k)) where
+  -- a word that is not granted is none of them
+  beside : (i : ℕ) → is_granted (regions_of old) (old.base + 8 * i) ≡ false → IsBeside at count (old.base + 8 * i)
+  beside i none = go (nat_lt (old.base + 8 * i) at) refl (nat_le (at + 8 * count) (old.base + 8 * i)) refl
+    where
+      go : (before : Bool) → nat_lt (old.base + 8 * i) at ≡ before → (behind : Bool) → nat_le (at + 8 * count) (old.base + 8 * i) ≡ behind →
+          IsBeside at count (old.base + 8 * i)
+      go true is behind is' = inl (grind (arith, nat_tests))
+      go false is true is' = inr (grind (arith, nat_tests))
+      go false is false is' =
+          let begin = old.aligned in
+          let low : at ≤ old.base + 8 * i = grind (arith, nat_tests) in
+          let high : old.base + 8 * i < at + 8 * count = grind (arith, nat_tests) in
+          let here = granted (old.base + 8 * i) low high (omega (arith, begin)) in
+          absurd cc
 
--- a call that changes no words but some below the top, and neither the grants nor where they end
-pub written_below : (old new : Arena) (at count : ℕ) → IsSameArena old new → regions_of new ≡ regions_of old → new.top ≡ old.top → new.peak ≡ old.peak →
-    at + 8 * count ≤ old.top → KeepsOthers at count old new → IsWrittenAt at count old new
-written_below old new at count same regions top peak below others =
-    let risen = old.risen in
-    record {
-      others = others;
-      regions = regions;
-      follows = record {
-        same = same;
-        top = top;
-        peak = peak;
-        placed = tt;
-        untouched = λ i behind. let base = same.base in others i (inr (omega (arith, below, risen, peak, base, behind)));
-      };
+  pub written_granted : IsSameArena old new → regions_of new ≡ regions_of old → new.top ≡ old.top → new.peak ≡ old.peak →
+      KeepsOthers at count old new → IsWrittenAt at count old new
+  written_granted same regions top peak others = record {
+    others = others;
+    regions = regions;
+    follows = record {
+      same = same;
       top = top;
       peak = peak;
-    }
+      placed = tt;
+      granted = λ k is. ever_before old [] k (subst (λ (rs : List Grant). IsTrue (is_granted rs k)) regions is);
+      untouched = λ i never. others i (beside i (not_so (is_granted (regions_of old) (old.base + 8 * i)) (is_ever_granted old [] (old.base + 8 * i))
+          (ever_before old [] (old.base + 8 * i)) never));
+    };
+    top = top;
+    peak = peak;
+  }
 
 -- a list in which a part was put in the place of as many
 module _ (xs ys : List ℕ) (a n i : ℕ) (fits : a + n ≤ length xs) (many : length ys ≡ n) where

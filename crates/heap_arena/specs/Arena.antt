@@ -1,5 +1,5 @@
 -- What an arena shows: its regions, its words, and what it denies (own).
-use Rattle.std.specs.Prelude.{◌≡◌, ℕ, ◌+◌, ◌-◌, ◌*◌, ◌/◌, ◌<◌, ◌≤◌, ⊤, max, Bool, true, false, ◌&&◌, nat_le, nat_lt, if◌then◌else◌, List, [], ◌∷◌, IsTrue, refl, length, slice_index, slice_set}
+use Rattle.std.specs.Prelude.{◌≡◌, ℕ, ◌+◌, ◌-◌, ◌*◌, ◌/◌, ◌<◌, ◌≤◌, ⊤, max, Bool, true, false, ◌&&◌, ◌||◌, nat_le, nat_lt, if◌then◌else◌, List, [], ◌∷◌, IsTrue, refl, length, slice_index, slice_set}
 use Rattle.std.specs.List.{AllByRecursion}
 use Rattle.heap_memory.specs.declared.grant.Grant.{Grant}
 use Rattle.heap_memory.specs.declared.grant.GrantFault.{GrantFault}
@@ -62,15 +62,27 @@ AreAtTop base end top (Granted size grant ∷ events) =
 AreAtTop base end top (Refused size fault ∷ events) = AreAtTop base end top events
 AreAtTop base end top (Released at old_size new_size ∷ events) = AreAtTop base end (top_without base (at + new_size) (at + old_size) top) events
 
+-- of what events granted, the grants that are among its words
+abbrev pub grants_in : (base end : ℕ) → List Event → List Grant
+grants_in base end [] = []
+grants_in base end (Granted size grant ∷ events) = if begins_in base end grant then grant ∷ grants_in base end events else grants_in base end events
+grants_in base end (Refused size fault ∷ events) = grants_in base end events
+grants_in base end (Released at old_size new_size ∷ events) = grants_in base end events
+
+-- whether a byte of an arena was granted before these events, or by one of them
+abbrev pub is_ever_granted : Arena → List Event → ℕ → Bool
+is_ever_granted arena events at = is_granted (regions_of arena) at || is_granted (grants_in arena.base (end_of arena) events) at
+
 -- What an arena says of two moments between which these events happened. Grants were put at its top. Its top and its
--- peak are where they left them, so all that was given back at the end can be granted again. The words after the peak
--- were never touched: they are as they were.
+-- peak are where they left them, so all that was given back at the end can be granted again. What is granted now was
+-- granted before or meanwhile. A word that was granted at no moment is as it was: nobody had it, so nobody wrote to it.
 pub record IsArenaAfter (old : Arena) (events : List Event) (new : Arena) : Type 0 where
   pub same : IsSameArena old new
   pub placed : AreAtTop old.base (end_of old) old.top events
   pub top : new.top ≡ top_after old.base (end_of old) old.top events
   pub peak : new.peak ≡ peak_after old.base (end_of old) old.peak events
-  pub untouched : (i : ℕ) → new.peak ≤ new.base + 8 * i → slice_index new.words.now i ≡ slice_index old.words.now i
+  pub granted : (at : ℕ) → IsTrue (is_granted (regions_of new) at) → IsTrue (is_ever_granted old events at)
+  pub untouched : (i : ℕ) → is_ever_granted old events (old.base + 8 * i) ≡ false → slice_index new.words.now i ≡ slice_index old.words.now i
 
 -- The bytes from an address on and below another one, the end of a run, were given back.
 pub record IsTakenBack (low high : ℕ) (old new : Arena) : Type 0 where

@@ -1,7 +1,7 @@
 use Rattle.std.proofs.Common.{rules, refl, ℕ, ◌+◌, ◌-◌, ◌/◌, ◌<◌, inl, inr, ap, ◌∙◌, arith, get_or}
 use Rattle.heap_arena.specs.Arena.{regions_of}
 use Rattle.heap_arena.proofs.GrantLemmas.{granted_between}
-use Rattle.heap_arena.proofs.Runs.{begins_above, ends_within, ends_below, written_below}
+use Rattle.heap_arena.proofs.Runs.{begins_above, ends_within, written_granted}
 use Rattle.heap_arena.proofs.arena.ArenaLinks.copy_counted.Goals as goal
 
 pub overflow_sub-place : goal.overflow_sub-place
@@ -48,8 +48,8 @@ returns-clause-copied g c =
 
 pub returns-clause-written : goal.returns-clause-written
 returns-clause-written g c =
-    let below = ends_below c.args.self.now c.args.to c.args.count (omega (arith, c.if-count-eq0.false)) c.requires.to in
-    written_below c.args.self.now _ c.args.to c.args.count (record { base = refl; len = search rules; table = refl }) refl refl refl below (λ i beside.
+    written_granted c.args.self.now _ c.args.to c.args.count (λ k low high whole. c.requires.to.granted k low high)
+    (record { base = refl; len = search rules; table = refl }) refl refl refl (λ i beside.
     let arena = c.args.self.now in
     let to_low = begins_above arena c.args.to c.args.count (omega (arith, c.if-count-eq0.false)) c.requires.to in
     let begin = arena.aligned in

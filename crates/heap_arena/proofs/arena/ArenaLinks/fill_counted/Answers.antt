@@ -2,7 +2,7 @@ use Rattle.std.proofs.Common.{ℕ, ◌≡◌, ◌+◌, ◌-◌, ◌/◌, ◌<◌
 use Rattle.std.proofs.lemmas.List.{get_or-replicate, length-take-le}
 use Rattle.heap_arena.specs.Arena.{regions_of}
 use Rattle.heap_arena.proofs.GrantLemmas.{granted_between}
-use Rattle.heap_arena.proofs.Runs.{begins_above, ends_within, ends_below, written_below, inside, outside}
+use Rattle.heap_arena.proofs.Runs.{begins_above, ends_within, written_granted, inside, outside}
 use Rattle.heap_arena.proofs.arena.ArenaLinks.fill_counted.Goals as goal
 
 pub overflow_sub-place : goal.overflow_sub-place
@@ -48,8 +48,8 @@ returns-clause-filled g c =
 
 pub returns-clause-written : goal.returns-clause-written
 returns-clause-written g c =
-    let below = ends_below c.args.self.now c.args.at c.args.count (omega (arith, c.if-count-eq0.false)) c.requires in
-    written_below c.args.self.now _ c.args.at c.args.count (record { base = refl; len = search rules; table = refl }) refl refl refl below (λ i beside.
+    written_granted c.args.self.now _ c.args.at c.args.count (λ k low high whole. c.requires.granted k low high)
+    (record { base = refl; len = search rules; table = refl }) refl refl refl (λ i beside.
     let arena = c.args.self.now in
     let words : List ℕ = arena.words.now in
     let place : ℕ = (c.args.at - arena.base) / 8 in

@@ -1,10 +1,14 @@
-use Rattle.std.specs.Prelude.{◌≡◌, ◌+◌, Bool, max, true, if◌then◌else◌}
-use Rattle.std.proofs.Common.{◌∙◌, arith, ap, sym, refl}
+use Rattle.std.specs.Prelude.{◌≡◌, ◌+◌, Bool, List, [], ◌∷◌, IsTrue, max, true, if◌then◌else◌}
+use Rattle.std.proofs.Common.{◌∙◌, arith, ap, inl, inr, subst, sym, refl}
 use Rattle.std.proofs.lemmas.Bool.Decides.{nat_tests}
 use Rattle.heap_memory.specs.declared.grant.Grant.{Grant}
+use Rattle.heap_memory.specs.Events.{Granted}
+use Rattle.heap_memory.specs.Regions.{is_granted}
+use Rattle.heap_memory.specs.RegionLaws.{granted_new, granted_split}
 use Rattle.heap_memory.specs.Runs.{begins_in}
 use Rattle.heap_arena.specs.Arena.{regions_of, end_of}
-use Rattle.heap_arena.proofs.GrantLemmas.{whole_more, ordered_more, between_more}
+use Rattle.heap_arena.specs.ArenaLaws.{ever_before, ever_by}
+use Rattle.heap_arena.proofs.GrantLemmas.{with_last, whole_more, ordered_more, between_more}
 use Rattle.heap_arena.proofs.arena_allocator.ArenaAllocator.alloc.Goals as goal
 
 pub invariant_of-self-clause-whole : goal.invariant_of-self-clause-whole
@@ -40,5 +44,12 @@ returns-clause-follows c =
       placed = (λ is. (refl, refl), tt);
       top = sym (ap (λ (is : Bool). if is then arena.top + c.args.size else arena.top) own);
       peak = c.max-self.ensures ∙ sym (ap (λ (is : Bool). if is then max arena.peak (arena.top + c.args.size) else arena.peak) own);
-      untouched = λ i behind. refl;
+      granted = λ at is.
+          elim (granted_split grant (regions_of arena) at (subst (λ (rs : List Grant). IsTrue (is_granted rs at))
+          (c.push.ensures.grants ∙ sym (with_last arena.base arena.top grant (regions_of arena) (omega arith) arena.between)) is)) [
+            | inl here ↦ ever_by arena (Granted c.args.size grant ∷ []) at
+                (ap (λ (b : Bool). is_granted (if b then grant ∷ [] else []) at) own ∙ granted_new grant [] at here.0 here.1)
+            | inr before ↦ ever_before arena (Granted c.args.size grant ∷ []) at before
+          ];
+      untouched = λ i never. refl;
     }
