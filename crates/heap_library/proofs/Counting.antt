@@ -1,10 +1,8 @@
 -- How many addresses pass a test, as one more passes.
-use Rattle.std.specs.Prelude.{◌≡◌, ◌≢◌, ℕ, zero, suc, ◌+◌, ◌^◌, ◌<◌, ◌≤◌, ◌⊎◌, Bool, true, false, if◌then◌else◌}
+use Rattle.std.specs.Prelude.{◌≡◌, ◌≢◌, ℕ, zero, suc, ◌+◌, ◌<◌, ◌≤◌, ◌⊎◌, Bool, true, false, if◌then◌else◌}
 use Rattle.std.proofs.Common.{◌∙◌, ap, sym, refl, inl, inr, arith}
 use Rattle.std.proofs.lemmas.Bool.{cases_eq}
-use Rattle.dlmalloc.specs.State.{HeapState}
-use Rattle.sound_heap.specs.Heap.{HasBlock}
-use Rattle.heap_library.specs.Counted.{count_below, HasBlocks}
+use Rattle.heap_library.specs.Counted.{count_below}
 
 counted_suc : (test : ℕ → Bool) (n : ℕ) → count_below test (suc n) ≡ count_below test n + (if test n then 1 else 0)
 unfolding count_below
@@ -64,13 +62,13 @@ counted_below test (suc n) at below not_so = go (cases_eq at n) (λ before. coun
         omega (arith, counted_suc test n, at_most test n, bit)
     go (inr before) earlier = omega (arith, counted_suc test n, earlier (omega (arith, below, before)), at_most_one (test n))
 
--- two tests that tell the blocks of a heap count the same
-pub has_blocks : (heap : HeapState) (test : ℕ → Bool) (count : ℕ) → ((a : ℕ) → test a ≡ true → HasBlock heap a) → ((a : ℕ) → HasBlock heap a → test a ≡ true) →
-    count ≡ count_below test (2 ^ 64) → HasBlocks heap count
-has_blocks heap test count to from is other tells = is ∙ sym (counted_same test other (2 ^ 64) (λ k less. go k (test k) (other k) refl refl))
+-- two tests that tell the same addresses count the same
+pub counted_alike : (Is : ℕ → Type 0) (one other : ℕ → Bool) (n : ℕ) → ((a : ℕ) → one a ≡ true → Is a) → ((a : ℕ) → Is a → one a ≡ true) →
+    ((a : ℕ) → other a ≡ true → Is a) → ((a : ℕ) → Is a → other a ≡ true) → count_below other n ≡ count_below one n
+counted_alike Is one other n to from to_other from_other = counted_same one other n (λ k less. go k (one k) (other k) refl refl)
   where
-    go : (k : ℕ) (b c : Bool) → test k ≡ b → other k ≡ c → other k ≡ test k
+    go : (k : ℕ) (b c : Bool) → one k ≡ b → other k ≡ c → other k ≡ one k
     go k true true t o = o ∙ sym t
     go k false false t o = o ∙ sym t
-    go k true false t o = absurd (let yes : other k ≡ true = (tells k).1 (to k t) in cc)
-    go k false true t o = absurd (let yes : test k ≡ true = from k ((tells k).0 o) in cc)
+    go k true false t o = absurd (let yes : other k ≡ true = from_other k (to k t) in cc)
+    go k false true t o = absurd (let yes : one k ≡ true = from k (to_other k o) in cc)

@@ -1,7 +1,11 @@
 mod Adding
 mod Cleared
 mod Counting
+mod GivenBack
 mod MarkLemmas
 mod Marking
 mod MemoryParts
+mod Outside
 mod Room
+mod Stored
+mod UsedExtents

@@ -11,7 +11,7 @@ use Rattle.heap_arena.specs.declared.arena.Arena.{Arena}
 use Rattle.sound_heap.specs.Heap.{IsRequestRefused}
 use Rattle.sound_heap.specs.declared.heap_error.HeapError.{HeapError}
 use Rattle.heap_library.specs.Calls.{IsBlockGiven, IsBlockResized, IsArenaRefused}
-use Rattle.heap_library.specs.Checked.{arena_follows, arena_refuses, arena_denies, arena_heap_state}
+use Rattle.heap_library.specs.Checked.{arena_follows, arena_refuses, arena_denies, arena_heap_state, KeepsWordsOutside}
 use Rattle.heap_library.specs.Library.{IsResizeRefused}
 use Rattle.heap_library.specs.Room.{IsRefused, IsRefusedResize}
 
@@ -22,6 +22,8 @@ pub record IsRequestAnswered (old : Dlmalloc Arena) (size align : ℕ) (cleared 
   pub err : IfErr answer (λ error. IsRequestRefused regions_of word_of arena_follows arena_refuses arena_denies old size align error new)
   pub refused : IsErr answer ↔ IsRefused old size align
   pub apart : BlocksAreApart (arena_heap_state new)
+  -- nothing changes outside of what is granted then
+  pub outside : KeepsWordsOutside (regions_of new.system) old.system new.system
 
 -- A request that the block at `from` have another size is answered by where it is then, or is refused for the reason that is told:
 -- exactly if it has to be. Blocks stay apart.
@@ -29,6 +31,8 @@ pub record IsResizeAnswered (old : Dlmalloc Arena) (from size : ℕ) (answer : R
   pub resized : IfOk answer (λ to. IsBlockResized old from size to new)
   pub err : IfErr answer (λ error. IsResizeRefused regions_of word_of arena_follows arena_refuses arena_denies old from size error new)
   pub refused : IsErr answer ↔ IsRefusedResize old from size
+  -- the arena is then as it was
+  pub same : IsErr answer → new.system ≡ old.system
   pub apart : BlocksAreApart (arena_heap_state new)
 
 -- The heap has this state, its arena is as it was, and so is the order of its free chunks.

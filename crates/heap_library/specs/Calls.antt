@@ -7,7 +7,7 @@ use Rattle.heap_arena.specs.Arenas.{IsNotAdded}
 use Rattle.heap_arena.specs.declared.add_fault.AddFault.{AddFault}
 use Rattle.heap_arena.specs.declared.arena.Arena.{Arena}
 use Rattle.sound_heap.specs.Heap.{HasBlock, usable, IsBlockHandedOut}
-use Rattle.heap_library.specs.Checked.{arena_zeros, arena_follows, arena_heap_state}
+use Rattle.heap_library.specs.Checked.{arena_zeros, arena_follows, arena_heap_state, KeepsWordsOutside}
 
 -- The block at the address is new, for a request of `size` bytes at a multiple of `align`; if `cleared`, its bytes
 -- are 0.
@@ -19,6 +19,8 @@ pub record IsBlockResized (old : Dlmalloc Arena) (from size to : ℕ) (new : Dlm
   pub block : HasBlock (arena_heap_state old) from
   pub reallocated : IsReallocated regions_of word_of arena_zeros arena_follows true true 1 old from (usable (arena_heap_state old) from) 16 size to new
   pub enough : size ≤ usable (arena_heap_state new) to
+  -- nothing changes outside of what is granted once there is room for the new size
+  pub outside : KeepsWordsOutside (regions_of reallocated.given.middle.system) old.system new.system
 
 -- An arena is not taken: a fault says why, the arena comes back as it was, and those of the system are as they were.
 pub record IsArenaRefused (old : List Arena) (most : ℕ) (arena : Arena) (fault : AddFault) (back : Arena) (new : List Arena) : Type 0 where

@@ -1,8 +1,10 @@
 -- A heap over an arena, and what its marks say (own).
-use Rattle.std.specs.Prelude.{◌≡◌, ℕ, ◌+◌, ◌-◌, ◌*◌, ◌/◌, ◌^◌, ◌<◌, ◌≤◌, min, Bool, true, false, List, length, take, drop, replicate}
+use Rattle.std.specs.Prelude.{◌≡◌, ℕ, ◌+◌, ◌-◌, ◌*◌, ◌/◌, ◌^◌, ◌<◌, ◌≤◌, min, Bool, true, false, List, length, take, drop, replicate, slice_index}
 use Rattle.std.specs.Int.{div_ceil}
+use Rattle.heap_memory.specs.declared.grant.Grant.{Grant}
 use Rattle.heap_memory.specs.declared.grant.GrantFault.{GrantFault}
 use Rattle.heap_memory.specs.Events.{Event}
+use Rattle.heap_memory.specs.Regions.{is_granted}
 use Rattle.dlmalloc.specs.State.{HeapState}
 use Rattle.dlmalloc.specs.Heap.{state_of}
 use Rattle.dlmalloc.specs.declared.heap.Dlmalloc.{Dlmalloc}
@@ -17,7 +19,7 @@ abbrev pub arena_zeros : Arena → Bool
 arena_zeros arena = false
 
 -- what a heap over an arena says of the time between two moments: its top and its peak are where what was granted and what came
--- back left them, and the words after the peak are as they were
+-- back left them, and the words that were granted at no moment are as they were
 abbrev pub arena_follows : Arena → List Event → Arena → Type 0
 arena_follows old events new = IsArenaAfter old events new
 
@@ -26,6 +28,10 @@ arena_refuses old new = new ≡ old
 
 abbrev pub arena_denies : Arena → ℕ → GrantFault → Type 0
 arena_denies arena size fault = IsDenied arena size fault
+
+-- the words of an arena outside of these regions are as they were
+abbrev pub KeepsWordsOutside : List Grant → Arena → Arena → Type 0
+KeepsWordsOutside regions old new = (i : ℕ) → is_granted regions (old.base + 8 * i) ≡ false → slice_index new.words.now i ≡ slice_index old.words.now i
 
 -- its state
 abbrev pub arena_heap_state : Dlmalloc Arena → HeapState

@@ -60,25 +60,24 @@ fn words_for_table(rest: usize, granularity: u64) -> usize
 
 impl<'a> CheckedHeap<'a> {
     ghost use Rattle.std.specs.Prelude.{◌≡◌, ◌↔◌, ◌+◌, ◌-◌, ◌*◌, ◌/◌, ◌%◌, ◌<◌, ◌≤◌, min, true, false, if◌then◌else◌, Some, None, IfOk, IfSome, IfNone, IsTrue, length, take, drop};
-    ghost use Rattle.heap_memory.specs.Words.{IsStored};
     ghost use Rattle.dlmalloc.specs.State.{countdown_from};
     ghost use Rattle.dlmalloc.specs.Heap.{IsGranularity};
     ghost use Rattle.dlmalloc.specs.Blocks.{ArePlaced, BlocksAreApart};
     ghost use Rattle.dlmalloc.specs.AfterFree.{IsFreed};
     ghost use Rattle.dlmalloc.specs.Shortened.{IsTrimmed};
     ghost use Rattle.dlmalloc.specs.Served.{IsListed};
-    ghost use Rattle.heap_arena.specs.Arena.{regions_of, word_of, IsAbove};
+    ghost use Rattle.heap_arena.specs.Arena.{regions_of, word_of, IsAbove, IsWordPut};
     ghost use Rattle.heap_library.specs.Begun.{FitsAt, IsBegunOver, IsBegun};
     ghost use Rattle.heap_library.specs.Answers.{IsRequestAnswered, IsResizeAnswered, IsOnlySet};
     ghost use Rattle.heap_library.specs.Library.{HasWord};
     ghost use Rattle.sound_heap.specs.Heap.{HasBlock, usable, IsIntact, StaysInState};
     ghost use Rattle.heap_library.specs.Counted.{HasBlocks};
-    ghost use Rattle.heap_library.specs.Checked.{arena_follows, arena_heap_state, table_in, table_of, left_for_words, words_for_blocks, words_for_table, IsCleared};
+    ghost use Rattle.heap_library.specs.Checked.{arena_follows, arena_heap_state, table_in, table_of, left_for_words, words_for_blocks, words_for_table, IsCleared, KeepsWordsOutside};
     ghost use Rattle.heap_library.specs.Marking.{AreUnset};
 
-    /// An empty heap over words, the first of them at the address `base`. It has a bit of `marks` for each 16 bytes, and
-    /// takes no more words than these are for; in `table` it notes what it was granted, in two words for each grant. Words
-    /// and table are as they were given.
+    /// An empty heap over words, the first of them at the address `base`. It has a bit of `marks` for each 16 bytes, which
+    /// have to be enough; in `table` it notes what it was granted, in two words for each grant. Words and table are as they
+    /// were given.
     pub fn new(
         words: &'a mut [u64],
         marks: &'a mut [u64],
@@ -86,8 +85,8 @@ impl<'a> CheckedHeap<'a> {
         base: u64,
     ) -> CheckedHeap<'a>
         requires fits { FitsAt base (length words.now) }
-        ensures begun { IsBegunOver base (take (min (length words.entry.now) (128 * length marks.entry.now)) words.entry.now) table.entry.now result }
-        ensures len { length result.system.words.now ≡ min (length words.entry.now) (128 * length marks.entry.now) }
+        requires room { length words.now ≤ 128 * length marks.now }
+        ensures begun { IsBegunOver base words.entry.now table.entry.now result }
     {
         let marks = Marks::new(marks, base);
         CheckedHeap::with_marks(words, marks, table, base)
@@ -162,11 +161,10 @@ impl<'a> CheckedHeap<'a> {
     ) -> CheckedHeap<'a>
         requires fits { FitsAt base (length words.now) }
         requires unset { AreUnset base marks }
-        ensures begun { IsBegunOver base (take (min (length words.entry.now) (128 * length marks.entry.words.now)) words.entry.now) table.entry.now result }
-        ensures len { length result.system.words.now ≡ min (length words.entry.now) (128 * length marks.entry.words.now) }
+        requires room { length words.now ≤ 128 * length marks.words.now }
+        ensures begun { IsBegunOver base words.entry.now table.entry.now result }
     {
-        let count = words.len().min(marks.len().saturating_mul(128));
-        let arena = Arena::new(&mut words[..count], table, base);
+        let arena = Arena::new(words, table, base);
         CheckedHeap {
             heap: Heap::new(arena),
             marks,
@@ -247,6 +245,7 @@ impl<'a> CheckedHeap<'a> {
         ensures answer { IsTrue result ↔ HasBlock (arena_heap_state self.old) address }
         ensures freed { result ≡ true → IsFreed regions_of word_of arena_follows true true 1 self.old address self.new }
         ensures same { result ≡ false → self.new ≡ self.old }
+        ensures outside { KeepsWordsOutside (regions_of self.old.system) self.old.system self.new.system }
     {
         if !self.has_block(address) {
             return false;
@@ -260,6 +259,7 @@ impl<'a> CheckedHeap<'a> {
     /// went back.
     pub fn trim(&mut self, pad: u64) -> bool
         ensures trimmed { IsTrimmed regions_of word_of arena_follows true true 1 self.old pad result self.new }
+        ensures outside { KeepsWordsOutside (regions_of self.old.system) self.old.system self.new.system }
     {
         self.heap.trim(pad)
     }
@@ -302,13 +302,15 @@ impl<'a> CheckedHeap<'a> {
     /// nothing changes. The offset is a multiple of 8.
     pub fn store(&mut self, address: u64, offset: u64, value: u64) -> bool
         ensures answer { IsTrue result ↔ HasWord (arena_heap_state self.old) address offset }
-        ensures stored { result ≡ true → IsStored (regions_of self.old.system) (word_of self.old.system) (address + offset) value (word_of self.new.system) }
+        ensures put { result ≡ true → IsWordPut (address + offset) value self.old.system self.new.system }
         ensures stays { StaysInState regions_of word_of arena_follows self.old self.new }
         ensures same { result ≡ false → self.new ≡ self.old }
     {
         if !self.has_word(address, offset) {
             return false;
         }
+        self.heap.blocks_are_placed();
+        self.heap.system().grants_are_inside();
         self.heap.store(address, offset, value);
         true
     }
@@ -317,6 +319,7 @@ impl<'a> CheckedHeap<'a> {
     pub fn blocks(&self) -> u64
         ensures { HasBlocks (arena_heap_state self.now) result }
     {
+        self.heap.is_intact();
         self.marks.count()
     }
 

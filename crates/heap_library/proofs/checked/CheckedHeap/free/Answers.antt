@@ -1,10 +1,13 @@
 use Rattle.std.proofs.Common.{subst, sym, true}
 use Rattle.dlmalloc.specs.AfterFree.{IsFreed}
+use Rattle.dlmalloc.specs.declared.heap.Dlmalloc.{Dlmalloc}
 use Rattle.heap_arena.specs.Arena.{regions_of, word_of}
+use Rattle.heap_arena.specs.declared.arena.Arena.{Arena}
 use Rattle.sound_heap.specs.Heap.{HasBlock}
-use Rattle.heap_library.specs.Checked.{arena_follows, arena_heap_state}
+use Rattle.heap_library.specs.Checked.{arena_follows, arena_heap_state, KeepsWordsOutside}
 use Rattle.heap_library.proofs.MarkLemmas.{place_of_mark}
 use Rattle.heap_library.proofs.Marking.{freed_marked}
+use Rattle.heap_library.proofs.Outside.{freed_outside}
 use Rattle.heap_library.proofs.checked.CheckedHeap.free.Goals as goal
 
 pub clear-requires-clause-place : goal.clear-requires-clause-place
@@ -27,3 +30,8 @@ invariant_of-self c =
 pub returns-clause-freed : goal.returns-clause-freed
 returns-clause-freed c = λ is. subst (λ heap. IsFreed regions_of word_of arena_follows true true 1 heap c.args.address
     c.free.new.self) c.self.view_is c.free.ensures.freed
+
+pub returns-clause-outside : goal.returns-clause-outside
+returns-clause-outside c =
+    subst (λ (heap : Dlmalloc Arena). KeepsWordsOutside (regions_of heap.system) heap.system c.free.new.self.system) c.self.view_is
+    (freed_outside _ c.free.new.self c.args.address c.free.ensures.freed)

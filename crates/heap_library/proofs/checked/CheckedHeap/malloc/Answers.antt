@@ -1,9 +1,12 @@
 use Rattle.std.proofs.Common.{false, refl, subst, sym, arith}
+use Rattle.dlmalloc.specs.declared.heap.Dlmalloc.{Dlmalloc}
 use Rattle.heap_arena.specs.Arena.{regions_of, word_of}
+use Rattle.heap_arena.specs.declared.arena.Arena.{Arena}
 use Rattle.sound_heap.specs.Heap.{IsRequestRefused}
 use Rattle.heap_library.specs.Calls.{IsBlockGiven}
-use Rattle.heap_library.specs.Checked.{arena_follows, arena_refuses, arena_denies}
+use Rattle.heap_library.specs.Checked.{arena_follows, arena_refuses, arena_denies, KeepsWordsOutside}
 use Rattle.heap_library.proofs.Marking.{made_unmarked, made_marked, unserved_marked}
+use Rattle.heap_library.proofs.Outside.{found_outside, refused_outside}
 use Rattle.heap_library.proofs.Room.{refused_for, not_refused}
 use Rattle.heap_library.specs.Room.{IsRefused}
 use Rattle.heap_library.proofs.checked.CheckedHeap.malloc.Goals as goal
@@ -37,6 +40,8 @@ returns-in-Ok c =
       err = tt;
       refused = (λ none. absurd (cc), λ refused. absurd (served (subst (λ heap. IsRefused heap c.args.size c.args.align) (sym c.self.view_is) refused)));
       apart = c.in-Ok.ensures.apart;
+      outside = subst (λ (heap : Dlmalloc Arena). KeepsWordsOutside (regions_of c.malloc.new.self.system) heap.system c.malloc.new.self.system) c.self.view_is
+          (found_outside _ c.malloc.new.self c.args.size c.args.align c.in-Ok.address c.in-Ok.ensures.ok.handed);
     }
 
 pub returns-in-Err : goal.returns-in-Err
@@ -51,4 +56,6 @@ returns-in-Err c = record {
     λ _. refl,
   );
   apart = c.in-Err.ensures.apart;
+  outside = subst (λ (heap : Dlmalloc Arena). KeepsWordsOutside (regions_of c.malloc.new.self.system) heap.system c.malloc.new.self.system) c.self.view_is
+      (refused_outside _ c.malloc.new.self c.args.size c.args.align c.in-Err.error c.in-Err.ensures.err);
 }

@@ -1,6 +1,8 @@
-use Rattle.std.proofs.Common.{◌∙◌, refl, subst, sym, inl, arith}
+use Rattle.std.proofs.Common.{◌≡◌, ◌∙◌, refl, subst, sym, inl, arith}
 use Rattle.dlmalloc.specs.Blocks.{BlocksAreApart}
+use Rattle.dlmalloc.specs.declared.heap.Dlmalloc.{Dlmalloc}
 use Rattle.heap_arena.specs.Arena.{regions_of, word_of}
+use Rattle.heap_arena.specs.declared.arena.Arena.{Arena}
 use Rattle.heap_library.specs.Calls.{IsBlockResized}
 use Rattle.heap_library.specs.Library.{IsResizeRefused}
 use Rattle.sound_heap.specs.Heap.{HasBlock, usable}
@@ -8,6 +10,7 @@ use Rattle.sound_heap.specs.declared.heap_error.HeapError.TheVariants.{Refused}
 use Rattle.heap_library.specs.Checked.{arena_follows, arena_refuses, arena_denies, arena_heap_state}
 use Rattle.heap_library.proofs.MarkLemmas.{place_of_mark}
 use Rattle.heap_library.proofs.Marking.{resized_same, moved_unmarked, moved_marked, unresized_marked}
+use Rattle.heap_library.proofs.Outside.{resized_outside, unresized_same}
 use Rattle.heap_library.proofs.Room.{resize_refused_for, resize_not_refused}
 use Rattle.heap_library.specs.Room.{IsRefusedResize}
 use Rattle.heap_library.proofs.checked.CheckedHeap.realloc.Goals as goal
@@ -71,6 +74,7 @@ returns-then-not-has_block c =
       resized = tt;
       err = (λ block. let there = c.has_block.ensures.1 block in absurd (cc), refl);
       refused = (λ _. inl (λ block. let there = c.has_block.ensures.1 block in absurd (cc)), λ _. refl);
+      same = λ _. refl;
       apart = subst (λ heap. BlocksAreApart (arena_heap_state heap)) c.self.view_is c.blocks_are_apart.ensures;
     }
 
@@ -84,9 +88,15 @@ returns-in-Ok c =
     c.in-Ok.to before c.in-Ok.ensures.ok.given.small c.in-Ok.ensures.ok.resized in
     record {
       resized = subst (λ heap. IsBlockResized heap c.args.from c.args.size c.in-Ok.to c.realloc.new.self) c.self.view_is
-          (record { block = before; reallocated = c.in-Ok.ensures.ok; enough = c.in-Ok.ensures.enough });
+          (record {
+            block = before;
+            reallocated = c.in-Ok.ensures.ok;
+            enough = c.in-Ok.ensures.enough;
+            outside = resized_outside heap c.realloc.new.self c.args.from (usable (arena_heap_state heap) c.args.from) c.args.size c.in-Ok.to c.in-Ok.ensures.ok.given;
+          });
       err = tt;
       refused = (λ none. absurd (cc), λ refused. absurd (served (subst (λ heap. IsRefusedResize heap c.args.from c.args.size) (sym c.self.view_is) refused)));
+      same = λ none. absurd (cc);
       apart = c.in-Ok.ensures.apart;
     }
 
@@ -104,5 +114,7 @@ returns-in-Err c =
             (resize_refused_for c.self.inside.heap c.realloc.new.self c.args.from c.args.size (Refused c.in-Err.error) refused),
         λ _. refl,
       );
+      same = λ _. subst (λ (heap : Dlmalloc Arena). c.realloc.new.self.system ≡ heap.system) c.self.view_is
+          (unresized_same c.self.inside.heap c.realloc.new.self c.args.from c.args.size (Refused c.in-Err.error) refused);
       apart = c.in-Err.ensures.apart;
     }
