@@ -68,11 +68,11 @@ as_last_entry words root page table index frame entry leads = record {
   to_frame = leads.to_frame;
 }
 
--- a frame that is no table's, and in the whole memory no page's, may be mapped
+-- a frame that in the whole memory is no table's and no page's may be mapped
 pub unmet_in : (area : Area) (words : List ℕ) (root frame : ℕ) →
-    ((l n : ℕ) (b : Place) → l ≤ 4 → (l ≡ 4 → area ≡ Whole) → reach words root l n ≡ Some b → b.frame ≡ frame → ⊥) → IsUnmet area words root frame
-unmet_in Whole words root frame h = λ l n b le is e. h l n b le (λ _. refl) is e
-unmet_in (Part first end) words root frame h = λ l n b lt is e. h l n b (omega arith) (λ x. absurd (omega arith)) is e
+    (area ≡ Whole → (l n : ℕ) (b : Place) → l ≤ 4 → reach words root l n ≡ Some b → b.frame ≡ frame → ⊥) → IsUnmet area words root frame
+unmet_in Whole words root frame h = h refl
+unmet_in (Part first end) words root frame h = tt
 
 pub unmet_moved : (area area' : Area) (words : List ℕ) (root frame : ℕ) → area' ≡ area → IsUnmet area words root frame → IsUnmet area' words root frame
 unmet_moved area area' words root frame e unmet = rw e unmet

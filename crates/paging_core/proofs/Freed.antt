@@ -31,7 +31,7 @@ freed_tree old new free free' root gone freed tree =
       used = λ l n b le is.
           let p = met_before old new root removal gone freed.removed removal_keeps l n b le is in
           freed.kept b.frame (λ m place g at e.
-          let d = tree.distinct 4 m l n place p.0 (omega arith) le (λ _ _. refl) at p.1 (e ∙ sym p.2) in
+          let d = tree.distinct 4 m l n place p.0 (omega arith) le at p.1 (e ∙ sym p.2) in
           let u : reach new root 4 n ≡ None = freed_none old new free free' root gone freed n (rw d.1 at g) in
           let v : reach new root 4 n ≡ Some b = rw (← d.0) at is in
           absurd (cc))
@@ -55,7 +55,7 @@ module _ (old mid new : List ℕ) (free free1 free' : List Bool) (root : ℕ) (a
   given_of : (n : ℕ) (place : Place) → c n ≡ true → reach old root 4 n ≡ Some place → (a n ≡ true) ⊎ (a n ≡ false) → is_frame_free free' place.frame ≡ true
   given_of n place g at (inl x) =
       two.kept place.frame (λ m p gm here e.
-      let d = tree.distinct 4 m 4 n p place (omega arith) (omega arith) (λ _ _. refl) (later m p gm here) at e in
+      let d = tree.distinct 4 m 4 n p place (omega arith) (omega arith) (later m p gm here) at e in
       let u : a m ≡ true = ap a d.1 ∙ x in
       let v = apart m u in
       absurd (cc))

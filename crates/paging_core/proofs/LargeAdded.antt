@@ -1,20 +1,20 @@
 -- A slot is mapped by one entry.
-use Rattle.std.proofs.Common.{◌≡◌, ℕ, ◌^◌, ◌+◌, ◌-◌, ◌*◌, ◌/◌, ◌%◌, ◌<◌, ◌≤◌, Bool, true, false, not, ltb, List, length, set, Some, None, refl, sym, ap, ◌∙◌, ◌⊎◌, inl, inr, arith, length-set}
+use Rattle.std.proofs.Common.{◌≡◌, ℕ, ◌^◌, ◌+◌, ◌-◌, ◌*◌, ◌/◌, ◌%◌, ◌<◌, ◌≤◌, Bool, true, false, ltb, List, length, set, Some, None, refl, sym, ap, ◌∙◌, ◌⊎◌, inl, inr, arith, length-set}
 use Rattle.std.proofs.lemmas.Bool.{cases_eq, cases_lt, lt-ltb}
-use Rattle.std.proofs.lemmas.Bool.Decides.{nat_tests}
-use Rattle.paging_core.specs.Entry.{has_bit, frame_of, table_entry, large_entry}
+use Rattle.paging_core.specs.Entry.{has_bit, table_entry, large_entry}
 use Rattle.paging_core.specs.Area.{Area, Whole}
 use Rattle.paging_core.specs.Memory.{word_at, frame_count}
 use Rattle.paging_core.specs.Prefix.{prefix_of}
 use Rattle.paging_core.specs.Walk.{Place, large_step, reach, large_of, top, walk_of, reached, place_with}
 use Rattle.paging_core.specs.Pool.{is_frame_free}
-use Rattle.paging_core.specs.Tree.{IsTreeIn}
+use Rattle.paging_core.specs.Tree.{IsTreeIn, last_own}
 use Rattle.paging_core.specs.Tables.{IsPrepared}
 use Rattle.paging_core.specs.Large.{slot_of, above, IsSlotEmpty, IsLargeAdded}
-use Rattle.paging_core.specs.declared.page_table.Rights.{Rights}
+use Rattle.paging_core.specs.declared.page_table.PageBits.{PageBits}
 use Rattle.paging_core.specs.Address.{is_canonical}
 use Rattle.std.specs.Prelude.{IsTrue, IsSome}
 use Rattle.paging_core.specs.Plain.{IsPlain}
+use Rattle.paging_core.proofs.PageWords.{large_bits}
 use Rattle.paging_core.proofs.Plain.{plain_kept, plain_large}
 use Rattle.paging_core.proofs.PageWritten.{same_byte}
 use Rattle.paging_core.proofs.PageChanged.{some_place}
@@ -25,118 +25,25 @@ use Rattle.paging_core.proofs.Words.{word_at_set_same, word_at_set_other}
 use Rattle.paging_core.proofs.Prefixes.{prefix_more, prefix_split, walk_reach, none_below}
 use Rattle.paging_core.proofs.Made.{reach_below}
 use Rattle.paging_core.proofs.LastEntry.{not_not, some_or_none}
+use Rattle.paging_core.proofs.Areas.{own_met, own_table, own_whole, beside_table, beside_moved, bytes_kept_of}
+use Rattle.paging_core.specs.Outcomes.{IsBeside, KeepsBytesOf}
 
--- what the walk reads of an entry that maps a large page
-record IsLargeWord (word frame : ℕ) (rights : Rights) : Type 0 where
-  names : frame_of word ≡ frame
-  present : has_bit word 0 ≡ true
-  writable : has_bit word 1 ≡ rights.write
-  usable : has_bit word 2 ≡ rights.user
-  large : has_bit word 7 ≡ true
-  executable : has_bit word 63 ≡ not rights.fetch
-
-large_bits : (n : ℕ) → n < 2 ^ 40 → (rights : Rights) → IsLargeWord (large_entry n rights) n rights
-large_bits n lt rights = go rights.write rights.user rights.fetch
-  where
-    go : (write user fetch : Bool) →
-        IsLargeWord (large_entry n (record { write = write; user = user; fetch = fetch })) n (record { write = write; user = user; fetch = fetch })
-    go true true true = record {
-      names = omega arith;
-      present = grind (arith, nat_tests);
-      writable =
-          grind (arith, nat_tests);
-      usable = grind (arith, nat_tests);
-      large = grind (arith, nat_tests);
-      executable =
-          grind (arith, nat_tests);
-    }
-    go true true false = record {
-      names = omega arith;
-      present = grind (arith, nat_tests);
-      writable =
-          grind (arith, nat_tests);
-      usable = grind (arith, nat_tests);
-      large = grind (arith, nat_tests);
-      executable =
-          grind (arith, nat_tests);
-    }
-    go true false true = record {
-      names = omega arith;
-      present = grind (arith, nat_tests);
-      writable =
-          grind (arith, nat_tests);
-      usable = grind (arith, nat_tests);
-      large = grind (arith, nat_tests);
-      executable =
-          grind (arith, nat_tests);
-    }
-    go true false false = record {
-      names = omega arith;
-      present = grind (arith, nat_tests);
-      writable =
-          grind (arith, nat_tests);
-      usable = grind (arith, nat_tests);
-      large = grind (arith, nat_tests);
-      executable =
-          grind (arith, nat_tests);
-    }
-    go false true true = record {
-      names = omega arith;
-      present = grind (arith, nat_tests);
-      writable =
-          grind (arith, nat_tests);
-      usable = grind (arith, nat_tests);
-      large = grind (arith, nat_tests);
-      executable =
-          grind (arith, nat_tests);
-    }
-    go false true false = record {
-      names = omega arith;
-      present = grind (arith, nat_tests);
-      writable =
-          grind (arith, nat_tests);
-      usable = grind (arith, nat_tests);
-      large = grind (arith, nat_tests);
-      executable =
-          grind (arith, nat_tests);
-    }
-    go false false true = record {
-      names = omega arith;
-      present = grind (arith, nat_tests);
-      writable =
-          grind (arith, nat_tests);
-      usable = grind (arith, nat_tests);
-      large = grind (arith, nat_tests);
-      executable =
-          grind (arith, nat_tests);
-    }
-    go false false false = record {
-      names = omega arith;
-      present = grind (arith, nat_tests);
-      writable =
-          grind (arith, nat_tests);
-      usable = grind (arith, nat_tests);
-      large = grind (arith, nat_tests);
-      executable =
-          grind (arith, nat_tests);
-    }
-
-pub step_large : (words : List ℕ) (t j frame : ℕ) (rights : Rights) → frame < 2 ^ 40 → frame % 512 ≡ 0 → frame + 511 < frame_count words →
+pub step_large : (words : List ℕ) (t j frame : ℕ) (rights : PageBits) → frame < 2 ^ 40 → frame % 512 ≡ 0 → frame + 511 < frame_count words →
     word_at words t j ≡ large_entry frame rights → large_step words (top t) j ≡ Some (place_with frame rights)
 unfolding large_step
 step_large words t j frame rights small aligned within e =
     let p : ltb frame (frame_count words) ≡ true = lt-ltb frame (frame_count words) (omega arith) in
     let q : ltb (frame + 511) (frame_count words) ≡ true = lt-ltb (frame + 511) (frame_count words) within in
     let is = large_bits frame small rights in
-    rw (e, is.names, is.present, is.writable, is.usable, is.large, is.executable, p, q, aligned, not_not) refl
+    rw (e, is.names, is.present, is.writable, is.usable, is.bit_7, is.executable, is.through, is.uncached, is.global, p, q, aligned, not_not) refl
 
-module _ {area : Area} (old mid new : List ℕ) (free free' : List Bool) (root page table index frame : ℕ) (rights : Rights)
+module _ {area : Area} (old mid new : List ℕ) (free free' : List Bool) (root page table index frame : ℕ) (rights : PageBits)
     (root_in : root < frame_count old)
     (empty : IsSlotEmpty old root page)
     (small : 512 * frame < 2 ^ 40)
     (frame_in : 512 * frame + 511 < frame_count old)
-    (used : (k : ℕ) → k < 512 → is_frame_free free (512 * frame + k) ≡ false)
-    (unmet : (k l n : ℕ) (b : Place) → k < 512 → l ≤ 4 → (l ≡ 4 → area ≡ Whole) → reach old root l n ≡ Some b → b.frame ≡ 512 * frame + k → ⊥)
+    (used : area ≡ Whole → (k : ℕ) → k < 512 → is_frame_free free (512 * frame + k) ≡ false)
+    (unmet : area ≡ Whole → (k l n : ℕ) (b : Place) → k < 512 → l ≤ 4 → reach old root l n ≡ Some b → b.frame ≡ 512 * frame + k → ⊥)
     (ix : index ≡ prefix_of (512 * page) 3 % 512)
     (tree : IsTreeIn area mid root free')
     (met : reach mid root 2 (above page 2) ≡ Some (top table))
@@ -167,7 +74,7 @@ module _ {area : Area} (old mid new : List ℕ) (free free' : List Bool) (root p
   written_here = ap (λ w. word_at w table index) written ∙ word_at_set_same mid table index (large_entry (512 * frame) rights) table_in index_in
 
   alone : (l n : ℕ) (b : Place) → l < 4 → reach mid root l n ≡ Some b → b.frame ≡ table → (l ≡ 2) × (n ≡ above page 2)
-  alone l n b lt is e = tree.distinct l n 2 (above page 2) b (top table) (omega arith) (omega arith) (λ x y. absurd (omega arith)) is met e
+  alone l n b lt is e = tree.distinct l n 2 (above page 2) b (top table) (own_table area l lt) (own_table area 2 (omega arith)) is met e
 
   same : (l n : ℕ) (b : Place) (j : ℕ) → l < 4 → reach mid root l n ≡ Some b → j < 512 → (b.frame ≡ table → j ≡ index → ⊥) →
       word_at new b.frame j ≡ word_at mid b.frame j
@@ -220,25 +127,25 @@ module _ {area : Area} (old mid new : List ℕ) (free free' : List Bool) (root p
       let p : n ≡ prefix_of (512 * page + n % 512) 4 = omega arith in
       ap (reach old root 4) p ∙ (sym (walk_reach old root (512 * page + n % 512)) ∙ empty.unmapped (n % 512) (omega arith))
 
-  fresh : (k l n : ℕ) (b : Place) → k < 512 → l ≤ 4 → (l ≡ 4 → area ≡ Whole) → reach mid root l n ≡ Some b → b.frame ≡ 512 * frame + k → ⊥
-  fresh k l n b lk le whole now e = go (cases_eq n (above page l)) (cases_lt 2 l)
+  fresh : area ≡ Whole → (k l n : ℕ) (b : Place) → k < 512 → l ≤ 4 → reach mid root l n ≡ Some b → b.frame ≡ 512 * frame + k → ⊥
+  fresh whole k l n b lk le now e = go (cases_eq n (above page l)) (cases_lt 2 l)
     where
       here_of : (n ≡ above page l) → l ≤ 2 → ((x : Place) × (reach old root l (above page l) ≡ Some x)) ⊎ (reach old root l (above page l) ≡ None) → ⊥
       here_of x lo (inl p) =
           let s = prepared.stayed l p.0 le p.1 in
           let w : reach mid root l (above page l) ≡ Some b = rw (← x) now in
           let q : p.0 ≡ b = cc in
-          unmet k l (above page l) b lk le whole (p.1 ∙ ap Some q) e
+          unmet whole k l (above page l) b lk le (p.1 ∙ ap Some q) e
       here_of x lo (inr p) =
           let w : reach mid root l (above page l) ≡ Some b = rw (← x) now in
           let f : is_frame_free free b.frame ≡ true = prepared.made l b lo p w in
           let g = ap (is_frame_free free) e in
-          let u = used k lk in cc
+          let u = used whole k lk in cc
 
       go : (n ≡ above page l) ⊎ (n ≡ above page l → ⊥) → (2 < l) ⊎ (l ≤ 2) → ⊥
       go (inl x) (inr lo) = here_of x lo (some_or_none (reach old root l (above page l)))
-      go (inr x) _ = unmet k l n b lk le whole (sym (prepared.others l n le (λ _ y. x y)) ∙ now) e
-      go _ (inl hi) = unmet k l n b lk le whole (sym (prepared.others l n le (λ lo _. absurd (omega arith))) ∙ now) e
+      go (inr x) _ = unmet whole k l n b lk le (sym (prepared.others l n le (λ _ y. x y)) ∙ now) e
+      go _ (inl hi) = unmet whole k l n b lk le (sym (prepared.others l n le (λ lo _. absurd (omega arith))) ∙ now) e
 
   -- what the new walk meets is a page of the slot, or was met before
   record IsInside (l n : ℕ) (b : Place) : Type 0 where
@@ -261,8 +168,9 @@ module _ {area : Area} (old mid new : List ℕ) (free free' : List Bool) (root p
   pub large_tree : IsTreeIn area new root free'
   large_tree = record {
     rights = λ l n b lt is. tree.rights l n b lt (sym (low l n lt) ∙ is);
-    distinct = λ l n k j a b ll lk apart x y e. distinct_of l n k j a b ll lk apart e (met_now l n a ll x) (met_now k j b lk y);
-    used = λ l n b le is. used_of l n b le (met_now l n b le is);
+    distinct = λ l n k j a b ll lk x y e.
+        distinct_of l n k j a b ll lk e (met_now l n a (own_met area l ll) x) (met_now k j b (own_met area k lk) y);
+    used = λ l n b le is. used_of l n b le (met_now l n b (own_met area l le) is);
     inside = λ l n b lt is. tree.inside l n b lt (sym (low l n lt) ∙ is);
     plain = record { each = λ l n i b lt li is. plain_of l n i b lt li (sym (low l n lt) ∙ is) (cases_eq b.frame table) (cases_eq i index) };
   }
@@ -281,19 +189,23 @@ module _ {area : Area} (old mid new : List ℕ) (free free' : List Bool) (root p
       plain_of l n i b lt li is (inr x) _ = kept l n i b lt li is (λ e _. x e)
       plain_of l n i b lt li is _ (inr y) = kept l n i b lt li is (λ _ e. y e)
 
-      used_of : (l n : ℕ) (b : Place) → l ≤ 4 → IsInside l n b ⊎ (reach mid root l n ≡ Some b) → is_frame_free free' b.frame ≡ false
-      used_of l n b le (inl x) = prepared.fewer b.frame (ap (is_frame_free free) x.framed ∙ used (n % 512) (omega arith))
+      used_of : (l n : ℕ) (b : Place) → l ≤ last_own area → IsInside l n b ⊎ (reach mid root l n ≡ Some b) → is_frame_free free' b.frame ≡ false
+      used_of l n b le (inl x) =
+          let whole = own_whole area (rw x.at_four at le) in
+          prepared.fewer b.frame (ap (is_frame_free free) x.framed ∙ used whole (n % 512) (omega arith))
       used_of l n b le (inr x) = tree.used l n b le x
 
-      distinct_of : (l n k j : ℕ) (a b : Place) → l ≤ 4 → k ≤ 4 → (l ≡ 4 → k ≡ 4 → area ≡ Whole) → a.frame ≡ b.frame →
+      distinct_of : (l n k j : ℕ) (a b : Place) → l ≤ last_own area → k ≤ last_own area → a.frame ≡ b.frame →
           IsInside l n a ⊎ (reach mid root l n ≡ Some a) → IsInside k j b ⊎ (reach mid root k j ≡ Some b) → (l ≡ k) × (n ≡ j)
-      distinct_of l n k j a b ll lk apart e (inl x) (inl y) = (
+      distinct_of l n k j a b ll lk e (inl x) (inl y) = (
         x.at_four ∙ sym y.at_four,
         (let p = x.in_slot in let q = y.in_slot in let r = x.framed in let s = y.framed in omega arith),
       )
-      distinct_of l n k j a b ll lk apart e (inl x) (inr y) = absurd (fresh (n % 512) k j b (omega arith) lk (apart x.at_four) y (sym e ∙ x.framed))
-      distinct_of l n k j a b ll lk apart e (inr x) (inl y) = absurd (fresh (j % 512) l n a (omega arith) ll (λ s. apart s y.at_four) x (e ∙ y.framed))
-      distinct_of l n k j a b ll lk apart e (inr x) (inr y) = tree.distinct l n k j a b ll lk apart x y e
+      distinct_of l n k j a b ll lk e (inl x) (inr y) =
+          absurd (fresh (own_whole area (rw x.at_four at ll)) (n % 512) k j b (omega arith) (own_met area k lk) y (sym e ∙ x.framed))
+      distinct_of l n k j a b ll lk e (inr x) (inl y) =
+          absurd (fresh (own_whole area (rw y.at_four at lk)) (j % 512) l n a (omega arith) (own_met area l ll) x (e ∙ y.framed))
+      distinct_of l n k j a b ll lk e (inr x) (inr y) = tree.distinct l n k j a b ll lk x y e
 
   -- each table above the slot is there
   made_of : (l : ℕ) → l < 3 → reach old root l (above page l) ≡ None →
@@ -402,7 +314,7 @@ module _ {area : Area} (old mid new : List ℕ) (free free' : List Bool) (root p
       go (inr ne) _ =
           words_of f i li
           (λ k lk now. let p : (l ≡ k) × (n ≡ above page k) =
-          large_tree.distinct l n k (above page k) (top f) (top f) (omega arith) (omega arith) (λ x y. absurd (omega arith))
+          large_tree.distinct l n k (above page k) (top f) (top f) (own_table area l (omega arith)) (own_table area k (omega arith))
           (stayed l n (top f) (omega arith) was) now refl in
           ne (p.1 ∙ ap (above page) (sym p.0)))
 
@@ -470,16 +382,20 @@ module _ {area : Area} (old mid new : List ℕ) (free free' : List Bool) (root p
   }
 
   -- no byte of a page that was mapped is changed
-  pub large_bytes : (address : ℕ) → IsSome (walk_of old root (address / 4096)) → reached new root address ≡ reached old root address
-  large_bytes address is =
+  large_byte : (address : ℕ) → IsSome (walk_of old root (address / 4096)) → IsBeside area old root (address / 4096) →
+      reached new root address ≡ reached old root address
+  large_byte address is beside =
       let p = some_place (walk_of old root (address / 4096)) is in
       let was : reach old root 4 (prefix_of (address / 4096) 4) ≡ Some p.0 = sym (walk_reach old root (address / 4096)) ∙ p.1 in
       let now : reach new root 4 (prefix_of (address / 4096) 4) ≡ Some p.0 = stayed 4 (prefix_of (address / 4096) 4) p.0 (omega arith) was in
-      same_byte old new root address p.0 p.0 p.1 (walk_reach new root (address / 4096) ∙ now) refl
+      let there : walk_of new root (address / 4096) ≡ Some p.0 = walk_reach new root (address / 4096) ∙ now in
+      same_byte old new root address p.0 p.0 p.1 there refl
       (words_of p.0.frame (address % 4096 / 8) (omega arith)
-      (λ l lt here. let d = large_tree.distinct 4 (prefix_of (address / 4096) 4) l (above page l) p.0 (top p.0.frame)
-      (omega arith) (omega arith) (λ x y. absurd (omega arith)) now here refl in
-      absurd (omega (arith, d.0))))
+      (λ l lt here. beside_table area new root free' (address / 4096) p.0 large_tree there
+      (beside_moved area old new root (address / 4096) (there ∙ sym p.1) beside) l (above page l) (top p.0.frame) (omega arith) here refl))
+
+  pub large_bytes : KeepsBytesOf area (λ at. IsSome (walk_of old root at)) old new root
+  large_bytes = bytes_kept_of area (λ at. IsSome (walk_of old root at)) old new root large_byte
 
 -- a slot is distinguished from others by its indices
 pub same_slot : (other page : ℕ) → IsTrue (is_canonical (other * 4096)) → IsTrue (is_canonical (512 * page * 4096)) →

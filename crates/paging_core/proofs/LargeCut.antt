@@ -46,13 +46,13 @@ module _ (old new : List ℕ) (free free' : List Bool) (root page keep table : �
       let q : (512 * slot_of page + k) % 512 ≡ k = omega arith in
       let at : reach old root 4 (512 * slot_of page + k) ≡ Some (page_in k large) =
       at_page old root page large was (512 * slot_of page + k) p ∙ ap (λ j. Some (page_in j large)) q in
-      tree.distinct l n 4 (512 * slot_of page + k) b (page_in k large) le (omega arith) (λ _ _. refl) is at e
+      tree.distinct l n 4 (512 * slot_of page + k) b (page_in k large) le (omega arith) is at e
 
   no_table : (l n : ℕ) (b : Place) → l < 4 → reach old root l n ≡ Some b → b.frame ≡ large.frame + keep → ⊥
   no_table l n b lt is e = let p = its_page l n keep b (omega arith) part is e in absurd (omega (arith, p.0))
 
   alone : (l n : ℕ) (b : Place) → l < 4 → reach old root l n ≡ Some b → b.frame ≡ table → (l ≡ 2) × (n ≡ above page 2)
-  alone l n b lt is e = tree.distinct l n 2 (above page 2) b (top table) (omega arith) (omega arith) (λ _ _. refl) is met e
+  alone l n b lt is e = tree.distinct l n 2 (above page 2) b (top table) (omega arith) (omega arith) is met e
 
   same : (l n : ℕ) (b : Place) (j : ℕ) → l < 4 → reach old root l n ≡ Some b → j < 512 → (b.frame ≡ table → j ≡ slot_of page % 512 → ⊥) →
       word_at new b.frame j ≡ word_at old b.frame j
@@ -153,7 +153,7 @@ module _ (old new : List ℕ) (free free' : List Bool) (root page keep table : �
       go : ((k ≡ 4) × (j ≡ 512 * slot_of page + keep) × (keep < keep)) ⊎ ((k ≡ 3) × (j ≡ slot_of page) × (keep ≡ keep)) → (l ≡ k) × (n ≡ j)
       go (inl p) = let q : keep < keep = p.2 in absurd (omega arith)
       go (inr p) = (x.at_three ∙ sym p.0, x.here ∙ sym p.1)
-  cut_distinct l n k j a b ll lk e (inr (inr x)) (inr (inr y)) = tree.distinct l n k j a b ll lk (λ _ _. refl) x.met_old y.met_old e
+  cut_distinct l n k j a b ll lk e (inr (inr x)) (inr (inr y)) = tree.distinct l n k j a b ll lk x.met_old y.met_old e
   cut_distinct l n k j a b ll lk e (inr (inr x)) (inl y) = go (index_of l n (j % 512) a ll (omega arith) (inr (inr x)) (e ∙ y.framed))
     where
       go : ((l ≡ 4) × (n ≡ 512 * slot_of page + j % 512) × (j % 512 < keep)) ⊎ ((l ≡ 3) × (n ≡ slot_of page) × (j % 512 ≡ keep)) → (l ≡ k) × (n ≡ j)
@@ -182,7 +182,7 @@ module _ (old new : List ℕ) (free free' : List Bool) (root page keep table : �
   pub cut_tree : IsTree new root free'
   cut_tree = record {
     rights = λ l n b lt is. rights l n b lt (ways l n b (omega arith) is);
-    distinct = λ l n k j a b ll lk apart x y e. cut_distinct l n k j a b ll lk e (ways l n a ll x) (ways k j b lk y);
+    distinct = λ l n k j a b ll lk x y e. cut_distinct l n k j a b ll lk e (ways l n a ll x) (ways k j b lk y);
     used = λ l n b le is.
         let w = ways l n b le is in
         kept b.frame (λ k lo hi e. past k lo (index_of l n k b le hi w e)) ∙ was_used l n b le w;
@@ -273,7 +273,7 @@ module _ (old new : List ℕ) (free free' : List Bool) (root page keep table : �
       let o = old_of 4 (prefix_of (address / 4096) 4) p.0 refl w in
       same_byte old new root address o.0 p.0 (walk_reach old root (address / 4096) ∙ o.1) p.1 (sym o.2)
       (words o.0.frame (address % 4096 / 8) (omega arith) (λ e. not_table 4 (prefix_of (address / 4096) 4) p.0 refl w (sym o.2 ∙ e))
-      (λ e _. let d = tree.distinct 4 (prefix_of (address / 4096) 4) 2 (above page 2) o.0 (top table) (omega arith) (omega arith) (λ _ _. refl) o.1 met e in
+      (λ e _. let d = tree.distinct 4 (prefix_of (address / 4096) 4) 2 (above page 2) o.0 (top table) (omega arith) (omega arith) o.1 met e in
       absurd (omega (arith, d.0))))
     where
       not_table : (l n : ℕ) (b : Place) → l ≡ 4 → IsKept l n b ⊎ (IsNewTable l n b ⊎ IsOutside l n b) → b.frame ≡ large.frame + keep → ⊥
@@ -344,7 +344,7 @@ module _ (old mid filled new : List ℕ) (free free' : List Bool) (root page kee
       let at : reach old root 4 (512 * slot_of page + keep) ≡ Some (page_in keep large) =
       reach_in old root (512 * slot_of page + keep) large (ap (large_of old root) p ∙ entry.found) ∙ ap (λ j. Some (page_in j large)) q in
       let d = tree.distinct 2 (above page 2) 4 (512 * slot_of page + keep) (top table) (page_in keep large) (omega arith)
-      (omega arith) (λ _ _. refl) met_top at (e ∙ is_made) in
+      (omega arith) met_top at (e ∙ is_made) in
       absurd (omega (arith, d.0))
 
   mid_size : length mid ≡ length old

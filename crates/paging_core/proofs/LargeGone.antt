@@ -20,6 +20,8 @@ use Rattle.paging_core.proofs.Prefixes.{prefix_more, walk_reach}
 use Rattle.paging_core.proofs.Made.{reach_below}
 use Rattle.paging_core.proofs.PageWritten.{same_byte}
 use Rattle.paging_core.proofs.PageChanged.{some_place}
+use Rattle.paging_core.proofs.Areas.{own_met, own_table, beside_table, bytes_kept_of}
+use Rattle.paging_core.specs.Outcomes.{IsBeside, KeepsBytesOf}
 
 -- the slot by its table of the third step and its index there
 pub slot_place : (page : ℕ) → 512 * above page 2 + slot_of page % 512 ≡ slot_of page
@@ -61,7 +63,7 @@ module _ (old new : List ℕ) (root page value : ℕ) (large table : Place)
 
   module _ {area : Area} (free : List Bool) (tree : IsTreeIn area old root free) (no_step : step new 2 table (slot_of page % 512) ≡ None) where
     alone : (l n : ℕ) (b : Place) → l < 4 → reach old root l n ≡ Some b → b.frame ≡ table.frame → (l ≡ 2) × (n ≡ above page 2)
-    alone l n b lt is e = tree.distinct l n 2 (above page 2) b table (omega arith) (omega arith) (λ x y. absurd (omega arith)) is met e
+    alone l n b lt is e = tree.distinct l n 2 (above page 2) b table (own_table area l lt) (own_table area 2 (omega arith)) is met e
 
     same : (l n : ℕ) (b : Place) (j : ℕ) → l < 4 → reach old root l n ≡ Some b → j < 512 → (b.frame ≡ table.frame → j ≡ slot_of page % 512 → ⊥) →
         word_at new b.frame j ≡ word_at old b.frame j
@@ -152,11 +154,11 @@ module _ (old new : List ℕ) (root page value : ℕ) (large table : Place)
       pub entry_tree : IsTreeIn area new root free
       entry_tree = record {
         rights = λ l n b lt is. tree.rights l n b lt (table_before l n b lt is);
-        distinct = λ l n k j a b ll lk apart x y e.
-            let p = met_before l n a ll x in
-            let q = met_before k j b lk y in
-            tree.distinct l n k j p.before q.before ll lk apart p.at q.at (p.framed ∙ (e ∙ sym q.framed));
-        used = λ l n b le is. let m = met_before l n b le is in ap (is_frame_free free) (sym m.framed) ∙ tree.used l n m.before le m.at;
+        distinct = λ l n k j a b ll lk x y e.
+            let p = met_before l n a (own_met area l ll) x in
+            let q = met_before k j b (own_met area k lk) y in
+            tree.distinct l n k j p.before q.before ll lk p.at q.at (p.framed ∙ (e ∙ sym q.framed));
+        used = λ l n b le is. let m = met_before l n b (own_met area l le) is in ap (is_frame_free free) (sym m.framed) ∙ tree.used l n m.before le m.at;
         inside = λ l n b lt is. tree.inside l n b lt (table_before l n b lt is);
         plain = record {
           each = λ l n i b lt li is. plain_of l n i b lt li (table_before l n b lt is)
@@ -171,16 +173,16 @@ module _ (old new : List ℕ) (root page value : ℕ) (large table : Place)
           plain_of l n i b lt li is _ (inr y) = stays_plain l n i b lt li is (λ _ e. y e)
 
       -- no byte of a page that is mapped still is changed
-      pub entry_bytes : (address : ℕ) → IsSome (walk_of new root (address / 4096)) → reached new root address ≡ reached old root address
-      entry_bytes address is =
+      pub entry_bytes : (address : ℕ) → IsSome (walk_of new root (address / 4096)) → IsBeside area old root (address / 4096) →
+          reached new root address ≡ reached old root address
+      entry_bytes address is beside =
           let p = some_place (walk_of new root (address / 4096)) is in
           let now : reach new root 4 (prefix_of (address / 4096) 4) ≡ Some p.0 = sym (walk_reach new root (address / 4096)) ∙ p.1 in
           let m = met_before 4 (prefix_of (address / 4096) 4) p.0 (omega arith) now in
-          same_byte old new root address m.before p.0 (walk_reach old root (address / 4096) ∙ m.at) p.1 (sym m.framed)
+          let was : walk_of old root (address / 4096) ≡ Some m.before = walk_reach old root (address / 4096) ∙ m.at in
+          same_byte old new root address m.before p.0 was p.1 (sym m.framed)
           (word_stays m.before.frame (address % 4096 / 8) (omega arith)
-          (λ e _. let d = tree.distinct 4 (prefix_of (address / 4096) 4) 2 (above page 2) m.before table (omega arith)
-          (omega arith) (λ x y. absurd (omega arith)) m.at met e in
-          absurd (omega (arith, d.0))))
+          (λ e _. beside_table area old root free (address / 4096) m.before tree was beside 2 (above page 2) table (omega arith) met e))
 
 -- ---- the entry is 0 now
 
@@ -214,9 +216,9 @@ module _ (old new : List ℕ) (root page : ℕ)
       larges = entry_larges old new root page 0 one.large one.table root_in one.was one.met one.words free tree leads_nowhere;
     }
 
-    pub gone_bytes : (address : ℕ) → IsSome (walk_of new root (address / 4096)) → reached new root address ≡ reached old root address
-    gone_bytes = entry_bytes old new root page 0 one.large one.table root_in one.was one.met one.words free tree leads_nowhere
-        (λ now is. let z = maps_none in absurd (cc)) (plain_zero new 2 0 refl)
+    pub gone_bytes : KeepsBytesOf area (λ at. IsSome (walk_of new root at)) old new root
+    gone_bytes = bytes_kept_of area (λ at. IsSome (walk_of new root at)) old new root (entry_bytes old new root page 0 one.large one.table root_in one.was one.met one.words free tree leads_nowhere
+        (λ now is. let z = maps_none in absurd (cc)) (plain_zero new 2 0 refl))
 
     pub gone_elsewhere : (other : ℕ) → (other / 512 % 2 ^ 27 ≡ slot_of page → ⊥) → walk_of new root other ≡ walk_of old root other
     gone_elsewhere = entry_elsewhere old new root page 0 one.large one.table root_in one.was one.met one.words free tree leads_nowhere

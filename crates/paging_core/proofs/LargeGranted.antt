@@ -9,7 +9,7 @@ use Rattle.paging_core.specs.Walk.{Place, step, large_step, reach, walk_of, reac
 use Rattle.paging_core.specs.Tree.{IsTreeIn}
 use Rattle.paging_core.specs.Large.{slot_of, above, IsLargeEntry}
 use Rattle.paging_core.specs.LargeChanges.{IsLargeRegranted, AreLargeGranted}
-use Rattle.paging_core.specs.declared.page_table.Rights.{Rights}
+use Rattle.paging_core.specs.declared.page_table.PageBits.{PageBits}
 use Rattle.paging_core.proofs.Plain.{plain_large}
 use Rattle.paging_core.proofs.Reach.{large_no_table}
 use Rattle.paging_core.proofs.Prefixes.{walk_reach}
@@ -17,8 +17,10 @@ use Rattle.paging_core.proofs.Made.{large_below, large_small}
 use Rattle.paging_core.proofs.LastEntry.{some_or_none}
 use Rattle.paging_core.proofs.LargeAdded.{step_large}
 use Rattle.paging_core.proofs.LargeGone.{entry_size, entry_word, entry_large, entry_larges, entry_others, entry_pages, entry_elsewhere, entry_tree, entry_bytes, entry_set}
+use Rattle.paging_core.proofs.Areas.{bytes_kept}
+use Rattle.paging_core.specs.Outcomes.{IsBeside, KeepsBytes}
 
-module _ (old new : List ℕ) (root page : ℕ) (rights : Rights)
+module _ (old new : List ℕ) (root page : ℕ) (rights : PageBits)
     (root_in : root < frame_count old)
     (one : IsLargeRegranted old new root page rights) where
   value : ℕ
@@ -80,30 +82,31 @@ module _ (old new : List ℕ) (root page : ℕ) (rights : Rights)
         entry_elsewhere old new root page (large_entry one.large.frame rights) one.large one.table root_in one.was one.met one.words free tree no_step
 
     -- no byte of any page is changed
-    pub granted_bytes : (address : ℕ) → reached new root address ≡ reached old root address
-    granted_bytes address = go (some_or_none (walk_of new root (address / 4096)))
+    pub granted_bytes : KeepsBytes area old new root
+    granted_bytes = bytes_kept area old new root (λ address beside. byte address beside (some_or_none (walk_of new root (address / 4096))))
       where
-        gone : reach new root 4 (prefix_of (address / 4096) 4) ≡ None →
+        gone : (address : ℕ) → reach new root 4 (prefix_of (address / 4096) 4) ≡ None →
             (prefix_of (address / 4096) 4 / 512 ≡ slot_of page) ⊎ (prefix_of (address / 4096) 4 / 512 ≡ slot_of page → ⊥) →
             reach old root 4 (prefix_of (address / 4096) 4) ≡ None
-        gone none (inl x) = let h = in_slot (prefix_of (address / 4096) 4) x in absurd (cc)
-        gone none (inr x) =
+        gone address none (inl x) = let h = in_slot (prefix_of (address / 4096) 4) x in absurd (cc)
+        gone address none (inr x) =
             sym (entry_others old new root page (large_entry one.large.frame rights) one.large one.table root_in one.was one.met one.words free tree no_step
             4 (prefix_of (address / 4096) 4) (omega arith) (λ _ e. x e)) ∙ none
 
-        go : ((now : Place) × (walk_of new root (address / 4096) ≡ Some now)) ⊎ (walk_of new root (address / 4096) ≡ None) →
+        byte : (address : ℕ) → IsBeside area old root (address / 4096) →
+            ((now : Place) × (walk_of new root (address / 4096) ≡ Some now)) ⊎ (walk_of new root (address / 4096) ≡ None) →
             reached new root address ≡ reached old root address
-        go (inl p) =
+        byte address beside (inl p) =
             entry_bytes old new root page (large_entry one.large.frame rights) one.large one.table root_in one.was one.met one.words free tree no_step keeps
-            (λ _. plain_large new one.large.frame rights small frames.0 frames.1) address (rw p.1 refl)
-        go (inr none) =
+            (λ _. plain_large new one.large.frame rights small frames.0 frames.1) address (rw p.1 refl) beside
+        byte address beside (inr none) =
             let e : walk_of old root (address / 4096) ≡ None =
             walk_reach old root (address / 4096)
-            ∙ gone (sym (walk_reach new root (address / 4096)) ∙ none) (cases_eq (prefix_of (address / 4096) 4 / 512) (slot_of page)) in
+            ∙ gone address (sym (walk_reach new root (address / 4096)) ∙ none) (cases_eq (prefix_of (address / 4096) 4 / 512) (slot_of page)) in
             rw (none, e) refl
 
 -- the entry of the slot gets the rights
-pub large_regranted : (old new : List ℕ) (root page table index : ℕ) (rights : Rights) (large : Place) (entry : IsLargeEntry old root page table index large) →
+pub large_regranted : (old new : List ℕ) (root page table index : ℕ) (rights : PageBits) (large : Place) (entry : IsLargeEntry old root page table index large) →
     new ≡ set old (512 * table + index) (large_entry large.frame rights) → IsLargeRegranted old new root page rights
 large_regranted old new root page table index rights large entry written = record {
   large = large;

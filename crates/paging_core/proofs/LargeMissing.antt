@@ -8,7 +8,7 @@ use Rattle.paging_core.specs.Walk.{Place, reach, top}
 use Rattle.paging_core.specs.Missing.{missing_of}
 use Rattle.paging_core.specs.Tables.{missing_at}
 use Rattle.paging_core.specs.Large.{above, missing_above, IsLargeAdded}
-use Rattle.paging_core.specs.declared.page_table.Rights.{Rights}
+use Rattle.paging_core.specs.declared.page_table.PageBits.{PageBits}
 use Rattle.paging_core.proofs.Counts.{absent, absent_none, absent_suc, absent_for, missing_by_level}
 use Rattle.paging_core.proofs.Ranges.{absent_same, prefix_le, page_in}
 use Rattle.paging_core.proofs.LastEntry.{some_or_none}
@@ -48,7 +48,7 @@ absent_at old new root level p m others there (suc count) from lo hi =
         ap (λ o. cond (is_none o) 1 0) (others from ne) in
         omega arith
 
-module _ (old new : List ℕ) (free free' : List Bool) (root page frame : ℕ) (rights : Rights)
+module _ (old new : List ℕ) (free free' : List Bool) (root page frame : ℕ) (rights : PageBits)
     (added : IsLargeAdded old new free free' root page frame rights) where
   there : (l : ℕ) → l < 3 → (m : Place) × (reach new root l (above page l) ≡ Some m)
   there l lt = go (some_or_none (reach old root l (above page l)))

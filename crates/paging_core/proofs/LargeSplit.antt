@@ -1,17 +1,17 @@
 -- A large page is split: a table of 512 single entries, in a frame that was free, takes the place of its entry.
 use Rattle.std.proofs.Common.{◌≡◌, ℕ, ◌^◌, ◌+◌, ◌*◌, ◌/◌, ◌%◌, ◌<◌, ◌≤◌, Bool, true, false, List, length, set, Some, None, refl, sym, ap, ◌∙◌, ◌⊎◌, inl, inr, arith, length-set}
 use Rattle.std.proofs.lemmas.Bool.{cases_eq}
-use Rattle.paging_core.specs.Area.{Area, in_area, Whole}
+use Rattle.paging_core.specs.Area.{Area, in_area}
 use Rattle.paging_core.specs.Entry.{has_bit, table_entry, page_entry}
 use Rattle.paging_core.specs.Plain.{IsPlain}
 use Rattle.paging_core.specs.Memory.{word_at, frame_count}
 use Rattle.paging_core.specs.Prefix.{prefix_of}
 use Rattle.paging_core.specs.Walk.{Place, reach, walk_of, reached, top, page_in}
 use Rattle.paging_core.specs.Pool.{is_frame_free, free_count, FreeIn}
-use Rattle.paging_core.specs.Tree.{IsTreeIn}
+use Rattle.paging_core.specs.Tree.{IsTreeIn, last_own}
 use Rattle.paging_core.specs.Large.{slot_of, above, IsLargeEntry}
 use Rattle.paging_core.specs.LargeChanges.{IsLargeSplit}
-use Rattle.paging_core.proofs.Areas.{free_below, free_inside, free_stays}
+use Rattle.paging_core.proofs.Areas.{free_below, free_inside, free_stays, own_met, own_table, beside_table, beside_free, bytes_kept}
 use Rattle.paging_core.proofs.Plain.{plain_kept, plain_table}
 use Rattle.paging_core.proofs.Prefixes.{walk_reach}
 use Rattle.paging_core.proofs.Made.{taken_flag, fewer_flags, taken_count}
@@ -19,6 +19,7 @@ use Rattle.paging_core.proofs.LastEntry.{some_or_none}
 use Rattle.paging_core.proofs.PageWritten.{same_byte}
 use Rattle.paging_core.proofs.SlotTable.{rights_of, at_page, slot_table, slot_no_large, slot_outside, slot_still, slot_kept, slot_plain}
 use Rattle.paging_core.proofs.Words.{word_at_set_same, word_at_set_other}
+use Rattle.paging_core.specs.Outcomes.{IsBeside, KeepsBytes}
 
 -- the steps of the split: the frame that was taken is filled with the entries of all pages, and then named as a table
 module _ (area : Area) (old filled new : List ℕ) (free free' : List Bool) (root page table index made : ℕ) (large : Place)
@@ -47,11 +48,11 @@ module _ (area : Area) (old filled new : List ℕ) (free free' : List Bool) (roo
       entry.reached ∙ (ap Some r ∙ ap (λ f. Some (top f)) entry.in_table)
 
   -- the frame is met by no walk: it was free
-  unmet : (l n : ℕ) (b : Place) → l ≤ 4 → reach old root l n ≡ Some b → b.frame ≡ made → ⊥
+  unmet : (l n : ℕ) (b : Place) → l ≤ last_own area → reach old root l n ≡ Some b → b.frame ≡ made → ⊥
   unmet l n b le is e = let u : is_frame_free free b.frame ≡ false = tree.used l n b le is in let w = was_free in let x = ap (λ f. is_frame_free free f) e in cc
 
   apart : table ≡ made → ⊥
-  apart e = unmet 2 (above page 2) (top table) (omega arith) met_top e
+  apart e = unmet 2 (above page 2) (top table) (own_table area 2 (omega arith)) met_top e
 
   size : length new ≡ length old
   size = ap length written ∙ (length-set filled (512 * table + index) (table_entry made) ∙ fill_size)
@@ -73,11 +74,11 @@ module _ (area : Area) (old filled new : List ℕ) (free free' : List Bool) (roo
       ∙ (word_at_set_other filled table index (table_entry made) f i index_in li (λ e x. ne e (x ∙ entry.at_index)) ∙ fill_others f i li (λ e _. nf e))
 
   alone : (l n : ℕ) (b : Place) → l < 4 → reach old root l n ≡ Some b → b.frame ≡ table → (l ≡ 2) × (n ≡ above page 2)
-  alone l n b lt is e = tree.distinct l n 2 (above page 2) b (top table) (omega arith) (omega arith) (λ x y. absurd (omega arith)) is met_top e
+  alone l n b lt is e = tree.distinct l n 2 (above page 2) b (top table) (own_table area l lt) (own_table area 2 (omega arith)) is met_top e
 
   same : (l n : ℕ) (b : Place) (j : ℕ) → l < 4 → reach old root l n ≡ Some b → j < 512 → (b.frame ≡ table → j ≡ slot_of page % 512 → ⊥) →
       word_at new b.frame j ≡ word_at old b.frame j
-  same l n b j lt is lj ne = words b.frame j lj (unmet l n b (omega arith) is) ne
+  same l n b j lt is lj ne = words b.frame j lj (unmet l n b (own_table area l lt) is) ne
 
   table_now : reach new root 3 (slot_of page) ≡ Some (top made)
   table_now = slot_table old new root page 512 table made large (omega arith) (omega arith) small made_in entry.found
@@ -123,18 +124,18 @@ module _ (area : Area) (old filled new : List ℕ) (free free' : List Bool) (roo
       go (inr x) _ = inr (sym (others l n le (λ e _. x e)) ∙ now)
       go _ (inr y) = inr (sym (others l n le (λ _ e. y e)) ∙ now)
 
-  split_distinct : (l n k j : ℕ) (a b : Place) → l ≤ 4 → k ≤ 4 → (l ≡ 4 → k ≡ 4 → area ≡ Whole) → a.frame ≡ b.frame →
+  split_distinct : (l n k j : ℕ) (a b : Place) → l ≤ last_own area → k ≤ last_own area → a.frame ≡ b.frame →
       IsNewTable l n a ⊎ (reach old root l n ≡ Some a) → IsNewTable k j b ⊎ (reach old root k j ≡ Some b) → (l ≡ k) × (n ≡ j)
-  split_distinct l n k j a b ll lk two e (inl x) (inl y) = (x.at_three ∙ sym y.at_three, x.here ∙ sym y.here)
-  split_distinct l n k j a b ll lk two e (inl x) (inr y) = absurd (unmet k j b lk y (sym e ∙ ap (λ p. p.frame) x.is))
-  split_distinct l n k j a b ll lk two e (inr x) (inl y) = absurd (unmet l n a ll x (e ∙ ap (λ p. p.frame) y.is))
-  split_distinct l n k j a b ll lk two e (inr x) (inr y) = tree.distinct l n k j a b ll lk two x y e
+  split_distinct l n k j a b ll lk e (inl x) (inl y) = (x.at_three ∙ sym y.at_three, x.here ∙ sym y.here)
+  split_distinct l n k j a b ll lk e (inl x) (inr y) = absurd (unmet k j b lk y (sym e ∙ ap (λ p. p.frame) x.is))
+  split_distinct l n k j a b ll lk e (inr x) (inl y) = absurd (unmet l n a ll x (e ∙ ap (λ p. p.frame) y.is))
+  split_distinct l n k j a b ll lk e (inr x) (inr y) = tree.distinct l n k j a b ll lk x y e
 
   pub split_tree : IsTreeIn area new root free'
   split_tree = record {
     rights = λ l n b lt is. rights l n b lt (way l n b (omega arith) is);
-    distinct = λ l n k j a b ll lk two x y e. split_distinct l n k j a b ll lk two e (way l n a ll x) (way k j b lk y);
-    used = λ l n b le is. used l n b le (way l n b le is);
+    distinct = λ l n k j a b ll lk x y e. split_distinct l n k j a b ll lk e (way l n a (own_met area l ll) x) (way k j b (own_met area k lk) y);
+    used = λ l n b le is. used l n b le (way l n b (own_met area l le) is);
     inside = λ l n b lt is. within l n b lt (way l n b (omega arith) is);
     plain = record { each = λ l n i b lt li is. plain_of l n i b lt li (way l n b (omega arith) is) };
   }
@@ -143,7 +144,7 @@ module _ (area : Area) (old filled new : List ℕ) (free free' : List Bool) (roo
       rights l n b lt (inl x) = rw x.is refl
       rights l n b lt (inr x) = tree.rights l n b lt x
 
-      used : (l n : ℕ) (b : Place) → l ≤ 4 → IsNewTable l n b ⊎ (reach old root l n ≡ Some b) → is_frame_free free' b.frame ≡ false
+      used : (l n : ℕ) (b : Place) → l ≤ last_own area → IsNewTable l n b ⊎ (reach old root l n ≡ Some b) → is_frame_free free' b.frame ≡ false
       used l n b le (inl x) = ap (λ p. is_frame_free free' p.frame) x.is ∙ (ap (λ q. is_frame_free q made) taken ∙ taken_flag free made was_free)
       used l n b le (inr x) = ap (λ q. is_frame_free q b.frame) taken ∙ fewer_flags free made b.frame (tree.used l n b le x)
 
@@ -154,7 +155,7 @@ module _ (area : Area) (old filled new : List ℕ) (free free' : List Bool) (roo
       stays_plain : (l n i : ℕ) (b : Place) → l < 4 → i < 512 → reach old root l n ≡ Some b → (b.frame ≡ table → i ≡ slot_of page % 512 → ⊥) →
           has_bit (word_at new b.frame i) 0 ≡ true → IsPlain new l (word_at new b.frame i)
       stays_plain l n i b lt li at ne =
-          plain_kept old new l (word_at old b.frame i) (word_at new b.frame i) size (words b.frame i li (unmet l n b (omega arith) at) ne)
+          plain_kept old new l (word_at old b.frame i) (word_at new b.frame i) size (words b.frame i li (unmet l n b (own_table area l lt) at) ne)
           (tree.plain.each l n i b lt li at)
 
       was_there : (l n i : ℕ) (b : Place) → l < 4 → i < 512 → reach old root l n ≡ Some b → (b.frame ≡ table) ⊎ (b.frame ≡ table → ⊥) →
@@ -218,19 +219,18 @@ module _ (area : Area) (old filled new : List ℕ) (free free' : List Bool) (roo
       walk_reach new root other ∙ (others 4 (prefix_of other 4) (omega arith) (λ e _. absurd (omega arith)) ∙ sym (walk_reach old root other))
 
   -- and no byte of any page is changed
-  pub split_bytes : (address : ℕ) → reached new root address ≡ reached old root address
-  split_bytes address = go (some_or_none (walk_of old root (address / 4096)))
+  pub split_bytes : KeepsBytes area old new root
+  split_bytes = bytes_kept area old new root (λ address beside. byte address beside (some_or_none (walk_of old root (address / 4096))))
     where
-      go : ((was : Place) × (walk_of old root (address / 4096) ≡ Some was)) ⊎ (walk_of old root (address / 4096) ≡ None) →
+      byte : (address : ℕ) → IsBeside area old root (address / 4096) →
+          ((was : Place) × (walk_of old root (address / 4096) ≡ Some was)) ⊎ (walk_of old root (address / 4096) ≡ None) →
           reached new root address ≡ reached old root address
-      go (inl p) =
-          let at : reach old root 4 (prefix_of (address / 4096) 4) ≡ Some p.0 = sym (walk_reach old root (address / 4096)) ∙ p.1 in
+      byte address beside (inl p) =
           same_byte old new root address p.0 p.0 p.1 (split_walk (address / 4096) ∙ p.1) refl
-          (words p.0.frame (address % 4096 / 8) (omega arith) (unmet 4 (prefix_of (address / 4096) 4) p.0 (omega arith) at)
-          (λ e _. let d = tree.distinct 4 (prefix_of (address / 4096) 4) 2 (above page 2) p.0 (top table) (omega arith)
-          (omega arith) (λ x y. absurd (omega arith)) at met_top e in
-          absurd (omega (arith, d.0))))
-      go (inr none) = let e : walk_of new root (address / 4096) ≡ None = split_walk (address / 4096) ∙ none in rw (none, e) refl
+          (words p.0.frame (address % 4096 / 8) (omega arith)
+          (beside_free area old root free (address / 4096) p.0 (frame_count old) made tree known p.1 beside was_free)
+          (λ e _. beside_table area old root free (address / 4096) p.0 tree p.1 beside 2 (above page 2) (top table) (omega arith) met_top e))
+      byte address beside (inr none) = let e : walk_of new root (address / 4096) ≡ None = split_walk (address / 4096) ∙ none in rw (none, e) refl
 
   pub split_known : FreeIn area free' (frame_count new)
   split_known =

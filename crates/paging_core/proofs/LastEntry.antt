@@ -1,8 +1,7 @@
 -- The last entry of a page is written.
 use Rattle.std.proofs.Common.{◌≡◌, ℕ, ◌^◌, ◌+◌, ◌-◌, ◌*◌, ◌%◌, ◌<◌, ◌≤◌, Bool, true, false, not, ltb, List, length, set, Option, Some, None, refl, sym, ap, ◌∙◌, ◌⊎◌, inl, inr, arith, length-set}
 use Rattle.std.proofs.lemmas.Bool.{cases_eq, cases_lt, lt-ltb}
-use Rattle.std.proofs.lemmas.Bool.Decides.{nat_tests}
-use Rattle.paging_core.specs.Entry.{has_bit, frame_of, table_entry, page_entry}
+use Rattle.paging_core.specs.Entry.{table_entry, page_entry}
 use Rattle.paging_core.specs.Area.{Area, Whole}
 use Rattle.paging_core.specs.Memory.{word_at, frame_count}
 use Rattle.paging_core.specs.Prefix.{prefix_of}
@@ -11,121 +10,45 @@ use Rattle.paging_core.specs.Pool.{is_frame_free}
 use Rattle.paging_core.specs.Tree.{IsTreeIn}
 use Rattle.paging_core.specs.Tables.{IsPrepared}
 use Rattle.paging_core.specs.Mapping.{HasExactEntries, IsPageAdded}
-use Rattle.paging_core.specs.declared.page_table.Rights.{Rights}
+use Rattle.paging_core.specs.declared.page_table.PageBits.{PageBits}
 use Rattle.paging_core.proofs.Words.{word_at_set_same, word_at_set_other}
 use Rattle.paging_core.proofs.Prefixes.{reach_page, prefix_more, prefix_split, walk_reach, none_below}
+use Rattle.paging_core.proofs.PageWords.{page_bits}
 use Rattle.paging_core.proofs.Plain.{plain_page}
 use Rattle.paging_core.proofs.Link.{IsLink, link_there, link_others, link_larges, tree_link}
 use Rattle.paging_core.proofs.Made.{reach_below}
 use Rattle.paging_core.proofs.Counts.{missing_one}
+use Rattle.paging_core.proofs.Areas.{own_met, own_table, own_whole}
 
 pub not_not : (b : Bool) → not (not b) ≡ b
 not_not true = refl
 not_not false = refl
 
--- what the walk reads of an entry that maps a page
-record IsPageWord (word frame : ℕ) (rights : Rights) : Type 0 where
-  names : frame_of word ≡ frame
-  present : has_bit word 0 ≡ true
-  writable : has_bit word 1 ≡ rights.write
-  usable : has_bit word 2 ≡ rights.user
-  executable : has_bit word 63 ≡ not rights.fetch
-
-page_bits : (n : ℕ) → n < 2 ^ 40 → (rights : Rights) → IsPageWord (page_entry n rights) n rights
-page_bits n lt rights = go rights.write rights.user rights.fetch
-  where
-    go : (write user fetch : Bool) →
-        IsPageWord (page_entry n (record { write = write; user = user; fetch = fetch })) n (record { write = write; user = user; fetch = fetch })
-    go true true true = record {
-      names = omega arith;
-      present = grind (arith, nat_tests);
-      writable =
-          grind (arith, nat_tests);
-      usable = grind (arith, nat_tests);
-      executable = grind (arith, nat_tests);
-    }
-    go true true false = record {
-      names = omega arith;
-      present = grind (arith, nat_tests);
-      writable =
-          grind (arith, nat_tests);
-      usable = grind (arith, nat_tests);
-      executable = grind (arith, nat_tests);
-    }
-    go true false true = record {
-      names = omega arith;
-      present = grind (arith, nat_tests);
-      writable =
-          grind (arith, nat_tests);
-      usable = grind (arith, nat_tests);
-      executable = grind (arith, nat_tests);
-    }
-    go true false false = record {
-      names = omega arith;
-      present = grind (arith, nat_tests);
-      writable =
-          grind (arith, nat_tests);
-      usable = grind (arith, nat_tests);
-      executable = grind (arith, nat_tests);
-    }
-    go false true true = record {
-      names = omega arith;
-      present = grind (arith, nat_tests);
-      writable =
-          grind (arith, nat_tests);
-      usable = grind (arith, nat_tests);
-      executable = grind (arith, nat_tests);
-    }
-    go false true false = record {
-      names = omega arith;
-      present = grind (arith, nat_tests);
-      writable =
-          grind (arith, nat_tests);
-      usable = grind (arith, nat_tests);
-      executable = grind (arith, nat_tests);
-    }
-    go false false true = record {
-      names = omega arith;
-      present = grind (arith, nat_tests);
-      writable =
-          grind (arith, nat_tests);
-      usable = grind (arith, nat_tests);
-      executable = grind (arith, nat_tests);
-    }
-    go false false false = record {
-      names = omega arith;
-      present = grind (arith, nat_tests);
-      writable =
-          grind (arith, nat_tests);
-      usable = grind (arith, nat_tests);
-      executable = grind (arith, nat_tests);
-    }
-
-pub step_page : (words : List ℕ) (t j frame : ℕ) (rights : Rights) → frame < 2 ^ 40 → frame < frame_count words →
+pub step_page : (words : List ℕ) (t j frame : ℕ) (rights : PageBits) → frame < 2 ^ 40 → frame < frame_count words →
     word_at words t j ≡ page_entry frame rights → step words 3 (top t) j ≡ Some (place_with frame rights)
 unfolding step
 step_page words t j frame rights small within e =
     let p : ltb frame (frame_count words) ≡ true = lt-ltb frame (frame_count words) within in
     let is = page_bits frame small rights in
-    rw (e, is.names, is.present, is.writable, is.usable, is.executable, p, not_not) refl
+    rw (e, is.names, is.present, is.writable, is.usable, is.executable, is.through, is.uncached, is.global, p, not_not) refl
 
 pub some_or_none : {A : Type 0} (o : Option A) → ((x : A) × (o ≡ Some x)) ⊎ (o ≡ None)
 some_or_none None = inr refl
 some_or_none (Some x) = inl (x, refl)
 
 -- a frame that is met nowhere is not met once the missing tables are made
-pub kept_unmet : (area : Area) (old mid : List ℕ) (free free' : List Bool) (root page frame : ℕ) → is_frame_free free frame ≡ false →
+pub kept_unmet : (old mid : List ℕ) (free free' : List Bool) (root page frame : ℕ) → is_frame_free free frame ≡ false →
     IsPrepared old mid free free' root page 3 →
-    ((l n : ℕ) (b : Place) → l ≤ 4 → (l ≡ 4 → area ≡ Whole) → reach old root l n ≡ Some b → b.frame ≡ frame → ⊥) →
-    (l n : ℕ) (b : Place) → l ≤ 4 → (l ≡ 4 → area ≡ Whole) → reach mid root l n ≡ Some b → b.frame ≡ frame → ⊥
-kept_unmet area old mid free free' root page frame used prepared unmet l n b le whole now e = go (cases_eq n (prefix_of page l)) (cases_lt 3 l)
+    ((l n : ℕ) (b : Place) → l ≤ 4 → reach old root l n ≡ Some b → b.frame ≡ frame → ⊥) →
+    (l n : ℕ) (b : Place) → l ≤ 4 → reach mid root l n ≡ Some b → b.frame ≡ frame → ⊥
+kept_unmet old mid free free' root page frame used prepared unmet l n b le now e = go (cases_eq n (prefix_of page l)) (cases_lt 3 l)
   where
     here_of : (n ≡ prefix_of page l) → l ≤ 3 → ((x : Place) × (reach old root l (prefix_of page l) ≡ Some x)) ⊎ (reach old root l (prefix_of page l) ≡ None) → ⊥
     here_of x lo (inl p) =
         let s = prepared.stayed l p.0 le p.1 in
         let w : reach mid root l (prefix_of page l) ≡ Some b = rw (← x) now in
         let q : p.0 ≡ b = cc in
-        unmet l (prefix_of page l) b le whole (p.1 ∙ ap Some q) e
+        unmet l (prefix_of page l) b le (p.1 ∙ ap Some q) e
     here_of x lo (inr p) =
         let w : reach mid root l (prefix_of page l) ≡ Some b = rw (← x) now in
         let f : is_frame_free free b.frame ≡ true = prepared.made l b lo p w in
@@ -133,16 +56,16 @@ kept_unmet area old mid free free' root page frame used prepared unmet l n b le 
 
     go : (n ≡ prefix_of page l) ⊎ (n ≡ prefix_of page l → ⊥) → (3 < l) ⊎ (l ≤ 3) → ⊥
     go (inl x) (inr lo) = here_of x lo (some_or_none (reach old root l (prefix_of page l)))
-    go (inr x) _ = unmet l n b le whole (sym (prepared.others l n le (λ _ y. x y)) ∙ now) e
-    go _ (inl hi) = unmet l n b le whole (sym (prepared.others l n le (λ lo _. absurd (omega arith))) ∙ now) e
+    go (inr x) _ = unmet l n b le (sym (prepared.others l n le (λ _ y. x y)) ∙ now) e
+    go _ (inl hi) = unmet l n b le (sym (prepared.others l n le (λ lo _. absurd (omega arith))) ∙ now) e
 
-module _ {area : Area} (old mid new : List ℕ) (free free' : List Bool) (root page table index frame : ℕ) (rights : Rights)
+module _ {area : Area} (old mid new : List ℕ) (free free' : List Bool) (root page table index frame : ℕ) (rights : PageBits)
     (root_in : root < frame_count old)
     (unmapped : walk_of old root page ≡ None)
     (small : frame < 2 ^ 40)
     (frame_in : frame < frame_count old)
-    (used : is_frame_free free frame ≡ false)
-    (unmet : (l n : ℕ) (b : Place) → l ≤ 4 → (l ≡ 4 → area ≡ Whole) → reach old root l n ≡ Some b → b.frame ≡ frame → ⊥)
+    (used : area ≡ Whole → is_frame_free free frame ≡ false)
+    (unmet : area ≡ Whole → (l n : ℕ) (b : Place) → l ≤ 4 → reach old root l n ≡ Some b → b.frame ≡ frame → ⊥)
     (ix : index ≡ prefix_of page 4 % 512)
     (tree : IsTreeIn area mid root free')
     (met : reach mid root 3 (prefix_of page 3) ≡ Some (top table))
@@ -198,8 +121,9 @@ module _ {area : Area} (old mid new : List ℕ) (free free' : List Bool) (root p
   pub mapped_tree : IsTreeIn area new root free'
   mapped_tree = tree_link mid new root 3 (prefix_of page 3) index (top table) (place_with frame rights) free' link tree
       free'
-      (λ l n b le whole. kept_unmet area old mid free free' root page frame used prepared unmet l n b le (whole refl))
-      (λ lt. absurd (omega arith)) (λ lt. absurd (omega arith)) (prepared.fewer frame used) (λ f e. e)
+      (λ l n b own four. kept_unmet old mid free free' root page frame (used (own_whole area four)) prepared (unmet (own_whole area four)) l n b
+      (own_met area l own))
+      (λ lt. absurd (omega arith)) (λ lt. absurd (omega arith)) (λ four. prepared.fewer frame (used (own_whole area four))) (λ f e. e)
 
   low : (l : ℕ) (n : ℕ) → l < 4 → reach new root l n ≡ reach mid root l n
   low l n lt = same l n (omega arith) (λ x _. absurd (omega arith))
@@ -219,8 +143,8 @@ module _ {area : Area} (old mid new : List ℕ) (free free' : List Bool) (root p
 
   -- the last table is met at its own prefix alone
   here_only : (l f : ℕ) → l < 4 → reach mid root l (prefix_of page l) ≡ Some (top f) → f ≡ table → l ≡ 3
-  here_only l f lt now e = (tree.distinct l (prefix_of page l) 3 (prefix_of page 3) (top f) (top table) (omega arith)
-      (omega arith) (λ x y. absurd (omega arith)) now met e).0
+  here_only l f lt now e = (tree.distinct l (prefix_of page l) 3 (prefix_of page 3) (top f) (top table) (own_table area l lt)
+      (own_table area 3 (omega arith)) now met e).0
 
   was_low : (l n : ℕ) (m : Place) → l < 4 → reach new root l n ≡ Some m → reach mid root l n ≡ Some m
   was_low l n m lt now = sym (low l n lt) ∙ now
@@ -319,8 +243,8 @@ module _ {area : Area} (old mid new : List ℕ) (free free' : List Bool) (root p
       go (inr ne) _ =
           mapped_page_words f i li
           (λ k lk now. let p : (l ≡ k) × (n ≡ prefix_of page k) =
-          mapped_tree.distinct l n k (prefix_of page k) (top f) (top f) (omega arith) (omega arith)
-          (λ x y. absurd (omega arith)) (stayed l n (top f) lt was) now refl in
+          mapped_tree.distinct l n k (prefix_of page k) (top f) (top f) (own_table area l lt) (own_table area k lk)
+          (stayed l n (top f) lt was) now refl in
           ne (p.1 ∙ ap (prefix_of page) (sym p.0)))
 
   -- what was not met and is met now is met on the way to the page

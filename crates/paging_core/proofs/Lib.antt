@@ -5,6 +5,7 @@ pub mod Areas
 pub mod Padded
 pub mod Prefixes
 pub mod EntryBits
+pub mod PageWords
 pub mod Addresses
 pub mod Alignment
 pub mod FieldBits

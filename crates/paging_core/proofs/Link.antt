@@ -3,14 +3,15 @@ use Rattle.std.proofs.Common.{◌≡◌, ℕ, suc, ◌+◌, ◌*◌, ◌<◌, �
 use Rattle.std.proofs.lemmas.Bool.{cases_eq}
 use Rattle.paging_core.specs.Walk.{Place}
 use Rattle.paging_core.specs.Walk.{step, large_step, large_of, large_from, reach, next_from, top}
-use Rattle.paging_core.specs.Area.{Area, Whole, in_area}
+use Rattle.paging_core.specs.Area.{Area, in_area}
 use Rattle.paging_core.specs.Memory.{word_at}
 use Rattle.paging_core.specs.Pool.{is_frame_free}
-use Rattle.paging_core.specs.Tree.{IsTreeIn}
+use Rattle.paging_core.specs.Tree.{IsTreeIn, last_own}
 use Rattle.paging_core.specs.Entry.{has_bit}
 use Rattle.paging_core.specs.Plain.{IsPlain}
 use Rattle.paging_core.proofs.Plain.{plain_kept, plain_zero}
 use Rattle.paging_core.proofs.Reach.{reach_there, reach_others, larges_others, step_zero, large_zero}
+use Rattle.paging_core.proofs.Areas.{own_met, own_table}
 
 -- the entry `index` of the table at `at`, absent in `old`, leads to `to` in `new`, and no other step is changed
 pub record IsLink (old new : List ℕ) (root level prefix index : ℕ) (at to : Place) : Type 0 where
@@ -31,7 +32,7 @@ module _ {area : Area} (old new : List ℕ) (root level prefix index : ℕ) (at 
     (link : IsLink old new root level prefix index at to)
     (tree : IsTreeIn area old root free) where
   alone : (l n : ℕ) (b : Place) → l < 4 → reach old root l n ≡ Some b → b.frame ≡ at.frame → (l ≡ level) × (n ≡ prefix)
-  alone l n b lt is e = tree.distinct l n level prefix b at (omega arith) (omega (arith, link.level_bound)) (λ x y. absurd (omega arith)) is link.here e
+  alone l n b lt is e = tree.distinct l n level prefix b at (own_table area l lt) (own_table area level (omega (arith, link.level_bound))) is link.here e
 
   below : level < 3 → (j : ℕ) → j < 512 → next_from new (suc level) (step new level at index) j ≡ next_from old (suc level) (step old level at index) j
   below lt j lj = rw (link.is, link.was) (step_zero new (suc level) to j (link.bare lt j lj))
@@ -67,16 +68,16 @@ module _ {area : Area} (old new : List ℕ) (root level prefix index : ℕ) (at 
       go (inr x) _ = inr (sym (link_others l n le (λ z _. x z)) ∙ is)
 
   module _ (free' : List Bool)
-      (fresh : (l n : ℕ) (b : Place) → l ≤ 4 → (suc level ≡ 4 → l ≡ 4 → area ≡ Whole) → reach old root l n ≡ Some b → b.frame ≡ to.frame → ⊥)
+      (fresh : (l n : ℕ) (b : Place) → l ≤ last_own area → suc level ≤ last_own area → reach old root l n ≡ Some b → b.frame ≡ to.frame → ⊥)
       (rights : level < 3 → to ≡ top to.frame)
       (within : level < 3 → in_area area to.frame ≡ true)
-      (taken : is_frame_free free' to.frame ≡ false)
+      (taken : suc level ≤ last_own area → is_frame_free free' to.frame ≡ false)
       (fewer : (f : ℕ) → is_frame_free free f ≡ false → is_frame_free free' f ≡ false) where
     pub tree_link : IsTreeIn area new root free'
     tree_link = record {
       rights = λ l n b lt is. rights_of l n b lt (met l n b (omega arith) is);
-      distinct = λ l n k j a b ll lk apart ia ib e. distinct_of l n k j a b ll lk apart e (met l n a ll ia) (met k j b lk ib);
-      used = λ l n b le is. used_of l n b le (met l n b le is);
+      distinct = λ l n k j a b ll lk ia ib e. distinct_of l n k j a b ll lk e (met l n a (own_met area l ll) ia) (met k j b (own_met area k lk) ib);
+      used = λ l n b le is. used_of l n b le (met l n b (own_met area l le) is);
       inside = λ l n b lt is. inside_of l n b lt (met l n b (omega arith) is);
       plain = record { each = λ l n i b lt li is. plain_of l n i b lt li (met l n b (omega arith) is) };
     }
@@ -106,17 +107,17 @@ module _ {area : Area} (old new : List ℕ) (root level prefix index : ℕ) (at 
         inside_of l n b lt (inl x) = let h = within (omega arith) in rw x.2 h
         inside_of l n b lt (inr x) = tree.inside l n b lt x
 
-        used_of : (l n : ℕ) (b : Place) → l ≤ 4 → ((l ≡ suc level) × (n ≡ 512 * prefix + index) × (b ≡ to)) ⊎ (reach old
+        used_of : (l n : ℕ) (b : Place) → l ≤ last_own area → ((l ≡ suc level) × (n ≡ 512 * prefix + index) × (b ≡ to)) ⊎ (reach old
             root l n ≡ Some b) → is_frame_free free' b.frame ≡ false
-        used_of l n b le (inl x) = rw x.2 taken
+        used_of l n b le (inl x) = rw x.2 (taken (rw x.0 at le))
         used_of l n b le (inr x) = fewer b.frame (tree.used l n b le x)
 
-        distinct_of : (l n k j : ℕ) (a b : Place) → l ≤ 4 → k ≤ 4 → (l ≡ 4 → k ≡ 4 → area ≡ Whole) → a.frame ≡ b.frame →
+        distinct_of : (l n k j : ℕ) (a b : Place) → l ≤ last_own area → k ≤ last_own area → a.frame ≡ b.frame →
             ((l ≡ suc level) × (n ≡ 512 * prefix + index) × (a ≡ to)) ⊎ (reach old root l n ≡ Some a) →
             ((k ≡ suc level) × (j ≡ 512 * prefix + index) × (b ≡ to)) ⊎ (reach old root k j ≡ Some b) → (l ≡ k) × (n ≡ j)
-        distinct_of l n k j a b ll lk apart e (inl x) (inl y) = (omega arith, omega arith)
-        distinct_of l n k j a b ll lk apart e (inl x) (inr y) = absurd (fresh k j b lk (λ s f. apart (x.0 ∙ s) f) y
+        distinct_of l n k j a b ll lk e (inl x) (inl y) = (omega arith, omega arith)
+        distinct_of l n k j a b ll lk e (inl x) (inr y) = absurd (fresh k j b lk (rw x.0 at ll) y
             (let h : a.frame ≡ to.frame = ap (λ m. m.frame) x.2 in sym e ∙ h))
-        distinct_of l n k j a b ll lk apart e (inr x) (inl y) = absurd (fresh l n a ll (λ s f. apart f (y.0 ∙ s)) x
+        distinct_of l n k j a b ll lk e (inr x) (inl y) = absurd (fresh l n a ll (rw y.0 at lk) x
             (let h : b.frame ≡ to.frame = ap (λ m. m.frame) y.2 in e ∙ h))
-        distinct_of l n k j a b ll lk apart e (inr x) (inr y) = tree.distinct l n k j a b ll lk apart x y e
+        distinct_of l n k j a b ll lk e (inr x) (inr y) = tree.distinct l n k j a b ll lk x y e

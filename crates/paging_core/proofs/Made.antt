@@ -8,7 +8,7 @@ use Rattle.paging_core.specs.Entry.{has_bit, frame_of, table_entry}
 use Rattle.paging_core.specs.Area.{Area, in_area}
 use Rattle.paging_core.specs.Memory.{word_at, frame_count, cleared}
 use Rattle.paging_core.specs.Walk.{Place, step, large_step, large_of, large_from, reach, next_from, top, is_present, is_run, ends_walk, named}
-use Rattle.paging_core.specs.Tree.{IsTreeIn}
+use Rattle.paging_core.specs.Tree.{IsTreeIn, last_own}
 use Rattle.paging_core.specs.Pool.{is_frame_free, free_count, FreeBelow, AreLowestTaken}
 use Rattle.paging_core.specs.Tables.{IsTableMade}
 use Rattle.std.proofs.lemmas.List.Sums.{sum_by-set}
@@ -16,13 +16,24 @@ use Rattle.paging_core.proofs.Reach.{step_same, large_same, reach_same, larges_s
 use Rattle.paging_core.proofs.Words.{length_cleared, word_at_cleared_same, word_at_cleared_other, word_at_set_same, word_at_set_other}
 use Rattle.paging_core.proofs.Plain.{plain_kept, plain_table}
 use Rattle.paging_core.proofs.Link.{IsLink, link_there, link_others, link_larges, tree_link}
+use Rattle.paging_core.proofs.Areas.{own_met, own_table}
 
 -- ---- one step
 
 table_bits : (f : ℕ) → f < 2 ^ 40 →
     (frame_of (table_entry f) ≡ f) × (has_bit (table_entry f) 0 ≡ true) × (has_bit (table_entry f) 1 ≡ true) × (has_bit
-    (table_entry f) 2 ≡ true) × (has_bit (table_entry f) 63 ≡ false)
-table_bits f lt = (omega arith, grind (arith, nat_tests), grind (arith, nat_tests), grind (arith, nat_tests), grind (arith, nat_tests))
+    (table_entry f) 2 ≡ true) × (has_bit (table_entry f) 63 ≡ false) × (has_bit (table_entry f) 3 ≡ false) × (has_bit (table_entry f) 4 ≡ false)
+    × (has_bit (table_entry f) 8 ≡ false)
+table_bits f lt = (
+  omega arith,
+  grind (arith, nat_tests),
+  grind (arith, nat_tests),
+  grind (arith, nat_tests),
+  grind (arith, nat_tests),
+  grind (arith, nat_tests),
+  grind (arith, nat_tests),
+  grind (arith, nat_tests),
+)
 
 table_small : (f : ℕ) → f < 2 ^ 40 → has_bit (table_entry f) 7 ≡ false
 table_small f lt = grind (arith, nat_tests)
@@ -34,7 +45,7 @@ step_table words level t j f lt within e =
     let b = table_bits f lt in
     let p : ltb f (frame_count words) ≡ true = lt-ltb f (frame_count words) within in
     let s = table_small f lt in
-    rw (e, b.0, b.1, b.2, b.3, b.4, s, p, and-false) refl
+    rw (e, b.0, b.1, b.2, b.3, b.4, b.5, b.6, b.7, s, p, and-false) refl
 
 -- an entry that names a table maps no large page
 pub large_table : (words : List ℕ) (t j f : ℕ) → f < 2 ^ 40 → word_at words t j ≡ table_entry f → large_step words (top t) j ≡ None
@@ -196,10 +207,11 @@ taken_count free f e =
 pub tree_same : {area : Area} (old new : List ℕ) (root : ℕ) (free : List Bool) → length new ≡ length old →
     ((l n : ℕ) (b : Place) (j : ℕ) → l < 4 → reach old root l n ≡ Some b → j < 512 → word_at new b.frame j ≡ word_at old b.frame j) →
     IsTreeIn area old root free → IsTreeIn area new root free
-tree_same old new root free size words tree = record {
+tree_same {area} old new root free size words tree = record {
   rights = λ l n m lt is. tree.rights l n m lt (sym (same l n (omega arith)) ∙ is);
-  distinct = λ l n k j a b ll lk apart x y e. tree.distinct l n k j a b ll lk apart (sym (same l n ll) ∙ x) (sym (same k j lk) ∙ y) e;
-  used = λ l n m le is. tree.used l n m le (sym (same l n le) ∙ is);
+  distinct = λ l n k j a b ll lk x y e.
+      tree.distinct l n k j a b ll lk (sym (same l n (own_met area l ll)) ∙ x) (sym (same k j (own_met area k lk)) ∙ y) e;
+  used = λ l n m le is. tree.used l n m le (sym (same l n (own_met area l le)) ∙ is);
   inside = λ l n m lt is. tree.inside l n m lt (sym (same l n (omega arith)) ∙ is);
   plain = record {
     each = λ l n i m lt li is.
@@ -233,24 +245,24 @@ module _ {area : Area} (old new : List ℕ) (free free' : List Bool) (root level
   new_size : length new ≡ length (cleared old made)
   new_size = rw m.words (length-set (cleared old made) (512 * table + index) (table_entry made))
 
-  unmet : (l n : ℕ) (b : Place) → l ≤ 4 → reach old root l n ≡ Some b → b.frame ≡ made → ⊥
+  unmet : (l n : ℕ) (b : Place) → l ≤ last_own area → reach old root l n ≡ Some b → b.frame ≡ made → ⊥
   unmet l n b le is e = let u : is_frame_free free b.frame ≡ false = tree.used l n b le is in let w = m.was_free in let x =
       ap (λ f. is_frame_free free f) e in cc
 
   table_apart : table ≡ made → ⊥
-  table_apart e = unmet level prefix (top table) (omega arith) met e
+  table_apart e = unmet level prefix (top table) (own_table area level (omega arith)) met e
 
   mid_same : (l n : ℕ) → l ≤ 4 → reach (cleared old made) root l n ≡ reach old root l n
   mid_same = reach_same old (cleared old made) root cleared_size
-      (λ l n b j lt is lj. word_at_cleared_other old made b.frame j made_in lj (unmet l n b (omega arith) is))
+      (λ l n b j lt is lj. word_at_cleared_other old made b.frame j made_in lj (unmet l n b (own_table area l lt) is))
 
   mid_larges : (n : ℕ) → large_of (cleared old made) root n ≡ large_of old root n
   mid_larges = larges_same old (cleared old made) root cleared_size
-      (λ l n b j lt is lj. word_at_cleared_other old made b.frame j made_in lj (unmet l n b (omega arith) is))
+      (λ l n b j lt is lj. word_at_cleared_other old made b.frame j made_in lj (unmet l n b (own_table area l lt) is))
 
   mid_tree : IsTreeIn area (cleared old made) root free
   mid_tree = tree_same old (cleared old made) root free cleared_size
-      (λ l n b j lt is lj. word_at_cleared_other old made b.frame j made_in lj (unmet l n b (omega arith) is)) tree
+      (λ l n b j lt is lj. word_at_cleared_other old made b.frame j made_in lj (unmet l n b (own_table area l lt) is)) tree
 
   link : IsLink (cleared old made) new root level prefix index (top table) (top made)
   link = record {
@@ -292,10 +304,10 @@ module _ {area : Area} (old new : List ℕ) (free free' : List Bool) (root level
 
   pub made_tree : in_area area made ≡ true → IsTreeIn area new root free'
   made_tree within = tree_link (cleared old made) new root level prefix index (top table) (top made) free link mid_tree free'
-      (λ l n b le _ is e. unmet l n b le (sym (mid_same l n le) ∙ is) e)
+      (λ l n b own _ is e. unmet l n b own (sym (mid_same l n (own_met area l own)) ∙ is) e)
       (λ _. refl)
       (λ _. within)
-      (rw m.taken (taken_flag free made m.was_free))
+      (λ _. rw m.taken (taken_flag free made m.was_free))
       (λ f e. rw m.taken (fewer_flags free made f e))
 
   pub made_size : length new ≡ length old

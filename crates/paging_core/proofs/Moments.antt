@@ -11,6 +11,7 @@ use Rattle.paging_core.specs.Walk.{Place, reach}
 use Rattle.paging_core.proofs.Made.{tree_same}
 use Rattle.paging_core.proofs.Prefixes.{walk_reach}
 use Rattle.paging_core.proofs.Reach.{reach_same}
+use Rattle.paging_core.proofs.Areas.{own_table}
 
 pub still_then : {area : Area} (old mid now : List ℕ) (root : ℕ) → IsStill area old root mid → IsStill area mid root now → IsStill area old root now
 still_then old mid now root one two = record { tree = two.tree; leads = λ page. two.leads page ∙ one.leads page }
@@ -26,12 +27,12 @@ still_reached old now root free tree same = record {
 -- a frame is written that was free
 pub still_free : {area : Area} (old now : List ℕ) (root : ℕ) (free : List Bool) (frame : ℕ) → IsTreeIn area old root free → is_frame_free free frame ≡ true →
     IsChangedIn old now frame → IsStill area old root now
-still_free old now root free frame tree was_free only =
+still_free {area} old now root free frame tree was_free only =
     still_reached old now root free (tree_same old now root free only.size words tree) (λ n. reach_same old now root only.size words 4 n (omega arith))
   where
     words : (l n : ℕ) (b : Place) (j : ℕ) → l < 4 → reach old root l n ≡ Some b → j < 512 → word_at now b.frame j ≡ word_at old b.frame j
     words l n b j lt is lj =
-        only.others b.frame j lj (λ e. let u : is_frame_free free b.frame ≡ false = tree.used l n b (omega arith) is in
+        only.others b.frame j lj (λ e. let u : is_frame_free free b.frame ≡ false = tree.used l n b (own_table area l lt) is in
         let x =
         ap (λ f. is_frame_free free f) e in let w = was_free in absurd (cc))
 

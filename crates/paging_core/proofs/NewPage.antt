@@ -9,7 +9,7 @@ use Rattle.paging_core.specs.Walk.{Place, reach, large_of, walk_of, top, place_w
 use Rattle.paging_core.specs.Tree.{IsTree}
 use Rattle.paging_core.specs.Missing.{missing_of}
 use Rattle.paging_core.specs.Mapping.{HasExactEntries, IsPageAdded, IsRangeAdded}
-use Rattle.paging_core.specs.declared.page_table.Rights.{Rights}
+use Rattle.paging_core.specs.declared.page_table.PageBits.{PageBits}
 use Rattle.paging_core.proofs.Reach.{reach_same, larges_same}
 use Rattle.paging_core.proofs.Prefixes.{walk_reach}
 use Rattle.paging_core.proofs.Made.{tree_same}
@@ -70,7 +70,7 @@ module _ (old mid : List ℕ) (free free1 : List Bool) (root frame : ℕ)
   pub mid_missing : (page : ℕ) → missing_of mid root page 1 ≡ missing_of old root page 1
   mid_missing page = missing_same old mid root page 1 mid_same
 
-  module _ (new : List ℕ) (free' : List Bool) (page : ℕ) (rights : Rights)
+  module _ (new : List ℕ) (free' : List Bool) (page : ℕ) (rights : PageBits)
       (unmapped : walk_of old root page ≡ None)
       (added : IsPageAdded mid new free1 free' root page frame rights)
       (tree' : IsTree new root free') where
@@ -93,7 +93,7 @@ module _ (old mid : List ℕ) (free free1 : List Bool) (root frame : ℕ)
 
     -- what the new walk meets in a frame that was met before was met there before
     no_table : (l n k j : ℕ) (m : Place) → l ≤ 4 → k < 4 → reach old root l n ≡ Some m → reach new root k j ≡ Some (top m.frame) → (l ≡ k) × (n ≡ j)
-    no_table l n k j m le lt is now = tree'.distinct l n k j m (top m.frame) le (omega arith) (λ _ _. refl) (stayed l n m le is) now refl
+    no_table l n k j m le lt is now = tree'.distinct l n k j m (top m.frame) le (omega arith) (stayed l n m le is) now refl
 
     table_of : (l : ℕ) → l < 4 → ((m : Place) × (reach mid root l (prefix_of page l) ≡ Some m)) ⊎ (reach mid root l (prefix_of page l) ≡ None) →
         (table : ℕ) × (reach new root l (prefix_of page l) ≡ Some (top table))
@@ -120,7 +120,7 @@ module _ (old mid : List ℕ) (free free1 : List Bool) (root frame : ℕ)
     page_frame : (l n : ℕ) → l < 4 → reach new root l n ≡ Some (top frame) → ⊥
     page_frame l n lt now =
         let p : (l ≡ 4) × (n ≡ prefix_of page 4) = tree'.distinct l n 4 (prefix_of page 4) (top frame)
-        (place_with frame rights) (omega arith) (omega arith) (λ _ _. refl) now there refl in
+        (place_with frame rights) (omega arith) (omega arith) now there refl in
         omega arith
 
     fewer : (f : ℕ) → is_frame_free free f ≡ false → is_frame_free free' f ≡ false

@@ -9,7 +9,7 @@ use Rattle.paging_core.specs.Prefix.{prefix_of}
 use Rattle.paging_core.specs.Walk.{Place, step, reach, large_of, top, walk_of, place_with, reached}
 use Rattle.paging_core.specs.Tree.{IsTreeIn}
 use Rattle.paging_core.specs.PageChanges.{Change, removal, regrant, IsLastEntry, IsPageChanged, ArePagesChanged, only}
-use Rattle.paging_core.specs.declared.page_table.Rights.{Rights}
+use Rattle.paging_core.specs.declared.page_table.PageBits.{PageBits}
 use Rattle.paging_core.specs.Entry.{has_bit}
 use Rattle.paging_core.specs.Plain.{IsPlain}
 use Rattle.paging_core.proofs.Plain.{plain_kept, plain_zero, plain_page}
@@ -18,6 +18,8 @@ use Rattle.paging_core.proofs.Words.{word_at_set_same, word_at_set_other}
 use Rattle.paging_core.proofs.Prefixes.{walk_reach, prefix_more}
 use Rattle.paging_core.proofs.Made.{reach_below, step_below, step_small}
 use Rattle.paging_core.proofs.LastEntry.{step_page, some_or_none}
+use Rattle.paging_core.proofs.Areas.{own_met, own_table, beside_table, bytes_kept}
+use Rattle.paging_core.specs.Outcomes.{IsBeside, KeepsBytes}
 
 -- ---- what a change does to the frame
 
@@ -31,7 +33,7 @@ pub record KeepsFrame (change : Change) : Type 0 where
 pub removal_keeps : KeepsFrame removal
 removal_keeps = record { same = λ place now e. absurd (cc); plain = λ words place small within. plain_zero words 3 0 refl }
 
-pub regrant_keeps : (rights : Rights) → KeepsFrame (regrant rights)
+pub regrant_keeps : (rights : PageBits) → KeepsFrame (regrant rights)
 regrant_keeps rights = record {
   same = λ place now e. let q : place_with place.frame rights ≡ now = cc in sym (ap (λ p. p.frame) q);
   plain = λ words place small within _. plain_page words place.frame rights small within;
@@ -85,7 +87,7 @@ module _ (old new : List ℕ) (root page : ℕ) (change : Change)
       (tree : IsTreeIn area old root free)
       (leads : step new 3 one.table (prefix_of page 4 % 512) ≡ change.leads one.place) where
     alone : (l n : ℕ) (b : Place) → l < 4 → reach old root l n ≡ Some b → b.frame ≡ one.table.frame → (l ≡ 3) × (n ≡ prefix_of page 3)
-    alone l n b lt is e = tree.distinct l n 3 (prefix_of page 3) b one.table (omega arith) (omega arith) (λ x y. absurd (omega arith)) is one.met e
+    alone l n b lt is e = tree.distinct l n 3 (prefix_of page 3) b one.table (own_table area l lt) (own_table area 3 (omega arith)) is one.met e
 
     there : reach new root 4 (prefix_of page 4) ≡ change.leads one.place
     there =
@@ -144,7 +146,7 @@ page_removed old new root page free root_in one tree =
     page_changed old new root page removal root_in one free tree
     (step_zero new 3 one.table (prefix_of page 4 % 512) (entry_here old new root page removal root_in one))
 
-pub page_regranted : {area : Area} (old new : List ℕ) (root page : ℕ) (rights : Rights) (free : List Bool) → root < frame_count old →
+pub page_regranted : {area : Area} (old new : List ℕ) (root page : ℕ) (rights : PageBits) (free : List Bool) → root < frame_count old →
     (one : IsPageChanged old new root page (regrant rights)) → one.place.frame < 2 ^ 40 → IsTreeIn area old root free →
     ArePagesChanged old new root (regrant rights) (only page)
 page_regranted old new root page rights free root_in one small tree =
@@ -173,13 +175,13 @@ module _ (old new : List ℕ) (root : ℕ) (change : Change) (chosen : ℕ → B
           (m.0, was, sym (keeps.same m.0 b (sym (all.changed n m.0 x m.1) ∙ now)))
 
   pub changed_tree : {area : Area} → KeepsFrame change → (free : List Bool) → IsTreeIn area old root free → IsTreeIn area new root free
-  changed_tree keeps free tree = record {
+  changed_tree {area} keeps free tree = record {
     rights = λ l n m lt is. tree.rights l n m lt (sym (all.stayed l n (omega arith) (λ e. absurd (omega arith))) ∙ is);
-    distinct = λ l n k j a b ll lk apart x y e.
-        let p = met_before keeps l n a ll x in
-        let q = met_before keeps k j b lk y in
-        tree.distinct l n k j p.0 q.0 ll lk apart p.1 q.1 (p.2 ∙ (e ∙ sym q.2));
-    used = λ l n m le is. let p = met_before keeps l n m le is in rw (← p.2) (tree.used l n p.0 le p.1);
+    distinct = λ l n k j a b ll lk x y e.
+        let p = met_before keeps l n a (own_met area l ll) x in
+        let q = met_before keeps k j b (own_met area k lk) y in
+        tree.distinct l n k j p.0 q.0 ll lk p.1 q.1 (p.2 ∙ (e ∙ sym q.2));
+    used = λ l n m le is. let p = met_before keeps l n m (own_met area l le) is in rw (← p.2) (tree.used l n p.0 le p.1);
     inside = λ l n m lt is. let p = met_before keeps l n m (omega arith) is in rw (← p.2) (tree.inside l n p.0 lt p.1);
     plain = record {
       each = λ l n i b lt li is.
@@ -195,7 +197,7 @@ module _ (old new : List ℕ) (root : ℕ) (change : Change) (chosen : ℕ → B
 
       -- the table of level 3 at this frame is the one that is met
       its_own : (l n m : ℕ) (b : Place) → l < 4 → reach old root l n ≡ Some b → reach old root 3 m ≡ Some (top b.frame) → (3 ≡ l) × (m ≡ n)
-      its_own l n m b lt at here = tree.distinct 3 m l n (top b.frame) b (omega arith) (omega arith) (λ x y. absurd (omega arith)) here at refl
+      its_own l n m b lt at here = tree.distinct 3 m l n (top b.frame) b (own_table area 3 (omega arith)) (own_table area l lt) here at refl
 
       plain_of : (l n i : ℕ) (b : Place) → l < 4 → i < 512 → reach old root l n ≡ Some b → (l ≡ 3) ⊎ (l ≡ 3 → ⊥) →
           (chosen (512 * n + i) ≡ true) ⊎ (chosen (512 * n + i) ≡ false) → has_bit (word_at new b.frame i) 0 ≡ true → IsPlain new l (word_at new b.frame i)
@@ -212,45 +214,46 @@ module _ (old new : List ℕ) (root : ℕ) (change : Change) (chosen : ℕ → B
           let within = step_below old 3 b m.0 ((512 * n + i) % 512) led in
           rw (w, x) (keeps.plain new m.0 (step_small old 3 b m.0 ((512 * n + i) % 512) led) (let z = all.size in omega arith))
 
-  -- a page keeps its words
-  pub words_stay : {area : Area} (free : List Bool) → IsTreeIn area old root free → (n i : ℕ) (place : Place) → i < 512 → reach old root 4 n ≡ Some place →
-      word_at new place.frame i ≡ word_at old place.frame i
-  words_stay free tree n i place li at =
+  -- a page that leads to no table keeps its words
+  words_stay : {area : Area} (free : List Bool) → IsTreeIn area old root free → (page i : ℕ) (place : Place) → i < 512 →
+      walk_of old root page ≡ Some place → IsBeside area old root page → word_at new place.frame i ≡ word_at old place.frame i
+  words_stay {area} free tree page i place li at beside =
       all.words place.frame i li (λ m here.
-      let d : (3 ≡ 4) × (m ≡ n) = tree.distinct 3 m 4 n (top place.frame) place (omega arith) (omega arith)
-      (λ x y. absurd (omega arith)) here at refl in absurd (omega (arith, d.0)))
+      absurd (beside_table area old root free page place tree at beside 3 m (top place.frame) (omega arith) here refl))
 
   -- and its bytes, if it is still met
   pub bytes_stay : {area : Area} → KeepsFrame change → (free : List Bool) → IsTreeIn area old root free → (address : ℕ) →
-      (now : Place) → walk_of new root (address / 4096) ≡ Some now →
+      (now : Place) → walk_of new root (address / 4096) ≡ Some now → IsBeside area old root (address / 4096) →
       reached new root address ≡ reached old root address
-  bytes_stay keeps free tree address now is =
+  bytes_stay {area} keeps free tree address now is beside =
       let at : reach new root 4 (prefix_of (address / 4096) 4) ≡ Some now = sym (walk_reach new root (address / 4096)) ∙ is in
       let p = met_before keeps 4 (prefix_of (address / 4096) 4) now (omega arith) at in
       let was : walk_of old root (address / 4096) ≡ Some p.0 = walk_reach old root (address / 4096) ∙ p.1 in
-      let w = words_stay free tree (prefix_of (address / 4096) 4) (address % 4096 / 8) p.0 (omega arith) p.1 in
+      let w = words_stay free tree (address / 4096) (address % 4096 / 8) p.0 (omega arith) was beside in
       rw (is, was) (ap (λ f. Some (byte_of (word_at new f (address % 4096 / 8)) (address % 8))) (sym p.2) ∙ ap (λ v. Some (byte_of v (address % 8))) w)
 
 -- if pages get rights, no byte is changed
-pub regranted_bytes : {area : Area} (old new : List ℕ) (root : ℕ) (rights : Rights) (chosen : ℕ → Bool) (free : List Bool) →
-    ArePagesChanged old new root (regrant rights) chosen → IsTreeIn area old root free → (address : ℕ) → reached new root address ≡ reached old root address
-regranted_bytes old new root rights chosen free all tree address = go (some_or_none (walk_of new root (address / 4096)))
+pub regranted_bytes : {area : Area} (old new : List ℕ) (root : ℕ) (rights : PageBits) (chosen : ℕ → Bool) (free : List Bool) →
+    ArePagesChanged old new root (regrant rights) chosen → IsTreeIn area old root free → KeepsBytes area old new root
+regranted_bytes {area} old new root rights chosen free all tree =
+    bytes_kept area old new root (λ address beside. byte address beside (some_or_none (walk_of new root (address / 4096))))
   where
-    gone : reach new root 4 (prefix_of (address / 4096) 4) ≡ None → (chosen (prefix_of (address / 4096) 4) ≡ true) ⊎ (chosen
+    gone : (address : ℕ) → reach new root 4 (prefix_of (address / 4096) 4) ≡ None → (chosen (prefix_of (address / 4096) 4) ≡ true) ⊎ (chosen
         (prefix_of (address / 4096) 4) ≡ false) →
         reach old root 4 (prefix_of (address / 4096) 4) ≡ None
-    gone none (inl x) =
+    gone address none (inl x) =
         let m = all.mapped (prefix_of (address / 4096) 4) x in
         let h = all.changed (prefix_of (address / 4096) 4) m.0 x m.1 in absurd (cc)
-    gone none (inr x) = sym (all.stayed 4 (prefix_of (address / 4096) 4) (omega arith) (λ _. x)) ∙ none
+    gone address none (inr x) = sym (all.stayed 4 (prefix_of (address / 4096) 4) (omega arith) (λ _. x)) ∙ none
 
-    go : ((now : Place) × (walk_of new root (address / 4096) ≡ Some now)) ⊎ (walk_of new root (address / 4096) ≡ None) →
+    byte : (address : ℕ) → IsBeside area old root (address / 4096) →
+        ((now : Place) × (walk_of new root (address / 4096) ≡ Some now)) ⊎ (walk_of new root (address / 4096) ≡ None) →
         reached new root address ≡ reached old root address
-    go (inl p) = bytes_stay old new root (regrant rights) chosen all (regrant_keeps rights) free tree address p.0 p.1
-    go (inr none) =
+    byte address beside (inl p) = bytes_stay old new root (regrant rights) chosen all (regrant_keeps rights) free tree address p.0 p.1 beside
+    byte address beside (inr none) =
         let e : walk_of old root (address / 4096) ≡ None =
         walk_reach old root (address / 4096)
-        ∙ gone (sym (walk_reach new root (address / 4096)) ∙ none) (cases_Bool (chosen (prefix_of (address / 4096) 4))) in
+        ∙ gone address (sym (walk_reach new root (address / 4096)) ∙ none) (cases_Bool (chosen (prefix_of (address / 4096) 4))) in
         rw (none, e) refl
 
 -- ---- the page alone
@@ -306,7 +309,7 @@ module _ (old mid new : List ℕ) (root : ℕ) (change : Change) (a b c : ℕ �
         (a (512 * n + i) ≡ true) ⊎ (a (512 * n + i) ≡ false) → word_at new f i ≡ change.entry place
     entries_of n i f place li g here at (inl x) =
         two.words f i li (λ m is.
-        let d = tree.distinct 3 m 3 n (top f) (top f) (omega arith) (omega arith) (λ x y. absurd (omega arith)) (sym (tables m) ∙ is) here refl in
+        let d = tree.distinct 3 m 3 n (top f) (top f) (own_table area 3 (omega arith)) (own_table area 3 (omega arith)) (sym (tables m) ∙ is) here refl in
         ap (λ k. b (512 * k + i)) d.1 ∙ apart (512 * n + i) x)
         ∙ one.entries n i f place li x here at
     entries_of n i f place li g here at (inr x) =

@@ -6,13 +6,13 @@ use Rattle.paging_core.specs.Walk.{Place, reach, top}
 use Rattle.paging_core.specs.Missing.{missing_of}
 use Rattle.paging_core.specs.Tables.{missing_at}
 use Rattle.paging_core.specs.Mapping.{IsPageAdded}
-use Rattle.paging_core.specs.declared.page_table.Rights.{Rights}
+use Rattle.paging_core.specs.declared.page_table.PageBits.{PageBits}
 use Rattle.paging_core.proofs.Counts.{absent_for, missing_by_level, missing_one}
 use Rattle.paging_core.proofs.LargeMissing.{absent_at}
 use Rattle.paging_core.proofs.Ranges.{prefix_le, page_in}
 use Rattle.paging_core.proofs.LastEntry.{some_or_none}
 
-module _ (old new : List ℕ) (free free' : List Bool) (root page frame : ℕ) (rights : Rights)
+module _ (old new : List ℕ) (free free' : List Bool) (root page frame : ℕ) (rights : PageBits)
     (added : IsPageAdded old new free free' root page frame rights) where
   there : (l : ℕ) → l < 4 → (m : Place) × (reach new root l (prefix_of page l) ≡ Some m)
   there l lt = go (some_or_none (reach old root l (prefix_of page l)))

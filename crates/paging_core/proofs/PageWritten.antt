@@ -61,7 +61,7 @@ module _ (old new : List ℕ) (root page : ℕ) (place : Place) (free : List Boo
       word p is (inr ne) = elsewhere p.frame (address % 4096 / 8) (omega arith) ne
       word p is (inl e) =
           let d : prefix_of (address / 4096) 4 ≡ prefix_of page 4 =
-          (tree.distinct 4 (prefix_of (address / 4096) 4) 4 (prefix_of page 4) p place (omega arith) (omega arith) (λ _ _. refl)
+          (tree.distinct 4 (prefix_of (address / 4096) 4) 4 (prefix_of page 4) p place (omega arith) (omega arith)
           (sym (walk_reach old root (address / 4096)) ∙ is) here e).1 in
           rw e (same (same_number (address / 4096) page its_page canonical (omega arith)))
 

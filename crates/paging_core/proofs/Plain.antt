@@ -1,12 +1,13 @@
 -- The entries that are written are plain.
-use Rattle.std.proofs.Common.{◌≡◌, ℕ, ◌+◌, ◌*◌, ◌%◌, ◌^◌, ◌<◌, Bool, true, false, not, ◌&&◌, cond, eqb, ltb, List, length, refl, arith}
+use Rattle.std.proofs.Common.{◌≡◌, ℕ, ◌+◌, ◌%◌, ◌^◌, ◌<◌, Bool, true, false, not, ◌&&◌, cond, eqb, ltb, List, length, refl, arith}
 use Rattle.std.proofs.lemmas.Bool.{lt-ltb}
 use Rattle.std.proofs.lemmas.Bool.Decides.{nat_tests}
 use Rattle.paging_core.specs.Memory.{frame_count}
-use Rattle.paging_core.specs.Entry.{has_bit, frame_of, table_entry, page_entry, large_entry}
+use Rattle.paging_core.specs.Entry.{has_bit, table_entry, page_entry, large_entry}
 use Rattle.paging_core.specs.Walk.{is_run}
 use Rattle.paging_core.specs.Plain.{IsPlain, maps_page, marked}
-use Rattle.paging_core.specs.declared.page_table.Rights.{Rights}
+use Rattle.paging_core.specs.declared.page_table.PageBits.{PageBits}
+use Rattle.paging_core.proofs.PageWords.{IsPageWord, page_bits, large_bits}
 
 pub plain_size : (old new : List ℕ) (level entry : ℕ) → length new ≡ length old → IsPlain old level entry → IsPlain new level entry
 plain_size old new level entry size p = record {
@@ -16,6 +17,7 @@ plain_size old new level entry size p = record {
   accessed = p.accessed;
   dirty = p.dirty;
   cached = p.cached;
+  local = p.local;
   low = p.low;
   high = p.high;
 }
@@ -37,7 +39,8 @@ plain_table words level frame lt small within = record {
   accessed = grind (arith, nat_tests);
   dirty = λ e. absurd (let z = seven in let l : eqb level 3 ≡ false = grind (arith, nat_tests) in
       let f : maps_page level (table_entry frame) ≡ false = rw (l, z) refl in cc);
-  cached = omega arith;
+  cached = λ _. omega arith;
+  local = λ _. grind (arith, nat_tests);
   low = omega arith;
   high = omega arith;
 }
@@ -45,65 +48,44 @@ plain_table words level frame lt small within = record {
     seven : has_bit (table_entry frame) 7 ≡ false
     seven = grind (arith, nat_tests)
 
-pub plain_page : (words : List ℕ) (frame : ℕ) (rights : Rights) → frame < 2 ^ 40 → frame < frame_count words → IsPlain words 3 (page_entry frame rights)
-plain_page words frame rights small within = go rights.write rights.user rights.fetch
+pub plain_page : (words : List ℕ) (frame : ℕ) (rights : PageBits) → frame < 2 ^ 40 → frame < frame_count words → IsPlain words 3 (page_entry frame rights)
+plain_page words frame rights small within = record {
+  frame = rw is.names within;
+  run = λ x. absurd (let z = is.bit_7 in cc);
+  large = λ x. absurd (let z = is.bit_7 in cc);
+  accessed = is.accessed;
+  dirty = λ _. is.dirty;
+  cached = λ none. absurd (let h : true ≡ false = none in cc);
+  local = λ none. absurd (let h : true ≡ false = none in cc);
+  low = is.low;
+  high = is.high;
+}
   where
-    of : (entry low high : ℕ) → high < 2 → low < 8 → entry ≡ high * 2 ^ 63 + frame * 2 ^ 12 + 96 + low → IsPlain words 3 entry
-    of entry low high h l e = record {
-      frame = let f : frame_of entry ≡ frame = omega arith in rw f within;
-      run = λ x. absurd (let z = seven in cc);
-      large = λ x. absurd (let z = seven in cc);
-      accessed = grind (arith, nat_tests);
-      dirty = λ _. grind (arith, nat_tests);
-      cached = omega arith;
-      low = omega arith;
-      high = omega arith;
-    }
-      where
-        seven : has_bit entry 7 ≡ false
-        seven = grind (arith, nat_tests)
+    is : IsPageWord (page_entry frame rights) frame rights false
+    is = page_bits frame small rights
 
-    go : (write user fetch : Bool) → IsPlain words 3 (page_entry frame (record { write = write; user = user; fetch = fetch }))
-    go true true true = of _ 7 0 (omega arith) (omega arith) (omega arith)
-    go true true false = of _ 7 1 (omega arith) (omega arith) (omega arith)
-    go true false true = of _ 3 0 (omega arith) (omega arith) (omega arith)
-    go true false false = of _ 3 1 (omega arith) (omega arith) (omega arith)
-    go false true true = of _ 5 0 (omega arith) (omega arith) (omega arith)
-    go false true false = of _ 5 1 (omega arith) (omega arith) (omega arith)
-    go false false true = of _ 1 0 (omega arith) (omega arith) (omega arith)
-    go false false false = of _ 1 1 (omega arith) (omega arith) (omega arith)
-
-pub plain_large : (words : List ℕ) (frame : ℕ) (rights : Rights) → frame < 2 ^ 40 → frame % 512 ≡ 0 → frame + 511 < frame_count words →
+pub plain_large : (words : List ℕ) (frame : ℕ) (rights : PageBits) → frame < 2 ^ 40 → frame % 512 ≡ 0 → frame + 511 < frame_count words →
     IsPlain words 2 (large_entry frame rights)
-plain_large words frame rights small aligned within = go rights.write rights.user rights.fetch
+plain_large words frame rights small aligned within = record {
+  frame = rw is.names (omega arith);
+  run = λ _. rw is.names run;
+  large = λ _. refl;
+  accessed = is.accessed;
+  dirty = λ _. is.dirty;
+  cached = λ none. absurd (not_table none);
+  local = λ none. absurd (not_table none);
+  low = is.low;
+  high = is.high;
+}
   where
+    is : IsPageWord (large_entry frame rights) frame rights true
+    is = large_bits frame small rights
+
     run : is_run words frame ≡ true
     run = let p : ltb (frame + 511) (frame_count words) ≡ true = lt-ltb (frame + 511) (frame_count words) within in rw (aligned, p) refl
 
-    of : (entry low high : ℕ) → high < 2 → low < 8 → entry ≡ high * 2 ^ 63 + frame * 2 ^ 12 + 224 + low → IsPlain words 2 entry
-    of entry low high h l e = record {
-      frame = rw named (omega arith);
-      run = λ _. rw named run;
-      large = λ _. refl;
-      accessed = grind (arith, nat_tests);
-      dirty = λ _. grind (arith, nat_tests);
-      cached = omega arith;
-      low = omega arith;
-      high = omega arith;
-    }
-      where
-        named : frame_of entry ≡ frame
-        named = omega arith
-
-    go : (write user fetch : Bool) → IsPlain words 2 (large_entry frame (record { write = write; user = user; fetch = fetch }))
-    go true true true = of _ 7 0 (omega arith) (omega arith) (omega arith)
-    go true true false = of _ 7 1 (omega arith) (omega arith) (omega arith)
-    go true false true = of _ 3 0 (omega arith) (omega arith) (omega arith)
-    go true false false = of _ 3 1 (omega arith) (omega arith) (omega arith)
-    go false true true = of _ 5 0 (omega arith) (omega arith) (omega arith)
-    go false true false = of _ 5 1 (omega arith) (omega arith) (omega arith)
-    go false false true = of _ 1 0 (omega arith) (omega arith) (omega arith)
-    go false false false = of _ 1 1 (omega arith) (omega arith) (omega arith)
+    not_table : maps_page 2 (large_entry frame rights) ≡ false → ⊥
+    not_table none = let z = is.bit_7 in let h : maps_page 2 (large_entry frame rights) ≡ true = rw z refl in cc
 
 -- a walk by a plain entry leaves it as it was
 pub unmarked : (words : List ℕ) (level entry : ℕ) (writes : Bool) → IsPlain words level entry → marked writes level entry ≡ entry

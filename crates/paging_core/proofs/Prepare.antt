@@ -13,7 +13,7 @@ use Rattle.paging_core.specs.Tables.{IsTableMade, IsEnsured, IsPrepared, missing
 use Rattle.paging_core.proofs.Words.{word_at_cleared_same, word_at_cleared_other, word_at_set_other, word_at_set_same, length_cleared}
 use Rattle.paging_core.proofs.Prefixes.{reach_prefix, prefix_more}
 use Rattle.paging_core.proofs.Reach.{large_is}
-use Rattle.paging_core.proofs.Areas.{free_below, free_inside, free_in}
+use Rattle.paging_core.proofs.Areas.{free_below, free_inside, free_in, own_table}
 use Rattle.paging_core.proofs.Made.{made_tree, made_there, made_others, made_larges, made_size, fewer_flags, lowest_more, taken_count, reach_below}
 
 pub prepared_start : (words : List ℕ) (free : List Bool) (root page : ℕ) → IsPrepared words words free free root page 0
@@ -218,16 +218,16 @@ module _ {area : Area} (old mid : List ℕ) (free freem : List Bool) (root page 
         ∙ (word_at_set_other (cleared mid made) table index (table_entry made) f i index_in li ne
         ∙ word_at_cleared_other mid made f i made_below li nf)
 
-    met_apart : (l n : ℕ) (b : Place) → l ≤ 4 → reach mid root l n ≡ Some b → b.frame ≡ made → ⊥
+    met_apart : (l n : ℕ) (b : Place) → l < 4 → reach mid root l n ≡ Some b → b.frame ≡ made → ⊥
     met_apart l n b le is e =
-        let u : is_frame_free freem b.frame ≡ false = tree.used l n b le is in
+        let u : is_frame_free freem b.frame ≡ false = tree.used l n b (own_table area l le) is in
         let w = m.was_free in let x = ap (is_frame_free freem) e in cc
 
     -- the table is met at its own prefix alone
     here_only : (l f : ℕ) → l < 4 → reach mid root l (prefix_of page l) ≡ Some (top f) → f ≡ table → l ≡ level
     here_only l f lt4 now e =
-        (tree.distinct l (prefix_of page l) level (prefix_of page level) (top f) (top table) (omega arith) (omega arith)
-        (λ x y. absurd (omega arith)) now met e).0
+        (tree.distinct l (prefix_of page l) level (prefix_of page level) (top f) (top table) (own_table area l lt4)
+        (own_table area level (omega arith)) now met e).0
 
     word_linked : word_at new table index ≡ table_entry made
     word_linked =

@@ -1,6 +1,6 @@
 -- A processor's walk of page 0 over four tables, in the frames 0 to 3, of which each has its first entry alone. QEMU's
 -- processor was seen to take these walks so.
-use Rattle.std.proofs.Common.{◌≡◌, ℕ, true, List, ◌∷◌, ◌++◌, replicate, refl}
+use Rattle.std.proofs.Common.{◌≡◌, ℕ, true, List, ◌∷◌, ◌++◌, replicate, refl, false}
 use Rattle.paging_core.specs.ProcessorWalk.{Outcome, NotPresent, Reserved, AtPage, processor_walk}
 
 abbrev table : ℕ → List ℕ
@@ -10,14 +10,15 @@ abbrev walk_by : ℕ → ℕ → ℕ → ℕ → Outcome
 walk_by first second third fourth = processor_walk 40 (table first ++ (table second ++ (table third ++ table fourth))) 0 0
 
 abbrev at : ℕ → Outcome
-at frame = AtPage (record { frame = frame; write = true; user = true; fetch = true })
+at frame = AtPage (record { frame = frame; write = true; user = true; fetch = true; through = false; uncached = false; global = false })
 
 small_page : walk_by 0x1027 0x2027 0x3027 0x4067 ≡ at 4
 unfolding processor_walk
 small_page = refl
 
--- bit 12 of a page of 2 MiB is PAT, and no address bit
-pat : walk_by 0x1007 0x2007 0x6013c7 0 ≡ at 0x600
+-- bit 12 of a page of 2 MiB is PAT, and no address bit; bit 8 makes it global
+pat : walk_by 0x1007 0x2007 0x6013c7 0
+    ≡ AtPage (record { frame = 0x600; write = true; user = true; fetch = true; through = false; uncached = false; global = true })
 unfolding processor_walk
 pat = refl
 

@@ -7,8 +7,8 @@ use Rattle.paging_core.specs.Memory.{word_at, frame_count}
 use Rattle.paging_core.specs.Entry.{has_bit, frame_of}
 use Rattle.paging_core.specs.Walk.{Place, step, large_step, large_from, next_from, reach, walk_of, page_or, named, top, is_present, is_run, ends_walk}
 use Rattle.paging_core.specs.ProcessorWalk.{Outcome, AtPage, has_reserved, past, within, processor_walk, page_of, is_refused}
-use Rattle.paging_core.specs.Plain.{IsPlain, ArePlain}
-use Rattle.paging_core.specs.Laws.{WalkStepsByIndices, ProcessorsWalkAlike}
+use Rattle.paging_core.specs.Plain.{IsPlain, ArePlain, maps_page, pat_of}
+use Rattle.paging_core.specs.Laws.{WalkStepsByIndices, ProcessorsWalkAlike, NoEntryHasPat}
 use Rattle.paging_core.proofs.Reach.{reach_zero, reach_suc, reach_is, large_is, either_way, ByEntry, InLarge}
 use Rattle.paging_core.proofs.Made.{step_below, large_below}
 
@@ -43,31 +43,32 @@ EndsAt outcome page = (page_of outcome ≡ page) × (is_refused outcome ≡ fals
 aligned : (words : List ℕ) (f : ℕ) → is_run words f ≡ true → f % 512 ≡ 0
 aligned words f e = eqb-true (f % 512) 0 (and_parts (eqb (f % 512) 0) (ltb (f + 511) (frame_count words)) e).0
 
--- the tests of each step, for an entry without bit 8
+-- the tests of each step
 abbrev odd : ℕ → Bool → Bool → Bool → Bool
-odd entry first second third = first && (has_bit entry 7 || false) || second && (has_bit entry 7 && not (eqb (entry % 2 ^ 30 / 2 ^ 13) 0))
+odd entry first second third = first && (has_bit entry 7 || has_bit entry 8) || second && (has_bit entry 7 && not (eqb (entry % 2 ^ 30 / 2 ^ 13) 0))
     || third && (has_bit entry 7 && not (eqb (entry % 2 ^ 21 / 2 ^ 13) 0))
 
-none_odd : (entry : ℕ) → has_bit entry 7 ≡ false → (first second third : Bool) → odd entry first second third ≡ false
-none_odd entry e true true true = rw e refl
-none_odd entry e true true false = rw e refl
-none_odd entry e true false true = rw e refl
-none_odd entry e true false false = rw e refl
-none_odd entry e false true true = rw e refl
-none_odd entry e false true false = rw e refl
-none_odd entry e false false true = rw e refl
-none_odd entry e false false false = refl
+none_odd : (entry : ℕ) → has_bit entry 7 ≡ false → (first second third : Bool) → (first ≡ true → has_bit entry 8 ≡ false) → odd entry first second third ≡ false
+none_odd entry e true true true local = rw (e, local refl) refl
+none_odd entry e true true false local = rw (e, local refl) refl
+none_odd entry e true false true local = rw (e, local refl) refl
+none_odd entry e true false false local = rw (e, local refl) refl
+none_odd entry e false true true _ = rw e refl
+none_odd entry e false true false _ = rw e refl
+none_odd entry e false false true _ = rw e refl
+none_odd entry e false false false _ = refl
 
 -- a plain entry has no reserved bit
 unreserved : (words : List ℕ) (width level entry : ℕ) → 4096 * frame_count words ≤ 2 ^ width → IsPlain words level entry →
     has_reserved width level entry ≡ false
 unreserved words width level entry reaches p =
     let address : frame_of entry * 2 ^ 12 / 2 ^ width ≡ 0 = div-eq_of_lt (let f = p.frame in omega arith) in
-    let global : has_bit entry 8 ≡ false = let l = p.low in grind (arith, nat_tests) in
-    rw (address, global) (bits (has_bit entry 7) refl)
+    rw address (bits (has_bit entry 7) refl)
   where
     bits : (h : Bool) → has_bit entry 7 ≡ h → odd entry (eqb level 0) (eqb level 1) (eqb level 2) ≡ false
-    bits false e = none_odd entry e (eqb level 0) (eqb level 1) (eqb level 2)
+    bits false e =
+        none_odd entry e (eqb level 0) (eqb level 1) (eqb level 2)
+        (λ first. let l : level ≡ 0 = eqb-true level 0 first in p.local (rw (l, e) refl))
     bits true e =
         let s : level ≡ 2 = p.large e in
         let a : frame_of entry % 512 ≡ 0 = aligned words (frame_of entry) (p.run e) in
@@ -282,3 +283,21 @@ pub walks_alike : ProcessorsWalkAlike
 walks_alike words root page width plain reaches =
     let e = ends_alike words root page width plain reaches in
     (e.0, e.1, λ place ends. walk_below words root page place (sym e.0 ∙ ap page_of ends))
+
+-- an entry that maps a page has no PAT bit
+no_pat : (words : List ℕ) (level entry : ℕ) → IsPlain words level entry → maps_page level entry ≡ true → pat_of level entry ≡ false
+no_pat words level entry p maps = go (eqb level 3) refl
+  where
+    go : (b : Bool) → eqb level 3 ≡ b → pat_of level entry ≡ false
+    go true e =
+        let l : level ≡ 3 = eqb-true level 3 e in
+        rw e (not_large words level entry p (λ z. absurd (omega (arith, l, z))))
+    go false e =
+        let h : has_bit entry 7 ≡ true = rw e at maps in
+        let a : frame_of entry % 512 ≡ 0 = aligned words (frame_of entry) (p.run h) in
+        let b : has_bit entry 12 ≡ false = grind (arith, nat_tests) in
+        rw e b
+
+pub none_has_pat : NoEntryHasPat
+none_has_pat words root level number index table plain lt li met present maps =
+    no_pat words level (word_at words table.frame index) (plain.each level number index table lt li met present) maps

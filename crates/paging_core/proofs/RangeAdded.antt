@@ -11,14 +11,14 @@ use Rattle.paging_core.specs.Walk.{Place, reach, large_of, walk_of, reached, top
 use Rattle.paging_core.specs.Tree.{IsTree}
 use Rattle.paging_core.specs.Missing.{missing_of}
 use Rattle.paging_core.specs.Mapping.{IsNewPage, IsRangeAdded}
-use Rattle.paging_core.specs.declared.page_table.Rights.{Rights}
+use Rattle.paging_core.specs.declared.page_table.PageBits.{PageBits}
 use Rattle.paging_core.proofs.Prefixes.{walk_reach, none_child}
 use Rattle.paging_core.proofs.Reach.{reach_none, table_none}
 use Rattle.paging_core.proofs.LastEntry.{some_or_none}
 use Rattle.paging_core.proofs.Ranges.{missing_none, missing_step, missing_le, page_in, page_canonical, range_front, same_number}
 use Rattle.paging_core.proofs.FreshFrame.{free_before}
 
-pub range_start : (words : List ℕ) (free : List Bool) (root first : ℕ) (rights : Rights) → IsTree words root free →
+pub range_start : (words : List ℕ) (free : List Bool) (root first : ℕ) (rights : PageBits) → IsTree words root free →
     IsRangeAdded words words free free root first 0 rights
 range_start words free root first rights tree = record {
   size = refl;
@@ -49,7 +49,7 @@ range_start words free root first rights tree = record {
   };
 }
 
-module _ (old mid : List ℕ) (free free1 : List Bool) (root first pages k : ℕ) (rights : Rights)
+module _ (old mid : List ℕ) (free free1 : List Bool) (root first pages k : ℕ) (rights : PageBits)
     (range : IsCanonicalRange first pages)
     (lt : k < pages)
     (added : IsRangeAdded old mid free free1 root first k rights) where
@@ -321,7 +321,7 @@ module _ (old mid : List ℕ) (free free1 : List Bool) (root first pages k : ℕ
       entries = record { old_words = old_words; blank = blank; table_words = table_words; page_words = page_words };
     }
 
-module _ (old new : List ℕ) (free free' : List Bool) (root first pages step : ℕ) (rights : Rights)
+module _ (old new : List ℕ) (free free' : List Bool) (root first pages step : ℕ) (rights : PageBits)
     (range : IsCanonicalRange first pages)
     (whole : step ≡ pages)
     (added : IsRangeAdded old new free free' root first step rights) where

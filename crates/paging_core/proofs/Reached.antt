@@ -22,7 +22,7 @@ pub reach_data : (old new : List ℕ) (root frame page : ℕ) (free : List Bool)
 reach_data old new root frame page free met tree here is size others =
     reach_same old new root size
     (λ l n b j lt at lj. others b.frame j lj
-    (λ e. let p : (l ≡ 4) × (n ≡ page) = tree.distinct l n 4 page b met (omega arith) (omega arith) (λ _ _. refl) at here (e ∙ sym is) in absurd (omega arith)))
+    (λ e. let p : (l ≡ 4) × (n ≡ page) = tree.distinct l n 4 page b met (omega arith) (omega arith) at here (e ∙ sym is) in absurd (omega arith)))
 
 pub tree_data : (old new : List ℕ) (root frame page : ℕ) (free : List Bool) (met : Place) → IsTree old root free →
     reach old root 4 page ≡ Some met → met.frame ≡ frame → length new ≡ length old →
@@ -30,7 +30,7 @@ pub tree_data : (old new : List ℕ) (root frame page : ℕ) (free : List Bool) 
 tree_data old new root frame page free met tree here is size others =
     tree_same old new root free size
     (λ l n b j lt at lj. others b.frame j lj
-    (λ e. let p : (l ≡ 4) × (n ≡ page) = tree.distinct l n 4 page b met (omega arith) (omega arith) (λ _ _. refl) at here (e ∙ sym is) in absurd (omega arith)))
+    (λ e. let p : (l ≡ 4) × (n ≡ page) = tree.distinct l n 4 page b met (omega arith) (omega arith) at here (e ∙ sym is) in absurd (omega arith)))
     tree
 
 pub larges_data : (old new : List ℕ) (root frame page : ℕ) (free : List Bool) (met : Place) → IsTree old root free →
@@ -40,7 +40,7 @@ pub larges_data : (old new : List ℕ) (root frame page : ℕ) (free : List Bool
 larges_data old new root frame page free met tree here is size others =
     larges_same old new root size
     (λ l n b j lt at lj. others b.frame j lj
-    (λ e. let p : (l ≡ 4) × (n ≡ page) = tree.distinct l n 4 page b met (omega arith) (omega arith) (λ _ _. refl) at here (e ∙ sym is) in absurd (omega arith)))
+    (λ e. let p : (l ≡ 4) × (n ≡ page) = tree.distinct l n 4 page b met (omega arith) (omega arith) at here (e ∙ sym is) in absurd (omega arith)))
 
 -- the eight bytes from a multiple of 8 on are those of one word
 pub reached_word : (words : List ℕ) (root address k : ℕ) (place : Place) → address % 8 ≡ 0 → k < 8 → walk_of words root (address / 4096) ≡ Some place →
@@ -104,7 +104,7 @@ module _ (old new : List ℕ) (root address value : ℕ) (place : Place) (free :
       apart : p.frame ≡ place.frame → other % 4096 / 8 ≡ address % 4096 / 8 → ⊥
       apart e i =
           let d : prefix_of (other / 4096) 4 ≡ prefix_of (address / 4096) 4 =
-          (tree.distinct 4 (prefix_of (other / 4096) 4) 4 (prefix_of (address / 4096) 4) p place (omega arith) (omega arith) (λ _ _. refl)
+          (tree.distinct 4 (prefix_of (other / 4096) 4) 4 (prefix_of (address / 4096) 4) p place (omega arith) (omega arith)
           (sym (walk_reach old root (other / 4096)) ∙ is) at_reach e).1 in
           let s : other / 4096 ≡ address / 4096 = same_page other address co canonical (omega arith) in
           ne (omega arith)

@@ -61,7 +61,7 @@ pub tree_start : (area : Area) (words : List ℕ) (root : ℕ) (free : List Bool
     in_area area root ≡ true → IsTreeIn area words root free
 tree_start area words root free blank taken within = record {
   rights = λ l n met lt is. let p = only_root words root blank l n met is in rw p.2 refl;
-  distinct = λ l n k j a b ll lk apart x y e.
+  distinct = λ l n k j a b ll lk x y e.
       let p : (l ≡ 0) × (n ≡ 0) × (a ≡ top root) = only_root words root blank l n a x in
       let q : (k ≡ 0) × (j ≡ 0) × (b ≡ top root) = only_root words root blank k j b y in
       (p.0 ∙ sym q.0, p.1 ∙ sym q.1);

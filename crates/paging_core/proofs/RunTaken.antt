@@ -9,7 +9,7 @@ use Rattle.paging_core.specs.Runs.{IsRunFree, IsRunSet}
 use Rattle.paging_core.specs.Walk.{Place, reach, large_of, walk_of, reached, top, place_with}
 use Rattle.paging_core.specs.Tree.{IsTree}
 use Rattle.paging_core.specs.Large.{slot_of, above, missing_above, IsSlotEmpty, IsLargeAdded, AreFramesCleared}
-use Rattle.paging_core.specs.declared.page_table.Rights.{Rights}
+use Rattle.paging_core.specs.declared.page_table.PageBits.{PageBits}
 use Rattle.paging_core.proofs.Reach.{reach_same, larges_same}
 use Rattle.paging_core.proofs.Prefixes.{walk_reach}
 use Rattle.paging_core.proofs.Made.{tree_same}
@@ -99,7 +99,7 @@ module _ (old mid : List ℕ) (free free1 : List Bool) (root run : ℕ)
       same_byte old mid root address p.0 p.0 p.1 (run_walk (address / 4096) ∙ p.1) refl
       (stays p.0.frame (address % 4096 / 8) (omega arith) (unmet 4 (prefix_of (address / 4096) 4) p.0 (omega arith) was))
 
-  module _ (new : List ℕ) (free' : List Bool) (page : ℕ) (rights : Rights)
+  module _ (new : List ℕ) (free' : List Bool) (page : ℕ) (rights : PageBits)
       (added : IsLargeAdded mid new free1 free' root page run rights)
       (tree' : IsTree new root free') where
     -- no byte of a page that was mapped is changed
@@ -115,7 +115,7 @@ module _ (old mid : List ℕ) (free free1 : List Bool) (root run : ℕ)
         sym (walk_reach new root (512 * page + k)) ∙ added.there k lt in
         added.words (512 * run + k) i li
         (λ l ll here. let d = tree'.distinct 4 (prefix_of (512 * page + k) 4) l (above page l) (place_with (512 * run + k) rights) (top (512 * run + k))
-        (omega arith) (omega arith) (λ _ _. refl) met here refl in absurd (omega (arith, d.0)))
+        (omega arith) (omega arith) met here refl in absurd (omega (arith, d.0)))
         ∙ blank.zeros k i lt li
 
     -- each byte of the slot is 0
@@ -127,7 +127,7 @@ module _ (old mid : List ℕ) (free free1 : List Bool) (root run : ℕ)
         let w : word_at new (512 * run + k) (address % 4096 / 8) ≡ 0 =
         added.words (512 * run + k) (address % 4096 / 8) (omega arith)
         (λ l ll here. let d = tree'.distinct 4 (prefix_of (address / 4096) 4) l (above page l) (place_with (512 * run + k) rights) (top (512 * run + k))
-        (omega arith) (omega arith) (λ _ _. refl) met here refl in absurd (omega (arith, d.0)))
+        (omega arith) (omega arith) met here refl in absurd (omega (arith, d.0)))
         ∙ blank.zeros k (address % 4096 / 8) lt (omega arith) in
         reached_at new root address (place_with (512 * run + k) rights) at
         ∙ (ap (λ v. Some (byte_of v (address % 8))) w ∙ ap Some (zero_byte (address % 8)))

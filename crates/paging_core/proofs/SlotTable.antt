@@ -5,7 +5,7 @@ use Rattle.paging_core.specs.Plain.{IsPlain}
 use Rattle.paging_core.specs.Memory.{word_at, frame_count}
 use Rattle.paging_core.specs.Walk.{Place, step, reach, large_of, top, page_in}
 use Rattle.paging_core.specs.Large.{slot_of, above}
-use Rattle.paging_core.specs.declared.page_table.Rights.{Rights}
+use Rattle.paging_core.specs.declared.page_table.PageBits.{PageBits}
 use Rattle.paging_core.proofs.Plain.{plain_page}
 use Rattle.paging_core.proofs.Reach.{reach_last, reach_in}
 use Rattle.paging_core.proofs.Slot.{slot_there, slot_large, slot_larges, slot_others}
@@ -14,8 +14,8 @@ use Rattle.paging_core.proofs.LastEntry.{step_page}
 use Rattle.paging_core.proofs.LargeGone.{slot_place}
 
 -- the rights of a place
-abbrev pub rights_of : Place → Rights
-rights_of large = record { write = large.write; user = large.user; fetch = large.fetch }
+abbrev pub rights_of : Place → PageBits
+rights_of large = record { write = large.write; user = large.user; fetch = large.fetch; through = large.through; uncached = large.uncached; global = large.global }
 
 -- a page of the slot, by the number of its four indices
 pub at_page : (words : List ℕ) (root page : ℕ) (large : Place) → large_of words root (slot_of page) ≡ Some large →

@@ -1,5 +1,5 @@
 -- Where the walk to a page ends.
-use Rattle.std.proofs.Common.{◌≡◌, ℕ, ◌+◌, ◌%◌, ◌<◌, true, List, Some, None, refl, sym, ap, ◌∙◌, ◌⊎◌, inl, inr, arith}
+use Rattle.std.proofs.Common.{◌≡◌, ℕ, ◌+◌, ◌%◌, ◌<◌, true, List, Some, None, refl, sym, ap, ◌∙◌, ◌⊎◌, inl, inr, arith, false}
 use Rattle.paging_core.specs.Missing.{missing_of}
 use Rattle.paging_core.specs.Prefix.{prefix_of}
 use Rattle.paging_core.specs.Tables.{missing_at}
@@ -20,7 +20,7 @@ next_met words root page level index at lt met ix =
     ∙ (ap (λ o. next_from words level o (prefix_of page (level + 1) % 512)) met ∙ ap (step words level at) (sym ix))
 
 -- the first step, from the root with all rights
-pub first_met : (words : List ℕ) (root page index : ℕ) (full : Mapped) → full ≡ record { frame = root; write = true; user = true; fetch = true } →
+pub first_met : (words : List ℕ) (root page index : ℕ) (full : Mapped) → full ≡ record { frame = root; write = true; user = true; fetch = true; through = false; uncached = false; global = false } →
     index ≡ prefix_of page 1 % 512 → reach words root 1 (prefix_of page 1) ≡ step words 0 (mapped_place full) index
 first_met words root page index full e ix =
     next_met words root page 0 index (top root) (omega arith) (reach_root words root page) ix ∙ ap (λ (m : Mapped). step words 0 (mapped_place m) index) (sym e)

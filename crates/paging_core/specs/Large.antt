@@ -10,7 +10,7 @@ use Rattle.paging_core.specs.Pool.{is_frame_free, free_count, AreLowestTaken}
 use Rattle.paging_core.specs.Runs.{IsRunTaken}
 use Rattle.paging_core.specs.Walk.{Place, reach, large_of, walk_of, top, place_with}
 use Rattle.paging_core.specs.Tables.{missing_at}
-use Rattle.paging_core.specs.declared.page_table.Rights.{Rights}
+use Rattle.paging_core.specs.declared.page_table.PageBits.{PageBits}
 
 -- the slot of a page of 2 MiB
 abbrev pub slot_of : ℕ → ℕ
@@ -31,7 +31,7 @@ pub record IsSlotEmpty (words : List ℕ) (root page : ℕ) : Type 0 where
 
 -- The words of the tables after a large page was mapped. Entry `i` of the table that is met at the prefix (l, n) leads
 -- on to the prefix (l + 1, 512 * n + i).
-pub record HasLargeEntries (old new : List ℕ) (root page frame : ℕ) (rights : Rights) : Type 0 where
+pub record HasLargeEntries (old new : List ℕ) (root page frame : ℕ) (rights : PageBits) : Type 0 where
   -- a word of a table that was there is changed only if it leads elsewhere now
   pub old_words :
       (l n f i : ℕ) → l < 4 → i < 512 → reach old root l n ≡ Some (top f) →
@@ -47,7 +47,7 @@ pub record HasLargeEntries (old new : List ℕ) (root page frame : ℕ) (rights 
   pub large_word : (f : ℕ) → reach new root 2 (above page 2) ≡ Some (top f) → word_at new f (slot_of page % 512) ≡ large_entry (512 * frame) rights
 
 -- The slot was mapped to the frames with the rights, by one entry, and the tables above it that were missing were made.
-pub record IsLargeAdded (old new : List ℕ) (free free' : List Bool) (root page frame : ℕ) (rights : Rights) : Type 0 where
+pub record IsLargeAdded (old new : List ℕ) (free free' : List Bool) (root page frame : ℕ) (rights : PageBits) : Type 0 where
   pub size : length new ≡ length old
   pub flags : length free' ≡ length free
   -- the 512 pages, and the large page
@@ -79,7 +79,7 @@ pub record AreFramesCleared (old new : List ℕ) (first count : ℕ) : Type 0 wh
   pub others : (f i : ℕ) → i < 512 → ((k : ℕ) → k < count → f ≡ first + k → ⊥) → word_at new f i ≡ word_at old f i
 
 -- The lowest run that was wholly free was taken and cleared, and then the slot was mapped to it.
-pub record IsSlotAdded (old new : List ℕ) (free free' : List Bool) (root page : ℕ) (rights : Rights) : Type 0 where
+pub record IsSlotAdded (old new : List ℕ) (free free' : List Bool) (root page : ℕ) (rights : PageBits) : Type 0 where
   pub run : ℕ
   pub left : List Bool
   pub blank : List ℕ
@@ -133,7 +133,7 @@ pub record IsLargeCut (old new : List ℕ) (free free' : List Bool) (root page k
   pub count : free_count free' + keep ≡ free_count free + 511
   -- the words: of the new table, of the entry that names it, and all others
   pub page_words : (k : ℕ) → k < keep →
-      word_at new (large.frame + keep) k ≡ page_entry (large.frame + k) (record { write = large.write; user = large.user; fetch = large.fetch })
+      word_at new (large.frame + keep) k ≡ page_entry (large.frame + k) (record { write = large.write; user = large.user; fetch = large.fetch; through = large.through; uncached = large.uncached; global = large.global })
   pub blank : (k : ℕ) → keep ≤ k → k < 512 → word_at new (large.frame + keep) k ≡ 0
   pub entry : (at : Place) → reach old root 2 (above page 2) ≡ Some at → word_at new at.frame (slot_of page % 512) ≡ table_entry (large.frame + keep)
   pub words :

@@ -6,7 +6,7 @@ use Rattle.paging_core.specs.Entry.{table_entry, page_entry, large_entry}
 use Rattle.paging_core.specs.Pool.{is_frame_free, free_count}
 use Rattle.paging_core.specs.Walk.{Place, reach, large_of, walk_of, top, place_with, page_in}
 use Rattle.paging_core.specs.Large.{slot_of, above}
-use Rattle.paging_core.specs.declared.page_table.Rights.{Rights}
+use Rattle.paging_core.specs.declared.page_table.PageBits.{PageBits}
 
 -- The large page of the slot was split: its 512 pages lead where they led, now by a table of single entries, which lies
 -- in the lowest frame that was free.
@@ -30,14 +30,14 @@ pub record IsLargeSplit (old new : List ℕ) (free free' : List Bool) (root page
   pub count : free_count free' + 1 ≡ free_count free
   -- the words: of the new table, of the entry that names it, and all others
   pub page_words : (k : ℕ) → k < 512 →
-      word_at new made k ≡ page_entry (large.frame + k) (record { write = large.write; user = large.user; fetch = large.fetch })
+      word_at new made k ≡ page_entry (large.frame + k) (record { write = large.write; user = large.user; fetch = large.fetch; through = large.through; uncached = large.uncached; global = large.global })
   pub entry : (at : Place) → reach old root 2 (above page 2) ≡ Some at → word_at new at.frame (slot_of page % 512) ≡ table_entry made
   pub words :
       (f i : ℕ) → i < 512 → (f ≡ made → ⊥) → ((at : Place) → reach old root 2 (above page 2) ≡ Some at → f ≡ at.frame → i ≡ slot_of page % 512 → ⊥) →
       word_at new f i ≡ word_at old f i
 
 -- The entry that maps the slot maps the same frames with these rights now, and all other words stay.
-pub record IsLargeRegranted (old new : List ℕ) (root page : ℕ) (rights : Rights) : Type 0 where
+pub record IsLargeRegranted (old new : List ℕ) (root page : ℕ) (rights : PageBits) : Type 0 where
   pub large : Place
   pub table : Place
   pub was : large_of old root (slot_of page) ≡ Some large
@@ -45,7 +45,7 @@ pub record IsLargeRegranted (old new : List ℕ) (root page : ℕ) (rights : Rig
   pub words : new ≡ set old (512 * table.frame + slot_of page % 512) (large_entry large.frame rights)
 
 -- The 512 pages of the slot have these rights, each at its frame, and nothing else of the walk is changed.
-pub record AreLargeGranted (old new : List ℕ) (root page : ℕ) (rights : Rights) : Type 0 where
+pub record AreLargeGranted (old new : List ℕ) (root page : ℕ) (rights : PageBits) : Type 0 where
   pub large : Place
   pub was : large_of old root (slot_of page) ≡ Some large
   pub size : length new ≡ length old

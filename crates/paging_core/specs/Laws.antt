@@ -9,10 +9,10 @@ use Rattle.paging_core.specs.Pool.{is_frame_free, IsFrameGiven}
 use Rattle.paging_core.specs.Walk.{Place, step, next_from, large_from, large_of, page_in, page_or, reach, walk_of, top}
 use Rattle.paging_core.specs.ProcessorWalk.{AtPage, processor_walk, page_of, is_refused}
 use Rattle.paging_core.specs.Entry.{has_bit}
-use Rattle.paging_core.specs.Plain.{ArePlain, marked}
+use Rattle.paging_core.specs.Plain.{ArePlain, marked, maps_page, pat_of}
 use Rattle.paging_core.specs.Tree.{IsTree, IsTreeIn}
 use Rattle.paging_core.specs.Mapping.{IsPageAdded}
-use Rattle.paging_core.specs.declared.page_table.Rights.{Rights}
+use Rattle.paging_core.specs.declared.page_table.PageBits.{PageBits}
 
 -- the walk takes four steps from the root, by the four indices of the page, or ends after three in a large page
 abbrev pub WalkStepsByIndices : Type 0
@@ -45,7 +45,7 @@ NoPageAtAFreeFrame =
 -- two pages that are mapped in either order leave the same walk of every page
 abbrev pub MappingCommutes : Type 0
 MappingCommutes =
-    (words first second first' second' : List ℕ) (free free1 free2 free1' free2' : List Bool) (root page other frame frame' : ℕ) (rights rights' : Rights) →
+    (words first second first' second' : List ℕ) (free free1 free2 free1' free2' : List Bool) (root page other frame frame' : ℕ) (rights rights' : PageBits) →
     (page % 2 ^ 36 ≡ other % 2 ^ 36 → ⊥) →
     IsPageAdded words first free free1 root page frame rights → IsPageAdded first second free1 free2 root other frame' rights' →
     IsPageAdded words first' free free1' root other frame' rights' → IsPageAdded first' second' free1' free2' root page frame rights →
@@ -101,3 +101,11 @@ NoEntryIsMarked =
     (words : List ℕ) (root level number index : ℕ) (table : Place) (writes : Bool) → ArePlain words root → level < 4 → index < 512 →
     reach words root level number ≡ Some table → has_bit (word_at words table.frame index) 0 ≡ true →
     marked writes level (word_at words table.frame index) ≡ word_at words table.frame index
+
+-- Over plain entries the type of a page is one of the first four: the entry that maps it has no PAT bit, so bits 3 and 4, which
+-- the walk tells, are all of its type.
+abbrev pub NoEntryHasPat : Type 0
+NoEntryHasPat =
+    (words : List ℕ) (root level number index : ℕ) (table : Place) → ArePlain words root → level < 4 → index < 512 →
+    reach words root level number ≡ Some table → has_bit (word_at words table.frame index) 0 ≡ true →
+    maps_page level (word_at words table.frame index) ≡ true → pat_of level (word_at words table.frame index) ≡ false

@@ -11,6 +11,7 @@ pub mod PageTableFlags
 pub mod Prefix
 pub mod Steps
 pub mod Walk
+pub mod PageBits
 pub mod Pool
 pub mod Ahead
 pub mod Runs

@@ -7,11 +7,11 @@ use Rattle.paging_core.specs.Pool.{is_frame_free, free_count, AreLowestTaken}
 use Rattle.paging_core.specs.Walk.{Place, reach, large_of, walk_of, top, place_with}
 use Rattle.paging_core.specs.Tree.{IsTree}
 use Rattle.paging_core.specs.Missing.{missing_of}
-use Rattle.paging_core.specs.declared.page_table.Rights.{Rights}
+use Rattle.paging_core.specs.declared.page_table.PageBits.{PageBits}
 
 -- The words of the tables after pages with these rights were added. Entry `i` of the table that is met at
 -- the prefix (l, n) leads on to the prefix (l + 1, 512 * n + i).
-pub record HasExactEntries (old new : List ℕ) (root : ℕ) (rights : Rights) : Type 0 where
+pub record HasExactEntries (old new : List ℕ) (root : ℕ) (rights : PageBits) : Type 0 where
   -- a word of a table that was there is changed only if it leads elsewhere now
   pub old_words :
       (l n f i : ℕ) → l < 4 → i < 512 → reach old root l n ≡ Some (top f) →
@@ -29,7 +29,7 @@ pub record HasExactEntries (old new : List ℕ) (root : ℕ) (rights : Rights) :
       reach new root 4 (512 * n + i) ≡ Some place → word_at new f i ≡ page_entry place.frame rights
 
 -- One page was added, at the frame with the rights, and the tables that it missed.
-pub record IsPageAdded (old new : List ℕ) (free free' : List Bool) (root page frame : ℕ) (rights : Rights) : Type 0 where
+pub record IsPageAdded (old new : List ℕ) (free free' : List Bool) (root page frame : ℕ) (rights : PageBits) : Type 0 where
   pub size : length new ≡ length old
   pub flags : length free' ≡ length free
   pub there : walk_of new root page ≡ Some (place_with frame rights)
@@ -53,7 +53,7 @@ pub record IsPageAdded (old new : List ℕ) (free free' : List Bool) (root page 
   pub entries : HasExactEntries old new root rights
 
 -- A page of a range that was added: it is found with the rights, at a frame that was free and is 0.
-pub record IsNewPage (new : List ℕ) (free free' : List Bool) (root page : ℕ) (rights : Rights) : Type 0 where
+pub record IsNewPage (new : List ℕ) (free free' : List Bool) (root page : ℕ) (rights : PageBits) : Type 0 where
   pub frame : ℕ
   pub found : walk_of new root page ≡ Some (place_with frame rights)
   pub was_free : is_frame_free free frame ≡ true
@@ -61,7 +61,7 @@ pub record IsNewPage (new : List ℕ) (free free' : List Bool) (root page : ℕ)
   pub zeros : (i : ℕ) → i < 512 → word_at new frame i ≡ 0
 
 -- The pages from `first` on were added, each at a new frame, and the tables that they missed.
-pub record IsRangeAdded (old new : List ℕ) (free free' : List Bool) (root first pages : ℕ) (rights : Rights) : Type 0 where
+pub record IsRangeAdded (old new : List ℕ) (free free' : List Bool) (root first pages : ℕ) (rights : PageBits) : Type 0 where
   pub size : length new ≡ length old
   pub flags : length free' ≡ length free
   pub tree : IsTree new root free'

@@ -6,7 +6,7 @@ use Rattle.paging_core.specs.Entry.{page_entry}
 use Rattle.paging_core.specs.Prefix.{prefix_of}
 use Rattle.paging_core.specs.Pool.{is_frame_free}
 use Rattle.paging_core.specs.Walk.{Place, reach, large_of, walk_of, top, place_with}
-use Rattle.paging_core.specs.declared.page_table.Rights.{Rights}
+use Rattle.paging_core.specs.declared.page_table.PageBits.{PageBits}
 
 -- What becomes of a page that led to a place: the word of its entry, and where the page leads then.
 pub record Change : Type 0 where
@@ -18,7 +18,7 @@ abbrev pub removal : Change
 removal = record { entry = λ place. 0; leads = λ place. None }
 
 -- the page keeps its frame, and has these rights
-abbrev pub regrant : Rights → Change
+abbrev pub regrant : PageBits → Change
 regrant rights = record { entry = λ place. page_entry place.frame rights; leads = λ place. Some (place_with place.frame rights) }
 
 -- The page leads to the frame.

@@ -49,8 +49,8 @@ pub record IsLargePage (words : List ℕ) (root page : ℕ) : Type 0 where
   pub rooted : IsRoot words root
   pub large : IsSome (large_of words root (slot_of page))
 
--- The page is not mapped, and may be mapped to the frame: this is no table's. In a whole memory no other page leads to
--- it; if the tables lie in an area, two pages may lead to one frame.
+-- The page is not mapped, and may be mapped to the frame. In a whole memory this is no table's, and no other page leads
+-- to it; if the tables lie in an area, a page may lead to any frame, to a table's too.
 pub record IsMappable (area : Area) (words : List ℕ) (root page frame : ℕ) : Type 0 where
   pub unmapped : walk_of words root page ≡ None
   pub below : frame < frame_count words
@@ -63,8 +63,8 @@ pub record IsRangeMappable (words : List ℕ) (root : ℕ) (free : List Bool) (f
   pub unmapped : (k : ℕ) → k < pages → walk_of words root (first + k) ≡ None
   pub room : pages + missing_of words root first pages ≤ free_count free
 
--- The slot of the number `page` is empty, and may be mapped to the run of frames of the number `frame`: these are no
--- tables'. In a whole memory no page leads to one of them.
+-- The slot of the number `page` is empty, and may be mapped to the run of frames of the number `frame`. In a whole memory
+-- these are no tables', and no page leads to one of them.
 pub record IsSlotMappable (area : Area) (words : List ℕ) (root page frame : ℕ) : Type 0 where
   pub empty : IsSlotEmpty words root page
   pub below : 512 * frame + 511 < frame_count words

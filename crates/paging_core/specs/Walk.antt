@@ -1,17 +1,22 @@
 -- The walk of four levels (AMD64 volume 2, "4-Kbyte Page Translation in Long Mode" and "2-Mbyte Page Translation in Long Mode").
-use Rattle.std.specs.Prelude.{ℕ, zero, suc, ◌+◌, ◌/◌, ◌%◌, ◌^◌, Bool, true, not, ◌==◌, nat_lt, ◌&&◌, if◌then◌else◌, List, Option, Some, None}
+use Rattle.std.specs.Prelude.{ℕ, zero, suc, ◌+◌, ◌/◌, ◌%◌, ◌^◌, Bool, true, false, not, ◌==◌, nat_lt, ◌&&◌, if◌then◌else◌, List, Option, Some, None}
 use Rattle.std.specs.Option.{option_map}
 use Rattle.paging_core.specs.Memory.{word_at, frame_count, byte_of}
 use Rattle.paging_core.specs.Entry.{has_bit, frame_of}
-use Rattle.paging_core.specs.declared.page_table.Rights.{Rights}
+use Rattle.paging_core.specs.declared.page_table.PageBits.{PageBits}
 use Rattle.paging_core.specs.declared.page_walk.Mapped.{Mapped}
 
--- where a walk arrives, with the rights that all entries on the way grant: a table, or a page's frame
+-- where a walk arrives, a table or a page's frame: with the rights that all entries on the way grant, the type that the
+-- last one gives, and whether that one is global
 pub record Place : Type 0 where
   pub frame : ℕ
   pub write : Bool
   pub user : Bool
   pub fetch : Bool
+  -- of the last entry alone: bits 3, 4 and 8
+  pub through : Bool
+  pub uncached : Bool
+  pub global : Bool
 
 -- an entry is present if bit 0 is set and its frame exists
 abbrev pub is_present : List ℕ → ℕ → Bool
@@ -24,6 +29,9 @@ named from entry = record {
   write = from.write && has_bit entry 1;
   user = from.user && has_bit entry 2;
   fetch = from.fetch && not (has_bit entry 63);
+  through = has_bit entry 3;
+  uncached = has_bit entry 4;
+  global = has_bit entry 8;
 }
 
 -- an entry of the third step ends the walk if it has bit 7: it maps a large page, which is 512 pages
@@ -56,11 +64,11 @@ large_from words (Some from) index = large_step words from index
 
 -- page `index` of a large page
 abbrev pub page_in : ℕ → Place → Place
-page_in index large = record { frame = large.frame + index; write = large.write; user = large.user; fetch = large.fetch }
+page_in index large = record { frame = large.frame + index; write = large.write; user = large.user; fetch = large.fetch; through = large.through; uncached = large.uncached; global = large.global }
 
 -- a frame with all rights, as each table is met
 abbrev pub top : ℕ → Place
-top frame = record { frame = frame; write = true; user = true; fetch = true }
+top frame = record { frame = frame; write = true; user = true; fetch = true; through = false; uncached = false; global = false }
 
 -- where the walk along a prefix of `level` indices arrives if it takes one entry for each index: at level 0 the root,
 -- at level 4 a page's frame
@@ -92,9 +100,9 @@ reached words root address =
     option_map (λ place. byte_of (word_at words place.frame (address % 4096 / 8)) (address % 8)) (walk_of words root (address / 4096))
 
 -- a frame with these rights
-abbrev pub place_with : ℕ → Rights → Place
-place_with frame rights = record { frame = frame; write = rights.write; user = rights.user; fetch = rights.fetch }
+abbrev pub place_with : ℕ → PageBits → Place
+place_with frame rights = record { frame = frame; write = rights.write; user = rights.user; fetch = rights.fetch; through = rights.through; uncached = rights.uncached; global = rights.global }
 
 -- the place of an answer of `walk`
 abbrev pub mapped_place : Mapped → Place
-mapped_place mapped = record { frame = mapped.frame; write = mapped.write; user = mapped.user; fetch = mapped.fetch }
+mapped_place mapped = record { frame = mapped.frame; write = mapped.write; user = mapped.user; fetch = mapped.fetch; through = mapped.through; uncached = mapped.uncached; global = mapped.global }

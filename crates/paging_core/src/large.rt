@@ -14,7 +14,7 @@ ghost use Rattle.paging_core.specs.Premises.{IsLargePage, IsSlotMappable};
 
 use crate::frame_allocator::{FrameAllocator, FrameDeallocator};
 use crate::memory::Frames;
-use crate::page_table::{PageTableEntry, Rights};
+use crate::page_table::{PageBits, PageTableEntry};
 use crate::page_walk::{Mapped, descend, large_at};
 use crate::pages::{Page, Size2MiB, index_after};
 use crate::phys_frames::PhysFrame;
@@ -42,20 +42,20 @@ fn first_frame(frame: PhysFrame<Size2MiB>) -> PhysFrame
 /// Maps the slot of the page to the run of frames with the rights, by one entry. The tables above it that are missing
 /// are made, each in a frame from the pool.
 ///
-/// No page of the slot is mapped, and it has no table. The frames are neither free nor those of tables. In a whole
-/// memory no page leads to them; if the tables lie in an area, other pages may. The pool has the frames for the missing
-/// tables.
+/// No page of the slot is mapped, and it has no table. In a whole memory the frames are neither free nor those of tables,
+/// and no page leads to them; if the tables lie in an area, a page may lead to any frame, to a table's too. The pool has
+/// the frames for the missing tables.
 pub fn map_large<M: PhysicalMemory, P: TableFrames>(
     frames: &mut M,
     pool: &mut P,
     root: PhysFrame,
     page: Page<Size2MiB>,
     frame: PhysFrame<Size2MiB>,
-    rights: Rights,
+    rights: PageBits,
 )
     requires standing { IsTreeAndPool (M.area frames.old) (M.words frames.old) root (P.free pool.old) }
     requires mappable { IsSlotMappable (M.area frames.old) (M.words frames.old) root page frame }
-    requires used { (k : ℕ) → k < 512 → is_frame_free (P.free pool.old) (512 * frame + k) ≡ false }
+    requires used { M.area frames.old ≡ Whole → (k : ℕ) → k < 512 → is_frame_free (P.free pool.old) (512 * frame + k) ≡ false }
     requires room { missing_above (M.words frames.old) root page ≤ free_count (P.free pool.old) }
     requires before { (now : List ℕ) → IsStill (M.area frames.old) (M.words frames.old) root now → M.allows now }
     requires seen { (now : List ℕ) (free : List Bool) → IsLargeAdded (M.words frames.old) now (P.free pool.old) free root page frame rights → M.allows now }
@@ -87,7 +87,7 @@ pub fn map_slot(
     pool: &mut FramePool,
     root: PhysFrame,
     page: Page<Size2MiB>,
-    rights: Rights,
+    rights: PageBits,
 ) -> bool
     requires standing { IsTreeAndPool Whole frames.old root pool.old }
     requires empty { IsSlotEmpty frames.old root page }
@@ -95,7 +95,7 @@ pub fn map_slot(
     ensures standing { IsTreeAndPool Whole frames.new root pool.new }
     ensures full { IsFalse result → ((run : ℕ) → IsRunFree pool.old run → ⊥) × (frames.new ≡ frames.old) × (pool.new ≡ pool.old) }
     ensures mapped { IsTrue result → IsSlotMapped frames.old frames.new pool.old pool.new root page rights }
-    ensures others { KeepsOtherSlots frames.old frames.new root page }
+    ensures others { KeepsOtherSlots Whole frames.old frames.new root page }
 {
     let run: Option<PhysFrame<Size2MiB>> = pool.allocate_frame();
     let Some(run) = run else {
@@ -194,7 +194,7 @@ pub(crate) fn fill_table<M: PhysicalMemory>(
     table: PhysFrame,
     first: PhysFrame,
     count: u16,
-    rights: Rights,
+    rights: PageBits,
 )
     requires inside { in_area (M.area frames.old) table ≡ true }
     requires table { table < frame_count (M.words frames.old) }

@@ -1,7 +1,7 @@
 //! Laws above the definitions of the walk and of the tree rule. Each function does nothing: its contract
 //! is the law.
 
-ghost use Rattle.paging_core.specs.Laws.{WalkStepsByIndices, PrefixesAreOfPages, OnePageForAFrame, NoPageAtAFreeFrame, MappingCommutes, PlacesCountPages, GivingKeepsTheTree, MappedByATable, MappedInALargePage, ProcessorsWalkAlike, AreaWalksAlike, NoEntryIsMarked};
+ghost use Rattle.paging_core.specs.Laws.{WalkStepsByIndices, PrefixesAreOfPages, OnePageForAFrame, NoPageAtAFreeFrame, MappingCommutes, PlacesCountPages, GivingKeepsTheTree, MappedByATable, MappedInALargePage, ProcessorsWalkAlike, AreaWalksAlike, NoEntryIsMarked, NoEntryHasPat};
 
 /// The walk of a page goes from the root by the page's four indices, or ends after three of them in a large page.
 pub fn walk_steps_by_indices()
@@ -64,4 +64,9 @@ pub fn area_walks_alike()
 /// maps a page.
 pub fn no_entry_is_marked()
     ensures { NoEntryIsMarked }
+{}
+
+/// Over plain entries the type of a page is one of the first four of the processor's table of types.
+pub fn no_entry_has_pat()
+    ensures { NoEntryHasPat }
 {}

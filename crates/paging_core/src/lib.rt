@@ -45,18 +45,18 @@ pub use large::{cut_large, has_table, large_page, map_large, map_slot, unmap_lar
 pub use mapping::{map_at, map_page};
 pub use memory::Frames;
 pub use missing::missing_tables;
-pub use page_table::{PageTableEntry, PageTableIndex, Rights};
+pub use page_table::{PageBits, PageTableEntry, PageTableIndex, Rights};
 pub use page_table_flags::PageTableFlags;
 pub use page_walk::{Mapped, walk};
 pub use pages::{
     AddressNotAligned, NotGiantPageSize, Page, PageRange, PageRangeInclusive, PageSize, Size1GiB,
-    Size2MiB, Size4KiB,
+    Size2MiB, Size4KiB, index_after,
 };
 pub use phys_frames::{PhysFrame, PhysFrameRange, PhysFrameRangeInclusive};
 pub use physical_memory::PhysicalMemory;
 pub use pool::FramePool;
 pub use processor_access::{AccessKind, access_byte};
-pub use processor_walk::{Translated, translate};
+pub use processor_walk::{Next, Translated, past_entry, translate};
 pub use protecting::{protect_at, protect_page, protect_range};
 pub use range::map_range;
 pub use split::{protect_large, split_large};

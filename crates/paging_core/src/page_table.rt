@@ -1,4 +1,4 @@
-ghost use Rattle.std.specs.Prelude.{◌≡◌, ℕ, ◌+◌, ◌*◌, ◌/◌, ◌%◌, ◌^◌, ◌<◌, ◌≤◌, ◌==◌, not, IsTrue, ◌↔◌, bit_and, if◌then◌else◌};
+ghost use Rattle.std.specs.Prelude.{◌≡◌, ℕ, ◌+◌, ◌*◌, ◌/◌, ◌%◌, ◌^◌, ◌<◌, ◌≤◌, ◌==◌, not, IsTrue, false, ◌↔◌, bit_and, if◌then◌else◌};
 ghost use Rattle.paging_core.specs.PageTableFlags.{page_table_bits};
 ghost use Rattle.paging_core.specs.Entry.{has_bit, frame_of, table_entry, page_entry, large_entry};
 
@@ -17,6 +17,41 @@ pub struct Rights {
     pub user: bool,
     /// Instruction fetches are granted.
     pub fetch: bool,
+}
+
+/// The bits of a page's entry: what the accesses may do, and which of the first four types of the processor's table of memory
+/// types (PAT) they have: `through` counts 1, and `uncached` 2. A translation by a global entry outlives a new CR3.
+#[derive(Clone, Copy, PartialEq, Eq, Debug)]
+pub struct PageBits {
+    /// Writes are granted.
+    pub write: bool,
+    /// Accesses at user level are granted.
+    pub user: bool,
+    /// Instruction fetches are granted.
+    pub fetch: bool,
+    /// Bit 3, PWT.
+    pub through: bool,
+    /// Bit 4, PCD.
+    pub uncached: bool,
+    /// Bit 8, G.
+    pub global: bool,
+}
+
+impl Rights {
+    /// The bits of an entry with these rights, of type 0, and not global. Type 0 is that of usual memory, write-back, if the
+    /// PAT was not changed.
+    pub fn bits(self) -> PageBits
+        ensures { result ≡ record { write = self.write; user = self.user; fetch = self.fetch; through = false; uncached = false; global = false } }
+    {
+        PageBits {
+            write: self.write,
+            user: self.user,
+            fetch: self.fetch,
+            through: false,
+            uncached: false,
+            global: false,
+        }
+    }
 }
 
 /// The index of an entry in a table: below 512.
@@ -126,6 +161,18 @@ impl PageTableEntry {
         self.has(PageTableFlags::USER_ACCESSIBLE)
     }
 
+    pub(crate) fn is_through(&self) -> bool
+        ensures { result ≡ has_bit self.now 3 }
+    {
+        self.has(PageTableFlags::WRITE_THROUGH)
+    }
+
+    pub(crate) fn is_uncached(&self) -> bool
+        ensures { result ≡ has_bit self.now 4 }
+    {
+        self.has(PageTableFlags::NO_CACHE)
+    }
+
     /// Whether the entry has bit 7: at the third step of a walk it maps a large page.
     pub fn is_huge(&self) -> bool
         ensures { result ≡ has_bit self.now 7 }
@@ -157,14 +204,17 @@ impl PageTableEntry {
     }
 
     /// The entry that maps a page to the frame with the rights. It is accessed and dirty already.
-    pub(crate) fn to_page(frame: PhysFrame, rights: Rights) -> Self
+    pub(crate) fn to_page(frame: PhysFrame, rights: PageBits) -> Self
         ensures value { result ≡ page_entry frame rights }
         ensures fits { frame < 2 ^ 40 }
     {
         let there = PageTableFlags::PRESENT | PageTableFlags::ACCESSED | PageTableFlags::DIRTY;
         let low = there.bits()
             | bits_where(rights.write, PageTableFlags::WRITABLE)
-            | bits_where(rights.user, PageTableFlags::USER_ACCESSIBLE);
+            | bits_where(rights.user, PageTableFlags::USER_ACCESSIBLE)
+            | bits_where(rights.through, PageTableFlags::WRITE_THROUGH)
+            | bits_where(rights.uncached, PageTableFlags::NO_CACHE)
+            | bits_where(rights.global, PageTableFlags::GLOBAL);
         let high = bits_where(!rights.fetch, PageTableFlags::NO_EXECUTE);
         PageTableEntry(high | (frame.number() << 12 | low))
     }
@@ -172,7 +222,7 @@ impl PageTableEntry {
 
 impl PageTableEntry {
     /// The entry that maps a large page from the frame on with the rights.
-    pub(crate) fn to_large(frame: PhysFrame, rights: Rights) -> Self
+    pub(crate) fn to_large(frame: PhysFrame, rights: PageBits) -> Self
         ensures value { result ≡ large_entry frame rights }
         ensures fits { frame < 2 ^ 40 }
     {

@@ -1,4 +1,4 @@
-ghost use Rattle.std.specs.Prelude.{◌≡◌, ◌+◌, ◌*◌, ◌%◌, ◌^◌, ◌<◌, ◌≤◌, IfSome, IsTrue, true, if◌then◌else◌, Some, None};
+ghost use Rattle.std.specs.Prelude.{◌≡◌, ◌+◌, ◌*◌, ◌%◌, ◌^◌, ◌<◌, ◌≤◌, IfSome, IsTrue, true, false, if◌then◌else◌, Some, None};
 ghost use Rattle.std.specs.Option.{option_map};
 ghost use Rattle.paging_core.specs.Area.{in_area};
 ghost use Rattle.paging_core.specs.Memory.{frame_count};
@@ -10,7 +10,7 @@ ghost use Rattle.paging_core.specs.EntryPlace.{IsEntryIn, IsRoot};
 ghost use Rattle.paging_core.specs.Premises.{IsMappedPage, IsSmallPage};
 
 use crate::memory::Frames;
-use crate::page_table::{PageTableEntry, Rights};
+use crate::page_table::{PageBits, PageTableEntry};
 use crate::pages::{Page, index_after};
 use crate::phys_frames::PhysFrame;
 use crate::physical_memory::PhysicalMemory;
@@ -27,29 +27,41 @@ pub struct Mapped {
     pub user: bool,
     /// No entry denies fetches.
     pub fetch: bool,
+    /// The last entry has bit 3, PWT.
+    pub through: bool,
+    /// The last entry has bit 4, PCD.
+    pub uncached: bool,
+    /// The last entry has bit 8, G.
+    pub global: bool,
 }
 
 impl Mapped {
     /// The rights of the place.
-    pub(crate) fn rights(self) -> Rights
-        ensures { result ≡ record { write = self.write; user = self.user; fetch = self.fetch } }
+    pub(crate) fn rights(self) -> PageBits
+        ensures { result ≡ record { write = self.write; user = self.user; fetch = self.fetch; through = self.through; uncached = self.uncached; global = self.global } }
     {
-        Rights {
+        PageBits {
             write: self.write,
             user: self.user,
             fetch: self.fetch,
+            through: self.through,
+            uncached: self.uncached,
+            global: self.global,
         }
     }
 
     /// A place with all rights.
-    pub(crate) fn full(frame: PhysFrame) -> Self
-        ensures { result ≡ record { frame = frame; write = true; user = true; fetch = true } }
+    pub fn full(frame: PhysFrame) -> Self
+        ensures { result ≡ record { frame = frame; write = true; user = true; fetch = true; through = false; uncached = false; global = false } }
     {
         Mapped {
             frame,
             write: true,
             user: true,
             fetch: true,
+            through: false,
+            uncached: false,
+            global: false,
         }
     }
 }
@@ -63,6 +75,9 @@ pub(crate) fn led(from: Mapped, entry: PageTableEntry) -> Mapped
         write: from.write & entry.is_writable(),
         user: from.user & entry.is_user_accessible(),
         fetch: from.fetch & !entry.is_no_execute(),
+        through: entry.is_through(),
+        uncached: entry.is_uncached(),
+        global: entry.is_global(),
     }
 }
 

@@ -381,7 +381,7 @@ impl<S: PageSize> PageRangeInclusive<S> {
 }
 
 /// The index of the page in its table after `level` steps of the walk: 0 is the root's.
-pub(crate) fn index_after(page: Page, level: u32) -> u16
+pub fn index_after(page: Page, level: u32) -> u16
     requires { level < 4 }
     ensures value { result ≡ prefix_of page (level + 1) % 512 }
     ensures bounded { result < 512 }

@@ -1,8 +1,8 @@
 // The walk of a processor, over any words.
-ghost use Rattle.std.specs.Prelude.{◌≡◌, ℕ, ◌*◌, ◌/◌, ◌^◌, ◌<◌, ◌⊎◌, ◌==◌, not, IfSome, IfNone};
+ghost use Rattle.std.specs.Prelude.{◌≡◌, ℕ, ◌*◌, ◌/◌, ◌^◌, ◌<◌, ◌⊎◌, ◌==◌, not, IfSome, IfNone, List};
 ghost use Rattle.paging_core.specs.Memory.{word_at};
 ghost use Rattle.paging_core.specs.Walk.{mapped_place};
-ghost use Rattle.paging_core.specs.ProcessorWalk.{Outcome, is_malformed, past, within, processor_walk, outcome_of};
+ghost use Rattle.paging_core.specs.ProcessorWalk.{Outcome, is_malformed, past, within, by_first, by_second, by_third, by_fourth, by_entry, processor_walk, from_next, outcome_of, IsInTime};
 
 use crate::addr::PhysAddr;
 use crate::bit_field::get_bits;
@@ -21,6 +21,15 @@ pub enum Translated {
     NotPresent(u8),
     /// The entry of this step is present, and has a bit that is reserved.
     Reserved(u8),
+}
+
+/// What follows an entry of a walk.
+#[derive(Clone, Copy, PartialEq, Eq, Debug)]
+pub enum Next {
+    /// The table that it names, with what the entries so far grant.
+    Table(Mapped),
+    /// The end of the walk.
+    End(Translated),
 }
 
 /// The entry of a table. It is 0 if the memory has no such frame.
@@ -81,6 +90,78 @@ fn within(count: u64, page: Page, mapped: Mapped) -> Mapped
     }
 }
 
+/// What follows an entry of the root table.
+fn past_first(width: u8, page: Page, from: Mapped, entry: PageTableEntry) -> Next
+    ensures { (words : List ℕ) → by_first width words page (mapped_place from) entry ≡ from_next width words page 0 result }
+{
+    match ending(width, 0, entry) {
+        Some(end) => Next::End(end),
+        None => Next::Table(led(from, entry)),
+    }
+}
+
+/// What follows an entry of the second step's table.
+fn past_second(width: u8, page: Page, from: Mapped, entry: PageTableEntry) -> Next
+    ensures { (words : List ℕ) → by_second width words page (mapped_place from) entry ≡ from_next width words page 1 result }
+{
+    match ending(width, 1, entry) {
+        Some(end) => Next::End(end),
+        None => {
+            let to = led(from, entry);
+            if entry.is_huge() {
+                Next::End(Translated::Page(within(1 << 18, page, to)))
+            } else {
+                Next::Table(to)
+            }
+        }
+    }
+}
+
+/// What follows an entry of the third step's table.
+fn past_third(width: u8, page: Page, from: Mapped, entry: PageTableEntry) -> Next
+    ensures { (words : List ℕ) → by_third width words page (mapped_place from) entry ≡ from_next width words page 2 result }
+{
+    match ending(width, 2, entry) {
+        Some(end) => Next::End(end),
+        None => {
+            let to = led(from, entry);
+            if entry.is_huge() {
+                Next::End(Translated::Page(within(1 << 9, page, to)))
+            } else {
+                Next::Table(to)
+            }
+        }
+    }
+}
+
+/// How the walk ends at an entry of the last table.
+fn past_fourth(width: u8, from: Mapped, entry: PageTableEntry) -> Translated
+    ensures { by_fourth width (mapped_place from) entry ≡ outcome_of result }
+{
+    match ending(width, 3, entry) {
+        Some(end) => end,
+        None => Translated::Page(led(from, entry)),
+    }
+}
+
+/// What follows the entry that was read in the table of this step, by a processor's walk of the page. The step is 0 in the root
+/// table, and 3 in the last. `from` is what named the table: `Mapped::full` of the root.
+///
+/// A physical address has `width` bits. The caller reads the entries: so they may lie anywhere, and others may write to them
+/// meanwhile.
+#[tactic(auto, using(crate::proofs::ProcessorSteps::in_time))]
+pub fn past_entry(width: u8, page: Page, step: u8, from: Mapped, entry: PageTableEntry) -> Next
+    ensures in_time { IsInTime step result }
+    ensures walk { (words : List ℕ) → by_entry width words page step (mapped_place from) entry ≡ from_next width words page step result }
+{
+    match step {
+        0 => past_first(width, page, from, entry),
+        1 => past_second(width, page, from, entry),
+        2 => past_third(width, page, from, entry),
+        _ => Next::End(past_fourth(width, from, entry)),
+    }
+}
+
 /// Where a processor's walk of the page ends. Any words will do: the entries may have any bits, and need not be a tree.
 ///
 /// A physical address has `width` bits. The walk reads at most four words; what is past the memory reads as 0.
@@ -90,30 +171,13 @@ fn within(count: u64, page: Page, mapped: Mapped) -> Mapped
 pub fn translate(frames: &Frames, root: PhysFrame, page: Page, width: u8) -> Translated
     ensures { outcome_of result ≡ processor_walk width frames.now root page }
 {
-    let first = entry_at(frames, root, index_after(page, 0));
-    if let Some(end) = ending(width, 0, first) {
-        return end;
+    let mut from = Mapped::full(root);
+    for step in 0..4u8 {
+        let entry = entry_at(frames, from.frame, index_after(page, u32::from(step)));
+        match past_entry(width, page, step, from, entry) {
+            Next::Table(to) => from = to,
+            Next::End(end) => return end,
+        }
     }
-    let to_first = led(Mapped::full(root), first);
-    let second = entry_at(frames, to_first.frame, index_after(page, 1));
-    if let Some(end) = ending(width, 1, second) {
-        return end;
-    }
-    let to_second = led(to_first, second);
-    if second.is_huge() {
-        return Translated::Page(within(1 << 18, page, to_second));
-    }
-    let third = entry_at(frames, to_second.frame, index_after(page, 2));
-    if let Some(end) = ending(width, 2, third) {
-        return end;
-    }
-    let to_third = led(to_second, third);
-    if third.is_huge() {
-        return Translated::Page(within(1 << 9, page, to_third));
-    }
-    let fourth = entry_at(frames, to_third.frame, index_after(page, 3));
-    if let Some(end) = ending(width, 3, fourth) {
-        return end;
-    }
-    Translated::Page(led(to_third, fourth))
+    unreachable!()
 }

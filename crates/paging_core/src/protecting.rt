@@ -5,7 +5,7 @@ ghost use Rattle.paging_core.specs.PageChanges.{regrant, IsFrameOf, IsPageChange
 ghost use Rattle.paging_core.specs.Outcomes.{IsRangeRegranted, IsPageGranted};
 ghost use Rattle.paging_core.specs.Premises.{IsPageEntry, IsSmallPage, AreSmallPages};
 
-use crate::page_table::{PageTableEntry, Rights};
+use crate::page_table::{PageBits, PageTableEntry};
 use crate::page_walk::{LastEntry, last_entry};
 use crate::pages::Page;
 use crate::phys_frames::PhysFrame;
@@ -23,7 +23,7 @@ pub fn protect_at<M: PhysicalMemory>(
     table: PhysFrame,
     index: u16,
     frame: PhysFrame,
-    rights: Rights,
+    rights: PageBits,
 )
     requires place { IsPageEntry (M.area frames.old) (M.words frames.old) root page table index }
     requires frame { IsFrameOf (M.words frames.old) root page frame }
@@ -39,7 +39,12 @@ pub fn protect_at<M: PhysicalMemory>(
 /// word is changed.
 ///
 /// The page is mapped by an entry of a last table, and not in a large page.
-pub fn protect_page<M: PhysicalMemory>(frames: &mut M, root: PhysFrame, page: Page, rights: Rights)
+pub fn protect_page<M: PhysicalMemory>(
+    frames: &mut M,
+    root: PhysFrame,
+    page: Page,
+    rights: PageBits,
+)
     requires page { IsSmallPage (M.words frames.old) root page }
     requires seen { (now : List ℕ) → IsPageChanged (M.words frames.old) now root page (regrant rights) → M.allows now }
     ensures granted { IsPageGranted (M.area frames.old) (M.area frames.new) (M.words frames.old) (M.words frames.new) root page rights }
@@ -60,7 +65,7 @@ pub fn protect_range<M: PhysicalMemory>(
     root: PhysFrame,
     first: Page,
     pages: u64,
-    rights: Rights,
+    rights: PageBits,
 )
     requires tree { HasTreeIn (M.area frames.old) (M.words frames.old) root }
     requires pages { AreSmallPages (M.words frames.old) root first pages }
@@ -71,7 +76,7 @@ pub fn protect_range<M: PhysicalMemory>(
     ensures tree { (free : List Bool) → IsTreeIn (M.area frames.old) (M.words frames.old) root free → IsTreeIn (M.area frames.new) (M.words frames.new) root free }
 
     // The pages of the range have the rights. No other page's walk is changed, and no byte of any page.
-    ensures granted { IsRangeRegranted (M.words frames.old) (M.words frames.new) root first pages rights }
+    ensures granted { IsRangeRegranted (M.area frames.old) (M.words frames.old) (M.words frames.new) root first pages rights }
 {
     for step in 0..pages {
         protect_page(frames, root, first.after(step), rights);

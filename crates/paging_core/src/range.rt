@@ -11,7 +11,7 @@ ghost use Rattle.paging_core.specs.Premises.{IsRangeMappable};
 use crate::frame_allocator::FrameAllocator;
 use crate::mapping::map_page;
 use crate::memory::Frames;
-use crate::page_table::Rights;
+use crate::page_table::PageBits;
 use crate::pages::Page;
 use crate::phys_frames::PhysFrame;
 use crate::pool::FramePool;
@@ -22,7 +22,7 @@ fn map_new_page(
     pool: &mut FramePool,
     root: PhysFrame,
     page: Page,
-    rights: Rights,
+    rights: PageBits,
 )
     requires standing { IsTreeAndPool Whole frames.old root pool.old }
     requires unmapped { walk_of frames.old root page ≡ None }
@@ -47,7 +47,7 @@ pub fn map_range(
     root: PhysFrame,
     first: Page,
     pages: u64,
-    rights: Rights,
+    rights: PageBits,
 )
     requires standing { IsTreeAndPool Whole frames.old root pool.old }
     requires mappable { IsRangeMappable frames.old root pool.old first pages }

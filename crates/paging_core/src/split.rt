@@ -8,7 +8,7 @@ ghost use Rattle.paging_core.specs.Outcomes.{IsTreeAndPool, IsSlotSplit, IsSlotG
 ghost use Rattle.paging_core.specs.Premises.{IsLargePage};
 
 use crate::large::{LargeEntry, fill_table, large_entry};
-use crate::page_table::{PageTableEntry, Rights};
+use crate::page_table::{PageBits, PageTableEntry};
 use crate::pages::{Page, Size2MiB};
 use crate::phys_frames::PhysFrame;
 use crate::physical_memory::PhysicalMemory;
@@ -53,7 +53,7 @@ pub fn protect_large<M: PhysicalMemory>(
     frames: &mut M,
     root: PhysFrame,
     page: Page<Size2MiB>,
-    rights: Rights,
+    rights: PageBits,
 )
     requires page { IsLargePage (M.words frames.old) root page }
     requires seen { (now : List ℕ) → IsLargeRegranted (M.words frames.old) now root page rights → M.allows now }

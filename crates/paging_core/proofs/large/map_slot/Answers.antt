@@ -44,7 +44,7 @@ map_large-requires-clause-mappable c = record {
 }
 
 pub map_large-requires-clause-used : goal.map_large-requires-clause-used
-map_large-requires-clause-used c = run_used c.args.frames.now c.clear_frames.new.frames c.args.pool.now
+map_large-requires-clause-used c = λ _. run_used c.args.frames.now c.clear_frames.new.frames c.args.pool.now
     c.allocate_frame-run.new.self c.args.root c.in-Some.run' c.requires.standing.known c.requires.standing.tree c.in-Some.ensures.run.0
     c.in-Some.ensures.run.1 (let P : ℕ → Type 0 = λ f. AreFramesCleared c.args.frames.now c.clear_frames.new.frames f 512 in
     subst P c.first_frame.ensures.first c.clear_frames.ensures)

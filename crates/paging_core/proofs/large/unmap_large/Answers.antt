@@ -1,12 +1,13 @@
 use Rattle.std.proofs.Common.{◌≡◌, ◌∙◌, ◌+◌, ◌*◌, ◌/◌, ◌%◌, ◌^◌, ℕ, length, arith, length-set, ap, set, refl}
-use Rattle.paging_core.specs.Walk.{mapped_place}
+use Rattle.paging_core.specs.Walk.{mapped_place, walk_of}
 use Rattle.paging_core.specs.Large.{slot_of, IsLargeCleared}
-use Rattle.paging_core.proofs.Areas.{tree_moved}
+use Rattle.paging_core.proofs.Areas.{tree_moved, bytes_of_moved}
 use Rattle.paging_core.proofs.Made.{large_below}
 use Rattle.paging_core.proofs.LargeAdded.{same_slot}
 use Rattle.paging_core.proofs.LargeGone.{large_cleared, gone_tree, large_removed, gone_bytes, gone_elsewhere}
 use Rattle.paging_core.proofs.large.unmap_large.Given.{Over}
 use Rattle.paging_core.proofs.large.unmap_large.Goals as goal
+use Rattle.std.specs.Prelude.{IsSome}
 
 -- the run of frames that begins at the frame
 run_number : (f a r : ℕ) → f % 512 ≡ 0 → a ≡ f * 4096 → r ≡ a / 2 ^ 21 → 512 * r ≡ f
@@ -50,7 +51,9 @@ returns-clause-cleared g c =
           record {
             tree = tree_moved (g.M.PhysicalMemory.area c.args.frames.now) (g.M.PhysicalMemory.area c.set_word.new.self) new c.args.root
                 free c.set_word.ensures.area (gone_tree old new c.args.root c.args.page c.requires.page.rooted (cleared g c) free tree);
-            bytes = gone_bytes old new c.args.root c.args.page c.requires.page.rooted (cleared g c) free tree;
+            bytes = bytes_of_moved (g.M.PhysicalMemory.area c.args.frames.now) (g.M.PhysicalMemory.area c.set_word.new.self)
+                (λ at. IsSome (walk_of new c.args.root at)) old new c.args.root c.set_word.ensures.area
+                (gone_bytes old new c.args.root c.args.page c.requires.page.rooted (cleared g c) free tree);
             removed = large_removed old new c.args.root c.args.page c.requires.page.rooted (cleared g c) free tree;
             elsewhere = λ other canonical ne. gone_elsewhere old new c.args.root c.args.page c.requires.page.rooted (cleared g c) free tree other
                 (λ e. ne (same_slot other c.args.page canonical c.large_entry-table.ensures.canonical e));

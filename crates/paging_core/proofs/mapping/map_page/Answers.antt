@@ -54,11 +54,12 @@ map_at-requires-clause-mappable g c =
           (g.M.PhysicalMemory.words c.ensure_tables-table.new.frames) c.args.root c.args.frame
           c.ensure_tables-table.ensures.area
           (unmet_in (g.M.PhysicalMemory.area c.args.frames.now) (g.M.PhysicalMemory.words c.ensure_tables-table.new.frames) c.args.root c.args.frame
-          (kept_unmet (g.M.PhysicalMemory.area c.args.frames.now) (g.M.PhysicalMemory.words c.args.frames.now)
+          (λ whole. kept_unmet (g.M.PhysicalMemory.words c.args.frames.now)
           (g.M.PhysicalMemory.words c.ensure_tables-table.new.frames) (g.P.TableFrames.free c.args.pool.now)
           (g.P.TableFrames.free c.ensure_tables-table.new.pool) c.args.root c.args.page c.args.frame
-          c.requires.used c.ensure_tables-table.ensures.prepared
-          (unmet_at (g.M.PhysicalMemory.area c.args.frames.now) (g.M.PhysicalMemory.words c.args.frames.now) c.args.root c.args.frame c.requires.mappable.unmet)));
+          (c.requires.used whole) c.ensure_tables-table.ensures.prepared
+          (unmet_at (g.M.PhysicalMemory.area c.args.frames.now) (g.M.PhysicalMemory.words c.args.frames.now) c.args.root c.args.frame
+          c.requires.mappable.unmet whole)));
     }
 
 pub returns : goal.returns

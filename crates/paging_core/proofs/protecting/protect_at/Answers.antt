@@ -1,7 +1,7 @@
 use Rattle.std.proofs.Common.{◌≡◌, ◌∙◌, ℕ, ◌+◌, ◌*◌, ◌<◌, ◌^◌, ap, sym, set, subst, Some}
 use Rattle.paging_core.specs.Entry.{page_entry}
 use Rattle.paging_core.specs.PageChanges.{regrant, only}
-use Rattle.paging_core.proofs.Areas.{tree_moved}
+use Rattle.paging_core.proofs.Areas.{tree_moved, bytes_moved}
 use Rattle.paging_core.proofs.EntryAt.{as_last_entry}
 use Rattle.paging_core.proofs.Ranges.{same_number}
 use Rattle.paging_core.proofs.PageChanged.{regrant_keeps, page_regranted, changed_tree, page_leads, other_walk, entry_written, regranted_bytes}
@@ -43,7 +43,8 @@ returns g c =
               granted = rw r.was (page_leads old new c.args.root c.args.page (regrant c.args.rights) pages r.place r.was);
               elsewhere = λ other canonical ne. other_walk old new c.args.root c.args.page (regrant c.args.rights) pages other
                   (λ e. ne (same_number other c.args.page canonical (rw c.number-canonical.ensures.value at c.number-canonical.ensures.canonical) e));
-              bytes = regranted_bytes old new c.args.root c.args.rights (only c.args.page) free pages tree;
+              bytes = bytes_moved (g.M.PhysicalMemory.area c.args.frames.now) (g.M.PhysicalMemory.area c.set_word.new.self) old new c.args.root
+                  c.set_word.ensures.area (regranted_bytes old new c.args.root c.args.rights (only c.args.page) free pages tree);
             };
       };
     }

@@ -1,4 +1,4 @@
-use Rattle.std.proofs.Common.{◌+◌, ◌∙◌, refl, arith}
+use Rattle.std.proofs.Common.{◌≡◌, ◌+◌, ◌∙◌, refl, arith}
 use Rattle.paging_core.specs.Prefix.{prefix_of}
 use Rattle.paging_core.specs.Walk.{walk_of}
 use Rattle.paging_core.specs.PageChanges.{regrant, among}
@@ -75,3 +75,7 @@ returns-clause-granted g c =
           changed (omega arith);
       bytes = regranted_bytes old new c.args.root c.args.rights (among c.args.first c.loop-step.step) c.requires.tree.0 changed c.requires.tree.1;
     }
+
+pub returns-clause-changed : goal.returns-clause-changed
+returns-clause-changed g c =
+    let d : c.loop-step.step ≡ c.args.pages = omega (arith, c.loop-step-test.false, c.loop-step.auto.step-end) in rw d at c.loop-step.invariant.changed

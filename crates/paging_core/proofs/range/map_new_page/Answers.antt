@@ -40,7 +40,7 @@ map_page-requires-clause-mappable c = record {
 }
 
 pub map_page-requires-clause-used : goal.map_page-requires-clause-used
-map_page-requires-clause-used c =
+map_page-requires-clause-used c = λ _.
     fresh_used c.args.frames.now c.clear_frame.new.self c.args.pool.now c.allocate_frame.new.self c.in-Some.frame
     c.requires.standing.known c.in-Some.ensures.taken.0 c.in-Some.ensures.taken.1 c.clear_frame.ensures
 

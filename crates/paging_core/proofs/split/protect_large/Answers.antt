@@ -1,6 +1,6 @@
 use Rattle.std.proofs.Common.{◌∙◌, ◌+◌, ◌*◌, ap, set}
 use Rattle.paging_core.specs.Walk.{mapped_place}
-use Rattle.paging_core.proofs.Areas.{tree_moved}
+use Rattle.paging_core.proofs.Areas.{tree_moved, bytes_moved}
 use Rattle.paging_core.proofs.LargeAdded.{same_slot}
 use Rattle.paging_core.proofs.LargeGranted.{large_regranted, granted_tree, large_granted, granted_elsewhere, granted_bytes}
 use Rattle.paging_core.proofs.split.protect_large.Goals as goal
@@ -27,7 +27,8 @@ returns g c =
               granted = large_granted old new c.args.root c.args.page c.args.rights c.requires.page.rooted regranted free tree;
               elsewhere = λ other canonical ne. granted_elsewhere old new c.args.root c.args.page c.args.rights c.requires.page.rooted regranted free tree other
                   (λ e. ne (same_slot other c.args.page canonical c.large_entry-table.ensures.canonical e));
-              bytes = granted_bytes old new c.args.root c.args.page c.args.rights c.requires.page.rooted regranted free tree;
+              bytes = bytes_moved (g.M.PhysicalMemory.area c.args.frames.now) (g.M.PhysicalMemory.area c.set_word.new.self) old new c.args.root
+                  c.set_word.ensures.area (granted_bytes old new c.args.root c.args.page c.args.rights c.requires.page.rooted regranted free tree);
             };
       };
     }

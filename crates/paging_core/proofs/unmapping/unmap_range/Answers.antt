@@ -92,5 +92,5 @@ returns-clause-gone c =
       elsewhere = range_rest old new c.args.root c.args.first c.args.pages c.loop-step.step removal c.requires.pages.range removed (omega arith);
       bytes = λ address is.
           let p = some_place (walk_of new c.args.root (address / 4096)) is in
-          bytes_stay old new c.args.root removal (among c.args.first c.loop-step.step) removed removal_keeps c.args.pool.now c.requires.standing.tree address p.0 p.1;
+          bytes_stay old new c.args.root removal (among c.args.first c.loop-step.step) removed removal_keeps c.args.pool.now c.requires.standing.tree address p.0 p.1 tt;
     }
