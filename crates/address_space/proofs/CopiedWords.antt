@@ -10,18 +10,18 @@ use Rattle.paging_core.specs.PageChanges.{ArePagesChanged, regrant, among, only}
 use Rattle.paging_core.specs.Prefix.{prefix_of}
 use Rattle.paging_core.specs.Tree.{IsTree}
 use Rattle.paging_core.specs.Walk.{Place, reach, walk_of, place_with, top}
-use Rattle.paging_core.specs.declared.page_table.Rights.{Rights}
+use Rattle.paging_core.specs.PageBits.{bits_at}
+use Rattle.paging_core.specs.declared.page_table.PageBits.{PageBits}
 use Rattle.paging_core.proofs.Prefixes.{walk_reach}
 use Rattle.paging_core.proofs.Ranges.{same_number}
 use Rattle.address_space.specs.PageCopies.{ArePagesCopied}
-use Rattle.address_space.specs.Space.{rights_of_place}
 use Rattle.address_space.proofs.Mapped.{canonical_in}
 
 -- no table is at the frame of a page
 pub no_table : (words : List ℕ) (root : ℕ) (free : List Bool) (l n m f : ℕ) (place : Place) → IsTree words root free →
     l < 4 → reach words root l n ≡ Some (top f) → reach words root 4 m ≡ Some place → place.frame ≡ f → ⊥
 no_table words root free l n m f place tree less table at same =
-    let d = tree.distinct l n 4 m (top f) place (omega (arith, less)) (omega arith) (λ _ _. refl) table at (sym same) in
+    let d = tree.distinct l n 4 m (top f) place (omega (arith, less)) (omega arith) table at (sym same) in
     let four = d.0 in
     omega (arith, four, less)
 
@@ -29,14 +29,14 @@ no_table words root free l n m f place tree less table at same =
 pub one_table : (words : List ℕ) (root : ℕ) (free : List Bool) (l n k m f : ℕ) → IsTree words root free → l < 4 → k < 4 →
     reach words root l n ≡ Some (top f) → reach words root k m ≡ Some (top f) → (l ≡ k) × (n ≡ m)
 one_table words root free l n k m f tree less few table at = tree.distinct l n k m (top f) (top f) (omega (arith, less))
-    (omega (arith, few)) (λ _ _. refl) table at refl
+    (omega (arith, few)) table at refl
 
 -- two pages have two frames
 pub page_apart : (words : List ℕ) (root : ℕ) (free : List Bool) (a b : ℕ) (p q : Place) → IsTree words root free →
     IsTrue (is_canonical (a * 4096)) → IsTrue (is_canonical (b * 4096)) → (a ≡ b → ⊥) →
     walk_of words root a ≡ Some p → walk_of words root b ≡ Some q → p.frame ≡ q.frame → ⊥
 page_apart words root free a b p q tree ca cb apart at_a at_b same =
-    let d = tree.distinct 4 (prefix_of a 4) 4 (prefix_of b 4) p q (omega arith) (omega arith) (λ _ _. refl)
+    let d = tree.distinct 4 (prefix_of a 4) 4 (prefix_of b 4) p q (omega arith) (omega arith)
     (sym (walk_reach words root a) ∙ at_a) (sym (walk_reach words root b) ∙ at_b) same in
     let number = d.1 in
     apart (same_number a b ca cb (omega (arith, number)))
@@ -63,11 +63,11 @@ only_in page n h = grind (arith, nat_tests, h)
 not_only : (page n : ℕ) → among page 1 n ≡ false → only page n ≡ false
 not_only page n h = grind (arith, nat_tests, h)
 
-entry_is : (q p : Place) (rights : Rights) → Some (place_with q.frame rights) ≡ Some p → page_entry q.frame rights ≡ page_entry p.frame (rights_of_place p)
+entry_is : (q p : Place) (rights : PageBits) → Some (place_with q.frame rights) ≡ Some p → page_entry q.frame rights ≡ page_entry p.frame (bits_at p)
 unfolding from_some
-entry_is q p rights h = ap (λ (o : Option Place). page_entry (from_some o p).frame (rights_of_place (from_some o p))) h
+entry_is q p rights h = ap (λ (o : Option Place). page_entry (from_some o p).frame (bits_at (from_some o p))) h
 
-module _ (old one new : List ℕ) (root source target : ℕ) (rights : Rights) (free : List Bool)
+module _ (old one new : List ℕ) (root source target : ℕ) (rights : PageBits) (free : List Bool)
     (tree : IsTree one root free)
     (walks : (level number : ℕ) → level ≤ 4 → reach one root level number ≡ reach old root level number)
     (copy : IfSome (walk_of old root source) (λ s. IfSome (walk_of old root target) (λ t. IsFrameCopied old one s.frame t.frame)))
@@ -95,7 +95,7 @@ module _ (old one new : List ℕ) (root source target : ℕ) (rights : Rights) (
 
   pub one_entries : (n i f : ℕ) (place : Place) → i < 512 → among target 1 (512 * n + i) ≡ true →
       reach old root 3 n ≡ Some (top f) → reach new root 4 (512 * n + i) ≡ Some place →
-      word_at new f i ≡ page_entry place.frame (rights_of_place place)
+      word_at new f i ≡ page_entry place.frame (bits_at place)
   one_entries n i f place small g table at =
       let here = only_in target (512 * n + i) g in
       let q = changed.mapped (512 * n + i) here in
@@ -220,9 +220,9 @@ module _ (old one new : List ℕ) (root from pages to source target : ℕ) (free
 
   pub more_entries : (n i f : ℕ) (place : Place) → i < 512 → among to (pages + 1) (512 * n + i) ≡ true →
       reach old root 3 n ≡ Some (top f) → reach new root 4 (512 * n + i) ≡ Some place →
-      word_at new f i ≡ page_entry place.frame (rights_of_place place)
+      word_at new f i ≡ page_entry place.frame (bits_at place)
   more_entries n i f place small g table at = go (among to pages (512 * n + i)) refl where
-    go : (b : Bool) → among to pages (512 * n + i) ≡ b → word_at new f i ≡ page_entry place.frame (rights_of_place place)
+    go : (b : Bool) → among to pages (512 * n + i) ≡ b → word_at new f i ≡ page_entry place.frame (bits_at place)
     go true h =
         let out = after (512 * n + i) h in
         d.others f i small

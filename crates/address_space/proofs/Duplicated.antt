@@ -11,6 +11,8 @@ use Rattle.paging_core.specs.Pool.{FreeBelow}
 use Rattle.paging_core.specs.Prefix.{prefix_of}
 use Rattle.paging_core.specs.Tree.{IsTree}
 use Rattle.paging_core.specs.Walk.{Place, reach, large_of, walk_of, reached, place_with}
+use Rattle.paging_core.specs.PageBits.{bits_of, bits_at}
+use Rattle.paging_core.specs.declared.page_table.PageBits.{PageBits}
 use Rattle.paging_core.specs.declared.page_table.Rights.{Rights}
 use Rattle.meminterval.specs.declared.interval.Interval.{Interval}
 use Rattle.address_space.specs.Runs.{rights_in, is_among}
@@ -18,21 +20,15 @@ use Rattle.address_space.specs.RunChanges.{AreRightsCopied}
 use Rattle.address_space.specs.PageMap.{IsMap, duplicated}
 use Rattle.address_space.specs.PageCopies.{ArePagesCopied}
 use Rattle.address_space.specs.Changing.{IsDuplicated, AreWordsCopied}
-use Rattle.address_space.specs.Space.{Tables, AreTablesKept, page_map_of, rights_of_place}
+use Rattle.address_space.specs.Space.{Tables, AreTablesKept, page_map_of}
 use Rattle.address_space.proofs.Mapped.{canonical_in, is_some_of}
 use Rattle.address_space.proofs.Cutting.{side_of, then_in, else_out}
 use Rattle.address_space.proofs.Unmapped.{among_parts, not_among}
-use Rattle.address_space.proofs.Protected.{mapped_walks, byte_out}
+use Rattle.address_space.proofs.Protected.{granted_bits, mapped_walks, byte_out}
 use Rattle.address_space.proofs.Written.{walk_same}
 use Rattle.address_space.proofs.CopiedWords.{one_words, one_entries, one_others, more_words, more_entries, more_others}
 
 -- ---- one page
-
-granted_as : (o w : Option Place) (rights : Rights) → IsSome o → IfSome o
-    (λ place. w ≡ Some (place_with place.frame rights)) →
-    option_map rights_of_place w ≡ Some rights
-granted_as None w rights some is = absurd (cc)
-granted_as (Some place) w rights some is = ap (option_map rights_of_place) is
 
 only_among : (page n : ℕ) → among page 1 n ≡ false → only page n ≡ false
 only_among page n h = go (n == prefix_of page 4) refl where
@@ -57,8 +53,8 @@ pub record IsOneCopied (old one new : List ℕ) (root source target : ℕ) (plac
   pub tree_on : (free : List Bool) → IsTree one root free → IsTree new root free
   pub copied : (k : ℕ) → k < 4096 → reached one root (4096 * target + k) ≡ reached old root (4096 * source + k)
   pub others : (address : ℕ) → IsTrue (is_canonical address) → (address / 4096 ≡ target → ⊥) → reached one root address ≡ reached old root address
-  pub changed : ArePagesChanged one new root (regrant (rights_of_place place)) (only target)
-  pub gave : IfSome (walk_of one root target) (λ met. walk_of new root target ≡ Some (place_with met.frame (rights_of_place place)))
+  pub changed : ArePagesChanged one new root (regrant (bits_at place)) (only target)
+  pub gave : IfSome (walk_of one root target) (λ met. walk_of new root target ≡ Some (place_with met.frame (bits_at place)))
   pub elsewhere : (other : ℕ) → IsTrue (is_canonical (other * 4096)) → (other ≡ target → ⊥) → walk_of new root other ≡ walk_of one root other
   pub bytes : (address : ℕ) → reached new root address ≡ reached one root address
   pub free : List Bool
@@ -82,27 +78,27 @@ one_copied old one new root source target place c = record {
   rights = λ k less. first_rights k (omega (arith, less));
   copied = λ k offset less small. first_byte k offset (omega (arith, less)) small;
   bytes = λ address canonical out. c.bytes address ∙ c.others address canonical (λ is. out 0 (omega arith) (omega (arith, is)));
-  words = one_words old one new root source target (rights_of_place place) c.free (c.tree c.free c.was) c.walks c.frames
+  words = one_words old one new root source target (bits_at place) c.free (c.tree c.free c.was) c.walks c.frames
       place c.at_source c.to c.at_target c.changed;
-  entries = one_entries old one new root source target (rights_of_place place) c.free (c.tree c.free c.was) c.walks c.frames
+  entries = one_entries old one new root source target (bits_at place) c.free (c.tree c.free c.was) c.walks c.frames
       place c.at_source c.to c.at_target c.changed;
-  others = one_others old one new root source target (rights_of_place place) c.free (c.tree c.free c.was) c.walks c.frames
+  others = one_others old one new root source target (bits_at place) c.free (c.tree c.free c.was) c.walks c.frames
       place c.at_source c.to c.at_target c.changed;
 } where
   by_only : (number : ℕ) (met : Place) → reach one root 4 number ≡ Some met → (t : Bool) → only target number ≡ t →
       (now : Place) × (reach new root 4 number ≡ Some now) × (now.frame ≡ met.frame)
-  by_only number met at true is = (place_with met.frame (rights_of_place place), c.changed.changed number met is at, refl)
+  by_only number met at true is = (place_with met.frame (bits_at place), c.changed.changed number met is at, refl)
   by_only number met at false is = (met, c.changed.stayed 4 number (omega arith) (λ four. is) ∙ at, refl)
 
-  first_rights : (k : ℕ) → k ≡ 0 → option_map rights_of_place (walk_of new root (target + k)) ≡ option_map rights_of_place (walk_of old root (source + k))
+  first_rights : (k : ℕ) → k ≡ 0 → option_map bits_at (walk_of new root (target + k)) ≡ option_map bits_at (walk_of old root (source + k))
   first_rights k zero =
       let t : target + k ≡ target = omega (arith, zero) in
       let s : source + k ≡ source = omega (arith, zero) in
-      let given = granted_as (walk_of one root target) (walk_of new root target) (rights_of_place place) c.mapped c.gave in
-      let from : option_map rights_of_place (walk_of old root source) ≡ Some (rights_of_place place) =
-      ap (option_map rights_of_place) (sym (walk_same old one root source c.walks) ∙ c.there) in
-      ap (λ (p : ℕ). option_map rights_of_place (walk_of new root p)) t
-      ∙ (given ∙ (sym from ∙ ap (λ (p : ℕ). option_map rights_of_place (walk_of old root p)) (sym s)))
+      let given = granted_bits (walk_of one root target) (walk_of new root target) (bits_at place) c.mapped c.gave in
+      let from : option_map bits_at (walk_of old root source) ≡ Some (bits_at place) =
+      ap (option_map bits_at) (sym (walk_same old one root source c.walks) ∙ c.there) in
+      ap (λ (p : ℕ). option_map bits_at (walk_of new root p)) t
+      ∙ (given ∙ (sym from ∙ ap (λ (p : ℕ). option_map bits_at (walk_of old root p)) (sym s)))
 
   first_byte : (k offset : ℕ) → k ≡ 0 → offset < 4096 → reached new root (4096 * (target + k) + offset) ≡ reached old root (4096 * (source + k) + offset)
   first_byte k offset zero small =
@@ -159,20 +155,20 @@ more_copied old one new root from pages to source target free was range canonica
       (now : Place) × (reach new root 4 number ≡ Some now) × (now.frame ≡ place.frame)
   later number place met = (let next = d.frames number met.0 met.1 in (next.0, next.1, next.2 ∙ met.2))
 
-  by_rights : (k : ℕ) → (k < pages) ⊎ (pages ≤ k) → k < pages + 1 → option_map rights_of_place
-      (walk_of new root (to + k)) ≡ option_map rights_of_place (walk_of old root (from + k))
+  by_rights : (k : ℕ) → (k < pages) ⊎ (pages ≤ k) → k < pages + 1 → option_map bits_at
+      (walk_of new root (to + k)) ≡ option_map bits_at (walk_of old root (from + k))
   by_rights k (inl h) less =
-      ap (option_map rights_of_place) (d.elsewhere (to + k) (canonical_in to (pages + 1) (to + k) range (omega arith)
+      ap (option_map bits_at) (d.elsewhere (to + k) (canonical_in to (pages + 1) (to + k) range (omega arith)
       (omega (arith, less))) (λ j few is. omega (arith, few, is, t, h))) ∙ c.rights k h
   by_rights k (inr h) less =
       let last : to + k ≡ target + 0 = omega (arith, h, less, t) in
       let first : source + 0 ≡ from + pages = omega (arith, s) in
       let here : from + pages ≡ from + k = omega (arith, h, less) in
-      ap (λ (p : ℕ). option_map rights_of_place (walk_of new root p)) last
+      ap (λ (p : ℕ). option_map bits_at (walk_of new root p)) last
       ∙ (d.rights 0 (omega arith)
-      ∙ (ap (λ (p : ℕ). option_map rights_of_place (walk_of one root p)) first
-      ∙ (ap (option_map rights_of_place) (c.elsewhere (from + pages) canonical_source (λ j few is. apart j few is))
-      ∙ ap (λ (p : ℕ). option_map rights_of_place (walk_of old root p)) here)))
+      ∙ (ap (λ (p : ℕ). option_map bits_at (walk_of one root p)) first
+      ∙ (ap (option_map bits_at) (c.elsewhere (from + pages) canonical_source (λ j few is. apart j few is))
+      ∙ ap (λ (p : ℕ). option_map bits_at (walk_of old root p)) here)))
 
   half : (page offset : ℕ) → offset < 4096 → IsTrue (is_canonical (page * 4096)) → IsTrue (is_canonical (4096 * page + offset))
   half page offset small h =
@@ -199,7 +195,7 @@ more_copied old one new root from pages to source target free was range canonica
 -- ---- the space after it
 
 pub record AreDuplicated (old : Tables) (one words : List ℕ) (free : List Bool) (runs : List (Interval ℕ × Rights))
-    (from pages to : ℕ) (rights : Rights) : Type 0 where
+    (from pages to : ℕ) (rights : PageBits) : Type 0 where
   pub kept : AreTablesKept old
   pub source : IsCanonicalRange from pages
   pub target : IsCanonicalRange to pages
@@ -227,7 +223,7 @@ ranges_apart runs from pages to j k full clear h l is =
     (subst (λ (p : ℕ). IsSome (rights_in runs p)) is (full (from + j) (omega arith) (omega (arith, h))))
 
 pub duplicated_kept : (old : Tables) (one words : List ℕ) (free : List Bool) (runs : List (Interval ℕ × Rights))
-    (from pages to : ℕ) (rights : Rights) → AreDuplicated old one words free runs from pages to rights →
+    (from pages to : ℕ) (rights : PageBits) → AreDuplicated old one words free runs from pages to rights →
     AreTablesKept (record { words = words; root = old.root; free = free; runs = runs })
 duplicated_kept old one words free runs from pages to rights m =
     let count : frame_count words ≡ frame_count old.words = ap (λ n. n / 512) (m.copied.size ∙ m.added.size) in
@@ -253,25 +249,25 @@ duplicated_kept old one words free runs from pages to rights m =
 
       finds : (page : ℕ) → IsTrue (is_canonical (page * 4096)) →
           ((to ≤ page) × (page < to + pages)) ⊎ ((page < to) ⊎ (to + pages ≤ page)) →
-          option_map rights_of_place (walk_of words old.root page) ≡ rights_in runs page
+          option_map bits_at (walk_of words old.root page) ≡ option_map bits_of (rights_in runs page)
       finds page canonical (inl k) =
           let at : to + (page - to) ≡ page = omega (arith, k.0) in
           let few : page - to < pages = omega (arith, k.0, k.1) in
           let source : from + (page - to) ≡ page - to + from = omega arith in
           let there = canonical_in from pages (from + (page - to)) m.source (omega arith) (omega (arith, few)) in
-          ap (λ (p : ℕ). option_map rights_of_place (walk_of words old.root p)) (sym at)
+          ap (λ (p : ℕ). option_map bits_at (walk_of words old.root p)) (sym at)
           ∙ (m.copied.rights (page - to) few
-          ∙ (ap (option_map rights_of_place) (m.elsewhere (from + (page - to)) there
+          ∙ (ap (option_map bits_at) (m.elsewhere (from + (page - to)) there
           (λ j less is. ranges_apart old.runs from pages to (page - to) j m.full m.clear few less is))
           ∙ (m.kept.found (from + (page - to)) there
-          ∙ (ap (rights_in old.runs) source ∙ sym (m.runs_copied.pages_are page
+          ∙ ap (option_map bits_of) (ap (rights_in old.runs) source ∙ sym (m.runs_copied.pages_are page
           ∙ then_in to (to + pages) page (rights_in old.runs (page - to + from)) (rights_in old.runs page) k.0 k.1)))))
       finds page canonical (inr k) =
-          ap (option_map rights_of_place) (m.copied.elsewhere page canonical
+          ap (option_map bits_at) (m.copied.elsewhere page canonical
           (λ j less is. not_among to pages page j k less is) ∙ m.elsewhere page canonical
           (λ j less is. not_among to pages page j k less is))
-          ∙ (m.kept.found page canonical ∙ sym (m.runs_copied.pages_are page
-          ∙ else_out to (to + pages) page (rights_in old.runs (page - to + from)) (rights_in old.runs page) k))
+          ∙ (m.kept.found page canonical ∙ sym (ap (option_map bits_of) (m.runs_copied.pages_are page
+          ∙ else_out to (to + pages) page (rights_in old.runs (page - to + from)) (rights_in old.runs page) k)))
 
       unmet_one : (frame : ℕ) → ((level number : ℕ) (met : Place) → level ≤ 4 → reach words old.root level number ≡ Some met → met.frame ≡ frame → ⊥) →
           (level number : ℕ) (met : Place) → level ≤ 4 → reach one old.root level number ≡ Some met → met.frame ≡ frame → ⊥
@@ -288,7 +284,7 @@ duplicated_kept old one words free runs from pages to rights m =
       unmet_old frame unmet level number met le at same = unmet_one frame unmet level number met le (m.added.stayed level number met le at) same
 
 pub duplicated_map : (old : Tables) (one words : List ℕ) (free : List Bool) (runs : List (Interval ℕ × Rights))
-    (from pages to : ℕ) (rights : Rights) → AreDuplicated old one words free runs from pages to rights →
+    (from pages to : ℕ) (rights : PageBits) → AreDuplicated old one words free runs from pages to rights →
     IsMap (page_map_of (record { words = words; root = old.root; free = free; runs = runs })) (duplicated from pages to (page_map_of old))
 duplicated_map old one words free runs from pages to rights m = record {
   rights = m.runs_copied.pages_are;
@@ -380,7 +376,7 @@ page_of_number to pages n one h =
     let high : n < prefix_of to 4 + pages = grind (arith, nat_tests, h) in
     (n - prefix_of to 4, omega (arith, low, high), omega (arith, one, low, high))
 
-pub duplicated_is : (old new : Tables) (one : List ℕ) (from pages to : ℕ) (rights : Rights) →
+pub duplicated_is : (old new : Tables) (one : List ℕ) (from pages to : ℕ) (rights : PageBits) →
     AreDuplicated old one new.words new.free new.runs from pages to rights → new.root ≡ old.root →
     IsMap (page_map_of new) (duplicated from pages to (page_map_of old)) → AreWordsCopied old new from pages to → IsDuplicated old new from pages to
 duplicated_is old new one from pages to rights m root map words = record {
@@ -401,8 +397,8 @@ duplicated_is old new one from pages to rights m root map words = record {
     missed : (k : ℕ) → k < pages → walk_of old.words old.root (to + k) ≡ Some place → ⊥
     missed k less found =
         let there = canonical_in to pages (to + k) m.target (omega arith) (omega (arith, less)) in
-        let no : Some (rights_of_place place) ≡ None = ap (option_map rights_of_place) (sym found)
-        ∙ (m.kept.found (to + k) there ∙ m.clear (to + k) (omega arith) (omega (arith, less))) in absurd (cc)
+        let no : Some (bits_at place) ≡ None = ap (option_map bits_at) (sym found)
+        ∙ (m.kept.found (to + k) there ∙ ap (option_map bits_of) (m.clear (to + k) (omega arith) (omega (arith, less)))) in absurd (cc)
 
   by_level : (l n : ℕ) → l ≤ 4 → ((k : ℕ) → k < pages → n ≡ prefix_of (to + k) l → ⊥) → (l < 4) ⊎ (4 ≤ l) →
       reach new.words old.root l n ≡ reach old.words old.root l n
@@ -434,7 +430,7 @@ source_mapped old one from pages to k kept source full clear elsewhere less =
     (λ j few is. ranges_apart old.runs from pages to k j full clear less few is)))
     (mapped_walks old (from + k) kept (full (from + k) (omega arith) (omega (arith, less))))
 
-pub target_mapped : (old one : List ℕ) (free free' : List Bool) (root first pages k : ℕ) (rights : Rights) →
+pub target_mapped : (old one : List ℕ) (free free' : List Bool) (root first pages k : ℕ) (rights : PageBits) →
     IsRangeAdded old one free free' root first pages rights → k < pages → IsSome (walk_of one root (first + k))
 target_mapped old one free free' root first pages k rights added less = let new = added.mapped k less in
     is_some_of (walk_of one root (first + k)) (place_with new.frame rights) new.found

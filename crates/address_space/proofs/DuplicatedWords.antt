@@ -7,17 +7,18 @@ use Rattle.paging_core.specs.PageChanges.{among}
 use Rattle.paging_core.specs.Pool.{is_frame_free}
 use Rattle.paging_core.specs.Prefix.{prefix_of}
 use Rattle.paging_core.specs.Walk.{Place, reach, walk_of, place_with, top}
-use Rattle.paging_core.specs.declared.page_table.Rights.{Rights}
+use Rattle.paging_core.specs.PageBits.{bits_at}
+use Rattle.paging_core.specs.declared.page_table.PageBits.{PageBits}
 use Rattle.paging_core.proofs.Prefixes.{walk_reach}
 use Rattle.address_space.specs.Changing.{AreWordsCopied}
-use Rattle.address_space.specs.Space.{Tables, rights_of_place}
+use Rattle.address_space.specs.Space.{Tables}
 use Rattle.address_space.proofs.CopiedWords.{no_table, one_table, same_place, run_has}
 use Rattle.address_space.proofs.Duplicated.{AreDuplicated, page_of_number}
 
 some_none : {A : Type 0} (o : Option A) (a : A) → o ≡ Some a → o ≡ None → ⊥
 some_none {A} o a h k = let no : Some a ≡ None = sym h ∙ k in absurd (cc)
 
-module _ (old new : Tables) (one : List ℕ) (from pages to : ℕ) (rights : Rights)
+module _ (old new : Tables) (one : List ℕ) (from pages to : ℕ) (rights : PageBits)
     (m : AreDuplicated old one new.words new.free new.runs from pages to rights) where
   -- a target page before it got its bytes
   blank_page : (n : ℕ) → among to pages n ≡ true → (place : Place) × (reach one old.root 4 n ≡ Some place) × (is_frame_free old.free place.frame ≡ true)
@@ -121,9 +122,9 @@ module _ (old new : Tables) (one : List ℕ) (from pages to : ℕ) (rights : Rig
       ∙ m.added.entries.table_words l n f i made less small (now l n f few table) missed (sym (step_same l (512 * n + i) less) ∙ at)
 
   page_words : (n f i : ℕ) (place : Place) → i < 512 → reach new.words old.root 3 n ≡ Some (top f) → reach old.words old.root 4 (512 * n + i) ≡ None →
-      reach new.words old.root 4 (512 * n + i) ≡ Some place → word_at new.words f i ≡ page_entry place.frame (rights_of_place place)
+      reach new.words old.root 4 (512 * n + i) ≡ Some place → word_at new.words f i ≡ page_entry place.frame (bits_at place)
   page_words n f i place small table missed at = go (among to pages (512 * n + i)) refl where
-    go : (b : Bool) → among to pages (512 * n + i) ≡ b → word_at new.words f i ≡ page_entry place.frame (rights_of_place place)
+    go : (b : Bool) → among to pages (512 * n + i) ≡ b → word_at new.words f i ≡ page_entry place.frame (bits_at place)
     go true h = m.copied.entries n i f place small h (now 3 n f (omega arith) table) at
     go false h = absurd (some_none (reach new.words old.root 4 (512 * n + i)) place at (other_page (512 * n + i) h ∙ missed))
 

@@ -7,6 +7,7 @@ use Rattle.paging_core.specs.Memory.{frame_count}
 use Rattle.paging_core.specs.Pool.{FreeBelow}
 use Rattle.paging_core.specs.Prefix.{prefix_of}
 use Rattle.paging_core.specs.Walk.{Place, reach, large_of, walk_of, reached}
+use Rattle.paging_core.specs.PageBits.{bits_of, bits_at}
 use Rattle.paging_core.proofs.Prefixes.{walk_reach}
 use Rattle.paging_core.proofs.Reach.{either_way}
 use Rattle.paging_core.specs.Mapping.{IsRangeAdded}
@@ -15,7 +16,7 @@ use Rattle.meminterval.specs.declared.interval.Interval.{Interval}
 use Rattle.address_space.specs.Runs.{rights_in, is_among}
 use Rattle.address_space.specs.Joining.{IsRunAdded}
 use Rattle.address_space.specs.PageMap.{IsMap, mapped, AreNoneMapped}
-use Rattle.address_space.specs.Space.{Tables, AreTablesKept, page_map_of, rights_of_place}
+use Rattle.address_space.specs.Space.{Tables, AreTablesKept, page_map_of}
 
 -- ---- ranges
 
@@ -29,7 +30,7 @@ canonical_in first pages page range h k =
     let halves : page * 4096 / 2 ^ 47 ≡ first * 4096 / 2 ^ 47 = half_of page ∙ (same ∙ sym (half_of first)) in
     ap (λ (n : ℕ). n == 0 || n == 2 ^ 17 - 1) halves ∙ range.canonical
 
-no_place : (o : Option Place) → option_map rights_of_place o ≡ None → o ≡ None
+no_place : (o : Option Place) → option_map bits_at o ≡ None → o ≡ None
 no_place None h = refl
 no_place (Some place) h = absurd (cc)
 
@@ -39,7 +40,7 @@ pub clear_walks :
     (k : ℕ) → k < pages → walk_of t.words t.root (first + k) ≡ None
 clear_walks t first pages kept range clear k less = no_place (walk_of t.words t.root (first + k))
     (kept.found (first + k) (canonical_in first pages (first + k) range (omega arith) (omega (arith, less)))
-    ∙ clear (first + k) (omega arith) (omega (arith, less)))
+    ∙ ap (option_map bits_of) (clear (first + k) (omega arith) (omega (arith, less))))
 
 pub among_from : (first pages page : ℕ) → is_among first pages page ≡ true → first ≤ page
 among_from first pages page h = grind (arith, nat_tests, h)
@@ -60,8 +61,8 @@ pub is_some_of : {A : Type 0} (o : Option A) (a : A) → o ≡ Some a → IsSome
 is_some_of {A} o a h = rw h refl
 
 pub walks : (t : Tables) (page : ℕ) (rights : Rights) → AreTablesKept t → rights_in t.runs page ≡ Some rights → IsSome (walk_of t.words t.root page)
-walks t page rights kept is = some_of rights_of_place (walk_of t.words t.root page) rights
-    (kept.found page (kept.canonical page (is_some_of (rights_in t.runs page) rights is)) ∙ is)
+walks t page rights kept is = some_of bits_at (walk_of t.words t.root page) (bits_of rights)
+    (kept.found page (kept.canonical page (is_some_of (rights_in t.runs page) rights is)) ∙ ap (option_map bits_of) is)
 
 -- a page that is mapped has an entry in the table of its slot, if there are no large pages
 pub by_table : (words : List ℕ) (root page : ℕ) → ((slot : ℕ) → large_of words root slot ≡ None) →
@@ -81,7 +82,7 @@ by_table words root page no_large some = go (walk_of words root page) refl some
 pub record AreMapped (old : Tables) (words : List ℕ) (free : List Bool) (runs : List (Interval ℕ × Rights)) (first pages : ℕ) (rights : Rights) : Type 0 where
   pub kept : AreTablesKept old
   pub range : IsCanonicalRange first pages
-  pub added : IsRangeAdded old.words words old.free free old.root first pages rights
+  pub added : IsRangeAdded old.words words old.free free old.root first pages (bits_of rights)
   pub known : FreeBelow free (frame_count words)
   pub elsewhere : (other : ℕ) → IsTrue (is_canonical (other * 4096)) → ((k : ℕ) → k < pages → other ≡ first + k → ⊥) →
       walk_of words old.root other ≡ walk_of old.words old.root other
@@ -101,7 +102,7 @@ mapped_kept old words free runs first pages rights m =
       root_in = (let r = m.kept.root_in in omega (arith, count, r));
       few_frames = (let r = m.kept.few_frames in omega (arith, count, r));
       canonical = λ page some. is_there page (is_among first pages page) refl (subst IsSome (m.runs_added.pages page) some);
-      found = λ page canonical. finds page canonical (is_among first pages page) refl ∙ sym (m.runs_added.pages page);
+      found = λ page canonical. finds page canonical (is_among first pages page) refl ∙ sym (ap (option_map bits_of) (m.runs_added.pages page));
       accounted = λ frame less unmet. m.added.kept frame (m.kept.accounted frame (omega (arith, count, less))
           (λ l n met le at is. unmet l n met le (m.added.stayed l n met le at) is)) unmet;
       no_large = λ slot. m.added.larges slot ∙ m.kept.no_large slot;
@@ -115,15 +116,15 @@ mapped_kept old words free runs first pages rights m =
       is_there page false is some = m.kept.canonical page (rw is at some)
 
       finds : (page : ℕ) → IsTrue (is_canonical (page * 4096)) → (t : Bool) → is_among first pages page ≡ t →
-          option_map rights_of_place (walk_of words old.root page) ≡ cond (is_among first pages page) (Some rights) (rights_in old.runs page)
+          option_map bits_at (walk_of words old.root page) ≡ option_map bits_of (cond (is_among first pages page) (Some rights) (rights_in old.runs page))
       finds page canonical true is =
           let from = among_from first pages page is in
           let to = among_to first pages page is in
           let new = m.added.mapped (page - first) (omega (arith, from, to)) in
           let at : first + (page - first) ≡ page = omega (arith, from) in
-          rw is (ap (option_map rights_of_place) (ap (walk_of words old.root) (sym at) ∙ new.found))
+          rw is (ap (option_map bits_at) (ap (walk_of words old.root) (sym at) ∙ new.found))
       finds page canonical false is =
-          rw is (ap (option_map rights_of_place) (m.elsewhere page canonical
+          rw is (ap (option_map bits_at) (m.elsewhere page canonical
           (λ k less at. among_not first pages page k is less at)) ∙ m.kept.found page canonical)
 
 pub mapped_map : (old : Tables) (words : List ℕ) (free : List Bool) (runs : List (Interval ℕ × Rights)) (first pages : ℕ)

@@ -9,9 +9,10 @@ use Rattle.address_space.specs.Runs.{RunsFollow, AreLongest, rights_in}
 use Rattle.paging_core.specs.Memory.{frame_count}
 use Rattle.paging_core.specs.Pool.{is_frame_free, FreeBelow}
 use Rattle.paging_core.specs.Walk.{reach, large_of, walk_of, top}
+use Rattle.paging_core.specs.PageBits.{bits_of, bits_at}
 use Rattle.paging_core.specs.Tree.{IsTree}
 use Rattle.paging_core.proofs.Reach.{reach_zero}
-use Rattle.address_space.specs.Space.{Tables, AreTablesKept, rights_of_place}
+use Rattle.address_space.specs.Space.{Tables, AreTablesKept}
 
 root_met : (words : List ℕ) (root : ℕ) → reach words root 0 0 ≡ Some (top root)
 root_met words root = reach_zero words root 0
@@ -37,7 +38,7 @@ new_kept t count runs few frames free flags known root tree nothing no_large = r
   few_frames = omega (arith, few, frames);
   canonical = subst (λ (es : List (Interval ℕ × Rights)). (page : ℕ) → IsSome (rights_in es page) →
       IsTrue (is_canonical (page * 4096))) (sym runs) none_canonical;
-  found = λ page canonical. ap (option_map rights_of_place) (nothing page) ∙ ap (λ (es : List (Interval ℕ × Rights)). rights_in es page) (sym runs);
+  found = λ page canonical. ap (option_map bits_at) (nothing page) ∙ ap (λ (es : List (Interval ℕ × Rights)). option_map bits_of (rights_in es page)) (sym runs);
   accounted = λ frame less unmet. (let other : frame ≢ t.root = λ is. unmet 0 0 (top t.root) (omega arith)
       (root_met t.words t.root) (sym is) in ap (λ (flags : List Bool). is_frame_free flags frame) free
       ∙ free_left count t.root frame (omega (arith, less, frames)) other);

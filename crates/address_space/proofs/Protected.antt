@@ -8,12 +8,14 @@ use Rattle.paging_core.specs.PageChanges.{ArePagesChanged, regrant, among}
 use Rattle.paging_core.specs.Pool.{FreeBelow}
 use Rattle.paging_core.specs.Tree.{IsTree}
 use Rattle.paging_core.specs.Walk.{Place, reach, walk_of, reached, place_with}
+use Rattle.paging_core.specs.PageBits.{bits_of, bits_at}
+use Rattle.paging_core.specs.declared.page_table.PageBits.{PageBits}
 use Rattle.paging_core.specs.declared.page_table.Rights.{Rights}
 use Rattle.meminterval.specs.declared.interval.Interval.{Interval}
 use Rattle.address_space.specs.Runs.{rights_in}
 use Rattle.address_space.specs.Joining.{IsRunAdded}
 use Rattle.address_space.specs.PageMap.{IsMap, protected}
-use Rattle.address_space.specs.Space.{Tables, AreTablesKept, page_map_of, rights_of_place}
+use Rattle.address_space.specs.Space.{Tables, AreTablesKept, page_map_of}
 use Rattle.address_space.proofs.Mapped.{canonical_in, walks, is_some_of}
 use Rattle.address_space.proofs.Cutting.{side_of, then_in, else_out}
 use Rattle.address_space.proofs.Unmapped.{not_among}
@@ -22,19 +24,20 @@ pub record AreProtected (old : Tables) (words : List ℕ) (runs : List (Interval
   pub kept : AreTablesKept old
   pub range : IsCanonicalRange first pages
   pub full : (page : ℕ) → first ≤ page → page < first + pages → IsSome (rights_in old.runs page)
-  pub changed : ArePagesChanged old.words words old.root (regrant rights) (among first pages)
+  pub changed : ArePagesChanged old.words words old.root (regrant (bits_of rights)) (among first pages)
   pub tree : IsTree words old.root old.free
   pub there : (k : ℕ) → k < pages → IfSome (walk_of old.words old.root (first + k))
-      (λ place. walk_of words old.root (first + k) ≡ Some (place_with place.frame rights))
+      (λ place. walk_of words old.root (first + k) ≡ Some (place_with place.frame (bits_of rights)))
   pub elsewhere : (other : ℕ) → IsTrue (is_canonical (other * 4096)) → ((k : ℕ) → k < pages → other ≡ first + k → ⊥) →
       walk_of words old.root other ≡ walk_of old.words old.root other
   pub bytes : (address : ℕ) → reached words old.root address ≡ reached old.words old.root address
   pub added : IsRunAdded old.runs runs first (first + pages) rights
 
-granted_rights : (o w : Option Place) (rights : Rights) → IsSome o → IfSome o
-    (λ place. w ≡ Some (place_with place.frame rights)) → option_map rights_of_place w ≡ Some rights
-granted_rights None w rights some is = absurd (cc)
-granted_rights (Some place) w rights some is = ap (option_map rights_of_place) is
+-- a page that was given these bits has them
+pub granted_bits : (o w : Option Place) (bits : PageBits) → IsSome o → IfSome o
+    (λ place. w ≡ Some (place_with place.frame bits)) → option_map bits_at w ≡ Some bits
+granted_bits None w bits some is = absurd (cc)
+granted_bits (Some place) w bits some is = ap (option_map bits_at) is
 
 -- the rights of a page that is mapped
 some_rights : (o : Option Rights) → IsSome o → (r : Rights) × (o ≡ Some r)
@@ -70,20 +73,21 @@ protected_kept old words runs first pages rights m =
 
       finds : (page : ℕ) → IsTrue (is_canonical (page * 4096)) →
           ((first ≤ page) × (page < first + pages)) ⊎ ((page < first) ⊎ (first + pages ≤ page)) →
-          option_map rights_of_place (walk_of words old.root page) ≡ rights_in runs page
+          option_map bits_at (walk_of words old.root page) ≡ option_map bits_of (rights_in runs page)
       finds page canonical (inl k) =
           let at : first + (page - first) ≡ page = omega (arith, k.0) in
           let was : IsSome (walk_of old.words old.root (first + (page - first))) =
           mapped_walks old (first + (page - first)) m.kept (m.full (first + (page - first)) (omega arith)
           (omega (arith, k.0, k.1))) in
-          ap (λ (p : ℕ). option_map rights_of_place (walk_of words old.root p)) (sym at)
-          ∙ (granted_rights (walk_of old.words old.root (first + (page - first)))
-          (walk_of words old.root (first + (page - first))) rights was (m.there (page - first)
+          ap (λ (p : ℕ). option_map bits_at (walk_of words old.root p)) (sym at)
+          ∙ (granted_bits (walk_of old.words old.root (first + (page - first)))
+          (walk_of words old.root (first + (page - first))) (bits_of rights) was (m.there (page - first)
           (omega (arith, k.0, k.1)))
-          ∙ sym (m.added.pages page ∙ then_in first (first + pages) page (Some rights) (rights_in old.runs page) k.0 k.1))
+          ∙ sym (ap (option_map bits_of) (m.added.pages page ∙ then_in first (first + pages) page (Some rights) (rights_in old.runs page) k.0 k.1)))
       finds page canonical (inr k) =
-          ap (option_map rights_of_place) (m.elsewhere page canonical (λ j less is. not_among first pages page j k less is))
-          ∙ (m.kept.found page canonical ∙ sym (m.added.pages page ∙ else_out first (first + pages) page (Some rights) (rights_in old.runs page) k))
+          ap (option_map bits_at) (m.elsewhere page canonical (λ j less is. not_among first pages page j k less is))
+          ∙ (m.kept.found page canonical
+          ∙ sym (ap (option_map bits_of) (m.added.pages page ∙ else_out first (first + pages) page (Some rights) (rights_in old.runs page) k)))
 
       unmet_before : (frame : ℕ) → ((level number : ℕ) (met : Place) → level ≤ 4 → reach words old.root level number ≡ Some met → met.frame ≡ frame → ⊥) →
           (level number : ℕ) (met : Place) → level ≤ 4 → reach old.words old.root level number ≡ Some met → met.frame ≡ frame → ⊥
@@ -94,7 +98,7 @@ protected_kept old words runs first pages rights m =
         by_level true t true k =
             let four : level ≡ 4 = grind (arith, nat_tests, t) in
             let before : reach old.words old.root 4 number ≡ Some met = subst (λ (l : ℕ). reach old.words old.root l number ≡ Some met) four at in
-            unmet 4 number (place_with met.frame rights) (omega arith) (m.changed.changed number met k before) same
+            unmet 4 number (place_with met.frame (bits_of rights)) (omega arith) (m.changed.changed number met k before) same
 
 byte_in : (o p : Option Rights) (a b : Option ℕ) → IsSome o → IsSome p → a ≡ b → cond (is_some o) a None ≡ cond (is_some p) b None
 byte_in None p a b h k same = absurd (cc)

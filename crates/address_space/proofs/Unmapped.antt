@@ -12,13 +12,14 @@ use Rattle.paging_core.specs.Pool.{is_frame_free, FreeBelow, free_count}
 use Rattle.paging_core.specs.Prefix.{prefix_of}
 use Rattle.paging_core.specs.Tree.{IsTree}
 use Rattle.paging_core.specs.Walk.{Place, reach, walk_of, reached}
+use Rattle.paging_core.specs.PageBits.{bits_of, bits_at}
 use Rattle.paging_core.specs.declared.page_table.Rights.{Rights}
 use Rattle.meminterval.specs.declared.interval.Interval.{Interval}
 use Rattle.address_space.specs.Runs.{rights_in, is_among}
 use Rattle.address_space.specs.RunChanges.{AreTaken, AreFree}
 use Rattle.address_space.specs.PageMap.{IsMap, unmapped, mapped_count}
 use Rattle.address_space.specs.Changing.{IsUnmapped, is_mapped_in}
-use Rattle.address_space.specs.Space.{Tables, AreTablesKept, page_map_of, rights_of_place}
+use Rattle.address_space.specs.Space.{Tables, AreTablesKept, page_map_of}
 use Rattle.address_space.proofs.Mapped.{canonical_in, walks}
 use Rattle.address_space.proofs.Cutting.{side_of, then_in, else_out}
 use Rattle.address_space.proofs.Counting.{count_split, count_same, count_full, count_free}
@@ -84,14 +85,15 @@ unmapped_kept old words free runs first pages m =
 
       finds : (page : ℕ) → IsTrue (is_canonical (page * 4096)) →
           ((first ≤ page) × (page < first + pages)) ⊎ ((page < first) ⊎ (first + pages ≤ page)) →
-          option_map rights_of_place (walk_of words old.root page) ≡ rights_in runs page
+          option_map bits_at (walk_of words old.root page) ≡ option_map bits_of (rights_in runs page)
       finds page canonical (inl k) =
           let at : first + (page - first) ≡ page = omega (arith, k.0) in
-          ap (option_map rights_of_place) (ap (walk_of words old.root) (sym at) ∙ m.gone (page - first) (omega (arith, k.0, k.1)))
-          ∙ sym (m.taken.pages page ∙ then_in first (first + pages) page None (rights_in old.runs page) k.0 k.1)
+          ap (option_map bits_at) (ap (walk_of words old.root) (sym at) ∙ m.gone (page - first) (omega (arith, k.0, k.1)))
+          ∙ sym (ap (option_map bits_of) (m.taken.pages page ∙ then_in first (first + pages) page None (rights_in old.runs page) k.0 k.1))
       finds page canonical (inr k) =
-          ap (option_map rights_of_place) (m.elsewhere page canonical (λ j less is. not_among first pages page j k less is))
-          ∙ (m.kept.found page canonical ∙ sym (m.taken.pages page ∙ else_out first (first + pages) page None (rights_in old.runs page) k))
+          ap (option_map bits_at) (m.elsewhere page canonical (λ j less is. not_among first pages page j k less is))
+          ∙ (m.kept.found page canonical
+          ∙ sym (ap (option_map bits_of) (m.taken.pages page ∙ else_out first (first + pages) page None (rights_in old.runs page) k)))
 
       clash : (frame : ℕ) (n : ℕ) (place : Place) → is_frame_free free frame ≡ false → among first pages n ≡ true →
           reach old.words old.root 4 n ≡ Some place → place.frame ≡ frame → ⊥
@@ -176,11 +178,11 @@ not_met t first pages n kept range h none =
     let page = first + (n - prefix_of first 4) in
     let number : prefix_of page 4 ≡ n = omega (arith, one, low, high) in
     let met : reach t.words t.root 4 n ≡ walk_of t.words t.root page = ap (reach t.words t.root 4) (sym number) ∙ sym (walk_reach t.words t.root page) in
-    let found = kept.found page (canonical_in first pages page range (omega arith) (omega (arith, low, high))) ∙ none in
+    let found = kept.found page (canonical_in first pages page range (omega arith) (omega (arith, low, high))) ∙ ap (option_map bits_of) none in
     ap is_some met ∙ unfound (walk_of t.words t.root page) found where
-      unfound : (o : Option Place) → option_map rights_of_place o ≡ None → is_some o ≡ false
+      unfound : (o : Option Place) → option_map bits_at o ≡ None → is_some o ≡ false
       unfound None h = refl
-      unfound (Some place) h = let no : Some (rights_of_place place) ≡ None = h in absurd (cc)
+      unfound (Some place) h = let no : Some (bits_at place) ≡ None = h in absurd (cc)
 
 pub none_mapped : (t : Tables) (first pages n : ℕ) → AreTablesKept t → IsCanonicalRange first pages →
     AreFree t.runs first (first + pages) → is_mapped_in t first pages n ≡ false

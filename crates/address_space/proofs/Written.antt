@@ -8,11 +8,12 @@ use Rattle.paging_core.specs.Memory.{frame_count, word_at, byte_of, AreFrameWord
 use Rattle.paging_core.specs.Pool.{FreeBelow}
 use Rattle.paging_core.specs.Tree.{IsTree}
 use Rattle.paging_core.specs.Walk.{Place, reach, large_of, walk_of, reached}
+use Rattle.paging_core.specs.PageBits.{bits_at}
 use Rattle.paging_core.specs.declared.page_table.Rights.{Rights}
 use Rattle.address_space.specs.Runs.{rights_in}
 use Rattle.address_space.specs.PageMap.{IsMap, stored}
 use Rattle.address_space.specs.Access.{IsGoodSpan, byte_at, AreBytesPut, AreWritten, LiesIn, AreOtherWordsKept}
-use Rattle.address_space.specs.Space.{Tables, AreTablesKept, page_map_of, rights_of_place}
+use Rattle.address_space.specs.Space.{Tables, AreTablesKept, page_map_of}
 use Rattle.address_space.proofs.Cutting.{side_of, then_in, else_out}
 
 -- every address of bytes in one canonical half is canonical
@@ -294,7 +295,7 @@ written_kept old words at bytes kept size tree walks larges =
       root_in = (let r = kept.root_in in omega (arith, count, r));
       few_frames = (let r = kept.few_frames in omega (arith, count, r));
       canonical = kept.canonical;
-      found = λ page canonical. ap (option_map rights_of_place) (walk_same old.words words old.root page walks) ∙ kept.found page canonical;
+      found = λ page canonical. ap (option_map bits_at) (walk_same old.words words old.root page walks) ∙ kept.found page canonical;
       accounted = λ frame less unmet. kept.accounted frame (omega (arith, count, less))
           (λ level number met le at. unmet level number met le (walks level number le ∙ at));
       no_large = λ slot. larges slot ∙ kept.no_large slot;

@@ -8,12 +8,13 @@ use Rattle.paging_core.specs.PageChanges.{ArePagesChanged, removal, regrant, amo
 use Rattle.paging_core.specs.Pool.{is_frame_free, free_count}
 use Rattle.paging_core.specs.Prefix.{prefix_of}
 use Rattle.paging_core.specs.Walk.{Place, reach, walk_of, top}
+use Rattle.paging_core.specs.PageBits.{bits_of, bits_at}
 use Rattle.paging_core.specs.declared.page_table.Rights.{Rights}
 use Rattle.address_space.specs.declared.changing.Part.{Part}
 use Rattle.address_space.specs.declared.space_fault.SpaceFault.{SpaceFault}
 use Rattle.address_space.specs.declared.space_fault.SpaceFault.TheVariants.{BadRange, Overlap, Hole, NoFrames, OutOfMemory}
 use Rattle.address_space.specs.PageMap.{IsMap, unmapped, protected, duplicated, stored, mapped_count, IsGoodRange, AreNoneMapped, AreAllMapped, IsHole}
-use Rattle.address_space.specs.Space.{Tables, page_map_of, rights_of_place}
+use Rattle.address_space.specs.Space.{Tables, page_map_of}
 use Rattle.address_space.specs.Access.{AreOtherWordsKept}
 use Rattle.address_space.specs.Mapping.{HasFrames}
 
@@ -59,7 +60,7 @@ pub record IsProtected (old new : Tables) (first pages : ℕ) (rights : Rights) 
   pub map : IsMap (page_map_of new) (protected first pages rights (page_map_of old))
   pub free : new.free ≡ old.free
   pub root : new.root ≡ old.root
-  pub entries : ArePagesChanged old.words new.words old.root (regrant rights) (among first pages)
+  pub entries : ArePagesChanged old.words new.words old.root (regrant (bits_of rights)) (among first pages)
 
 -- The words of memory after pages were copied. Entry `i` of the table that is met at the prefix (l, n) leads on to the
 -- prefix (l + 1, 512 * n + i).
@@ -82,7 +83,7 @@ pub record AreWordsCopied (old new : Tables) (from pages to : ℕ) : Type 0 wher
       reach new.words old.root (l + 1) (512 * n + i) ≡ Some (top made) → word_at new.words f i ≡ table_entry made
   pub page_words :
       (n f i : ℕ) (place : Place) → i < 512 → reach new.words old.root 3 n ≡ Some (top f) → reach old.words old.root 4 (512 * n + i) ≡ None →
-      reach new.words old.root 4 (512 * n + i) ≡ Some place → word_at new.words f i ≡ page_entry place.frame (rights_of_place place)
+      reach new.words old.root 4 (512 * n + i) ≡ Some place → word_at new.words f i ≡ page_entry place.frame (bits_at place)
   -- a page that was mapped keeps its words
   pub others :
       (f i : ℕ) → i < 512 → is_frame_free old.free f ≡ false → ((l n : ℕ) → l < 4 → reach old.words old.root l n ≡ Some (top f) → ⊥) →

@@ -4,6 +4,7 @@ use Rattle.paging_core.specs.Address.{IsCanonicalRange}
 use Rattle.paging_core.specs.Missing.{missing_of}
 use Rattle.paging_core.specs.Pool.{free_count}
 use Rattle.paging_core.specs.Mapping.{IsRangeAdded}
+use Rattle.paging_core.specs.PageBits.{bits_of}
 use Rattle.paging_core.specs.declared.page_table.Rights.{Rights}
 use Rattle.address_space.specs.declared.space_fault.SpaceFault.{SpaceFault}
 use Rattle.address_space.specs.declared.space_fault.SpaceFault.TheVariants.{BadRange, Overlap, NoRoom, NoFrames, OutOfMemory}
@@ -26,7 +27,7 @@ pub record CanMapPages (t : Tables) (first pages : ℕ) : Type 0 where
 pub record ArePagesMapped (old new : Tables) (first pages : ℕ) (rights : Rights) : Type 0 where
   pub map : IsMap (page_map_of new) (mapped first pages rights (page_map_of old))
   pub root : new.root ≡ old.root
-  pub added : IsRangeAdded old.words new.words old.free new.free old.root first pages rights
+  pub added : IsRangeAdded old.words new.words old.free new.free old.root first pages (bits_of rights)
 
 -- When each answer is given. Want of memory is free if there is no other cause.
 abbrev pub IsMapAnswer : Tables → ℕ → ℕ → Result (Unit {0}) SpaceFault → Type 0

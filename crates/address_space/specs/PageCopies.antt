@@ -7,7 +7,7 @@ use Rattle.paging_core.specs.Memory.{word_at, frame_count}
 use Rattle.paging_core.specs.PageChanges.{among}
 use Rattle.paging_core.specs.Tree.{IsTree, HasTree}
 use Rattle.paging_core.specs.Walk.{Place, reach, large_of, walk_of, reached, top}
-use Rattle.address_space.specs.Space.{rights_of_place}
+use Rattle.paging_core.specs.PageBits.{bits_at}
 
 -- page tables whose pages are small ones
 pub record HasSmallPages (words : List ℕ) (root : ℕ) : Type 0 where
@@ -31,7 +31,7 @@ pub record ArePagesCopied (old new : List ℕ) (root from pages to : ℕ) : Type
   pub frames : (number : ℕ) (place : Place) → reach old root 4 number ≡ Some place → (now : Place) × (reach new root 4 number ≡ Some now) × (now.frame ≡ place.frame)
   pub elsewhere :
       (other : ℕ) → IsTrue (is_canonical (other * 4096)) → ((k : ℕ) → k < pages → other ≡ to + k → ⊥) → walk_of new root other ≡ walk_of old root other
-  pub rights : (k : ℕ) → k < pages → option_map rights_of_place (walk_of new root (to + k)) ≡ option_map rights_of_place (walk_of old root (from + k))
+  pub rights : (k : ℕ) → k < pages → option_map bits_at (walk_of new root (to + k)) ≡ option_map bits_at (walk_of old root (from + k))
   pub copied : (k offset : ℕ) → k < pages → offset < 4096 → reached new root (4096 * (to + k) + offset) ≡ reached old root (4096 * (from + k) + offset)
   pub bytes :
       (address : ℕ) → IsTrue (is_canonical address) → ((k : ℕ) → k < pages → address / 4096 ≡ to + k → ⊥) → reached new root address ≡ reached old root address
@@ -41,7 +41,7 @@ pub record ArePagesCopied (old new : List ℕ) (root from pages to : ℕ) : Type
       word_at new target.frame i ≡ word_at old source.frame i
   pub entries :
       (n i f : ℕ) (place : Place) → i < 512 → among to pages (512 * n + i) ≡ true → reach old root 3 n ≡ Some (top f) →
-      reach new root 4 (512 * n + i) ≡ Some place → word_at new f i ≡ page_entry place.frame (rights_of_place place)
+      reach new root 4 (512 * n + i) ≡ Some place → word_at new f i ≡ page_entry place.frame (bits_at place)
   pub others :
       (f i : ℕ) → i < 512 → ((k : ℕ) (target : Place) → k < pages → walk_of old root (to + k) ≡ Some target → target.frame ≡ f → ⊥) →
       ((n : ℕ) → reach old root 3 n ≡ Some (top f) → among to pages (512 * n + i) ≡ false) → word_at new f i ≡ word_at old f i

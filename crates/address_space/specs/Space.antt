@@ -6,6 +6,7 @@ use Rattle.paging_core.specs.Address.{is_canonical}
 use Rattle.paging_core.specs.Memory.{frame_count}
 use Rattle.paging_core.specs.Pool.{is_frame_free, FreeBelow}
 use Rattle.paging_core.specs.Walk.{Place, reach, large_of, walk_of, reached}
+use Rattle.paging_core.specs.PageBits.{bits_of, bits_at}
 use Rattle.paging_core.specs.Tree.{IsTree}
 use Rattle.paging_core.specs.declared.page_table.Rights.{Rights}
 use Rattle.meminterval.specs.declared.interval.Interval.{Interval}
@@ -18,10 +19,6 @@ pub record Tables : Type 0 where
   pub free : List Bool
   pub runs : List (Interval ℕ × Rights)
 
--- the rights of a place
-abbrev pub rights_of_place : Place → Rights
-rights_of_place place = record { write = place.write; user = place.user; fetch = place.fetch }
-
 -- The plain map for which the tables stand: the runs name the pages and their rights, and the walk reaches the bytes.
 abbrev pub page_map_of : Tables → PageMap
 page_map_of t = record {
@@ -29,7 +26,7 @@ page_map_of t = record {
   byte = λ address. (if is_some (rights_in t.runs (address / 4096)) then reached t.words t.root address else None);
 }
 
--- The walk finds a page exactly where the map has it, with its rights, and the tables are a tree. Each frame is free,
+-- The walk finds a page exactly where the map has it, with its rights, of type 0, as usual memory, and not global, and the tables are a tree. Each frame is free,
 -- or the walk meets it: as a table, or as the frame of one page. No page is in a large page. The runs are the longest ones.
 pub record AreTablesKept (t : Tables) : Type 0 where
   pub tree : IsTree t.words t.root t.free
@@ -38,7 +35,7 @@ pub record AreTablesKept (t : Tables) : Type 0 where
   pub root_in : t.root < frame_count t.words
   pub few_frames : frame_count t.words < 2 ^ 32
   pub canonical : (page : ℕ) → IsSome (rights_in t.runs page) → IsTrue (is_canonical (page * 4096))
-  pub found : (page : ℕ) → IsTrue (is_canonical (page * 4096)) → option_map rights_of_place (walk_of t.words t.root page) ≡ rights_in t.runs page
+  pub found : (page : ℕ) → IsTrue (is_canonical (page * 4096)) → option_map bits_at (walk_of t.words t.root page) ≡ option_map bits_of (rights_in t.runs page)
   pub accounted :
       (frame : ℕ) → frame < frame_count t.words →
       ((level number : ℕ) (met : Place) → level ≤ 4 → reach t.words t.root level number ≡ Some met → met.frame ≡ frame → ⊥) →

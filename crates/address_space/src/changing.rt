@@ -104,7 +104,7 @@ impl Space {
     {
         let number = first.number();
         run_changes::set_rights(&mut self.runs, self.alloc, number, number + pages, rights)?;
-        protect_range(&mut self.frames, self.root, first, pages, rights);
+        protect_range(&mut self.frames, self.root, first, pages, rights.bits());
         Ok(())
     }
 }

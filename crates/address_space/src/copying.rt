@@ -9,7 +9,9 @@ use crate::range::{first_page, page_at};
 use crate::space::Space;
 use crate::space_fault::SpaceFault;
 use crate::{run_changes, runs};
-use paging_core::{Frames, Page, PhysFrame, Rights, copy_page, map_range, protect_page, walk};
+use paging_core::{
+    Frames, Page, PageBits, PhysFrame, Rights, copy_page, map_range, protect_page, walk,
+};
 use std::alloc::AllocError;
 
 /// What pages may be while they wait for the rights of their source.
@@ -30,12 +32,15 @@ fn copy_to(frames: &mut Frames, root: PhysFrame, source: Page, target: Page)
     let Some(place) = walk(frames, root, source) else {
         unreachable!()
     };
-    let rights = Rights {
+    let bits = PageBits {
         write: place.write,
         user: place.user,
         fetch: place.fetch,
+        through: place.through,
+        uncached: place.uncached,
+        global: place.global,
     };
-    protect_page(frames, root, target, rights);
+    protect_page(frames, root, target, bits);
 }
 
 /// Gives `pages` mapped pages from `to` on the rights and the bytes of those from `from` on, none of which is among
@@ -97,7 +102,7 @@ impl Space {
             self.root,
             target,
             pages,
-            NO_RIGHTS,
+            NO_RIGHTS.bits(),
         );
         copy_pages(&mut self.frames, self.root, from, pages, to);
         Ok(())

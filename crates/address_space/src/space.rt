@@ -139,7 +139,7 @@ impl Space {
             self.root,
             first,
             pages,
-            rights,
+            rights.bits(),
         );
         Ok(())
     }

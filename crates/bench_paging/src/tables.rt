@@ -54,13 +54,13 @@ fn measure_calls(
     }
     let first = Page::containing_address(VirtAddr::new(FIRST));
     let watch = Watch::start(rt)?;
-    map_range(frames, pool, root, first, wanted, DATA);
+    map_range(frames, pool, root, first, wanted, DATA.bits());
     let map = watch.mean(rt, pages)?;
     let watch = Watch::start(rt)?;
     let met = walk_to_all(frames, root, pages);
     let walk = watch.mean(rt, pages)?;
     let watch = Watch::start(rt)?;
-    protect_range(frames, root, first, wanted, CODE);
+    protect_range(frames, root, first, wanted, CODE.bits());
     let protect = watch.mean(rt, pages)?;
     let watch = Watch::start(rt)?;
     unmap_range(frames, pool, root, first, wanted);

@@ -156,7 +156,7 @@ fn measure(rt: &HostRuntime, capacity: u32) -> io::Result<()>
         return Err(io::Error::from(io::ErrorKind::OutOfMemory));
     }
     let first = Page::containing_address(VirtAddr::new(FIRST));
-    map_range(&mut frames, &mut pool, root, first, wanted, READ);
+    map_range(&mut frames, &mut pool, root, first, wanted, READ.bits());
     let mut tlb = Tlb::new(rt.alloc(), u64::from(capacity))?;
     measure_calls(rt, &mut tlb, &frames, root, capacity)
 }

@@ -21,7 +21,7 @@ pub(crate) fn run(rt: &HostRuntime) -> anyhow::Result<()> {
         anyhow::bail!("too few frames");
     }
     let first = Page::containing_address(VirtAddr::new(0x40_0000));
-    map_range(&mut frames, &mut pool, root, first, 3, DATA);
+    map_range(&mut frames, &mut pool, root, first, 3, DATA.bits());
     println!(rt;
         "{tables} tables for 3 pages, {} frames left",
         pool.free_count()

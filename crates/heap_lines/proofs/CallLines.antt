@@ -6,8 +6,8 @@ use Rattle.std.proofs.lemmas.Bool.{le-ltb}
 use Rattle.std.proofs.lemmas.List.Splits.{slice_split-cons_no}
 use Rattle.hex.specs.Hex.{encode_lower}
 use Rattle.paging_core.specs.declared.page_table.Rights.{Rights}
-use Rattle.heap_model.specs.declared.call.Access.{Access}
-use Rattle.heap_model.specs.declared.call.Access.TheVariants.{Read as Reading, Write as Writing, Fetch as Fetching}
+use Rattle.paging_core.specs.declared.processor_access.AccessKind.{AccessKind}
+use Rattle.paging_core.specs.declared.processor_access.AccessKind.TheVariants.{Read as Reading, Write as Writing, Fetch as Fetching}
 use Rattle.heap_model.specs.declared.call.Call.{Call}
 use Rattle.heap_model.specs.declared.call.Call.TheVariants.{Malloc, Calloc, Realloc, CRealloc, Free, Write, Read, Map, Unmap, Probe, Trim, SetRate, SetGranularity, Reset, Extents}
 use Rattle.heap_lines.specs.Asked.{CanBeAsked, ReadsBack}
@@ -92,12 +92,12 @@ map_read start pages rights is =
     ∙ (λ i. map_call (hexadecimal_read start is.0 i) (decimal_read pages is.1 i) (rights_read rights i))
 
 -- the words after the address of a probe: what the access does, and whose it is
-probe_read : (at : ℕ) (access : Access) (user : Bool) → at < 2 ^ 64 → call_of (words_of (call_line (Probe at access user))) ≡ Some (Probe at access user)
+probe_read : (at : ℕ) (access : AccessKind) (user : Bool) → at < 2 ^ 64 → call_of (words_of (call_line (Probe at access user))) ≡ Some (Probe at access user)
 probe_read at access user fits =
     ap (λ (l : List (List ℕ)). call_of (codes "probe" ∷ l)) (more_words (hexadecimal at) (access_word access ++ by_user user) (hexadecimal_word at fits))
     ∙ by access user
   where
-    by : (access : Access) (user : Bool) → call_of (codes "probe" ∷ hexadecimal at ∷ words_of
+    by : (access : AccessKind) (user : Bool) → call_of (codes "probe" ∷ hexadecimal at ∷ words_of
         (access_word access ++ by_user user)) ≡ Some (Probe at access user)
     by Reading true = ap (λ (n : Option ℕ). probe_call n (Some Reading) (Some true)) (hexadecimal_read at fits)
     by Reading false = ap (λ (n : Option ℕ). probe_call n (Some Reading) (Some false)) (hexadecimal_read at fits)

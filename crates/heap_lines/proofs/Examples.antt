@@ -2,7 +2,7 @@
 use Rattle.std.proofs.Common.{◌≡◌, ◌^◌, ◌-◌, true, false, [], ◌∷◌, codes, refl, Some, None}
 use Rattle.hex.specs.Hex.{encode_with}
 use Rattle.std.specs.Fmt.{digits}
-use Rattle.heap_model.specs.declared.call.Access.TheVariants.{Write as Writing, Fetch as Fetching}
+use Rattle.paging_core.specs.declared.processor_access.AccessKind.TheVariants.{Write as Writing, Fetch as Fetching}
 use Rattle.heap_model.specs.declared.call.Call.TheVariants.{Malloc, Calloc, Write, Map, Probe, Reset}
 use Rattle.heap_lines.specs.CallLine.{call_line}
 use Rattle.heap_lines.specs.Number.{number_of}

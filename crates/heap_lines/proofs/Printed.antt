@@ -11,8 +11,8 @@ use Rattle.std.proofs.lemmas.Fmt.{digits_is_IsNumeral, length-decimal-le}
 use Rattle.hex.specs.Hex.{IsBytes, encode_lower, encode_with, lower_digits}
 use Rattle.hex.proofs.HexLemmas.{decode_of-encode_lower}
 use Rattle.paging_core.specs.declared.page_table.Rights.{Rights}
-use Rattle.heap_model.specs.declared.call.Access.{Access}
-use Rattle.heap_model.specs.declared.call.Access.TheVariants.{Read as Reading, Write as Writing, Fetch as Fetching}
+use Rattle.paging_core.specs.declared.processor_access.AccessKind.{AccessKind}
+use Rattle.paging_core.specs.declared.processor_access.AccessKind.TheVariants.{Read as Reading, Write as Writing, Fetch as Fetching}
 use Rattle.heap_lines.specs.CallLine.{access_word}
 use Rattle.heap_lines.specs.Grammar.{access_named, bytes_from_digits, rights_of_letters}
 use Rattle.heap_lines.specs.Number.{number_of, numeral_of}
@@ -159,7 +159,7 @@ rights_word_is rights = spelled rights.write rights.user rights.fetch
 pub rights_read : (rights : Rights) → rights_of_letters (rights_word rights) ≡ Some rights
 rights_read rights = rights_spelled rights.write rights.user rights.fetch
 
-pub access_read : (access : Access) → access_named (access_word access) ≡ Some access
+pub access_read : (access : AccessKind) → access_named (access_word access) ≡ Some access
 access_read Reading = refl
 access_read Writing = refl
 access_read Fetching = refl

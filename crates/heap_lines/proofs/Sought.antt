@@ -10,8 +10,8 @@ use Rattle.hex.specs.Hex.{IsBytes, decode_of, encode_lower, lower_digits}
 use Rattle.hex.specs.declared.error.FromHexError.{FromHexError}
 use Rattle.hex.proofs.HexLemmas.{decode_of-ok, length-encode_with}
 use Rattle.paging_core.specs.declared.page_table.Rights.{Rights}
-use Rattle.heap_model.specs.declared.call.Access.{Access}
-use Rattle.heap_model.specs.declared.call.Access.TheVariants.{Read as Reading, Write as Writing, Fetch as Fetching}
+use Rattle.paging_core.specs.declared.processor_access.AccessKind.{AccessKind}
+use Rattle.paging_core.specs.declared.processor_access.AccessKind.TheVariants.{Read as Reading, Write as Writing, Fetch as Fetching}
 use Rattle.heap_model.specs.declared.call.Call.{Call}
 use Rattle.heap_model.specs.declared.call.Call.TheVariants.{Malloc, Calloc, Realloc, CRealloc, Free, Write, Read, Map, Unmap, Probe, Trim, SetRate, SetGranularity, Reset, Extents}
 use Rattle.heap_lines.specs.Asked.{CanBeAsked, AsksForNoOther, IsShort}
@@ -175,7 +175,7 @@ probe_fits [] = tt
 probe_fits (at ∷ []) = tt
 probe_fits (at ∷ access ∷ words) = go (number_of at) (access_named access) (user_of words) (number_fits at)
   where
-    go : (at : Option ℕ) (access : Option Access) (user : Option Bool) → NumberFits at → ItemFits (probe_call at access user)
+    go : (at : Option ℕ) (access : Option AccessKind) (user : Option Bool) → NumberFits at → ItemFits (probe_call at access user)
     go (Some at) (Some access) (Some user) fits = fits
     go (Some at) (Some access) None fits = tt
     go (Some at) None user fits = tt
@@ -290,13 +290,13 @@ unmap_short start pages one two =
     spaced_short (hexadecimal start) (decimal pages) 18 20 (hexadecimal_short start one) (decimal_short pages two) in
     named_rest (codes "unmap ") (hexadecimal start ++ 32 ∷ decimal pages) (lit≤ tt) (omega (arith, rest))
 
-probe_short : (at : ℕ) (access : Access) (user : Bool) → at < 2 ^ 64 → length (call_line (Probe at access user)) ≤ 8192
+probe_short : (at : ℕ) (access : AccessKind) (user : Bool) → at < 2 ^ 64 → length (call_line (Probe at access user)) ≤ 8192
 probe_short at access user fits =
     let rest : length (hexadecimal at ++ 32 ∷ (access_word access ++ by_user user)) ≤ 18 + suc 10 =
     spaced_short (hexadecimal at) (access_word access ++ by_user user) 18 10 (hexadecimal_short at fits) (few access user) in
     named_rest (codes "probe ") (hexadecimal at ++ 32 ∷ (access_word access ++ by_user user)) (lit≤ tt) (omega (arith, rest))
   where
-    few : (access : Access) (user : Bool) → length (access_word access ++ by_user user) ≤ 10
+    few : (access : AccessKind) (user : Bool) → length (access_word access ++ by_user user) ≤ 10
     few Reading true = lit≤ tt
     few Reading false = lit≤ tt
     few Writing true = lit≤ tt

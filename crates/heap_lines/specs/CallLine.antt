@@ -1,8 +1,8 @@
 -- The line that asks for a call.
 use Rattle.std.specs.Prelude.{ℕ, Bool, List, [], ◌++◌, codes, decimal, nat_eq, if◌then◌else◌}
 use Rattle.hex.specs.Hex.{encode_lower}
-use Rattle.heap_model.specs.declared.call.Access.{Access}
-use Rattle.heap_model.specs.declared.call.Access.TheVariants.{Read as Reading, Write as Writing, Fetch as Fetching}
+use Rattle.paging_core.specs.declared.processor_access.AccessKind.{AccessKind}
+use Rattle.paging_core.specs.declared.processor_access.AccessKind.TheVariants.{Read as Reading, Write as Writing, Fetch as Fetching}
 use Rattle.heap_model.specs.declared.call.Call.{Call}
 use Rattle.heap_model.specs.declared.call.Call.TheVariants.{Malloc, Calloc, Realloc, CRealloc, Free, Write, Read, Map, Unmap, Probe, Trim, SetRate, SetGranularity, Reset, Extents}
 use Rattle.heap_lines.specs.Written.{hexadecimal, rights_word}
@@ -18,7 +18,7 @@ with_numbers name first second = name ++ (codes " " ++ (decimal first ++ (codes 
 abbrev pub request_line : List ℕ → ℕ → ℕ → List ℕ
 request_line name size align = if nat_eq align 16 then with_number name size else with_numbers name size align
 
-abbrev pub access_word : Access → List ℕ
+abbrev pub access_word : AccessKind → List ℕ
 access_word Reading = codes "read"
 access_word Writing = codes "write"
 access_word Fetching = codes "fetch"

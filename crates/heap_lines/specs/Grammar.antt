@@ -5,8 +5,8 @@ use Rattle.std.specs.Result.{result_ok}
 use Rattle.std.specs.Str.{bytes_eq}
 use Rattle.hex.specs.Hex.{decode_of}
 use Rattle.paging_core.specs.declared.page_table.Rights.{Rights}
-use Rattle.heap_model.specs.declared.call.Access.{Access}
-use Rattle.heap_model.specs.declared.call.Access.TheVariants.{Read as Reading, Write as Writing, Fetch as Fetching}
+use Rattle.paging_core.specs.declared.processor_access.AccessKind.{AccessKind}
+use Rattle.paging_core.specs.declared.processor_access.AccessKind.TheVariants.{Read as Reading, Write as Writing, Fetch as Fetching}
 use Rattle.heap_model.specs.declared.call.Call.{Call}
 use Rattle.heap_model.specs.declared.call.Call.TheVariants.{Malloc, Calloc, Realloc, CRealloc, Free, Write, Read, Map, Unmap, Probe, Trim, SetRate, SetGranularity, Reset, Extents}
 use Rattle.heap_lines.specs.Number.{number_of}
@@ -101,13 +101,13 @@ abbrev pub unmap_of : List (List ℕ) → Option Call
 unmap_of words = option_map (λ range. Unmap range.0 range.1) (two_numbers words)
 
 -- `read`, `write` or `fetch`
-abbrev pub access_named : List ℕ → Option Access
+abbrev pub access_named : List ℕ → Option AccessKind
 access_named word =
     if bytes_eq word (codes "read") then Some Reading else
     if bytes_eq word (codes "write") then Some Writing else
     if bytes_eq word (codes "fetch") then Some Fetching else None
 
-abbrev pub probe_call : Option ℕ → Option Access → Option Bool → Option Call
+abbrev pub probe_call : Option ℕ → Option AccessKind → Option Bool → Option Call
 probe_call (Some at) (Some access) (Some user) = Some (Probe at access user)
 probe_call at access user = None
 

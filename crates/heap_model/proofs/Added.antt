@@ -10,6 +10,8 @@ use Rattle.paging_core.specs.Memory.{word_at, byte_of}
 use Rattle.paging_core.specs.Prefix.{Prefix, prefix_of, prefixes_of}
 use Rattle.paging_core.specs.Pool.{is_frame_free}
 use Rattle.paging_core.specs.Walk.{Place, reach, large_of, walk_of, reached, top, place_with}
+use Rattle.paging_core.specs.PageBits.{bits_of, bits_at}
+use Rattle.paging_core.specs.declared.page_table.PageBits.{PageBits}
 use Rattle.paging_core.specs.Large.{slot_of}
 use Rattle.paging_core.specs.Tree.{IsTree}
 use Rattle.paging_core.specs.declared.page_table.Rights.{Rights}
@@ -23,7 +25,7 @@ use Rattle.heap_model.specs.State.{State, is_within, total_pages, region_at}
 use Rattle.heap_model.specs.Tables.{has_table, missing, with_tables, free_frames}
 use Rattle.heap_model.specs.Slots.{IsSlot, slot_number, slot_prefix, has_slot, IsSlotOf}
 use Rattle.heap_model.specs.Place.{all_regions}
-use Rattle.heap_model.specs.Machine.{Paged, HasGotPages, Seen, Stands, rights_of}
+use Rattle.heap_model.specs.Machine.{Paged, HasGotPages, Seen, Stands}
 use Rattle.heap_model.proofs.Booleans.{or_false, or_left, or_right, or_cases}
 use Rattle.heap_model.proofs.Regions.{page_canonical}
 use Rattle.heap_model.proofs.Slots.{same_slot, slot_among, slot_all, has_slot-append, prefix_listed, listed_prefix}
@@ -90,12 +92,12 @@ same_page page other one two same = go (halves page (subst (λ a. IsTrue (is_can
     go (inr a) (inl b) = omega arith
     go (inr a) (inr b) = omega arith
 
--- the rights that the walk finds, those of a region, and whether a table is met
-abbrev pub found_rights : Option Place → Option Rights
-found_rights o = option_map rights_of o
+-- the bits that the walk finds, and those of a region's pages
+abbrev pub found_bits : Option Place → Option PageBits
+found_bits o = option_map bits_at o
 
-abbrev pub region_rights : Option Region → Option Rights
-region_rights o = option_map (λ region. region.rights) o
+abbrev pub region_bits : Option Region → Option PageBits
+region_bits o = option_map (λ region. bits_of region.rights) o
 
 -- the walk of a page beside the added ones stays
 pub walk_beside : (old new : Paged) (address pages page : ℕ) (rights : Rights) → HasGotPages old new address pages rights →
@@ -134,7 +136,7 @@ module _ (old new : Paged) (address pages : ℕ) (rights : Rights) (range : IsCa
       go (Some place) is = absurd (
           let page = added.added.mapped k less in
           let there : walk_of new.words old.root (address / 4096 + k) ≡ Some place = walk_stays (address / 4096 + k) place is in
-          let frame : place.frame ≡ page.frame = (let same : Some place ≡ Some (place_with page.frame rights) = sym there ∙ page.found in cc) in
+          let frame : place.frame ≡ page.frame = (let same : Some place ≡ Some (place_with page.frame (bits_of rights)) = sym there ∙ page.found in cc) in
           let used : is_frame_free old.free place.frame ≡ false = tree.used 4 (prefix_of (address / 4096 + k) 4) place
           (omega arith) (sym (walk_reach old.words old.root (address / 4096 + k)) ∙ is) in
           let free : is_frame_free old.free place.frame ≡ true = ap (is_frame_free old.free) frame ∙ page.was_free in
@@ -371,22 +373,22 @@ with_added s heap users address pages slots = record s {
 module _ (m : Seen) (new : Paged) (s : State) (address pages : ℕ) (rights : Rights) (heap users : List Region) (stands : Stands m s)
     (range : IsCanonicalRange (address / 4096) pages) (whole : address % 4096 ≡ 0)
     (added : HasGotPages m.paged new address pages rights)
-    (here : (at : ℕ) → address ≤ at → at < address + 4096 * pages → region_rights
-    (region_at (with_added s heap users address pages new.slots) at) ≡ Some rights)
+    (here : (at : ℕ) → address ≤ at → at < address + 4096 * pages → region_bits
+    (region_at (with_added s heap users address pages new.slots) at) ≡ Some (bits_of rights))
     (elsewhere : (at : ℕ) → (at < address) ⊎ (address + 4096 * pages ≤ at) →
     region_at (with_added s heap users address pages new.slots) at ≡ region_at s at) where
   -- a page of the range: the new region holds it
-  in_range : (k : ℕ) → k < pages → found_rights (walk_of new.words new.root (address / 4096 + k)) ≡ region_rights
+  in_range : (k : ℕ) → k < pages → found_bits (walk_of new.words new.root (address / 4096 + k)) ≡ region_bits
       (region_at (with_added s heap users address pages new.slots) (4096 * (address / 4096 + k)))
   in_range k less =
       let page = added.added.mapped k less in
       let w = whole in
-      ap found_rights (ap (λ r. walk_of new.words r (address / 4096 + k)) added.root ∙ page.found)
+      ap found_bits (ap (λ r. walk_of new.words r (address / 4096 + k)) added.root ∙ page.found)
       ∙ sym (here (4096 * (address / 4096 + k)) (omega arith) (omega arith))
 
   -- another page: nothing is changed
   out_of_range : (page : ℕ) → IsTrue (is_canonical (4096 * page)) → (page < address / 4096) ⊎ (address / 4096 + pages ≤ page) →
-      found_rights (walk_of new.words new.root page) ≡ region_rights (region_at (with_added s heap users address pages new.slots) (4096 * page))
+      found_bits (walk_of new.words new.root page) ≡ region_bits (region_at (with_added s heap users address pages new.slots) (4096 * page))
   out_of_range page canonical beside =
       let w = whole in
       let apart : (k : ℕ) → k < pages → page % 2 ^ 36 ≡ (address / 4096 + k) % 2 ^ 36 → ⊥ = λ k less same. (
@@ -396,16 +398,16 @@ module _ (m : Seen) (new : Paged) (s : State) (address pages : ℕ) (rights : Ri
         | inl before ↦ inl (omega arith)
         | inr behind ↦ inr (omega arith)
       ] in
-      ap found_rights (walk_beside m.paged new address pages page rights added apart) ∙ (stands.pages_found page canonical
-      ∙ sym (ap region_rights (elsewhere (4096 * page) out)))
+      ap found_bits (walk_beside m.paged new address pages page rights added apart) ∙ (stands.pages_found page canonical
+      ∙ sym (ap region_bits (elsewhere (4096 * page) out)))
 
   pages_found : (page : ℕ) → IsTrue (is_canonical (4096 * page)) →
-      found_rights (walk_of new.words new.root page) ≡ region_rights (region_at (with_added s heap users address pages new.slots) (4096 * page))
+      found_bits (walk_of new.words new.root page) ≡ region_bits (region_at (with_added s heap users address pages new.slots) (4096 * page))
   pages_found page canonical = elim (dec_lt page (address / 4096)) [
     | yes before ↦ out_of_range page canonical (inl before)
     | no above ↦ elim (dec_lt page (address / 4096 + pages)) [
       | yes inside ↦ (let e : address / 4096 + (page - address / 4096) ≡ page = omega arith in
-          subst (λ p. found_rights (walk_of new.words new.root p) ≡ region_rights
+          subst (λ p. found_bits (walk_of new.words new.root p) ≡ region_bits
           (region_at (with_added s heap users address pages new.slots) (4096 * p))) e
           (in_range (page - address / 4096) (omega arith)))
       | no behind ↦ out_of_range page canonical (inr (omega arith))

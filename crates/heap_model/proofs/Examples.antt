@@ -4,7 +4,7 @@ use Rattle.paging_core.specs.declared.page_table.Rights.{Rights}
 use Rattle.heap_model.specs.declared.region.Region.{Region}
 use Rattle.heap_model.specs.declared.config.Config.{Config}
 use Rattle.heap_model.specs.declared.call.Call.TheVariants.{Malloc, Calloc, Free as Freeing, Read, Map, Unmap, Probe, Trim, SetGranularity, Reset}
-use Rattle.heap_model.specs.declared.call.Access.TheVariants.{Read as Reading, Write as Writing, Fetch}
+use Rattle.paging_core.specs.declared.processor_access.AccessKind.TheVariants.{Read as Reading, Write as Writing, Fetch}
 use Rattle.heap_model.specs.declared.answer.Reply.TheVariants.{Block as Placed, Done, Bytes, Trimmed, Accepted, Released}
 use Rattle.heap_model.specs.declared.answer.Refusal.TheVariants.{BadAlign, TooLarge, BadRange, HeapRegion, Overlap, UnknownRegion, NotCanonical}
 use Rattle.heap_model.specs.declared.answer.Answer.{Answer}
@@ -18,7 +18,8 @@ use Rattle.heap_model.specs.Tables.{missing, with_tables, free_frames}
 use Rattle.heap_model.specs.Place.{place, all_regions}
 use Rattle.heap_model.specs.Room.{heap_region}
 use Rattle.heap_model.specs.Extents.{AreRuns, IsTiling}
-use Rattle.heap_model.specs.Probe.{rights_at, is_access_granted, probe_fault_code}
+use Rattle.paging_core.specs.ProcessorAccess.{fault_code}
+use Rattle.heap_model.specs.Probe.{rights_at, is_access_granted}
 use Rattle.heap_model.specs.Refusal.{is_too_large, must_refuse}
 use Rattle.heap_model.specs.Answer.{after, IsAllowed}
 
@@ -231,14 +232,14 @@ probed-fetch : is_access_granted (rights_at one 0x400010) Fetch false ≡ false
 unfolding one config first
 probed-fetch = refl
 
-code-fetch : probe_fault_code true Fetch false ≡ 0x11
+code-fetch : fault_code true false Fetch false ≡ 0x11
 code-fetch = refl
 
-code-user : probe_fault_code true Reading true ≡ 0x5
+code-user : fault_code true false Reading true ≡ 0x5
 code-user = refl
 
 -- no page is mapped there
-code-unmapped : probe_fault_code false Writing true ≡ 0x6
+code-unmapped : fault_code false false Writing true ≡ 0x6
 code-unmapped = refl
 
 not-canonical : must_refuse (start config) (Probe 0x800000000000 Reading false) ≡ Some NotCanonical

@@ -3,6 +3,7 @@ use Rattle.std.proofs.Common.{◌≡◌, ℕ, ◌+◌, ◌*◌, ◌/◌, ◌<◌
 use Rattle.std.specs.List.{list_any, AllByRecursion}
 use Rattle.std.proofs.lemmas.Bool.Decides.{nat_tests}
 use Rattle.paging_core.specs.Address.{IsCanonicalRange}
+use Rattle.paging_core.specs.PageBits.{bits_of}
 use Rattle.heap_model.specs.declared.region.Region.{Region}
 use Rattle.heap_model.specs.State.{State, is_within, total_pages, region_at}
 use Rattle.heap_model.specs.Tables.{missing, with_tables, used_frames, free_frames}
@@ -16,7 +17,7 @@ use Rattle.heap_model.proofs.Booleans.{or_left, or_right, or_neither, neither_or
 use Rattle.heap_model.proofs.Regions.{within, not_within, all_with, pages_with, any_with, any_all, find_without, find_alone, find_only, in_order_with, none_within}
 use Rattle.heap_model.proofs.Slots.{any_heap_more, slots_more, slots_join, slots_whole, whole_still}
 use Rattle.heap_model.proofs.Tables.{length-with_tables}
-use Rattle.heap_model.proofs.Added.{region_rights, stays, stands_added}
+use Rattle.heap_model.proofs.Added.{region_bits, stays, stands_added}
 
 -- the state with one region more of the heap, of which these slots are mapped by one entry each
 abbrev pub granted : State → ℕ → ℕ → List ℕ → State
@@ -130,10 +131,10 @@ module _ (m : Seen) (new : Paged) (s : State) (address pages : ℕ) (stands : St
     (range : IsCanonicalRange (address / 4096) pages) (fit : IsFit s.base s.pages (all_regions s) pages address)
     (few : pages + missing s.tables address pages ≤ free_frames s)
     (grant : IsPagedGrant m.paged new address pages) (regions : new.regions ≡ all_regions (granted s address pages new.slots)) where
-  here : (at : ℕ) → address ≤ at → at < address + 4096 * pages → region_rights (region_at (granted s address pages new.slots) at) ≡ Some heap_rights
+  here : (at : ℕ) → address ≤ at → at < address + 4096 * pages → region_bits (region_at (granted s address pages new.slots) at) ≡ Some (bits_of heap_rights)
   here at above below =
       let none : list_any (is_within at) s.heap ≡ false = none_within address pages at s.heap above below (clear_of s pages address fit).0 in
-      ap region_rights (find_alone (is_within at) (heap_region address pages) s.heap s.users (within at (heap_region address pages) above below) none)
+      ap region_bits (find_alone (is_within at) (heap_region address pages) s.heap s.users (within at (heap_region address pages) above below) none)
 
   elsewhere : (at : ℕ) → (at < address) ⊎ (address + 4096 * pages ≤ at) → region_at (granted s address pages new.slots) at ≡ region_at s at
   elsewhere at beside = find_without (is_within at) (heap_region address pages) s.heap s.users (not_within at (heap_region address pages) beside)

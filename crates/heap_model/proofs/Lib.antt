@@ -1,6 +1,7 @@
 mod Examples
 pub mod Booleans
 pub mod Regions
+pub mod Found
 pub mod FirstFit
 pub mod Tables
 pub mod Slots

@@ -8,6 +8,7 @@ use native.Mathlib.Decide.{dec_lt}
 use Rattle.paging_core.specs.Address.{is_canonical, IsCanonicalRange}
 use Rattle.paging_core.specs.Prefix.{Prefix, prefix_of}
 use Rattle.paging_core.specs.Walk.{Place, reach, large_of, walk_of, reached}
+use Rattle.paging_core.specs.PageBits.{bits_of}
 use Rattle.paging_core.specs.Tree.{IsTree}
 use Rattle.paging_core.specs.declared.page_table.Rights.{Rights}
 use Rattle.paging_core.proofs.Reached.{some_not_none}
@@ -29,7 +30,7 @@ use Rattle.heap_model.proofs.Regions.{within, not_within, meets_behind, beside, 
 use Rattle.heap_model.proofs.Slots.{same_slot, page_slot, page_number, slot_all, has_slot-filter, filter_none, distinct_filter, whole_bounds, whole_meets, any_users_more, slots_more, slots_fewer, slots_join, slots_whole, whole_still, settled_same}
 use Rattle.heap_model.proofs.Tables.{length-with_tables}
 use Rattle.heap_model.proofs.Known.{known_within}
-use Rattle.heap_model.proofs.Added.{found_rights, region_rights, stays, stands_added}
+use Rattle.heap_model.proofs.Added.{found_bits, region_bits, stays, stands_added}
 use Rattle.heap_model.proofs.NewSlots.{slots_listed, allowed_slots}
 
 -- ---- ranges of pages
@@ -101,9 +102,9 @@ module _ (m : Seen) (new : Paged) (s : State) (start pages : ℕ) (rights : Righ
     (few : pages + missing s.tables start pages ≤ free_frames s)
     (added : HasGotPages m.paged new start pages rights) (regions : new.regions ≡ all_regions (with_user s start pages rights new.slots))
     (zeros : (at : ℕ) → is_within at (user_region start pages rights) ≡ true → reached new.words new.root at ≡ Some 0) where
-  here : (at : ℕ) → start ≤ at → at < start + 4096 * pages → region_rights (region_at (with_user s start pages rights new.slots) at) ≡ Some rights
+  here : (at : ℕ) → start ≤ at → at < start + 4096 * pages → region_bits (region_at (with_user s start pages rights new.slots) at) ≡ Some (bits_of rights)
   here at above below =
-      ap region_rights (find_behind (is_within at) s.heap (with_region (user_region start pages rights) s.users)
+      ap region_bits (find_behind (is_within at) s.heap (with_region (user_region start pages rights) s.users)
       (none_within start pages at s.heap above below beside_heap)
       ∙ find_only (is_within at) (user_region start pages rights) s.users
       (within at (user_region start pages rights) above below) (none_within start pages at s.users above below
@@ -317,17 +318,17 @@ module _ (m : Seen) (new : Paged) (s : State) (start pages : ℕ) (good : IsGood
       not_within at region (elim beside [ inl before ↦ inl (omega arith) | inr behind ↦ inr (omega arith) ])))
 
   out_of_range : (page : ℕ) → IsTrue (is_canonical (4096 * page)) → (page < start / 4096) ⊎ (start / 4096 + pages ≤ page) →
-      found_rights (walk_of new.words m.paged.root page) ≡ region_rights (region_at (without_user s start pages) (4096 * page))
+      found_bits (walk_of new.words m.paged.root page) ≡ region_bits (region_at (without_user s start pages) (4096 * page))
   out_of_range page canonical beside =
       let aligned = known_start.0 in
       let apart : (k : ℕ) → k < pages → page ≡ start / 4096 + k → ⊥ = λ k less same. elim beside [ inl before ↦ omega arith | inr behind ↦ omega arith ] in
       let out : (4096 * page < start) ⊎ (start + 4096 * pages ≤ 4096 * page) =
       elim beside [ inl before ↦ inl (omega arith) | inr behind ↦ inr (omega arith) ] in
-      ap found_rights (left.others page (subst (λ a. IsTrue (is_canonical a)) (mul_comm 4096 page) canonical) apart)
-      ∙ (stands.pages_found page canonical ∙ sym (ap region_rights (as_before (4096 * page) out)))
+      ap found_bits (left.others page (subst (λ a. IsTrue (is_canonical a)) (mul_comm 4096 page) canonical) apart)
+      ∙ (stands.pages_found page canonical ∙ sym (ap region_bits (as_before (4096 * page) out)))
 
   pages_found : (page : ℕ) → IsTrue (is_canonical (4096 * page)) →
-      found_rights (walk_of new.words m.paged.root page) ≡ region_rights (region_at (without_user s start pages) (4096 * page))
+      found_bits (walk_of new.words m.paged.root page) ≡ region_bits (region_at (without_user s start pages) (4096 * page))
   pages_found page canonical = elim (dec_lt page (start / 4096)) [
     | yes before ↦ out_of_range page canonical (inl before)
     | no above ↦ elim (dec_lt page (start / 4096 + pages)) [
@@ -336,7 +337,7 @@ module _ (m : Seen) (new : Paged) (s : State) (start pages : ℕ) (good : IsGood
           let e : start / 4096 + (page - start / 4096) ≡ page = omega arith in
           let gone : walk_of new.words m.paged.root page ≡ None = subst (λ p. walk_of new.words m.paged.root p ≡ None) e
           (left.unmapped (page - start / 4096) (omega arith)) in
-          ap found_rights gone ∙ sym (ap region_rights (none_there (4096 * page) (omega arith) (omega arith))))
+          ap found_bits gone ∙ sym (ap region_bits (none_there (4096 * page) (omega arith) (omega arith))))
       | no behind ↦ out_of_range page canonical (inr (omega arith))
     ]
   ]
@@ -470,7 +471,7 @@ module _ (m : Seen) (new : Paged) (s : State) (start pages : ℕ) (good : IsGood
         tree = subst (λ r. IsTree new.words r new.free) (sym left.root) left.tree;
         free_frames = omega arith;
         table_count = (let many = stands.table_count in omega arith);
-        pages_found = λ page canonical. ap (λ r. found_rights (walk_of new.words r page)) left.root ∙ pages_found page canonical;
+        pages_found = λ page canonical. ap (λ r. found_bits (walk_of new.words r page)) left.root ∙ pages_found page canonical;
         tables_met = λ level number some less. subst (λ r. IsSome (reach new.words r level number) ↔ IsTrue
             (has_table (without_user s start pages).tables (record { level = level; number = number }))) (sym left.root)
             (subst (λ ts. IsSome (reach new.words m.paged.root level number) ↔ IsTrue

@@ -2,12 +2,13 @@
 use Rattle.std.proofs.Common.{◌≡◌, ℕ, ◌/◌, ◌%◌, ◌^◌, ◌≤◌, List, map, refl, ap, ◌∙◌, arith, Option, option_map, Bool, true, false, not, ◌&&◌, ◌||◌, [], ◌∷◌}
 use Rattle.std.specs.List.{list_any, AllByRecursion}
 use Rattle.paging_core.specs.Walk.{reach, large_of, walk_of, reached}
+use Rattle.paging_core.specs.PageBits.{bits_at}
 use Rattle.heap_model.specs.declared.live.Live.{Live}
 use Rattle.heap_model.specs.declared.region.Region.{Region}
 use Rattle.heap_model.specs.State.{State, Block, is_within}
 use Rattle.heap_model.specs.Memory.{HoldsBytes}
 use Rattle.heap_model.specs.Slots.{slot_number}
-use Rattle.heap_model.specs.Machine.{Paged, OnlyHeapBytesChange, is_of_user, Seen, Stands, rights_of, outline}
+use Rattle.heap_model.specs.Machine.{Paged, OnlyHeapBytesChange, is_of_user, Seen, Stands, outline}
 use Rattle.heap_model.specs.Run.{IsGood, IsUserRegion}
 use Rattle.heap_model.proofs.Booleans.{or_right}
 use Rattle.heap_model.proofs.Regions.{any_all}
@@ -53,7 +54,7 @@ stands_moved m s new lives blocks good stands still same holds =
       tree = rw (root, free) (still.tree stands.tree);
       free_frames = rw free stands.free_frames;
       table_count = ap (λ p. p.tables) still.others ∙ stands.table_count;
-      pages_found = λ page canonical. ap (option_map rights_of) (same_reach 4 (page % 2 ^ 36) (omega arith)) ∙ stands.pages_found page canonical;
+      pages_found = λ page canonical. ap (option_map bits_at) (same_reach 4 (page % 2 ^ 36) (omega arith)) ∙ stands.pages_found page canonical;
       tables_met = λ level n some less. rw (same_reach level n (omega arith)) (stands.tables_met level n some less);
       larges_met = λ slot is. rw (same_large (slot_number slot)) (stands.larges_met slot is);
       regions = ap (λ p. p.regions) still.others ∙ stands.regions;

@@ -6,15 +6,17 @@ use Rattle.paging_core.specs.Walk.{walk_of, reached}
 use Rattle.x86_flags.specs.PageFaultErrorCode.{page_fault_bits}
 use Rattle.x86_flags.specs.declared.page_fault_error_code.PageFaultErrorCode.{PageFaultErrorCode}
 use Rattle.heap_model.specs.declared.region.Region.{Region}
-use Rattle.heap_model.specs.declared.call.Access.{Access}
+use Rattle.paging_core.specs.declared.processor_access.AccessKind.{AccessKind}
 use Rattle.heap_model.specs.declared.call.Call.TheVariants.{Probe}
 use Rattle.heap_model.specs.declared.answer.Reply.TheVariants.{Byte, Fault}
-use Rattle.heap_model.specs.State.{State, Known, Block, block_at, cell_at}
+use Rattle.heap_model.specs.State.{State, Known, Block, block_at, cell_at, region_at}
 use Rattle.heap_model.specs.Memory.{HoldsBytes}
-use Rattle.heap_model.specs.Probe.{rights_at, is_access_granted, probe_fault_code}
+use Rattle.paging_core.specs.ProcessorAccess.{fault_code}
+use Rattle.heap_model.specs.Probe.{rights_at, is_access_granted}
 use Rattle.heap_model.specs.Answer.{known_block, seen_block}
 use Rattle.heap_model.specs.Run.{IsGood, IsGoodBlock}
 use Rattle.heap_model.specs.Machine.{Seen, Stands, IsStep, outline, rights_of}
+use Rattle.heap_model.proofs.Found.{rights_alike}
 use Rattle.heap_model.proofs.Known.{length-with_bytes, known_cases}
 
 -- ---- a block of which a byte was seen
@@ -151,10 +153,12 @@ first_canonical at canonical =
 -- the walk finds at an address the rights of its page
 rights_found : (m : Seen) (s : State) (at : ℕ) → Stands m s → IsTrue (is_canonical at) →
     option_map rights_of (walk_of m.paged.words m.paged.root (at / 4096)) ≡ rights_at s at
-rights_found m s at stands canonical = stands.pages_found (at / 4096) (first_canonical at canonical)
+rights_found m s at stands canonical =
+    rights_alike (λ region. region.rights) (walk_of m.paged.words m.paged.root (at / 4096)) (region_at s (4096 * (at / 4096)))
+    (stands.pages_found (at / 4096) (first_canonical at canonical))
 
 -- the access is granted, and the byte is the one reached
-pub step_byte : (m : Seen) (s : State) (at : ℕ) (access : Access) (user : Bool) (byte : ℕ) → IsGood s → Stands m s → IsTrue (is_canonical at) →
+pub step_byte : (m : Seen) (s : State) (at : ℕ) (access : AccessKind) (user : Bool) (byte : ℕ) → IsGood s → Stands m s → IsTrue (is_canonical at) →
     is_access_granted (option_map rights_of (walk_of m.paged.words m.paged.root (at / 4096))) access user ≡ true →
     reached m.paged.words m.paged.root at ≡ Some byte → byte < 2 ^ 8 →
     IsStep s (Probe at access user) (record { reply = Byte byte; regions = None; large = None }) m
@@ -181,10 +185,10 @@ step_byte m s at access user byte good stands canonical granted here small = rec
 }
 
 -- the access is not granted, and the code says why
-pub step_fault : (m : Seen) (s : State) (at : ℕ) (access : Access) (user : Bool) (code : PageFaultErrorCode) → IsGood s →
+pub step_fault : (m : Seen) (s : State) (at : ℕ) (access : AccessKind) (user : Bool) (code : PageFaultErrorCode) → IsGood s →
     Stands m s → IsTrue (is_canonical at) →
     is_access_granted (option_map rights_of (walk_of m.paged.words m.paged.root (at / 4096))) access user ≡ false →
-    page_fault_bits code ≡ probe_fault_code (is_some (option_map rights_of (walk_of m.paged.words m.paged.root (at / 4096)))) access user →
+    page_fault_bits code ≡ fault_code (is_some (option_map rights_of (walk_of m.paged.words m.paged.root (at / 4096)))) false access user →
     IsStep s (Probe at access user) (record { reply = Fault code; regions = None; large = None }) m
 step_fault m s at access user code good stands canonical denied is = record {
   allowed = record {
@@ -193,7 +197,7 @@ step_fault m s at access user code good stands canonical denied is = record {
       (
         refl,
         ap (λ rights. is_access_granted rights access user) (sym (rights_found m s at stands canonical)) ∙ denied,
-        is ∙ ap (λ rights. probe_fault_code (is_some rights) access user) (rights_found m s at stands canonical),
+        is ∙ ap (λ rights. fault_code (is_some rights) false access user) (rights_found m s at stands canonical),
       ),
     );
     listed = tt;

@@ -1,5 +1,5 @@
 -- One call: which answers are allowed, and the state after each.
-use Rattle.std.specs.Prelude.{◌≡◌, ◌≢◌, ℕ, zero, suc, ◌+◌, ◌-◌, ◌*◌, ◌^◌, ◌<◌, ◌≤◌, ◌↔◌, Bool, true, not, ◌==◌, ◌⊎◌, ⊤, nat_le, IsTrue, IsFalse, is_some, if◌then◌else◌, List, [], ◌∷◌, ◌++◌, length, map, filter, find, replicate, slice_index, slice_set, option_map, unwrap_or, Option, Some, None, MatchOption}
+use Rattle.std.specs.Prelude.{◌≡◌, ◌≢◌, ℕ, zero, suc, ◌+◌, ◌-◌, ◌*◌, ◌^◌, ◌<◌, ◌≤◌, ◌↔◌, Bool, true, false, not, ◌==◌, ◌⊎◌, ⊤, nat_le, IsTrue, IsFalse, is_some, if◌then◌else◌, List, [], ◌∷◌, ◌++◌, length, map, filter, find, replicate, slice_index, slice_set, option_map, unwrap_or, Option, Some, None, MatchOption}
 use Rattle.std.specs.List.{list_any, AllByRecursion}
 use Rattle.std.specs.Int.{IsPowerOfTwo}
 use Rattle.heap_model.specs.declared.region.Region.{Region}
@@ -18,7 +18,8 @@ use Rattle.heap_model.specs.Cut.{AreCut}
 use Rattle.heap_model.specs.Room.{user_region, IsGrowth, IsGrowthCut}
 use Rattle.heap_model.specs.Extents.{IsTiling}
 use Rattle.x86_flags.specs.PageFaultErrorCode.{page_fault_bits}
-use Rattle.heap_model.specs.Probe.{rights_at, is_access_granted, probe_fault_code, IsByteAt}
+use Rattle.paging_core.specs.ProcessorAccess.{fault_code}
+use Rattle.heap_model.specs.Probe.{rights_at, is_access_granted, IsByteAt}
 use Rattle.heap_model.specs.Refusal.{own_align, least_align, must_refuse, MayRefuse, wanted_by}
 
 -- a block of whose bytes the same is known
@@ -146,7 +147,7 @@ IsCallServed s (Read number offset count) (Bytes bytes) regions = (regions ≡ N
 IsCallServed s (Map start pages rights) Done regions = regions ≡ None
 IsCallServed s (Unmap start pages) Done regions = regions ≡ None
 IsCallServed s (Probe at access user) (Byte byte) regions = (regions ≡ None) × IsTrue (is_access_granted (rights_at s at) access user) × IsByteAt s at byte
-IsCallServed s (Probe at access user) (Fault code) regions = (regions ≡ None) × IsFalse (is_access_granted (rights_at s at) access user) × (page_fault_bits code ≡ probe_fault_code (is_some (rights_at s at)) access user)
+IsCallServed s (Probe at access user) (Fault code) regions = (regions ≡ None) × IsFalse (is_access_granted (rights_at s at) access user) × (page_fault_bits code ≡ fault_code (is_some (rights_at s at)) false access user)
 IsCallServed s (Trim pad) (Trimmed released) regions = AreCut s.heap (heap_after s regions) × (released ≡ is_some regions)
 IsCallServed s (SetRate rate) Done regions = regions ≡ None
 IsCallServed s (SetGranularity granularity) (Accepted accepted) regions = (regions ≡ None) × (IsTrue accepted ↔ (IsPowerOfTwo granularity × (16 ≤ granularity)))

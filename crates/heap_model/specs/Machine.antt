@@ -5,6 +5,7 @@ use Rattle.paging_core.specs.declared.page_table.Rights.{Rights}
 use Rattle.paging_core.specs.Address.{is_canonical}
 use Rattle.paging_core.specs.Memory.{frame_count, word_at}
 use Rattle.paging_core.specs.Walk.{Place, reach, large_of, walk_of, reached}
+use Rattle.paging_core.specs.PageBits.{bits_of, bits_at}
 use Rattle.paging_core.specs.Pool.{free_count}
 use Rattle.paging_core.specs.Tree.{IsTree}
 use Rattle.paging_core.specs.Missing.{missing_of}
@@ -60,7 +61,7 @@ pub record HasGotPages (old new : Paged) (address pages : ℕ) (rights : Rights)
   pub root : new.root ≡ old.root
   -- the slot, in counts of 2 MiB, before which all that could be were mapped like this
   pub stop : ℕ
-  pub added : IsRangeMapped old.words new.words old.free new.free old.root (address / 4096) pages stop rights
+  pub added : IsRangeMapped old.words new.words old.free new.free old.root (address / 4096) pages stop (bits_of rights)
   pub tables : new.tables + missing_of new.words old.root (address / 4096) pages ≡ old.tables + missing_of old.words old.root (address / 4096) pages
   pub slots : AreLargeSlots new.words old.root address pages new.slots
 
@@ -122,10 +123,11 @@ pub record Stands (m : Seen) (s : State) : Type 0 where
   pub tree : IsTree m.paged.words m.paged.root m.paged.free
   pub free_frames : free_count m.paged.free ≡ free_frames s
   pub table_count : m.paged.tables ≡ 1 + length s.tables
-  -- the walk finds a page exactly where a region holds it, with the region's rights
+  -- The walk finds a page exactly where a region holds it, with the region's rights: it is of type 0, as usual
+  -- memory, and not global.
   pub pages_found :
       (page : ℕ) → IsTrue (is_canonical (4096 * page)) →
-      option_map rights_of (walk_of m.paged.words m.paged.root page) ≡ option_map (λ region. region.rights) (region_at s (4096 * page))
+      option_map bits_at (walk_of m.paged.words m.paged.root page) ≡ option_map (λ region. bits_of region.rights) (region_at s (4096 * page))
   -- the walk meets a table below the root exactly at the prefixes of the state
   pub tables_met :
       (level number : ℕ) → 0 < level → level < 4 →

@@ -1,17 +1,6 @@
 use crate::Bytes;
-use paging_core::Rights;
+use paging_core::{AccessKind, Rights};
 use public_list::PublicList;
-
-/// What an access does with a byte.
-#[derive(Clone, Copy, PartialEq, Eq, Debug)]
-pub enum Access {
-    /// It reads the byte, which every mapped page grants.
-    Read,
-    /// It writes to the byte.
-    Write,
-    /// It fetches an instruction there.
-    Fetch,
-}
 
 /// A call of the machine. A block is named by its number.
 #[derive(Drop)]
@@ -67,7 +56,7 @@ pub enum Call {
     /// Looks at the byte at an address as an access does, by the user or by the kernel.
     Probe {
         at: u64,
-        access: Access,
+        access: AccessKind,
         user: bool,
     },
     /// Gives back memory that no block needs. The heap keeps more than `pad` bytes free at its end, if it has them.

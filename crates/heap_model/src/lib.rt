@@ -11,11 +11,11 @@ mod live;
 mod region;
 
 pub use answer::{Answer, AnswerList, Refusal, Reply, SlotList};
-pub use call::{Access, Call, CallList};
+pub use call::{Call, CallList};
 pub use config::Config;
 pub use dlmalloc_chunks::{Extent, ExtentList, Kind};
 pub use live::Live;
-pub use paging_core::Rights;
+pub use paging_core::{AccessKind as Access, Rights};
 pub use public_list::PublicList;
 pub use region::{Region, RegionList};
 pub use x86_flags::PageFaultErrorCode;

@@ -26,6 +26,7 @@ abbrev pub mapped_from : ℕ → Region → ℕ → Option Mapping → List Mapp
 mapped_from call region large None mappings = mappings ++ new_mapping call region large ∷ []
 mapped_from call region large (Some mapping) mappings = mappings
 
+-- the user's regions over the calls, with one that this call mapped
 abbrev pub with_mapping : ℕ → Region → ℕ → List Mapping → List Mapping
 with_mapping call region large mappings = mapped_from call region large (find (is_mapped_from region.start) mappings) mappings
 
@@ -33,6 +34,7 @@ with_mapping call region large mappings = mapped_from call region large (find (i
 abbrev pub unmapped_if : ℕ → ℕ → ℕ → Mapping → Mapping
 unmapped_if call start pages mapping = if is_mapped_from start mapping && nat_eq mapping.region.pages pages then ended call mapping else mapping
 
+-- the user's regions over the calls, of which this call unmapped the one that has exactly these pages
 abbrev pub with_mapping_ended : ℕ → ℕ → ℕ → List Mapping → List Mapping
 with_mapping_ended call start pages mappings = map (unmapped_if call start pages) mappings
 

@@ -4,18 +4,19 @@ use Rattle.std.specs.Prelude.{if◌then◌else◌}
 use Rattle.std.specs.List.{list_any, AllByRecursion}
 use Rattle.std.proofs.lemmas.Bool.Decides.{nat_tests}
 use Rattle.std.proofs.lemmas.List.{drop_all}
-use Rattle.paging_core.specs.Walk.{walk_of}
+use Rattle.paging_core.specs.Walk.{walk_of, place_with}
+use Rattle.paging_core.specs.declared.page_table.PageBits.{PageBits}
 use Rattle.heap_tables.specs.declared.lines.Line.{Line}
 use Rattle.heap_tables.specs.declared.owners.Owned.{Owned}
 use Rattle.heap_tables.specs.declared.owners.Owner.{Owner}
 use Rattle.heap_tables.specs.declared.owners.Owner.TheVariants.{Heap, User}
 use Rattle.heap_tables.specs.Owners.{owner_of, same_owner}
-use Rattle.heap_tables.specs.Joining.{same, same_rights, goes_on, with_next, lines_from, joined_lines}
+use Rattle.heap_tables.specs.Joining.{same, same_bits, goes_on, with_next, lines_from, joined_lines}
 use Rattle.heap_tables.specs.Walked.{place_in, IsWalked, IsOwned, line_has_page, AreGreatest}
 
 -- what is taken for a line if there is none
 abbrev pub none : Line
-none = record { steps = 0; index = 0; page = 0; end = 0; frame = 0; owner = Heap; rights = record { write = false; user = false; fetch = false } }
+none = record { steps = 0; index = 0; page = 0; end = 0; frame = 0; owner = Heap; rights = record { write = false; user = false; fetch = false; through = false; uncached = false; global = false } }
 
 pub rest_at : (lines : List Line) (i : ℕ) (d : Line) → i < length lines → drop i lines ≡ get_or lines i d ∷ drop (i + 1) lines
 rest_at lines i d within = drop-cons lines i d within ∙ ap (λ (n : ℕ). get_or lines i d ∷ drop n lines) (sym (add-one i))
@@ -29,7 +30,7 @@ pub lines_step : (line : Line) (lines : List Line) (i : ℕ) → i < length line
       end = 0;
       frame = 0;
       owner = Heap;
-      rights = record { write = false; user = false; fetch = false };
+      rights = record { write = false; user = false; fetch = false; through = false; uncached = false; global = false };
     }))
     then lines_from (with_next line (get_or lines i (record {
       steps = 0;
@@ -39,7 +40,7 @@ pub lines_step : (line : Line) (lines : List Line) (i : ℕ) → i < length line
       frame = 0;
       owner =
           Heap;
-      rights = record { write = false; user = false; fetch = false };
+      rights = record { write = false; user = false; fetch = false; through = false; uncached = false; global = false };
     }))) (drop (i + 1) lines)
     else line ∷ lines_from (get_or lines i (record {
       steps = 0;
@@ -48,7 +49,7 @@ pub lines_step : (line : Line) (lines : List Line) (i : ℕ) → i < length line
       end = 0;
       frame = 0;
       owner = Heap;
-      rights = record { write = false; user = false; fetch = false };
+      rights = record { write = false; user = false; fetch = false; through = false; uncached = false; global = false };
     })) (drop (i + 1) lines))
 lines_step line lines i within = ap (lines_from line) (rest_at lines i none within)
 
@@ -91,6 +92,34 @@ same_owner_is Heap User is = absurd (let wrong : false ≡ true = is in cc)
 same_owner_is User Heap is = absurd (let wrong : false ≡ true = is in cc)
 same_owner_is User User is = refl
 
+same_bits_is : (one other : PageBits) → same_bits one other ≡ true → one ≡ other
+same_bits_is one other is =
+    let w = same one.write other.write in
+    let u = same one.user other.user in
+    let f = same one.fetch other.fetch in
+    let t = same one.through other.through in
+    let c = same one.uncached other.uncached in
+    let g = same one.global other.global in
+    let is1 = right_true w (u && (f && (t && (c && g)))) is in
+    let is2 = right_true u (f && (t && (c && g))) is1 in
+    let is3 = right_true f (t && (c && g)) is2 in
+    let is4 = right_true t (c && g) is3 in
+    bits_is (same_is one.write other.write (left_true w (u && (f && (t && (c && g)))) is))
+    (same_is one.user other.user (left_true u (f && (t && (c && g))) is1))
+    (same_is one.fetch other.fetch (left_true f (t && (c && g)) is2))
+    (same_is one.through other.through (left_true t (c && g) is3))
+    (same_is one.uncached other.uncached (left_true c g is4)) (same_is one.global other.global (right_true c g is4))
+  where
+    bits_is : one.write ≡ other.write → one.user ≡ other.user → one.fetch ≡ other.fetch → one.through ≡ other.through →
+        one.uncached ≡ other.uncached → one.global ≡ other.global → one ≡ other
+    bits_is write user fetch through uncached global =
+        ap (λ (b : Bool). record one { write = b }) write
+        ∙ (ap (λ (b : Bool). record one { write = other.write; user = b }) user
+        ∙ (ap (λ (b : Bool). record one { write = other.write; user = other.user; fetch = b }) fetch
+        ∙ (ap (λ (b : Bool). record other { through = b; uncached = one.uncached; global = one.global }) through
+        ∙ (ap (λ (b : Bool). record other { uncached = b; global = one.global }) uncached
+        ∙ ap (λ (b : Bool). record other { global = b }) global))))
+
 -- what it is that a line goes on
 record GoesOn (line next : Line) : Type 0 where
   pub some : line.page < line.end
@@ -98,9 +127,7 @@ record GoesOn (line next : Line) : Type 0 where
   pub behind : line.end ≡ next.page
   pub frames : line.frame + (line.end - line.page) ≡ next.frame
   pub owner : line.owner ≡ next.owner
-  pub write : line.rights.write ≡ next.rights.write
-  pub user : line.rights.user ≡ next.rights.user
-  pub fetch : line.rights.fetch ≡ next.rights.fetch
+  pub rights : line.rights ≡ next.rights
 
 goes : (line next : Line) → goes_on line next ≡ true → GoesOn line next
 goes line next is =
@@ -109,27 +136,21 @@ goes line next is =
     let c = nat_eq line.end next.page in
     let d = nat_eq (line.frame + (line.end - line.page)) next.frame in
     let e = nat_eq line.steps next.steps in
-    let w = same line.rights.write next.rights.write in
-    let u = same line.rights.user next.rights.user in
-    let f = same line.rights.fetch next.rights.fetch in
+    let s = same_bits line.rights next.rights in
     let o = same_owner line.owner next.owner in
-    let r = o && (w && (u && f)) in
+    let r = o && s in
     let is1 = right_true a (b && (c && (d && (e && r)))) is in
     let is2 = right_true b (c && (d && (e && r))) is1 in
     let is3 = right_true c (d && (e && r)) is2 in
     let is4 = right_true d (e && r) is3 in
     let is5 = right_true e r is4 in
-    let is6 = right_true o (w && (u && f)) is5 in
-    let is7 = right_true w (u && f) is6 in
     record {
       some = less_number line.page line.end (left_true a (b && (c && (d && (e && r)))) is);
       more = less_number next.page next.end (left_true b (c && (d && (e && r))) is1);
       behind = same_number line.end next.page (left_true c (d && (e && r)) is2);
       frames = same_number (line.frame + (line.end - line.page)) next.frame (left_true d (e && r) is3);
-      owner = same_owner_is line.owner next.owner (left_true o (w && (u && f)) is5);
-      write = same_is line.rights.write next.rights.write (left_true w (u && f) is6);
-      user = same_is line.rights.user next.rights.user (left_true u f is7);
-      fetch = same_is line.rights.fetch next.rights.fetch (right_true u f is7);
+      owner = same_owner_is line.owner next.owner (left_true o s is5);
+      rights = same_bits_is line.rights next.rights (right_true o s is5);
     }
 
 -- what a line says with the pages of the next one is what both say
@@ -146,26 +167,8 @@ joined_walked words root line next on first second page from to = go (nat_lt pag
         let at : next.page ≤ page = grind (arith, nat_tests, behind, next_is) in
         let frame : next.frame + (page - next.page) ≡ line.frame + (page - line.page) = omega (arith, at, some, next_is, frames) in
         second page at to
-        ∙ ap (λ (f : ℕ). Some (record { frame = f; write = next.rights.write; user = next.rights.user; fetch = next.rights.fetch })) frame
-        ∙ ap (λ (b : Bool). Some (record {
-          frame = line.frame + (page - line.page);
-          write = b;
-          user = next.rights.user;
-          fetch = next.rights.fetch;
-        })) (sym on.write)
-        ∙ ap (λ (b : Bool). Some (record {
-          frame = line.frame + (page - line.page);
-          write = line.rights.write;
-          user = b;
-          fetch = next.rights.fetch;
-        })) (sym on.user)
-        ∙ ap (λ (b : Bool). Some (record {
-          frame = line.frame + (page - line.page);
-          write = line.rights.write;
-          user =
-              line.rights.user;
-          fetch = b;
-        })) (sym on.fetch)
+        ∙ ap (λ (f : ℕ). Some (place_with f next.rights)) frame
+        ∙ ap (λ (b : PageBits). Some (place_with (line.frame + (page - line.page)) b)) (sym on.rights)
 
 -- the owner of both is that of the pages of both
 joined_owned : (regions : List Owned) (line next : Line) → GoesOn line next → IsOwned regions line → IsOwned regions next →
@@ -242,7 +245,7 @@ begins_alike x line next on =
     let same : nat_lt line.page next.end ≡ nat_lt line.page line.end = grind (arith, nat_tests, some, behind, more) in
     ap (λ (b : Bool). nat_lt x.page x.end && (b && (nat_eq x.end line.page &&
     (nat_eq (x.frame + (x.end - x.page)) line.frame && (nat_eq x.steps line.steps &&
-    (same_owner x.owner line.owner && same_rights x.rights line.rights)))))) same
+    (same_owner x.owner line.owner && same_bits x.rights line.rights)))))) same
 
 -- no line is left that goes on the one before it
 record AreEnded (line : Line) (lines : List Line) : Type 0 where

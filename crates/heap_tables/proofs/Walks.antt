@@ -1,7 +1,8 @@
 -- What lines say is what walks find.
 use Rattle.std.proofs.Common.{◌≡◌, ◌<◌, ◌≤◌, ℕ, zero, suc, ◌+◌, ◌-◌, ◌*◌, ◌/◌, ◌%◌, ◌^◌, List, [], ◌∷◌, ◌++◌, Option, Some, None, ◌∙◌, ap, subst, arith}
 use Rattle.std.specs.List.{AllByRecursion}
-use Rattle.paging_core.specs.Walk.{Place, step, large_step, large_from, large_of, next_from, reach, walk_of}
+use Rattle.paging_core.specs.Walk.{Place, step, large_step, large_from, large_of, next_from, reach, walk_of, place_with}
+use Rattle.paging_core.specs.PageBits.{bits_at}
 use Rattle.paging_core.proofs.Reach.{reach_suc, reach_last, reach_in, large_is}
 use Rattle.heap_tables.specs.declared.lines.Line.{Line}
 use Rattle.heap_tables.specs.declared.owners.Owned.{Owned}
@@ -133,7 +134,7 @@ page_walked words regions root number place low met page from to =
     walk_low words root page (omega (arith, same, low))
     ∙ ap (reach words root 4) same
     ∙ met
-    ∙ ap (λ (f : ℕ). Some (record { frame = f; write = place.write; user = place.user; fetch = place.fetch })) here
+    ∙ ap (λ (f : ℕ). Some (place_with f (bits_at place))) here
 
 -- and so is each page of a large page
 large_walked : (words : List ℕ) (regions : List Owned) (root number : ℕ) (large : Place) → number < 2 ^ 27 → large_of words root number ≡ Some large →
@@ -143,7 +144,7 @@ large_walked words regions root number large low met page from to =
     let r : page % 512 ≡ page - 512 * number = omega (arith, from, to) in
     walk_low words root page (omega (arith, to, low))
     ∙ reach_in words root page large (ap (large_of words root) q ∙ met)
-    ∙ ap (λ (k : ℕ). Some (record { frame = large.frame + k; write = large.write; user = large.user; fetch = large.fetch })) r
+    ∙ ap (λ (k : ℕ). Some (place_with (large.frame + k) (bits_at large))) r
 
 pub all_walked : (words : List ℕ) (regions : List Owned) (root : ℕ) → HoldsOfMet (IsWalked words root) words regions root
 all_walked words regions root = record {

@@ -1,6 +1,6 @@
 -- The lines of page tables, in which entries that go on are one line.
 use Rattle.std.specs.Prelude.{ℕ, ◌+◌, ◌-◌, Bool, true, false, not, ◌&&◌, nat_eq, nat_lt, List, [], ◌∷◌, if◌then◌else◌}
-use Rattle.paging_core.specs.declared.page_table.Rights.{Rights}
+use Rattle.paging_core.specs.declared.page_table.PageBits.{PageBits}
 use Rattle.heap_tables.specs.declared.lines.Line.{Line}
 use Rattle.heap_tables.specs.declared.owners.Owned.{Owned}
 use Rattle.heap_tables.specs.Lines.{entry_lines_of}
@@ -10,16 +10,19 @@ abbrev pub same : Bool → Bool → Bool
 same true other = other
 same false other = not other
 
-abbrev pub same_rights : Rights → Rights → Bool
-same_rights one other = same one.write other.write && (same one.user other.user && same one.fetch other.fetch)
+-- whether both pages have the same rights, are of one type, and both global or neither
+abbrev pub same_bits : PageBits → PageBits → Bool
+same_bits one other =
+    same one.write other.write && (same one.user other.user && (same one.fetch other.fetch
+    && (same one.through other.through && (same one.uncached other.uncached && same one.global other.global))))
 
 -- Whether the pages of a line go on in the next one: they are met after equally many entries, their frames go on too, and they have
--- one owner and equal rights.
+-- one owner, equal rights and one type, and are both global or neither.
 abbrev pub goes_on : Line → Line → Bool
 goes_on line next =
     nat_lt line.page line.end && (nat_lt next.page next.end && (nat_eq line.end next.page
     && (nat_eq (line.frame + (line.end - line.page)) next.frame && (nat_eq line.steps next.steps
-    && (same_owner line.owner next.owner && same_rights line.rights next.rights)))))
+    && (same_owner line.owner next.owner && same_bits line.rights next.rights)))))
 
 -- a line with the pages of the next one
 abbrev pub with_next : Line → Line → Line

@@ -2,13 +2,14 @@
 -- say whose the pages are.
 use Rattle.std.specs.Prelude.{ℕ, zero, suc, ◌+◌, ◌-◌, ◌*◌, ◌%◌, ◌^◌, nat_eq, List, [], ◌∷◌, ◌++◌, Option, Some, None, if◌then◌else◌}
 use Rattle.paging_core.specs.Walk.{Place, step, large_step, top}
+use Rattle.paging_core.specs.PageBits.{bits_at}
 use Rattle.heap_tables.specs.declared.lines.Line.{Line}
 use Rattle.heap_tables.specs.declared.owners.Owned.{Owned}
 use Rattle.heap_tables.specs.Owners.{owner_of}
 
 -- the line of a place at which a walk arrives after `steps` entries, the last of which has this index
 abbrev pub line_of : List Owned → ℕ → ℕ → ℕ → ℕ → Place → Line
-line_of regions steps index page end place = record { steps = steps; index = index; page = page; end = end; frame = place.frame; owner = owner_of regions page; rights = record { write = place.write; user = place.user; fetch = place.fetch } }
+line_of regions steps index page end place = record { steps = steps; index = index; page = page; end = end; frame = place.frame; owner = owner_of regions page; rights = bits_at place }
 
 -- a large page, if there is one: 512 pages; the number is that of its three indices
 abbrev pub large_lines : List Owned → ℕ → Option Place → List Line

@@ -1,5 +1,7 @@
 -- A line of page tables as a row of a drawing.
 use Rattle.std.specs.Prelude.{ℕ, zero, suc, ◌+◌, ◌-◌, ◌*◌, ◌/◌, max, Bool, nat_eq, List, [], ◌++◌, codes, if◌then◌else◌}
+use Rattle.paging_core.specs.declared.page_table.PageBits.{PageBits}
+use Rattle.paging_core.specs.declared.page_table.Rights.{Rights}
 use Rattle.heap_lines.specs.Written.{rights_word}
 use Rattle.heap_map.specs.Words.{hexadecimal, commas, quantity}
 use Rattle.heap_map.specs.Shapes.{text_at, rect, titled}
@@ -7,6 +9,10 @@ use Rattle.heap_tables.specs.declared.lines.Line.{Line}
 use Rattle.heap_tables.specs.declared.owners.Owner.{Owner}
 use Rattle.heap_tables.specs.declared.owners.Owner.TheVariants.{Heap, User}
 use Rattle.heap_tables.specs.Owners.{address_of}
+
+-- the rights among the bits of a page, which is what a row says of them
+abbrev pub rights_in : PageBits → Rights
+rights_in bits = record { write = bits.write; user = bits.user; fetch = bits.fetch }
 
 -- how many pages a line maps
 abbrev pub line_pages : Line → ℕ
@@ -74,7 +80,7 @@ whose_words line = if is_table line then [] else owner_words line.owner ++ codes
 
 -- what is said of a line
 unfoldable pub line_title : Line → List ℕ
-line_title line = line_words line ++ (codes ", " ++ (whose_words line ++ (rights_word line.rights ++ (codes ", " ++ frames_words line))))
+line_title line = line_words line ++ (codes ", " ++ (whose_words line ++ (rights_word (rights_in line.rights) ++ (codes ", " ++ frames_words line))))
 
 -- a mark of a line in its colour, with a title; the lower half has that of large pages, if it is a line of these
 unfoldable pub line_mark_text : ℕ → ℕ → ℕ → ℕ → Line → List ℕ → List ℕ
@@ -100,7 +106,7 @@ unfoldable pub said_text : ℕ → Line → List ℕ
 said_text y line =
     text_at (codes "m") (line_left line + 20) (y + 15) (line_words line)
     ++ (owner_in_row y line
-    ++ (text_at (codes "m faint") 416 (y + 15) (rights_word line.rights) ++ text_at (codes "m faint") 466 (y + 15) (frames_range line)))
+    ++ (text_at (codes "m faint") 416 (y + 15) (rights_word (rights_in line.rights)) ++ text_at (codes "m faint") 466 (y + 15) (frames_range line)))
 
 -- what stands in a row
 unfoldable pub row_words_text : ℕ → Line → List ℕ

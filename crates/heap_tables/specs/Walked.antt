@@ -1,7 +1,7 @@
 -- What the lines of page tables say is what walks find, and whose the pages are.
 use Rattle.std.specs.Prelude.{◌≡◌, ◌<◌, ◌≤◌, ℕ, ◌+◌, ◌-◌, ◌*◌, ◌^◌, Bool, false, ◌&&◌, nat_le, nat_lt, List, [], ◌∷◌, Some, None, IsSome, ⊤}
 use Rattle.std.specs.List.{list_any, AllByRecursion}
-use Rattle.paging_core.specs.Walk.{Place, large_of, walk_of}
+use Rattle.paging_core.specs.Walk.{Place, large_of, walk_of, place_with}
 use Rattle.heap_tables.specs.declared.lines.Line.{Line}
 use Rattle.heap_tables.specs.declared.owners.Owned.{Owned}
 use Rattle.heap_tables.specs.Joining.{goes_on, joined_table_lines}
@@ -9,9 +9,9 @@ use Rattle.heap_tables.specs.Owners.{owner_of}
 
 -- where a line says that a page is
 abbrev pub place_in : Line → ℕ → Place
-place_in line page = record { frame = line.frame + (page - line.page); write = line.rights.write; user = line.rights.user; fetch = line.rights.fetch }
+place_in line page = place_with (line.frame + (page - line.page)) line.rights
 
--- the walk of each page of a line ends where the line says, with these rights
+-- the walk of each page of a line ends where the line says, with these rights and this type
 abbrev pub IsWalked : List ℕ → ℕ → Line → Type 0
 IsWalked words root line = (page : ℕ) → line.page ≤ page → page < line.end → walk_of words root page ≡ Some (place_in line page)
 
@@ -48,5 +48,6 @@ pub record AreTableLines (words : List ℕ) (regions : List Owned) (root : ℕ) 
   pub owned : AreOwned words regions root (joined_table_lines words regions root)
   pub greatest : AreGreatest (joined_table_lines words regions root)
 
+-- the law: whatever the words are, each line says of its pages what the walk finds, and a page in no line is not mapped
 abbrev pub EachPageIsInItsLine : Type 0
 EachPageIsInItsLine = (words : List ℕ) (regions : List Owned) (root : ℕ) → AreTableLines words regions root

@@ -25,6 +25,9 @@ fn named(from: Mapped, entry: u64) -> Mapped
         write: from.write & has_bit(entry, 1),
         user: from.user & has_bit(entry, 2),
         fetch: from.fetch & !has_bit(entry, 63),
+        through: has_bit(entry, 3),
+        uncached: has_bit(entry, 4),
+        global: has_bit(entry, 8),
     }
 }
 

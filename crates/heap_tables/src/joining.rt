@@ -1,10 +1,10 @@
 // Lines that go on, as one.
 ghost use Rattle.std.specs.Prelude.{◌≡◌, IfOk};
-ghost use Rattle.heap_tables.specs.Joining.{same, same_rights, goes_on, with_next, joined_lines};
+ghost use Rattle.heap_tables.specs.Joining.{same, same_bits, goes_on, with_next, joined_lines};
 
 use crate::lines::Line;
 use crate::owners::same_owner;
-use paging_core::Rights;
+use paging_core::PageBits;
 use std::alloc::{AllocError, Global};
 
 fn same(one: bool, other: bool) -> bool
@@ -13,11 +13,15 @@ fn same(one: bool, other: bool) -> bool
     if one { other } else { !other }
 }
 
-/// Whether two rights are equal.
-pub fn same_rights(one: Rights, other: Rights) -> bool
-    ensures { result ≡ same_rights one other }
+/// Whether two pages have equal rights, are of one type, and both global or neither.
+pub fn same_bits(one: PageBits, other: PageBits) -> bool
+    ensures { result ≡ same_bits one other }
 {
-    same(one.write, other.write) && (same(one.user, other.user) && same(one.fetch, other.fetch))
+    same(one.write, other.write)
+        && (same(one.user, other.user)
+            && (same(one.fetch, other.fetch)
+                && (same(one.through, other.through)
+                    && (same(one.uncached, other.uncached) && same(one.global, other.global)))))
 }
 
 // Whether the pages of a line go on in the next one.
@@ -31,7 +35,7 @@ fn goes_on(line: Line, next: Line) -> bool
                     == u128::from(next.frame)
                     && (line.steps == next.steps
                         && (same_owner(line.owner, next.owner)
-                            && same_rights(line.rights, next.rights))))))
+                            && same_bits(line.rights, next.rights))))))
 }
 
 // A line with the pages of the next one.

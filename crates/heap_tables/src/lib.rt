@@ -1,5 +1,5 @@
 //! Page tables as lines: the root, and below each table what its entries lead to, in order. If entries one after the
-//! other map frames one after the other, of one owner and with equal rights, they are one line.
+//! other map frames one after the other, of one owner and with equal rights and types, they are one line.
 #![tactic(auto)]
 
 mod entries;

@@ -1,6 +1,6 @@
 // The lines of page tables.
 use crate::owners::Owner;
-use paging_core::Rights;
+use paging_core::PageBits;
 
 /// A table, or what entries of a table map that follow each other.
 #[derive(Clone, Copy, PartialEq, Eq, Debug)]
@@ -19,6 +19,6 @@ pub struct Line {
     /// The owner of the page `page`. If the pages of each large page have one owner, every page that is mapped there
     /// has this owner.
     pub owner: Owner,
-    /// What all entries on the way grant.
-    pub rights: Rights,
+    /// What all entries on the way grant, and the type that the last one gives.
+    pub rights: PageBits,
 }

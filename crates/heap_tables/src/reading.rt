@@ -2,7 +2,7 @@
 ghost use Rattle.std.specs.Prelude.{◌≡◌, ◌+◌, ◌-◌, ◌*◌, ◌<◌, ◌≤◌, ◌^◌, ◌++◌, IfOk, OnOk};
 ghost use Rattle.std.specs.Option.{option_map};
 ghost use Rattle.paging_core.specs.Memory.{frame_count};
-ghost use Rattle.paging_core.specs.Walk.{mapped_place, top};
+ghost use Rattle.paging_core.specs.Walk.{mapped_place};
 ghost use Rattle.heap_tables.specs.Lines.{line_of, large_lines, large_entry_of, lowest_page_below, entry_lines, lines_under};
 ghost use Rattle.heap_tables.specs.Joining.{joined_table_lines};
 ghost use Rattle.heap_tables.specs.Owners.{AreOwnedAscending};
@@ -12,20 +12,8 @@ use crate::entries::{large_entry_of, next};
 use crate::joining::joined;
 use crate::lines::Line;
 use crate::owners::{Owned, owner_of};
-use paging_core::{Frames, Mapped, PhysFrame, Rights};
+use paging_core::{Frames, Mapped, PageBits, PhysFrame};
 use std::alloc::{AllocError, Global};
-
-// A frame with all rights, as each table is met.
-fn top(frame: PhysFrame) -> Mapped
-    ensures { mapped_place result ≡ top frame }
-{
-    Mapped {
-        frame,
-        write: true,
-        user: true,
-        fetch: true,
-    }
-}
 
 // The line of a place at which a walk arrives.
 fn line_of(regions: &[Owned], steps: u32, index: u64, page: u64, end: u64, place: &Mapped) -> Line
@@ -39,10 +27,13 @@ fn line_of(regions: &[Owned], steps: u32, index: u64, page: u64, end: u64, place
         end,
         frame: place.frame.number(),
         owner: owner_of(regions, page),
-        rights: Rights {
+        rights: PageBits {
             write: place.write,
             user: place.user,
             fetch: place.fetch,
+            through: place.through,
+            uncached: place.uncached,
+            global: place.global,
         },
     }
 }
@@ -170,7 +161,7 @@ pub fn table_lines(
     ensures owned { IfOk result (λ lines. AreOwned frames.now regions.now root lines.items) }
 {
     let mut lines = Vec::new(alloc);
-    push_under(&mut lines, frames, regions, 4, 0, &top(root))?;
+    push_under(&mut lines, frames, regions, 4, 0, &Mapped::full(root))?;
     let all = joined(alloc, &lines)?;
     Ok(all)
 }

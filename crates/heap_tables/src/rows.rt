@@ -1,12 +1,24 @@
 // Lines of page tables as rows of a drawing.
 ghost use Rattle.std.specs.Prelude.{◌≡◌, ◌<◌, ◌+◌, ◌-◌, ◌^◌, ◌++◌, OnOk, string_bytes};
-ghost use Rattle.heap_tables.specs.Rows.{line_pages, is_table, has_large_pages, entries_of, frames_of, owner_words, owner_class, line_class, pages_words, line_words, frames_range, frames_words, entries_words, whose_words, line_title, line_mark_text, guides_text, line_left, owner_in_row, said_text, row_words_text, strip_text, table_row_text};
+ghost use Rattle.heap_tables.specs.Rows.{rights_in, line_pages, is_table, has_large_pages, entries_of, frames_of, owner_words, owner_class, line_class, pages_words, line_words, frames_range, frames_words, entries_words, whose_words, line_title, line_mark_text, guides_text, line_left, owner_in_row, said_text, row_words_text, strip_text, table_row_text};
 
 use crate::lines::Line;
 use crate::owners::{Owner, address_of};
 use heap_lines::push_rights;
 use heap_map::{Area, push_address, push_commas, push_counted, push_rect, push_text, push_titled};
+use paging_core::{PageBits, Rights};
 use std::alloc::{AllocError, Global};
+
+// The rights among the bits of a page, which is what a row says of them.
+fn rights_in(bits: PageBits) -> Rights
+    ensures { result ≡ rights_in bits }
+{
+    Rights {
+        write: bits.write,
+        user: bits.user,
+        fetch: bits.fetch,
+    }
+}
 
 /// How many pages a line maps.
 pub fn pages_of(line: Line) -> u64
@@ -170,7 +182,7 @@ fn push_title(out: &mut String, line: Line) -> Result<(), AllocError>
     push_line_words(out, line)?;
     out.push_str(", ")?;
     push_whose(out, line)?;
-    push_rights(out, line.rights)?;
+    push_rights(out, rights_in(line.rights))?;
     out.push_str(", ")?;
     push_frames(out, line)
 }
@@ -247,7 +259,7 @@ fn push_said(alloc: Global, out: &mut String, y: u128, line: Line) -> Result<(),
     push_text(out, "m", left_of(line) + 20, y + 15, words.as_str())?;
     push_owner(out, y, line)?;
     let mut rights = String::new(alloc);
-    push_rights(&mut rights, line.rights)?;
+    push_rights(&mut rights, rights_in(line.rights))?;
     push_text(out, "m faint", 416, y + 15, rights.as_str())?;
     let mut frames = String::new(alloc);
     push_frames_range(&mut frames, line)?;

@@ -6,6 +6,7 @@ use Rattle.paging_core.specs.Address.{is_canonical}
 use Rattle.paging_core.specs.Pool.{free_count}
 use Rattle.paging_core.specs.Prefix.{Prefix}
 use Rattle.paging_core.specs.Walk.{reached}
+use Rattle.paging_core.specs.PageBits.{bits_of}
 use Rattle.paging_core.specs.declared.page_table.Rights.{Rights}
 use Rattle.heap_model.specs.declared.live.Live.{Live}
 use Rattle.heap_model.specs.declared.region.Region.{Region}
@@ -290,7 +291,7 @@ module _ (m : Seen) (new : Paged) (s : State) (slot : Option ℕ) (good : IsGood
       table_count = table_count;
       pages_found = λ page canonical.
           mapped.found page (subst (λ (a : ℕ). IsTrue (is_canonical a)) (mul_comm 4096 page) canonical)
-          ∙ (kinds (4096 * page) ∙ sym (ap (option_map (λ (region : Region). region.rights)) (in_state (4096 * page))));
+          ∙ (kinds (4096 * page) ∙ sym (ap (option_map (λ (region : Region). bits_of region.rights)) (in_state (4096 * page))));
       tables_met = settled_tables m.paged.words new.words m.paged.root new.root new.regions slot settles s.large s.tables
           good.are_slots good.no_slot_twice stands.larges_met stands.tables_met;
       larges_met = settled_larges m.paged.words new.words m.paged.root new.root new.regions slot settles s.large s.tables
@@ -309,13 +310,13 @@ module _ (m : Seen) (new : Paged) (s : State) (slot : Option ℕ) (good : IsGood
         in_state : (at : ℕ) → region_at s' at ≡ find (is_within at) new.regions
         in_state at = (λ i. find (is_within at) (heap_regions new.regions ++ sym users_now i)) ∙ found_in_parts at 0 (2 ^ 64) new.regions short.laid
 
-        kinds : (at : ℕ) → option_map (λ (kind : Bool × Rights). kind.1) (kind_at new.regions at) ≡ option_map
-            (λ (region : Region). region.rights) (find (is_within at) new.regions)
+        kinds : (at : ℕ) → option_map (λ (kind : Bool × Rights). bits_of kind.1) (kind_at new.regions at) ≡ option_map
+            (λ (region : Region). bits_of region.rights) (find (is_within at) new.regions)
         kinds at = go (find (is_within at) new.regions)
           where
-            go : (o : Option Region) → option_map (λ (kind : Bool × Rights). kind.1)
+            go : (o : Option Region) → option_map (λ (kind : Bool × Rights). bits_of kind.1)
                 (option_map (λ (region : Region). (region.heap, region.rights)) o) ≡ option_map
-                (λ (region : Region). region.rights) o
+                (λ (region : Region). bits_of region.rights) o
             go None = refl
             go (Some region) = refl
 

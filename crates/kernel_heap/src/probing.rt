@@ -1,7 +1,10 @@
 // The byte at an address, as an access sees it.
-ghost use Rattle.std.specs.Prelude.{◌≡◌, ℕ, is_some, Some};
+ghost use Rattle.std.specs.Prelude.{◌≡◌, ℕ, is_some, false, Some};
 ghost use Rattle.heap_model.specs.State.{State};
-ghost use Rattle.heap_model.specs.Probe.{rights_grant, is_access_granted, probe_fault_code, access_bit};
+ghost use Rattle.paging_core.specs.PageBits.{bits_of};
+ghost use Rattle.paging_core.specs.ProcessorAccess.{place_grants, kind_bit, fault_code};
+ghost use Rattle.paging_core.specs.Walk.{place_with};
+ghost use Rattle.heap_model.specs.Probe.{is_access_granted};
 ghost use Rattle.heap_model.specs.Run.{IsGood};
 ghost use Rattle.heap_model.specs.Machine.{Stands, IsStep};
 ghost use Rattle.paged_systems.specs.System.{paged};
@@ -16,7 +19,7 @@ use paging_core::VirtAddr;
 
 /// Whether rights grant a kind of access.
 fn grants(rights: Rights, access: Access) -> bool
-    ensures { result ≡ rights_grant rights access }
+    ensures { result ≡ place_grants (place_with 0 (bits_of rights)) access }
 {
     match access {
         Access::Read => true,
@@ -37,8 +40,8 @@ pub fn is_granted(rights: Option<Rights>, access: Access, user: bool) -> bool
 }
 
 /// What a page fault's code says of the kind of access.
-fn access_bit(access: Access) -> u64
-    ensures { result ≡ access_bit access }
+fn kind_bit(access: Access) -> u64
+    ensures { result ≡ kind_bit access }
 {
     match access {
         Access::Read => 0,
@@ -50,11 +53,11 @@ fn access_bit(access: Access) -> u64
 /// The code of the page fault of an access to a page that is mapped or not: bit 0 says that it is mapped, bit 1 that the
 /// access is a write, bit 2 that it is by the user, and bit 4 that it is a fetch (AMD64 manual, volume 2, section 8.4.2).
 pub fn fault_code(mapped: bool, access: Access, user: bool) -> PageFaultErrorCode
-    ensures { page_fault_bits result ≡ probe_fault_code mapped access user }
+    ensures { page_fault_bits result ≡ fault_code mapped false access user }
 {
     let present = if mapped { 1 } else { 0 };
     let from_user = if user { 4 } else { 0 };
-    PageFaultErrorCode::from_bits_retain(present + access_bit(access) + from_user)
+    PageFaultErrorCode::from_bits_retain(present + kind_bit(access) + from_user)
 }
 
 impl NumberedHeap {

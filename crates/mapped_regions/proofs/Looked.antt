@@ -5,11 +5,13 @@ use Rattle.std.specs.List.{AllByRecursion}
 use Rattle.paging_core.specs.Address.{is_canonical}
 use Rattle.paging_core.specs.Memory.{byte_of}
 use Rattle.paging_core.specs.Walk.{Place, walk_of, mapped_place}
+use Rattle.paging_core.specs.PageBits.{bits_of, bits_at}
 use Rattle.paging_core.specs.declared.page_table.Rights.{Rights}
 use Rattle.paging_core.specs.declared.page_walk.Mapped.{Mapped}
 use Rattle.heap_model.specs.declared.region.Region.{Region}
 use Rattle.heap_model.specs.State.{is_within}
 use Rattle.heap_model.specs.Machine.{Paged, rights_of}
+use Rattle.heap_model.proofs.Found.{rights_alike}
 use Rattle.heap_model.proofs.Regions.{within, within_bounds}
 use Rattle.mapped_regions.specs.Regions.{kind_at}
 use Rattle.mapped_regions.specs.Mapped.{IsRegion, IsMapped}
@@ -42,13 +44,18 @@ first_canonical at canonical =
     ap (λ q. nat_eq q 0 || nat_eq q (2 ^ 17 - 1)) same ∙ canonical
 
 -- the walk finds at an address what its region says
+bits_found : (p : Paged) (at : ℕ) → IsMapped p → IsTrue (is_canonical at) →
+    option_map bits_at (walk_of p.words p.root (at / 4096)) ≡ option_map (λ kind. bits_of kind.1) (kind_at p.regions at)
+bits_found p at m canonical = m.found (at / 4096) (first_canonical at canonical)
+    ∙ ap (option_map (λ (kind : Bool × Rights). bits_of kind.1)) (sym (kind_page p.base p.pages at p.regions m.regions))
+
 pub found_at : (p : Paged) (at : ℕ) → IsMapped p → IsTrue (is_canonical at) →
     option_map rights_of (walk_of p.words p.root (at / 4096)) ≡ option_map (λ kind. kind.1) (kind_at p.regions at)
-found_at p at m canonical = m.found (at / 4096) (first_canonical at canonical)
-    ∙ ap (option_map (λ (kind : Bool × Rights). kind.1)) (sym (kind_page p.base p.pages at p.regions m.regions))
+found_at p at m canonical =
+    rights_alike (λ (kind : Bool × Rights). kind.1) (walk_of p.words p.root (at / 4096)) (kind_at p.regions at) (bits_found p at m canonical)
 
 pub mapped_at : (p : Paged) (at : ℕ) → IsMapped p → IsTrue (is_canonical at) → IsSome (kind_at p.regions at) → IsSome (walk_of p.words p.root (at / 4096))
-mapped_at p at m canonical there = some_mapped (walk_of p.words p.root (at / 4096)) (kind_at p.regions at) (found_at p at m canonical) there
+mapped_at p at m canonical there = some_mapped (walk_of p.words p.root (at / 4096)) (kind_at p.regions at) (bits_found p at m canonical) there
 
 -- the rights of what was walked to
 pub walked_none : (o : Option Mapped) (w : Option Place) (k : Option Rights) → option_map mapped_place o ≡ w → option_map rights_of w ≡ k → o ≡ None → None ≡ k

@@ -8,6 +8,7 @@ use Rattle.paging_core.specs.Memory.{frame_count}
 use Rattle.paging_core.specs.Prefix.{prefix_of}
 use Rattle.paging_core.specs.Pool.{is_frame_free, FreeBelow}
 use Rattle.paging_core.specs.Walk.{Place, reach, large_of, walk_of, reached, place_with}
+use Rattle.paging_core.specs.PageBits.{bits_of, bits_at}
 use Rattle.paging_core.specs.Tree.{IsTree}
 use Rattle.paging_core.proofs.Reached.{some_not_none}
 use Rattle.paging_core.specs.declared.page_table.Rights.{Rights}
@@ -16,7 +17,7 @@ use Rattle.heap_model.specs.declared.region.Region.{Region}
 use Rattle.heap_model.specs.State.{is_within, total_pages}
 use Rattle.heap_model.specs.Place.{meets_any}
 use Rattle.heap_model.specs.Slots.{IsSlot, slot_number, has_whole, is_whole_in}
-use Rattle.heap_model.specs.Machine.{Paged, ArePagesGone, rights_of}
+use Rattle.heap_model.specs.Machine.{Paged, ArePagesGone}
 use Rattle.heap_model.proofs.Regions.{within, within_bounds, all_with, pages_with, none_within, find_none, listed, any_with, page_canonical}
 use Rattle.heap_model.proofs.Slots.{same_slot, page_slot, page_number, slot_among, whole_true}
 use Rattle.mapped_regions.specs.Regions.{kind_at, is_at, AreHeld, IsPutIn, AreTakenOut}
@@ -51,15 +52,11 @@ range_canonical start pages range =
     let same : start / 2 ^ 47 ≡ start / 4096 * 4096 / 2 ^ 47 = (let whole = range.0 in omega arith) in
     ap (λ q. nat_eq q 0 || nat_eq q (2 ^ 17 - 1)) same ∙ range.1.canonical
 
--- the rights of a page, as they are found
-abbrev rights_at : Paged → ℕ → Option Rights
-rights_at p page = option_map rights_of (walk_of p.words p.root page)
-
-none_mapped : (o : Option Place) → option_map rights_of o ≡ None → o ≡ None
+none_mapped : (o : Option Place) → option_map bits_at o ≡ None → o ≡ None
 none_mapped None is = refl
 none_mapped (Some place) is = absurd (cc)
 
-pub some_mapped : (o : Option Place) (k : Option (Bool × Rights)) → option_map rights_of o ≡ option_map (λ kind. kind.1) k → IsSome k → IsSome o
+pub some_mapped : (o : Option Place) (k : Option (Bool × Rights)) → option_map bits_at o ≡ option_map (λ kind. bits_of kind.1) k → IsSome k → IsSome o
 some_mapped (Some place) k is some = refl
 some_mapped None (Some kind) is some = absurd (cc)
 some_mapped None None is some = absurd (cc)
@@ -69,7 +66,7 @@ pub unmapped : (p : Paged) (start pages k : ℕ) → IsMapped p → CanMap p sta
 unmapped p start pages k m can less =
     let whole = can.range.0 in
     none_mapped (walk_of p.words p.root (start / 4096 + k)) (m.found (start / 4096 + k) (page_canonical (start / 4096) pages k can.range.1 less)
-    ∙ ap (option_map (λ (kind : Bool × Rights). kind.1)) (kind_none start pages (4096 * (start / 4096 + k)) p.regions can.clear (omega arith) (omega arith)))
+    ∙ ap (option_map (λ (kind : Bool × Rights). bits_of kind.1)) (kind_none start pages (4096 * (start / 4096 + k)) p.regions can.clear (omega arith) (omega arith)))
 
 pub mapped : (p : Paged) (start pages k : ℕ) → IsMapped p → IsPageRange start pages →
     list_any (is_at start pages) p.regions ≡ true → k < pages → IsSome (walk_of p.words p.root (start / 4096 + k))
@@ -120,8 +117,8 @@ joined_mapped old new region m kind can j put elsewhere = record {
   regions = subst (λ b. AllByRecursion (IsRegion b new.pages) new.regions) (sym j.added.base)
       (subst (λ n. AllByRecursion (IsRegion old.base n) new.regions) (sym j.added.pages_is)
       (subst (AllByRecursion (IsRegion old.base old.pages)) (sym j.regions) (all_with (IsRegion old.base old.pages) region old.regions kind m.regions)));
-  found = λ page canonical. subst (λ r. option_map rights_of (walk_of new.words r page) ≡ option_map
-      (λ (kind : Bool × Rights). kind.1) (kind_at new.regions (4096 * page))) (sym j.added.root)
+  found = λ page canonical. subst (λ r. option_map bits_at (walk_of new.words r page) ≡ option_map
+      (λ (kind : Bool × Rights). bits_of kind.1) (kind_at new.regions (4096 * page))) (sym j.added.root)
       (found page canonical (is_within (4096 * page) region) refl);
   larges = λ slot is some. ap (λ regions. is_whole_in regions slot) j.regions ∙ (any_with (has_whole slot) region old.regions
       ∙ whole slot is (subst (λ r. IsSome (large_of new.words r (slot_number slot))) j.added.root some)
@@ -152,22 +149,22 @@ joined_mapped old new region m kind can j put elsewhere = record {
         some_not_none (large_of new.words old.root (slot_number slot)) some (same ∙ at))
 
     found : (page : ℕ) → IsTrue (is_canonical (page * 4096)) → (b : Bool) → is_within (4096 * page) region ≡ b →
-        option_map rights_of (walk_of new.words old.root page) ≡ option_map (λ (kind : Bool × Rights). kind.1) (kind_at new.regions (4096 * page))
+        option_map bits_at (walk_of new.words old.root page) ≡ option_map (λ (kind : Bool × Rights). bits_of kind.1) (kind_at new.regions (4096 * page))
     found page canonical true is =
         let whole = can.range.0 in
         let bounds = within_bounds (4096 * page) region is in
         let n = j.added.added.mapped (page - region.start / 4096) (omega (arith, bounds.0, bounds.1)) in
         let same : region.start / 4096 + (page - region.start / 4096) ≡ page = omega (arith, bounds.0) in
-        let at : walk_of new.words old.root page ≡ Some (place_with n.frame region.rights) =
-        subst (λ q. walk_of new.words old.root q ≡ Some (place_with n.frame region.rights)) same n.found in
+        let at : walk_of new.words old.root page ≡ Some (place_with n.frame (bits_of region.rights)) =
+        subst (λ q. walk_of new.words old.root q ≡ Some (place_with n.frame (bits_of region.rights))) same n.found in
         let here : kind_at new.regions (4096 * page) ≡ Some (region.heap, region.rights) = put (4096 * page) ∙ rw is refl in
-        ap (option_map rights_of) at ∙ sym (ap (option_map (λ (kind : Bool × Rights). kind.1)) here)
+        ap (option_map bits_at) at ∙ sym (ap (option_map (λ (kind : Bool × Rights). bits_of kind.1)) here)
     found page canonical false is =
         let whole = can.range.0 in
         let apart : (k : ℕ) → k < region.pages → page ≡ region.start / 4096 + k → ⊥ = λ k less e. (
         let yes = within (4096 * page) region (omega (arith, less, e)) (omega (arith, less, e)) in absurd (cc)) in
         let here : kind_at new.regions (4096 * page) ≡ kind_at old.regions (4096 * page) = put (4096 * page) ∙ rw is refl in
-        ap (option_map rights_of) (elsewhere page canonical apart) ∙ (m.found page canonical ∙ sym (ap (option_map (λ (kind : Bool × Rights). kind.1)) here))
+        ap (option_map bits_at) (elsewhere page canonical apart) ∙ (m.found page canonical ∙ sym (ap (option_map (λ (kind : Bool × Rights). bits_of kind.1)) here))
 
 -- ---- a region leaves
 
@@ -216,8 +213,8 @@ fewer_mapped old new start pages m range all regions g taken known whole = recor
   regions = subst (λ b. AllByRecursion (IsRegion b new.pages) new.regions) (sym g.base)
       (subst (λ n. AllByRecursion (IsRegion old.base n) new.regions) (sym g.pages_is)
       regions);
-  found = λ page canonical. subst (λ r. option_map rights_of (walk_of new.words r page) ≡ option_map
-      (λ (kind : Bool × Rights). kind.1) (kind_at new.regions (4096 * page))) (sym g.root)
+  found = λ page canonical. subst (λ r. option_map bits_at (walk_of new.words r page) ≡ option_map
+      (λ (kind : Bool × Rights). bits_of kind.1) (kind_at new.regions (4096 * page))) (sym g.root)
       (found page canonical (nat_le start (4096 * page) && nat_lt (4096 * page) (start + 4096 * pages)) refl);
   larges = λ slot is some. larges slot is (subst (λ r. IsSome (large_of new.words r (slot_number slot))) g.root some);
 }
@@ -226,7 +223,7 @@ fewer_mapped old new start pages m range all regions g taken known whole = recor
     aligned = range.0
 
     found : (page : ℕ) → IsTrue (is_canonical (page * 4096)) → (b : Bool) → (nat_le start (4096 * page) && nat_lt (4096 * page) (start + 4096 * pages)) ≡ b →
-        option_map rights_of (walk_of new.words old.root page) ≡ option_map (λ (kind : Bool × Rights). kind.1) (kind_at new.regions (4096 * page))
+        option_map bits_at (walk_of new.words old.root page) ≡ option_map (λ (kind : Bool × Rights). bits_of kind.1) (kind_at new.regions (4096 * page))
     found page canonical true is =
         let at = aligned in
         let bounds = inside_bounds start (start + 4096 * pages) (4096 * page) is in
@@ -236,7 +233,7 @@ fewer_mapped old new start pages m range all regions g taken known whole = recor
         let gone : walk_of new.words old.root page ≡ None = subst (λ q. walk_of new.words old.root q ≡ None) same
         (g.unmapped (page - start / 4096) (omega arith)) in
         let here : kind_at new.regions (4096 * page) ≡ None = taken (4096 * page) ∙ rw is refl in
-        ap (option_map rights_of) gone ∙ sym (ap (option_map (λ (kind : Bool × Rights). kind.1)) here)
+        ap (option_map bits_at) gone ∙ sym (ap (option_map (λ (kind : Bool × Rights). bits_of kind.1)) here)
     found page canonical false is =
         let at = aligned in
         let apart : (k : ℕ) → k < pages → page ≡ start / 4096 + k → ⊥ = λ k less e. (
@@ -244,7 +241,7 @@ fewer_mapped old new start pages m range all regions g taken known whole = recor
         let below : 4096 * page < start + 4096 * pages = omega arith in
         let no : true ≡ false = sym (inside start (start + 4096 * pages) (4096 * page) above below) ∙ is in cc) in
         let here : kind_at new.regions (4096 * page) ≡ kind_at old.regions (4096 * page) = taken (4096 * page) ∙ rw is refl in
-        ap (option_map rights_of) (g.others page canonical apart) ∙ (m.found page canonical ∙ sym (ap (option_map (λ (kind : Bool × Rights). kind.1)) here))
+        ap (option_map bits_at) (g.others page canonical apart) ∙ (m.found page canonical ∙ sym (ap (option_map (λ (kind : Bool × Rights). bits_of kind.1)) here))
 
     -- the slot of a page that leaves has no large page
     no_large : (slot k : ℕ) → IsSlot slot → IsSome (large_of new.words old.root (slot_number slot)) → k < pages → slot ≡ (start / 4096 + k) / 512 * 2 ^ 21 → ⊥
@@ -312,7 +309,7 @@ stored_mapped p words m size tree walks larges = record {
   few_frames = (let h = m.few_frames in omega arith);
   count = (let h = m.count in omega arith);
   regions = m.regions;
-  found = λ page canonical. ap (option_map rights_of) (walks 4 (page % 2 ^ 36) (omega arith)) ∙ m.found page canonical;
+  found = λ page canonical. ap (option_map bits_at) (walks 4 (page % 2 ^ 36) (omega arith)) ∙ m.found page canonical;
   larges = λ slot is some. m.larges slot is (subst IsSome (larges (slot_number slot)) some);
 }
 

@@ -5,7 +5,7 @@ use Rattle.paging_core.specs.Prefix.{prefix_of}
 use Rattle.paging_core.specs.Runs.{IsRunFree}
 use Rattle.paging_core.specs.Walk.{reach, large_of, walk_of}
 use Rattle.paging_core.specs.Large.{slot_of}
-use Rattle.paging_core.specs.declared.page_table.Rights.{Rights}
+use Rattle.paging_core.specs.declared.page_table.PageBits.{PageBits}
 use Rattle.paging_core.proofs.Reach.{small_slot}
 use Rattle.paging_core.proofs.Reached.{some_not_none}
 use Rattle.paging_core.proofs.Prefixes.{walk_reach}
@@ -26,7 +26,7 @@ open_slot words root start pages slot whole of none =
     let number : slot_of (slot / 2 ^ 21) ≡ slot_number slot = omega arith in
     record { from = omega arith; to = omega arith; no_table = ap (reach words root 3) number ∙ none }
 
-pub runs_used : (old new : List ℕ) (free free' : List Bool) (root start pages stop : ℕ) (rights : Rights) →
+pub runs_used : (old new : List ℕ) (free free' : List Bool) (root start pages stop : ℕ) (rights : PageBits) →
     start % 4096 ≡ 0 → IsRangeMapped old new free free' root (start / 4096) pages stop rights →
     (slot : ℕ) → IsSlotOf start pages slot → reach old root 3 (slot_number slot) ≡ None →
     large_of new root (slot_number slot) ≡ None → (run : ℕ) → IsRunFree free' run → ⊥
@@ -40,12 +40,12 @@ runs_used old new free free' root start pages stop rights whole added slot of no
 ]
 
 -- a range, by the address of its first page
-pub by_address : (old new : List ℕ) (free free' : List Bool) (root page start pages stop : ℕ) (rights : Rights) → page ≡ start / 4096 →
+pub by_address : (old new : List ℕ) (free free' : List Bool) (root page start pages stop : ℕ) (rights : PageBits) → page ≡ start / 4096 →
     IsRangeMapped old new free free' root page pages stop rights → IsRangeMapped old new free free' root (start / 4096) pages stop rights
 by_address old new free free' root page start pages stop rights at mapped = subst (λ f. IsRangeMapped old new free free' root f pages stop rights) at mapped
 
 -- no slot is large from the one on at which mapping them ended
-pub none_behind : (p : Paged) (new : List ℕ) (free' : List Bool) (start pages stop : ℕ) (rights : Rights) → IsMapped p → CanMap p start pages →
+pub none_behind : (p : Paged) (new : List ℕ) (free' : List Bool) (start pages stop : ℕ) (rights : PageBits) → IsMapped p → CanMap p start pages →
     IsRangeMapped p.words new p.free free' p.root (start / 4096) pages stop rights → (slot : ℕ) →
     IsSlotOf start pages slot → stop ≤ slot / 2 ^ 21 → large_of new p.root (slot_number slot) ≡ None
 none_behind p new free' start pages stop rights m can added slot of behind =

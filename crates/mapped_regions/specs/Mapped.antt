@@ -8,6 +8,7 @@ use Rattle.paging_core.specs.Memory.{frame_count, word_at}
 use Rattle.paging_core.specs.Pool.{FreeBelow, free_count}
 use Rattle.paging_core.specs.Runs.{IsRunFree}
 use Rattle.paging_core.specs.Walk.{reach, large_of, walk_of, reached, Place}
+use Rattle.paging_core.specs.PageBits.{bits_of, bits_at}
 use Rattle.paging_core.specs.Tree.{IsTree}
 use Rattle.paging_core.specs.Missing.{missing_of}
 use Rattle.heap_model.specs.declared.region.Region.{Region}
@@ -16,7 +17,7 @@ use Rattle.heap_model.specs.Place.{meets_any, with_region}
 use Rattle.heap_model.specs.Room.{heap_rights}
 use Rattle.page_ranges.specs.RangeUnmapping.{cuts_large_page}
 use Rattle.heap_model.specs.Slots.{IsSlot, IsSlotOf, slot_number, is_whole_in}
-use Rattle.heap_model.specs.Machine.{Paged, HasGotPages, ArePagesGone, rights_of}
+use Rattle.heap_model.specs.Machine.{Paged, HasGotPages, ArePagesGone}
 use Rattle.mapped_regions.specs.Regions.{kind_at, without_region, cut_regions}
 
 -- whole pages from an address on: at least one, and all in one canonical half
@@ -31,8 +32,9 @@ pub record IsRegion (base window : ℕ) (region : Region) : Type 0 where
   pub within : region.heap ≡ true → end_of_region region ≤ base + 4096 * window
   pub rights : region.heap ≡ true → region.rights ≡ heap_rights
 
--- The tables form a tree; the walk finds a page exactly where a region has it, with the region's rights; each slot that one
--- entry maps lies whole in a region; and each frame is free, or a table, or that of a page of a region.
+-- The tables form a tree; the walk finds a page exactly where a region has it, with the region's rights, of type 0,
+-- as usual memory, and not global; each slot that one entry maps lies whole in a region; and each frame is free, or a table, or that
+-- of a page of a region.
 pub record IsMapped (p : Paged) : Type 0 where
   pub window : IsPageRange p.base p.pages
   pub tree : IsTree p.words p.root p.free
@@ -44,7 +46,7 @@ pub record IsMapped (p : Paged) : Type 0 where
   pub regions : AllByRecursion (IsRegion p.base p.pages) p.regions
   pub found :
       (page : ℕ) → IsTrue (is_canonical (page * 4096)) →
-      option_map rights_of (walk_of p.words p.root page) ≡ option_map (λ kind. kind.1) (kind_at p.regions (4096 * page))
+      option_map bits_at (walk_of p.words p.root page) ≡ option_map (λ kind. bits_of kind.1) (kind_at p.regions (4096 * page))
   pub larges : (slot : ℕ) → IsSlot slot → IsSome (large_of p.words p.root (slot_number slot)) → IsTrue (is_whole_in p.regions slot)
 
 -- nothing is mapped, and all frames but that of the root are free

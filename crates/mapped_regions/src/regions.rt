@@ -203,7 +203,7 @@ impl MappedRegions {
             self.root,
             Page::containing_address(VirtAddr::new(region.start)),
             region.pages,
-            region.rights,
+            region.rights.bits(),
         );
         self.tables += free - region.pages - self.pool.free_count();
         self.slots.clear();

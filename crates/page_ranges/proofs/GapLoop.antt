@@ -12,7 +12,7 @@ use Rattle.paging_core.specs.Missing.{missing_of}
 use Rattle.paging_core.specs.Mapping.{IsNewPage, IsRangeAdded}
 use Rattle.paging_core.specs.Large.{slot_of}
 use Rattle.page_ranges.specs.RangeMapping.{ArePagesAdded, AreSlotsAdded, NoRunAt, IsRangeMapped}
-use Rattle.paging_core.specs.declared.page_table.Rights.{Rights}
+use Rattle.paging_core.specs.declared.page_table.PageBits.{PageBits}
 use Rattle.paging_core.proofs.Prefixes.{walk_reach, small_page, none_below, prefix_parent}
 use Rattle.paging_core.proofs.Reach.{reach_in, either_way, ByEntry, InLarge}
 use Rattle.paging_core.proofs.LastEntry.{some_or_none}
@@ -25,7 +25,7 @@ use Rattle.page_ranges.proofs.PagesAdded.{pages_start, pages_more, large_parent,
 use Rattle.page_ranges.proofs.RangeSteps.{piece_added}
 
 -- After the slots (`mid`, `free1`), the first `done` pages are all mapped, and the others are as they were then.
-pub record AreGapsFilled (mid now : List ℕ) (free1 free2 : List Bool) (root first pages done : ℕ) (rights : Rights) : Type 0 where
+pub record AreGapsFilled (mid now : List ℕ) (free1 free2 : List Bool) (root first pages done : ℕ) (rights : PageBits) : Type 0 where
   pub pages_added : ArePagesAdded mid now free1 free2 root first pages rights
   pub lowest : AreLowestTaken free1 free2
   pub ascending :
@@ -44,7 +44,7 @@ lowest_on free free1 free' first second fewer f g was gone left = go (cases_Bool
     go (inl still) = second f g still gone left
     go (inr taken) = first f g was taken (free_before free1 free' fewer g left)
 
-pub gaps_start : (mid : List ℕ) (free1 : List Bool) (root first pages : ℕ) (rights : Rights) → IsTree mid root free1 →
+pub gaps_start : (mid : List ℕ) (free1 : List Bool) (root first pages : ℕ) (rights : PageBits) → IsTree mid root free1 →
     AreGapsFilled mid mid free1 free1 root first pages 0 rights
 gaps_start mid free1 root first pages rights tree = record {
   pages_added = pages_start mid free1 root first pages rights tree;
@@ -55,7 +55,7 @@ gaps_start mid free1 root first pages rights tree = record {
   rest = λ k ge lt. refl;
 }
 
-module _ (old mid now : List ℕ) (free free1 free2 : List Bool) (root first pages stop done count : ℕ) (rights : Rights)
+module _ (old mid now : List ℕ) (free free1 free2 : List Bool) (root first pages stop done count : ℕ) (rights : PageBits)
     (range : IsCanonicalRange first pages)
     (known : FreeBelow free (frame_count old))
     (unmapped : (k : ℕ) → k < pages → walk_of old root (first + k) ≡ None)
@@ -187,7 +187,7 @@ module _ (old mid now : List ℕ) (free free1 free2 : List Bool) (root first pag
           )
 
 -- all pages are mapped
-module _ (old mid new : List ℕ) (free free1 free' : List Bool) (root first pages stop done : ℕ) (rights : Rights)
+module _ (old mid new : List ℕ) (free free1 free' : List Bool) (root first pages stop done : ℕ) (rights : PageBits)
     (range : IsCanonicalRange first pages)
     (unmapped : (k : ℕ) → k < pages → walk_of old root (first + k) ≡ None)
     (slots : AreSlotsAdded old mid free free1 root first pages stop rights)

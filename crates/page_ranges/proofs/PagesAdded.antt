@@ -7,13 +7,13 @@ use Rattle.paging_core.specs.Pool.{is_frame_free}
 use Rattle.paging_core.specs.Walk.{Place, reach, large_of, large_from, walk_of, top, place_with}
 use Rattle.paging_core.specs.Tree.{IsTree}
 use Rattle.page_ranges.specs.RangeMapping.{IsNewPlace, ArePagesAdded}
-use Rattle.paging_core.specs.declared.page_table.Rights.{Rights}
+use Rattle.paging_core.specs.declared.page_table.PageBits.{PageBits}
 use Rattle.paging_core.proofs.Prefixes.{none_child, walk_reach}
 use Rattle.paging_core.proofs.Reach.{reach_none, table_none, large_none, large_is}
 use Rattle.paging_core.proofs.LastEntry.{some_or_none}
 use Rattle.paging_core.proofs.FreshFrame.{free_before}
 
-pub pages_start : (words : List ℕ) (free : List Bool) (root first pages : ℕ) (rights : Rights) → IsTree words root free →
+pub pages_start : (words : List ℕ) (free : List Bool) (root first pages : ℕ) (rights : PageBits) → IsTree words root free →
     ArePagesAdded words words free free root first pages rights
 pages_start words free root first pages rights tree = record {
   size = refl;
@@ -65,7 +65,7 @@ large_parent words root n i p li on = go (some_or_none (reach words root 2 n))
         large_is words root (512 * n + i) ∙ ap (λ o. large_from words o ((512 * n + i) % 512)) (ap (reach words root 2) q ∙ none) in
         absurd (cc)
 
-module _ (old mid new : List ℕ) (free free1 free' : List Bool) (root first pages : ℕ) (rights : Rights)
+module _ (old mid new : List ℕ) (free free1 free' : List Bool) (root first pages : ℕ) (rights : PageBits)
     (a : ArePagesAdded old mid free free1 root first pages rights)
     (b : ArePagesAdded mid new free1 free' root first pages rights) where
   -- what is met neither before nor after is not met between

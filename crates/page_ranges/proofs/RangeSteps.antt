@@ -14,7 +14,7 @@ use Rattle.paging_core.specs.Missing.{missing_of}
 use Rattle.paging_core.specs.Mapping.{IsRangeAdded}
 use Rattle.paging_core.specs.Large.{slot_of, above, missing_above, IsSlotEmpty, AreFramesCleared, IsLargeAdded}
 use Rattle.page_ranges.specs.RangeMapping.{IsNewPlace, ArePagesAdded, IsOpenSlot, IsUsedFor, AreSlotsAdded}
-use Rattle.paging_core.specs.declared.page_table.Rights.{Rights}
+use Rattle.paging_core.specs.declared.page_table.PageBits.{PageBits}
 use Rattle.paging_core.proofs.Prefixes.{walk_reach, small_page}
 use Rattle.paging_core.proofs.Reach.{large_none}
 use Rattle.paging_core.proofs.LastEntry.{some_or_none}
@@ -30,7 +30,7 @@ none_some (Some x) e h = absurd (cc)
 
 -- ---- a piece, by tables
 
-module _ (old new : List ℕ) (free free' : List Bool) (root first pages p m : ℕ) (rights : Rights)
+module _ (old new : List ℕ) (free free' : List Bool) (root first pages p m : ℕ) (rights : PageBits)
     (range : IsCanonicalRange first pages)
     (lo : first ≤ p)
     (hi : p + m ≤ first + pages)
@@ -109,7 +109,7 @@ module _ (old new : List ℕ) (free free' : List Bool) (root first pages p m : �
 
 -- ---- a slot, in a large page
 
-module _ (old mid new : List ℕ) (free free1 free' : List Bool) (root first pages page run : ℕ) (rights : Rights)
+module _ (old mid new : List ℕ) (free free1 free' : List Bool) (root first pages page run : ℕ) (rights : PageBits)
     (range : IsCanonicalRange first pages)
     (lo : first ≤ 512 * page)
     (hi : 512 * page + 512 ≤ first + pages)
@@ -233,7 +233,7 @@ module _ (old mid new : List ℕ) (free free1 free' : List Bool) (root first pag
       (same 4 (prefix_of other 4) (omega arith) ∙ was) in
       added.words place.frame i li
       (λ l ll here. let d = tree'.distinct 4 (prefix_of other 4) l (above page l) place (top place.frame) (omega arith)
-      (omega arith) (λ _ _. refl) now here refl in absurd (omega (arith, d.0)))
+      (omega arith) now here refl in absurd (omega (arith, d.0)))
       ∙ stay place.frame i li (not_met 4 (prefix_of other 4) place (omega arith) was)
 
   words_of : (f i : ℕ) → i < 512 → is_frame_free free f ≡ false → ((l n : ℕ) → l < 4 → reach old root l n ≡ Some (top f) →

@@ -12,7 +12,7 @@ use Rattle.paging_core.specs.Tree.{IsTree}
 use Rattle.paging_core.specs.Missing.{missing_of}
 use Rattle.paging_core.specs.Large.{slot_of, missing_above, IsSlotEmpty, IsSlotAdded}
 use Rattle.page_ranges.specs.RangeMapping.{AreSlotsAdded, IsOpenSlot, IsUsedFor}
-use Rattle.paging_core.specs.declared.page_table.Rights.{Rights}
+use Rattle.paging_core.specs.declared.page_table.PageBits.{PageBits}
 use Rattle.paging_core.proofs.Prefixes.{walk_reach}
 use Rattle.paging_core.proofs.Counts.{missing_one}
 use Rattle.paging_core.proofs.FreshFrame.{free_before}
@@ -26,7 +26,7 @@ pub no_table : (o : Option Place) (b : Bool) → (IsSome o → IsTrue b) → b �
 no_table None b h e = refl
 no_table (Some x) b h e = let s : IsSome (Some x) = cc in let t = h s in absurd (cc)
 
-pub slots_start : (words : List ℕ) (free : List Bool) (root first pages slot : ℕ) (rights : Rights) → IsTree words root free → slot * 512 < first + 512 →
+pub slots_start : (words : List ℕ) (free : List Bool) (root first pages slot : ℕ) (rights : PageBits) → IsTree words root free → slot * 512 < first + 512 →
     AreSlotsAdded words words free free root first pages slot rights
 slots_start words free root first pages slot rights tree before = record {
   pages_added = pages_start words free root first pages rights tree;
@@ -39,7 +39,7 @@ slots_start words free root first pages slot rights tree before = record {
 }
 
 -- the slot to go on to depends only on the slots that lie whole in the range
-pub slots_to : (old mid : List ℕ) (free free1 : List Bool) (root first pages slot stop : ℕ) (rights : Rights) →
+pub slots_to : (old mid : List ℕ) (free free1 : List Bool) (root first pages slot stop : ℕ) (rights : PageBits) →
     AreSlotsAdded old mid free free1 root first pages slot rights →
     ((s : ℕ) → IsOpenSlot old root first pages s → s < slot → s < stop) → ((s : ℕ) → IsOpenSlot old root first pages s → s < stop → s < slot) →
     AreSlotsAdded old mid free free1 root first pages stop rights
@@ -56,7 +56,7 @@ slots_to old mid free free1 root first pages slot stop rights added before behin
   lowest_tables = added.lowest_tables;
 }
 
-module _ (old mid : List ℕ) (free free1 : List Bool) (root first pages slot : ℕ) (rights : Rights)
+module _ (old mid : List ℕ) (free free1 : List Bool) (root first pages slot : ℕ) (rights : PageBits)
     (range : IsCanonicalRange first pages)
     (known : FreeBelow free (frame_count old))
     (unmapped : (k : ℕ) → k < pages → walk_of old root (first + k) ≡ None)

@@ -110,7 +110,7 @@ module _ (old mid new : List ℕ) (free free1 free' : List Bool) (root first p q
   other_frame : (n m : ℕ) (place other : Place) → among first p n ≡ true → reach old root 4 n ≡ Some place → among (first + p) q m ≡ true →
       reach mid root 4 m ≡ Some other → other.frame ≡ place.frame → ⊥
   other_frame n m place other x at g here e =
-      let d = tree.distinct 4 m 4 n other place (omega arith) (omega arith) (λ _ _. refl) (was m other g here) at e in
+      let d = tree.distinct 4 m 4 n other place (omega arith) (omega arith) (was m other g here) at e in
       let u : among first p m ≡ true = ap (among first p) d.1 ∙ x in
       let v = not_a m g in
       cc
@@ -144,9 +144,9 @@ module _ (old mid new : List ℕ) (free free1 free' : List Bool) (root first p q
   third_stays : (f i n : ℕ) → i < 512 → reach mid root 3 n ≡ Some (top f) → among (first + p) q (512 * n + i) ≡ false → word_at new f i ≡ word_at mid f i
   third_stays f i n li at out =
       b.entries.words f i li
-      (λ m here. let d = tree_mid.distinct 3 m 3 n (top f) (top f) (omega arith) (omega arith) (λ _ _. refl) here at refl in
+      (λ m here. let d = tree_mid.distinct 3 m 3 n (top f) (top f) (omega arith) (omega arith) here at refl in
       ap (λ k. among (first + p) q (512 * k + i)) d.1 ∙ out)
-      (λ m here. let d = tree_mid.distinct 2 m 3 n (top f) (top f) (omega arith) (omega arith) (λ _ _. refl) here at refl in absurd (omega (arith, d.0)))
+      (λ m here. let d = tree_mid.distinct 2 m 3 n (top f) (top f) (omega arith) (omega arith) here at refl in absurd (omega (arith, d.0)))
       (λ large it _. whole large it)
 
   -- a word of a table of two indices, if it maps no large page
@@ -154,9 +154,9 @@ module _ (old mid new : List ℕ) (free free1 free' : List Bool) (root first p q
       word_at new f i ≡ word_at mid f i
   second_stays f i n li at before now =
       b.entries.words f i li
-      (λ m here. let d = tree_mid.distinct 3 m 2 n (top f) (top f) (omega arith) (omega arith) (λ _ _. refl) here at refl in absurd (omega (arith, d.0)))
+      (λ m here. let d = tree_mid.distinct 3 m 2 n (top f) (top f) (omega arith) (omega arith) here at refl in absurd (omega (arith, d.0)))
       (λ m here.
-      let d = tree_mid.distinct 2 m 2 n (top f) (top f) (omega arith) (omega arith) (λ _ _. refl) here at refl in
+      let d = tree_mid.distinct 2 m 2 n (top f) (top f) (omega arith) (omega arith) here at refl in
       ap (λ k. large_of new root (512 * k + i)) d.1 ∙ (now ∙ (sym before ∙ ap (λ k. large_of mid root (512 * k + i)) (sym d.1))))
       (λ large it _. whole large it)
 

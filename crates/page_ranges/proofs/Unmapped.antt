@@ -8,6 +8,7 @@ use Rattle.paging_core.specs.Memory.{word_at, frame_count}
 use Rattle.paging_core.specs.Prefix.{prefix_of}
 use Rattle.paging_core.specs.Pool.{is_frame_free, FreeBelow}
 use Rattle.paging_core.specs.Walk.{Place, reach, large_of, walk_of, reached, page_in, top}
+use Rattle.paging_core.specs.PageBits.{bits_at}
 use Rattle.paging_core.specs.Tree.{IsTree}
 use Rattle.paging_core.specs.PageChanges.{among}
 use Rattle.page_ranges.specs.RangeUnmapping.{cuts_large_page, cut_tables, IsCutPage, AreUnmapped}
@@ -144,7 +145,7 @@ module _ (old new : List ℕ) (free free' : List Bool) (root first pages : ℕ)
   -- no place but the new table is at its frame
   not_new : (l n k j : ℕ) (x y : Place) → k ≤ 4 → IsNewTable l n x → IsOld k j y → x.frame ≡ y.frame → ⊥
   not_new l n k j x y le t o e =
-      let d = tree.distinct 4 (prefix_of first 4) k j (page_in (first % 512) t.large) y (omega arith) le (λ _ _. refl)
+      let d = tree.distinct 4 (prefix_of first 4) k j (page_in (first % 512) t.large) y (omega arith) le
       (cut_page old root first t.large t.cut) o.was
       (sym (ap (λ p. p.frame) t.framed) ∙ e) in
       let out = o.outside (sym d.0) in
@@ -156,13 +157,13 @@ module _ (old new : List ℕ) (free free' : List Bool) (root first pages : ℕ)
   same_place l n k j x y ll lk (inl t) (inl u) e = (t.at_three ∙ sym u.at_three, t.of_slot ∙ sym u.of_slot)
   same_place l n k j x y ll lk (inl t) (inr o) e = absurd (not_new l n k j x y lk t o e)
   same_place l n k j x y ll lk (inr o) (inl t) e = absurd (not_new k j l n y x ll t o (sym e))
-  same_place l n k j x y ll lk (inr o) (inr q) e = tree.distinct l n k j x y ll lk (λ _ _. refl) o.was q.was e
+  same_place l n k j x y ll lk (inr o) (inr q) e = tree.distinct l n k j x y ll lk o.was q.was e
 
   -- an old place is at no frame of a page of the range
   keeps_frame : (l n : ℕ) (met : Place) → l ≤ 4 → IsOld l n met → is_frame_free free' met.frame ≡ is_frame_free free
       met.frame
   keeps_frame l n met le o = a.kept met.frame (λ m place g at e.
-      let d = tree.distinct 4 m l n place met (omega arith) le (λ _ _. refl) at o.was e in
+      let d = tree.distinct 4 m l n place met (omega arith) le at o.was e in
       let out = o.outside (sym d.0) in
       let is : among first pages n ≡ true = ap (among first pages) (sym d.1) ∙ g in
       cc)
@@ -188,11 +189,11 @@ module _ (old new : List ℕ) (free free' : List Bool) (root first pages : ℕ)
   unmapped_words n i met li is =
       let p = page_before n met is in
       a.entries.words met.frame i li
-      (λ m at. absurd (let d = tree.distinct 3 m 4 n (top met.frame) met (omega arith) (omega arith) (λ _ _. refl) at p.0 refl in omega (arith, d.0)))
-      (λ m at. absurd (let d = tree.distinct 2 m 4 n (top met.frame) met (omega arith) (omega arith) (λ _ _. refl) at p.0 refl in omega (arith, d.0)))
+      (λ m at. absurd (let d = tree.distinct 3 m 4 n (top met.frame) met (omega arith) (omega arith) at p.0 refl in omega (arith, d.0)))
+      (λ m at. absurd (let d = tree.distinct 2 m 4 n (top met.frame) met (omega arith) (omega arith) at p.0 refl in omega (arith, d.0)))
       (λ large it e.
       let d = tree.distinct 4 (prefix_of first 4) 4 n (page_in (first % 512) large) met (omega arith) (omega arith)
-      (λ _ _. refl) (cut_page old root first large it) p.0 (sym e) in
+      (cut_page old root first large it) p.0 (sym e) in
       let is : among first pages n ≡ true = ap (among first pages) (sym d.1) ∙ first_among in
       let out = p.1 in
       cc)
@@ -234,7 +235,7 @@ module _ (old new : List ℕ) (free free' : List Bool) (root first pages : ℕ)
         let b = large_below old root (prefix_of first 3) large it.there in
         let s = large_small old root (prefix_of first 3) large it.there in
         let z = a.size in
-        rw e (λ _. plain_page new (large.frame + i) (record { write = large.write; user = large.user; fetch = large.fetch })
+        rw e (λ _. plain_page new (large.frame + i) (bits_at large)
         (omega (arith, s, b.0)) (omega (arith, b.1)))
     in_table large it i li (inr hi) = plain_zero new 3 (word_at new (large.frame + first % 512) i) (a.entries.blank i large it hi li)
 
@@ -243,7 +244,7 @@ module _ (old new : List ℕ) (free free' : List Bool) (root first pages : ℕ)
         met.frame ≡ large.frame + first % 512 → ⊥
     not_cut l n met lt at large it e =
         let d = tree.distinct 4 (prefix_of first 4) l n (page_in (first % 512) large) met (omega arith) (omega arith)
-        (λ _ _. refl) (cut_page old root first large it) at (sym e) in
+        (cut_page old root first large it) at (sym e) in
         absurd (omega (arith, d.0))
 
     -- a word that stays
@@ -253,10 +254,10 @@ module _ (old new : List ℕ) (free free' : List Bool) (root first pages : ℕ)
     stays_plain l n i met lt li at pages_out larges_out =
         plain_kept old new l (word_at old met.frame i) (word_at new met.frame i) a.size
         (a.entries.words met.frame i li
-        (λ m here. let d = tree.distinct 3 m l n (top met.frame) met (omega arith) (omega arith) (λ _ _. refl) here at refl
+        (λ m here. let d = tree.distinct 3 m l n (top met.frame) met (omega arith) (omega arith) here at refl
         in ap (λ k. among first pages (512 * k + i)) d.1 ∙ pages_out d.0)
         (λ m here.
-        let d = tree.distinct 2 m l n (top met.frame) met (omega arith) (omega arith) (λ _ _. refl) here at refl in
+        let d = tree.distinct 2 m l n (top met.frame) met (omega arith) (omega arith) here at refl in
         ap (λ k. large_of new root (512 * k + i)) d.1 ∙ (larges_out d.0 ∙ ap (λ k. large_of old root (512 * k + i)) (sym d.1)))
         (not_cut l n met lt at))
         (tree.plain.each l n i met lt li at)
@@ -323,7 +324,7 @@ module _ (old new : List ℕ) (free free' : List Bool) (root first pages : ℕ)
     pub unmapped_tree : IsTree new root free'
     unmapped_tree = record {
       rights = λ l n met lt is. rights_of l n met lt (ways l n met (omega arith) is);
-      distinct = λ l n k j x y ll lk _ is at e. same_place l n k j x y ll lk (ways l n x ll is) (ways k j y lk at) e;
+      distinct = λ l n k j x y ll lk is at e. same_place l n k j x y ll lk (ways l n x ll is) (ways k j y lk at) e;
       used = λ l n met le is. used_of l n met le (ways l n met le is);
       inside = λ _ _ _ _ _. refl;
       plain = record { each = λ l n i met lt li is. plain_of l n i met lt li (ways l n met (omega arith) is) };

@@ -11,7 +11,7 @@ use Rattle.paging_core.specs.Tree.{IsTree}
 use Rattle.paging_core.specs.Missing.{is_missing, missing_of}
 use Rattle.paging_core.specs.Mapping.{IsNewPage}
 use Rattle.paging_core.specs.Large.{slot_of, above}
-use Rattle.paging_core.specs.declared.page_table.Rights.{Rights}
+use Rattle.paging_core.specs.declared.page_table.PageBits.{PageBits}
 
 -- how many of the pages from `first` on are not mapped
 abbrev pub unmapped_of : List ℕ → ℕ → ℕ → ℕ → ℕ
@@ -19,7 +19,7 @@ unmapped_of words root first pages = count_by (is_missing words root) (prefixes_
 
 -- The words of the tables after pages with these rights were added, some of them in large pages. Entry `i` of the table that
 -- is met at the prefix (l, n) leads on to the prefix (l + 1, 512 * n + i).
-pub record HasNewEntries (old new : List ℕ) (root : ℕ) (rights : Rights) : Type 0 where
+pub record HasNewEntries (old new : List ℕ) (root : ℕ) (rights : PageBits) : Type 0 where
   -- a word of a table that was there is changed only if it leads elsewhere now
   pub old_words :
       (l n f i : ℕ) → l < 4 → i < 512 → reach old root l n ≡ Some (top f) →
@@ -41,14 +41,14 @@ pub record HasNewEntries (old new : List ℕ) (root : ℕ) (rights : Rights) : T
       large_of new root (512 * n + i) ≡ Some large → word_at new f i ≡ large_entry large.frame rights
 
 -- A page was added here: with the rights, at a frame that was free and is 0.
-pub record IsNewPlace (new : List ℕ) (free : List Bool) (place : Place) (rights : Rights) : Type 0 where
+pub record IsNewPlace (new : List ℕ) (free : List Bool) (place : Place) (rights : PageBits) : Type 0 where
   pub granted_all : place ≡ place_with place.frame rights
   pub was_free : is_frame_free free place.frame ≡ true
   pub zeros : (i : ℕ) → i < 512 → word_at new place.frame i ≡ 0
 
 -- Some of the pages from `first` on were added, each at a new frame, by tables or in large pages, and tables that they
 -- missed. This says nothing of which.
-pub record ArePagesAdded (old new : List ℕ) (free free' : List Bool) (root first pages : ℕ) (rights : Rights) : Type 0 where
+pub record ArePagesAdded (old new : List ℕ) (free free' : List Bool) (root first pages : ℕ) (rights : PageBits) : Type 0 where
   pub size : length new ≡ length old
   pub flags : length free' ≡ length free
   pub tree : IsTree new root free'
@@ -105,7 +105,7 @@ IsUsedFor words root slot f =
     ⊎ ((l : ℕ) × (l < 3) × (reach words root l (above slot l) ≡ Some (top f)))
 
 -- The slots below `stop` that lie whole in the range and had no table were mapped by one entry each, and no other page.
-pub record AreSlotsAdded (old new : List ℕ) (free free' : List Bool) (root first pages stop : ℕ) (rights : Rights) : Type 0 where
+pub record AreSlotsAdded (old new : List ℕ) (free free' : List Bool) (root first pages stop : ℕ) (rights : PageBits) : Type 0 where
   pub pages_added : ArePagesAdded old new free free' root first pages rights
   pub slots : AreLargeBelow old new root first pages stop
   -- no table of a slot is made, and a page whose slot is not large is met as before
@@ -126,7 +126,7 @@ pub record AreSlotsAdded (old new : List ℕ) (free free' : List Bool) (root fir
 
 -- The pages from `first` on were added: first those of the slots below `stop` that lie whole in the range and had no table, in
 -- large pages, as long as a run of frames was free; then the others, by tables.
-pub record IsRangeMapped (old new : List ℕ) (free free' : List Bool) (root first pages stop : ℕ) (rights : Rights) : Type 0 where
+pub record IsRangeMapped (old new : List ℕ) (free free' : List Bool) (root first pages stop : ℕ) (rights : PageBits) : Type 0 where
   -- the words and the flags between
   pub between : List ℕ
   pub left : List Bool

@@ -10,6 +10,7 @@ use Rattle.paging_core.specs.Entry.{table_entry, page_entry}
 use Rattle.paging_core.specs.Prefix.{prefix_of}
 use Rattle.paging_core.specs.Pool.{is_frame_free, free_count}
 use Rattle.paging_core.specs.Walk.{Place, reach, large_of, walk_of, top}
+use Rattle.paging_core.specs.PageBits.{bits_at}
 use Rattle.paging_core.specs.PageChanges.{among}
 
 -- Each large page that has a page of the range ends in it.
@@ -52,7 +53,7 @@ pub record HasEntriesLeft (old new : List ℕ) (root first pages : ℕ) : Type 0
       word_at new f (prefix_of first 3 % 512) ≡ table_entry (large.frame + first % 512)
   pub kept_words :
       (k : ℕ) (large : Place) → IsCutPage old root first large → k < first % 512 →
-      word_at new (large.frame + first % 512) k ≡ page_entry (large.frame + k) (record { write = large.write; user = large.user; fetch = large.fetch })
+      word_at new (large.frame + first % 512) k ≡ page_entry (large.frame + k) (bits_at large)
   pub blank :
       (k : ℕ) (large : Place) → IsCutPage old root first large → first % 512 ≤ k → k < 512 → word_at new (large.frame + first % 512) k ≡ 0
   -- no other word is changed

@@ -8,7 +8,7 @@ ghost use Rattle.paging_core.specs.Area.{Whole};
 
 use crate::slots::slot_at;
 use paging_core::{
-    FramePool, Frames, Page, PhysFrame, Rights, has_table, large_page, map_range, map_slot,
+    FramePool, Frames, Page, PageBits, PhysFrame, has_table, large_page, map_range, map_slot,
 };
 
 /// Goes in ascending order through the slots that lie whole in the range and have no table, and maps each with the
@@ -23,7 +23,7 @@ pub fn map_slots(
     root: PhysFrame,
     first: Page,
     pages: u64,
-    rights: Rights,
+    rights: PageBits,
 ) -> u64
     requires standing { IsTreeAndPool Whole frames.old root pool.old }
     requires mappable { IsRangeMappable frames.old root pool.old first pages }
@@ -55,7 +55,7 @@ pub fn map_pages(
     root: PhysFrame,
     first: Page,
     pages: u64,
-    rights: Rights,
+    rights: PageBits,
 ) -> u64
     requires standing { IsTreeAndPool Whole frames.old root pool.old }
     requires mappable { IsRangeMappable frames.old root pool.old first pages }

@@ -2,6 +2,7 @@
 use Rattle.std.proofs.Common.{◌≡◌, ℕ, ◌+◌, ◌-◌, ◌/◌, ◌%◌, ◌^◌, ◌<◌, ◌≤◌, Result, Ok, Err, IfOk, IfErr, OnErr, map, refl, sym, ap, ◌∙◌, subst, arith, Some}
 use Rattle.std.specs.List.{AllByRecursion}
 use Rattle.paging_core.specs.Walk.{walk_of, place_with as granted_place}
+use Rattle.paging_core.specs.PageBits.{bits_of}
 use Rattle.heap_memory.specs.declared.grant.Grant.{Grant}
 use Rattle.heap_memory.specs.declared.grant.GrantFault.{GrantFault}
 use Rattle.heap_memory.specs.Regions.{IsWordOf, IsApart, IsGoodGrant, with_grant}
@@ -51,9 +52,9 @@ module _ (old new : Paged) (asked : ℕ) (grant : Grant) (kept : IsPagedKept old
       let whole = is.can.place.fit.aligned in
       let page = is.granted.grant.added.mapped (at / 4096 - grant.base / 4096) (omega arith) in
       let same : grant.base / 4096 + (at / 4096 - grant.base / 4096) ≡ at / 4096 = omega arith in
-      let found : walk_of new.words new.root (at / 4096) ≡ Some (granted_place page.frame heap_rights) =
+      let found : walk_of new.words new.root (at / 4096) ≡ Some (granted_place page.frame (bits_of heap_rights)) =
       ap (λ (r : ℕ). walk_of new.words r (at / 4096)) is.granted.grant.root ∙ (ap (walk_of new.words old.root) (sym same) ∙ page.found) in
-      word_at_place new at (granted_place page.frame heap_rights) found ∙ page.zeros (at % 4096 / 8) (omega arith)
+      word_at_place new at (granted_place page.frame (bits_of heap_rights)) found ∙ page.zeros (at % 4096 / 8) (omega arith)
 
   -- and every other granted word stays
   pub words : (at : ℕ) → IsWordOf (grants_of old) at → word_reached new at ≡ word_reached old at

@@ -86,7 +86,7 @@ still_beside p words at place kept found size walks larges tree others users = r
         reach p.words p.root level number ≡ Some met → word_at words met.frame index ≡ word_at p.words met.frame index
     tables level number index met low small is =
         others met.frame index small (λ same. (let both = kept.mapped.tree.distinct level number 4 (at / 4096 % 2 ^ 36) met
-        place (omega arith) (omega arith) (λ _ _. refl) is found same in omega (arith, both.0)))
+        place (omega arith) (omega arith) is found same in omega (arith, both.0)))
 
 -- A word was stored in a page of the regions, at the address that a is.
 module _ (p : Paged) (words : List ℕ) (at value a : ℕ)

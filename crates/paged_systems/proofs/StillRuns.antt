@@ -110,7 +110,7 @@ module _ (p : Paged) (words run : List ℕ) (at : ℕ) (kept : IsPagedKept p) (t
   unfolding walk_of
   apart other found is beside walked same from to =
       let both = tree_is.distinct 4 (other / 4096 % 2 ^ 36) 4 (at / 4096 % 2 ^ 36) found place.0 (omega arith) (omega arith)
-      (λ _ _. refl) walked place.1 same in
+      walked place.1 same in
       let page = same_page other at (granted_canonical p other kept is.granted) (granted_canonical p at kept first.granted) both.1 in
       let one : other % 8 ≡ 0 = is.aligned in
       let two : at % 8 ≡ 0 = first.aligned in

@@ -4,12 +4,12 @@ use Rattle.std.specs.Prelude.{IsSome}
 use Rattle.std.proofs.lemmas.Bool.{cases_lt}
 use Rattle.paging_core.specs.Prefix.{prefix_of}
 use Rattle.paging_core.specs.Walk.{large_of, walk_of, place_with}
-use Rattle.paging_core.specs.declared.page_table.Rights.{Rights}
+use Rattle.paging_core.specs.declared.page_table.PageBits.{PageBits}
 use Rattle.page_ranges.specs.RangeMapping.{IsRangeMapped}
 use Rattle.page_ranges.specs.RangeUnmapping.{NoLargePageReachesOver}
 use Rattle.paging_core.proofs.Prefixes.{walk_reach, small_page}
 
-module _ (old new : List ℕ) (free free' : List Bool) (root first pages stop from count : ℕ) (rights : Rights)
+module _ (old new : List ℕ) (free free' : List Bool) (root first pages stop from count : ℕ) (rights : PageBits)
     (unmapped : (page : ℕ) → walk_of old root page ≡ None)
     (m : IsRangeMapped old new free free' root first pages stop rights)
     (low : first + pages < 2 ^ 20)

@@ -133,7 +133,7 @@ fn change_slots(rt: &impl Abort, frames: &mut Frames, pool: &mut FramePool, root
     assert!(rt; 514 <= free);
     let slot = Page::<Size2MiB>::containing_address(VirtAddr::new(0x80_0000));
     same(rt, missing_tables(frames, root, 0x800, 512), 3);
-    assert!(rt; map_slot(frames, pool, root, slot, DATA));
+    assert!(rt; map_slot(frames, pool, root, slot, DATA.bits()));
     let left = pool.free_count();
     assert!(rt; left <= free);
     same(rt, free - left, 514);
@@ -177,7 +177,7 @@ fn unmap_slot(rt: &impl Abort, frames: &mut Frames, pool: &mut FramePool, root: 
 {
     assert!(rt; 514 <= pool.free_count());
     let slot = Page::<Size2MiB>::containing_address(VirtAddr::new(0x80_0000));
-    if map_slot(frames, pool, root, slot, DATA) {
+    if map_slot(frames, pool, root, slot, DATA.bits()) {
         same(rt, unmap_large(frames, root, slot).number(), 1);
     }
     same(rt, found(rt, frames, root, 0x80_0000), None);

@@ -53,7 +53,7 @@ fn map_sixteen(rt: &impl Abort, frames: &mut Frames, pool: &mut FramePool, root:
     let free = pool.free_count();
     assert!(rt; missing + 16 <= free);
     let first = Page::containing_address(VirtAddr::new(0x400000));
-    map_range(frames, pool, root, first, 16, DATA);
+    map_range(frames, pool, root, first, 16, DATA.bits());
     same(rt, free - pool.free_count(), 19);
     for (address, frame) in [(0x400000, 1), (0x401000, 5), (0x40f000, 19)] {
         let Ok(address) = VirtAddr::try_new(address) else {
@@ -94,8 +94,8 @@ fn change_three(rt: &impl Abort, frames: &mut Frames, pool: &mut FramePool, root
     let missing = missing_tables(frames, root, 0x400, 3);
     assert!(rt; missing + 3 <= free);
     let first = Page::containing_address(VirtAddr::new(0x400000));
-    map_range(frames, pool, root, first, 3, DATA);
-    protect_range(frames, root, first, 3, CODE);
+    map_range(frames, pool, root, first, 3, DATA.bits());
+    protect_range(frames, root, first, 3, CODE.bits());
     for (address, frame) in [(0x400000, 1), (0x401000, 5), (0x402000, 6)] {
         let found = walk(frames, root, page_at(rt, address));
         let rights = found.map(|mapped| (

@@ -32,16 +32,17 @@ fn write_entries(frames: &mut Frames, entries: [u64; 4])
     write(frames, 3, 0, fourth);
 }
 
-/// The frame with the number, with all rights.
+/// The frame with the number, with all rights, of type 0, and not global.
+fn page(frame: u64) -> Mapped
+    requires { frame < 2 ^ 40 }
+{
+    Mapped::full(PhysFrame::containing_address(PhysAddr::new(frame << 12)))
+}
+
 fn at(frame: u64) -> Translated
     requires { frame < 2 ^ 40 }
 {
-    Translated::Page(Mapped {
-        frame: PhysFrame::containing_address(PhysAddr::new(frame << 12)),
-        write: true,
-        user: true,
-        fetch: true,
-    })
+    Translated::Page(page(frame))
 }
 
 /// The entries of the four tables, and how the walk of page 0 ends.
@@ -52,8 +53,30 @@ fn walks(rt: &impl Abort, frames: &mut Frames)
     let rows = [
         ([0x1027, 0x2027, 0x3027, 0x4067], at(4)),
         // Bit 12 of a page of 2 MiB is PAT, and bit 7 of one of 4 KiB.
-        ([0x1007, 0x2007, 0x60_13c7, 0], at(0x600)),
+        (
+            [0x1007, 0x2007, 0x60_13c7, 0],
+            Translated::Page(Mapped {
+                global: true,
+                ..page(0x600)
+            }),
+        ),
         ([0x1007, 0x2007, 0x3007, 0x40e7], at(4)),
+        // Bits 3 and 4 are of a page's type in its own entry, and in the others of how the next table is read.
+        ([0x101f, 0x200f, 0x3017, 0x4067], at(4)),
+        (
+            [0x1007, 0x2007, 0x3007, 0x406f],
+            Translated::Page(Mapped {
+                through: true,
+                ..page(4)
+            }),
+        ),
+        (
+            [0x1007, 0x2007, 0x60_0097, 0],
+            Translated::Page(Mapped {
+                uncached: true,
+                ..page(0x600)
+            }),
+        ),
         // A page of 1 GiB, and one that begins at no multiple of its size.
         ([0x1007, 0x4000_0087, 0, 0], at(0x4_0000)),
         ([0x1007, 0x2087, 0x3007, 0x4067], Translated::Reserved(1)),
@@ -61,7 +84,14 @@ fn walks(rt: &impl Abort, frames: &mut Frames)
         // Bits 7 and 8 in the root; bit 8 is ignored in the next two steps, and means a global page in the last.
         ([0x1087, 0x2007, 0x3007, 0x4067], Translated::Reserved(0)),
         ([0x1107, 0x2007, 0x3007, 0x4067], Translated::Reserved(0)),
-        ([0x1007, 0x2107, 0x3107, 0x4167], at(4)),
+        ([0x1007, 0x2107, 0x3107, 0x4067], at(4)),
+        (
+            [0x1007, 0x2107, 0x3107, 0x4167],
+            Translated::Page(Mapped {
+                global: true,
+                ..page(4)
+            }),
+        ),
         // The address bits 40 and 51, and the greatest frame of 40 bits, which is not in the memory.
         (
             [0x1007, 0x100_0000_2007, 0x3007, 0x4067],

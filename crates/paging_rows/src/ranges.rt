@@ -74,7 +74,7 @@ fn map_row(
     assert!(rt; first.number() == row.page);
     let free = pool.free_count();
     assert!(rt; row.pages + missing_tables(frames, root, row.page, row.pages) <= free);
-    let stop = map_pages(frames, pool, root, first, row.pages, DATA);
+    let stop = map_pages(frames, pool, root, first, row.pages, DATA.bits());
     same(rt, stop, row.stop);
     let left = pool.free_count();
     assert!(rt; left <= free);
@@ -223,7 +223,7 @@ fn leave_row(
     let first = page_at::<Size4KiB>(rt, row.page << 12);
     assert!(rt; first.number() == row.page);
     assert!(rt; row.pages + missing_tables(frames, root, row.page, row.pages) <= pool.free_count());
-    map_pages(frames, pool, root, first, row.pages, DATA);
+    map_pages(frames, pool, root, first, row.pages, DATA.bits());
     take_all(pool);
     same(rt, pool.free_count(), 0);
     let from = first.after(row.from - row.page);

@@ -1,5 +1,5 @@
 -- A paged system with a cache of its translations.
-use Rattle.std.specs.Prelude.{◌≡◌, ℕ, ◌+◌, ◌*◌, ◌/◌, ◌<◌, ◌≤◌, nat_lt, is_some, if◌then◌else◌, Bool, true, IsTrue, IsFalse, List, Option, Some, None, option_map}
+use Rattle.std.specs.Prelude.{◌≡◌, ℕ, ◌+◌, ◌*◌, ◌/◌, ◌<◌, ◌≤◌, nat_lt, is_some, if◌then◌else◌, Bool, true, false, IsTrue, IsFalse, List, Option, Some, None, option_map}
 use Rattle.std.specs.List.{list_any}
 use Rattle.paging_core.specs.Address.{is_canonical}
 use Rattle.paging_core.specs.Memory.{frame_count}
@@ -10,9 +10,10 @@ use Rattle.x86_registers.specs.declared.cpu.Cpu.{Cpu}
 use Rattle.x86_instructions.specs.declared.tlb.FlushCommand.{FlushCommand}
 use Rattle.x86_instructions.specs.Invlpgb.{commands, limits_of, whole}
 use Rattle.x86_flags.specs.PageFaultErrorCode.{page_fault_bits}
-use Rattle.heap_model.specs.declared.call.Access.{Access}
+use Rattle.paging_core.specs.declared.processor_access.AccessKind.{AccessKind}
 use Rattle.heap_model.specs.Machine.{Paged, rights_of}
-use Rattle.heap_model.specs.Probe.{is_access_granted, probe_fault_code}
+use Rattle.paging_core.specs.ProcessorAccess.{fault_code}
+use Rattle.heap_model.specs.Probe.{is_access_granted}
 use Rattle.mapped_regions.specs.Mapped.{IsPageRange}
 use Rattle.mapped_regions.specs.UserRegions.{IsUnmapRefused}
 use Rattle.tlb_cache.specs.Covered.{covers}
@@ -27,10 +28,10 @@ walked_rights p at = option_map rights_of (walk_of p.words p.root (at / 4096))
 
 -- What an access to one byte gives, by the walk alone: no cache is named here. (AMD64 manual, volume 2, sections 5.6 and
 -- 8.4.2.)
-abbrev pub IsProbed : Paged → ℕ → Access → Bool → Probed → Type 0
+abbrev pub IsProbed : Paged → ℕ → AccessKind → Bool → Probed → Type 0
 IsProbed p at access user NotCanonical = IsFalse (is_canonical at)
 IsProbed p at access user (Fault code) =
-    IsTrue (is_canonical at) × IsFalse (is_access_granted (walked_rights p at) access user) × (page_fault_bits code ≡ probe_fault_code (is_some (walked_rights p at)) access user)
+    IsTrue (is_canonical at) × IsFalse (is_access_granted (walked_rights p at) access user) × (page_fault_bits code ≡ fault_code (is_some (walked_rights p at)) false access user)
 IsProbed p at access user (Byte byte) = IsTrue (is_canonical at) × IsTrue (is_access_granted (walked_rights p at) access user) × (reached p.words p.root at ≡ Some byte)
 
 -- a page, and the page that comes next after a number of pages from it on, unless they hold the last one of the address

@@ -1,4 +1,4 @@
-use Rattle.std.proofs.Common.{ℕ, ◌∙◌, false, refl, sym, subst, arith}
+use Rattle.std.proofs.Common.{ℕ, ◌∙◌, refl, sym, subst, arith}
 use Rattle.meminterval.specs.Tree.{entries}
 use Rattle.address_space.specs.RunChanges.{AreRightsCopied}
 use Rattle.address_space.specs.PageCopies.{ArePagesCopied, IsMappedRange}
@@ -58,7 +58,7 @@ invariant_of-self-2 c =
     let words = c.copy_pages.new.frames in
     let runs = entries c.copy.new.runs in
     let m : AreDuplicated t one words c.map_range.new.pool runs c.args.source c.args.pages c.args.target
-    (record { write = false; user = false; fetch = false }) = record {
+    c.bits.result = record {
       kept = c.args.self.now.kept;
       source = c.requires.source;
       target = c.requires.target;
@@ -75,7 +75,7 @@ invariant_of-self-2 c =
     } in
     record {
       kept = duplicated_kept t one words c.map_range.new.pool runs c.args.source c.args.pages c.args.target
-          (record { write = false; user = false; fetch = false }) m;
+          c.bits.result m;
     }
 
 pub returns-clause-ok : goal.returns-clause-ok
@@ -85,7 +85,7 @@ returns-clause-ok c =
     let words = c.copy_pages.new.frames in
     let runs = entries c.copy.new.runs in
     let m : AreDuplicated t one words c.map_range.new.pool runs c.args.source c.args.pages c.args.target
-    (record { write = false; user = false; fetch = false }) = record {
+    c.bits.result = record {
       kept = c.args.self.now.kept;
       source = c.requires.source;
       target = c.requires.target;
@@ -101,7 +101,7 @@ returns-clause-ok c =
           (subst (λ (n : ℕ). AreRightsCopied t.runs runs c.number-from.result c.args.pages n) c.number-to.ensures.value c.in_ok-copy.ensures.ok);
     } in
     duplicated_is t (record { words = words; root = t.root; free = c.map_range.new.pool; runs = runs }) one c.args.source
-    c.args.pages c.args.target (record { write = false; user = false; fetch = false }) m refl
-    (duplicated_map t one words c.map_range.new.pool runs c.args.source c.args.pages c.args.target (record { write = false; user = false; fetch = false }) m)
+    c.args.pages c.args.target c.bits.result m refl
+    (duplicated_map t one words c.map_range.new.pool runs c.args.source c.args.pages c.args.target c.bits.result m)
     (duplicated_words t (record { words = words; root = t.root; free = c.map_range.new.pool; runs = runs }) one
-    c.args.source c.args.pages c.args.target (record { write = false; user = false; fetch = false }) m)
+    c.args.source c.args.pages c.args.target c.bits.result m)

@@ -1,4 +1,5 @@
 use Rattle.std.proofs.Common.{◌+◌, ℕ, refl, subst}
+use Rattle.paging_core.specs.Mapping.{IsRangeAdded}
 use Rattle.meminterval.specs.Tree.{entries}
 use Rattle.address_space.specs.Joining.{IsRunAdded}
 use Rattle.address_space.specs.Seen.{tables_of}
@@ -18,7 +19,8 @@ invariant_of-self-2 c = record {
       (record {
         kept = c.args.self.now.kept;
         range = c.requires.range;
-        added = c.map_range.ensures.added;
+        added = subst (IsRangeAdded c.args.self.now.frames c.map_range.new.frames c.args.self.now.pool c.map_range.new.pool
+            c.args.self.now.root c.args.first c.args.pages) c.bits.ensures c.map_range.ensures.added;
         known = c.map_range.ensures.known;
         elsewhere = c.map_range.ensures.clear.elsewhere;
         zeros = c.map_range.ensures.clear.zeros;
@@ -35,7 +37,8 @@ returns-clause-ok c = record {
       (record {
         kept = c.args.self.now.kept;
         range = c.requires.range;
-        added = c.map_range.ensures.added;
+        added = subst (IsRangeAdded c.args.self.now.frames c.map_range.new.frames c.args.self.now.pool c.map_range.new.pool
+            c.args.self.now.root c.args.first c.args.pages) c.bits.ensures c.map_range.ensures.added;
         known = c.map_range.ensures.known;
         elsewhere = c.map_range.ensures.clear.elsewhere;
         zeros = c.map_range.ensures.clear.zeros;
@@ -45,5 +48,6 @@ returns-clause-ok c = record {
             c.args.rights) c.number-number.ensures.value c.in_ok-add.ensures.ok;
       });
   root = refl;
-  added = c.map_range.ensures.added;
+  added = subst (IsRangeAdded c.args.self.now.frames c.map_range.new.frames c.args.self.now.pool c.map_range.new.pool
+      c.args.self.now.root c.args.first c.args.pages) c.bits.ensures c.map_range.ensures.added;
 }

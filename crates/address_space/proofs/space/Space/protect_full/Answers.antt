@@ -1,4 +1,8 @@
 use Rattle.std.proofs.Common.{rules, ℕ, ◌+◌, refl, subst, arith}
+use Rattle.paging_core.specs.Area.{Whole}
+use Rattle.paging_core.specs.Outcomes.{IsRangeRegranted}
+use Rattle.paging_core.specs.PageChanges.{ArePagesChanged, regrant, among}
+use Rattle.paging_core.specs.declared.page_table.PageBits.{PageBits}
 use Rattle.meminterval.specs.Tree.{entries}
 use Rattle.address_space.specs.Joining.{IsRunAdded}
 use Rattle.address_space.specs.Seen.{tables_of}
@@ -19,15 +23,19 @@ protect_range-requires-clause-pages c = record {
 pub invariant_of-self-2 : goal.invariant_of-self-2
 invariant_of-self-2 c =
     let t = tables_of c.args.self.now in
+    let changed = subst (λ (bits : PageBits). ArePagesChanged t.words c.protect_range.new.frames t.root (regrant bits)
+    (among c.args.first c.args.pages)) c.bits.ensures c.protect_range.ensures.changed in
+    let granted = subst (IsRangeRegranted Whole t.words c.protect_range.new.frames t.root c.args.first c.args.pages) c.bits.ensures
+    c.protect_range.ensures.granted in
     let m : AreProtected t c.protect_range.new.frames (entries c.set_rights.new.runs) c.args.first c.args.pages c.args.rights = record {
       kept = c.args.self.now.kept;
       range = c.requires.range;
       full = c.requires.full;
-      changed = c.protect_range.ensures.changed;
+      changed = changed;
       tree = c.protect_range.ensures.tree c.args.self.now.pool c.args.self.now.kept.tree;
-      there = c.protect_range.ensures.granted.granted;
-      elsewhere = c.protect_range.ensures.granted.elsewhere;
-      bytes = c.protect_range.ensures.granted.bytes;
+      there = granted.granted;
+      elsewhere = granted.elsewhere;
+      bytes = granted.bytes;
       added = subst (λ (n : ℕ). IsRunAdded (entries c.args.self.now.runs) (entries c.set_rights.new.runs) n
           (n + c.args.pages)
           c.args.rights) c.number-number.ensures.value c.in_ok-set_rights.ensures.ok;
@@ -37,15 +45,19 @@ invariant_of-self-2 c =
 pub returns-clause-ok : goal.returns-clause-ok
 returns-clause-ok c =
     let t = tables_of c.args.self.now in
+    let changed = subst (λ (bits : PageBits). ArePagesChanged t.words c.protect_range.new.frames t.root (regrant bits)
+    (among c.args.first c.args.pages)) c.bits.ensures c.protect_range.ensures.changed in
+    let granted = subst (IsRangeRegranted Whole t.words c.protect_range.new.frames t.root c.args.first c.args.pages) c.bits.ensures
+    c.protect_range.ensures.granted in
     let m : AreProtected t c.protect_range.new.frames (entries c.set_rights.new.runs) c.args.first c.args.pages c.args.rights = record {
       kept = c.args.self.now.kept;
       range = c.requires.range;
       full = c.requires.full;
-      changed = c.protect_range.ensures.changed;
+      changed = changed;
       tree = c.protect_range.ensures.tree c.args.self.now.pool c.args.self.now.kept.tree;
-      there = c.protect_range.ensures.granted.granted;
-      elsewhere = c.protect_range.ensures.granted.elsewhere;
-      bytes = c.protect_range.ensures.granted.bytes;
+      there = granted.granted;
+      elsewhere = granted.elsewhere;
+      bytes = granted.bytes;
       added = subst (λ (n : ℕ). IsRunAdded (entries c.args.self.now.runs) (entries c.set_rights.new.runs) n
           (n + c.args.pages)
           c.args.rights) c.number-number.ensures.value c.in_ok-set_rights.ensures.ok;
@@ -54,5 +66,5 @@ returns-clause-ok c =
       map = protected_map t c.protect_range.new.frames (entries c.set_rights.new.runs) c.args.first c.args.pages c.args.rights m;
       free = refl;
       root = refl;
-      entries = c.protect_range.ensures.changed;
+      entries = changed;
     }

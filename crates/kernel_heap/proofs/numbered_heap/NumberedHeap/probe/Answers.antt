@@ -2,7 +2,8 @@ use Rattle.std.proofs.Common.{rules, ◌≡◌, ◌∙◌, ◌/◌, ap, sym, tru
 use Rattle.paging_core.specs.Address.{is_canonical}
 use Rattle.paging_core.specs.Walk.{walk_of, reached}
 use Rattle.heap_model.specs.Machine.{rights_of}
-use Rattle.heap_model.specs.Probe.{is_access_granted, probe_fault_code}
+use Rattle.paging_core.specs.ProcessorAccess.{fault_code}
+use Rattle.heap_model.specs.Probe.{is_access_granted}
 use Rattle.x86_flags.specs.PageFaultErrorCode.{page_fault_bits}
 use Rattle.heap_model.proofs.Probed.{step_byte, step_fault}
 use Rattle.paged_systems.specs.System.{paged}
@@ -26,7 +27,7 @@ returns-then-not-is_granted-clause-ok c = λ top s good stands.
     let walk = c.rights_at-rights.ensures.walk ∙ ap (λ system. option_map rights_of
     (walk_of (paged system).words (paged system).root (at / 4096))) c.system-system.ensures in
     let granted : is_access_granted c.rights_at-rights.result c.args.access c.args.user ≡ false = search rules in
-    let code : page_fault_bits c.fault_code.result ≡ probe_fault_code (is_some c.rights_at-rights.result) c.args.access c.args.user = search rules in
+    let code : page_fault_bits c.fault_code.result ≡ fault_code (is_some c.rights_at-rights.result) false c.args.access c.args.user = search rules in
     step_fault (seen_with top c.args.self.now) s at c.args.access c.args.user c.fault_code.result good stands canonical
     (ap (λ rights. is_access_granted rights c.args.access c.args.user) (sym walk) ∙ granted)
-    (code ∙ ap (λ rights. probe_fault_code (is_some rights) c.args.access c.args.user) walk)
+    (code ∙ ap (λ rights. fault_code (is_some rights) false c.args.access c.args.user) walk)

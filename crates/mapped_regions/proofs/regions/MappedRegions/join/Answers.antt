@@ -1,5 +1,6 @@
 use Rattle.std.proofs.Common.{rules, ◌≡◌, ◌+◌, ◌-◌, ◌/◌, ◌%◌, ◌^◌, refl, ap, ◌∙◌, subst, sym, arith, None}
 use Rattle.paging_core.specs.Walk.{walk_of}
+use Rattle.page_ranges.specs.RangeMapping.{IsRangeMapped}
 use Rattle.heap_model.specs.Machine.{Paged}
 use Rattle.heap_model.proofs.Regions.{within_bounds}
 use Rattle.mapped_regions.specs.Mapped.{IsRegionJoined}
@@ -35,10 +36,10 @@ overflow_sub-self-2 c =
 pub list_large-requires-clause-rest : goal.list_large-requires-clause-rest
 list_large-requires-clause-rest c =
     none_behind (paged_view c.args.self.now) c.map_pages-stop.new.frames c.map_pages-stop.new.pool c.args.region.start
-    c.args.region.pages c.map_pages-stop.result c.args.region.rights
+    c.args.region.pages c.map_pages-stop.result c.bits.result
     c.args.self.now.mapped c.requires.can (by_address c.args.self.now.frames c.map_pages-stop.new.frames
     c.args.self.now.pool c.map_pages-stop.new.pool c.args.self.now.root c.containing_address.result c.args.region.start
-    c.args.region.pages c.map_pages-stop.result c.args.region.rights
+    c.args.region.pages c.map_pages-stop.result c.bits.result
     (c.containing_address.ensures ∙ ap (λ a. a / 4096) c.new.ensures) c.map_pages-stop.ensures.mapped)
 
 -- what is seen after the region joined
@@ -59,7 +60,7 @@ joined : (c : After-list_large) → IsRegionJoined (paged_view c.args.self.now) 
 joined c =
     let a = by_address c.args.self.now.frames c.map_pages-stop.new.frames c.args.self.now.pool c.map_pages-stop.new.pool
     c.args.self.now.root c.containing_address.result c.args.region.start c.args.region.pages c.map_pages-stop.result
-    c.args.region.rights
+    c.bits.result
     (c.containing_address.ensures ∙ ap (λ a. a / 4096) c.new.ensures) c.map_pages-stop.ensures.mapped in
     let count = a.count in
     let fewer = missing_fewer c.args.self.now.frames c.map_pages-stop.new.frames c.args.self.now.root a.pages_added.stayed
@@ -75,12 +76,13 @@ joined c =
         pages_is = refl;
         root = refl;
         stop = c.map_pages-stop.result;
-        added = a;
+        added = subst (IsRangeMapped c.args.self.now.frames c.map_pages-stop.new.frames c.args.self.now.pool
+            c.map_pages-stop.new.pool c.args.self.now.root (c.args.region.start / 4096) c.args.region.pages c.map_pages-stop.result) c.bits.ensures a;
         tables = omega arith;
         slots = c.list_large.ensures;
       };
       runs = runs_used c.args.self.now.frames c.map_pages-stop.new.frames c.args.self.now.pool c.map_pages-stop.new.pool
-          c.args.self.now.root c.args.region.start c.args.region.pages c.map_pages-stop.result c.args.region.rights whole a;
+          c.args.self.now.root c.args.region.start c.args.region.pages c.map_pages-stop.result c.bits.result whole a;
       zeros = λ address here. (
           let bounds = within_bounds address c.args.region here in
           c.map_pages-stop.ensures.clear.zeros address (address / 4096 - c.args.region.start / 4096)

@@ -2,10 +2,10 @@ use Rattle.std.proofs.Common.{◌≡◌, ◌*◌, ◌/◌, ap, ◌∙◌, sym, s
 use Rattle.std.specs.List.{AllByRecursion}
 use Rattle.std.proofs.lemmas.List.{length-replicate}
 use Rattle.paging_core.specs.Memory.{frame_count}
+use Rattle.paging_core.specs.PageBits.{bits_of, bits_at}
 use Rattle.paging_core.specs.declared.page_table.Rights.{Rights}
 use Rattle.heap_model.specs.declared.region.Region.{Region}
 use Rattle.heap_model.specs.State.{total_pages}
-use Rattle.heap_model.specs.Machine.{rights_of}
 use Rattle.mapped_regions.specs.Regions.{kind_at}
 use Rattle.mapped_regions.specs.Mapped.{IsRegion}
 use Rattle.mapped_regions.proofs.Mapped.{none_large}
@@ -29,8 +29,8 @@ invariant_of-result c =
         few_frames = omega arith;
         count = omega arith;
         regions = subst (AllByRecursion (IsRegion c.args.base c.args.pages)) (sym c.new-5.ensures) tt;
-        found = λ page canonical. ap (option_map rights_of) (c.in-Some.ensures.made.unmapped page)
-            ∙ ap (λ (rs : List Region). option_map (λ (kind : Bool × Rights). kind.1) (kind_at rs (4096 * page)))
+        found = λ page canonical. ap (option_map bits_at) (c.in-Some.ensures.made.unmapped page)
+            ∙ ap (λ (rs : List Region). option_map (λ (kind : Bool × Rights). bits_of kind.1) (kind_at rs (4096 * page)))
             (sym c.new-5.ensures);
         larges = none_large c.make_root.new.frames c.in-Some.root c.new-5.result c.in-Some.ensures.made.no_large;
       };
