@@ -27,6 +27,10 @@ fn refused_changes_have_their_words(rt: HostRuntime) -> Result<(), Fail> {
     let table = [
         (EntryFault::NotMapped, "the page is not mapped"),
         (
+            EntryFault::InArea,
+            "the page leads into the area of the tables",
+        ),
+        (
             EntryFault::NoFrames,
             "no frame for the table that splits the large page",
         ),
@@ -58,6 +62,10 @@ fn refused_ranges_have_their_words(rt: HostRuntime) -> Result<(), Fail> {
         ),
         (RangeFault::PastLimit, "a frame is past the limit"),
         (RangeFault::InArea, "a frame lies in the area of the tables"),
+        (
+            RangeFault::LeadsIntoArea(first_page()),
+            "a page of the range leads into the area of the tables",
+        ),
         (
             RangeFault::NoFrames { wanting: 2 },
             "2 frames are wanting for tables",

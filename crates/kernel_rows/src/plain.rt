@@ -1,6 +1,6 @@
 //! A plain map of pages, which says what tables would answer.
 use kernel_tables::{EntryFault, MapFault, RangeFault};
-use paging_core::{Page, Rights, VirtAddr};
+use paging_core::{Page, PageBits, Rights, VirtAddr};
 use std::alloc::{AllocError, Global};
 
 /// The first page of the window. Half of its pages lie below 2^18, so they have two tables of two indices.
@@ -21,7 +21,35 @@ pub(crate) enum Slot {
 #[derive(Clone, Copy, PartialEq, Eq, Debug)]
 pub(crate) struct Lead {
     pub(crate) frame: u64,
-    pub(crate) rights: Rights,
+    pub(crate) bits: PageBits,
+}
+
+/// What a page is given: all bits of its entry, or its rights alone.
+#[derive(Clone, Copy)]
+pub(crate) enum Given {
+    All(PageBits),
+    Only(Rights),
+}
+
+impl Given {
+    fn user(self) -> bool {
+        match self {
+            Given::All(bits) => bits.user,
+            Given::Only(rights) => rights.user,
+        }
+    }
+
+    fn bits(self, was: PageBits) -> PageBits {
+        match self {
+            Given::All(bits) => bits,
+            Given::Only(rights) => PageBits {
+                write: rights.write,
+                user: rights.user,
+                fetch: rights.fetch,
+                ..was
+            },
+        }
+    }
 }
 
 /// Pages in a row, by their places in the window.
@@ -68,6 +96,7 @@ fn map_fault_of(fault: RangeFault) -> MapFault {
 fn entry_fault_of(fault: RangeFault) -> EntryFault {
     match fault {
         RangeFault::NoFrames { wanting: _ } => EntryFault::NoFrames,
+        RangeFault::LeadsIntoArea(_) => EntryFault::InArea,
         _ => EntryFault::NotMapped,
     }
 }
@@ -89,6 +118,7 @@ pub(crate) struct Plain {
     halves: Vec<bool>,
     pub(crate) free: u64,
     frames: Frames,
+    shared: bool,
 }
 
 impl Plain {
@@ -101,7 +131,13 @@ impl Plain {
             halves: vec![in alloc; false; 2]?,
             free: frames.end.wrapping_sub(frames.first).wrapping_sub(1),
             frames,
+            shared: false,
         })
+    }
+
+    /// Lets pages that users do not reach lead into the area.
+    pub(crate) fn share_area(&mut self) {
+        self.shared = true;
     }
 
     /// Where the page at the place leads.
@@ -190,14 +226,28 @@ impl Plain {
         frame < self.frames.end && self.frames.first < frame.wrapping_add(count)
     }
 
-    fn map_fault(&self, pages: Pages, frame: u64) -> Option<RangeFault> {
+    /// The lowest page of the range that leads into the area.
+    fn lowest_in_area(&self, pages: Pages) -> Option<Page> {
+        for place in pages.first..pages.end() {
+            if let Some(lead) = self.lead(place) {
+                if self.meets_area(lead.frame, 1) {
+                    return Some(page_at(place));
+                }
+            }
+        }
+        None
+    }
+
+    fn map_fault(&self, pages: Pages, lead: Lead) -> Option<RangeFault> {
+        let frame = lead.frame;
         if let Some(page) = self.lowest(pages, true) {
             return Some(RangeFault::IsMapped(page));
         }
         if frame.wrapping_add(pages.count) > self.frames.limit {
             return Some(RangeFault::PastLimit);
         }
-        if self.meets_area(frame, pages.count) {
+        let sees_area = self.shared && !lead.bits.user;
+        if !sees_area && self.meets_area(frame, pages.count) {
             return Some(RangeFault::InArea);
         }
         let wanted = self.wanted(pages, frame);
@@ -214,7 +264,7 @@ impl Plain {
         if pages.count == 0 {
             return Ok(());
         }
-        if let Some(fault) = self.map_fault(pages, lead.frame) {
+        if let Some(fault) = self.map_fault(pages, lead) {
             return Err(fault);
         }
         let wanted = self.wanted(pages, lead.frame);
@@ -231,7 +281,7 @@ impl Plain {
         for step in 0..pages.count {
             let next = Lead {
                 frame: lead.frame.wrapping_add(step),
-                rights: lead.rights,
+                bits: lead.bits,
             };
             self.put(pages.first.wrapping_add(step), Some(next));
         }
@@ -287,9 +337,14 @@ impl Plain {
     }
 
     /// Why pages are not changed; splits the large pages at the ends if they are.
-    fn begin_change(&mut self, pages: Pages) -> Option<RangeFault> {
+    fn begin_change(&mut self, pages: Pages, user: bool) -> Option<RangeFault> {
         if let Some(page) = self.lowest(pages, false) {
             return Some(RangeFault::NotMapped(page));
+        }
+        if user {
+            if let Some(page) = self.lowest_in_area(pages) {
+                return Some(RangeFault::LeadsIntoArea(page));
+            }
         }
         let splits = self.splits(pages);
         if splits > self.free {
@@ -311,7 +366,7 @@ impl Plain {
         if pages.count == 0 {
             return Ok(());
         }
-        if let Some(fault) = self.begin_change(pages) {
+        if let Some(fault) = self.begin_change(pages, false) {
             return Err(fault);
         }
         for place in pages.first..pages.end() {
@@ -325,16 +380,19 @@ impl Plain {
         Ok(())
     }
 
-    /// Gives the range rights.
-    pub(crate) fn protect_range(&mut self, pages: Pages, rights: Rights) -> Result<(), RangeFault> {
+    /// Gives the range new bits.
+    pub(crate) fn protect_range(&mut self, pages: Pages, given: Given) -> Result<(), RangeFault> {
         if pages.count == 0 {
             return Ok(());
         }
-        if let Some(fault) = self.begin_change(pages) {
+        if let Some(fault) = self.begin_change(pages, given.user()) {
             return Err(fault);
         }
         for place in pages.first..pages.end() {
-            let lead = self.lead(place).map(|lead| Lead { rights, ..lead });
+            let lead = self.lead(place).map(|lead| Lead {
+                bits: given.bits(lead.bits),
+                ..lead
+            });
             self.put(place, lead);
         }
         Ok(())
@@ -353,12 +411,12 @@ impl Plain {
         }
     }
 
-    /// Gives a page rights.
-    pub(crate) fn protect(&mut self, place: u64, rights: Rights) -> Result<(), EntryFault> {
+    /// Gives a page new bits.
+    pub(crate) fn protect(&mut self, place: u64, given: Given) -> Result<(), EntryFault> {
         let pages = Pages {
             first: place,
             count: 1,
         };
-        self.protect_range(pages, rights).map_err(entry_fault_of)
+        self.protect_range(pages, given).map_err(entry_fault_of)
     }
 }

@@ -2,9 +2,9 @@
 ghost use Rattle.std.specs.Prelude.{◌<◌, ◌^◌};
 
 use crate::checks::same;
-use crate::plain::{Frames, Lead, PAGES, Pages, Plain, Slot, page_at};
-use kernel_tables::Tables;
-use paging_core::{Page, PhysAddr, PhysFrame, Rights, Size2MiB};
+use crate::plain::{Frames, Given, Lead, PAGES, Pages, Plain, Slot, page_at};
+use kernel_tables::{EntryFault, MapFault, RangeFault, Tables};
+use paging_core::{Page, PageBits, PhysAddr, PhysFrame, Rights, Size2MiB};
 use std::alloc::Global;
 use std::process::Abort;
 use std::test::Fail;
@@ -25,6 +25,28 @@ fn drawn_rights(state: &mut u64) -> Rights {
         write: draw(state, 2) == 0,
         user: draw(state, 2) == 0,
         fetch: draw(state, 2) == 0,
+    }
+}
+
+/// Half of the time all bits of an entry, else rights.
+fn drawn_given(state: &mut u64) -> Given {
+    let rights = drawn_rights(state);
+    match draw(state, 2) {
+        0 => Given::Only(rights),
+        _ => Given::All(PageBits {
+            through: draw(state, 2) == 0,
+            uncached: draw(state, 2) == 0,
+            global: draw(state, 2) == 0,
+            ..rights.bits()
+        }),
+    }
+}
+
+/// The bits of a new page.
+fn new_bits(given: Given) -> PageBits {
+    match given {
+        Given::All(bits) => bits,
+        Given::Only(rights) => rights.bits(),
     }
 }
 
@@ -64,6 +86,46 @@ fn large(slot: u64) -> Page<Size2MiB> {
     Page::containing_address(page_at(slot.wrapping_mul(512)).start_address())
 }
 
+fn map(
+    tables: &mut Tables<'_>,
+    page: Page,
+    frame: PhysFrame,
+    given: Given,
+) -> Result<(), MapFault> {
+    match given {
+        Given::All(bits) => tables.map_with(page, frame, bits),
+        Given::Only(rights) => tables.map(page, frame, rights),
+    }
+}
+
+fn protect(tables: &mut Tables<'_>, page: Page, given: Given) -> Result<(), EntryFault> {
+    match given {
+        Given::All(bits) => tables.protect_with(page, bits),
+        Given::Only(rights) => tables.protect(page, rights),
+    }
+}
+
+fn map_range(
+    tables: &mut Tables<'_>,
+    pages: Pages,
+    frame: PhysFrame,
+    given: Given,
+) -> Result<(), RangeFault> {
+    let first = page_at(pages.first);
+    match given {
+        Given::All(bits) => tables.map_range_with(first, pages.count, frame, bits),
+        Given::Only(rights) => tables.map_range(first, pages.count, frame, rights),
+    }
+}
+
+fn protect_range(tables: &mut Tables<'_>, pages: Pages, given: Given) -> Result<(), RangeFault> {
+    let first = page_at(pages.first);
+    match given {
+        Given::All(bits) => tables.protect_range_with(first, pages.count, bits),
+        Given::Only(rights) => tables.protect_range(first, pages.count, rights),
+    }
+}
+
 /// Makes a call on both.
 fn turn<R: Abort>(
     rt: &R,
@@ -73,16 +135,16 @@ fn turn<R: Abort>(
     state: &mut u64,
 ) {
     let pages = drawn_pages(state);
-    let rights = drawn_rights(state);
+    let given = drawn_given(state);
     let lead = Lead {
         frame: drawn_frame(state, frames, pages.first),
-        rights,
+        bits: new_bits(given),
     };
     let first = page_at(pages.first);
     match draw(state, 8) {
         0 => same(
             rt,
-            tables.map(first, frame(lead.frame), rights),
+            map(tables, first, frame(lead.frame), given),
             plain.map(pages.first, lead),
         ),
         1 => same(
@@ -92,10 +154,10 @@ fn turn<R: Abort>(
         ),
         2 => same(
             rt,
-            tables.protect(first, rights),
-            plain.protect(pages.first, rights),
+            protect(tables, first, given),
+            plain.protect(pages.first, given),
         ),
-        3 => map_large_both(rt, tables, plain, pages.first / 512, lead),
+        3 => map_large_both(rt, tables, plain, pages.first / 512, lead, given),
         4 => same(
             rt,
             tables
@@ -110,12 +172,12 @@ fn turn<R: Abort>(
         ),
         6 => same(
             rt,
-            tables.protect_range(first, pages.count, rights),
-            plain.protect_range(pages, rights),
+            protect_range(tables, pages, given),
+            plain.protect_range(pages, given),
         ),
         _ => same(
             rt,
-            tables.map_range(first, pages.count, frame(lead.frame), rights),
+            map_range(tables, pages, frame(lead.frame), given),
             plain.map_range(pages, lead),
         ),
     }
@@ -127,27 +189,31 @@ fn map_large_both<R: Abort>(
     plain: &mut Plain,
     slot: u64,
     lead: Lead,
+    given: Given,
 ) {
     let run: PhysFrame<Size2MiB> = PhysFrame::containing_address(frame(lead.frame).start_address());
     let first = Lead {
         frame: run.number().wrapping_mul(512),
-        rights: lead.rights,
+        bits: lead.bits,
     };
-    same(
-        rt,
-        tables.map_large(large(slot), run, lead.rights),
-        plain.map_large(slot, first),
-    );
+    let found = match given {
+        Given::All(bits) => tables.map_large_with(large(slot), run, bits),
+        Given::Only(rights) => tables.map_large(large(slot), run, rights),
+    };
+    same(rt, found, plain.map_large(slot, first));
 }
 
 /// Checks that a page leads to the same place in both.
 fn compare_page<R: Abort>(rt: &R, tables: &Tables<'_>, plain: &Plain, place: u64) {
     let found = tables.walk(page_at(place)).map(|mapped| Lead {
         frame: mapped.frame.number(),
-        rights: Rights {
+        bits: PageBits {
             write: mapped.write,
             user: mapped.user,
             fetch: mapped.fetch,
+            through: mapped.through,
+            uncached: mapped.uncached,
+            global: mapped.global,
         },
     });
     same(rt, found, plain.lead(place));
@@ -202,6 +268,11 @@ fn rounds<R: Abort>(rt: &R, alloc: Global, base: u64) -> Result<(), Fail>
         let Some(mut tables) = Tables::new(&mut words, frames.first, frames.limit) else {
             return Err(Fail::from("no tables"));
         };
+        // in half of the areas the kernel asks for pages of its own that lead there
+        if draw(&mut state, 2) == 0 {
+            tables.share_area();
+            plain.share_area();
+        }
         turns(rt, &mut tables, &mut plain, frames, &mut state);
     }
     Ok(())

@@ -13,7 +13,7 @@ use Rattle.kernel_tables.specs.TableState.{TableState, leads, IsSamePlace, DoTab
 -- ---- one after the other
 
 pub same_place : (old mid new : TableState) → IsSamePlace old mid → IsSamePlace mid new → IsSamePlace old new
-same_place old mid new a b = record { root = b.root ∙ a.root; area = b.area ∙ a.area; size = b.size ∙ a.size }
+same_place old mid new a b = record { root = b.root ∙ a.root; area = b.area ∙ a.area; size = b.size ∙ a.size; shared = b.shared ∙ a.shared }
 
 pub same_tables : (old mid new : TableState) → DoTablesStay old mid → DoTablesStay mid new → DoTablesStay old new
 same_tables old mid new a b = λ l n met lt is. b l n met lt (a l n met lt is)
@@ -39,16 +39,16 @@ module _ {old inside : TableState} {words : List ℕ} {area : Area} {free : List
     (tables : (l n : ℕ) (met : Place) → l < 4 → reach inside.words inside.root l n ≡ Some met → reach words inside.root l n ≡ Some met) where
   pub only_seen : {pages : ℕ → Bool} →
       ((other : ℕ) → IsTrue (is_canonical (other * 4096)) → pages other ≡ false → walk_of words inside.root other ≡ walk_of inside.words inside.root other) →
-      ChangesOnly pages old (record { words = words; area = area; root = inside.root; free = free })
+      ChangesOnly pages old (record { words = words; area = area; root = inside.root; free = free; shared = inside.shared })
   only_seen {pages} elsewhere =
-      subst (λ (s : TableState). ChangesOnly pages s (record { words = words; area = area; root = inside.root; free = free })) view
-      (record { place = record { root = refl; area = same; size = size }; tables = tables; elsewhere = elsewhere })
+      subst (λ (s : TableState). ChangesOnly pages s (record { words = words; area = area; root = inside.root; free = free; shared = inside.shared })) view
+      (record { place = record { root = refl; area = same; size = size; shared = refl }; tables = tables; elsewhere = elsewhere })
 
   pub none_seen : ((other : ℕ) → walk_of words inside.root other ≡ walk_of inside.words inside.root other) →
-      ChangesNone old (record { words = words; area = area; root = inside.root; free = free })
+      ChangesNone old (record { words = words; area = area; root = inside.root; free = free; shared = inside.shared })
   none_seen walks =
-      subst (λ (s : TableState). ChangesNone s (record { words = words; area = area; root = inside.root; free = free })) view
-      (record { place = record { root = refl; area = same; size = size }; tables = tables; walks = walks })
+      subst (λ (s : TableState). ChangesNone s (record { words = words; area = area; root = inside.root; free = free; shared = inside.shared })) view
+      (record { place = record { root = refl; area = same; size = size; shared = refl }; tables = tables; walks = walks })
 
 -- ---- which pages are others
 

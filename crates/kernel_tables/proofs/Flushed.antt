@@ -2,9 +2,9 @@
 use Rattle.std.proofs.Common.{◌≡◌, ℕ, ◌%◌, ◌^◌, Bool, List, Some, arith}
 use Rattle.paging_core.specs.Large.{IsLargeAdded}
 use Rattle.paging_core.specs.Walk.{Place, walk_of}
-use Rattle.paging_core.specs.declared.page_table.Rights.{Rights}
+use Rattle.paging_core.specs.declared.page_table.PageBits.{PageBits}
 
-pub stays_mapped : (old new : List ℕ) (free free' : List Bool) (root page frame : ℕ) (rights : Rights) →
+pub stays_mapped : (old new : List ℕ) (free free' : List Bool) (root page frame : ℕ) (rights : PageBits) →
     IsLargeAdded old new free free' root page frame rights →
     (other : ℕ) (place : Place) → walk_of old root other ≡ Some place → walk_of new root other ≡ Some place
 unfolding walk_of

@@ -8,5 +8,8 @@ pub mod RangeFaults
 pub mod RangeChanged
 pub mod SlotChanges
 pub mod Ends
+pub mod KeptWords
 mod Changed
 mod EntryChanges
+mod Granted
+mod CacheLaws

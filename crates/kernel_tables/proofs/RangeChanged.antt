@@ -11,22 +11,24 @@ use Rattle.paging_core.specs.LargeChanges.{IsLargeSplit, AreLargeGranted}
 use Rattle.paging_core.specs.Pool.{free_count}
 use Rattle.paging_core.specs.Prefix.{prefix_of}
 use Rattle.paging_core.specs.Walk.{Place, reach, large_of, walk_of, place_with, page_in}
-use Rattle.paging_core.specs.declared.page_table.Rights.{Rights}
+use Rattle.paging_core.specs.declared.page_table.PageBits.{PageBits}
 use Rattle.paging_core.proofs.LastEntry.{some_or_none}
 use Rattle.paging_core.proofs.Prefixes.{walk_reach}
 use Rattle.paging_core.proofs.Ranges.{page_canonical}
 use Rattle.paging_core.proofs.Reach.{reach_in, reach_none, large_none}
-use Rattle.kernel_tables.specs.Faults.{entry_fault, split_of}
+use Rattle.kernel_tables.specs.Faults.{entry_fault, protect_fault, split_of}
 use Rattle.kernel_tables.specs.Changes.{ChangesOnly, IsRangeUnmapped, IsRangeGranted}
 use Rattle.kernel_tables.specs.Flush.{page_alone, pages_of_slot, pages_of_range}
-use Rattle.kernel_tables.specs.Ranges.{has_page_of, lies_whole, lies_in_half, lowest_unmapped, is_split, splits, change_range_fault, AreWithin, AreNotLarge, AreSlotsGranted}
-use Rattle.kernel_tables.specs.TableState.{TableState, leads, IsSamePlace, DoTablesStay}
+use Rattle.kernel_tables.specs.Ranges.{has_page_of, lies_whole, lies_in_half, lowest_unmapped, lowest_giving, is_split, splits, change_range_fault, protect_range_fault, AreWithin, AreNotLarge, AreSlotsGranted}
+use Rattle.kernel_tables.specs.TableState.{TableState, leads, place_in, gives_area, IsSamePlace, DoTablesStay}
+use Rattle.kernel_tables.specs.Words.{KeepsOtherWords}
+use Rattle.kernel_tables.proofs.KeptWords.{words_same, words_then, alone_within, slot_within}
 use Rattle.kernel_tables.specs.declared.faults.EntryFault.TheVariants as Entry
-use Rattle.kernel_tables.specs.declared.range_fault.RangeFault.TheVariants.{NotCanonical, NotMapped, NoFrames}
+use Rattle.kernel_tables.specs.declared.range_fault.RangeFault.TheVariants.{NotCanonical, NotMapped, LeadsIntoArea, NoFrames}
 use Rattle.kernel_tables.proofs.Changed.{same_place, same_tables, page_others, slot_others, range_only}
 use Rattle.kernel_tables.proofs.RangeFaults.{none_of_all}
 use Rattle.kernel_tables.proofs.RangeMapped.{slots_apart}
-use Rattle.kernel_tables.proofs.Sound.{LeadsOutside, same_page}
+use Rattle.kernel_tables.proofs.Sound.{LeadsOutside, same_page, hidden_of}
 use Rattle.kernel_tables.proofs.SlotChanges.{large_at, slot_same, none_whole}
 
 pub is_hole : (o : Option Place) → o ≡ None → IsSome o → ⊥
@@ -82,10 +84,12 @@ pub record IsChangedTo (old now : TableState) (page pages done : ℕ) (change : 
   pub large :
       (slot : ℕ) → IsTrue (is_canonical (512 * slot * 4096)) →
       large_at now slot ≡ cond (has_page_of page done slot) (option_and_then change (large_at old slot)) (large_at old slot)
+  -- the words beside the entries of the range
+  pub words : KeepsOtherWords (pages_of_range page pages) old now
 
 pub changed_start : (old : TableState) (page pages : ℕ) (change : Place → Option Place) → AreWithin old page pages → IsChangedTo old old page pages 0 change
 changed_start old page pages change within = record {
-  place = record { root = refl; area = refl; size = refl };
+  place = record { root = refl; area = refl; size = refl; shared = refl };
   free = refl;
   tables = λ l n met lt is. is;
   within = omega arith;
@@ -93,6 +97,7 @@ changed_start old page pages change within = record {
   elsewhere = λ other canonical out. refl;
   whole = λ slot lo hi some. let w = within slot (omega arith) hi some in let a = w.0 in let b = w.1 in (omega arith, b);
   large = λ slot canonical. refl;
+  words = words_same (pages_of_range page pages) old;
 }
 
 module _ (old now : TableState) (page pages done : ℕ) (change : Place → Option Place)
@@ -114,8 +119,9 @@ module _ (old now : TableState) (page pages done : ℕ) (change : Place → Opti
   module _ (new : TableState) (free : new.free ≡ now.free) where
     pub page_changed : (IsSome (large_of now.words now.root (slot_of ((page + done) / 512))) → ⊥) → ChangesOnly (page_alone (page + done)) now new →
         ((was : Place) → leads now (page + done) ≡ Some was → leads new (page + done) ≡ change was) →
-        ((n : ℕ) → large_of new.words new.root n ≡ large_of now.words now.root n) → IsChangedTo old new page pages (done + 1) change
-    page_changed small only changes larges = record {
+        ((n : ℕ) → large_of new.words new.root n ≡ large_of now.words now.root n) → KeepsOtherWords (page_alone (page + done)) now new →
+        IsChangedTo old new page pages (done + 1) change
+    page_changed small only changes larges words = record {
       place = same_place old now new before.place only.place;
       free = free ∙ before.free;
       tables = same_tables old now new before.tables only.tables;
@@ -132,6 +138,7 @@ module _ (old now : TableState) (page pages done : ℕ) (change : Place → Opti
       large = λ slot canonical.
           larges (slot_of slot)
           ∙ (before.large slot canonical ∙ next slot canonical (cases_Bool (has_page_of page done slot)) (cases_Bool (has_page_of page (done + 1) slot)));
+      words = words_then before.words words before.tables only.tables (λ other e. e) (alone_within page pages (page + done) (omega arith) (omega arith));
     }
       where
         next : (slot : ℕ) → IsTrue (is_canonical (512 * slot * 4096)) → (has_page_of page done slot ≡ true) ⊎ (has_page_of page done slot ≡ false) →
@@ -165,8 +172,9 @@ module _ (old now : TableState) (page pages done : ℕ) (change : Place → Opti
         ((k : ℕ) (was : Place) → k < 512 → leads now (512 * ((page + done) / 512) + k) ≡ Some was → leads new (512 * ((page + done) / 512) + k) ≡ change was) →
         ((n : ℕ) → (n ≡ slot_of ((page + done) / 512) → ⊥) → large_of new.words new.root n ≡ large_of now.words now.root n) →
         ((was : Place) → large_at now ((page + done) / 512) ≡ Some was → large_at new ((page + done) / 512) ≡ change was) →
+        KeepsOtherWords (pages_of_slot ((page + done) / 512)) now new →
         IsChangedTo old new page pages (done + 512) change
-    slot_changed large only changes larges here =
+    slot_changed large only changes larges here words =
         let b = begins_there large in
         let first = b.0 in
         let fits = b.1 in
@@ -181,6 +189,8 @@ module _ (old now : TableState) (page pages done : ℕ) (change : Place → Opti
               ∙ before.elsewhere other canonical (λ k lt e. out k (omega arith) e);
           whole = λ slot lo hi some. whole slot lo hi some (cases_eq slot ((page + done) / 512));
           large = λ slot canonical. turned slot canonical (cases_eq slot ((page + done) / 512));
+          words = words_then before.words words before.tables only.tables (λ other e. e)
+              (slot_within page pages ((page + done) / 512) (omega arith) (omega arith));
         }
       where
         turned : (slot : ℕ) → IsTrue (is_canonical (512 * slot * 4096)) → (slot ≡ (page + done) / 512) ⊎ (slot ≡ (page + done) / 512 → ⊥) →
@@ -284,7 +294,7 @@ last_split old mid page pages range first larges = go (cases_eq ((page + (pages 
         rw (t, l) refl
 
 -- a page of a large page leads into it
-slot_led : (words : List ℕ) (root page : ℕ) (large : Place) (k : ℕ) → k < 512 → large_of words root (slot_of page) ≡ Some large →
+pub slot_led : (words : List ℕ) (root page : ℕ) (large : Place) (k : ℕ) → k < 512 → large_of words root (slot_of page) ≡ Some large →
     walk_of words root (512 * page + k) ≡ Some (page_in k large)
 slot_led words root page large k lt is =
     let up : prefix_of (512 * page + k) 4 / 512 ≡ slot_of page = omega arith in
@@ -306,13 +316,13 @@ gone_all old now page pages mapped all k lk = go (some_or_none (leads old (page 
     go (inl x) = all.changed k x.0 lk x.1
     go (inr none) = absurd (is_hole (leads old (page + k)) none (mapped k lk))
 
-pub granted_all : (old now : TableState) (page pages : ℕ) (rights : Rights) → ((k : ℕ) → k < pages → IsSome (leads old (page + k))) →
-    IsChangedTo old now page pages pages (λ was. Some (place_with was.frame rights)) →
-    (k : ℕ) → k < pages → IfSome (leads old (page + k)) (λ was. leads now (page + k) ≡ Some (place_with was.frame rights))
-granted_all old now page pages rights mapped all k lk = go (some_or_none (leads old (page + k)))
+pub granted_all : (old now : TableState) (page pages : ℕ) (bits : Place → PageBits) → ((k : ℕ) → k < pages → IsSome (leads old (page + k))) →
+    IsChangedTo old now page pages pages (λ was. Some (place_with was.frame (bits was))) →
+    (k : ℕ) → k < pages → IfSome (leads old (page + k)) (λ was. leads now (page + k) ≡ Some (place_with was.frame (bits was)))
+granted_all old now page pages bits mapped all k lk = go (some_or_none (leads old (page + k)))
   where
     go : ((x : Place) × (leads old (page + k) ≡ Some x)) ⊎ (leads old (page + k) ≡ None) →
-        IfSome (leads old (page + k)) (λ was. leads now (page + k) ≡ Some (place_with was.frame rights))
+        IfSome (leads old (page + k)) (λ was. leads now (page + k) ≡ Some (place_with was.frame (bits was)))
     go (inl x) = rw x.1 (all.changed k x.0 lk x.1)
     go (inr none) = absurd (is_hole (leads old (page + k)) none (mapped k lk))
 
@@ -325,13 +335,13 @@ gone_large old now page pages all = λ slot canonical.
     none None = refl
     none (Some x) = refl
 
-pub granted_large : (old now : TableState) (page pages : ℕ) (rights : Rights) → AreWithin old page pages →
-    IsChangedTo old now page pages pages (λ was. Some (place_with was.frame rights)) → AreSlotsGranted old now page pages rights
-granted_large old now page pages rights within all = λ slot canonical.
+pub granted_large : (old now : TableState) (page pages : ℕ) (bits : Place → PageBits) → AreWithin old page pages →
+    IsChangedTo old now page pages pages (λ was. Some (place_with was.frame (bits was))) → AreSlotsGranted old now page pages bits
+granted_large old now page pages bits within all = λ slot canonical.
     all.large slot canonical ∙ go slot (cases_Bool (lies_whole page pages slot)) (cases_Bool (has_page_of page pages slot))
   where
     granted : (o : Option Place) →
-        option_and_then (λ (was : Place). Some (place_with was.frame rights)) o ≡ option_map (λ (was : Place). place_with was.frame rights) o
+        option_and_then (λ (was : Place). Some (place_with was.frame (bits was))) o ≡ option_map (λ (was : Place). place_with was.frame (bits was)) o
     granted None = refl
     granted (Some x) = refl
 
@@ -340,8 +350,8 @@ granted_large old now page pages rights within all = λ slot canonical.
 
     go : (slot : ℕ) → (lies_whole page pages slot ≡ true) ⊎ (lies_whole page pages slot ≡ false) →
         (has_page_of page pages slot ≡ true) ⊎ (has_page_of page pages slot ≡ false) →
-        cond (has_page_of page pages slot) (option_and_then (λ (was : Place). Some (place_with was.frame rights)) (large_at old slot)) (large_at old slot)
-        ≡ cond (lies_whole page pages slot) (option_map (λ (was : Place). place_with was.frame rights) (large_at old slot))
+        cond (has_page_of page pages slot) (option_and_then (λ (was : Place). Some (place_with was.frame (bits was))) (large_at old slot)) (large_at old slot)
+        ≡ cond (lies_whole page pages slot) (option_map (λ (was : Place). place_with was.frame (bits was)) (large_at old slot))
         (cond (has_page_of page pages slot) None (large_at old slot))
     go slot (inl w) (inl h) = rw (w, h) (granted (large_at old slot))
     go slot (inl w) (inr h) = absurd (grind (arith, nat_tests))
@@ -389,29 +399,38 @@ large_there words root page some none = go (some_or_none (large_of words root (s
         let w : walk_of words root page ≡ None = walk_reach words root page ∙ reach_none words root (prefix_of page 4) (rw up none) (rw (up, sym at) l) in
         absurd (is_hole (walk_of words root page) w some)
 
--- each page of a large page that got rights has them
-pub slot_granted : (old new : List ℕ) (root page : ℕ) (rights : Rights) → AreLargeGranted old new root page rights → (k : ℕ) → k < 512 →
-    IfSome (walk_of old root (512 * page + k)) (λ was. walk_of new root (512 * page + k) ≡ Some
-    (place_with was.frame rights))
-slot_granted old new root page rights all k lt = rw (slot_led old root page all.large k lt all.was) (all.there k lt)
+-- bits are the same for each page of a large page
+abbrev pub AreAlike : (Place → PageBits) → Type 0
+AreAlike bits = (large : Place) (k : ℕ) → bits (page_in k large) ≡ bits large
 
-pub slot_outside : (area : Area) (old new : List ℕ) (root page : ℕ) (rights : Rights) →
-    AreLargeGranted old new root page rights → LeadsOutside area old root → LeadsOutside area new root
-slot_outside area old new root page rights all before = λ other place is. go other place is (cases_eq (other / 512 % 2 ^ 27) (slot_of page))
+-- each page of a large page that was given bits has them
+pub slot_granted : (old new : List ℕ) (root page : ℕ) (rights : PageBits) (bits : Place → PageBits) (all : AreLargeGranted old new root page rights) →
+    rights ≡ bits all.large → AreAlike bits → (k : ℕ) → k < 512 →
+    IfSome (walk_of old root (512 * page + k)) (λ was. walk_of new root (512 * page + k) ≡ Some (place_with was.frame (bits was)))
+slot_granted old new root page rights bits all same alike k lt =
+    rw (slot_led old root page all.large k lt all.was, alike all.large k, sym same) (all.there k lt)
+
+pub slot_outside : (shared : Bool) (area : Area) (old new : List ℕ) (root page : ℕ) (rights : PageBits) →
+    AreLargeGranted old new root page rights →
+    ((k : ℕ) → k < 512 → (rights.user && place_in area (walk_of old root (512 * page + k))) ≡ false) →
+    LeadsOutside shared area old root → LeadsOutside shared area new root
+slot_outside shared area old new root page rights all hidden before = λ other place is kept.
+    go other place is kept (cases_eq (other / 512 % 2 ^ 27) (slot_of page))
   where
-    go : (other : ℕ) (place : Place) → walk_of new root other ≡ Some place →
+    go : (other : ℕ) (place : Place) → walk_of new root other ≡ Some place → (shared && not place.user) ≡ false →
         (other / 512 % 2 ^ 27 ≡ slot_of page) ⊎ (other / 512 % 2 ^ 27 ≡ slot_of page → ⊥) → in_area area place.frame ≡ false
-    go other place is (inl e) =
+    go other place is kept (inl e) =
         let same : (512 * page + other % 512) % 2 ^ 36 ≡ other % 2 ^ 36 = omega arith in
         let p : Some (place_with (all.large.frame + other % 512) rights) ≡ Some place =
         sym (all.there (other % 512) (omega arith)) ∙ (same_page new root (512 * page + other % 512) other same ∙ is) in
         let q : place_with (all.large.frame + other % 512) rights ≡ place = cc in
         ap (in_area area) (sym (ap (λ r. r.frame) q))
-        ∙ before (512 * page + other % 512) (page_in (other % 512) all.large) (slot_led old root page all.large (other % 512) (omega arith) all.was)
-    go other place is (inr ne) =
+        ∙ hidden_of shared area old root (512 * page + other % 512) rights.user before (hidden (other % 512) (omega arith)) (page_in (other % 512) all.large)
+        (slot_led old root page all.large (other % 512) (omega arith) all.was) (ap (λ r. shared && not r.user) q ∙ kept)
+    go other place is kept (inr ne) =
         let up : prefix_of other 4 / 512 ≡ other / 512 % 2 ^ 27 = omega arith in
         before other place
-        (walk_reach old root other ∙ (sym (all.others 4 (prefix_of other 4) (omega arith) (λ _ e. ne (sym up ∙ e))) ∙ (sym (walk_reach new root other) ∙ is)))
+        (walk_reach old root other ∙ (sym (all.others 4 (prefix_of other 4) (omega arith) (λ _ e. ne (sym up ∙ e))) ∙ (sym (walk_reach new root other) ∙ is))) kept
 
 -- ---- the split of the ends
 
@@ -488,6 +507,36 @@ no_change_fault state page pages some canonical none =
     go false true None true wanting e z = absurd (cc)
     go false true None false wanting e z = (refl, refl, refl)
 
+-- and none of new bits
+pub record HasNoProtectFault (state : TableState) (page pages : ℕ) (user : Bool) : Type 0 where
+  pub change : HasNoChangeFault state page pages
+  pub hidden : (k : ℕ) → k < pages → gives_area state (page + k) user ≡ false
+
+pub no_protect_fault : (state : TableState) (page pages : ℕ) (user : Bool) → 0 < pages → IsTrue (is_canonical (page * 4096)) →
+    protect_range_fault state page pages user ≡ None → HasNoProtectFault state page pages user
+no_protect_fault state page pages user some canonical none =
+    let zero_not : (pages == 0) ≡ false = grind (arith, nat_tests) in
+    let f = go (pages == 0) (lies_in_half page pages) (lowest_unmapped state page pages) (lowest_giving state page pages user)
+    (ltb (free_count state.free) (splits state page pages)) (splits state page pages - free_count state.free) none
+    zero_not in
+    record {
+      change = no_change_fault state page pages some canonical f.0;
+      hidden = none_of_all (λ at. gives_area state at user) page pages f.1;
+    }
+  where
+    go : (zero half : Bool) (hole giving : Option ℕ) (few : Bool) (wanting : ℕ) →
+        cond zero None (cond (not half) (Some NotCanonical) (option_or (option_map NotMapped hole)
+        (option_or (option_map LeadsIntoArea giving) (cond few (Some (NoFrames wanting)) None)))) ≡ None →
+        zero ≡ false →
+        (cond zero None (cond (not half) (Some NotCanonical) (option_or (option_map NotMapped hole) (cond few (Some (NoFrames wanting)) None))) ≡ None)
+        × (giving ≡ None)
+    go true half hole giving few wanting e z = absurd (cc)
+    go false false hole giving few wanting e z = absurd (cc)
+    go false true (Some x) giving few wanting e z = absurd (cc)
+    go false true None (Some x) few wanting e z = absurd (cc)
+    go false true None None true wanting e z = absurd (cc)
+    go false true None None false wanting e z = (refl, refl)
+
 pub split_parts : (state : TableState) (page pages : ℕ) → IsCanonicalRange page pages →
     splits state page pages
     ≡ cond {A = ℕ} (is_split state page pages (page / 512)) 1 0
@@ -502,13 +551,14 @@ none_split state page = omega arith
 
 -- a range of no pages is changed by nothing
 pub none_unmapped : (state : TableState) (page : ℕ) → IsRangeUnmapped state state page 0
-none_unmapped state page = record { unmapped = λ k lt. absurd (omega arith); free = none_split state page; large = λ slot canonical. refl }
+none_unmapped state page = record { unmapped = λ k lt. absurd (omega arith); free = none_split state page; large = λ slot canonical. refl; words = words_same (pages_of_range page 0) state }
 
-pub none_granted : (state : TableState) (page : ℕ) (rights : Rights) → IsRangeGranted state state page 0 rights
-none_granted state page rights = record {
+pub none_granted : (state : TableState) (page : ℕ) (bits : Place → PageBits) → IsRangeGranted state state page 0 bits
+none_granted state page bits = record {
   granted = λ k lt. absurd (omega arith);
   free = none_split state page;
   large = λ slot canonical. rw (none_whole page slot) refl;
+  words = words_same (pages_of_range page 0) state;
 }
 
 -- ---- single pages
@@ -535,3 +585,40 @@ not_split state page none = rw none refl
 
 pub is_one : (state : TableState) (page : ℕ) → IsSome (large_of state.words state.root (slot_of (page / 512))) → split_of state page ≡ 1
 is_one state page some = rw (some_is (large_of state.words state.root (slot_of (page / 512))) some) refl
+
+-- no fault of a page that is given bits
+pub record IsProtectOk (state : TableState) (page : ℕ) (user : Bool) : Type 0 where
+  pub entry : entry_fault state page ≡ None
+  pub hidden : gives_area state page user ≡ false
+
+pub protect_ok : (state : TableState) (page : ℕ) (user : Bool) → protect_fault state page user ≡ None → IsProtectOk state page user
+protect_ok state page user none =
+    let f = go (is_none (leads state page)) (gives_area state page user) (ltb (free_count state.free) (split_of state page)) none in
+    record { entry = f.0; hidden = f.1 }
+  where
+    go : (away giving few : Bool) →
+        cond away (Some Entry.NotMapped) (cond giving (Some Entry.InArea) (cond few (Some Entry.NoFrames) None)) ≡ None →
+        (cond away (Some Entry.NotMapped) (cond few (Some Entry.NoFrames) None) ≡ None) × (giving ≡ false)
+    go true giving few e = absurd (cc)
+    go false true few e = absurd (cc)
+    go false false true e = absurd (cc)
+    go false false false e = (refl, refl)
+
+-- what hinders no change hinders none by which users would not reach the area
+pub protect_open : (state : TableState) (page : ℕ) (user : Bool) → entry_fault state page ≡ None → gives_area state page user ≡ false →
+    protect_fault state page user ≡ None
+protect_open state page user entry hidden =
+    go (is_none (leads state page)) (gives_area state page user) (ltb (free_count state.free) (split_of state page)) entry hidden
+  where
+    go : (away giving few : Bool) → cond away (Some Entry.NotMapped) (cond few (Some Entry.NoFrames) None) ≡ None → giving ≡ false →
+        cond away (Some Entry.NotMapped) (cond giving (Some Entry.InArea) (cond few (Some Entry.NoFrames) None)) ≡ None
+    go true giving few e f = absurd (cc)
+    go false true few e f = absurd (cc)
+    go false false true e f = absurd (cc)
+    go false false false e f = refl
+
+-- a page that leads where it led, beside the same area
+pub still_open : (old new : TableState) (page : ℕ) (user : Bool) → new.area ≡ old.area → leads new page ≡ leads old page →
+    gives_area old page user ≡ false → gives_area new page user ≡ false
+still_open old new page user area led hidden =
+    ap (λ a. user && place_in a (leads new page)) area ∙ (ap (λ o. user && place_in old.area o) led ∙ hidden)

@@ -2,19 +2,22 @@
 use Rattle.std.proofs.Common.{◌≡◌, ℕ, zero, suc, ◌+◌, ◌-◌, ◌*◌, ◌<◌, Bool, true, false, not, cond, ltb, Option, Some, None, refl, ap, ◌∙◌, ◌⊎◌, inl, inr, arith}
 use Rattle.std.proofs.lemmas.Bool.{cases_Bool}
 use Rattle.std.proofs.lemmas.Bool.Decides.{nat_tests}
-use Rattle.std.specs.Prelude.{is_some, IsTrue, ◌==◌}
+use Rattle.std.specs.Prelude.{is_some, IsTrue, ◌==◌, ◌&&◌}
 use Rattle.std.specs.Option.{option_or, option_map}
 use Rattle.paging_core.specs.Address.{is_canonical}
 use Rattle.paging_core.specs.Area.{area_meets}
 use Rattle.paging_core.specs.Pool.{free_count}
 use Rattle.paging_core.specs.Walk.{Place}
-use Rattle.paging_core.specs.declared.page_table.Rights.{Rights}
+use Rattle.paging_core.specs.declared.page_table.PageBits.{PageBits}
 use Rattle.paging_core.proofs.Ranges.{missing_none}
 use Rattle.kernel_tables.specs.Changes.{IsMappedInARow}
 use Rattle.kernel_tables.specs.Ranges.{lies_in_half, lowest, lowest_mapped, tables_wanted, map_range_fault, becomes_large, AreSlotsLarge, IsMappableRange}
-use Rattle.kernel_tables.specs.TableState.{TableState, leads, limit_of}
+use Rattle.kernel_tables.specs.Flush.{pages_of_range}
+use Rattle.kernel_tables.proofs.KeptWords.{words_same}
+use Rattle.kernel_tables.specs.TableState.{TableState, leads, limit_of, sees_area}
 use Rattle.kernel_tables.specs.declared.range_fault.RangeFault.TheVariants.{NotCanonical, IsMapped, PastLimit, InArea, NoFrames}
 use Rattle.kernel_tables.proofs.RangeMapped.{becomes}
+use Rattle.kernel_tables.proofs.Sound.{unless_first}
 
 -- if there is no lowest number, the test holds for none
 pub none_of_all : (test : ℕ → Bool) (from count : ℕ) → lowest test from count ≡ None → (k : ℕ) → k < count → test (from + k) ≡ false
@@ -34,13 +37,13 @@ unmapped_of : (o : Option Place) → is_some o ≡ false → o ≡ None
 unmapped_of None e = refl
 unmapped_of (Some x) e = absurd (cc)
 
-pub no_range_fault : (state : TableState) (page pages frame : ℕ) → 0 < pages → IsTrue (is_canonical (page * 4096)) →
-    map_range_fault state page pages frame ≡ None →
-    IsMappableRange state page pages frame
-no_range_fault state page pages frame some canonical none =
+pub no_range_fault : (state : TableState) (page pages frame : ℕ) (user : Bool) → 0 < pages → IsTrue (is_canonical (page * 4096)) →
+    map_range_fault state page pages frame user ≡ None →
+    IsMappableRange state page pages frame user
+no_range_fault state page pages frame user some canonical none =
     let zero_not : (pages == 0) ≡ false = grind (arith, nat_tests) in
     let f = go (pages == 0) (lies_in_half page pages) (lowest_mapped state page pages)
-    (ltb (limit_of state) (frame + pages)) (area_meets state.area frame pages)
+    (ltb (limit_of state) (frame + pages)) (not (sees_area state user) && area_meets state.area frame pages)
     (ltb (free_count state.free) (tables_wanted state page pages frame)) (tables_wanted state page pages frame - free_count state.free) none zero_not in
     let half = f.0 in
     let past = f.2 in
@@ -49,7 +52,7 @@ no_range_fault state page pages frame some canonical none =
       range = record { some = some; canonical = canonical; one_half = grind (arith, nat_tests) };
       unmapped = λ k lt. unmapped_of (leads state (page + k)) (none_of_all (λ at. is_some (leads state at)) page pages f.1 k lt);
       below = grind (arith, nat_tests);
-      outside = f.3;
+      outside = unless_first (sees_area state user) (area_meets state.area frame pages) f.3;
       room = grind (arith, nat_tests);
     }
   where
@@ -71,7 +74,7 @@ no_range_fault state page pages frame some canonical none =
 none_wanted : (state : TableState) (page frame : ℕ) → tables_wanted state page 0 frame ≡ 0
 none_wanted state page frame = let z = missing_none state.words state.root page in omega arith
 
-none_large : (state : TableState) (page frame : ℕ) (rights : Rights) → AreSlotsLarge state state page 0 frame rights
+none_large : (state : TableState) (page frame : ℕ) (rights : PageBits) → AreSlotsLarge state state page 0 frame rights
 none_large state page frame rights = λ slot canonical. let e = not_large slot (cases_Bool (becomes_large state page 0 frame slot)) in rw e refl
   where
     not_large : (slot : ℕ) → (becomes_large state page 0 frame slot ≡ true) ⊎ (becomes_large state page 0 frame
@@ -80,9 +83,10 @@ none_large state page frame rights = λ slot canonical. let e = not_large slot (
     not_large slot (inr x) = x
 
 -- a range of no pages is mapped by nothing
-pub none_mapped : (state : TableState) (page frame : ℕ) (rights : Rights) → IsMappedInARow state state page 0 frame rights
+pub none_mapped : (state : TableState) (page frame : ℕ) (rights : PageBits) → IsMappedInARow state state page 0 frame rights
 none_mapped state page frame rights = record {
   mapped = λ k lt. absurd (omega arith);
   free = (let z = none_wanted state page frame in omega arith);
   large = none_large state page frame rights;
+  words = words_same (pages_of_range page 0) state;
 }

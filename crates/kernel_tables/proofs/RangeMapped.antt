@@ -10,7 +10,7 @@ use Rattle.paging_core.specs.Missing.{missing_of}
 use Rattle.paging_core.specs.Pool.{free_count}
 use Rattle.paging_core.specs.Prefix.{prefix_of}
 use Rattle.paging_core.specs.Walk.{Place, reach, large_of, walk_of, place_with}
-use Rattle.paging_core.specs.declared.page_table.Rights.{Rights}
+use Rattle.paging_core.specs.declared.page_table.PageBits.{PageBits}
 use Rattle.paging_core.proofs.Counts.{absent}
 use Rattle.paging_core.proofs.LastEntry.{some_or_none}
 use Rattle.paging_core.proofs.Prefixes.{walk_reach, walk_stops, none_more, small_page}
@@ -19,6 +19,8 @@ use Rattle.paging_core.proofs.Reach.{reach_none}
 use Rattle.kernel_tables.specs.Changes.{ChangesOnly, IsMappedInARow}
 use Rattle.kernel_tables.specs.Flush.{page_alone, pages_of_slot, pages_of_range}
 use Rattle.kernel_tables.specs.Ranges.{lies_whole, becomes_large, tables_wanted, AreSlotsLarge}
+use Rattle.kernel_tables.specs.Words.{KeepsOtherWords}
+use Rattle.kernel_tables.proofs.KeptWords.{words_same, words_then, alone_within, slot_within}
 use Rattle.kernel_tables.specs.TableState.{TableState, leads, IsSamePlace}
 use Rattle.kernel_tables.proofs.Changed.{same_place, page_others, slot_others, range_only}
 use Rattle.kernel_tables.proofs.RangeCounts.{Spanned, spanned, absent_alike, row_less, room_above, room_page, missing_after}
@@ -70,7 +72,7 @@ becomes_is state page pages frame slot b =
     rw (x, y, z, b.no_table) refl
 
 -- the first `done` pages of the range are mapped
-pub record IsMappedTo (old now : TableState) (page pages frame done : ℕ) (rights : Rights) : Type 0 where
+pub record IsMappedTo (old now : TableState) (page pages frame done : ℕ) (rights : PageBits) : Type 0 where
   pub place : IsSamePlace old now
   pub within : done ≤ pages
   pub mapped : (k : ℕ) → k < done → leads now (page + k) ≡ Some (place_with (frame + k) rights)
@@ -85,10 +87,12 @@ pub record IsMappedTo (old now : TableState) (page pages frame done : ℕ) (righ
   pub small : (n : ℕ) → ((slot : ℕ) → Becomes old page pages frame slot → 512 * slot + 512 ≤ page + done → n ≡ slot_of slot → ⊥) →
       large_of now.words old.root n ≡ large_of old.words old.root n
   pub count : free_count now.free + missing_of old.words old.root page pages ≡ free_count old.free + missing_of now.words old.root page pages
+  -- the words beside the entries of the range
+  pub words : KeepsOtherWords (pages_of_range page pages) old now
 
-pub mapped_start : (old : TableState) (page pages frame : ℕ) (rights : Rights) → IsMappedTo old old page pages frame 0 rights
+pub mapped_start : (old : TableState) (page pages frame : ℕ) (rights : PageBits) → IsMappedTo old old page pages frame 0 rights
 mapped_start old page pages frame rights = record {
-  place = record { root = refl; area = refl; size = refl };
+  place = record { root = refl; area = refl; size = refl; shared = refl };
   within = omega arith;
   mapped = λ k lt. absurd (omega arith);
   elsewhere = λ other canonical out. refl;
@@ -98,6 +102,7 @@ mapped_start old page pages frame rights = record {
   large = λ slot b le. let f = b.from in absurd (omega arith);
   small = λ n out. refl;
   count = refl;
+  words = words_same (pages_of_range page pages) old;
 }
 
 -- the slots of one range have different prefixes
@@ -109,7 +114,7 @@ slots_apart page pages a b range al ah bl bh e =
     let half : (page + pages - 1) / 2 ^ 35 ≡ page / 2 ^ 35 = range.one_half in
     omega arith
 
-module _ (old now : TableState) (page pages frame done : ℕ) (rights : Rights)
+module _ (old now : TableState) (page pages frame done : ℕ) (rights : PageBits)
     (range : IsCanonicalRange page pages)
     (before : IsMappedTo old now page pages frame done rights)
     (more : done < pages) where
@@ -272,12 +277,14 @@ module _ (old now : TableState) (page pages frame done : ℕ) (rights : Rights)
     pub page_next : (Becomes old page pages frame ((page + done) / 512) → ⊥) → ChangesOnly (page_alone (page + done)) now new →
         IsPageAdded now.words new.words now.free new.free now.root (page + done) (frame + done) rights →
         missing_of new.words new.root page pages + missing_of now.words now.root (page + done) 1 ≡ missing_of now.words now.root page pages →
-        IsMappedTo old new page pages frame (done + 1) rights
-    page_next not only was missing =
+        KeepsOtherWords (page_alone (page + done)) now new → IsMappedTo old new page pages frame (done + 1) rights
+    page_next not only was missing words =
         let added : IsPageAdded now.words new.words now.free new.free old.root (page + done) (frame + done) rights = rw before.place.root at was in
         record {
           place = same_place old now new before.place only.place;
           within = omega arith;
+          words = words_then before.words words (λ l n met lt is. rw before.place.root (before.tables l n met lt is)) only.tables (λ other e. e)
+              (alone_within page pages (page + done) (omega arith) (omega arith));
           mapped = λ k lt. mapped k lt (cases_lt k done);
           elsewhere = λ other canonical out.
               page_others only other canonical (λ e. out done (omega arith) e) ∙ before.elsewhere other canonical (λ k lt e. out k (omega arith) e);
@@ -327,13 +334,15 @@ module _ (old now : TableState) (page pages frame done : ℕ) (rights : Rights)
         ChangesOnly (pages_of_slot ((page + done) / 512)) now new →
         IsLargeAdded now.words new.words now.free new.free now.root ((page + done) / 512) run rights →
         missing_of new.words new.root page pages + missing_above now.words now.root ((page + done) / 512) ≡ missing_of now.words now.root page pages →
-        IsMappedTo old new page pages frame (done + 512) rights
-    slot_next run frames mine first only was missing =
+        KeepsOtherWords (pages_of_slot ((page + done) / 512)) now new → IsMappedTo old new page pages frame (done + 512) rights
+    slot_next run frames mine first only was missing words =
         let added : IsLargeAdded now.words new.words now.free new.free old.root ((page + done) / 512) run rights = rw before.place.root at was in
         let to = mine.to in
         record {
           place = same_place old now new before.place only.place;
           within = omega arith;
+          words = words_then before.words words (λ l n met lt is. rw before.place.root (before.tables l n met lt is)) only.tables (λ other e. e)
+              (slot_within page pages ((page + done) / 512) (omega arith) (omega arith));
           mapped = λ k lt. mapped k lt (cases_lt k done);
           elsewhere = λ other canonical out.
               slot_others only other canonical (λ e. out (other - page) (omega arith) (omega arith))
@@ -392,7 +401,7 @@ there_of : (o : Option Place) → (o ≡ None → ⊥) → is_none o ≡ false
 there_of None h = absurd (h refl)
 there_of (Some x) h = refl
 
-mapped_free : (old now : TableState) (page pages frame : ℕ) (rights : Rights) → IsCanonicalRange page pages →
+mapped_free : (old now : TableState) (page pages frame : ℕ) (rights : PageBits) → IsCanonicalRange page pages →
     ((k : ℕ) → k < pages → leads old (page + k) ≡ None) → IsMappedTo old now page pages frame pages rights →
     free_count now.free + tables_wanted old page pages frame ≡ free_count old.free
 mapped_free old now page pages frame rights range unmapped all =
@@ -441,7 +450,7 @@ mapped_free old now page pages frame rights range unmapped all =
         unmapped_at k lk (walk_reach now.words old.root (page + k) ∙ reach_none now.words old.root (prefix_of (page + k) 4) (rw up none) (rw up small))
     there s k (suc (suc (suc (suc l)))) lk pos lt out none = absurd (omega arith)
 
-mapped_large : (old now : TableState) (page pages frame : ℕ) (rights : Rights) → IsCanonicalRange page pages →
+mapped_large : (old now : TableState) (page pages frame : ℕ) (rights : PageBits) → IsCanonicalRange page pages →
     IsMappedTo old now page pages frame pages rights →
     AreSlotsLarge old now page pages frame rights
 mapped_large old now page pages frame rights range all = λ slot canonical.
@@ -466,16 +475,17 @@ mapped_large old now page pages frame rights range all = λ slot canonical.
         let z : true ≡ false = sym large ∙ e in absurd (cc)))
 
 -- only pages of the range are changed, and no table is gone
-pub mapped_only : (old now : TableState) (page pages frame : ℕ) (rights : Rights) →
+pub mapped_only : (old now : TableState) (page pages frame : ℕ) (rights : PageBits) →
     IsMappedTo old now page pages frame pages rights → ChangesOnly (pages_of_range page pages) old now
 mapped_only old now page pages frame rights all = range_only page pages all.place
     (λ l n met lt is. ap (λ r. reach now.words r l n) all.place.root ∙ all.tables l n met lt is) all.elsewhere
 
-pub mapped_range : (old now : TableState) (page pages frame : ℕ) (rights : Rights) → IsCanonicalRange page pages →
+pub mapped_range : (old now : TableState) (page pages frame : ℕ) (rights : PageBits) → IsCanonicalRange page pages →
     ((k : ℕ) → k < pages → leads old (page + k) ≡ None) →
     IsMappedTo old now page pages frame pages rights → IsMappedInARow old now page pages frame rights
 mapped_range old now page pages frame rights range unmapped all = record {
   mapped = all.mapped;
   free = mapped_free old now page pages frame rights range unmapped all;
   large = mapped_large old now page pages frame rights range all;
+  words = all.words;
 }

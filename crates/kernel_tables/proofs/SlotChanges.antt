@@ -8,7 +8,7 @@ use Rattle.paging_core.specs.Address.{is_canonical}
 use Rattle.paging_core.specs.Large.{slot_of}
 use Rattle.paging_core.specs.Prefix.{prefix_of}
 use Rattle.paging_core.specs.Walk.{Place, reach, large_of, place_with}
-use Rattle.paging_core.specs.declared.page_table.Rights.{Rights}
+use Rattle.paging_core.specs.declared.page_table.PageBits.{PageBits}
 use Rattle.paging_core.proofs.LastEntry.{some_or_none}
 use Rattle.paging_core.proofs.Ranges.{same_number}
 use Rattle.paging_core.proofs.Reach.{table_none}
@@ -129,15 +129,15 @@ cut_or_has page pages slot = go (has_page_of page pages slot) (lies_whole page p
     go false true = refl
     go false false = refl
 
-pub granted_then : (old mid new : TableState) (page pages : ℕ) (rights : Rights) → AreNotLarge (is_cut page pages) old mid →
-    AreSlotsGranted mid new page pages rights → AreSlotsGranted old new page pages rights
-granted_then old mid new page pages rights before after = λ slot canonical.
+pub granted_then : (old mid new : TableState) (page pages : ℕ) (bits : Place → PageBits) → AreNotLarge (is_cut page pages) old mid →
+    AreSlotsGranted mid new page pages bits → AreSlotsGranted old new page pages bits
+granted_then old mid new page pages bits before after = λ slot canonical.
     after slot canonical
     ∙ go (has_page_of page pages slot) (lies_whole page pages slot) (large_at old slot) (large_at mid slot) (before slot canonical)
   where
     go : (a b : Bool) (was is : Option Place) → is ≡ cond (a && not b) None was →
-        cond b (option_map (λ (large : Place). place_with large.frame rights) is) (cond a None is)
-        ≡ cond b (option_map (λ (large : Place). place_with large.frame rights) was) (cond a None was)
+        cond b (option_map (λ (large : Place). place_with large.frame (bits large)) is) (cond a None is)
+        ≡ cond b (option_map (λ (large : Place). place_with large.frame (bits large)) was) (cond a None was)
     go true true was is e = rw e refl
     go true false was is e = refl
     go false true was is e = rw e refl

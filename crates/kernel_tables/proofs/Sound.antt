@@ -1,91 +1,127 @@
 -- What stays true of tables in an area.
 use Rattle.std.proofs.Common.{◌≡◌, ℕ, ◌+◌, ◌-◌, ◌*◌, ◌%◌, ◌^◌, ◌<◌, ◌≤◌, Bool, true, false, not, cond, ltb, List, length, Option, Some, None, refl, sym, ap, ◌∙◌, ◌⊎◌, inl, inr, arith}
-use Rattle.std.proofs.lemmas.Bool.{cases_Bool, cases_eq, cases_lt}
+use Rattle.std.proofs.lemmas.Bool.{cases_eq, cases_lt}
 use Rattle.std.proofs.lemmas.Bool.Decides.{nat_tests}
-use Rattle.std.specs.Prelude.{is_some}
+use Rattle.std.specs.Prelude.{is_some, ◌&&◌}
 use Rattle.paging_core.specs.Ahead.{ahead}
 use Rattle.paging_core.specs.Area.{Area, Whole, Part, in_area, with_zeros_around}
 use Rattle.paging_core.specs.Memory.{frame_count}
 use Rattle.paging_core.specs.Missing.{missing_of}
 use Rattle.paging_core.specs.Mapping.{IsPageAdded}
-use Rattle.paging_core.specs.PageChanges.{removal, regrant, ArePagesChanged, only}
+use Rattle.paging_core.specs.PageChanges.{Change, removal, regrant, ArePagesChanged, only}
 use Rattle.paging_core.specs.Pool.{is_frame_free, free_count, FreeIn}
-use Rattle.paging_core.specs.Tree.{IsTreeIn, IsUnmet}
+use Rattle.paging_core.specs.Prefix.{prefix_of}
+use Rattle.paging_core.specs.Tree.{IsUnmet, IsRunUnmet}
 use Rattle.paging_core.specs.Walk.{Place, reach, walk_of, place_with}
-use Rattle.paging_core.specs.declared.page_table.Rights.{Rights}
+use Rattle.paging_core.specs.declared.page_table.PageBits.{PageBits}
 use Rattle.paging_core.proofs.Ahead.{ahead_in, ahead_here}
 use Rattle.paging_core.proofs.AreaWalk.{area_walks}
-use Rattle.paging_core.proofs.Areas.{free_inside}
 use Rattle.paging_core.proofs.Padded.{count_padded}
-use Rattle.paging_core.proofs.PageChanged.{met_before, removal_keeps, regrant_keeps}
+use Rattle.paging_core.proofs.PageChanged.{page_leads, other_walk}
+use Rattle.paging_core.proofs.Prefixes.{walk_reach}
 use Rattle.kernel_tables.specs.Faults.{map_fault, IsPageMappable}
-use Rattle.kernel_tables.specs.TableState.{TableState, leads, limit_of, AreSound, IsWalkedAlike}
+use Rattle.kernel_tables.specs.TableState.{TableState, leads, limit_of, place_in, sees_area, AreSound, IsWalkedAlike}
 use Rattle.kernel_tables.specs.declared.faults.MapFault.TheVariants.{IsMapped, PastLimit, InArea, NoFrames}
 
--- a frame outside the area is not free, and no table's
-pub outside_used : (area : Area) (free : List Bool) (count frame : ℕ) → FreeIn area free count → in_area area frame ≡ false → is_frame_free free frame ≡ false
-outside_used area free count frame known out = go (cases_Bool (is_frame_free free frame))
+-- in a part of the memory a page may be mapped to any frame
+pub part_unmet : (area : Area) (words : List ℕ) (root frame : ℕ) → (area ≡ Whole → ⊥) → IsUnmet area words root frame
+part_unmet Whole words root frame part = absurd (part refl)
+part_unmet (Part first end) words root frame part = tt
+
+pub part_run_unmet : (area : Area) (words : List ℕ) (root frame : ℕ) → (area ≡ Whole → ⊥) → IsRunUnmet area words root frame
+part_run_unmet Whole words root frame part = absurd (part refl)
+part_run_unmet (Part first end) words root frame part = tt
+
+-- no page leads into the area but those that may
+abbrev pub LeadsOutside : Bool → Area → List ℕ → ℕ → Type 0
+LeadsOutside shared area words root =
+    (page : ℕ) (place : Place) → walk_of words root page ≡ Some place → (shared && not place.user) ≡ false → in_area area place.frame ≡ false
+
+pub unless_first : (a b : Bool) → (not a && b) ≡ false → a ≡ false → b ≡ false
+unless_first true b e is = absurd (cc)
+unless_first false b e is = e
+
+pub first_unless : (a b : Bool) → (a ≡ true → b ≡ false) → (a && b) ≡ false
+first_unless false b h = refl
+first_unless true b h = h refl
+
+-- where a page leads by which users would not reach the area
+pub hidden_of : (shared : Bool) (area : Area) (words : List ℕ) (root page : ℕ) (user : Bool) → LeadsOutside shared area words root →
+    (user && place_in area (walk_of words root page)) ≡ false →
+    (was : Place) → walk_of words root page ≡ Some was → (shared && not user) ≡ false → in_area area was.frame ≡ false
+hidden_of shared area words root page true before hidden was at out = sym (ap (place_in area) at) ∙ hidden
+hidden_of shared area words root page false before hidden was at out = before page was at (for_all shared out)
   where
-    go : (is_frame_free free frame ≡ true) ⊎ (is_frame_free free frame ≡ false) → is_frame_free free frame ≡ false
-    go (inr x) = x
-    go (inl x) = let y = free_inside area free count known frame x in absurd (cc)
+    for_all : (s : Bool) → (s && not false) ≡ false → (s && not was.user) ≡ false
+    for_all false e = refl
+    for_all true e = absurd (cc)
 
-pub outside_unmet : (area : Area) (words : List ℕ) (root frame : ℕ) (free : List Bool) → IsTreeIn area words root free →
-    in_area area frame ≡ false → IsUnmet area words root frame
-outside_unmet Whole words root frame free tree out = absurd (cc)
-outside_unmet (Part first end) words root frame free tree out = λ l n met lt is e.
-    let i : in_area (Part first end) met.frame ≡ true = tree.inside l n met lt is in
-    let j : in_area (Part first end) met.frame ≡ false = ap (in_area (Part first end)) e ∙ out in
-    let z : true ≡ false = sym i ∙ j in absurd (cc)
+pub given_outside : (area : Area) (words : List ℕ) (root page : ℕ) (user : Bool) (place : Place) → walk_of words root page ≡ Some place →
+    in_area area place.frame ≡ false → (user && place_in area (walk_of words root page)) ≡ false
+given_outside area words root page user place led out = first_unless user (place_in area (walk_of words root page)) (λ _. ap (place_in area) led ∙ out)
 
--- no page leads into the area
-abbrev pub LeadsOutside : Area → List ℕ → ℕ → Type 0
-LeadsOutside area words root = (page : ℕ) (place : Place) → walk_of words root page ≡ Some place → in_area area place.frame ≡ false
+pub given_none : (a b : Bool) → a ≡ false → (a && b) ≡ false
+given_none a b e = rw e refl
 
 -- two numbers of one page
 pub same_page : (words : List ℕ) (root page other : ℕ) → page % 2 ^ 36 ≡ other % 2 ^ 36 → walk_of words root page ≡ walk_of words root other
 unfolding walk_of
 same_page words root page other e = ap (reach words root 4) e
 
-pub added_outside : (area : Area) (old new : List ℕ) (free free' : List Bool) (root page frame : ℕ) (rights : Rights) →
-    IsPageAdded old new free free' root page frame rights → in_area area frame ≡ false → LeadsOutside area old root → LeadsOutside area new root
-added_outside area old new free free' root page frame rights added out before other place is = go (cases_eq (other % 2 ^ 36) (page % 2 ^ 36))
+pub added_outside : (shared : Bool) (area : Area) (old new : List ℕ) (free free' : List Bool) (root page frame : ℕ) (rights : PageBits) →
+    IsPageAdded old new free free' root page frame rights → ((shared && not rights.user) ≡ false → in_area area frame ≡ false) →
+    LeadsOutside shared area old root → LeadsOutside shared area new root
+added_outside shared area old new free free' root page frame rights added out before other place is kept = go (cases_eq (other % 2 ^ 36) (page % 2 ^ 36))
   where
     go : (other % 2 ^ 36 ≡ page % 2 ^ 36) ⊎ (other % 2 ^ 36 ≡ page % 2 ^ 36 → ⊥) → in_area area place.frame ≡ false
     go (inl e) =
         let p : Some (place_with frame rights) ≡ Some place = sym added.there
         ∙ (same_page new root page other (sym e) ∙ is) in
         let q : place_with frame rights ≡ place = cc in
-        ap (in_area area) (sym (ap (λ r. r.frame) q)) ∙ out
-    go (inr ne) = before other place (sym (added.pages other ne) ∙ is)
+        ap (in_area area) (sym (ap (λ r. r.frame) q)) ∙ out (ap (λ r. shared && not r.user) q ∙ kept)
+    go (inr ne) = before other place (sym (added.pages other ne) ∙ is) kept
 
--- if each page that is met was met before, at the same frame
-outside_kept : (area : Area) (old new : List ℕ) (root : ℕ) → LeadsOutside area old root →
-    ((n : ℕ) (b : Place) → reach new root 4 n ≡ Some b → (p : Place) × (reach old root 4 n ≡ Some p) × (p.frame ≡ b.frame)) → LeadsOutside area new root
-unfolding walk_of
-outside_kept area old new root before met page place is =
-    let p = met (page % 2 ^ 36) place is in
-    ap (in_area area) (sym p.2) ∙ before page p.0 p.1
+-- if the changed page does not lead into the area, or users do not reach it
+changed_outside : (shared : Bool) (area : Area) (old new : List ℕ) (root page : ℕ) (change : Change) → ArePagesChanged old new root change (only page) →
+    ((was now : Place) → walk_of old root page ≡ Some was → change.leads was ≡ Some now → (shared && not now.user) ≡ false →
+    in_area area now.frame ≡ false) →
+    LeadsOutside shared area old root → LeadsOutside shared area new root
+changed_outside shared area old new root page change all here before other place is kept = go (cases_eq (other % 2 ^ 36) (page % 2 ^ 36))
+  where
+    go : (other % 2 ^ 36 ≡ page % 2 ^ 36) ⊎ (other % 2 ^ 36 ≡ page % 2 ^ 36 → ⊥) → in_area area place.frame ≡ false
+    go (inl e) =
+        let m = all.mapped (prefix_of page 4) (grind (arith, nat_tests)) in
+        let was : walk_of old root page ≡ Some m.0 = walk_reach old root page ∙ m.1 in
+        let now : walk_of new root page ≡ Some place = same_page new root page other (sym e) ∙ is in
+        here m.0 place was (sym (page_leads old new root page change all m.0 was) ∙ now) kept
+    go (inr ne) = before other place (sym (other_walk old new root page change all other ne) ∙ is) kept
 
-pub removed_outside : (area : Area) (old new : List ℕ) (root page : ℕ) → ArePagesChanged old new root removal (only page) →
-    LeadsOutside area old root → LeadsOutside area new root
-removed_outside area old new root page all before = outside_kept area old new root before
-    (λ n b is. met_before old new root removal (only page) all removal_keeps 4 n b (omega arith) is)
+pub removed_outside : (shared : Bool) (area : Area) (old new : List ℕ) (root page : ℕ) → ArePagesChanged old new root removal (only page) →
+    LeadsOutside shared area old root → LeadsOutside shared area new root
+removed_outside shared area old new root page all before = changed_outside shared area old new root page removal all
+    (λ was now at e user. let x : ◌≡◌ {A = Option Place} None (Some now) = e in absurd (cc)) before
 
-pub regranted_outside : (area : Area) (old new : List ℕ) (root page : ℕ) (rights : Rights) → ArePagesChanged old new root (regrant rights) (only page) →
-    LeadsOutside area old root → LeadsOutside area new root
-regranted_outside area old new root page rights all before = outside_kept area old new root before
-    (λ n b is. met_before old new root (regrant rights) (only page) all (regrant_keeps rights) 4 n b (omega arith) is)
+pub regranted_outside : (shared : Bool) (area : Area) (old new : List ℕ) (root page : ℕ) (rights : PageBits) → ArePagesChanged old new root (regrant rights) (only page) →
+    ((was : Place) → walk_of old root page ≡ Some was → (shared && not rights.user) ≡ false → in_area area was.frame ≡ false) →
+    LeadsOutside shared area old root → LeadsOutside shared area new root
+regranted_outside shared area old new root page rights all hidden before = changed_outside shared area old new root page (regrant rights) all granted before
+  where
+    granted : (was now : Place) → walk_of old root page ≡ Some was → (regrant rights).leads was ≡ Some now →
+        (shared && not now.user) ≡ false → in_area area now.frame ≡ false
+    granted was now at e kept =
+        let x : Some (place_with was.frame rights) ≡ Some now = e in
+        let q : place_with was.frame rights ≡ now = cc in
+        ap (in_area area) (sym (ap (λ r. r.frame) q)) ∙ hidden was at (ap (λ r. shared && not r.user) q ∙ kept)
 
 -- no fault of a page
-pub no_fault : (state : TableState) (page frame : ℕ) → map_fault state page frame ≡ None → IsPageMappable state page frame
-no_fault state page frame none =
-    let f = go (leads state page) (not (ltb frame (limit_of state))) (in_area state.area frame)
+pub no_fault : (state : TableState) (page frame : ℕ) (user : Bool) → map_fault state page frame user ≡ None → IsPageMappable state page frame user
+no_fault state page frame user none =
+    let f = go (leads state page) (not (ltb frame (limit_of state))) (not (sees_area state user) && in_area state.area frame)
     (ltb (free_count state.free) (missing_of state.words state.root page 1)) none in
     record {
       unmapped = f.0;
       below = (let b = f.1 in grind (arith, nat_tests));
-      outside = f.2;
+      outside = unless_first (sees_area state user) (in_area state.area frame) f.2;
       room = (let b = f.3 in grind (arith, nat_tests));
     }
   where

@@ -1,6 +1,7 @@
 -- How page tables begin.
-use Rattle.std.specs.Prelude.{◌≡◌, ℕ, ◌+◌, ◌/◌, ◌%◌, ◌^◌, ◌<◌, ◌≤◌, None}
-use Rattle.paging_core.specs.Area.{Part}
+use Rattle.std.specs.Prelude.{◌≡◌, ℕ, ◌+◌, ◌/◌, ◌%◌, ◌^◌, ◌<◌, ◌≤◌, false, List, None}
+use Rattle.paging_core.specs.Area.{Part, with_zeros_around}
+use Rattle.paging_core.specs.Memory.{word_at}
 use Rattle.paging_core.specs.Pool.{free_count}
 use Rattle.kernel_tables.specs.TableState.{TableState, leads, limit_of}
 
@@ -20,3 +21,9 @@ pub record AreBegun (count first limit : ℕ) (tables : TableState) : Type 0 whe
   pub area : tables.area ≡ Part first (first + count / 512)
   pub left : free_count tables.free + 1 ≡ count / 512
   pub limit_is : limit_of tables ≡ limit
+  pub hidden : tables.shared ≡ false
+
+-- Of the words that were lent only those of the first frame may have changed.
+abbrev pub AreOthersAsLent : (lent : List ℕ) → (first limit : ℕ) → (tables : TableState) → Type 0
+AreOthersAsLent lent first limit tables =
+    (frame index : ℕ) → index < 512 → (frame ≡ first → ⊥) → word_at tables.words frame index ≡ word_at (with_zeros_around lent first limit) frame index

@@ -7,11 +7,11 @@ use Rattle.paging_core.specs.Large.{slot_of}
 use Rattle.paging_core.specs.Missing.{is_missing, missing_of}
 use Rattle.paging_core.specs.Pool.{free_count}
 use Rattle.paging_core.specs.Prefix.{prefixes_from}
-use Rattle.paging_core.specs.Walk.{large_of, reach, place_with}
-use Rattle.paging_core.specs.declared.page_table.Rights.{Rights}
-use Rattle.kernel_tables.specs.TableState.{TableState, leads, limit_of, IsLarge}
+use Rattle.paging_core.specs.Walk.{Place, large_of, reach, place_with}
+use Rattle.paging_core.specs.declared.page_table.PageBits.{PageBits}
+use Rattle.kernel_tables.specs.TableState.{TableState, leads, limit_of, gives_area, sees_area, IsLarge}
 use Rattle.kernel_tables.specs.declared.range_fault.RangeFault.{RangeFault}
-use Rattle.kernel_tables.specs.declared.range_fault.RangeFault.TheVariants.{NotCanonical, IsMapped, NotMapped, PastLimit, InArea, NoFrames}
+use Rattle.kernel_tables.specs.declared.range_fault.RangeFault.TheVariants.{NotCanonical, IsMapped, NotMapped, PastLimit, InArea, LeadsIntoArea, NoFrames}
 
 -- the page is one of the slot's 512: it has the same first three indices
 abbrev pub is_slot_of : ℕ → ℕ → Bool
@@ -58,27 +58,27 @@ abbrev pub tables_wanted : TableState → ℕ → ℕ → ℕ → ℕ
 tables_wanted state page pages frame = missing_of state.words state.root page pages - large_count state page pages frame
 
 -- The first of the causes that holds: the range leaves its canonical half; a page is mapped; a frame is not below the limit, or
--- is one of the area; the free frames are too few. A range of no pages is never refused.
-abbrev pub map_range_fault : TableState → ℕ → ℕ → ℕ → Option RangeFault
-map_range_fault state page pages frame =
+-- is one of the area, into which the pages may not lead; the free frames are too few. A range of no pages is never refused.
+abbrev pub map_range_fault : TableState → ℕ → ℕ → ℕ → Bool → Option RangeFault
+map_range_fault state page pages frame user =
     (if pages == 0 then None
     else if not (lies_in_half page pages) then Some NotCanonical
     else option_or (option_map IsMapped (lowest_mapped state page pages))
     (if nat_lt (limit_of state) (frame + pages) then Some PastLimit
-    else if area_meets state.area frame pages then Some InArea
+    else if not (sees_area state user) && area_meets state.area frame pages then Some InArea
     else if nat_lt (free_count state.free) (tables_wanted state page pages frame) then Some (NoFrames (tables_wanted state page pages frame - free_count state.free))
     else None))
 
--- Nothing hinders that the range is mapped to the frames.
-pub record IsMappableRange (state : TableState) (page pages frame : ℕ) : Type 0 where
+-- Nothing hinders that the range is mapped to the frames, for users or not.
+pub record IsMappableRange (state : TableState) (page pages frame : ℕ) (user : Bool) : Type 0 where
   pub range : IsCanonicalRange page pages
   pub unmapped : (k : ℕ) → k < pages → leads state (page + k) ≡ None
   pub below : frame + pages ≤ limit_of state
-  pub outside : area_meets state.area frame pages ≡ false
+  pub outside : sees_area state user ≡ false → area_meets state.area frame pages ≡ false
   pub room : tables_wanted state page pages frame ≤ free_count state.free
 
 -- After the range was mapped, exactly the slots that became large are large, besides those that were before.
-abbrev pub AreSlotsLarge : TableState → TableState → ℕ → ℕ → ℕ → Rights → Type 0
+abbrev pub AreSlotsLarge : TableState → TableState → ℕ → ℕ → ℕ → PageBits → Type 0
 AreSlotsLarge old new page pages frame rights =
     (slot : ℕ) → IsTrue (is_canonical (512 * slot * 4096)) →
     large_of new.words new.root (slot_of slot)
@@ -90,13 +90,13 @@ AreNotLarge slots old new =
     (slot : ℕ) → IsTrue (is_canonical (512 * slot * 4096)) →
     large_of new.words new.root (slot_of slot) ≡ (if slots slot then None else large_of old.words old.root (slot_of slot))
 
--- After the range was given the rights, a slot that lies whole in it is large as it was, with these rights. A slot that has pages
--- of the range and others is not large, and each other slot is large as it was.
-abbrev pub AreSlotsGranted : TableState → TableState → ℕ → ℕ → Rights → Type 0
-AreSlotsGranted old new page pages rights =
+-- After the range was given these bits, a slot that lies whole in it is large as it was, with them. A slot that has pages of the
+-- range and others is not large, and each other slot is large as it was.
+abbrev pub AreSlotsGranted : TableState → TableState → ℕ → ℕ → (Place → PageBits) → Type 0
+AreSlotsGranted old new page pages bits =
     (slot : ℕ) → IsTrue (is_canonical (512 * slot * 4096)) →
     large_of new.words new.root (slot_of slot)
-    ≡ (if lies_whole page pages slot then option_map (λ was. place_with was.frame rights) (large_of old.words old.root (slot_of slot))
+    ≡ (if lies_whole page pages slot then option_map (λ was. place_with was.frame (bits was)) (large_of old.words old.root (slot_of slot))
     else if has_page_of page pages slot then None
     else large_of old.words old.root (slot_of slot))
 
@@ -126,6 +126,20 @@ change_range_fault state page pages =
     else if not (lies_in_half page pages) then Some NotCanonical
     else option_or (option_map NotMapped (lowest_unmapped state page pages))
     (if nat_lt (free_count state.free) (splits state page pages) then Some (NoFrames (splits state page pages - free_count state.free)) else None))
+
+-- the lowest page of the range by which users would reach the area if they reached it
+abbrev pub lowest_giving : TableState → ℕ → ℕ → Bool → Option ℕ
+lowest_giving state page pages user = lowest (λ at. gives_area state at user) page pages
+
+-- The first of the causes that holds: the range leaves its canonical half; a page is not mapped; users would reach the area by a
+-- page; the free frames are too few for the large pages that are split. A range of no pages is never refused.
+abbrev pub protect_range_fault : TableState → ℕ → ℕ → Bool → Option RangeFault
+protect_range_fault state page pages user =
+    (if pages == 0 then None
+    else if not (lies_in_half page pages) then Some NotCanonical
+    else option_or (option_map NotMapped (lowest_unmapped state page pages))
+    (option_or (option_map LeadsIntoArea (lowest_giving state page pages user))
+    (if nat_lt (free_count state.free) (splits state page pages) then Some (NoFrames (splits state page pages - free_count state.free)) else None)))
 
 -- Each large page that maps a page of the range lies whole in it.
 abbrev pub AreWithin : TableState → ℕ → ℕ → Type 0

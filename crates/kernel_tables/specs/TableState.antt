@@ -1,7 +1,7 @@
 -- Page tables in an area of frames, beside the free frames of the area.
-use Rattle.std.specs.Prelude.{◌≡◌, ℕ, ◌*◌, ◌^◌, ◌<◌, ◌≤◌, Bool, true, false, List, length, IsSome, IsTrue, Option, Some}
+use Rattle.std.specs.Prelude.{◌≡◌, ℕ, ◌*◌, ◌^◌, ◌<◌, ◌≤◌, ◌&&◌, not, Bool, true, false, List, length, IsSome, IsTrue, Option, Some, None}
 use Rattle.paging_core.specs.Address.{is_canonical}
-use Rattle.paging_core.specs.Area.{Area, in_area}
+use Rattle.paging_core.specs.Area.{Area, Whole, in_area}
 use Rattle.paging_core.specs.Large.{slot_of}
 use Rattle.paging_core.specs.Memory.{word_at, frame_count}
 use Rattle.paging_core.specs.Missing.{missing_of}
@@ -18,6 +18,8 @@ pub record TableState : Type 0 where
   pub root : ℕ
   -- a flag for each frame: no other is free
   pub free : List Bool
+  -- the kernel asked for pages of its own that lead into the area
+  pub shared : Bool
 
 -- it is the number of a page: the addresses of the page are canonical
 abbrev pub IsPage : ℕ → Type 0
@@ -44,12 +46,27 @@ pub record HasOwnEntry (state : TableState) (page : ℕ) : Type 0 where
 abbrev pub limit_of : TableState → ℕ
 limit_of state = frame_count state.words
 
--- The tables are a tree in the area, the free frames lie there, and no page leads into it.
+-- the place is a frame of the area
+abbrev pub place_in : Area → Option Place → Bool
+place_in area None = false
+place_in area (Some place) = in_area area place.frame
+
+-- users would reach the area by the page if they reached the page
+abbrev pub gives_area : TableState → ℕ → Bool → Bool
+gives_area state page user = user && place_in state.area (leads state page)
+
+-- A page may lead into the area: users do not reach it, and the kernel asked for such pages.
+abbrev pub sees_area : TableState → Bool → Bool
+sees_area state user = state.shared && not user
+
+-- The tables are a tree in the area, the free frames lie there, and no page leads into it but those that may.
 pub record AreSound (state : TableState) : Type 0 where
   pub root_in : state.root < frame_count state.words
   pub tree : IsTreeIn state.area state.words state.root state.free
   pub known : FreeIn state.area state.free (frame_count state.words)
-  pub apart : (page : ℕ) (place : Place) → leads state page ≡ Some place → in_area state.area place.frame ≡ false
+  pub apart : (page : ℕ) (place : Place) → leads state page ≡ Some place → sees_area state place.user ≡ false → in_area state.area place.frame ≡ false
+  -- a part of the memory
+  pub part : state.area ≡ Whole → ⊥
 
 -- the machine's memory has the words of the area, and any others elsewhere
 abbrev pub HasArea : List ℕ → TableState → Type 0
@@ -63,11 +80,12 @@ IsWalkedAlike state =
     (real : List ℕ) (page width : ℕ) → HasArea real state → 4096 * limit_of state ≤ 2 ^ width →
     (page_of (processor_walk width real state.root page) ≡ leads state page) × (is_refused (processor_walk width real state.root page) ≡ false)
 
--- the root, the area and the limit stay
+-- the root, the area and the limit stay, and whether the kernel's pages may lead into the area
 pub record IsSamePlace (old new : TableState) : Type 0 where
   pub root : new.root ≡ old.root
   pub area : new.area ≡ old.area
   pub size : length new.words ≡ length old.words
+  pub shared : new.shared ≡ old.shared
 
 -- each table that was met is met where it was
 abbrev pub DoTablesStay : TableState → TableState → Type 0

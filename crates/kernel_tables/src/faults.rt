@@ -12,7 +12,7 @@ pub enum MapFault {
     /// Its frame is not below the limit.
     #[error("the frame is past the limit")]
     PastLimit,
-    /// Its frame is one of the tables' area.
+    /// Its frame is one of the tables' area, and users would reach it, or the kernel did not ask for such pages.
     #[error("the frame lies in the area of the tables")]
     InArea,
     /// The frames of the area that are free are too few for the tables that the page misses.
@@ -29,6 +29,9 @@ pub enum EntryFault {
     /// The page is not mapped.
     #[error("the page is not mapped")]
     NotMapped,
+    /// It leads into the tables' area, and users would reach it.
+    #[error("the page leads into the area of the tables")]
+    InArea,
     /// The page is part of a large one, and no frame of the area is free for the table that splits it.
     #[error("no frame for the table that splits the large page")]
     NoFrames,

@@ -2,6 +2,7 @@
 ghost use Rattle.std.specs.Prelude.{◌≡◌, ◌+◌, ◌*◌, ◌<◌, ◌↔◌, None, Some, IsSome, IfSome, OnOk};
 ghost use Rattle.std.specs.Option.{option_map};
 ghost use Rattle.paging_core.specs.Large.{slot_of, missing_above};
+ghost use Rattle.paging_core.specs.PageBits.{bits_of};
 ghost use Rattle.paging_core.specs.Walk.{reach, large_of, mapped_place};
 ghost use Rattle.kernel_tables.specs.Changes.{ChangesOnly, IsChange, IsLargeMapped, IsLargeUnmapped};
 ghost use Rattle.kernel_tables.specs.Faults.{map_large_fault};
@@ -11,8 +12,8 @@ ghost use Rattle.kernel_tables.specs.TableState.{IsLarge};
 use crate::faults::MapFault;
 use crate::tables::Tables;
 use paging_core::{
-    Mapped, Page, PhysFrame, PhysicalMemory, Rights, Size2MiB, has_table, large_page, map_large,
-    missing_tables, unmap_large,
+    Mapped, Page, PageBits, PhysFrame, PhysicalMemory, Rights, Size2MiB, has_table, large_page,
+    map_large, missing_tables, unmap_large,
 };
 
 impl<'a> Tables<'a> {
@@ -35,8 +36,13 @@ impl<'a> Tables<'a> {
     }
 
     /// Why the large page is not mapped to the frames, if it is not.
-    fn map_large_fault(&self, page: Page<Size2MiB>, frame: PhysFrame<Size2MiB>) -> Option<MapFault>
-        ensures { result ≡ map_large_fault self.now page frame }
+    fn map_large_fault(
+        &self,
+        page: Page<Size2MiB>,
+        frame: PhysFrame<Size2MiB>,
+        user: bool,
+    ) -> Option<MapFault>
+        ensures { result ≡ map_large_fault self.now page frame user }
     {
         if large_page(&self.memory, self.root, page).is_some() {
             return Some(MapFault::IsMapped);
@@ -48,7 +54,7 @@ impl<'a> Tables<'a> {
         if first.number() + 511 >= self.memory.limit() {
             return Some(MapFault::PastLimit);
         }
-        if self.memory.meets(first, 512) {
+        if !self.sees_area(user) && self.memory.meets(first, 512) {
             return Some(MapFault::InArea);
         }
         let missing = self.missing_above(page);
@@ -61,18 +67,31 @@ impl<'a> Tables<'a> {
         None
     }
 
-    /// Maps the large page to the frames with the rights, by one entry, and makes the tables that it misses above it. No
-    /// entry that was present changes, so no flush is needed.
+    /// Maps the large page to the frames with the rights, by one entry, with type 0 and not global, and makes the tables that it
+    /// misses above it. No entry that was present changes, so no flush is needed.
     pub fn map_large(
         &mut self,
         page: Page<Size2MiB>,
         frame: PhysFrame<Size2MiB>,
         rights: Rights,
     ) -> Result<(), MapFault>
-        ensures change { IsChange (pages_of_slot page) no_page (map_large_fault self.old page frame) self.old result self.new }
-        ensures mapped { OnOk result (IsLargeMapped self.old self.new page frame rights) }
+        ensures change { IsChange (pages_of_slot page) no_page (map_large_fault self.old page frame rights.user) self.old result self.new }
+        ensures mapped { OnOk result (IsLargeMapped self.old self.new page frame (bits_of rights)) }
     {
-        match self.map_large_fault(page, frame) {
+        self.map_large_with(page, frame, rights.bits())
+    }
+
+    /// Does what `map_large` does, with all bits of the entry.
+    pub fn map_large_with(
+        &mut self,
+        page: Page<Size2MiB>,
+        frame: PhysFrame<Size2MiB>,
+        bits: PageBits,
+    ) -> Result<(), MapFault>
+        ensures change { IsChange (pages_of_slot page) no_page (map_large_fault self.old page frame bits.user) self.old result self.new }
+        ensures mapped { OnOk result (IsLargeMapped self.old self.new page frame bits) }
+    {
+        match self.map_large_fault(page, frame, bits.user) {
             Some(fault) => Err(fault),
             None => {
                 map_large(
@@ -81,7 +100,7 @@ impl<'a> Tables<'a> {
                     self.root,
                     page,
                     frame,
-                    rights,
+                    bits,
                 );
                 Ok(())
             }

@@ -131,9 +131,10 @@ impl<'a> Tables<'a> {
         page: Page,
         pages: u64,
         frame: PhysFrame,
+        user: bool,
     ) -> Option<RangeFault>
         requires some { 0 < pages }
-        ensures fault { result ≡ map_range_fault self.now page pages frame }
+        ensures fault { result ≡ map_range_fault self.now page pages frame user }
         ensures fits { result ≡ None → frame + pages ≤ 2 ^ 40 }
         ensures canonical { IsPage page }
     {
@@ -147,7 +148,7 @@ impl<'a> Tables<'a> {
         if frame.number() + pages > self.memory.limit() {
             return Some(RangeFault::PastLimit);
         }
-        if self.memory.meets(frame, pages) {
+        if !self.sees_area(user) && self.memory.meets(frame, pages) {
             return Some(RangeFault::InArea);
         }
         let wanted = self.tables_wanted(page, pages, frame);

@@ -16,9 +16,12 @@ pub enum RangeFault {
     /// A frame is not below the limit.
     #[error("a frame is past the limit")]
     PastLimit,
-    /// A frame is one of the tables' area.
+    /// A frame is one of the tables' area, and users would reach it, or the kernel did not ask for such pages.
     #[error("a frame lies in the area of the tables")]
     InArea,
+    /// This page, the lowest of the range that does, leads into the tables' area, and users would reach it.
+    #[error("a page of the range leads into the area of the tables")]
+    LeadsIntoArea(Page),
     /// This many frames of the area are wanting for the tables that the call makes.
     #[error("{wanting} frames are wanting for tables")]
     NoFrames { wanting: u64 },

@@ -1,28 +1,33 @@
-ghost use Rattle.std.specs.Prelude.{◌≡◌, ◌+◌, ◌/◌, ◌<◌, ◌↔◌, None, Some, IsSome, IfSome, OnOk, IfOk, length};
+ghost use Rattle.std.specs.Prelude.{◌≡◌, ◌+◌, ◌/◌, ◌<◌, ◌↔◌, true, None, Some, IsSome, IfSome, OnOk, IfOk, length};
 ghost use Rattle.std.specs.Option.{option_map};
+ghost use Rattle.paging_core.specs.PageBits.{bits_of};
 ghost use Rattle.paging_core.specs.Pool.{free_count};
 ghost use Rattle.paging_core.specs.Walk.{mapped_place};
-ghost use Rattle.kernel_tables.specs.Begun.{IsAreaGiven, AreBegun};
+ghost use Rattle.kernel_tables.specs.Begun.{IsAreaGiven, AreBegun, AreOthersAsLent};
 ghost use Rattle.kernel_tables.specs.Changes.{IsChange, IsPageMapped, IsPageUnmapped, IsPageGranted};
-ghost use Rattle.kernel_tables.specs.Faults.{map_fault, entry_fault, split_of};
+ghost use Rattle.kernel_tables.specs.Faults.{map_fault, entry_fault, protect_fault, split_of};
 ghost use Rattle.kernel_tables.specs.Flush.{no_page, page_alone};
-ghost use Rattle.kernel_tables.specs.TableState.{leads, IsWalkedAlike, IsPage, misses};
+ghost use Rattle.kernel_tables.specs.Grants.{all_bits, with_rights, given_by, user_of};
+ghost use Rattle.kernel_tables.specs.TableState.{leads, sees_area, IsWalkedAlike, IsPage, misses};
 
 use crate::faults::{EntryFault, MapFault};
+use crate::grants::Grant;
 use crate::range_checks::slot_at;
 use paging_core::{
-    FramesAhead, Mapped, Page, PhysFrame, PhysicalMemory, Rights, TableArea, WalkEnd, clear_at,
-    end_of_walk, make_root, map_at, map_page, protect_at, walk,
+    FramesAhead, Mapped, Page, PageBits, PhysFrame, PhysicalMemory, Rights, TableArea, WalkEnd,
+    end_of_walk, make_root, map_at, map_page, walk,
 };
 use std::marker::Model;
 
-/// Page tables in an area of frames whose words a kernel lends. Their pages lead to any frames below a limit that are not of
-/// the area, and two pages may lead to one frame.
+/// Page tables in an area of frames whose words a kernel lends. Their pages lead to any frames below a limit, and two pages may
+/// lead to one frame. No page leads into the area, until the kernel asks for it by `share_area`; and then only pages that users do
+/// not reach.
 #[derive(Drop)]
 pub struct Tables<'a> {
     pub(crate) memory: TableArea<'a>,
     pub(crate) free: FramesAhead,
     pub(crate) root: PhysFrame,
+    pub(crate) shared: bool,
 }
 
 impl<'a> Model for Tables<'a> {
@@ -30,9 +35,9 @@ impl<'a> Model for Tables<'a> {
 
     ghost Value = { TableState };
 
-    ghost view = { λ t. record { words = t.memory.words; area = t.memory.area; root = t.root; free = t.free } };
+    ghost view = { λ t. record { words = t.memory.words; area = t.memory.area; root = t.root; free = t.free; shared = t.shared } };
 
-    ghost invariant = { λ t. AreSound (record { words = t.memory.words; area = t.memory.area; root = t.root; free = t.free }) };
+    ghost invariant = { λ t. AreSound (record { words = t.memory.words; area = t.memory.area; root = t.root; free = t.free; shared = t.shared }) };
 }
 
 impl<'a> Tables<'a> {
@@ -44,6 +49,7 @@ impl<'a> Tables<'a> {
     pub fn new(words: &'a mut [u64], first: u64, limit: u64) -> Option<Tables<'a>>
         ensures some { IsSome result ↔ IsAreaGiven (length words.entry.now) first limit }
         ensures begun { IfSome result (AreBegun (length words.entry.now) first limit) }
+        ensures others { IfSome result (AreOthersAsLent words.entry.now first limit) }
     {
         let count = words.len() as u64 / 512;
         let mut memory = TableArea::over(words, first, limit)?;
@@ -51,7 +57,27 @@ impl<'a> Tables<'a> {
         let Some(root) = make_root(&mut memory, &mut free) else {
             unreachable!()
         };
-        Some(Tables { memory, free, root })
+        Some(Tables {
+            memory,
+            free,
+            root,
+            shared: false,
+        })
+    }
+
+    /// Lets pages that users do not reach lead into the area, from now on and for good: so a kernel may map all frames, and write to
+    /// the tables by these pages.
+    pub fn share_area(&mut self)
+        ensures { self.new ≡ record self.old { shared = true } }
+    {
+        self.shared = true;
+    }
+
+    /// Whether a page may lead into the area.
+    pub(crate) fn sees_area(&self, user: bool) -> bool
+        ensures { result ≡ sees_area self.now user }
+    {
+        self.shared && !user
     }
 
     /// The frame of the root table: CR3 is to have its address. Whatever else the machine's memory holds, a processor then
@@ -79,17 +105,17 @@ impl<'a> Tables<'a> {
 
     /// Why a page that is not mapped, and misses `missing` tables, is not mapped to the frame, if it is not.
     #[inline(always)]
-    fn map_fault(&self, page: Page, missing: u64, frame: PhysFrame) -> Option<MapFault>
+    fn map_fault(&self, page: Page, missing: u64, frame: PhysFrame, user: bool) -> Option<MapFault>
         requires unmapped { leads self.now page ≡ None }
         requires missing { missing ≡ misses self.now page }
-        ensures fault { result ≡ map_fault self.now page frame }
+        ensures fault { result ≡ map_fault self.now page frame user }
         ensures canonical { IsPage page }
     {
         let _canonical = page.number();
         if frame.number() >= self.memory.limit() {
             return Some(MapFault::PastLimit);
         }
-        if self.memory.contains(frame) {
+        if !self.sees_area(user) && self.memory.contains(frame) {
             return Some(MapFault::InArea);
         }
         let left = self.free.left();
@@ -101,14 +127,24 @@ impl<'a> Tables<'a> {
         None
     }
 
-    /// Maps the page to the frame with the rights, and makes the tables that it misses. No entry that was present changes,
-    /// so no flush is needed.
+    /// Maps the page to the frame with the rights, with type 0 and not global, and makes the tables that it misses. No entry that was
+    /// present changes, so no flush is needed.
     pub fn map(&mut self, page: Page, frame: PhysFrame, rights: Rights) -> Result<(), MapFault>
-        ensures change { IsChange (page_alone page) no_page (map_fault self.old page frame) self.old result self.new }
-        ensures mapped { OnOk result (IsPageMapped self.old self.new page frame rights) }
+        ensures change { IsChange (page_alone page) no_page (map_fault self.old page frame rights.user) self.old result self.new }
+        ensures mapped { OnOk result (IsPageMapped self.old self.new page frame (bits_of rights)) }
+    {
+        self.map_with(page, frame, rights.bits())
+    }
+
+    /// Does what `map` does, with all bits of the entry.
+    pub fn map_with(&mut self, page: Page, frame: PhysFrame, bits: PageBits) -> Result<(), MapFault>
+        ensures change { IsChange (page_alone page) no_page (map_fault self.old page frame bits.user) self.old result self.new }
+        ensures mapped { OnOk result (IsPageMapped self.old self.new page frame bits) }
     {
         match end_of_walk(&self.memory, self.root, page) {
-            WalkEnd::Entry { entry, page: None } => match self.map_fault(page, 0, frame) {
+            WalkEnd::Entry { entry, page: None } => match self.map_fault(
+                page, 0, frame, bits.user,
+            ) {
                 Some(fault) => Err(fault),
                 None => {
                     map_at(
@@ -118,12 +154,12 @@ impl<'a> Tables<'a> {
                         entry.table,
                         entry.index,
                         frame,
-                        rights,
+                        bits,
                     );
                     Ok(())
                 }
             },
-            WalkEnd::Missing(tables) => match self.map_fault(page, tables, frame) {
+            WalkEnd::Missing(tables) => match self.map_fault(page, tables, frame, bits.user) {
                 Some(fault) => Err(fault),
                 None => {
                     map_page(
@@ -132,7 +168,7 @@ impl<'a> Tables<'a> {
                         self.root,
                         page,
                         frame,
-                        rights,
+                        bits,
                     );
                     Ok(())
                 }
@@ -191,30 +227,64 @@ impl<'a> Tables<'a> {
         }
     }
 
-    /// Does what `protect` does, for any page.
-    fn protect_any(&mut self, page: Page, rights: Rights) -> Result<(), EntryFault>
-        ensures change { IsChange (page_alone page) (page_alone page) (entry_fault self.old page) self.old result self.new }
-        ensures granted { OnOk result (IsPageGranted self.old self.new page rights) }
+    /// Why the page is not given new bits, if it is not.
+    fn protect_fault(&self, page: Page, grant: Grant) -> Option<EntryFault>
+        ensures { result ≡ protect_fault self.now page (user_of grant) }
     {
-        match self.entry_fault(page) {
+        let Some(met) = walk(&self.memory, self.root, page) else {
+            return Some(EntryFault::NotMapped);
+        };
+        if grant.user() && self.memory.contains(met.frame) {
+            return Some(EntryFault::InArea);
+        }
+        if self.split_of(page) > self.free.left() {
+            return Some(EntryFault::NoFrames);
+        }
+        None
+    }
+
+    /// Does what `grant` does, for any page.
+    fn grant_any(&mut self, page: Page, grant: Grant) -> Result<(), EntryFault>
+        ensures change { IsChange (page_alone page) (page_alone page) (protect_fault self.old page (user_of grant)) self.old result self.new }
+        ensures granted { OnOk result (IsPageGranted self.old self.new page (given_by grant)) }
+    {
+        match self.protect_fault(page, grant) {
             Some(fault) => Err(fault),
             None => {
                 self.own_entry(page);
-                self.grant_page(page, rights);
+                self.grant_page(page, grant);
                 Ok(())
             }
         }
     }
 
-    /// Gives the page these rights. It keeps its frame. A large page of which it is part is split in a frame of the area. The page
-    /// is to be flushed.
-    pub fn protect(&mut self, page: Page, rights: Rights) -> Result<(), EntryFault>
-        ensures change { IsChange (page_alone page) (page_alone page) (entry_fault self.old page) self.old result self.new }
-        ensures granted { OnOk result (IsPageGranted self.old self.new page rights) }
+    /// Gives the page new bits. It keeps its frame.
+    #[inline(always)]
+    pub fn grant(&mut self, page: Page, grant: Grant) -> Result<(), EntryFault>
+        ensures change { IsChange (page_alone page) (page_alone page) (protect_fault self.old page (user_of grant)) self.old result self.new }
+        ensures granted { OnOk result (IsPageGranted self.old self.new page (given_by grant)) }
     {
-        if self.grant_entry(page, rights) {
+        if self.grant_entry(page, grant) {
             return Ok(());
         }
-        self.protect_any(page, rights)
+        self.grant_any(page, grant)
+    }
+
+    /// Gives the page these rights. It keeps its frame and its type, and stays global or not. A large page of which it is part is
+    /// split in a frame of the area. The page is to be flushed.
+    pub fn protect(&mut self, page: Page, rights: Rights) -> Result<(), EntryFault>
+        ensures change { IsChange (page_alone page) (page_alone page) (protect_fault self.old page rights.user) self.old result self.new }
+        ensures granted { OnOk result (IsPageGranted self.old self.new page (with_rights rights)) }
+    {
+        self.grant(page, Grant::Only(rights))
+    }
+
+    /// Gives the page all bits of its entry. It keeps its frame. A large page of which it is part is split in a frame of the area.
+    /// The page is to be flushed.
+    pub fn protect_with(&mut self, page: Page, bits: PageBits) -> Result<(), EntryFault>
+        ensures change { IsChange (page_alone page) (page_alone page) (protect_fault self.old page bits.user) self.old result self.new }
+        ensures granted { OnOk result (IsPageGranted self.old self.new page (all_bits bits)) }
+    {
+        self.grant(page, Grant::All(bits))
     }
 }

@@ -1,10 +1,16 @@
 use super::*;
-use paging_core::{Mapped, Page, PhysAddr, PhysFrame, Rights, Size2MiB, VirtAddr};
+use paging_core::{Mapped, Page, PageBits, PhysAddr, PhysFrame, Rights, Size2MiB, VirtAddr};
 use std::test::Fail;
 
 const ALL: Rights = Rights {
     write: true,
     user: false,
+    fetch: false,
+};
+
+const USERS: Rights = Rights {
+    write: false,
+    user: true,
     fetch: false,
 };
 
@@ -42,6 +48,11 @@ fn pages_lead_out_of_the_area(rt: HostRuntime) -> Result<(), Fail> {
     assert_eq!(rt; tables.map(first, device, ALL), Err(MapFault::IsMapped));
     assert_eq!(rt; tables.map(second, memory, ALL), Ok(()));
     assert_eq!(rt; tables.map(third, own, ALL), Err(MapFault::InArea));
+    tables.share_area();
+    assert_eq!(rt; tables.map(third, own, USERS), Err(MapFault::InArea));
+    assert_eq!(rt; tables.map(third, own, ALL), Ok(()));
+    assert_eq!(rt; tables.protect(third, USERS), Err(EntryFault::InArea));
+    assert_eq!(rt; number(tables.unmap(third)), Ok(0x17));
     assert_eq!(rt; tables.map(third, past, ALL), Err(MapFault::PastLimit));
     assert_eq!(rt; tables.map(third, device, ALL), Ok(()));
     assert_eq!(rt; tables.free_frames(), 4);
@@ -67,7 +78,7 @@ fn large_pages_take_one_entry(rt: HostRuntime) -> Result<(), Fail> {
     let high: PhysFrame<Size2MiB> = PhysFrame::containing_address(PhysAddr::new(0x200000));
     let past: PhysFrame<Size2MiB> = PhysFrame::containing_address(PhysAddr::new(0x400000));
     let inside = Page::containing_address(VirtAddr::new(0x405000));
-    assert_eq!(rt; tables.map_large(page, low, ALL), Err(MapFault::InArea));
+    assert_eq!(rt; tables.map_large(page, low, USERS), Err(MapFault::InArea));
     assert_eq!(rt; tables.map_large(page, past, ALL), Err(MapFault::PastLimit));
     assert_eq!(rt; tables.map_large(page, high, ALL), Ok(()));
     assert_eq!(rt; tables.free_frames(), 1);
@@ -86,5 +97,47 @@ fn large_pages_take_one_entry(rt: HostRuntime) -> Result<(), Fail> {
         tables.map(far, memory, ALL),
         Err(MapFault::NoFrames { wanting: 3 })
     );
+    Ok(())
+}
+
+/// The bits of the page's place.
+fn bits(found: Option<Mapped>) -> Option<PageBits> {
+    found.map(|mapped| PageBits {
+        write: mapped.write,
+        user: mapped.user,
+        fetch: mapped.fetch,
+        through: mapped.through,
+        uncached: mapped.uncached,
+        global: mapped.global,
+    })
+}
+
+#[test]
+fn pages_keep_their_type(rt: HostRuntime) -> Result<(), Fail> {
+    let mut words = vec![in rt.alloc(); 0u64; 4096]?;
+    let Some(mut tables) = Tables::new(&mut words, 16, 1 << 20) else {
+        return Err(Fail::from("no tables"));
+    };
+    let slot: Page<Size2MiB> = Page::containing_address(VirtAddr::new(0x400000));
+    let high: PhysFrame<Size2MiB> = PhysFrame::containing_address(PhysAddr::new(0x200000));
+    let inside = Page::containing_address(VirtAddr::new(0x405000));
+    let beside = Page::containing_address(VirtAddr::new(0x406000));
+    let device = PageBits {
+        uncached: true,
+        global: true,
+        ..ALL.bits()
+    };
+    let read_only = PageBits {
+        write: false,
+        ..device
+    };
+    assert_eq!(rt; tables.map_large_with(slot, high, device), Ok(()));
+    assert_eq!(rt; bits(tables.walk(inside)), Some(device));
+    // a part of the large page is protected, and all of it keeps its type
+    assert_eq!(rt; tables.protect(inside, FEW), Ok(()));
+    assert_eq!(rt; bits(tables.walk(inside)), Some(read_only));
+    assert_eq!(rt; bits(tables.walk(beside)), Some(device));
+    assert_eq!(rt; tables.protect_with(inside, ALL.bits()), Ok(()));
+    assert_eq!(rt; bits(tables.walk(inside)), Some(ALL.bits()));
     Ok(())
 }

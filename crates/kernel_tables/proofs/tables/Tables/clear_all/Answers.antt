@@ -38,7 +38,7 @@ loop-done-preserved-then-is_some c =
     c.loop-done.invariant c.loop-done-test.true
     c.clear_entry.new.self entry.free
     (λ some. is_hole (large_of c.loop-done.self.words c.loop-done.self.root (slot_of ((c.args.page + c.loop-done.done) / 512))) (rw a at alone) some)
-    (rw a at entry.only) (λ was is. rw a at entry.unmapped) entry.larges
+    (rw a at entry.only) (λ was is. rw a at entry.unmapped) entry.larges (rw a at entry.words)
 
 pub loop-done-preserved : goal.loop-done-preserved
 loop-done-preserved c =
@@ -48,7 +48,7 @@ loop-done-preserved c =
     c.loop-done.invariant c.loop-done-test.true
     c.clear_slot.new.self (rw s at c.clear_slot.ensures.free) (large (goal.at.loop-done-preserved c).After-slot_at) (rw (s, e) at c.clear_slot.ensures.only)
     (λ k was lt is. rw e at (c.clear_slot.ensures.unmapped k lt)) (rw (s, e) at c.clear_slot.ensures.larges)
-    (λ was is. rw e at c.clear_slot.ensures.gone)
+    (λ was is. rw e at c.clear_slot.ensures.gone) (rw (s, e) at c.clear_slot.ensures.words)
 
 all : (c : goal.After-loop-done) → IsChangedTo c.args.self.now c.loop-done.self c.args.page c.args.pages c.args.pages (λ was. None)
 all c =
@@ -65,3 +65,6 @@ returns-clause-large c = gone_large c.args.self.now c.loop-done.self c.args.page
 pub returns-clause-unmapped : goal.returns-clause-unmapped
 returns-clause-unmapped c = gone_all c.args.self.now c.loop-done.self c.args.page c.args.pages c.requires.mapped
     (all (goal.at.returns-clause-unmapped c).After-loop-done)
+
+pub returns-clause-words : goal.returns-clause-words
+returns-clause-words c = c.loop-done.invariant.words

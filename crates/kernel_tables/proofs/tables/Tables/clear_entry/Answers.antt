@@ -25,17 +25,18 @@ invariant_of-self c =
           (free_stays c.self.inside.memory.area c.self.inside.free c.self.inside.free
           (frame_count c.self.inside.memory.words) (frame_count c.clear_at.new.frames.words) c.self.invariant.known
           (omega arith) (λ f e. e));
-      apart = λ page place is.
+      apart = λ page place is kept.
           ap (λ a. in_area a place.frame) c.clear_at.ensures.cleared.same_area
-          ∙ removed_outside c.self.inside.memory.area c.self.inside.memory.words c.clear_at.new.frames.words
-          c.self.inside.root c.args.page all c.self.invariant.apart page place is;
+          ∙ removed_outside c.self.inside.shared c.self.inside.memory.area c.self.inside.memory.words c.clear_at.new.frames.words
+          c.self.inside.root c.args.page all c.self.invariant.apart page place is kept;
+      part = λ whole. c.self.invariant.part (sym c.clear_at.ensures.cleared.same_area ∙ whole);
     }
 
 pub returns-in-Entry-default-Some-clause-some : goal.returns-in-Entry-default-Some-clause-some
 returns-in-Entry-default-Some-clause-some c = λ _.
     subst (λ (s : TableState). IsSome (leads s c.args.page) × (large_of s.words s.root (slot_of (c.args.page / 512)) ≡ None)) c.self.view_is (
       rw (sym c.in-Entry-default-Some.ensures.end.1 ∙ ap (option_map mapped_place) c.in-Entry-default-Some.page-is) refl,
-      entry_alone (record { words = c.self.inside.memory.words; area = c.self.inside.memory.area; root = c.self.inside.root; free = c.self.inside.free })
+      entry_alone (record { words = c.self.inside.memory.words; area = c.self.inside.memory.area; root = c.self.inside.root; free = c.self.inside.free; shared = c.self.inside.shared })
           c.args.page c.in-Entry-default-Some.entry.table c.in-Entry-default-Some.entry.index c.in-Entry-default-Some.ensures.end.0,
     )
 

@@ -1,4 +1,4 @@
-use Rattle.std.proofs.Common.{ap, ◌∙◌, arith}
+use Rattle.std.proofs.Common.{ap, ◌∙◌, arith, sym}
 use Rattle.paging_core.specs.Area.{in_area}
 use Rattle.paging_core.specs.Memory.{frame_count}
 use Rattle.paging_core.proofs.Areas.{free_stays, known_moved}
@@ -18,10 +18,11 @@ invariant_of-self c =
           (free_stays c.self.inside.memory.area c.self.inside.free c.self.inside.free
           (frame_count c.self.inside.memory.words) (frame_count c.unmap_page.new.frames.words) c.self.invariant.known
           (omega arith) (λ f e. e));
-      apart = λ page place is.
+      apart = λ page place is kept.
           ap (λ a. in_area a place.frame) c.unmap_page.ensures.cleared.same_area
-          ∙ removed_outside c.self.inside.memory.area c.self.inside.memory.words c.unmap_page.new.frames.words
-          c.self.inside.root c.args.page all c.self.invariant.apart page place is;
+          ∙ removed_outside c.self.inside.shared c.self.inside.memory.area c.self.inside.memory.words c.unmap_page.new.frames.words
+          c.self.inside.root c.args.page all c.self.invariant.apart page place is kept;
+      part = λ whole. c.self.invariant.part (sym c.unmap_page.ensures.cleared.same_area ∙ whole);
     }
 
 pub returns : goal.returns

@@ -1,10 +1,14 @@
-use Rattle.std.proofs.Common.{ap, ◌∙◌, arith}
+use Rattle.std.proofs.Common.{ap, ◌∙◌, ◌&&◌, arith, sym, ◌+◌, ◌*◌}
 use Rattle.paging_core.specs.Area.{in_area}
 use Rattle.paging_core.specs.Memory.{frame_count}
 use Rattle.paging_core.proofs.Areas.{free_stays, known_moved}
 use Rattle.kernel_tables.proofs.RangeChanged.{slot_outside}
-use Rattle.kernel_tables.proofs.EntryChanges.{slot_has_rights}
+use Rattle.kernel_tables.proofs.EntryChanges.{slot_has_bits}
+use Rattle.kernel_tables.proofs.Granted.{alike_of, one_place}
 use Rattle.kernel_tables.proofs.tables.Tables.grant_slot.Goals as goal
+use Rattle.kernel_tables.specs.Grants.{given_by, user_of}
+use Rattle.paging_core.specs.Walk.{walk_of}
+use Rattle.kernel_tables.specs.TableState.{TableState, place_in, gives_area}
 
 pub invariant_of-self : goal.invariant_of-self
 invariant_of-self c =
@@ -18,11 +22,20 @@ invariant_of-self c =
           (free_stays c.self.inside.memory.area c.self.inside.free c.self.inside.free
           (frame_count c.self.inside.memory.words) (frame_count c.protect_large.new.frames.words) c.self.invariant.known
           (omega arith) (λ f e. e));
-      apart = λ page place is.
+      apart = λ page place is kept.
           ap (λ a. in_area a place.frame) c.protect_large.ensures.granted.same_area
-          ∙ slot_outside c.self.inside.memory.area c.self.inside.memory.words c.protect_large.new.frames.words
-          c.self.inside.root c.args.slot c.args.rights all c.self.invariant.apart page place is;
+          ∙ slot_outside c.self.inside.shared c.self.inside.memory.area c.self.inside.memory.words c.protect_large.new.frames.words
+          c.self.inside.root c.args.slot c.bits.result all
+          (λ k lt.
+          ap (λ user. user && place_in c.self.inside.memory.area (walk_of c.self.inside.memory.words c.self.inside.root (512 * c.args.slot + k))) c.bits.ensures.user
+          ∙ (ap (λ (s : TableState). gives_area s (512 * c.args.slot + k) (user_of c.args.grant)) c.self.view_is ∙ c.requires.hidden k lt))
+          c.self.invariant.apart page place is kept;
+      part = λ whole. c.self.invariant.part (sym c.protect_large.ensures.granted.same_area ∙ whole);
     }
 
 pub returns : goal.returns
-returns c = slot_has_rights c.self.view_is c.protect_large.ensures.granted.same_area (c.protect_large.ensures.granted.granted c.self.inside.free c.self.invariant.tree)
+returns c =
+    let regranted = c.protect_large.ensures.granted.granted c.self.inside.free c.self.invariant.tree in
+    let led = sym c.in-Some.ensures in
+    slot_has_bits c.self.view_is c.protect_large.ensures.granted.same_area (given_by c.args.grant) regranted c.protect_large.ensures.granted.regranted
+    (c.bits.ensures.value ∙ ap (given_by c.args.grant) (one_place led regranted.granted.was)) (alike_of c.args.grant)

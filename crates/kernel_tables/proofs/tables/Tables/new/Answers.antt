@@ -1,8 +1,10 @@
-use Rattle.std.proofs.Common.{◌+◌, ◌/◌, length, ap, ◌∙◌, refl, arith}
+use Rattle.std.proofs.Common.{ℕ, List, ◌+◌, ◌/◌, length, ap, ◌∙◌, refl, arith}
 use Rattle.paging_core.specs.Area.{AreaWords}
+use Rattle.paging_core.specs.Memory.{word_at}
 use Rattle.paging_core.specs.Pool.{free_count}
 use Rattle.paging_core.proofs.Ahead.{ahead_left}
 use Rattle.paging_core.proofs.Padded.{count_padded}
+use Rattle.paging_core.proofs.Words.{word_at_cleared_other}
 use Rattle.kernel_tables.proofs.Sound.{start_known, start_some, start_root}
 use Rattle.kernel_tables.proofs.tables.Tables.new.Goals as goal
 
@@ -31,5 +33,17 @@ returns-clause-begun c =
       area = c.in-Some.ensures.area ∙ ap (λ (m : AreaWords). m.area) c.in_ok-memory.ensures.value;
       left = c.in-Some.ensures.frame.count ∙ (ap free_count c.new-free.ensures ∙ ahead_left (length c.args.words.now / 512) c.args.first
           (c.args.first + length c.args.words.now / 512) refl);
+      hidden = refl;
       limit_is = ap (λ n. n / 512) (c.in-Some.ensures.made.size ∙ ap (λ (m : AreaWords). length m.words) c.in_ok-memory.ensures.value) ∙ n;
     }
+
+pub returns-clause-others : goal.returns-clause-others
+returns-clause-others c = λ frame index lt ne.
+    let k = c.in_ok-memory.ensures.some.0 refl in
+    let root = start_root c.new-free.result c.args.first (c.args.first + length c.args.words.now / 512) c.in-Some.root c.new-free.ensures
+    (omega (arith, k.0, k.1)) c.in-Some.ensures.frame.taken.0 c.in-Some.ensures.frame.lowest in
+    let below = c.in-Some.ensures.made.below in
+    let size = c.in-Some.ensures.made.size in
+    ap (λ (ws : List ℕ). word_at ws frame index) c.in-Some.ensures.words
+    ∙ (word_at_cleared_other c.in_ok-memory.memory.words c.in-Some.root frame index (omega (arith, below, size)) lt (λ e. ne (e ∙ root))
+    ∙ ap (λ (m : AreaWords). word_at m.words frame index) c.in_ok-memory.ensures.value)

@@ -4,6 +4,8 @@ use Rattle.paging_core.specs.Prefix.{prefix_of}
 use Rattle.paging_core.specs.Walk.{large_of}
 use Rattle.kernel_tables.proofs.RangeTests.{found_there, found_none}
 use Rattle.kernel_tables.proofs.RangeChanged.{entry_ok, not_split, is_one, is_hole, table_there}
+use Rattle.kernel_tables.specs.Flush.{page_alone}
+use Rattle.kernel_tables.proofs.KeptWords.{words_same, split_words, alone_is}
 use Rattle.kernel_tables.proofs.tables.Tables.own_entry.Goals as goal
 
 pub returns-then-is_none-clause-free : goal.returns-then-is_none-clause-free
@@ -66,3 +68,10 @@ returns-clause-same c = λ zero.
     (c.is_none.ensures ∙ ap not c.if-is_none.false)) in
     let o = is_one c.args.self.now c.args.page some in
     absurd (omega (arith, o, zero))
+
+pub returns-then-is_none-clause-words : goal.returns-then-is_none-clause-words
+returns-then-is_none-clause-words c = words_same (page_alone c.args.page) c.args.self.now
+
+pub returns-clause-words : goal.returns-clause-words
+returns-clause-words c = split_words (page_alone c.args.page) c.args.self.now c.split_slot.new.self c.args.page c.slot_at-slot.result
+    (alone_is c.args.page) c.slot_at-slot.ensures c.split_slot.ensures.none.place.root c.split_slot.ensures.split

@@ -11,4 +11,5 @@ returns-clause-processor c =
       area = c.self.inside.memory.area;
       root = c.self.inside.root;
       free = c.self.inside.free;
+      shared = c.self.inside.shared;
     }) c.self.invariant)

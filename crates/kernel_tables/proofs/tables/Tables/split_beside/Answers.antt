@@ -2,6 +2,8 @@ use Rattle.std.proofs.Common.{◌≡◌, ◌/◌, None, refl, sym, ap, ◌∙◌
 use Rattle.paging_core.specs.Large.{slot_of}
 use Rattle.paging_core.specs.Walk.{large_of}
 use Rattle.kernel_tables.proofs.RangeChanged.{split_some, unsplit_large, split_not_whole}
+use Rattle.kernel_tables.specs.Flush.{page_alone}
+use Rattle.kernel_tables.proofs.KeptWords.{words_same, split_words, alone_is}
 use Rattle.kernel_tables.proofs.tables.Tables.split_beside.Goals as goal
 
 pub returns-then-not-is_split-clause-free : goal.returns-then-not-is_split-clause-free
@@ -50,3 +52,10 @@ returns-clause-whole c =
     ap (λ r. large_of c.split_slot.new.self.words r (slot_of (c.args.at / 512))) root
     ∙ (ap (λ s. large_of c.split_slot.new.self.words c.args.self.now.root (slot_of s)) (sym c.slot_at.ensures) ∙ split.no_large) in
     rw none refl
+
+pub returns-then-not-is_split-clause-words : goal.returns-then-not-is_split-clause-words
+returns-then-not-is_split-clause-words c = words_same (page_alone c.args.at) c.args.self.now
+
+pub returns-clause-words : goal.returns-clause-words
+returns-clause-words c = split_words (page_alone c.args.at) c.args.self.now c.split_slot.new.self c.args.at c.slot_at.result (alone_is c.args.at)
+    c.slot_at.ensures c.split_slot.ensures.none.place.root c.split_slot.ensures.split

@@ -9,6 +9,7 @@ use Rattle.kernel_tables.proofs.RangeMapped.{slots_apart}
 use Rattle.kernel_tables.proofs.Changed.{none_none}
 use Rattle.kernel_tables.proofs.RangeChanged.{last_split, first_still, all_within, split_parts}
 use Rattle.kernel_tables.proofs.SlotChanges.{not_large_then, is_cut_at, end_not_large, cut_at_ends}
+use Rattle.kernel_tables.proofs.KeptWords.{words_then, alone_within}
 use Rattle.kernel_tables.proofs.tables.Tables.split_ends.Goals as goal
 
 pub split_beside-requires-clause-room : goal.split_beside-requires-clause-room
@@ -65,3 +66,11 @@ returns-clause-large c =
 
 pub returns-clause-none : goal.returns-clause-none
 returns-clause-none c = none_none c.split_beside.ensures.none c.split_beside-2.ensures.none
+
+pub returns-clause-words : goal.returns-clause-words
+returns-clause-words c =
+    let some : 0 < c.args.pages = c.requires.range.some in
+    let a = c.after-last.ensures in
+    words_then c.split_beside.ensures.words c.split_beside-2.ensures.words c.split_beside.ensures.none.tables c.split_beside-2.ensures.none.tables
+    (alone_within c.args.page c.args.pages c.args.page (omega arith) (omega arith))
+    (alone_within c.args.page c.args.pages c.after-last.result (omega arith) (omega arith))

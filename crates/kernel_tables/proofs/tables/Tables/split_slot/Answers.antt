@@ -12,8 +12,9 @@ invariant_of-self c =
       root_in = omega (arith, c.self.invariant.root_in, size);
       tree = c.split_large.ensures.split.standing.tree;
       known = c.split_large.ensures.split.standing.known;
-      apart = λ page place is. ap (λ a. in_area a place.frame) c.split_large.ensures.split.same_area
-          ∙ c.self.invariant.apart page place (sym (c.split_large.ensures.split.walks page) ∙ is);
+      apart = λ page place is kept. ap (λ a. in_area a place.frame) c.split_large.ensures.split.same_area
+          ∙ c.self.invariant.apart page place (sym (c.split_large.ensures.split.walks page) ∙ is) kept;
+      part = λ whole. c.self.invariant.part (sym c.split_large.ensures.split.same_area ∙ whole);
     }
 
 pub returns-clause-none : goal.returns-clause-none

@@ -4,6 +4,7 @@ use Rattle.paging_core.specs.Pool.{free_count}
 use Rattle.kernel_tables.proofs.Changed.{none_only, made_flushed}
 use Rattle.kernel_tables.proofs.RangeChanged.{entry_ok}
 use Rattle.kernel_tables.proofs.SlotChanges.{page_not_large, table_small}
+use Rattle.kernel_tables.proofs.KeptWords.{words_then}
 use Rattle.kernel_tables.proofs.tables.Tables.unmap_any.Goals as goal
 
 pub own_entry-requires : goal.own_entry-requires
@@ -18,6 +19,7 @@ returns-in-None-clause-unmapped c =
       led = rw (sym walks) c.clear_page.ensures.led;
       unmapped = c.clear_page.ensures.unmapped;
       free = omega (arith, f, g);
+      words = words_then c.own_entry.ensures.words c.clear_page.ensures.words c.own_entry.ensures.none.tables c.clear_page.ensures.only.tables (λ other e. e) (λ other e. e);
       removed = λ zero. rw (c.own_entry.ensures.same zero) at c.clear_page.ensures.removed;
       large = page_not_large c.args.self.now c.clear_page.new.self c.args.page
           (c.clear_page.ensures.larges (slot_of (c.args.page / 512))

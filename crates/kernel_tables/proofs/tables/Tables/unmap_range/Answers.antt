@@ -4,6 +4,7 @@ use Rattle.kernel_tables.specs.Ranges.{has_page_of, is_cut}
 use Rattle.kernel_tables.proofs.Changed.{none_only, made_flushed}
 use Rattle.kernel_tables.proofs.RangeChanged.{HasNoChangeFault, no_change_fault, none_unmapped}
 use Rattle.kernel_tables.proofs.SlotChanges.{not_large_then, cut_or_has}
+use Rattle.kernel_tables.proofs.KeptWords.{words_then}
 use Rattle.kernel_tables.proofs.tables.Tables.unmap_range.Goals as goal
 use Rattle.kernel_tables.proofs.tables.Tables.unmap_range.Goals.{In-None}
 
@@ -24,6 +25,7 @@ returns-in-None-clause-unmapped c =
     record {
       unmapped = c.clear_all.ensures.unmapped;
       free = omega (arith, f, g);
+      words = words_then c.split_ends.ensures.words c.clear_all.ensures.words c.split_ends.ensures.none.tables c.clear_all.ensures.only.tables (λ other e. e) (λ other e. e);
       large = not_large_then c.args.self.now c.split_ends.new.self c.clear_all.new.self (is_cut c.args.page c.args.pages)
           (has_page_of c.args.page c.args.pages) (has_page_of c.args.page c.args.pages)
           (cut_or_has c.args.page c.args.pages) c.split_ends.ensures.large c.clear_all.ensures.large;

@@ -2,18 +2,18 @@ use Rattle.std.proofs.Common.{refl, sym, arith}
 use Rattle.kernel_tables.specs.Ranges.{IsMappableRange}
 use Rattle.kernel_tables.proofs.Changed.{range_flush, made}
 use Rattle.kernel_tables.proofs.RangeFaults.{no_range_fault, none_mapped}
-use Rattle.kernel_tables.proofs.tables.Tables.map_range.Goals as goal
-use Rattle.kernel_tables.proofs.tables.Tables.map_range.Goals.{In-None}
+use Rattle.kernel_tables.proofs.tables.Tables.map_range_with.Goals as goal
+use Rattle.kernel_tables.proofs.tables.Tables.map_range_with.Goals.{In-None}
 
-open_range : (c : goal.In-None) → IsMappableRange c.args.self.now c.args.page c.args.pages c.args.frame
-open_range c = no_range_fault c.args.self.now c.args.page c.args.pages c.args.frame (omega (arith, c.if-pages-eq0.false))
+open_range : (c : goal.In-None) → IsMappableRange c.args.self.now c.args.page c.args.pages c.args.frame c.args.bits.user
+open_range c = no_range_fault c.args.self.now c.args.page c.args.pages c.args.frame c.args.bits.user (omega (arith, c.if-pages-eq0.false))
     c.in-None.ensures.canonical (sym c.in-None.ensures.fault)
 
 pub map_all-requires-clause-fits : goal.map_all-requires-clause-fits
 map_all-requires-clause-fits c = c.in-None.ensures.fits refl
 
 pub returns-then-pages-eq0-clause-mapped : goal.returns-then-pages-eq0-clause-mapped
-returns-then-pages-eq0-clause-mapped c = rw c.if-pages-eq0.true (none_mapped c.args.self.now c.args.page c.args.frame c.args.rights)
+returns-then-pages-eq0-clause-mapped c = rw c.if-pages-eq0.true (none_mapped c.args.self.now c.args.page c.args.frame c.args.bits)
 
 pub map_all-requires-clause-mappable : goal.map_all-requires-clause-mappable
 map_all-requires-clause-mappable c = open_range (goal.at.map_all-requires-clause-mappable c).In-None
