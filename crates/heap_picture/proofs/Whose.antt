@@ -10,6 +10,7 @@ use Rattle.heap_model.specs.declared.region.Region.{Region}
 use Rattle.heap_model.specs.State.{is_within, end_of_region}
 use Rattle.heap_model.specs.Slots.{slot_number, has_whole, is_whole_in}
 use Rattle.heap_model.specs.Machine.{Paged, rights_of}
+use Rattle.heap_model.proofs.Found.{rights_alike}
 use Rattle.mapped_regions.specs.Regions.{AreLaid, kind_at}
 use Rattle.paged_systems.specs.Layout.{IsPagedKept}
 use Rattle.heap_tables.specs.declared.lines.Line.{Line}
@@ -229,8 +230,9 @@ page_found p page at place kept is met =
     let there : at / 4096 * 4096 ≡ at = omega (arith, whole) in
     let walk = walk_alike p.words p.root (at / 4096) page is.page_is ∙ met in
     let found = kept.mapped.found (at / 4096) (ap is_canonical there ∙ is.canonical) in
+    let rights = rights_alike (λ (kind : Bool × Rights). kind.1) (walk_of p.words p.root (at / 4096)) (kind_at p.regions (4096 * (at / 4096))) found in
     some_region (find (is_within at) p.regions) (rights_of place)
-    (sym (ap (option_map rights_of) walk) ∙ found ∙ ap (λ (a : ℕ). option_map (λ (kind : Bool × Rights). kind.1) (kind_at p.regions a)) here)
+    (sym (ap (option_map rights_of) walk) ∙ rights ∙ ap (λ (a : ℕ). option_map (λ (kind : Bool × Rights). kind.1) (kind_at p.regions a)) here)
 
 owner_said : (p : Paged) (line : Line) → IsPagedKept p → IsWalked p.words p.root line → IsOwned (owned_regions p.regions) line → IsOfOwner p.regions line
 owner_said p line kept walked owned page from to =

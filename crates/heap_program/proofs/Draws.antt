@@ -104,18 +104,18 @@ whole_text s first seed count drawing w empty told out none counts end =
     (λ (text : List ℕ). text ++ tally_line count drawing.given drawing.refused) none ∙ w.tally)
 
 -- nothing was written
-pub none_generated : (s : State) (seed count : ℕ) (taken : Option (List ℕ)) → IsGenerationStopped s seed count taken taken
-none_generated s seed count taken = record { text = []; written = appends_nothing taken; front = inl refl }
+pub none_generated : (first : Machine) (s : State) (seed count : ℕ) (taken : Option (List ℕ)) → IsGenerationStopped first s seed count taken taken
+none_generated first s seed count taken = record { text = []; written = appends_nothing taken; front = inl refl }
 
 -- a front of the text was written
 pub part_generated : (s : State) (first : Machine) (seed count : ℕ) (drawing : Drawing)
     (w : IsWhole s first seed count drawing) (out : List ℕ) (before after : Option (List ℕ)) (n : ℕ) →
     out ≡ generated_text seed w.answers w.state → Appends before after (take n out) →
-    IsGenerationStopped s seed count before after
+    IsGenerationStopped first s seed count before after
 part_generated s first seed count drawing w out before after n is written = record {
   text = take n out;
   written = written;
-  front = inr (record { answers = w.answers; state = w.state; counted = w.counted; drawn = w.drawn; more = drop n out; front = take-append-drop n out ∙ is });
+  front = inr (record { answers = w.answers; state = w.state; counted = w.counted; drawn = w.drawn; last = drawing.machine; steps = w.steps; more = drop n out; front = take-append-drop n out ∙ is });
 }
 
 -- all of it was

@@ -1,7 +1,7 @@
 -- Worked values: the definitions computed on short inputs.
 use Rattle.std.proofs.Common.{◌≡◌, ℕ, true, false, [], ◌∷◌, ◌++◌, map, codes, refl, Some, None, lit<, lit≤}
 use Rattle.dlmalloc_chunks.specs.declared.extent.Kind.TheVariants.{Used, Free as Binned, Victim, Top, Record, Foot}
-use Rattle.heap_model.specs.declared.call.Access.TheVariants.{Read as Reading, Write as Writing, Fetch as Fetching}
+use Rattle.paging_core.specs.declared.processor_access.AccessKind.TheVariants.{Read as Reading, Write as Writing, Fetch as Fetching}
 use Rattle.heap_model.specs.declared.call.Call.TheVariants.{Malloc, Calloc, Realloc, CRealloc, Free, Write, Read, Map, Unmap, Probe, Trim, SetRate, SetGranularity, Reset, Extents}
 use Rattle.heap_model.specs.declared.answer.Reply.TheVariants.{Block, Done, Bytes, Byte, Trimmed, Accepted, Released, Extents as Listed, Refused}
 use Rattle.heap_model.specs.declared.answer.Refusal.TheVariants.{NoFrames, UnknownRegion, NotCanonical}

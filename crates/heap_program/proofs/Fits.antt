@@ -15,14 +15,15 @@ use Rattle.dlmalloc_chunks.specs.Tiling.{IsSize, has_byte}
 use Rattle.heap_model.specs.declared.answer.Answer.{Answer}
 use Rattle.heap_model.specs.declared.answer.Reply.{Reply}
 use Rattle.heap_model.specs.declared.answer.Reply.TheVariants.{Block as Placed, Done, Bytes, Byte, Fault, Trimmed, Accepted, Released, Extents as Listed, Refused}
-use Rattle.heap_model.specs.declared.call.Access.{Access}
-use Rattle.heap_model.specs.declared.call.Access.TheVariants.{Read as Reading, Write as Writing, Fetch as Fetching}
+use Rattle.paging_core.specs.declared.processor_access.AccessKind.{AccessKind}
+use Rattle.paging_core.specs.declared.processor_access.AccessKind.TheVariants.{Read as Reading, Write as Writing, Fetch as Fetching}
 use Rattle.heap_model.specs.declared.call.Call.{Call}
 use Rattle.heap_model.specs.declared.call.Call.TheVariants.{Malloc, Calloc, Realloc, CRealloc, Free, Write, Read, Probe, SetGranularity, Reset, Extents, Map, Unmap}
 use Rattle.heap_model.specs.declared.region.Region.{Region}
 use Rattle.heap_model.specs.State.{State, Block, Cell, Fresh, Known, block_at, is_within}
 use Rattle.heap_model.specs.Extents.{IsTiling}
-use Rattle.heap_model.specs.Probe.{rights_at, probe_fault_code}
+use Rattle.heap_model.specs.Probe.{rights_at}
+use Rattle.paging_core.specs.ProcessorAccess.{fault_code}
 use Rattle.heap_model.specs.Answer.{AreBytes, all_ended, seen_block, IsReply, IsResizing, changed, new_block, with_block, resized_block, NewPages, new_pages, with_regions, slots_of, AreNewSlots, after}
 use Rattle.heap_model.specs.Refusal.{own_align, least_align}
 use Rattle.heap_model.specs.Slots.{IsSlotOf}
@@ -203,7 +204,7 @@ tiling_fits s extents good tiling =
     extents_fit extents tiling.extents_are.sizes (λ address is. heap_half s s.heap address good.heap (sym (tiling.bytes address) ∙ is))
 
 -- the code of a fault is small
-code_small : (mapped : Bool) (access : Access) (user : Bool) → probe_fault_code mapped access user < 2 ^ 64
+code_small : (mapped : Bool) (access : AccessKind) (user : Bool) → fault_code mapped false access user < 2 ^ 64
 code_small true Reading true = lit< tt
 code_small true Reading false = lit< tt
 code_small true Writing true = lit< tt

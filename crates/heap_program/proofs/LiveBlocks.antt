@@ -11,10 +11,11 @@ use Rattle.paging_core.proofs.ProcessorWalk.{walks_alike}
 use Rattle.paging_core.specs.declared.page_table.Rights.{Rights}
 use Rattle.heap_model.specs.declared.config.Config.{Config}
 use Rattle.heap_model.specs.declared.region.Region.{Region}
-use Rattle.heap_model.specs.State.{State, Block, is_within, block_at, cell_at, cover, start}
+use Rattle.heap_model.specs.State.{State, Block, is_within, region_at, block_at, cell_at, cover, start}
 use Rattle.heap_model.specs.Room.{heap_rights}
 use Rattle.heap_model.specs.Run.{IsGood, IsWholePages, IsHeapRegion}
 use Rattle.heap_model.specs.Machine.{Seen, Stands, rights_of}
+use Rattle.heap_model.proofs.Found.{rights_alike}
 use Rattle.heap_model.proofs.Regions.{within_canonical}
 use Rattle.kernel_heap.specs.declared.machine.Machine.{Machine}
 use Rattle.kernel_heap.specs.Machine.{seen}
@@ -64,7 +65,8 @@ walked m s at good stands there =
     let page : at / 4096 * 4096 ≡ 4096 * (at / 4096) = omega arith in
     subst (λ root. IsWritable (walk_of m.paged.words root (at / 4096))) stands.root
     (writable_page (walk_of m.paged.words m.paged.root (at / 4096))
-    (stands.pages_found (at / 4096) (subst (λ a. IsTrue (is_canonical a)) page canonical) ∙ page_rights s at s.heap s.users good.heap there))
+    (rights_alike (λ (region : Region). region.rights) (walk_of m.paged.words m.paged.root (at / 4096)) (region_at s (4096 * (at / 4096)))
+    (stands.pages_found (at / 4096) (subst (λ a. IsTrue (is_canonical a)) page canonical)) ∙ page_rights s at s.heap s.users good.heap there))
 
 -- a walk that finds a page ends there
 ends_there : (outcome : Outcome) (page : Place) → page_of outcome ≡ Some page → outcome ≡ AtPage page

@@ -14,12 +14,12 @@ use Rattle.heap_program.specs.declared.run.Stop.TheVariants.{Memory, ReadFault, 
 use Rattle.heap_program.specs.Advanced.{Advanced}
 use Rattle.heap_program.specs.Answering.{IsAnswering}
 use Rattle.heap_program.specs.Flushed.{IsAllFlushed}
-use Rattle.heap_program.specs.Headline.{ending_of, IsFront, IsInterrupted, IsReadWhole, IsStopped}
+use Rattle.heap_program.specs.Headline.{ending_of, IsCaughtUp, IsFront, IsInterrupted, IsKeptUp, IsReadWhole, IsStopped}
 use Rattle.heap_lines.specs.Grammar.{item_of}
 use Rattle.heap_program.specs.Lines.{items_of, IsOneLine}
 use Rattle.heap_model.specs.Run.{RunsTo}
 use Rattle.heap_program.specs.Progress.{texts_of, IsAt, IsEnd}
-use Rattle.heap_program.specs.Responses.{Responded, IsResponseFront, HasCaughtUp, HasHeld}
+use Rattle.heap_program.specs.Responses.{Responded, IsResponseFront, HasCaughtUp, HasHeld, HasKeptUp}
 use Rattle.heap_program.specs.Stepped.{IsAnsweredBy}
 use Rattle.heap_program.specs.Stop.{IsFreshSession, HasRead, HasClosed, HasPart, HasStopped}
 use Rattle.heap_program.specs.Text.{line_text, end_text_of}
@@ -79,6 +79,20 @@ module _ {R : Type 0} (responds : R → List (Option Call) → List ℕ → R �
     caught_up = caught_up x y line l l1 t t1 n h one;
   }
 
+  -- nothing more was written
+  pub kept_held : (x : R) (most : ℕ) (l l1 t t1 : Option (List ℕ)) → HasHeld responds x most l l1 t t1 → most ≤ 4096 →
+      HasKeptUp responds x l l1 t t1
+  kept_held x most l l1 t t1 h few = record {
+    input = h.input;
+    piece = h.piece;
+    read = h.read;
+    short = omega (arith, h.short, few);
+    text = h.text;
+    more = [];
+    written = subst (Appends t t1) (sym (append-nil h.text)) h.written;
+    caught_up = h.caught_up;
+  }
+
   -- before the first piece
   pub read_none : (session : Session R) (left taken : Option (List ℕ)) → IsFreshSession session →
       responds session.responder [] [] session.responder → HasRead responds session.responder session.responder session.line
@@ -110,8 +124,8 @@ module _ {R : Type 0} (responds : R → List (Option Call) → List ℕ → R �
       (h : HasRead responds x y line l l1 t t1 n) → Consumes l1 l2 piece → n + length piece ≤ 2 ^ 30 + 4096
       → (stop ≡ TooLong → 2 ^ 30 < n + length piece) → (2 ^ 30 < n + length piece → stop ≡ TooLong) →
       (stop ≡ ReadFault → HasHeld responds x 0 l l2 t t1) → (stop ≡ TooLong → HasHeld responds x 4096 l l2 t t1) →
-      HasStopped responds x stop l l2 t t1
-  stopped_dry x y line stop l l1 l2 t t1 n piece h consumed most there back at_fault at_length =
+      HasKeptUp responds x l l2 t t1 → HasStopped responds x stop l l2 t t1
+  stopped_dry x y line stop l l1 l2 t t1 n piece h consumed most there back at_fault at_length kept_up =
       let count : length (h.bytes ++ piece) ≡ n + length piece = length-append h.bytes piece ∙ ap (λ (k : ℕ). k + length piece) h.counted in
       let a = h.responded in
       record {
@@ -133,6 +147,7 @@ module _ {R : Type 0} (responds : R → List (Option Call) → List ℕ → R �
         too_long = (λ is. subst (λ (k : ℕ). 2 ^ 30 < k) (sym count) (there is), λ long. back (subst (λ (k : ℕ). 2 ^ 30 < k) count long));
         at_fault = at_fault;
         at_length = at_length;
+        kept_up = kept_up;
       }
 
   -- a stop before a piece
@@ -143,6 +158,7 @@ module _ {R : Type 0} (responds : R → List (Option Call) → List ℕ → R �
       let none : Consumes l1 l2 [] = consumes_keeps l1 l1 l2 [] (consumes_nothing l1) kept in
       stopped_dry x y line stop l l1 l2 t t1 n [] h none (omega (arith, short)) (λ is. absurd (isnt is)) (λ long. absurd (omega (arith, long, short)))
       (λ is. held x y line l l1 l2 t t1 n 0 [] h one none (omega arith)) (λ is. absurd (isnt is))
+      (kept_held x 0 l l2 t t1 (held x y line l l1 l2 t t1 n 0 [] h one none (omega arith)) (omega arith))
 
   -- a stop after a piece, of which nothing was written
   pub stopped_after : (x y : R) (line : List ℕ) (stop : Stop) (l l1 l2 t t1 : Option (List ℕ)) (n k : ℕ) (piece : List ℕ)
@@ -155,6 +171,7 @@ module _ {R : Type 0} (responds : R → List (Option Call) → List ℕ → R �
       (λ long. back (subst (λ (k : ℕ). 2 ^ 30 < n + k) len long))
       (λ is. absurd (unread is))
       (λ is. held x y line l l1 l2 t t1 n 4096 piece h one consumed (omega (arith, len, most)))
+      (kept_held x 4096 l l2 t t1 (held x y line l l1 l2 t t1 n 4096 piece h one consumed (omega (arith, len, most))) (omega arith))
 
   module _ (on : (x y z : R) (a b : List (Option Call)) (t u : List ℕ) → responds x a t y → responds y b u z → responds x (a ++ b) (t ++ u) z) where
     -- one piece more
@@ -178,8 +195,8 @@ module _ {R : Type 0} (responds : R → List (Option Call) → List ℕ → R �
         (piece : List ℕ) (h : HasRead responds x old.responder old.line l l1 t t1 n) → string_bytes old.output ≡ [] →
         Consumes l1 l2 piece → Advanced responds old fed piece
         → Appends t1 t2 (take k (string_bytes fed.output)) → n + length piece ≤ 2 ^ 30 → (stop ≡ TooLong → ⊥) →
-        (stop ≡ ReadFault → ⊥) → HasStopped responds x stop l l2 t t2
-    stopped_writing x old fed stop l l1 l2 t t1 t2 n k piece h empty consumed a appended most isnt unread =
+        (stop ≡ ReadFault → ⊥) → IsOneLine old.line → length piece ≤ 4096 → HasStopped responds x stop l l2 t t2
+    stopped_writing x old fed stop l l1 l2 t t1 t2 n k piece h empty consumed a appended most isnt unread one few =
         let output : string_bytes fed.output ≡ a.told = a.output ∙ ap (λ (o : List ℕ). o ++ a.told) empty in
         let count : length (h.bytes ++ piece) ≡ n + length piece = length-append h.bytes piece ∙ ap (λ (k : ℕ). k + length piece) h.counted in
         let part = take k (string_bytes fed.output) in
@@ -196,24 +213,36 @@ module _ {R : Type 0} (responds : R → List (Option Call) → List ℕ → R �
           too_long = (λ is. absurd (isnt is), λ long. absurd (omega (arith, long, count, most)));
           at_fault = λ is. absurd (unread is);
           at_length = λ is. absurd (isnt is);
+          kept_up = record {
+            input = h.bytes;
+            piece = piece;
+            read = consumes_more l l1 l2 h.bytes piece h.consumed consumed;
+            short = few;
+            text = h.told;
+            more = part;
+            written = appends_more t t1 t2 h.told part h.appended appended;
+            caught_up = caught_up x old.responder old.line l l1 t t1 n h one;
+          };
         }
 
 -- nothing went out
-pub front_none : (s : State) (bytes : List ℕ) → IsFront s bytes []
-front_none s bytes = record {
+pub front_none : (first : Machine) (s : State) (bytes : List ℕ) → IsFront first s bytes []
+front_none first s bytes = record {
   items = [];
   others = items_of bytes;
   split = refl;
   answers = [];
   state = s;
   run = runs_none s;
+  last = first;
+  steps = refl;
   more = ending_of (items_of bytes) s;
   front = refl;
 }
 
 -- a front of the texts and the end text
 pub front_end : (s : State) (bytes whole : List ℕ) (old machine : Machine) (front more : List ℕ) →
-    IsEnd s old bytes whole machine → front ++ more ≡ whole → IsFront s bytes front
+    IsEnd s old bytes whole machine → front ++ more ≡ whole → IsFront old s bytes front
 front_end s bytes whole old machine front more k split = record {
   items = items_of bytes;
   others = [];
@@ -221,13 +250,15 @@ front_end s bytes whole old machine front more k split = record {
   answers = k.answers;
   state = k.state;
   run = k.run;
+  last = machine;
+  steps = k.steps;
   more = more;
   front = split ∙ k.text;
 }
 
 -- a front of the answers of a machine
 pub front_of_answers : (s : State) (machine : Machine) (bytes text : List ℕ) → IsAt machine s →
-    IsResponseFront IsAnswering machine bytes text → IsFront s bytes text
+    IsResponseFront IsAnswering machine bytes text → IsFront machine s bytes text
 front_of_answers s machine bytes text at k =
     let a = k.responses s at in
     let ending = ending_of k.others a.state in
@@ -238,16 +269,23 @@ front_of_answers s machine bytes text at k =
       answers = a.answers;
       state = a.state;
       run = a.run;
+      last = k.new;
+      steps = a.steps;
       more = k.more ++ ending;
       front = sym (append_assoc text k.more ending) ∙ ap (λ (l : List ℕ). l ++ ending) (k.front ∙ a.text);
     }
 
+-- all lines that ended are answered
+answers_caught_up : (s : State) (machine : Machine) (bytes text : List ℕ) → IsAt machine s → HasCaughtUp IsAnswering machine bytes text → IsCaughtUp machine s bytes text
+answers_caught_up s machine bytes text at k =
+    let a = k.responses s at in
+    record { items = k.items; item = k.item; ended = k.ended; answers = a.answers; state = a.state; run = a.run; last = k.new; steps = a.steps; told = a.text }
+
 -- a machine that stopped at a read
 pub interrupted : (s : State) (machine : Machine) (most : ℕ) (l l1 t t1 : Option (List ℕ)) → IsAt machine s →
-    HasHeld IsAnswering machine most l l1 t t1 → IsInterrupted s most l l1 t t1
+    HasHeld IsAnswering machine most l l1 t t1 → IsInterrupted machine s most l l1 t t1
 interrupted s machine most l l1 t t1 at h =
     let k = h.caught_up in
-    let a = k.responses s at in
     record {
       input = h.input;
       piece = h.piece;
@@ -255,8 +293,36 @@ interrupted s machine most l l1 t t1 at h =
       short = h.short;
       text = h.text;
       written = h.written;
-      caught_up = record { items = k.items; item = k.item; ended = k.ended; answers = a.answers; state = a.state; run = a.run; told = a.text };
+      caught_up = answers_caught_up s machine h.input h.text at k;
     }
+
+-- a machine that stopped anywhere
+pub seen_kept_up : (s : State) (machine : Machine) (l l1 t t1 : Option (List ℕ)) → IsAt machine s →
+    HasKeptUp IsAnswering machine l l1 t t1 → IsKeptUp machine s l l1 t t1
+seen_kept_up s machine l l1 t t1 at h = record {
+  input = h.input;
+  piece = h.piece;
+  read = h.read;
+  short = h.short;
+  text = h.text;
+  more = h.more;
+  written = h.written;
+  caught_up = answers_caught_up s machine h.input h.text at h.caught_up;
+}
+
+-- what was written after the end of the input
+pub kept_last : (s : State) (machine last : Machine) (line part : List ℕ) (l l1 t t1 t2 : Option (List ℕ)) (n : ℕ) →
+    IsAt machine s → (h : HasRead IsAnswering machine last line l l1 t t1 n) → IsOneLine line → Appends t1 t2 part → IsKeptUp machine s l l1 t t2
+kept_last s machine last line part l l1 t t1 t2 n at h one appended = record {
+  input = h.bytes;
+  piece = [];
+  read = subst (Consumes l l1) (sym (append-nil h.bytes)) h.consumed;
+  short = omega arith;
+  text = h.told;
+  more = part;
+  written = appends_more t t1 t2 h.told part h.appended appended;
+  caught_up = answers_caught_up s machine h.bytes h.told at (caught_up IsAnswering machine last line l l1 t t1 n h one);
+}
 
 texts_more : (xs ys : List (Option Answer)) (t u last : List ℕ) → t ≡ texts_of xs → u ≡ texts_of ys ++ last → t ++ u ≡ texts_of (xs ++ ys) ++ last
 texts_more xs ys t u last p q =
@@ -266,8 +332,8 @@ texts_more xs ys t u last p q =
 
 -- some bytes are answered, and then a front of the rest
 front_last : (s : State) (machine last : Machine) (bytes told line part : List ℕ) (at : IsAt machine s)
-    (a : Responded IsAnswering machine [] bytes told line last) → IsFront (a.responses s at).state line part →
-    IsFront s bytes (told ++ part)
+    (a : Responded IsAnswering machine [] bytes told line last) → IsFront last (a.responses s at).state line part →
+    IsFront machine s bytes (told ++ part)
 front_last s machine last bytes told line part at a k =
     let b = a.responses s at in
     record {
@@ -278,6 +344,8 @@ front_last s machine last bytes told line part at a k =
       answers = b.answers ++ k.answers;
       state = k.state;
       run = run_on s b.state k.state a.items k.items b.answers k.answers b.run k.run;
+      last = k.last;
+      steps = steps_on machine last k.last a.items k.items b.answers k.answers b.steps k.steps;
       more = k.more;
       front = append_assoc told part k.more ∙ texts_more b.answers k.answers told (part ++ k.more) (ending_of k.others k.state) b.text k.front;
     }
@@ -303,7 +371,7 @@ end_after s machine last end bytes told line text at a k =
 
 -- a front of the last texts went out
 pub part_written : (s : State) (line whole out : List ℕ) (old machine : Machine) (t t1 : Option (List ℕ)) (n : ℕ) →
-    out ≡ whole → IsEnd s old line whole machine → Appends t t1 (take n out) → HasPart s line t t1
+    out ≡ whole → IsEnd s old line whole machine → Appends t t1 (take n out) → HasPart s old line t t1
 part_written s line whole out old machine t t1 n same end appended = record {
   told = take n out;
   appended = appended;
@@ -359,7 +427,7 @@ answered s machine last end line l l1 t t1 t2 flushed n at h first short done k 
 
 -- what is seen of a stop
 pub seen_stopped : (s : State) (machine : Machine) (stop : Stop) (l l1 t t1 : Option (List ℕ)) → IsAt machine s →
-    HasStopped IsAnswering machine stop l l1 t t1 → IsStopped s l l1 t t1
+    HasStopped IsAnswering machine stop l l1 t t1 → IsStopped machine s l l1 t t1
 seen_stopped s machine stop l l1 t t1 at h =
     record {
       input = h.bytes;
@@ -371,21 +439,10 @@ seen_stopped s machine stop l l1 t t1 at h =
           front_of_answers s machine h.bytes h.told at h.front;
     }
 
--- nothing was read or written
-pub seen_first : (s : State) (left taken : Option (List ℕ)) → IsStopped s left left taken taken
-seen_first s left taken = record {
-  input = [];
-  read = consumes_nothing left;
-  short = omega arith;
-  text = [];
-  written =
-      appends_nothing taken;
-  front = front_none s [];
-}
-
+-- and of one after the end of the input
 pub seen_last : (s : State) (machine last : Machine) (line : List ℕ) (l l1 t t1 t2 : Option (List ℕ)) (n : ℕ)
     (at : IsAt machine s) (h : HasRead IsAnswering machine last line l l1 t t1 n) → n ≤ 2 ^ 30 →
-    HasPart (h.responded.responses s at).state line t1 t2 → IsStopped s l l1 t t2
+    HasPart (h.responded.responses s at).state last line t1 t2 → IsStopped machine s l l1 t t2
 seen_last s machine last line l l1 t t1 t2 n at h short k = record {
   input = h.bytes;
   read = h.consumed;

@@ -3,17 +3,32 @@ use Rattle.std.specs.Prelude.{◌≡◌, ◌≢◌, ◌<◌, ◌≤◌, ◌+◌,
 use Rattle.heap_model.specs.declared.config.Config.{Config}
 use Rattle.heap_model.specs.State.{start}
 use Rattle.kernel_heap.specs.Config.{IsGoodConfig}
+use Rattle.kernel_heap.specs.declared.machine.Machine.{Machine}
 use Rattle.kernel_heap.specs.Machine.{seen}
+use Rattle.kernel_heap.specs.Steps.{IsNewMachine}
 use Rattle.heap_program.specs.declared.arguments.Command.{Command}
 use Rattle.heap_program.specs.declared.ended.Ended.{Ended}
 use Rattle.heap_program.specs.Command.{machine_config}
 use Rattle.heap_program.specs.Faults.{HasRisen}
 use Rattle.heap_program.specs.Flushed.{IsUpToDate}
-use Rattle.heap_program.specs.Generated.{IsGenerated, IsGenerationStopped}
-use Rattle.heap_program.specs.Headline.{IsRunAnswered, IsInterrupted, IsStopped}
+use Rattle.heap_program.specs.Generated.{IsGenerated}
+use Rattle.heap_program.specs.Headline.{IsRunAnswered, IsInterrupted, IsKeptUp, IsStopped}
 use Rattle.heap_program.specs.LiveBlocks.{HoldsBlocks}
 use Rattle.heap_program.specs.Status.{TellsRefusal}
+use Rattle.heap_program.specs.Stepped.{IsGenerationStoppedByNew}
 use Rattle.heap_program.specs.Streams.{Streams}
+
+-- What a machine of a configuration, which was new, has done of a run that stopped early. Each answer is the one that the machine's step
+-- gave: no request is refused for want of room while a chunk serves it, and so on, as `AreSteps` says.
+pub record IsStoppedByNew {S K : Type 0} (streams : Streams S K) (config : Config) (source source' : S) (sink sink' : K) (status : ℕ) : Type 0 where
+  pub first : Machine
+  pub new : IsNewMachine config first
+  pub stopped : IsStopped first (start config) (streams.left source) (streams.left source') (streams.taken sink) (streams.taken sink')
+  -- The answers to a piece of the input are written before more of it is asked for: wherever the run stopped, at most the lines of the
+  -- last piece have no answer, and where a read failed, or the input is too long, nothing else is written.
+  pub kept_up : IsKeptUp first (start config) (streams.left source) (streams.left source') (streams.taken sink) (streams.taken sink')
+  pub caught_up : status ≡ 6 → IsInterrupted first (start config) 0 (streams.left source) (streams.left source') (streams.taken sink) (streams.taken sink')
+  pub caught_up_long : status ≡ 8 → IsInterrupted first (start config) 4096 (streams.left source) (streams.left source') (streams.taken sink) (streams.taken sink')
 
 -- What `run` has done over a new machine of a configuration.
 pub record IsRunDone {S K : Type 0} (streams : Streams S K) (config : Config) (source source' : S) (sink sink' : K) (ended : Ended) : Type 0 where
@@ -24,11 +39,9 @@ pub record IsRunDone {S K : Type 0} (streams : Streams S K) (config : Config) (s
       IfSome ended.machine (λ machine.
       (run : IsRunAnswered (start config) (streams.left source) (streams.left source') (streams.taken sink) (streams.taken sink') (streams.flushed sink') machine)
       × HoldsBlocks (seen machine) run.state.blocks)
-  -- From status 5 on, a part of that was done.
-  pub stopped : 5 ≤ ended.status → IsStopped (start config) (streams.left source) (streams.left source') (streams.taken sink) (streams.taken sink')
-  -- The answers to a piece of the input are written before more of it is asked for.
-  pub caught_up : ended.status ≡ 6 → IsInterrupted (start config) 0 (streams.left source) (streams.left source') (streams.taken sink) (streams.taken sink')
-  pub caught_up_long : ended.status ≡ 8 → IsInterrupted (start config) 4096 (streams.left source) (streams.left source') (streams.taken sink) (streams.taken sink')
+  -- From status 5 on, a part of that was done by a machine that was new. Or no machine was made, for want of memory, and nothing was
+  -- read or written.
+  pub stopped : 5 ≤ ended.status → ((ended.status ≡ 5) × (source' ≡ source) × (sink' ≡ sink)) ⊎ IsStoppedByNew streams config source source' sink sink' ended.status
 
 -- What `gen` has done: it drew `count` calls from the seed, and answered them by a new machine of a configuration.
 pub record IsGenerationDone {S K : Type 0} (streams : Streams S K) (seed count : ℕ) (config : Config) (source source' : S) (sink sink' : K) (ended : Ended) : Type 0 where
@@ -38,8 +51,8 @@ pub record IsGenerationDone {S K : Type 0} (streams : Streams S K) (seed count :
       IfSome ended.machine (λ machine.
       (run : IsGenerated (start config) seed count (streams.taken sink) (streams.taken sink') (streams.flushed sink') machine)
       × HoldsBlocks (seen machine) run.state.blocks)
-  -- From status 5 on, a front of that text is written, or nothing.
-  pub stopped : 5 ≤ ended.status → IsGenerationStopped (start config) seed count (streams.taken sink) (streams.taken sink')
+  -- From status 5 on, a front of that text is written, or nothing. The answers are steps of a machine that was new, if one was made.
+  pub stopped : 5 ≤ ended.status → ((ended.status ≡ 5) × (sink' ≡ sink)) ⊎ IsGenerationStoppedByNew config seed count (streams.taken sink) (streams.taken sink')
   -- It reads nothing, so the source neither fails nor has too much.
   pub unread : (source' ≡ source) × (ended.status ≤ 7) × (ended.status ≢ 6)
 

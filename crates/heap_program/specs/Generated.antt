@@ -7,6 +7,7 @@ use Rattle.heap_model.specs.Run.{IsGood, RunsTo}
 use Rattle.heap_model.specs.Machine.{Stands}
 use Rattle.kernel_heap.specs.declared.machine.Machine.{Machine}
 use Rattle.kernel_heap.specs.Machine.{seen}
+use Rattle.kernel_heap.specs.Steps.{StepsTo}
 use Rattle.heap_program.specs.Flushed.{IsAllFlushed}
 use Rattle.heap_program.specs.Generator.{first_state, drawn_calls, blocks_given, refused_count}
 use Rattle.heap_program.specs.Text.{tally_line, end_text_of}
@@ -33,17 +34,19 @@ pub record IsGenerated (s : State) (seed count : ℕ) (before after : Option (Li
   pub good : IsGood state
   pub stands : Stands (seen machine) state
 
--- a front of the text of a run over `count` calls
-pub record IsGeneratedFront (s : State) (seed count : ℕ) (text : List ℕ) : Type 0 where
+-- a front of the text of a run over `count` calls, which the machine answered by a step each
+pub record IsGeneratedFront (first : Machine) (s : State) (seed count : ℕ) (text : List ℕ) : Type 0 where
   pub answers : List Answer
   pub state : State
   pub counted : length answers ≡ count
   pub drawn : AreDrawn s seed answers state
+  pub last : Machine
+  pub steps : StepsTo first (map Some (drawn_calls (first_state seed) 0 answers)) (map Some answers) last
   pub more : List ℕ
   pub front : text ++ more ≡ generated_text seed answers state
 
 -- The run stopped before its end: nothing is written, or a front of its text.
-pub record IsGenerationStopped (s : State) (seed count : ℕ) (before after : Option (List ℕ)) : Type 0 where
+pub record IsGenerationStopped (first : Machine) (s : State) (seed count : ℕ) (before after : Option (List ℕ)) : Type 0 where
   pub text : List ℕ
   pub written : Appends before after text
-  pub front : (text ≡ []) ⊎ IsGeneratedFront s seed count text
+  pub front : (text ≡ []) ⊎ IsGeneratedFront first s seed count text

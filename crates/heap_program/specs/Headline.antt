@@ -9,6 +9,7 @@ use Rattle.heap_model.specs.Run.{IsGood, RunsTo}
 use Rattle.heap_model.specs.Machine.{Stands}
 use Rattle.kernel_heap.specs.declared.machine.Machine.{Machine}
 use Rattle.kernel_heap.specs.Machine.{seen}
+use Rattle.kernel_heap.specs.Steps.{StepsTo}
 use Rattle.heap_program.specs.Flushed.{IsAllFlushed}
 use Rattle.heap_program.specs.Lines.{items_of}
 use Rattle.heap_program.specs.Progress.{texts_of}
@@ -45,45 +46,61 @@ ending_of [] state = end_text_of state
 ending_of (other ∷ others) state = []
 
 -- The text is a front of the texts of a run over the first lines of the bytes and, if these are all, of the end
--- text after them.
-pub record IsFront (s : State) (bytes text : List ℕ) : Type 0 where
+-- text after them. From the first machine each answer is the one that the machine's step gave.
+pub record IsFront (first : Machine) (s : State) (bytes text : List ℕ) : Type 0 where
   pub items : List (Option Call)
   pub others : List (Option Call)
   pub split : items_of bytes ≡ items ++ others
   pub answers : List (Option Answer)
   pub state : State
   pub run : RunsTo s items answers state
+  pub last : Machine
+  pub steps : StepsTo first items answers last
   pub more : List ℕ
   pub front : text ++ more ≡ texts_of answers ++ ending_of others state
 
--- All lines that ended in these bytes are answered, and the text is that of the answers. A line feed more would end one
--- line more.
-pub record IsCaughtUp (s : State) (bytes text : List ℕ) : Type 0 where
+-- All lines that ended in these bytes are answered, each as the step of the machine gave it, and the text is that of the
+-- answers. A line feed more would end one line more.
+pub record IsCaughtUp (first : Machine) (s : State) (bytes text : List ℕ) : Type 0 where
   pub items : List (Option Call)
   pub item : Option Call
   pub ended : items_of (bytes ++ 10 ∷ []) ≡ items ++ item ∷ []
   pub answers : List (Option Answer)
   pub state : State
   pub run : RunsTo s items answers state
+  pub last : Machine
+  pub steps : StepsTo first items answers last
   pub told : text ≡ texts_of answers
 
 -- A run that stopped at a read. All lines that ended before the last piece are answered, and the piece has at most `most`
 -- bytes.
-pub record IsInterrupted (s : State) (most : ℕ) (had left before after : Option (List ℕ)) : Type 0 where
+pub record IsInterrupted (first : Machine) (s : State) (most : ℕ) (had left before after : Option (List ℕ)) : Type 0 where
   pub input : List ℕ
   pub piece : List ℕ
   pub read : Consumes had left (input ++ piece)
   pub short : length piece ≤ most
   pub text : List ℕ
   pub written : Appends before after text
-  pub caught_up : IsCaughtUp s input text
+  pub caught_up : IsCaughtUp first s input text
+
+-- A run that stopped, wherever it did. All lines that ended before the last piece are answered, and the piece has at most 4096 bytes. So no
+-- piece is asked for before the answers to the ones before it are written.
+pub record IsKeptUp (first : Machine) (s : State) (had left before after : Option (List ℕ)) : Type 0 where
+  pub input : List ℕ
+  pub piece : List ℕ
+  pub read : Consumes had left (input ++ piece)
+  pub short : length piece ≤ 4096
+  pub text : List ℕ
+  pub more : List ℕ
+  pub written : Appends before after (text ++ more)
+  pub caught_up : IsCaughtUp first s input text
 
 -- A run that stopped before its end: the input that it took, which is at most one piece of 4096 bytes longer than 2 ^ 30
 -- bytes, and the text that it wrote.
-pub record IsStopped (s : State) (had left before after : Option (List ℕ)) : Type 0 where
+pub record IsStopped (first : Machine) (s : State) (had left before after : Option (List ℕ)) : Type 0 where
   pub input : List ℕ
   pub read : Consumes had left input
   pub short : length input ≤ 2 ^ 30 + 4096
   pub text : List ℕ
   pub written : Appends before after text
-  pub front : IsFront s input text
+  pub front : IsFront first s input text

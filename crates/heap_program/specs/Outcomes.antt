@@ -9,7 +9,7 @@ use Rattle.heap_program.specs.declared.sink.SinkFault.{SinkFault}
 use Rattle.heap_program.specs.declared.sink.SinkFault.TheVariants.{Failed, OutOfMemory}
 use Rattle.heap_program.specs.Faults.{HasRisen}
 use Rattle.heap_program.specs.Flushed.{IsUpToDate}
-use Rattle.heap_program.specs.Headline.{IsInterrupted, IsStopped}
+use Rattle.heap_program.specs.Headline.{IsInterrupted, IsStopped, IsKeptUp}
 use Rattle.heap_program.specs.Progress.{IsAt}
 
 -- What a write to a sink tells of its faults. The sink's count is `before`, and then `now`.
@@ -53,6 +53,7 @@ pub record IsReadToEnd (result : Result ℕ Stop) (left : Option (List ℕ)) (ou
 -- A run of a machine that stops early has read and answered a part, from each state for which the machine stood. Where the source
 -- failed, or the input is too long, all lines that ended before the last piece are answered.
 pub record HasRunInPart {T : Type 0} (machine : Machine) (result : Result T Stop) (had left before after : Option (List ℕ)) : Type 0 where
-  pub stopped : OnErr result ((s : State) → IsAt machine s → IsStopped s had left before after)
-  pub at_fault : IsErrOf result ReadFault → (s : State) → IsAt machine s → IsInterrupted s 0 had left before after
-  pub at_length : IsErrOf result TooLong → (s : State) → IsAt machine s → IsInterrupted s 4096 had left before after
+  pub stopped : OnErr result ((s : State) → IsAt machine s → IsStopped machine s had left before after)
+  pub at_fault : IsErrOf result ReadFault → (s : State) → IsAt machine s → IsInterrupted machine s 0 had left before after
+  pub at_length : IsErrOf result TooLong → (s : State) → IsAt machine s → IsInterrupted machine s 4096 had left before after
+  pub kept_up : OnErr result ((s : State) → IsAt machine s → IsKeptUp machine s had left before after)

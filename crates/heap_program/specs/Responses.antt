@@ -45,3 +45,15 @@ pub record HasHeld {R : Type 0} (responds : R → List (Option Call) → List �
   pub text : List ℕ
   pub written : Appends before after text
   pub caught_up : HasCaughtUp responds old input text
+
+-- It stopped, and had responded to all lines that ended before the last piece, which has at most 4096 bytes. More of the response may be
+-- written.
+pub record HasKeptUp {R : Type 0} (responds : R → List (Option Call) → List ℕ → R → Type 0) (old : R) (had left before after : Option (List ℕ)) : Type 0 where
+  pub input : List ℕ
+  pub piece : List ℕ
+  pub read : Consumes had left (input ++ piece)
+  pub short : length piece ≤ 4096
+  pub text : List ℕ
+  pub more : List ℕ
+  pub written : Appends before after (text ++ more)
+  pub caught_up : HasCaughtUp responds old input text

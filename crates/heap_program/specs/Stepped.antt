@@ -6,7 +6,7 @@ use Rattle.kernel_heap.specs.declared.machine.Machine.{Machine}
 use Rattle.kernel_heap.specs.Steps.{IsNewMachine, StepsTo}
 use Rattle.heap_program.specs.declared.arguments.Command.{Command}
 use Rattle.heap_program.specs.declared.arguments.Command.TheVariants.{Run, Generate}
-use Rattle.heap_program.specs.Generated.{IsGenerated}
+use Rattle.heap_program.specs.Generated.{IsGenerated, IsGenerationStopped}
 use Rattle.heap_program.specs.Generator.{first_state, drawn_calls}
 use Rattle.heap_program.specs.Headline.{IsRunAnswered}
 use Rattle.heap_program.specs.Lines.{items_of}
@@ -30,6 +30,11 @@ IsAnsweredByNew config had left before after flushed last =
 abbrev pub IsGeneratedByNew : Config → ℕ → ℕ → Option (List ℕ) → Option (List ℕ) → Option ℕ → Machine → Type 0
 IsGeneratedByNew config seed count before after flushed last =
     (first : Machine) × IsNewMachine config first × IsGeneratedBy first (start config) seed count before after flushed last
+
+-- so where calls that are drawn stop early
+abbrev pub IsGenerationStoppedByNew : Config → ℕ → ℕ → Option (List ℕ) → Option (List ℕ) → Type 0
+IsGenerationStoppedByNew config seed count before after =
+    (first : Machine) × IsNewMachine config first × IsGenerationStopped first (start config) seed count before after
 
 -- The answers of a command that ended well are steps of a machine that was new. So each is more than allowed: no request is refused for
 -- want of room while a chunk serves it, a block is in the chunk that the bins' order names, and the extents are the heap's own.

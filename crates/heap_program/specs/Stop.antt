@@ -11,7 +11,7 @@ use Rattle.heap_program.specs.declared.sink.SinkFault.{SinkFault}
 use Rattle.heap_program.specs.declared.sink.SinkFault.TheVariants.{Failed, OutOfMemory}
 use Rattle.heap_program.specs.Headline.{IsFront}
 use Rattle.heap_program.specs.Progress.{IsEnd}
-use Rattle.heap_program.specs.Responses.{Responded, IsResponseFront, HasHeld}
+use Rattle.heap_program.specs.Responses.{Responded, IsResponseFront, HasHeld, HasKeptUp}
 
 -- what a fault of the sink stops a run for
 abbrev pub stop_of : SinkFault → Stop
@@ -46,10 +46,10 @@ pub record HasClosed (s : State) (old new : Machine) (line : List ℕ) (before a
   pub end : IsEnd s old line told new
 
 -- Only a front of that went to the sink.
-pub record HasPart (s : State) (line : List ℕ) (before after : Option (List ℕ)) : Type 0 where
+pub record HasPart (s : State) (old : Machine) (line : List ℕ) (before after : Option (List ℕ)) : Type 0 where
   pub told : List ℕ
   pub appended : Appends before after told
-  pub front : IsFront s line told
+  pub front : IsFront old s line told
 
 -- What came and went before a stop.
 pub record HasStopped {R : Type 0} (responds : R → List (Option Call) → List ℕ → R → Type 0) (old : R) (stop : Stop) (had left before after : Option (List ℕ)) : Type 0 where
@@ -62,3 +62,4 @@ pub record HasStopped {R : Type 0} (responds : R → List (Option Call) → List
   pub too_long : stop ≡ TooLong ↔ 2 ^ 30 < length bytes
   pub at_fault : stop ≡ ReadFault → HasHeld responds old 0 had left before after
   pub at_length : stop ≡ TooLong → HasHeld responds old 4096 had left before after
+  pub kept_up : HasKeptUp responds old had left before after

@@ -1,5 +1,5 @@
 // A run over calls that are drawn.
-ghost use Rattle.std.specs.Prelude.{◌≡◌, ◌≤◌, ◌<◌, ◌+◌, ◌^◌, IfOk, OnOk, OnErr, ◌↔◌, IsSome, IfSome};
+ghost use Rattle.std.specs.Prelude.{◌≡◌, ◌≤◌, ◌⊎◌, ◌<◌, ◌+◌, ◌^◌, IfOk, OnOk, OnErr, ◌↔◌, IsSome, IfSome};
 ghost use Rattle.heap_model.specs.State.{State, start};
 ghost use Rattle.heap_program.specs.Drawing.{HasDrawnOne, HasDrawnCalls};
 ghost use Rattle.heap_program.specs.Generated.{IsGenerationStopped};
@@ -7,7 +7,7 @@ ghost use Rattle.heap_program.specs.Generator.{first_state, numbers_given, refus
 ghost use Rattle.heap_program.specs.Outcomes.{TellsSinkStop};
 ghost use Rattle.heap_program.specs.Status.{IsGenerationStatus};
 ghost use Rattle.heap_program.specs.Progress.{IsAt};
-ghost use Rattle.heap_program.specs.Stepped.{IsGeneratedBy, IsGeneratedByNew};
+ghost use Rattle.heap_program.specs.Stepped.{IsGeneratedBy, IsGeneratedByNew, IsGenerationStoppedByNew};
 
 use crate::ended::{Ended, ended_early, refusal_status, status_of};
 use crate::generator::{first_state, next_call};
@@ -108,7 +108,7 @@ fn generate<K: Sink>(
     requires { count ≤ 1000000 }
     ensures generated { IfOk result (λ last. (s : State) → IsAt machine s →
         IsGeneratedBy machine s seed count (K.taken sink.old) (K.taken sink.new) (K.flushed sink.new) last) }
-    ensures stopped { OnErr result ((s : State) → IsAt machine s → IsGenerationStopped s seed count (K.taken sink.old) (K.taken sink.new)) }
+    ensures stopped { OnErr result ((s : State) → IsAt machine s → IsGenerationStopped machine s seed count (K.taken sink.old) (K.taken sink.new)) }
     ensures faults { TellsSinkStop result (K.faults sink.old) (K.faults sink.new) }
 {
     let mut drawing = Drawing::new(alloc, machine, seed);
@@ -132,7 +132,7 @@ pub fn generate_new<K: Sink>(
     requires { count ≤ 1000000 }
     ensures machine { IsSome result.machine ↔ (result.status ≡ 0) }
     ensures generated { IfSome result.machine (IsGeneratedByNew config.now seed count (K.taken sink.old) (K.taken sink.new) (K.flushed sink.new)) }
-    ensures stopped { 5 ≤ result.status → IsGenerationStopped (start config.now) seed count (K.taken sink.old) (K.taken sink.new) }
+    ensures stopped { 5 ≤ result.status → ((result.status ≡ 5) × (sink.new ≡ sink.old)) ⊎ IsGenerationStoppedByNew config.now seed count (K.taken sink.old) (K.taken sink.new) }
     ensures status { IsGenerationStatus config.now sink.old sink.new (K.faults sink.old) (K.faults sink.new) result.status }
 {
     let machine = match Machine::new(alloc, config) {

@@ -3,6 +3,7 @@ ghost use Rattle.std.specs.Prelude.{◌≡◌, ◌<◌, ◌^◌, ◌+◌, ◌↔
 ghost use Rattle.std.specs.Io.KnownBytes.{Appends};
 ghost use Rattle.heap_model.specs.State.{State};
 ghost use Rattle.heap_program.specs.Flushed.{IsAllFlushed};
+ghost use Rattle.heap_program.specs.Lines.{IsOneLine};
 ghost use Rattle.heap_program.specs.Outcomes.{TellsSinkFaults, TellsSinkStop, TellsRunFaults, HasFlushed, IsReadToEnd, HasRunInPart};
 ghost use Rattle.heap_program.specs.Progress.{IsAt};
 ghost use Rattle.heap_program.specs.Stop.{stop_of, IsFreshSession, HasRead, HasClosed, HasPart, HasStopped};
@@ -110,6 +111,7 @@ pub fn read_all<R: Respond + Drop, S: Source, K: Sink>(
     requires { IsFreshSession session.old }
     ensures ok { IfOk result (λ count.
         HasRead R.responds session.old.responder session.new.responder session.new.line (S.left source.old) (S.left source.new) (K.taken sink.old) (K.taken sink.new) count) }
+    ensures line { OnOk result (IsOneLine session.new.line) }
     ensures whole { IsReadToEnd result (S.left source.new) (string_bytes session.new.output) }
     ensures err { IfErr result (λ stop.
         HasStopped R.responds session.old.responder stop (S.left source.old) (S.left source.new) (K.taken sink.old) (K.taken sink.new)) }
@@ -139,7 +141,7 @@ fn close<K: Sink>(session: &mut Session<Machine>, sink: &mut K) -> Result<(), St
         HasClosed s session.old.responder session.new.responder session.old.line (K.taken sink.old) (K.taken sink.new)) }
     ensures flushed { OnOk result (IsAllFlushed (K.taken sink.new) (K.flushed sink.new)) }
     ensures err { OnErr result ((s : State) → IsAt session.old.responder s →
-        HasPart s session.old.line (K.taken sink.old) (K.taken sink.new)) }
+        HasPart s session.old.responder session.old.line (K.taken sink.old) (K.taken sink.new)) }
     ensures faults { TellsSinkStop result (K.faults sink.old) (K.faults sink.new) }
 {
     session.finish()?;

@@ -18,7 +18,6 @@ use Rattle.heap_program.specs.Lines.{items_of}
 use Rattle.heap_program.specs.Progress.{IsAt}
 use Rattle.heap_program.specs.Responses.{HasResponded}
 use Rattle.heap_program.specs.Stop.{HasRead, HasStopped}
-use Rattle.heap_program.proofs.Known.{appends_nothing, consumes_nothing}
 use Rattle.heap_program.proofs.Wholes.{read_whole}
 use Rattle.heap_report.specs.declared.listed.Listed.{Listed}
 use Rattle.heap_report.specs.declared.noted.Noted.{Noted}
@@ -141,10 +140,10 @@ silent_stop keeps first stop l l1 t t1 h = subst (λ (out : List ℕ). Appends t
     (front_nothing h.told h.front.more h.front.whole h.front.front h.front.responses.silent) h.appended
 
 -- a run that stopped as it read
-pub part_stopped : {T : Type 0} (keeps : T → List Call → List Answer → Type 0) (text : Text) (s : State) (first : Noted T)
+pub part_stopped : {T : Type 0} (keeps : T → List Call → List Answer → Type 0) (text : Text) (s : State) (machine : Machine) (first : Noted T)
     (stop : Stop) (l l1 t t1 : Option (List ℕ)) → HasStopped (IsReplaying keeps) first stop l l1 t t1 →
-    IsToldInPart text s l l1 t t1
-part_stopped keeps text s first stop l l1 t t1 h = record {
+    IsToldInPart text s machine l l1 t t1
+part_stopped keeps text s machine first stop l l1 t t1 h = record {
   taken = h.bytes;
   read = h.consumed;
   short = h.short;
@@ -154,10 +153,10 @@ part_stopped keeps text s first stop l l1 t t1 h = record {
 }
 
 -- one that stopped after that, before it wrote
-pub part_read : {T : Type 0} (keeps : T → List Call → List Answer → Type 0) (text : Text) (s : State) (first last : Noted T)
+pub part_read : {T : Type 0} (keeps : T → List Call → List Answer → Type 0) (text : Text) (s : State) (machine : Machine) (first last : Noted T)
     (line : List ℕ) (l l1 t t1 : Option (List ℕ)) (n : ℕ) → HasRead (IsReplaying keeps) first last line l l1 t t1 n →
-    n ≤ 2 ^ 30 → IsToldInPart text s l l1 t t1
-part_read keeps text s first last line l l1 t t1 n h short =
+    n ≤ 2 ^ 30 → IsToldInPart text s machine l l1 t t1
+part_read keeps text s machine first last line l l1 t t1 n h short =
     record {
       taken = h.bytes;
       read = h.consumed;
@@ -174,7 +173,7 @@ pub part_written : {T : Type 0} (keeps : T → List Call → List Answer → Typ
     (h : HasRead (IsReplaying keeps) first last line l l1 t t1 n) → n ≤ 2 ^ 30 → IsAtEnd l1 →
     (w : IsWhole keeps s machine h.bytes kept listed)
     → output ≡ text_of_run text listed.machine s h.bytes w.answers w.state listed.extents w.replay.last.earlier →
-    Appends t1 t2 (take k output) → IsToldInPart text s l l1 t t2
+    Appends t1 t2 (take k output) → IsToldInPart text s machine l l1 t t2
 part_written keeps text s machine first last kept listed line output l l1 t t1 t2 n k h short done w is written = record {
   taken = h.bytes;
   read = h.consumed;
@@ -189,6 +188,7 @@ part_written keeps text s machine first last kept listed line output l l1 t t1 t
     extents = listed.extents;
     replay = w.replay;
     machine = listed.machine;
+    steps = w.steps;
     stands = w.at.stands;
     of_heap = w.of_heap;
     more = drop k output;
@@ -215,16 +215,4 @@ told keeps text s machine first last kept listed line output l l1 t t1 t2 flushe
   flushed_all = all;
   stands = w.at.stands;
   of_heap = w.of_heap;
-}
-
--- nothing was read or written
-pub part_first : (text : Text) (s : State) (left taken : Option (List ℕ)) → IsToldInPart text s left left taken taken
-part_first text s left taken = record {
-  taken = [];
-  read = consumes_nothing left;
-  short = omega arith;
-  front = [];
-  written =
-      appends_nothing taken;
-  is = inl refl;
 }

@@ -57,8 +57,8 @@ pub record IsTold (text : EndText) (s : State) (first : Machine) (had left befor
   pub stands : Stands (seen machine) state
   pub of_heap : AreTheHeapsExtents machine extents
 
--- a front of the text of a run over an input that was read whole
-pub record IsFrontOfText (text : EndText) (s : State) (had left : Option (List ℕ)) (front : List ℕ) : Type 0 where
+-- a front of the text of a run over an input that was read whole, whose answers are those that the machine's own steps gave
+pub record IsFrontOfText (text : EndText) (s : State) (first : Machine) (had left : Option (List ℕ)) (front : List ℕ) : Type 0 where
   pub input : List ℕ
   pub read : IsReadWhole had left input
   pub answers : List Answer
@@ -67,16 +67,17 @@ pub record IsFrontOfText (text : EndText) (s : State) (had left : Option (List �
   pub replay : IsReplayOf s input answers state extents
   pub more : List ℕ
   pub machine : Machine
+  pub steps : StepsTo first (map Some (calls_of input)) (map Some answers) machine
   pub stands : Stands (seen machine) state
   pub of_heap : AreTheHeapsExtents machine extents
   pub is : front ++ more ≡ text_of_run text machine s input answers state extents replay.last.earlier
 
 -- A run that stopped before its end: nothing is written, or a front of its text. It took at most one piece of 4096 bytes more than
 -- 2 ^ 30 bytes.
-pub record IsToldInPart (text : EndText) (s : State) (had left before after : Option (List ℕ)) : Type 0 where
+pub record IsToldInPart (text : EndText) (s : State) (first : Machine) (had left before after : Option (List ℕ)) : Type 0 where
   pub taken : List ℕ
   pub read : Consumes had left taken
   pub short : length taken ≤ 2 ^ 30 + 4096
   pub front : List ℕ
   pub written : Appends before after front
-  pub is : (front ≡ []) ⊎ IsFrontOfText text s had left front
+  pub is : (front ≡ []) ⊎ IsFrontOfText text s first had left front

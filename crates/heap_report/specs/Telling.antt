@@ -23,8 +23,12 @@ pub record TellsOf (text : EndText) (config : Config) (had left before after : O
       (first : Machine) × IsNewMachine config first × IsTold text (start config) first had left before after flushed machine extents))
   -- statuses 2 to 4 tell why no machine could be made
   pub refused : TellsRefusal config reported.status
-  -- from 5 on a front of such a text is written, or nothing: at 6 and 8 nothing
-  pub part : 5 ≤ reported.status → IsToldInPart text (start config) had left before after
+  -- from 5 on a front of such a text of a machine that was new is written, or nothing: at 6 and 8 nothing; or, at 5, no machine was made,
+  -- and nothing was read or written
+  pub part :
+      5 ≤ reported.status →
+      ((reported.status ≡ 5) × (left ≡ had) × (after ≡ before))
+      ⊎ ((first : Machine) × IsNewMachine config first × IsToldInPart text (start config) first had left before after)
   pub silent : (reported.status ≡ 6) ⊎ (reported.status ≡ 8) → Appends before after []
   -- at 6 the source failed, at 7 the sink, and at 8 the input is too long; and 5 is what is left, for want of memory
   pub read_fault : reported.status ≡ 6 → HasRisen reads reads'

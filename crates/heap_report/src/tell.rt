@@ -65,7 +65,7 @@ fn tell_run<T: Tell, S: Source, K: Sink>(
     ensures told { IfOk result (λ listed. (s : State) → IsAt machine s → s.blocks ≡ [] →
         IsTold T.text s machine (S.left source.old) (S.left source.new) (K.taken sink.old) (K.taken sink.new) (K.flushed sink.new) listed.machine listed.extents) }
     ensures part { OnErr result ((s : State) → IsAt machine s → s.blocks ≡ [] →
-        IsToldInPart T.text s (S.left source.old) (S.left source.new) (K.taken sink.old) (K.taken sink.new)) }
+        IsToldInPart T.text s machine (S.left source.old) (S.left source.new) (K.taken sink.old) (K.taken sink.new)) }
     ensures silent { (IsErrOf result ReadFault) ⊎ (IsErrOf result TooLong) → Appends (K.taken sink.old) (K.taken sink.new) [] }
     ensures too_long { IfSome (S.left source.old) (λ input.
         IsErrOf result TooLong ↔ (2 ^ 30 + length (unwrap_or (S.left source.new) []) < length input)) }

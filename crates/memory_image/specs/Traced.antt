@@ -29,5 +29,6 @@ AreTraced old [] told new = (told ≡ []) × (new ≡ old)
 AreTraced old (item ∷ items) told new =
     (middle : Machine) × (first : List ℕ) × (rest : List ℕ) × (told ≡ first ++ rest) × IsTraced old item first middle × AreTraced middle items rest new
 
+-- the items were answered by the machine's steps, with this text of registers and memory
 abbrev pub IsTracing : Traced → List (Option Call) → List ℕ → Traced → Type 0
 IsTracing old items told new = AreTraced old.machine items told new.machine

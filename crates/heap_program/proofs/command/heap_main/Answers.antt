@@ -1,9 +1,9 @@
-use Rattle.std.proofs.Common.{rules, arith, ℕ, ◌≡◌, Some, IfSome, inl, inr, refl, sym, subst}
+use Rattle.std.proofs.Common.{arith, ℕ, ◌≡◌, ◌≤◌, ◌⊎◌, Some, IfSome, inl, inr, refl, sym, subst}
 use Rattle.heap_model.specs.declared.config.Config.{Config}
 use Rattle.heap_program.specs.declared.arguments.Command.TheVariants.{Run, Generate}
 use Rattle.heap_program.specs.Command.{command_of}
 use Rattle.heap_program.specs.Done.{IsStatusOf}
-use Rattle.heap_program.specs.Stepped.{IsAnsweredByNew, IsGeneratedByNew}
+use Rattle.heap_program.specs.Stepped.{IsAnsweredByNew, IsGeneratedByNew, IsGenerationStoppedByNew}
 use Rattle.heap_program.specs.Streams.{streams}
 use Rattle.heap_program.proofs.Commands.{complete_status, unread_long, same_run, same_generate, one_kind}
 use Rattle.heap_program.proofs.LiveBlocks.{generated_live}
@@ -60,7 +60,11 @@ returns-in-Some-Generate-clause-generated g c = λ seed count config is.
     (taken c.generate_new.new.sink) flushed)) c.generate_new.ensures.generated in
     record {
       generated = generated_live c.generate_new.result.machine config seed count (taken c.args.sink.now) (taken c.generate_new.new.sink) flushed done;
-      stopped = search rules;
+      stopped = same_generate words it.seed it.count it.config seed count config known is
+          (λ (i n : ℕ) (k : Config). 5 ≤ c.generate_new.result.status →
+          ((c.generate_new.result.status ≡ 5) × (c.generate_new.new.sink ≡ c.args.sink.now))
+          ⊎ IsGenerationStoppedByNew k i n (taken c.args.sink.now) (taken c.generate_new.new.sink))
+          c.generate_new.ensures.stopped;
       unread = (refl, statuses.2, statuses.1);
     }
 

@@ -3,16 +3,13 @@ use Rattle.std.specs.Prelude.{unwrap_or}
 use Rattle.heap_model.specs.State.{start}
 use Rattle.heap_program.proofs.Commands.{made_status, ok_status, stop_status, complete_status}
 use Rattle.heap_program.proofs.LiveBlocks.{holds_blocks}
-use Rattle.heap_program.proofs.Wholes.{seen_first}
 use Rattle.heap_program.proofs.command.run_new.Goals as goal
 
 -- no machine was made
 pub returns-in-Err-clause-run : goal.returns-in-Err-clause-run
 returns-in-Err-clause-run g c = record {
   answered = search rules;
-  stopped = λ late. seen_first (start c.args.config.now) (g.S.Source.left c.args.source.now) (g.K.Sink.taken c.args.sink.now);
-  caught_up = search rules;
-  caught_up_long = search rules;
+  stopped = λ late. inl (search rules, refl, refl);
 }
 
 pub returns-in-Err-clause-status : goal.returns-in-Err-clause-status
@@ -37,8 +34,6 @@ returns-in-Ok-run-clause-run g c =
     record {
       answered = (run, holds_blocks _ run.state run.good run.stands);
       stopped = λ late. absurd (omega (arith, late));
-      caught_up = λ six. absurd (omega (arith, six));
-      caught_up_long = λ eight. absurd (omega (arith, eight));
     }
 
 pub returns-in-Ok-run-clause-steps : goal.returns-in-Ok-run-clause-steps
@@ -70,11 +65,16 @@ returns-in-Err-run-clause-run g c =
     let part = c.in-Err-run.ensures.part in
     record {
       answered = search rules;
-      stopped = λ late. part.stopped (start c.args.config.now) (record { good = new.good; stands = new.stands });
-      caught_up = λ six. part.at_fault (search rules) (start c.args.config.now)
-          (record { good = new.good; stands = new.stands });
-      caught_up_long = λ eight. part.at_length (search rules) (start c.args.config.now)
-          (record { good = new.good; stands = new.stands });
+      stopped = λ late. inr (record {
+        first = c.in-Ok.machine;
+        new = new;
+        stopped = part.stopped (start c.args.config.now) (record { good = new.good; stands = new.stands });
+        kept_up = part.kept_up (start c.args.config.now) (record { good = new.good; stands = new.stands });
+        caught_up = λ six. part.at_fault (search rules) (start c.args.config.now)
+            (record { good = new.good; stands = new.stands });
+        caught_up_long = λ eight. part.at_length (search rules) (start c.args.config.now)
+            (record { good = new.good; stands = new.stands });
+      });
     }
 
 pub returns-in-Err-run-clause-status : goal.returns-in-Err-run-clause-status

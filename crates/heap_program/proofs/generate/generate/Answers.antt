@@ -1,4 +1,5 @@
 use Rattle.std.proofs.Common.{◌≡◌, ◌⊎◌, inl, string_bytes, sym, subst, rules}
+use Rattle.heap_program.specs.Generated.{IsGenerationStopped}
 use Rattle.heap_program.specs.Progress.{IsAt}
 use Rattle.heap_program.specs.Stepped.{IsGeneratedBy}
 use Rattle.heap_program.proofs.Draws.{all_drawn, whole_text, none_generated, part_generated, all_generated}
@@ -11,15 +12,15 @@ use Rattle.heap_program.proofs.generate.generate.Goals as goal
 
 pub returns-in_err-draw_calls-clause-stopped : goal.returns-in_err-draw_calls-clause-stopped
 returns-in_err-draw_calls-clause-stopped g c = on_err c.from_residual.result
-    (λ s at. none_generated s c.args.seed c.args.count (g.K.Sink.taken c.args.sink.now))
+    (λ s at. none_generated c.args.machine s c.args.seed c.args.count (g.K.Sink.taken c.args.sink.now))
 
 pub returns-in_err-push_tally-clause-stopped : goal.returns-in_err-push_tally-clause-stopped
 returns-in_err-push_tally-clause-stopped g c = on_err c.from_residual-in_err-push_tally.result
-    (λ s at. none_generated s c.args.seed c.args.count (g.K.Sink.taken c.args.sink.now))
+    (λ s at. none_generated c.args.machine s c.args.seed c.args.count (g.K.Sink.taken c.args.sink.now))
 
 pub returns-in_err-push_end-clause-stopped : goal.returns-in_err-push_end-clause-stopped
 returns-in_err-push_end-clause-stopped g c = on_err c.from_residual-in_err-push_end.result
-    (λ s at. none_generated s c.args.seed c.args.count (g.K.Sink.taken c.args.sink.now))
+    (λ s at. none_generated c.args.machine s c.args.seed c.args.count (g.K.Sink.taken c.args.sink.now))
 
 pub returns-in_err-draw_calls-clause-faults : goal.returns-in_err-draw_calls-clause-faults
 returns-in_err-draw_calls-clause-faults g c = record {
@@ -50,11 +51,13 @@ returns-in_err-write_out-clause-stopped g c = on_err c.from_residual-in_err-writ
     (c.in_ok-draw_calls.ensures s (subst (λ (m : Machine). IsAt m s) (sym first.machine) at)) in
     let out = string_bytes c.push_end.new.out in
     let part = c.in_err-write_out.ensures.err in
-    part_generated s c.new-drawing.result.machine c.args.seed c.args.count drawing w out (g.K.Sink.taken c.args.sink.now)
+    subst (λ (m : Machine). IsGenerationStopped m s c.args.seed c.args.count (g.K.Sink.taken c.args.sink.now)
+    (g.K.Sink.taken c.write_out.new.sink)) first.machine
+    (part_generated s c.new-drawing.result.machine c.args.seed c.args.count drawing w out (g.K.Sink.taken c.args.sink.now)
     (g.K.Sink.taken c.write_out.new.sink) part.0
     (whole_text s c.new-drawing.result.machine c.args.seed c.args.count drawing w (string_bytes c.new-output.result)
     (string_bytes c.push_tally.new.out) out c.new-output.ensures.bytes c.in_ok-push_tally.ensures
-    (c.in_ok-push_end.ensures w.state w.at.stands)) part.1)
+    (c.in_ok-push_end.ensures w.state w.at.stands)) part.1))
 
 pub returns-in_err-write_out-clause-faults : goal.returns-in_err-write_out-clause-faults
 returns-in_err-write_out-clause-faults g c =

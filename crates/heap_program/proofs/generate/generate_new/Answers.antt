@@ -1,4 +1,4 @@
-use Rattle.std.proofs.Common.{rules}
+use Rattle.std.proofs.Common.{rules, inl, inr, refl}
 use Rattle.heap_model.specs.State.{start}
 use Rattle.heap_program.proofs.Commands.{made_status}
 use Rattle.heap_program.proofs.generate.generate_new.Goals as goal
@@ -15,3 +15,13 @@ returns-in-Ok-generate-clause-status g c = record {
   untouched = search rules;
   write_fault = search rules;
 }
+
+-- no machine was made
+pub returns-in-Err-clause-stopped : goal.returns-in-Err-clause-stopped
+returns-in-Err-clause-stopped g c late = inl (search rules, refl)
+
+-- it stopped early
+pub returns-in-Err-generate-clause-stopped : goal.returns-in-Err-generate-clause-stopped
+returns-in-Err-generate-clause-stopped g c late =
+    let new = c.in-Ok.ensures.new in
+    inr (c.in-Ok.machine, new, c.in-Err-generate.ensures.stopped (start c.args.config.now) (record { good = new.good; stands = new.stands }))

@@ -21,4 +21,4 @@ returns-clause-err g c = on_err_weaker c.write_out.result (λ part s at.
 
 pub returns-in_err-finish-clause-err : goal.returns-in_err-finish-clause-err
 returns-in_err-finish-clause-err g c = on_err c.from_residual.result (λ s at.
-    record { told = []; appended = appends_nothing (g.K.Sink.taken c.args.sink.now); front = front_none s c.args.session.now.line })
+    record { told = []; appended = appends_nothing (g.K.Sink.taken c.args.sink.now); front = front_none c.args.session.now.responder s c.args.session.now.line })

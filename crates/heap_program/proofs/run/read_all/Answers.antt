@@ -99,4 +99,5 @@ returns-in_err-write_out-clause-err g c = if_err c.from_residual-in_err-write_ou
     c.feed.new.self stop (left c.args.source.now) (left c.pieces.source) (left c.read.new.self) (taken c.args.sink.now)
     (taken c.pieces.sink) (taken c.write_out.new.sink) c.pieces.count part.0 (take n buf)
     c.pieces.invariant.read c.pieces.invariant.empty c.in_ok-n.ensures.told c.in_ok-feed.ensures.fed part.1
-    (omega (arith, len)) (of_sink stop which) (sink_isnt stop which))
+    (omega (arith, len)) (of_sink stop which) (sink_isnt stop which) c.pieces.invariant.one_line
+    (omega (arith, len, c.in_ok-n.ensures.within, c.read.auto.buf)))

@@ -1,12 +1,13 @@
 use Rattle.std.proofs.Common.{List, Option, length, ap, subst, arith}
 use Rattle.heap_model.specs.State.{Block}
 use Rattle.kernel_heap.specs.declared.machine.Machine.{Machine}
+use Rattle.heap_program.specs.Headline.{IsInterrupted, IsKeptUp, IsStopped}
 use Rattle.heap_program.specs.Stepped.{IsAnsweredBy}
 use Rattle.heap_program.specs.declared.run.Stop.TheVariants.{ReadFault, WriteFault, TooLong}
 use Rattle.heap_program.proofs.Counts.{risen_later}
 use Rattle.heap_program.proofs.Errors.{on_err}
 use Rattle.heap_program.proofs.Sessions.{begun}
-use Rattle.heap_program.proofs.Wholes.{answered, interrupted, seen_stopped, seen_last, of_sink, sink_isnt, stop_is, passed_on}
+use Rattle.heap_program.proofs.Wholes.{answered, interrupted, kept_last, seen_kept_up, seen_stopped, seen_last, of_sink, sink_isnt, stop_is, passed_on}
 use Rattle.heap_program.proofs.Wholes.{err_long, late_long, ok_long, stop_long}
 use Rattle.heap_program.proofs.run.run.Goals as goal
 
@@ -19,17 +20,28 @@ returns-in_err-read_all-clause-part g c =
     let failed = c.in_err-read_all.ensures.err in
     let stop = c.in_err-read_all.field-0.0 in
     record {
-      stopped = on_err c.from_residual.result (λ s at. seen_stopped s first stop (left c.args.source.now)
+      stopped = on_err c.from_residual.result (λ s at. subst (λ (m : Machine). IsStopped m s (left c.args.source.now)
+          (left c.read_all.new.source) (taken c.args.sink.now) (taken c.read_all.new.sink)) c.new-session.ensures.responder
+          (seen_stopped s first stop (left c.args.source.now)
           (left c.read_all.new.source) (taken c.args.sink.now) (taken c.read_all.new.sink)
-          (begun s c.new-session.result c.args.machine c.new-session.ensures.responder at) failed);
-      at_fault = λ is s at. interrupted s first 0 (left c.args.source.now) (left c.read_all.new.source)
+          (begun s c.new-session.result c.args.machine c.new-session.ensures.responder at) failed));
+      at_fault = λ is s at. subst (λ (m : Machine). IsInterrupted m s 0 (left c.args.source.now)
+          (left c.read_all.new.source) (taken c.args.sink.now) (taken c.read_all.new.sink)) c.new-session.ensures.responder
+          (interrupted s first 0 (left c.args.source.now) (left c.read_all.new.source)
           (taken c.args.sink.now) (taken c.read_all.new.sink)
           (begun s c.new-session.result c.args.machine c.new-session.ensures.responder at)
-          (failed.at_fault (stop_is c.from_residual.result stop ReadFault c.from_residual.ensures.1 is));
-      at_length = λ is s at. interrupted s first 4096 (left c.args.source.now) (left c.read_all.new.source)
+          (failed.at_fault (stop_is c.from_residual.result stop ReadFault c.from_residual.ensures.1 is)));
+      at_length = λ is s at. subst (λ (m : Machine). IsInterrupted m s 4096 (left c.args.source.now)
+          (left c.read_all.new.source) (taken c.args.sink.now) (taken c.read_all.new.sink)) c.new-session.ensures.responder
+          (interrupted s first 4096 (left c.args.source.now) (left c.read_all.new.source)
           (taken c.args.sink.now) (taken c.read_all.new.sink)
           (begun s c.new-session.result c.args.machine c.new-session.ensures.responder at)
-          (failed.at_length (stop_is c.from_residual.result stop TooLong c.from_residual.ensures.1 is));
+          (failed.at_length (stop_is c.from_residual.result stop TooLong c.from_residual.ensures.1 is)));
+      kept_up = on_err c.from_residual.result (λ s at. subst (λ (m : Machine). IsKeptUp m s (left c.args.source.now)
+          (left c.read_all.new.source) (taken c.args.sink.now) (taken c.read_all.new.sink)) c.new-session.ensures.responder
+          (seen_kept_up s first (left c.args.source.now)
+          (left c.read_all.new.source) (taken c.args.sink.now) (taken c.read_all.new.sink)
+          (begun s c.new-session.result c.args.machine c.new-session.ensures.responder at) failed.kept_up));
     }
 
 pub returns-in_err-read_all-clause-too_long : goal.returns-in_err-read_all-clause-too_long
@@ -75,12 +87,24 @@ returns-in_err-close-clause-part g c =
       stopped = on_err r.result (λ s at.
           let first = begun s c.new-session.result c.args.machine c.new-session.ensures.responder at in
           let b = h.responded.responses s first in
-          seen_last s c.new-session.result.responder c.read_all.new.session.responder c.read_all.new.session.line
+          subst (λ (m : Machine). IsStopped m s (left c.args.source.now) (left c.read_all.new.source) (taken c.args.sink.now)
+          (taken c.close.new.sink)) c.new-session.ensures.responder
+          (seen_last s c.new-session.result.responder c.read_all.new.session.responder c.read_all.new.session.line
           (left c.args.source.now) (left c.read_all.new.source) (taken c.args.sink.now) (taken c.read_all.new.sink)
           (taken c.close.new.sink) c.in_ok-read_all.field-0
-          first h c.in_ok-read_all.ensures.whole.short (c.in_err-close.ensures.err b.state b.at));
+          first h c.in_ok-read_all.ensures.whole.short (c.in_err-close.ensures.err b.state b.at)));
       at_fault = λ is. absurd (sink_isnt stop which (stop_is r.result stop ReadFault r.ensures.1 is));
       at_length = λ is. absurd (of_sink stop which (stop_is r.result stop TooLong r.ensures.1 is));
+      kept_up = on_err r.result (λ s at.
+          let first = begun s c.new-session.result c.args.machine c.new-session.ensures.responder at in
+          let b = h.responded.responses s first in
+          let part = c.in_err-close.ensures.err b.state b.at in
+          subst (λ (m : Machine). IsKeptUp m s (left c.args.source.now) (left c.read_all.new.source) (taken c.args.sink.now)
+          (taken c.close.new.sink)) c.new-session.ensures.responder
+          (kept_last s c.new-session.result.responder c.read_all.new.session.responder c.read_all.new.session.line part.told
+          (left c.args.source.now) (left c.read_all.new.source) (taken c.args.sink.now) (taken c.read_all.new.sink)
+          (taken c.close.new.sink) c.in_ok-read_all.field-0
+          first h c.in_ok-read_all.ensures.line part.appended));
     }
 
 pub returns-in_err-close-clause-too_long : goal.returns-in_err-close-clause-too_long

@@ -3,7 +3,6 @@ use Rattle.std.specs.Prelude.{unwrap_or}
 use Rattle.heap_model.specs.State.{start}
 use Rattle.heap_program.proofs.Commands.{made_status, complete_status}
 use Rattle.heap_report.proofs.Lengths.{ok_status, stop_status}
-use Rattle.heap_report.proofs.Whole.{part_first}
 use Rattle.heap_report.proofs.tell.tell_new.Goals as goal
 
 -- no machine was made
@@ -13,7 +12,7 @@ returns-in-Err-clause-tells g c = record {
   extents = search rules;
   told = search rules;
   refused = search rules;
-  part = λ late. part_first g.T.Tell.text (start c.args.config.now) (g.S.Source.left c.args.source.now) (g.K.Sink.taken c.args.sink.now);
+  part = λ late. inl (search rules, refl, refl);
   silent = search rules;
   read_fault = search rules;
   write_fault = search rules;
@@ -58,8 +57,12 @@ returns-in-Err-tell_run-clause-tells g c =
       extents = search rules;
       told = search rules;
       refused = search rules;
-      part = λ late. c.in-Err-tell_run.ensures.part (start c.args.config.now)
-          (record { good = c.in-Ok.ensures.new.good; stands = c.in-Ok.ensures.new.stands }) refl;
+      part = λ late. inr (
+        c.in-Ok.machine,
+        c.in-Ok.ensures.new,
+        c.in-Err-tell_run.ensures.part (start c.args.config.now)
+            (record { good = c.in-Ok.ensures.new.good; stands = c.in-Ok.ensures.new.stands }) refl,
+      );
       silent = search rules;
       read_fault = search rules;
       write_fault = search rules;

@@ -1,11 +1,12 @@
-use Rattle.std.proofs.Common.{rules, inl, inr, Ok, refl, sym, subst}
+use Rattle.std.proofs.Common.{rules, inl, inr, Ok, Err, refl, sym, ap, subst}
 use Rattle.std.specs.Prelude.{List, string_bytes}
 use Rattle.dlmalloc_chunks.specs.declared.extent.Extent.{Extent}
 use Rattle.dlmalloc_chunks.specs.Tiling.{AreInSegments}
-use Rattle.heap_program.specs.declared.run.Stop.TheVariants.{Memory}
+use Rattle.heap_program.specs.declared.run.Stop.{Stop}
+use Rattle.heap_program.specs.declared.run.Stop.TheVariants.{Memory, ReadFault, WriteFault}
 use Rattle.heap_program.proofs.Errors.{on_err}
 use Rattle.heap_report.specs.Noting.{IsBegunWith}
-use Rattle.heap_report.proofs.Lengths.{stopped_long, read_long, not_long, not_read}
+use Rattle.heap_report.proofs.Lengths.{stopped_long, read_long, stop_is, not_long, not_read}
 use Rattle.heap_report.proofs.Whole.{served_input, silent_read, silent_stop, part_stopped, part_read, part_written, told, whole, text_is}
 use Rattle.heap_report.proofs.tell.tell_run.Goals as goal
 
@@ -14,7 +15,7 @@ pub returns-in_err-read_all-clause-part : goal.returns-in_err-read_all-clause-pa
 returns-in_err-read_all-clause-part g c = on_err c.from_residual.result (λ s at none.
     let left = g.S.Source.left in
     let taken = g.K.Sink.taken in
-    part_stopped g.T.Tell.keeps g.T.Tell.text s c.new-session.result.responder c.in_err-read_all.field-0.0
+    part_stopped g.T.Tell.keeps g.T.Tell.text s c.args.machine c.new-session.result.responder c.in_err-read_all.field-0.0
     (left c.args.source.now) (left c.read_all.new.source) (taken c.args.sink.now) (taken c.read_all.new.sink)
     c.in_err-read_all.ensures.err)
 
@@ -32,12 +33,24 @@ returns-in_err-read_all-clause-too_long g c =
     stopped_long c.from_residual.result c.in_err-read_all.field-0.0 (left c.args.source.now) (left c.read_all.new.source)
     h.bytes c.from_residual.ensures.1 h.consumed h.too_long
 
+pub returns-in_err-read_all-clause-read_cause : goal.returns-in_err-read_all-clause-read_cause
+returns-in_err-read_all-clause-read_cause g c is =
+    let r = c.from_residual in
+    let stop = c.in_err-read_all.field-0.0 in
+    c.in_err-read_all.ensures.faults.read_cause (ap (λ (e : Stop). Err e) (stop_is r.result stop ReadFault r.ensures.1 is))
+
+pub returns-in_err-read_all-clause-write_cause : goal.returns-in_err-read_all-clause-write_cause
+returns-in_err-read_all-clause-write_cause g c is =
+    let r = c.from_residual in
+    let stop = c.in_err-read_all.field-0.0 in
+    c.in_err-read_all.ensures.faults.write_cause (ap (λ (e : Stop). Err e) (stop_is r.result stop WriteFault r.ensures.1 is))
+
 -- the last line could not be served
 pub returns-in_err-end-clause-part : goal.returns-in_err-end-clause-part
 returns-in_err-end-clause-part g c = on_err c.from_residual-in_err-end.result (λ s at none.
     let left = g.S.Source.left in
     let taken = g.K.Sink.taken in
-    part_read g.T.Tell.keeps g.T.Tell.text s c.new-session.result.responder c.read_all.new.session.responder
+    part_read g.T.Tell.keeps g.T.Tell.text s c.args.machine c.new-session.result.responder c.read_all.new.session.responder
     c.read_all.new.session.line (left c.args.source.now) (left c.read_all.new.source) (taken c.args.sink.now)
     (taken c.read_all.new.sink) c.in_ok-read_all.field-0 c.in_ok-read_all.ensures.ok
     c.in_ok-read_all.ensures.whole.short)
@@ -66,7 +79,7 @@ pub returns-in_err-listed-clause-part : goal.returns-in_err-listed-clause-part
 returns-in_err-listed-clause-part g c = on_err c.from_residual-in_err-listed.result (λ s at none.
     let left = g.S.Source.left in
     let taken = g.K.Sink.taken in
-    part_read g.T.Tell.keeps g.T.Tell.text s c.new-session.result.responder c.read_all.new.session.responder
+    part_read g.T.Tell.keeps g.T.Tell.text s c.args.machine c.new-session.result.responder c.read_all.new.session.responder
     c.read_all.new.session.line (left c.args.source.now) (left c.read_all.new.source) (taken c.args.sink.now)
     (taken c.read_all.new.sink) c.in_ok-read_all.field-0 c.in_ok-read_all.ensures.ok
     c.in_ok-read_all.ensures.whole.short)
@@ -96,7 +109,7 @@ pub returns-in_err-push-clause-part : goal.returns-in_err-push-clause-part
 returns-in_err-push-clause-part g c = on_err c.from_residual-in_err-push.result (λ s at none.
     let left = g.S.Source.left in
     let taken = g.K.Sink.taken in
-    part_read g.T.Tell.keeps g.T.Tell.text s c.new-session.result.responder c.read_all.new.session.responder
+    part_read g.T.Tell.keeps g.T.Tell.text s c.args.machine c.new-session.result.responder c.read_all.new.session.responder
     c.read_all.new.session.line (left c.args.source.now) (left c.read_all.new.source) (taken c.args.sink.now)
     (taken c.read_all.new.sink) c.in_ok-read_all.field-0 c.in_ok-read_all.ensures.ok
     c.in_ok-read_all.ensures.whole.short)

@@ -1,5 +1,6 @@
-use Rattle.std.proofs.Common.{inl, refl, subst}
-use Rattle.heap_program.specs.declared.run.Stop.TheVariants.{Memory, ReadFault}
+use Rattle.std.proofs.Common.{inl, refl, subst, ap, Err}
+use Rattle.heap_program.specs.declared.run.Stop.{Stop}
+use Rattle.heap_program.specs.declared.run.Stop.TheVariants.{Memory, ReadFault, WriteFault}
 use Rattle.heap_program.proofs.Wholes.{err_long, late_long, ok_long, sink_isnt, stop_is, stop_long}
 use Rattle.memory_image.specs.declared.tracing.Traced.{Traced}
 use Rattle.memory_image.specs.Imaged.{IsImaged}
@@ -14,6 +15,18 @@ returns-in_err-read_all-clause-too_long g c =
     let h = c.in_err-read_all.ensures.err in
     stop_long (left c.args.source.now) (left c.read_all.new.source) c.from_residual.result stop c.from_residual.ensures.1
     (err_long (left c.args.source.now) (left c.read_all.new.source) h.bytes stop h.consumed h.too_long)
+
+pub returns-in_err-read_all-clause-read_cause : goal.returns-in_err-read_all-clause-read_cause
+returns-in_err-read_all-clause-read_cause g c is =
+    let stop = c.in_err-read_all.field-0.0 in
+    c.in_err-read_all.ensures.faults.read_cause
+    (ap (λ (e : Stop). Err e) (stop_is c.from_residual.result stop ReadFault c.from_residual.ensures.1 is))
+
+pub returns-in_err-read_all-clause-write_cause : goal.returns-in_err-read_all-clause-write_cause
+returns-in_err-read_all-clause-write_cause g c is =
+    let stop = c.in_err-read_all.field-0.0 in
+    c.in_err-read_all.ensures.faults.write_cause
+    (ap (λ (e : Stop). Err e) (stop_is c.from_residual.result stop WriteFault c.from_residual.ensures.1 is))
 
 -- the last line could not be served
 pub returns-in_err-end-clause-too_long : goal.returns-in_err-end-clause-too_long
