@@ -39,7 +39,7 @@ static uint64_t page_entry(uint64_t frame, bool write, bool user, bool fetch) {
 static __attribute__((noinline)) uint32_t map(uint64_t address, uint64_t frame, bool write, bool user, bool fetch) {
     if (!is_canonical(address)) return LIMZHUR_NOT_CANONICAL;
     if (frame >= LIMIT) return LIMZHUR_PAST_LIMIT;
-    if (FIRST <= frame && frame < FIRST + FRAMES) return LIMZHUR_IN_AREA;
+    if (user && FIRST <= frame && frame < FIRST + FRAMES) return LIMZHUR_IN_AREA;
     uint64_t *entry = entry_of(address, true);
     if (!entry) return LIMZHUR_NO_FRAMES;
     if (*entry & 1) return LIMZHUR_IS_MAPPED;
@@ -51,7 +51,9 @@ static __attribute__((noinline)) uint32_t protect(uint64_t address, bool write, 
     if (!is_canonical(address)) return LIMZHUR_NOT_CANONICAL;
     uint64_t *entry = entry_of(address, false);
     if (!entry || !(*entry & 1)) return LIMZHUR_NOT_MAPPED;
-    *entry = page_entry(*entry >> 12 & 0xffffffffff, write, user, fetch);
+    uint64_t frame = *entry >> 12 & 0xffffffffff;
+    if (user && FIRST <= frame && frame < FIRST + FRAMES) return LIMZHUR_IN_AREA;
+    *entry = page_entry(frame, write, user, fetch);
     return LIMZHUR_DONE;
 }
 
@@ -80,7 +82,7 @@ int main(int count, char **given) {
     if (count != 3) return 1;
     bool by_hand = given[1][0] == 'h';
     uint64_t answers = 0;
-    if (!by_hand) limzhur_tables_init(room, words, 512 * FRAMES, FIRST, LIMIT);
+    if (!by_hand) limzhur_tables_init(room, words, 512 * FRAMES, FIRST, LIMIT), limzhur_share_area(&tables);
     for (uint64_t n = 0, at = 1 << 28; n < PAGES; n++, at += 4096) {
         answers += by_hand ? map(at, 1000 + n, true, false, false) : limzhur_map(&tables, at, 1000 + n, true, false, false);
     }

@@ -1,5 +1,6 @@
-/* The page tables beside a plain map: random calls on a few hundred pages of both halves, with every answer compared, and a
- * walk of the raw words after each. The area begins at the frame that is given, and pages lie before and after it. */
+/* The page tables beside a plain map: random calls on a few hundred pages of both halves, with flags and without, with every answer
+ * compared, and a walk of the raw words after each. The area begins at the frame that is given, and pages lie before and after it;
+ * in the second half of the calls pages of the kernel may lead into it. */
 #include <limzhur_tables.h>
 #include <stdio.h>
 #include <stdlib.h>
@@ -11,8 +12,9 @@
 static _Alignas(4096) uint64_t words[512 * FRAMES];
 static _Alignas(8) unsigned char room[LIMZHUR_TABLES_ROOM];
 
-static struct page { uint64_t address; bool mapped; struct limzhur_place place; } pages[PAGES];
+static struct page { uint64_t address; bool mapped; struct limzhur_flagged_place place; } pages[PAGES];
 static uint64_t first, limit;
+static bool is_shared;
 static int wrong;
 
 static uint64_t drawn = 88172645463325252ull;
@@ -30,21 +32,28 @@ static void wants(bool good, const char *what) {
 
 static bool is_in_area(uint64_t frame) { return first <= frame && frame < first + FRAMES; }
 
-/* The walk of the manual over the raw words, as far as pages of 4 KiB go. */
-static bool walk(uint64_t root, uint64_t address, struct limzhur_place *place) {
-    struct limzhur_place met = {root, true, true, true};
+/* Whether a page with these flags may not lead to the frame. */
+static bool is_hidden(uint64_t frame, uint32_t flags) { return is_in_area(frame) && (!is_shared || flags & LIMZHUR_USER); }
+
+/* The walk of the manual over the raw words, as far as pages of 4 KiB go. The type and the global bit are those of the last entry. */
+static bool walk(uint64_t root, uint64_t address, struct limzhur_flagged_place *place) {
+    uint64_t frame = root, entry = 0, all = ~0ull, denied = 0;
     for (int shift = 39; shift >= 12; shift -= 9) {
-        if (!is_in_area(met.frame)) return false;
-        uint64_t entry = words[512 * (met.frame - first) + (address >> shift & 511)];
+        if (!is_in_area(frame)) return false;
+        entry = words[512 * (frame - first) + (address >> shift & 511)];
         if (!(entry & 1)) return false;
-        met = (struct limzhur_place){entry >> 12 & 0xffffffffff, met.write && entry & 2, met.user && entry & 4, met.fetch && !(entry >> 63)};
+        frame = entry >> 12 & 0xffffffffff, all &= entry, denied |= entry >> 63;
     }
-    *place = met;
+    uint32_t rights = (all & 2 ? LIMZHUR_WRITE : 0) | (all & 4 ? LIMZHUR_USER : 0) | (denied ? 0 : LIMZHUR_FETCH);
+    *place = (struct limzhur_flagged_place){frame, rights | LIMZHUR_TYPE(entry >> 3 & 3) | (entry & 256 ? LIMZHUR_GLOBAL : 0)};
     return true;
 }
 
-static bool is_same(struct limzhur_place a, struct limzhur_place b) {
-    return a.frame == b.frame && a.write == b.write && a.user == b.user && a.fetch == b.fetch;
+static bool is_same(struct limzhur_flagged_place a, struct limzhur_flagged_place b) { return a.frame == b.frame && a.flags == b.flags; }
+
+static bool is_told(struct limzhur_place told, struct limzhur_flagged_place place) {
+    return told.frame == place.frame && told.write == !!(place.flags & LIMZHUR_WRITE) && told.user == !!(place.flags & LIMZHUR_USER)
+        && told.fetch == !!(place.flags & LIMZHUR_FETCH);
 }
 
 /* How many tables a page misses: those of one, two and three indices, of no page that was ever mapped. */
@@ -59,26 +68,41 @@ static int missing(const bool *ever, int at) {
 }
 
 static void look(struct limzhur_tables *tables, struct page *page) {
-    struct limzhur_place told = {0}, found = {0};
-    bool is_told = limzhur_lookup(tables, page->address + draw(4096), &told);
+    struct limzhur_place told = {0};
+    struct limzhur_flagged_place flagged = {77, 77}, found = {0};
+    uint64_t address = page->address + draw(4096);
+    bool is_there = limzhur_lookup(tables, address, &told), is_flagged = limzhur_lookup_flags(tables, address, &flagged);
     bool is_found = walk(limzhur_tables_root(tables), page->address, &found);
-    wants(is_told == page->mapped && (!is_told || is_same(told, page->place)), "lookup");
+    wants(is_there == page->mapped && (!is_there || is_told(told, page->place)), "lookup");
+    wants(is_flagged == page->mapped && is_same(flagged, is_flagged ? page->place : (struct limzhur_flagged_place){77, 77}), "lookup_flags");
     wants(is_found == page->mapped && (!is_found || is_same(found, page->place)), "walk");
+}
+
+static uint32_t map(struct limzhur_tables *tables, struct page *page, uint64_t frame, uint32_t flags, bool is_plain) {
+    if (!is_plain) return limzhur_map_flags(tables, page->address, frame, flags);
+    return limzhur_map(tables, page->address, frame, flags & LIMZHUR_WRITE, flags & LIMZHUR_USER, flags & LIMZHUR_FETCH);
+}
+
+static uint32_t protect(struct limzhur_tables *tables, struct page *page, uint32_t flags, bool is_plain) {
+    if (!is_plain) return limzhur_protect_flags(tables, page->address, flags);
+    return limzhur_protect(tables, page->address, flags & LIMZHUR_WRITE, flags & LIMZHUR_USER, flags & LIMZHUR_FETCH);
 }
 
 static void call(struct limzhur_tables *tables, bool *ever, int at) {
     struct page *page = pages + at;
-    bool write = draw(2), user = draw(2), fetch = draw(2);
+    bool is_plain = draw(2);
+    uint32_t flags = draw(is_plain ? 8 : 64), unknown = draw(2) ? 64 : 1u << 31;
     uint64_t frame = draw(limit + 2), told = 77, left = limzhur_tables_left(tables);
     switch (draw(3)) {
     case 0: {
         uint64_t wanted = missing(ever, at);
-        uint32_t answer = limzhur_map(tables, page->address, frame, write, user, fetch);
-        uint32_t right = page->mapped ? LIMZHUR_IS_MAPPED : frame >= limit ? LIMZHUR_PAST_LIMIT : is_in_area(frame) ? LIMZHUR_IN_AREA
+        wants(limzhur_map_flags(tables, page->address, frame, flags | unknown) == LIMZHUR_BAD_FLAGS, "map with an unknown flag");
+        uint32_t answer = map(tables, page, frame, flags, is_plain);
+        uint32_t right = page->mapped ? LIMZHUR_IS_MAPPED : frame >= limit ? LIMZHUR_PAST_LIMIT : is_hidden(frame, flags) ? LIMZHUR_IN_AREA
             : left < wanted ? LIMZHUR_NO_FRAMES : LIMZHUR_DONE;
         wants(answer == right, "map");
         if (answer == LIMZHUR_DONE) {
-            *page = (struct page){page->address, true, {frame, write, user, fetch}};
+            *page = (struct page){page->address, true, {frame, flags}};
             ever[at] = true;
             left -= wanted;
         }
@@ -91,9 +115,11 @@ static void call(struct limzhur_tables *tables, bool *ever, int at) {
         break;
     }
     default: {
-        uint32_t answer = limzhur_protect(tables, page->address, write, user, fetch);
-        wants(answer == (page->mapped ? LIMZHUR_DONE : LIMZHUR_NOT_MAPPED), "protect");
-        page->place = (struct limzhur_place){page->place.frame, write, user, fetch};
+        wants(limzhur_protect_flags(tables, page->address, flags | unknown) == LIMZHUR_BAD_FLAGS, "protect with an unknown flag");
+        uint32_t answer = protect(tables, page, flags, is_plain);
+        bool hidden = page->mapped && is_in_area(page->place.frame) && flags & LIMZHUR_USER;
+        wants(answer == (!page->mapped ? LIMZHUR_NOT_MAPPED : hidden ? LIMZHUR_IN_AREA : LIMZHUR_DONE), "protect");
+        if (!hidden) page->place.flags = is_plain ? (page->place.flags & ~7u) | flags : flags;
     }
     }
     wants(limzhur_tables_left(tables) == left, "left");
@@ -104,23 +130,24 @@ static void call(struct limzhur_tables *tables, bool *ever, int at) {
 /* A large page: 512 pages by one entry. */
 static void use_a_large_page(struct limzhur_tables *tables) {
     const uint64_t address = 0x7f0000000000, run = (limit - 512) / 512 * 512;
-    struct limzhur_place place;
+    struct limzhur_flagged_place place;
     uint64_t told = 77;
     wants(limzhur_map_large(tables, address + 4096, run, true, false, false) == LIMZHUR_MISALIGNED, "an address off its multiple");
     wants(limzhur_map_large(tables, address, run + 1, true, false, false) == LIMZHUR_MISALIGNED, "a frame off its multiple");
-    wants(limzhur_map_large(tables, address, first / 512 * 512, true, false, false) == LIMZHUR_IN_AREA, "a large page over the area");
+    wants(limzhur_map_large(tables, address, first / 512 * 512, false, true, false) == LIMZHUR_IN_AREA, "a large page over the area");
     wants(limzhur_map_large(tables, address, run + 512, true, false, false) == LIMZHUR_PAST_LIMIT, "a large page past the limit");
+    wants(limzhur_map_large_flags(tables, address, run, 64) == LIMZHUR_BAD_FLAGS, "a large page with an unknown flag");
     wants(limzhur_unmap_large(tables, address, &told) == LIMZHUR_NOT_MAPPED && told == 77, "no large page");
     wants(limzhur_map_large(tables, address, run, true, false, true) == LIMZHUR_DONE, "a large page");
     wants(limzhur_map_large(tables, address, run, true, false, true) == LIMZHUR_IS_MAPPED, "a large page that is there");
-    wants(limzhur_lookup(tables, address + 0x1ff123, &place) && is_same(place, (struct limzhur_place){run + 511, true, false, true}), "its last page");
+    wants(limzhur_lookup_flags(tables, address + 0x1ff123, &place)
+        && is_same(place, (struct limzhur_flagged_place){run + 511, LIMZHUR_WRITE | LIMZHUR_FETCH}), "its last page");
     wants(limzhur_protect(tables, address, false, false, false) == LIMZHUR_NO_FRAMES, "a page of it, with no frame for a table");
     wants(limzhur_unmap_large(tables, address, &told) == LIMZHUR_DONE && told == run, "its end");
-    wants(!limzhur_lookup(tables, address, &place), "after its end");
-    for (int right = 0; right < 3; right++) {
-        struct limzhur_place wanted = {run, right == 0, right == 1, right == 2};
-        wants(limzhur_map_large(tables, address, run, wanted.write, wanted.user, wanted.fetch) == LIMZHUR_DONE, "a large page of one right");
-        wants(limzhur_lookup(tables, address, &place) && is_same(place, wanted), "its right");
+    wants(!limzhur_lookup_flags(tables, address, &place), "after its end");
+    for (uint32_t flags = 0; flags < 64; flags++) {
+        wants(limzhur_map_large_flags(tables, address, run, flags) == LIMZHUR_DONE, "a large page with flags");
+        wants(limzhur_lookup_flags(tables, address, &place) && is_same(place, (struct limzhur_flagged_place){run, flags}), "its flags");
         wants(limzhur_unmap_large(tables, address, &told) == LIMZHUR_DONE && told == run, "its end");
     }
     wants(limzhur_map(tables, address, run, true, false, false) == LIMZHUR_NO_FRAMES, "a page there");
@@ -144,7 +171,10 @@ int main(int count, char **given) {
             if (pages[m].address == pages[n].address) pages[n].address ^= 0x100000 + ((uint64_t)n << 12 & 0xff000);
         }
     }
-    for (int n = 0; n < CALLS; n++) call(&tables, ever, draw(PAGES));
+    for (int n = 0; n < CALLS; n++) {
+        if (n == CALLS / 2) limzhur_share_area(&tables), is_shared = true;
+        call(&tables, ever, draw(PAGES));
+    }
     wants(limzhur_map(&tables, 1ull << 47, 0, true, true, true) == LIMZHUR_NOT_CANONICAL, "an address in the gap");
     wants(limzhur_map(&tables, pages[0].address, 1ull << 40, true, true, true) == LIMZHUR_PAST_LIMIT, "a frame of 41 bits");
     limzhur_tables_init(more_room, more_words, 512 * 3, first, limit);

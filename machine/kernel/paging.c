@@ -11,79 +11,78 @@
 #define RANGE_PAGES 1200                        /* to the same 2 MiB and those after them */
 #define DEVICES 0xffffd00000000000ull           /* a page of a device: */
 #define DEVICE 0xfee00000ull                    /* the interrupt controller of the processor, */
-#define DEVICE_VERSION 12                       /* whose word at 48 has its version: 0x14 and above */
+#define DEVICE_VERSION 12                       /* whose word at 48 has its version: 0x14 and above; */
+#define UNCACHED (LIMZHUR_WRITE | LIMZHUR_TYPE(3))
+#define SCREEN 0xffffe00000000000ull            /* 4 MiB of a picture, */
+#define SCREEN_FRAME 0xe0000                    /* from 3.5 GiB on, */
+#define COMBINED (LIMZHUR_WRITE | LIMZHUR_TYPE(1))  /* of the type that start.S makes write-combining in PAT */
 
 extern char load_start[], kernel_end[];
 
 static _Alignas(8) unsigned char room[LIMZHUR_TABLES_ROOM];
 static struct limzhur_tables tables = {room};
 static const uint64_t *words;
-static uint64_t first_tables, own_tables, first_frame, next_frame, end_frame, pages;
+static uint64_t own_tables, first_frame, next_frame, end_frame, pages;
 
-static uint64_t get_cr3(void) {
-    uint64_t value;
-    __asm__ volatile("mov %%cr3, %0" : "=r"(value));
-    return value;
-}
-
-/* This flushes all translations, since no page is global. */
+/* This flushes all translations but those of global pages. */
 static void set_cr3(uint64_t value) { __asm__ volatile("mov %0, %%cr3" ::"r"(value) : "memory"); }
 
-/* The tables never map the frames in which they lie. So each call of the library runs on the tables of start.S, which map all
- * memory. */
+/* What a call names is flushed after it: nothing else that the processor keeps is wrong then. */
+static void flush(uint64_t address, uint64_t count) {
+    for (uint64_t n = 0; n < count; n++) __asm__ volatile("invlpg (%0)" ::"r"(address + 4096 * n) : "memory");
+}
+
+/* The library writes the tables through the direct map, which they have themselves: no page that users reach leads to the tables, and
+ * the library sees to it. So no call needs another CR3. */
 static uint32_t map(uint64_t address, uint64_t frame, bool write, bool fetch) {
-    set_cr3(first_tables);
     uint32_t answer = limzhur_map(&tables, address, frame, write, false, fetch);
-    set_cr3(own_tables);
     pages += answer == LIMZHUR_DONE;
     return answer;
 }
 
 static uint32_t map_range(uint64_t address, uint64_t count, uint64_t frame, bool write, bool fetch) {
     uint64_t told;
-    set_cr3(first_tables);
     uint32_t answer = limzhur_map_range(&tables, address, count, frame, write, false, fetch, &told);
-    set_cr3(own_tables);
+    if (answer == LIMZHUR_DONE) pages += count;
+    return answer;
+}
+
+static uint32_t map_flags(uint64_t address, uint64_t count, uint64_t frame, uint32_t flags) {
+    uint64_t told;
+    uint32_t answer = limzhur_map_range_flags(&tables, address, count, frame, flags, &told);
     if (answer == LIMZHUR_DONE) pages += count;
     return answer;
 }
 
 static uint32_t unmap_range(uint64_t address, uint64_t count, uint64_t *told) {
-    set_cr3(first_tables);
     uint32_t answer = limzhur_unmap_range(&tables, address, count, told);
-    set_cr3(own_tables);
-    if (answer == LIMZHUR_DONE) pages -= count;
+    if (answer == LIMZHUR_DONE) pages -= count, flush(address, count);
     return answer;
 }
 
 static uint32_t protect_range(uint64_t address, uint64_t count, bool write, uint64_t *told) {
-    set_cr3(first_tables);
     uint32_t answer = limzhur_protect_range(&tables, address, count, write, false, false, told);
-    set_cr3(own_tables);
+    if (answer == LIMZHUR_DONE) flush(address, count);
     return answer;
 }
 
 static uint32_t unmap(uint64_t address, uint64_t *frame) {
-    set_cr3(first_tables);
     uint32_t answer = limzhur_unmap(&tables, address, frame);
-    set_cr3(own_tables);
     pages -= answer == LIMZHUR_DONE;
+    flush(address, 1);
     return answer;
 }
 
 static uint32_t protect(uint64_t address, bool write) {
-    set_cr3(first_tables);
     uint32_t answer = limzhur_protect(&tables, address, write, false, false);
-    set_cr3(own_tables);
+    flush(address, 1);
     return answer;
 }
 
 /* A frame that no page leads to, cleared. */
 static uint64_t take_frame(void) {
     if (next_frame == end_frame) leave(4);
-    set_cr3(first_tables);
     memset((void *)(DIRECT + 4096 * next_frame), 0, 4096);
-    set_cr3(own_tables);
     return next_frame++;
 }
 
@@ -105,11 +104,15 @@ void begin_paging(struct memory memory) {
     words = (const uint64_t *)(DIRECT + memory.from);
     if (next_frame >= end_frame || limzhur_tables_room() > sizeof room) leave(3);
     limzhur_tables_init(room, (uint64_t *)words, 512 * TABLE_FRAMES, first_frame, LIMIT);
-    first_tables = own_tables = get_cr3();
     uint64_t at = (uint64_t)load_start, count = ((uint64_t)kernel_end - KERNEL - at + 4095) / 4096;
     /* The first: the processor finds its segments there. */
-    if (map_range(at, count, at / 4096, false, false) || map_range(KERNEL + at, count, at / 4096, true, true)) leave(3);
-    if (map_range(DEVICES, 1, DEVICE / 4096, true, false)) leave(3);
+    if (map_range(at, count, at / 4096, false, false)) leave(3);
+    /* The kernel is the same in all processes' tables, so its translations may outlive a new CR3. */
+    if (map_flags(KERNEL + at, count, at / 4096, LIMZHUR_WRITE | LIMZHUR_FETCH | LIMZHUR_GLOBAL)) leave(3);
+    if (map_flags(DEVICES, 1, DEVICE / 4096, UNCACHED)) leave(3);
+    /* All memory, with the frames of the tables. */
+    limzhur_share_area(&tables);
+    if (map_flags(DIRECT, memory.to / 4096, 0, LIMZHUR_WRITE | LIMZHUR_GLOBAL)) leave(3);
     own_tables = 4096 * limzhur_tables_root(&tables);
     page_fault_is_met = map_on_demand;
     set_cr3(own_tables);
@@ -145,18 +148,14 @@ static void share_a_frame(void) {
 }
 
 static uint32_t map_large(uint64_t address, uint64_t frame) {
-    set_cr3(first_tables);
     uint32_t answer = limzhur_map_large(&tables, address, frame, true, false, false);
-    set_cr3(own_tables);
     if (answer == LIMZHUR_DONE) pages += 512;
     return answer;
 }
 
 static uint32_t unmap_large(uint64_t address, uint64_t *frame) {
-    set_cr3(first_tables);
     uint32_t answer = limzhur_unmap_large(&tables, address, frame);
-    set_cr3(own_tables);
-    if (answer == LIMZHUR_DONE) pages -= 512;
+    if (answer == LIMZHUR_DONE) pages -= 512, flush(address, 512);
     return answer;
 }
 
@@ -173,12 +172,7 @@ static void use_a_large_page(void) {
     wants(map_large(LARGE, LARGE_FRAME) == LIMZHUR_DONE && *last == 54321);
 }
 
-static uint64_t tables_left(void) {
-    set_cr3(first_tables);
-    uint64_t left = limzhur_tables_left(&tables);
-    set_cr3(own_tables);
-    return left;
-}
+static uint64_t tables_left(void) { return limzhur_tables_left(&tables); }
 
 /* One page of a large one is changed. It takes a frame for the table of its 512 pages, and the others stay. */
 static void split_a_large_page(void) {
@@ -212,10 +206,35 @@ static void use_a_range(void) {
 
 static void use_a_device(void) { wants((((volatile uint32_t *)DEVICES)[DEVICE_VERSION] & 0xff) >= 0x14); }
 
+/* The entry of the page, by a walk over the raw words. */
+static uint64_t entry_of(uint64_t address) {
+    uint64_t frame = limzhur_tables_root(&tables), entry = 0;
+    for (int shift = 39; shift >= 12; shift -= 9) {
+        entry = words[512 * (frame - first_frame) + (address >> shift & 511)];
+        if (!(entry & 1) || (shift == 21 && entry & 0x80)) return entry;
+        frame = (entry & 0xffffffffff000) / 4096;
+    }
+    return entry;
+}
+
+/* Types are in the raw entries: bits 3 and 4. They stay if rights are taken away, and if a large page is split. */
+static void use_types(void) {
+    uint64_t told = 0;
+    wants(map_flags(SCREEN, 1024, SCREEN_FRAME, COMBINED) == LIMZHUR_DONE);
+    wants((entry_of(DEVICES) & 0x118) == 0x18 && (entry_of(SCREEN) & 0x198) == 0x88 && (entry_of(SCREEN + (2 << 20)) & 0x198) == 0x88);
+    wants(protect_range(SCREEN + 4096, 1, false, &told) == LIMZHUR_DONE);
+    wants((entry_of(SCREEN) & 0x19a) == 0xa && (entry_of(SCREEN + 4096) & 0x19a) == 8 && (entry_of(SCREEN + (1 << 20)) & 0x19a) == 0xa);
+    wants((entry_of(KERNEL + (uint64_t)load_start) & 0x100) && (entry_of(DIRECT) & 0x100) && !(entry_of(HEAP) & 0x100));
+    wants(limzhur_map_flags(&tables, SHARED + 12288, next_frame, 64) == LIMZHUR_BAD_FLAGS);
+}
+
 static void be_refused(void) {
     uint64_t gone;
     wants(map(HEAP, next_frame, true, false) == LIMZHUR_IS_MAPPED);
-    wants(map(SHARED + 4096, first_frame + 1, true, false) == LIMZHUR_IN_AREA);
+    uint64_t told = 0, area = DIRECT + 4096 * first_frame;
+    wants(limzhur_map(&tables, SHARED + 4096, first_frame + 1, false, true, false) == LIMZHUR_IN_AREA);
+    wants(limzhur_protect(&tables, area, false, true, false) == LIMZHUR_IN_AREA);
+    wants(limzhur_protect_range(&tables, area - 4096, 2, false, true, false, &told) == LIMZHUR_IN_AREA && told == area);
     wants(map(SHARED + 4096, LIMIT, true, false) == LIMZHUR_PAST_LIMIT);
     wants(map(1ull << 47, next_frame, true, false) == LIMZHUR_NOT_CANONICAL);
     wants(unmap(SHARED + 4096, &gone) == LIMZHUR_NOT_MAPPED);
@@ -224,9 +243,10 @@ static void be_refused(void) {
 
 /* Whether the library says of the page what its entry says, and no entry on the way takes rights away. */
 static bool is_told(uint64_t address, uint64_t entry, uint64_t index) {
-    struct limzhur_place place;
-    return limzhur_lookup(&tables, address, &place) && place.frame == (entry & 0xffffffffff000) / 4096 + index && place.write == (entry >> 1 & 1)
-        && place.user == (entry >> 2 & 1) && place.fetch == !(entry >> 63);
+    struct limzhur_flagged_place place;
+    uint32_t rights = (entry & 2 ? LIMZHUR_WRITE : 0) | (entry & 4 ? LIMZHUR_USER : 0) | (entry >> 63 ? 0 : LIMZHUR_FETCH);
+    return limzhur_lookup_flags(&tables, address, &place) && place.frame == (entry & 0xffffffffff000) / 4096 + index
+        && place.flags == (rights | LIMZHUR_TYPE(entry >> 3 & 3) | (entry & 256 ? LIMZHUR_GLOBAL : 0));
 }
 
 /* A line for a page: its address, where it leads, and what the library says that it grants besides reads. */
@@ -285,11 +305,10 @@ uint64_t look_at_paging(void) {
     split_a_large_page();
     use_a_range();
     use_a_device();
+    use_types();
     be_refused();
-    set_cr3(first_tables);
     say_words();
     wants(walk(limzhur_tables_root(&tables), 0, 39) == pages);
-    set_cr3(own_tables);
     return wrong;
 }
 

@@ -33,11 +33,15 @@ start:
     movl $kernel_table + 3, root + 8 * 511      /* KERNEL, 0xffffffff80000000 */
     mov $root, %eax
     mov %eax, %cr3
-    mov $0x20 + VECTORS, %eax       /* page tables of long mode; VECTORS turns the vector registers on */
+    mov $0xA0 + VECTORS, %eax       /* page tables of long mode, global pages; VECTORS turns the vector registers on */
     mov %eax, %cr4
     mov $0xC0000080, %ecx
     rdmsr
     or $0x900, %eax                 /* long mode, and no-execute, which the entries of the library use */
+    wrmsr
+    mov $0x277, %ecx                /* PAT: type 1 is write-combining, the others are as after a reset */
+    rdmsr
+    mov $1, %ah
     wrmsr
     mov %cr0, %eax
     and $~4, %eax

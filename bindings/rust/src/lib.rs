@@ -10,6 +10,7 @@
 //! by a thread that it does not have, and waits for ever.
 #![no_std]
 
+mod flags;
 mod heap;
 mod library;
 mod lock;
@@ -17,11 +18,12 @@ mod lock;
 mod owner;
 mod tables;
 
+pub use flags::Flags;
 pub use heap::Limzhur;
 pub use lock::{Entry, Lock, Spin};
 #[cfg(unix)]
 pub use owner::Owner;
-pub use tables::{Fault, Place, Rights, Tables};
+pub use tables::{Fault, FlaggedPlace, Place, Rights, Tables};
 
 /// Has the system take the lock of a heap around each fork, so that each child finds the heap at rest: `watch_forks!(HEAP)`,
 /// once, before the first fork. False where the system has no room to note it.

@@ -31,6 +31,12 @@ pub struct PlaceOfPage {
     pub fetch: bool,
 }
 
+#[repr(C)]
+pub struct FlaggedPlace {
+    pub frame: u64,
+    pub flags: u32,
+}
+
 #[link(name = "limzhur_c", kind = "static")]
 extern "C" {
     pub fn limzhur_room() -> usize;
@@ -48,8 +54,28 @@ extern "C" {
     pub fn limzhur_tables_init(room: *mut c_void, words: *mut u64, count: usize, first: u64, limit: u64);
     pub fn limzhur_tables_root(tables: *mut TablesHandle) -> u64;
     pub fn limzhur_tables_left(tables: *mut TablesHandle) -> u64;
+    pub fn limzhur_share_area(tables: *mut TablesHandle);
     pub fn limzhur_lookup(tables: *mut TablesHandle, address: u64, place: *mut PlaceOfPage) -> bool;
     pub fn limzhur_map(tables: *mut TablesHandle, address: u64, frame: u64, write: bool, user: bool, fetch: bool) -> u32;
+    pub fn limzhur_lookup_flags(tables: *mut TablesHandle, address: u64, place: *mut FlaggedPlace) -> bool;
+    pub fn limzhur_map_flags(tables: *mut TablesHandle, address: u64, frame: u64, flags: u32) -> u32;
+    pub fn limzhur_map_large_flags(tables: *mut TablesHandle, address: u64, frame: u64, flags: u32) -> u32;
+    pub fn limzhur_protect_flags(tables: *mut TablesHandle, address: u64, flags: u32) -> u32;
+    pub fn limzhur_map_range_flags(
+        tables: *mut TablesHandle,
+        address: u64,
+        pages: u64,
+        frame: u64,
+        flags: u32,
+        told: *mut u64,
+    ) -> u32;
+    pub fn limzhur_protect_range_flags(
+        tables: *mut TablesHandle,
+        address: u64,
+        pages: u64,
+        flags: u32,
+        told: *mut u64,
+    ) -> u32;
     pub fn limzhur_unmap(tables: *mut TablesHandle, address: u64, frame: *mut u64) -> u32;
     pub fn limzhur_protect(tables: *mut TablesHandle, address: u64, write: bool, user: bool, fetch: bool) -> u32;
     pub fn limzhur_map_large(tables: *mut TablesHandle, address: u64, frame: u64, write: bool, user: bool, fetch: bool) -> u32;

@@ -2,6 +2,7 @@
 //!
 //! What the proofs take of this file: it hands the library one room and whole frames of words, each of the right size and
 //! alignment, and an area that ends at or below the limit; it makes no two calls at a time, and touches neither but by its calls.
+use crate::flags::Flags;
 use crate::library::*;
 use core::cell::UnsafeCell;
 use core::ffi::c_void;
@@ -31,6 +32,15 @@ pub struct Place {
     pub rights: Rights,
 }
 
+/// Where a page leads, with all its flags.
+#[derive(Clone, Copy, PartialEq, Eq, Debug)]
+pub struct FlaggedPlace {
+    /// The number of the frame: its physical address divided by 4096.
+    pub frame: u64,
+    /// What all entries on the way grant, and the type of the page.
+    pub flags: Flags,
+}
+
 /// Why a call is refused. Of several reasons the first in this order is told, and nothing is changed.
 #[derive(Clone, Copy, PartialEq, Eq, Debug)]
 #[non_exhaustive]
@@ -47,7 +57,7 @@ pub enum Fault {
     NotMapped(u64),
     /// A frame is not below the limit.
     PastLimit,
-    /// A frame is one of the tables' area.
+    /// A frame is one of the tables' area; after [`Tables::share_area`], only if users would reach it.
     InArea,
     /// Too few frames are left for the tables that are missing.
     NoFrames,
@@ -89,8 +99,8 @@ fn page_of(address: u64) -> u64 {
     address & !0xfff
 }
 
-/// AMD64 page tables in an area of frames that a kernel lends. Their pages lead to any other frames below a limit, and two
-/// pages may lead to one frame. A frame is given by its number, and an address names its whole page.
+/// AMD64 page tables in an area of frames that a kernel lends. Their pages lead to any frames below a limit, and two pages may
+/// lead to one frame. No page that users reach leads into the area, and before [`Tables::share_area`] no page at all. A frame is given by its number, and an address names its whole page.
 ///
 /// Each call says what has to be flushed on every processor that uses the tables.
 pub struct Tables<'a> {
@@ -142,10 +152,28 @@ impl<'a> Tables<'a> {
         is_found.then_some(Place { frame, rights: Rights { write, user, fetch } })
     }
 
-    /// Maps the page of the address to the frame. Nothing is to be flushed.
+    /// Where the page of the address leads, with all its flags.
+    pub fn lookup_flags(&self, address: u64) -> Option<FlaggedPlace> {
+        let mut place = crate::library::FlaggedPlace { frame: 0, flags: 0 };
+        let is_found = unsafe { limzhur_lookup_flags(&mut self.handle(), address, &mut place) };
+        let flags = Flags::from_bits(place.flags)?;
+        is_found.then_some(FlaggedPlace { frame: place.frame, flags })
+    }
+
+    /// Lets pages that users do not reach lead into the area of the tables, from now on and for good: so a kernel may map all memory.
+    pub fn share_area(&mut self) {
+        unsafe { limzhur_share_area(&mut self.handle()) }
+    }
+
+    /// Maps the page of the address to the frame, with type 0 and not global. Nothing is to be flushed.
     pub fn map(&mut self, address: u64, frame: u64, rights: Rights) -> Result<(), Fault> {
         let Rights { write, user, fetch } = rights;
         answer(unsafe { limzhur_map(&mut self.handle(), address, frame, write, user, fetch) }, page_of(address))
+    }
+
+    /// Maps the page of the address to the frame, with these flags. Nothing is to be flushed.
+    pub fn map_flags(&mut self, address: u64, frame: u64, flags: Flags) -> Result<(), Fault> {
+        answer(unsafe { limzhur_map_flags(&mut self.handle(), address, frame, flags.bits()) }, page_of(address))
     }
 
     /// Ends the mapping of the page of the address, and answers its frame. The page is to be flushed.
@@ -155,16 +183,27 @@ impl<'a> Tables<'a> {
         Ok(frame)
     }
 
-    /// Gives the page of the address these rights. The page is to be flushed.
+    /// Gives the page of the address these rights. It keeps its type, and stays global or not. The page is to be flushed.
     pub fn protect(&mut self, address: u64, rights: Rights) -> Result<(), Fault> {
         let Rights { write, user, fetch } = rights;
         answer(unsafe { limzhur_protect(&mut self.handle(), address, write, user, fetch) }, page_of(address))
     }
 
-    /// Maps the 2 MiB from the address on to the 512 frames from `frame` on, by one entry. Nothing is to be flushed.
+    /// Gives the page of the address these flags, and no others. The page is to be flushed.
+    pub fn protect_flags(&mut self, address: u64, flags: Flags) -> Result<(), Fault> {
+        answer(unsafe { limzhur_protect_flags(&mut self.handle(), address, flags.bits()) }, page_of(address))
+    }
+
+    /// Maps the 2 MiB from the address on to the 512 frames from `frame` on, by one entry, with type 0 and not global. Nothing is to
+    /// be flushed.
     pub fn map_large(&mut self, address: u64, frame: u64, rights: Rights) -> Result<(), Fault> {
         let Rights { write, user, fetch } = rights;
         answer(unsafe { limzhur_map_large(&mut self.handle(), address, frame, write, user, fetch) }, address)
+    }
+
+    /// Maps the 2 MiB from the address on to the 512 frames from `frame` on, by one entry, with these flags. Nothing is to be flushed.
+    pub fn map_large_flags(&mut self, address: u64, frame: u64, flags: Flags) -> Result<(), Fault> {
+        answer(unsafe { limzhur_map_large_flags(&mut self.handle(), address, frame, flags.bits()) }, address)
     }
 
     /// Ends the mapping of the 2 MiB from the address on, which one entry maps, and answers the first of their frames. They are to
@@ -184,6 +223,14 @@ impl<'a> Tables<'a> {
         answer(code, told)
     }
 
+    /// Maps so many pages, from that of the address on, as `map_range` does, with these flags.
+    pub fn map_range_flags(&mut self, address: u64, pages: u64, frame: u64, flags: Flags) -> Result<(), Fault> {
+        let mut told = 0;
+        let code =
+            unsafe { limzhur_map_range_flags(&mut self.handle(), address, pages, frame, flags.bits(), &mut told) };
+        answer(code, told)
+    }
+
     /// Ends the mapping of so many pages, from that of the address on. They are to be flushed. A large page that lies in part among
     /// them is first made of single ones, by a table in a frame of the area.
     pub fn unmap_range(&mut self, address: u64, pages: u64) -> Result<(), Fault> {
@@ -191,12 +238,21 @@ impl<'a> Tables<'a> {
         answer(unsafe { limzhur_unmap_range(&mut self.handle(), address, pages, &mut told) }, told)
     }
 
-    /// Gives so many pages, from that of the address on, these rights. They are to be flushed. A large page that lies in part among
+    /// Gives so many pages, from that of the address on, these rights. Each keeps its type, and stays global or not. They are to be
+    /// flushed. A large page that lies in part among
     /// them is first made of single ones, by a table in a frame of the area.
     pub fn protect_range(&mut self, address: u64, pages: u64, rights: Rights) -> Result<(), Fault> {
         let Rights { write, user, fetch } = rights;
         let mut told = 0;
         let code = unsafe { limzhur_protect_range(&mut self.handle(), address, pages, write, user, fetch, &mut told) };
+        answer(code, told)
+    }
+
+    /// Gives so many pages, from that of the address on, these flags, and no others, as `protect_range` does.
+    pub fn protect_range_flags(&mut self, address: u64, pages: u64, flags: Flags) -> Result<(), Fault> {
+        let mut told = 0;
+        let code =
+            unsafe { limzhur_protect_range_flags(&mut self.handle(), address, pages, flags.bits(), &mut told) };
         answer(code, told)
     }
 }

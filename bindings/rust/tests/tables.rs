@@ -1,5 +1,5 @@
 //! Page tables beside a plain map of pages.
-use limzhur::{Fault, Place, Rights, Tables};
+use limzhur::{Fault, FlaggedPlace, Flags, Place, Rights, Tables};
 use std::collections::BTreeMap;
 
 const FRAMES: usize = 64;
@@ -86,7 +86,7 @@ fn tables_are_a_map_of_pages() {
 
 #[test]
 fn what_is_refused_is_told() {
-    let mut words = vec![0; 512 * 4];
+    let mut words = vec![0; 512 * 5];
     assert!(Tables::new(&mut [], 0, 10).is_none() && Tables::new(&mut words[1..], 0, 10).is_none());
     assert!(Tables::new(&mut words, 7, 10).is_none() && Tables::new(&mut words, 0, 1 << 40).is_none());
     let mut tables = Tables::new(&mut words, 7, 5000).unwrap();
@@ -94,6 +94,11 @@ fn what_is_refused_is_told() {
     assert_eq!(tables.map(1 << 47, 100, rights), Err(Fault::NotCanonical));
     assert_eq!(tables.map_range((1 << 47) - 4096, 2, 100, rights), Err(Fault::NotCanonical));
     assert_eq!(tables.map(0x1000, 8, rights), Err(Fault::InArea));
+    tables.share_area();
+    assert_eq!(tables.map(0x1000, 8, Rights { write: false, user: true, fetch: false }), Err(Fault::InArea));
+    assert_eq!(tables.map(0x1000, 8, rights), Ok(()));
+    assert_eq!(tables.protect(0x1000, Rights { write: false, user: true, fetch: false }), Err(Fault::InArea));
+    assert_eq!(tables.unmap(0x1000), Ok(8));
     assert_eq!(tables.map(0x1000, 5000, rights), Err(Fault::PastLimit));
     assert_eq!(tables.map_large(0x1000, 512, rights), Err(Fault::Misaligned));
     assert_eq!(tables.map_large(0x20_0000, 512, rights), Ok(()));
@@ -105,4 +110,34 @@ fn what_is_refused_is_told() {
     assert_eq!(tables.map(0x40_0000, 100, rights), Err(Fault::NoFrames));
     assert_eq!(tables.protect_range(0x20_0000, 512, rights), Err(Fault::NotMapped(0x20_1000)));
     assert_eq!(Fault::NotMapped(0x20_1000).to_string(), "the page at 0x201000 is not mapped");
+}
+
+#[test]
+fn pages_have_types() {
+    let mut words = vec![0; 512 * 8];
+    let mut tables = Tables::new(&mut words, 0, 1 << 20).unwrap();
+    let device = Flags::WRITE | Flags::of_type(3);
+    let place = |frame, flags| Some(FlaggedPlace { frame, flags });
+    assert_eq!(tables.map_flags(0x1000, 0xb8, device | Flags::GLOBAL), Ok(()));
+    assert_eq!(tables.lookup_flags(0x1234), place(0xb8, device | Flags::GLOBAL));
+    assert_eq!(tables.protect(0x1000, Rights { write: false, user: false, fetch: false }), Ok(()));
+    assert_eq!(tables.lookup_flags(0x1000), place(0xb8, Flags::of_type(3) | Flags::GLOBAL));
+    assert_eq!(tables.protect_flags(0x1000, Flags::FETCH), Ok(()));
+    assert_eq!(tables.lookup_flags(0x1000), place(0xb8, Flags::FETCH));
+    assert_eq!(tables.map_large_flags(0x20_0000, 512, device), Ok(()));
+    assert_eq!(tables.unmap(0x20_1000), Ok(513));
+    assert_eq!(tables.lookup_flags(0x20_2000), place(514, device));
+    assert_eq!(tables.map_range_flags(0x40_0000, 513, 1024, device), Ok(()));
+    assert_eq!(tables.protect_range_flags(0x40_0000, 513, Flags::USER), Ok(()));
+    assert_eq!(tables.lookup_flags(0x60_0000), place(1536, Flags::USER));
+    assert_eq!(tables.lookup_flags(0x60_1000), None);
+}
+
+#[test]
+fn flags_are_a_set() {
+    let flags = Flags::WRITE | Flags::of_type(2);
+    assert_eq!((flags.bits(), flags.memory_type(), Flags::from_bits(17)), (17, 2, Some(flags)));
+    assert!(flags.contains(Flags::NO_CACHE) && !flags.contains(Flags::GLOBAL) && Flags::from_bits(64).is_none());
+    assert_eq!(format!("{flags:?} {:?}", flags.difference(flags)), "Flags(WRITE | NO_CACHE) Flags(0x0)");
+    assert_eq!(Flags::from_bits(63), Some(Flags::all()));
 }

@@ -1,3 +1,4 @@
 mod Sending
 mod RangeCauses
 mod Told
+pub mod Flags

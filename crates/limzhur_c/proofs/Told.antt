@@ -10,4 +10,4 @@ made e only = record { answer_is = e; only = only; same = λ not. absurd (not re
 
 -- a number, and the tables are as they were
 pub refused : {pages : ℕ → Bool} {code answer : ℕ} {old new : TableState} → answer ≡ code → new ≡ old → IsChangeTold pages code old answer new
-refused e same = record { answer_is = e; only = rw same (record { place = record { root = refl; area = refl; size = refl }; tables = λ l n met lt is. is; elsewhere = λ other canonical not. refl }); same = λ _. same }
+refused e same = record { answer_is = e; only = rw same (record { place = record { root = refl; area = refl; size = refl; shared = refl }; tables = λ l n met lt is. is; elsewhere = λ other canonical not. refl }); same = λ _. same }

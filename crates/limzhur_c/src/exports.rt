@@ -8,7 +8,7 @@ ghost use Rattle.dlmalloc.specs.Shortened.{IsTrimmed};
 ghost use Rattle.heap_arena.specs.Arena.{regions_of, word_of};
 ghost use Rattle.heap_library.specs.Answers.{IsOnlySet};
 ghost use Rattle.sound_heap.specs.Heap.{HasBlock, usable, IsIntact};
-ghost use Rattle.heap_library.specs.Checked.{arena_follows, arena_heap_state};
+ghost use Rattle.heap_library.specs.Checked.{arena_follows, arena_heap_state, KeepsWordsOutside};
 ghost use Rattle.limzhur_c.specs.HeapAnswers.{IsRequestTold, IsResizeTold};
 ghost use Rattle.limzhur_c.specs.HeapStats.{HoldsStats};
 
@@ -17,7 +17,8 @@ use crate::handle::Handle;
 /// The address of a block of `size` bytes at a multiple of `align`; 0 if it is refused.
 #[unsafe(no_mangle)]
 pub extern "C" fn limzhur_malloc(handle: &mut Handle, size: u64, align: u64) -> u64
-    ensures { IsRequestTold handle.old.heap size align false result handle.new.heap }
+    ensures answered { IsRequestTold handle.old.heap size align false result handle.new.heap }
+    ensures room { handle.new.room ≡ handle.old.room }
 {
     match handle.open().malloc(size, align) {
         Ok(address) => address,
@@ -28,7 +29,8 @@ pub extern "C" fn limzhur_malloc(handle: &mut Handle, size: u64, align: u64) -> 
 /// The address of a block of `size` bytes of value 0 at a multiple of `align`; 0 if it is refused.
 #[unsafe(no_mangle)]
 pub extern "C" fn limzhur_calloc(handle: &mut Handle, size: u64, align: u64) -> u64
-    ensures { IsRequestTold handle.old.heap size align true result handle.new.heap }
+    ensures answered { IsRequestTold handle.old.heap size align true result handle.new.heap }
+    ensures room { handle.new.room ≡ handle.old.room }
 {
     match handle.open().calloc(size, align) {
         Ok(address) => address,
@@ -40,7 +42,8 @@ pub extern "C" fn limzhur_calloc(handle: &mut Handle, size: u64, align: u64) -> 
 /// begins at the address, or the size is refused; nothing then changes.
 #[unsafe(no_mangle)]
 pub extern "C" fn limzhur_realloc(handle: &mut Handle, address: u64, size: u64) -> u64
-    ensures { IsResizeTold handle.old.heap address size result handle.new.heap }
+    ensures answered { IsResizeTold handle.old.heap address size result handle.new.heap }
+    ensures room { handle.new.room ≡ handle.old.room }
 {
     match handle.open().realloc(address, size) {
         Ok(to) => to,
@@ -54,6 +57,8 @@ pub extern "C" fn limzhur_free(handle: &mut Handle, address: u64) -> bool
     ensures answer { IsTrue result ↔ HasBlock (arena_heap_state handle.old.heap) address }
     ensures freed { result ≡ true → IsFreed regions_of word_of arena_follows true true 1 handle.old.heap address handle.new.heap }
     ensures same { result ≡ false → handle.new.heap ≡ handle.old.heap }
+    ensures outside { KeepsWordsOutside (regions_of handle.old.heap.system) handle.old.heap.system handle.new.heap.system }
+    ensures room { handle.new.room ≡ handle.old.room }
 {
     handle.open().free(address)
 }
@@ -62,7 +67,9 @@ pub extern "C" fn limzhur_free(handle: &mut Handle, address: u64) -> bool
 /// back.
 #[unsafe(no_mangle)]
 pub extern "C" fn limzhur_trim(handle: &mut Handle, pad: u64) -> bool
-    ensures { IsTrimmed regions_of word_of arena_follows true true 1 handle.old.heap pad result handle.new.heap }
+    ensures trimmed { IsTrimmed regions_of word_of arena_follows true true 1 handle.old.heap pad result handle.new.heap }
+    ensures outside { KeepsWordsOutside (regions_of handle.old.heap.system) handle.old.heap.system handle.new.heap.system }
+    ensures room { handle.new.room ≡ handle.old.room }
 {
     handle.open().trim(pad)
 }
@@ -72,6 +79,7 @@ pub extern "C" fn limzhur_trim(handle: &mut Handle, pad: u64) -> bool
 pub extern "C" fn limzhur_set_granularity(handle: &mut Handle, bytes: u64) -> bool
     ensures answer { IsTrue result ↔ IsGranularity bytes }
     ensures set { IsOnlySet (record (arena_heap_state handle.old.heap) { granularity = if result then bytes else handle.old.heap.granularity }) handle.old.heap handle.new.heap }
+    ensures room { handle.new.room ≡ handle.old.room }
 {
     handle.open().set_granularity(bytes)
 }
@@ -80,7 +88,8 @@ pub extern "C" fn limzhur_set_granularity(handle: &mut Handle, bytes: u64) -> bo
 /// greatest number.
 #[unsafe(no_mangle)]
 pub extern "C" fn limzhur_set_release_rate(handle: &mut Handle, rate: u64)
-    ensures { IsOnlySet (record (arena_heap_state handle.old.heap) { rate = rate; countdown = countdown_from rate }) handle.old.heap handle.new.heap }
+    ensures set { IsOnlySet (record (arena_heap_state handle.old.heap) { rate = rate; countdown = countdown_from rate }) handle.old.heap handle.new.heap }
+    ensures room { handle.new.room ≡ handle.old.room }
 {
     handle.open().set_release_rate(rate);
 }
@@ -91,6 +100,7 @@ pub extern "C" fn limzhur_usable_size(handle: &mut Handle, address: u64) -> u64
     ensures some { HasBlock (arena_heap_state handle.old.heap) address → result ≡ usable (arena_heap_state handle.old.heap) address }
     ensures none { (HasBlock (arena_heap_state handle.old.heap) address → ⊥) → result ≡ 0 }
     ensures same { handle.new.heap ≡ handle.old.heap }
+    ensures room { handle.new.room ≡ handle.old.room }
 {
     match handle.open().usable_size(address) {
         Some(size) => size,
@@ -115,6 +125,7 @@ pub extern "C" fn limzhur_stats(handle: &mut Handle, stats: &mut Stats)
     ensures intact { IsIntact regions_of word_of handle.old.heap }
     ensures placed { ArePlaced (regions_of handle.old.heap.system) (arena_heap_state handle.old.heap) }
     ensures same { handle.new.heap ≡ handle.old.heap }
+    ensures room { handle.new.room ≡ handle.old.room }
 {
     let heap = handle.open();
     heap.is_intact();

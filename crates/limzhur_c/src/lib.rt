@@ -9,7 +9,9 @@
 mod exports;
 mod handle;
 mod init;
+mod tables_calls;
 mod tables_exports;
+mod tables_flags;
 mod tables_handle;
 mod tables_init;
 mod tables_ranges;

@@ -1,16 +1,20 @@
 // What a C program or kernel calls of page tables that it began.
 ghost use Rattle.std.specs.Prelude.{◌≡◌, ◌≢◌, ◌⊎◌, ◌/◌, ◌^◌, true, false, Some, None};
+ghost use Rattle.std.specs.Option.{option_map};
 ghost use Rattle.paging_core.specs.Address.{is_canonical};
 ghost use Rattle.paging_core.specs.Pool.{free_count};
 ghost use Rattle.kernel_tables.specs.Changes.{IsPageMapped, IsPageUnmapped, IsPageGranted, IsLargeMapped, IsLargeUnmapped};
 ghost use Rattle.kernel_tables.specs.Flush.{page_alone, pages_of_slot};
+ghost use Rattle.kernel_tables.specs.Grants.{with_rights};
+ghost use Rattle.paging_core.specs.PageBits.{bits_of};
 ghost use Rattle.kernel_tables.specs.TableState.{leads, IsWalkedAlike};
 ghost use Rattle.limzhur_c.specs.TablesAnswers.{IsChangeTold};
-ghost use Rattle.limzhur_c.specs.TablesCodes.{map_code, entry_code, map_answer, map_large_answer, unmap_large_answer, entry_answer, place_told};
+ghost use Rattle.limzhur_c.specs.TablesCodes.{map_answer, map_large_answer, unmap_large_answer, entry_answer, grant_answer, told_of};
 
+use crate::tables_calls::{entry_code, grant_page, map_page, map_slot};
 use crate::tables_handle::TablesHandle;
-use kernel_tables::{EntryFault, MapFault};
-use paging_core::{Page, PhysAddr, PhysFrame, Rights, Size2MiB, VirtAddr};
+use kernel_tables::Grant;
+use paging_core::{Page, Rights, VirtAddr};
 
 /// The frame of the root table, by its number: CR3 has 4096 times it.
 #[unsafe(no_mangle)]
@@ -29,6 +33,14 @@ pub extern "C" fn limzhur_tables_left(handle: &mut TablesHandle) -> u64
     ensures same { handle.new.tables ≡ handle.old.tables }
 {
     handle.open().free_frames()
+}
+
+/// Lets pages that users do not reach lead into the area, from now on and for good.
+#[unsafe(no_mangle)]
+pub extern "C" fn limzhur_share_area(handle: &mut TablesHandle)
+    ensures { handle.new.tables ≡ record handle.old.tables { shared = true } }
+{
+    handle.open().share_area();
 }
 
 /// Where a page leads: its frame by its number, and what all entries on the way grant.
@@ -53,7 +65,7 @@ pub extern "C" fn limzhur_lookup(
     address: u64,
     place: &mut PlaceOfPage,
 ) -> bool
-    ensures found { result ≡ true → (is_canonical address ≡ true) × (leads handle.old.tables (address / 4096) ≡ Some (place_told place.new)) }
+    ensures found { result ≡ true → (is_canonical address ≡ true) × (option_map told_of (leads handle.old.tables (address / 4096)) ≡ Some place.new) }
     ensures none { result ≡ false → ((is_canonical address ≡ false) ⊎ (leads handle.old.tables (address / 4096) ≡ None)) × (place.new ≡ place.old) }
     ensures same { handle.new.tables ≡ handle.old.tables }
 {
@@ -74,30 +86,8 @@ pub extern "C" fn limzhur_lookup(
     }
 }
 
-/// The number of a refusal to map.
-fn map_code(fault: MapFault) -> u32
-    ensures { result ≡ map_code (Some fault) }
-{
-    match fault {
-        MapFault::IsMapped => 2,
-        MapFault::PastLimit => 3,
-        MapFault::InArea => 4,
-        MapFault::NoFrames { .. } => 5,
-        MapFault::HasTable => 7,
-    }
-}
-
-/// The number of a refusal to change an entry.
-fn entry_code(fault: EntryFault) -> u32
-    ensures { result ≡ entry_code (Some fault) }
-{
-    match fault {
-        EntryFault::NotMapped => 6,
-        EntryFault::NoFrames => 5,
-    }
-}
-
-/// Maps the page of an address to a frame with the rights. 0 if it did, and else why it did not: then nothing is changed.
+/// Maps the page of an address to a frame with the rights, with type 0 and not global. 0 if it did, and else why it did not: then
+/// nothing is changed.
 #[unsafe(no_mangle)]
 pub extern "C" fn limzhur_map(
     handle: &mut TablesHandle,
@@ -107,24 +97,10 @@ pub extern "C" fn limzhur_map(
     user: bool,
     fetch: bool,
 ) -> u32
-    ensures change { IsChangeTold (page_alone (address / 4096)) (map_answer handle.old.tables address frame) handle.old.tables result handle.new.tables }
-    ensures mapped { result ≡ 0 → IsPageMapped handle.old.tables handle.new.tables (address / 4096) frame (record { write = write; user = user; fetch = fetch }) }
+    ensures change { IsChangeTold (page_alone (address / 4096)) (map_answer handle.old.tables address frame user) handle.old.tables result handle.new.tables }
+    ensures mapped { result ≡ 0 → IsPageMapped handle.old.tables handle.new.tables (address / 4096) frame (bits_of (record { write = write; user = user; fetch = fetch })) }
 {
-    let Ok(address) = VirtAddr::try_new(address) else {
-        return 1;
-    };
-    if frame >= 1 << 40 {
-        return 3;
-    }
-    let frame = PhysFrame::containing_address(PhysAddr::new(frame << 12));
-    let rights = Rights { write, user, fetch };
-    match handle
-        .open()
-        .map(Page::containing_address(address), frame, rights)
-    {
-        Ok(()) => 0,
-        Err(fault) => map_code(fault),
-    }
+    map_page(handle, address, frame, Rights { write, user, fetch }.bits())
 }
 
 /// Ends the mapping of the page of an address, and puts its frame into `frame`. A large page of which it is part is
@@ -147,8 +123,8 @@ pub extern "C" fn limzhur_unmap(handle: &mut TablesHandle, address: u64, frame: 
     }
 }
 
-/// Gives the page of an address these rights. A large page of which it is part is split first. 0 if it did, and else why it did
-/// not: then nothing is changed.
+/// Gives the page of an address these rights. It keeps its type, and stays global or not. A large page of which it is part is split
+/// first. 0 if it did, and else why it did not: then nothing is changed.
 #[unsafe(no_mangle)]
 pub extern "C" fn limzhur_protect(
     handle: &mut TablesHandle,
@@ -157,24 +133,14 @@ pub extern "C" fn limzhur_protect(
     user: bool,
     fetch: bool,
 ) -> u32
-    ensures change { IsChangeTold (page_alone (address / 4096)) (entry_answer handle.old.tables address) handle.old.tables result handle.new.tables }
-    ensures granted { result ≡ 0 → IsPageGranted handle.old.tables handle.new.tables (address / 4096) (record { write = write; user = user; fetch = fetch }) }
+    ensures change { IsChangeTold (page_alone (address / 4096)) (grant_answer handle.old.tables address user) handle.old.tables result handle.new.tables }
+    ensures granted { result ≡ 0 → IsPageGranted handle.old.tables handle.new.tables (address / 4096) (with_rights (record { write = write; user = user; fetch = fetch })) }
 {
-    let Ok(address) = VirtAddr::try_new(address) else {
-        return 1;
-    };
-    let rights = Rights { write, user, fetch };
-    match handle
-        .open()
-        .protect(Page::containing_address(address), rights)
-    {
-        Ok(()) => 0,
-        Err(fault) => entry_code(fault),
-    }
+    grant_page(handle, address, Grant::Only(Rights { write, user, fetch }))
 }
 
-/// Maps the 2 MiB from an address on to the 512 frames from `frame` on, by one entry, with the rights. 0 if it did, and else
-/// why it did not: then nothing is changed.
+/// Maps the 2 MiB from an address on to the 512 frames from `frame` on, by one entry, with the rights, with type 0 and not global. 0
+/// if it did, and else why it did not: then nothing is changed.
 #[unsafe(no_mangle)]
 pub extern "C" fn limzhur_map_large(
     handle: &mut TablesHandle,
@@ -184,28 +150,10 @@ pub extern "C" fn limzhur_map_large(
     user: bool,
     fetch: bool,
 ) -> u32
-    ensures change { IsChangeTold (pages_of_slot (address / 2 ^ 21)) (map_large_answer handle.old.tables address frame) handle.old.tables result handle.new.tables }
-    ensures mapped { result ≡ 0 → IsLargeMapped handle.old.tables handle.new.tables (address / 2 ^ 21) (frame / 512) (record { write = write; user = user; fetch = fetch }) }
+    ensures change { IsChangeTold (pages_of_slot (address / 2 ^ 21)) (map_large_answer handle.old.tables address frame user) handle.old.tables result handle.new.tables }
+    ensures mapped { result ≡ 0 → IsLargeMapped handle.old.tables handle.new.tables (address / 2 ^ 21) (frame / 512) (bits_of (record { write = write; user = user; fetch = fetch })) }
 {
-    let Ok(address) = VirtAddr::try_new(address) else {
-        return 1;
-    };
-    let page: Result<Page<Size2MiB>, _> = Page::from_start_address(address);
-    let Ok(page) = page else {
-        return 8;
-    };
-    if frame % 512 != 0 {
-        return 8;
-    }
-    if frame >= 1 << 40 {
-        return 3;
-    }
-    let run = PhysFrame::containing_address(PhysAddr::new(frame << 12));
-    let rights = Rights { write, user, fetch };
-    match handle.open().map_large(page, run, rights) {
-        Ok(()) => 0,
-        Err(fault) => map_code(fault),
-    }
+    map_slot(handle, address, frame, Rights { write, user, fetch }.bits())
 }
 
 /// Ends the mapping of the 2 MiB from an address on, which one entry maps, and puts the first of their frames into

@@ -1,12 +1,14 @@
 use Rattle.std.proofs.Common.{true, subst, sym, refl, rules, arith}
 use Rattle.dlmalloc.specs.declared.heap.Dlmalloc.{Dlmalloc}
 use Rattle.heap_arena.specs.declared.arena.Arena.{Arena}
+use Rattle.heap_arena.specs.Arena.{regions_of}
 use Rattle.heap_library.specs.Calls.{IsBlockGiven}
+use Rattle.heap_library.specs.Checked.{KeepsWordsOutside}
 use Rattle.heap_library.specs.Room.{IsRefused}
 use Rattle.limzhur_c.proofs.exports.limzhur_calloc.Goals as goal
 
-pub returns-in-Ok : goal.returns-in-Ok
-returns-in-Ok c =
+pub returns-in-Ok-clause-answered : goal.returns-in-Ok-clause-answered
+returns-in-Ok-clause-answered c =
     let low = c.in-Ok.ensures.given.handed.low in
     record {
       given = λ _. subst (λ (h : Dlmalloc Arena). IsBlockGiven h c.args.size c.args.align true
@@ -19,10 +21,12 @@ returns-in-Ok c =
             cc),
       );
       apart = c.in-Ok.ensures.apart;
+      outside = subst (λ (h : Dlmalloc Arena). KeepsWordsOutside (regions_of c.calloc.new.self.system) h.system c.calloc.new.self.system)
+          c.open.ensures.heap c.in-Ok.ensures.outside;
     }
 
-pub returns-in-Err : goal.returns-in-Err
-returns-in-Err c = record {
+pub returns-in-Err-clause-answered : goal.returns-in-Err-clause-answered
+returns-in-Err-clause-answered c = record {
   given = λ not. absurd (not refl);
   err = search rules;
   refused = (
@@ -31,4 +35,6 @@ returns-in-Err c = record {
     λ _. refl,
   );
   apart = c.in-Err.ensures.apart;
+  outside = subst (λ (h : Dlmalloc Arena). KeepsWordsOutside (regions_of c.calloc.new.self.system) h.system c.calloc.new.self.system)
+      c.open.ensures.heap c.in-Err.ensures.outside;
 }

@@ -6,5 +6,5 @@ use Rattle.heap_library.specs.Answers.{IsOnlySet}
 use Rattle.heap_library.specs.Checked.{arena_heap_state}
 use Rattle.limzhur_c.proofs.exports.limzhur_set_release_rate.Goals as goal
 
-pub returns : goal.returns
-returns c = subst (λ (heap : Dlmalloc Arena). IsOnlySet (record (arena_heap_state heap) { rate = c.args.rate; countdown = countdown_from c.args.rate }) heap c.set_release_rate.new.self) c.open.ensures.heap c.set_release_rate.ensures
+pub returns-clause-set : goal.returns-clause-set
+returns-clause-set c = subst (λ (heap : Dlmalloc Arena). IsOnlySet (record (arena_heap_state heap) { rate = c.args.rate; countdown = countdown_from c.args.rate }) heap c.set_release_rate.new.self) c.open.ensures.heap c.set_release_rate.ensures

@@ -1,5 +1,5 @@
 use Rattle.std.proofs.Common.{refl, ◌∙◌}
-use Rattle.limzhur_c.proofs.tables_ranges.refuse.Goals as goal
+use Rattle.limzhur_c.proofs.tables_calls.refuse.Goals as goal
 
 pub returns-in-NotCanonical-clause-told : goal.returns-in-NotCanonical-clause-told
 returns-in-NotCanonical-clause-told c = rw c.in-NotCanonical.is refl
@@ -18,3 +18,6 @@ returns-in-IsMapped-clause-told c = rw c.in-IsMapped.is (c.as_u64.ensures.value 
 
 pub returns-in-NotMapped-clause-told : goal.returns-in-NotMapped-clause-told
 returns-in-NotMapped-clause-told c = rw c.in-NotMapped.is (c.as_u64-in-NotMapped.ensures.value ∙ c.start_address-in-NotMapped.ensures)
+
+pub returns-in-LeadsIntoArea-clause-told : goal.returns-in-LeadsIntoArea-clause-told
+returns-in-LeadsIntoArea-clause-told c = rw c.in-LeadsIntoArea.is (c.as_u64-in-LeadsIntoArea.ensures.value ∙ c.start_address-in-LeadsIntoArea.ensures)
