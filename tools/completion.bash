@@ -6,7 +6,7 @@ _limzhur_heap() {
     [ "${#words[@]}" = 1 ] || [ "${words[0]}" != --proved ] || words=("${words[@]:1}")
     place="${#words[@]}"
     case "$called $place ${words[0]}" in
-        'heap 1 '*) offered='run gen --help --version' ;;
+        'heap 1 '*) offered='run gen --help --version --package' ;;
         'heap 2 --help') offered=lines ;;
         'heap '[2-6]' run') offered="${configuration[place - 2]}" ;;
         'heap '[4-8]' gen') offered="${configuration[place - 4]}" ;;
