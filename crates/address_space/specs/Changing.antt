@@ -117,12 +117,14 @@ pub record AreBytesStored (old new : Tables) (at : ℕ) (bytes : List ℕ) : Typ
 
 -- ---- when each answer is given; want of memory is free if there is no other cause
 
+-- when `unmap` gives each answer; of a good range only want of memory refuses it
 abbrev pub IsUnmapAnswer : ℕ → ℕ → Result ℕ SpaceFault → Type 0
 IsUnmapAnswer start pages (Ok count) = IsGoodRange start pages
 IsUnmapAnswer start pages (Err BadRange) = IsGoodRange start pages → ⊥
 IsUnmapAnswer start pages (Err OutOfMemory) = IsGoodRange start pages
 IsUnmapAnswer start pages (Err fault) = ⊥
 
+-- when `protect` gives each answer: all pages are mapped, or the first hole is told
 abbrev pub IsProtectAnswer : Tables → ℕ → ℕ → Result (Unit {0}) SpaceFault → Type 0
 IsProtectAnswer t start pages (Ok done) = IsGoodRange start pages × AreAllMapped (page_map_of t) (start / 4096) pages
 IsProtectAnswer t start pages (Err BadRange) = IsGoodRange start pages → ⊥
@@ -133,6 +135,8 @@ IsProtectAnswer t start pages (Err fault) = ⊥
 abbrev pub AreGoodRanges : ℕ → ℕ → ℕ → Type 0
 AreGoodRanges from pages to = IsGoodRange from pages × IsGoodRange to pages
 
+-- when `duplicate` gives each answer: the pages from `from` on are all mapped, none of those from `to` on is, and the frames
+-- suffice
 abbrev pub IsDuplicateAnswer : Tables → ℕ → ℕ → ℕ → Result (Unit {0}) SpaceFault → Type 0
 IsDuplicateAnswer t from pages to (Ok done) =
     AreGoodRanges from pages to × AreAllMapped (page_map_of t) (from / 4096) pages × AreNoneMapped (page_map_of t) (to / 4096) pages × HasFrames t (to / 4096) pages

@@ -58,6 +58,7 @@ AreLongest runs = (page : ℕ) → IsTrue (has_run_at runs (page + 1)) → right
 abbrev pub area_of : Interval ℕ × Rights → Area
 area_of run = record { start = 4096 * run.0.start; pages = run.0.end - run.0.start; rights = run.1 }
 
+-- the areas of all runs, in bytes, in their order
 abbrev pub areas_of : List (Interval ℕ × Rights) → List Area
 areas_of runs = map area_of runs
 

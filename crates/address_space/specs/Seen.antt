@@ -4,6 +4,7 @@ use Rattle.meminterval.specs.Tree.{entries}
 use Rattle.address_space.specs.Space.{Tables}
 use Rattle.address_space.specs.declared.space.Space.{Space}
 
+-- what the definitions see of a space: the words of memory, the root's frame, the free frames, and the runs of mapped pages
 abbrev pub tables_of : Space → Tables
 tables_of space = record { words = space.frames; root = space.root; free = space.pool; runs = entries space.runs }
 

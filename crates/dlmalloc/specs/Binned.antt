@@ -47,6 +47,7 @@ pub record IsIntact {A : Type 0} (regions : A → List Grant) (word : A → ℕ 
 abbrev pub IsBinnedBy : {A : Type 0} → Links A → Dlmalloc A → Type 0
 IsBinnedBy links heap = IsBinned links.regions links.word heap
 
+-- the same, with the regions and words of a store
 abbrev pub IsIntactBy : {A : Type 0} → Links A → Dlmalloc A → Type 0
 IsIntactBy links heap = IsIntact links.regions links.word heap
 

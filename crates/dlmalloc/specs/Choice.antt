@@ -31,6 +31,7 @@ abbrev pub choose : ℕ → Option ℕ → ℕ → ℕ → Option Choice
 choose n (Some size) victim top = Some (if goes_first n victim size then OfBins size else TheVictim)
 choose n None victim top = if nat_le n victim then Some TheVictim else if nat_lt n top then Some TheTop else None
 
+-- the choice for a chunk of n bytes in the state of a heap
 abbrev pub chosen : HeapState → ℕ → Option Choice
 chosen heap n =
     choose n (least_fit heap n) (size_where (is_victim heap) (extents_in heap)) (size_where (λ extent. is_top extent.kind) (extents_in heap))

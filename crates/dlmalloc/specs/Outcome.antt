@@ -45,8 +45,10 @@ pub record IsReallocRefused {A : Type 0} (regions : A → List Grant) (word : A 
 abbrev pub IsAllocatedBy : {A : Type 0} → Links A → Allocator A → Dlmalloc A → ℕ → ℕ → ℕ → Dlmalloc A → Type 0
 IsAllocatedBy links allocator old size align address new = IsAllocated links.regions links.word allocator.zeros links.follows old size align address new
 
+-- what `realloc` does, with the words of a store and the rules of its system
 abbrev pub IsReallocatedBy : {A : Type 0} → Links A → Allocator A → Dlmalloc A → ℕ → ℕ → ℕ → ℕ → ℕ → Dlmalloc A → Type 0
 IsReallocatedBy links allocator old from held align size address new = IsReallocated links.regions links.word allocator.zeros links.follows (allocator.frees old.system) (allocator.parts old.system) (allocator.unit old.system) old from held align size address new
 
+-- a refusal by `realloc`, with the words of a store and the refusals of its system
 abbrev pub IsReallocRefusedBy : {A : Type 0} → Links A → Allocator A → Dlmalloc A → Option ℕ → ℕ → ℕ → MallocError → Dlmalloc A → Type 0
 IsReallocRefusedBy links allocator old from align size error new = IsReallocRefused links.regions links.word links.follows allocator.refuses allocator.denies old from align size error new

@@ -25,5 +25,6 @@ head_of size pinuse cinuse = size + (if pinuse then 1 else 0) + (if cinuse then 
 abbrev pub with_pinuse : ℕ → ℕ
 with_pinuse head = head / 2 * 2 + 1
 
+-- the head that says that the chunk below is free
 abbrev pub without_pinuse : ℕ → ℕ
 without_pinuse head = head / 2 * 2

@@ -37,5 +37,6 @@ pub record AreCells (side y : ℕ) (shades : List ℕ) : Type 0 where
   pub each : (column : ℕ) → shade_at (144 + side * column) (bars_of side y shades) ≡ get_or shades column 0
   pub apart : AreBarsApart (bars_of side y shades)
 
+-- a row's bars show each of its cells with that cell's shade, for all sizes and shades
 abbrev pub BarsAreCells : Type 0
 BarsAreCells = (side y : ℕ) (shades : List ℕ) → 0 < side → AreCells side y shades

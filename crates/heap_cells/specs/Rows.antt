@@ -58,5 +58,6 @@ pub record AreRows (scale : Scale) (band : Band) : Type 0 where
   pub next : (row : ℕ) → (row_at scale band row).high ≡ (row_at scale band (row + 1)).low
   pub last : (row_at scale band (rows_of scale band - 1)).high ≡ band.high
 
+-- the rows of a band follow each other from its first address to its end, for all scales and bands
 abbrev pub RowsAreTheBand : Type 0
 RowsAreTheBand = (scale : Scale) (band : Band) → 0 < rows_of scale band → rows_of scale band ≤ band.high - band.low → AreRows scale band

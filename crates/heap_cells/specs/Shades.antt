@@ -39,5 +39,6 @@ pub record IsShare (shades used bytes : ℕ) : Type 0 where
   pub enough : shades * used ≤ shade_of shades used bytes * bytes
   pub least : (shade : ℕ) → shades * used ≤ shade * bytes → shade_of shades used bytes ≤ shade
 
+-- a shade is the least one that is at least the share of the bytes in use, for all shares
 abbrev pub ShadesAreShares : Type 0
 ShadesAreShares = (shades used bytes : ℕ) → 0 < bytes → used ≤ bytes → IsShare shades used bytes

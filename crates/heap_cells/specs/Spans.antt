@@ -9,6 +9,7 @@ use Rattle.heap_cells.specs.declared.spans.Span.{Span}
 abbrev pub stay_span : Stay → Span
 stay_span stay = record { start = stay.address; bytes = max 1 stay.size; born = stay.born; end = stay.end }
 
+-- the spans of all stays of blocks, in their order
 abbrev pub stay_spans : List Stay → List Span
 stay_spans stays = map stay_span stays
 
@@ -16,6 +17,7 @@ stay_spans stays = map stay_span stays
 abbrev pub held_span : Held → Span
 held_span held = record { start = held.start; bytes = min (4096 * held.pages) (2 ^ 64 - 1); born = held.born; end = held.end }
 
+-- the spans of all that the heap held, in their order
 abbrev pub held_spans : List Held → List Span
 held_spans heap = map held_span heap
 

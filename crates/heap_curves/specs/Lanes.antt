@@ -96,5 +96,6 @@ height_from zero low users = if nat_eq (least_start low users) (2 ^ 64) then 0 e
 height_from (suc lanes) low users =
     if nat_eq (least_start low users) (2 ^ 64) then 0 else 19 + height_from lanes (least_start low users + 1) users
 
+-- the pixels that the lanes of the users' regions take: 19 each, and at most six lanes
 unfoldable pub lanes_height : List Mapping → ℕ
 lanes_height users = height_from 6 0 users

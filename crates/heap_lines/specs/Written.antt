@@ -17,6 +17,7 @@ right_word granted letter = if granted then letter else codes "-"
 abbrev pub rights_word : Rights → List ℕ
 rights_word rights = codes "r" ++ (right_word rights.write (codes "w") ++ (right_word rights.user (codes "u") ++ right_word rights.fetch (codes "x")))
 
+-- the word of a refusal in an answer's line
 abbrev pub refusal_word : Refusal → List ℕ
 refusal_word BadAlign = codes "bad-align"
 refusal_word TooLarge = codes "too-large"

@@ -75,5 +75,6 @@ pub record AreLines (row : ℕ) (extents : List Extent) : Type 0 where
   pub bytes : sum_by (λ piece. piece.end - piece.start) (pieces_of row extents) ≡ sum_by (λ extent. extent.size) extents
   pub some : AllByRecursion (λ line. 0 < length line) (map_lines row extents)
 
+-- the lines of a map have all bytes of all extents, each in one piece, for all heaps
 abbrev pub LinesAreTheHeap : Type 0
 LinesAreTheHeap = (row : ℕ) (extents : List Extent) → 0 < row → AreLines row extents

@@ -3,6 +3,7 @@ use Rattle.std.specs.Prelude.{ℕ}
 use Rattle.heap_memory.specs.declared.grant.Grant.{Grant}
 use Rattle.heap_memory.specs.declared.grant.GrantFault.{GrantFault}
 
+-- what a system did for a heap
 pub data Event : Type 0 where
   -- a request of this size was granted
   Granted : ℕ → Grant → Event

@@ -10,9 +10,11 @@ use Rattle.heap_memory.specs.Script.{taken_of, left_of}
 use Rattle.heap_memory.specs.FlatScript.{next_answer, IsAnswered, answered_on}
 use Rattle.heap_memory.specs.FlatWords.{word_in}
 
+-- the regions that a system granted and still has
 abbrev pub regions_of : FlatSystem → List Grant
 regions_of system = system.regions.items
 
+-- the word at an address
 abbrev pub word_of : FlatSystem → ℕ → ℕ
 word_of system at = word_in system.words.stretches.items system.words.words.items at
 

@@ -16,6 +16,7 @@ pub record Block : Type 0 where
   pub align : ℕ
   pub cells : List Cell
 
+-- the state of a machine as its lines tell it: what was asked for and served, with no address of a table
 pub record State : Type 0 where
   -- the window: its first address, and its pages
   pub base : ℕ

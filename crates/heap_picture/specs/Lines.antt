@@ -40,5 +40,6 @@ pub record AreLinesOf (regions lines : List Region) : Type 0 where
   pub pages : total_pages lines ≡ total_pages regions
   pub covered : (address : ℕ) → list_any (is_within address) lines ≡ list_any (is_within address) regions
 
+-- the lines of regions cover the addresses of the regions, each once, for all lists of regions
 abbrev pub EachIsInOneLine : Type 0
 EachIsInOneLine = (regions : List Region) → AreLinesOf regions (region_lines regions)

@@ -37,5 +37,6 @@ status_texts =
     codes "ok" ∷ codes "usage" ∷ codes "bad window" ∷ codes "bad granularity" ∷ codes "too few frames" ∷ codes "out of memory"
     ∷ codes "read fault" ∷ codes "write fault" ∷ codes "input too long" ∷ []
 
+-- the text of an exit status; nothing for a number that is none
 abbrev pub status_text_of : ℕ → List ℕ
 status_text_of status = slice_index_or status_texts status []

@@ -27,6 +27,7 @@ abbrev pub IsAnsweredByNew : Config → Option (List ℕ) → Option (List ℕ) 
 IsAnsweredByNew config had left before after flushed last =
     (first : Machine) × IsNewMachine config first × IsAnsweredBy first (start config) had left before after flushed last
 
+-- so where calls are drawn
 abbrev pub IsGeneratedByNew : Config → ℕ → ℕ → Option (List ℕ) → Option (List ℕ) → Option ℕ → Machine → Type 0
 IsGeneratedByNew config seed count before after flushed last =
     (first : Machine) × IsNewMachine config first × IsGeneratedBy first (start config) seed count before after flushed last

@@ -10,5 +10,6 @@ pub record Streams (S K : Type 0) : Type 0 where
   pub flushed : K → Option ℕ
   pub writes : K → ℕ
 
+-- a source and a sink, by what they have left and have taken
 abbrev pub streams : {S K : Type 0} → (S → Option (List ℕ)) → (S → ℕ) → (K → Option (List ℕ)) → (K → Option ℕ) → (K → ℕ) → Streams S K
 streams left reads taken flushed writes = record { left = left; reads = reads; taken = taken; flushed = flushed; writes = writes }

@@ -36,5 +36,6 @@ pub record IsListedFrom (s : State) (replay : Replay) (listed : Listed) : Type 0
   pub live_is : listed.live ≡ live state
   pub peak_is : listed.peak ≡ max replay.peak (peak s (Extents ∷ []) (answer ∷ []))
 
+-- what a list of extents told is true of each state in which the replay is
 abbrev pub IsListedByReplay : Replay → Listed → Type 0
 IsListedByReplay replay listed = (s : State) → IsReplayAt s replay → live s ≤ replay.peak → IsListedFrom s replay listed

@@ -18,6 +18,7 @@ moment_of s = record { live = live s; heap = 4096 * total_pages s.heap % 2 ^ 128
 abbrev pub AreMoments : State → List Call → List Answer → List Moment → Type 0
 AreMoments s calls answers moments = (call : ℕ) → call < length calls → slice_get moments call ≡ Some (moment_of (state_after s calls answers (suc call)))
 
+-- the moment recorded after a call is that of the state after it, in each allowed run
 abbrev pub EachMomentIsOfItsState : Type 0
 EachMomentIsOfItsState =
     (config : Config) (calls : List Call) (answers : List Answer) → IsAllowedRun (start config) (map Some calls) (map Some answers) → AreMoments (start config) calls answers (history_of calls answers).moments

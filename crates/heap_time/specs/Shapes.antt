@@ -7,6 +7,7 @@ unfoldable pub view_front : ℕ → ℕ → ℕ → ℕ → List ℕ
 view_front y height calls bytes =
     codes "<svg x=\"144\" y=\"" ++ (decimal y ++ (codes "\" width=\"1024\" height=\"" ++ (decimal height ++ (codes "\" viewBox=\"0 0 " ++ (decimal calls ++ (codes " " ++ (decimal bytes ++ codes "\" preserveAspectRatio=\"none\">\n")))))))
 
+-- the opening of a band's inner drawing
 abbrev pub view_text : ℕ → Band → List ℕ
 view_text calls band = view_front band.y band.height calls (band.high - band.low)
 

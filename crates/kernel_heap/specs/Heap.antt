@@ -17,6 +17,7 @@ use Rattle.paged_systems.specs.declared.paged_system.PagedSystem.{PagedSystem}
 abbrev pub regions : PagedSystem → List Grant
 regions system = grants_of (paged system)
 
+-- the word that a walk of the tables reaches at an address
 abbrev pub word : PagedSystem → ℕ → ℕ
 word system at = word_reached (paged system) at
 

@@ -23,6 +23,7 @@ seen_of top heap blocks = record { paged = paged heap.system; granularity = heap
 abbrev pub seen_with : ℕ → NumberedHeap → Seen
 seen_with top numbered = seen_of top numbered.heap numbered.blocks.items
 
+-- what is seen of a machine, through the root that CR3 names
 abbrev pub seen : Parts → Seen
 seen machine = seen_with (root_of machine.cpu.cr3) machine.heap
 

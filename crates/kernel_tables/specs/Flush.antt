@@ -8,12 +8,15 @@ use Rattle.kernel_tables.specs.TableState.{TableState, IsPage, leads, AreSound, 
 abbrev pub no_page : ℕ → Bool
 no_page other = false
 
+-- one page
 abbrev pub page_alone : ℕ → ℕ → Bool
 page_alone page other = other == page
 
+-- the 512 pages of a slot
 abbrev pub pages_of_slot : ℕ → ℕ → Bool
 pages_of_slot page other = other / 512 == page
 
+-- the pages of a range, from its first one on
 abbrev pub pages_of_range : ℕ → ℕ → ℕ → Bool
 pages_of_range page pages other = nat_le page other && nat_lt other (page + pages)
 

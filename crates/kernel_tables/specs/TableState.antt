@@ -11,6 +11,7 @@ use Rattle.paging_core.specs.ProcessorWalk.{processor_walk, page_of, is_refused}
 use Rattle.paging_core.specs.Tree.{IsTreeIn}
 use Rattle.paging_core.specs.Walk.{Place, reach, large_of, walk_of}
 
+-- the tables as their callers see them
 pub record TableState : Type 0 where
   -- the words of all frames below the limit; those outside the area are 0 here
   pub words : List ℕ

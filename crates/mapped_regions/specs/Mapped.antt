@@ -116,6 +116,7 @@ abbrev pub walked_word : List ℕ → ℕ → Option Place → ℕ
 walked_word words at None = 0
 walked_word words at (Some place) = word_at words place.frame (at % 4096 / 8)
 
+-- the word that a walk reaches at an address; 0 if no page is mapped there
 abbrev pub word_reached : Paged → ℕ → ℕ
 word_reached p at = walked_word p.words at (walk_of p.words p.root (at / 4096))
 

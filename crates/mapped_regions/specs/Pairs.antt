@@ -9,6 +9,7 @@ use Rattle.mapped_regions.specs.declared.region_tree.Kind.{Kind}
 abbrev pub region_of : Interval ℕ × Kind → Region
 region_of e = record { start = 4096 * e.0.start; pages = e.0.end - e.0.start; heap = e.1.heap; rights = e.1.rights }
 
+-- the regions of a tree's intervals, in their order
 abbrev pub pair_regions : List (Interval ℕ × Kind) → List Region
 pair_regions es = map region_of es
 

@@ -3,6 +3,7 @@ use Rattle.std.specs.Prelude.{◌≡◌, Result, OnErr}
 use Rattle.heap_model.specs.Machine.{Paged}
 use Rattle.mapped_regions.specs.declared.regions.MappedRegions.{MappedRegions}
 
+-- what the definitions see of mapped regions
 abbrev pub paged_view : MappedRegions → Paged
 paged_view mapped = record { base = mapped.base; pages = mapped.pages; words = mapped.frames; root = mapped.root; free = mapped.pool; tables = mapped.tables; joins = mapped.joins; regions = mapped.regions; slots = mapped.slots.items }
 

@@ -27,6 +27,7 @@ IsMapRefused p start pages Map.Overlap = IsPageRange start pages × IsFalse (mee
 IsMapRefused p start pages Map.NoFrames = IsPageRange start pages × IsFalse (meets_any start pages p.regions) × ¬ (HasFrames p (start / 4096) pages)
 IsMapRefused p start pages Map.OutOfMemory = CanMap p start pages
 
+-- when `unmap` gives each refusal
 abbrev pub IsUnmapRefused : Paged → ℕ → ℕ → UnmapFault → Type 0
 IsUnmapRefused p start pages Unmap.BadRange = ¬ (IsPageRange start pages)
 IsUnmapRefused p start pages Unmap.HeapRegion = IsPageRange start pages × IsTrue (meets_any_heap p start pages)

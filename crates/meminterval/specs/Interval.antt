@@ -17,6 +17,7 @@ pub record ClonesItself {T : Type 0} (clone : Clone T) : Type 0 where
   pub same : (x y : T) → clone.is_clone x y → y ≡ x
   pub always : (x : T) → clone.is_infallible x
 
+-- the code of an interval is that of its start and its end
 abbrev pub interval_code : {T : Type 0} → Coded T → Coded (Interval T)
 interval_code {T} c = code_by (T × T) (coded× c c) (λ i. (i.start, i.end)) (λ p. record { start = p.0; end = p.1 }) (λ _. refl)
 

@@ -18,6 +18,7 @@ raised cmp x None = x
 raised cmp x (Some y) = ord_max cmp x y
 
 module _ {T V : Type 0} where
+  -- the tree without the numbers that its nodes keep
   abbrev pub tree_of : Subtree T V → Tree (Interval T × V)
   tree_of Empty = Leaf
   tree_of (Fork' p l i v g n s r) = Fork (tree_of l) (i, v) (tree_of r)

@@ -3,6 +3,7 @@ use Rattle.std.specs.Prelude.{◌≡◌, ℕ, zero, suc, ◌+◌, ◌≤◌, max
 use Rattle.std.specs.Coded.{Coded, code_by, coded_list, coded_option}
 use Rattle.std.proofs.Common.{◌∙◌, ap, sym, append_assoc, append-nil}
 
+-- a binary tree: nothing, or an element between two trees
 pub data Tree (E : Type 0) : Type 0 where
   Leaf : Tree E
   Fork : Tree E → E → Tree E → Tree E
@@ -73,5 +74,6 @@ module _ {E : Type 0} where
   pub tree_from-whole : (t : Tree E) → tree_from (items_of t) [] ≡ t
   tree_from-whole t = ap (λ ys. tree_from ys []) (sym (append-nil (items_of t))) ∙ tree_from-items_of t [] []
 
+  -- the code of a tree is that of its elements and leaves in order
   abbrev pub tree_code : Coded E → Coded (Tree E)
   tree_code c = code_by (List (Option E)) (coded_list (coded_option c)) items_of (λ xs. tree_from xs []) tree_from-whole

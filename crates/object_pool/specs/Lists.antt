@@ -9,6 +9,7 @@ pub record Entry : Type 0 where
   -- the object's bytes; None from its removal on
   pub bytes : Option (List ℕ)
 
+-- a pool as a plain list: all objects that were ever inserted, and the slots to use again
 pub record Lists : Type 0 where
   -- in the order inserted
   pub entries : List Entry
@@ -56,12 +57,14 @@ pub record IsNewKey (lists : Lists) (key : Key) : Type 0 where
 
 -- ---- what the calls do to the lists
 
+-- an object comes last, with the next key, and takes the slot freed last if there is one
 abbrev pub inserted : List ℕ → Lists → Lists
 inserted bytes lists = record {
   entries = lists.entries ++ (record { key = next_key lists; bytes = Some bytes }) ∷ [];
   freed = take (length lists.freed - 1) lists.freed;
 }
 
+-- the object of a key has other bytes
 abbrev pub with_new_bytes : Key → List ℕ → Lists → Lists
 with_new_bytes key bytes lists = record lists { entries = with_entry_bytes key (Some bytes) lists.entries }
 

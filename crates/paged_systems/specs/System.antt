@@ -5,6 +5,7 @@ use Rattle.heap_model.specs.Machine.{Paged}
 use Rattle.mapped_regions.specs.Shown.{paged_view}
 use Rattle.paged_systems.specs.declared.paged_system.PagedSystem.{PagedSystem}
 
+-- what the definitions see of a system
 abbrev pub paged : PagedSystem → Paged
 paged system = paged_view system.regions
 

@@ -20,9 +20,11 @@ paged_of system = paged system.mapped
 abbrev pub IsWordIn : TwinSystem → ℕ → Type 0
 IsWordIn system at = IsWordOf (grants_of (paged_of system)) at
 
+-- so many words lie in the regions, from an address on
 abbrev pub AreWordsIn : TwinSystem → ℕ → ℕ → Type 0
 AreWordsIn system at count = AreWordsOf (grants_of (paged_of system)) at count
 
+-- so many words can be copied from one address to another
 abbrev pub AreCopyableIn : TwinSystem → ℕ → ℕ → ℕ → Type 0
 AreCopyableIn system from to count = AreCopyable (grants_of (paged_of system)) from to count
 

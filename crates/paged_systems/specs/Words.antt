@@ -12,5 +12,6 @@ heap_regions regions = filter (λ region. region.heap) regions
 abbrev pub grant_of : Region → Grant
 grant_of region = record { base = region.start; size = 4096 * region.pages; flags = 0 }
 
+-- the heap's regions as a heap sees its system's grants
 abbrev pub grants_of : Paged → List Grant
 grants_of p = map grant_of (heap_regions p.regions)

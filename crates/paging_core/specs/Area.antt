@@ -1,6 +1,7 @@
 -- Where in physical memory the tables of a walk lie.
 use Rattle.std.specs.Prelude.{ℕ, ◌+◌, ◌-◌, ◌*◌, Bool, true, nat_le, nat_lt, ◌&&◌, List, ◌++◌, length, replicate}
 
+-- the frames in which tables may lie
 pub data Area : Type 0 where
   -- any frame may be a table's
   Whole : Area

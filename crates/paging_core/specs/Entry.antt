@@ -2,6 +2,7 @@
 use Rattle.std.specs.Prelude.{ℕ, ◌+◌, ◌*◌, ◌/◌, ◌%◌, ◌^◌, Bool, ◌==◌, if◌then◌else◌}
 use Rattle.paging_core.specs.declared.page_table.PageBits.{PageBits}
 
+-- whether a word has a bit; bits count from 0
 abbrev pub has_bit : ℕ → ℕ → Bool
 has_bit word bit = word / 2 ^ bit % 2 == 1
 

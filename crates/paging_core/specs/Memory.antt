@@ -1,9 +1,11 @@
 -- Physical memory as the list of its words, 512 per frame.
 use Rattle.std.specs.Prelude.{◌≡◌, ℕ, ◌+◌, ◌*◌, ◌/◌, ◌%◌, ◌^◌, ◌<◌, ◌≤◌, List, ◌++◌, length, slice_index, take, drop, replicate}
 
+-- the word of a frame at an index; 0 if the memory has no such frame
 abbrev pub word_at : List ℕ → ℕ → ℕ → ℕ
 word_at words frame index = slice_index words (512 * frame + index)
 
+-- how many frames the words make
 abbrev pub frame_count : List ℕ → ℕ
 frame_count words = length words / 512
 

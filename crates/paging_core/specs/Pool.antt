@@ -2,9 +2,11 @@
 use Rattle.std.specs.Prelude.{◌≡◌, ℕ, ◌<◌, Bool, true, false, List, set, count_by, slice_index_or, Option, Some, None}
 use Rattle.paging_core.specs.Area.{Area, in_area, Whole, Part}
 
+-- whether a frame's flag says that it is free; none past the last flag is
 abbrev pub is_frame_free : List Bool → ℕ → Bool
 is_frame_free free frame = slice_index_or free frame false
 
+-- how many frames are free
 abbrev pub free_count : List Bool → ℕ
 free_count free = count_by (λ flag. flag) free
 

@@ -248,7 +248,7 @@ pub fn cut_large(
     } = large_entry(frames, root, page);
     let made = large.frame.after(u64::from(keep));
     frames.clear_frame(made);
-    fill_table(frames, made, large.frame, keep, large.rights());
+    fill_table(frames, made, large.frame, keep, large.bits());
     frames.set_word(table, index, PageTableEntry::to_table(made).bits());
     free_frames(pool, made.after(1), 511 - u64::from(keep));
 }

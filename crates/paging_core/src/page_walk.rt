@@ -36,8 +36,8 @@ pub struct Mapped {
 }
 
 impl Mapped {
-    /// The rights of the place.
-    pub(crate) fn rights(self) -> PageBits
+    /// The bits of an entry that leads to the place.
+    pub(crate) fn bits(self) -> PageBits
         ensures { result ≡ record { write = self.write; user = self.user; fetch = self.fetch; through = self.through; uncached = self.uncached; global = self.global } }
     {
         PageBits {

@@ -41,7 +41,7 @@ pub fn split_large<M: PhysicalMemory, P: TableFrames>(
     let Some(made) = pool.take_frame() else {
         unreachable!()
     };
-    fill_table(frames, made, large.frame, 512, large.rights());
+    fill_table(frames, made, large.frame, 512, large.bits());
     frames.set_word(table, index, PageTableEntry::to_table(made).bits());
 }
 

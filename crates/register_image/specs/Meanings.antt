@@ -46,6 +46,7 @@ unfoldable pub name_among : List ExceptionVector → ℕ → List ℕ
 name_among [] number = codes "none"
 name_among (exception ∷ rest) number = if vector_number exception == number then exception_name exception else name_among rest number
 
+-- the name of an exception by its vector, after a space
 abbrev pub exception_text : ℕ → List ℕ
 exception_text number = codes " " ++ name_among exceptions number
 

@@ -31,5 +31,6 @@ abbrev pub verdict_text : ℕ → ℕ → TaskStateSegment → Result Descriptor
 verdict_text at given tss (Ok task) = table_text at given task ++ line (codes "tss") (tss_bytes tss)
 verdict_text at given tss (Err error) = codes "no segment\n"
 
+-- what is printed of a task state segment and its table, or that there is no segment
 abbrev pub segments_text : ℕ → ℕ → ℕ → TaskStateSegment → ℕ → List ℕ → List ℕ
 segments_text at given tss_at tss map_at map = verdict_text at given tss (iomap_verdict tss_at tss.iomap_base map_at map)

@@ -14,6 +14,7 @@ pub record Limits : Type 0 where
   pub nested : Bool
   pub nasid : ℕ
 
+-- what a processor tells of INVLPGB: pages a command, and what its guests may flush
 abbrev pub limits_of : Cpu → Limits
 limits_of cpu = record { count_max = cpu.invlpgb_count_max; nested = cpu.tlb_flush_nested; nasid = cpu.nasid }
 
@@ -71,5 +72,6 @@ abbrev pub commands : ℕ → Flush → Option (ℕ × ℕ) → List FlushComman
 commands size flush None = command flush ∷ []
 commands size flush (Some (first, end)) = turn_commands size flush (position size first) (position size end)
 
+-- the INVLPGB commands of a flush
 abbrev pub commands_of : ℕ → Flush → List FlushCommand
 commands_of size flush = commands size flush flush.pages

@@ -15,6 +15,7 @@ was_written port width value = record { port = port; width = width; write = true
 abbrev pub port_value : MemoryPorts → ℕ
 port_value ports = ports.value
 
+-- the last access to the ports; None before the first
 abbrev pub last_port_access : MemoryPorts → Option PortAccessed
 last_port_access ports = ports.last
 

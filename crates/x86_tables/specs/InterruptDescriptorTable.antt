@@ -146,6 +146,7 @@ with_entry table vector entry =
 abbrev pub has_slice : ℕ → ℕ → Type 0
 has_slice lower upper = (32 ≤ lower) × (lower ≤ upper) × (upper ≤ 256)
 
+-- the gates of a range of the vectors from 32 on
 abbrev pub slice_of : InterruptDescriptorTable → ℕ → ℕ → List (Entry HandlerFunc)
 slice_of table lower upper = slice_range table.interrupts.gates (lower - 32) (upper - 32)
 

@@ -29,6 +29,7 @@ encryption_bits configuration = record {
   address_mask = without 64 whole_address (2 ^ bit_place configuration);
 }
 
+-- the bits where memory encryption is off
 abbrev pub no_encryption : EncryptionBits
 no_encryption = record { mask = 0; reversed = false; address_mask = whole_address }
 

@@ -59,9 +59,9 @@ returns c = record {
         c.requires.some c.requires.part c.large_entry-index.ensures.bounded c.requires.standing.tree c.large_entry-index.ensures.entry
         (c.after-made.ensures ∙ ap (λ k. c.large_entry-index.result.large.frame + k) c.from.ensures)
         c.large_entry-index.ensures.place.below c.clear_frame.ensures c.fill_table.ensures.filled.size
-        (rw c.rights.ensures at c.fill_table.ensures.filled.entries) c.fill_table.ensures.filled.others
+        (rw c.bits.ensures at c.fill_table.ensures.filled.entries) c.fill_table.ensures.filled.others
         (c.set_word.ensures ∙ ap (set c.fill_table.new.frames
-        (512 * c.large_entry-index.result.table + c.large_entry-index.result.index)) (c.bits.ensures ∙ c.to_table.ensures))
+        (512 * c.large_entry-index.result.table + c.large_entry-index.result.index)) (c.bits-2.ensures ∙ c.to_table.ensures))
         c.after.ensures (ap (λ k. 511 - k) c.from-2.ensures)
         c.free_frames.ensures.flags c.free_frames.ensures.given c.free_frames.ensures.kept c.free_frames.ensures.count;
     bytes = steps_bytes c.args.frames.now c.clear_frame.new.self c.fill_table.new.frames c.set_word.new.self c.args.pool.now
@@ -71,9 +71,9 @@ returns c = record {
         c.requires.some c.requires.part c.large_entry-index.ensures.bounded c.requires.standing.tree c.large_entry-index.ensures.entry
         (c.after-made.ensures ∙ ap (λ k. c.large_entry-index.result.large.frame + k) c.from.ensures)
         c.large_entry-index.ensures.place.below c.clear_frame.ensures c.fill_table.ensures.filled.size
-        (rw c.rights.ensures at c.fill_table.ensures.filled.entries) c.fill_table.ensures.filled.others
+        (rw c.bits.ensures at c.fill_table.ensures.filled.entries) c.fill_table.ensures.filled.others
         (c.set_word.ensures ∙ ap (set c.fill_table.new.frames
-        (512 * c.large_entry-index.result.table + c.large_entry-index.result.index)) (c.bits.ensures ∙ c.to_table.ensures))
+        (512 * c.large_entry-index.result.table + c.large_entry-index.result.index)) (c.bits-2.ensures ∙ c.to_table.ensures))
         c.after.ensures (ap (λ k. 511 - k) c.from-2.ensures)
         c.free_frames.ensures.flags c.free_frames.ensures.given c.free_frames.ensures.kept c.free_frames.ensures.count;
     cut = steps_cut c.args.frames.now c.clear_frame.new.self c.fill_table.new.frames c.set_word.new.self c.args.pool.now
@@ -83,9 +83,9 @@ returns c = record {
         c.requires.some c.requires.part c.large_entry-index.ensures.bounded c.requires.standing.tree c.large_entry-index.ensures.entry
         (c.after-made.ensures ∙ ap (λ k. c.large_entry-index.result.large.frame + k) c.from.ensures)
         c.large_entry-index.ensures.place.below c.clear_frame.ensures c.fill_table.ensures.filled.size
-        (rw c.rights.ensures at c.fill_table.ensures.filled.entries) c.fill_table.ensures.filled.others
+        (rw c.bits.ensures at c.fill_table.ensures.filled.entries) c.fill_table.ensures.filled.others
         (c.set_word.ensures ∙ ap (set c.fill_table.new.frames
-        (512 * c.large_entry-index.result.table + c.large_entry-index.result.index)) (c.bits.ensures ∙ c.to_table.ensures))
+        (512 * c.large_entry-index.result.table + c.large_entry-index.result.index)) (c.bits-2.ensures ∙ c.to_table.ensures))
         c.after.ensures (ap (λ k. 511 - k) c.from-2.ensures)
         c.free_frames.ensures.flags c.free_frames.ensures.given c.free_frames.ensures.kept c.free_frames.ensures.count;
     known = steps_known c.args.frames.now c.clear_frame.new.self c.fill_table.new.frames c.set_word.new.self c.args.pool.now
@@ -95,9 +95,9 @@ returns c = record {
         c.requires.some c.requires.part c.large_entry-index.ensures.bounded c.requires.standing.tree c.large_entry-index.ensures.entry
         (c.after-made.ensures ∙ ap (λ k. c.large_entry-index.result.large.frame + k) c.from.ensures)
         c.large_entry-index.ensures.place.below c.clear_frame.ensures c.fill_table.ensures.filled.size
-        (rw c.rights.ensures at c.fill_table.ensures.filled.entries) c.fill_table.ensures.filled.others
+        (rw c.bits.ensures at c.fill_table.ensures.filled.entries) c.fill_table.ensures.filled.others
         (c.set_word.ensures ∙ ap (set c.fill_table.new.frames
-        (512 * c.large_entry-index.result.table + c.large_entry-index.result.index)) (c.bits.ensures ∙ c.to_table.ensures))
+        (512 * c.large_entry-index.result.table + c.large_entry-index.result.index)) (c.bits-2.ensures ∙ c.to_table.ensures))
         c.after.ensures (ap (λ k. 511 - k) c.from-2.ensures)
         c.free_frames.ensures.flags c.free_frames.ensures.given c.free_frames.ensures.kept c.free_frames.ensures.count;
     elsewhere = λ other canonical ne.
@@ -108,9 +108,9 @@ returns c = record {
         c.requires.some c.requires.part c.large_entry-index.ensures.bounded c.requires.standing.tree c.large_entry-index.ensures.entry
         (c.after-made.ensures ∙ ap (λ k. c.large_entry-index.result.large.frame + k) c.from.ensures)
         c.large_entry-index.ensures.place.below c.clear_frame.ensures c.fill_table.ensures.filled.size
-        (rw c.rights.ensures at c.fill_table.ensures.filled.entries) c.fill_table.ensures.filled.others
+        (rw c.bits.ensures at c.fill_table.ensures.filled.entries) c.fill_table.ensures.filled.others
         (c.set_word.ensures ∙ ap (set c.fill_table.new.frames
-        (512 * c.large_entry-index.result.table + c.large_entry-index.result.index)) (c.bits.ensures ∙ c.to_table.ensures))
+        (512 * c.large_entry-index.result.table + c.large_entry-index.result.index)) (c.bits-2.ensures ∙ c.to_table.ensures))
         c.after.ensures (ap (λ k. 511 - k) c.from-2.ensures)
         c.free_frames.ensures.flags c.free_frames.ensures.given c.free_frames.ensures.kept c.free_frames.ensures.count
         other (λ e. ne (same_slot other c.args.page canonical c.large_entry-index.ensures.canonical e));

@@ -40,7 +40,7 @@ returns g c =
     (512 * c.large_entry-index.result.table + c.large_entry-index.result.index) (table_entry c.in-Some.made) =
     c.set_word.ensures.words
     ∙ ap (set (g.M.PhysicalMemory.words c.fill_table.new.frames)
-    (512 * c.large_entry-index.result.table + c.large_entry-index.result.index)) (c.bits.ensures ∙ c.to_table.ensures) in
+    (512 * c.large_entry-index.result.table + c.large_entry-index.result.index)) (c.bits-2.ensures ∙ c.to_table.ensures) in
     let split = large_split (g.M.PhysicalMemory.area c.args.frames.now) (g.M.PhysicalMemory.words c.args.frames.now)
     (g.M.PhysicalMemory.words c.fill_table.new.frames) (g.M.PhysicalMemory.words c.set_word.new.self)
     (g.P.TableFrames.free c.args.pool.now) (g.P.TableFrames.free c.take_frame.new.self) c.args.root c.args.page
@@ -48,7 +48,7 @@ returns g c =
     (mapped_place c.large_entry-index.result.large) c.large_entry-index.ensures.bounded (omega arith) c.requires.standing.known
     c.requires.standing.tree c.large_entry-index.ensures.entry c.large_entry-index.ensures.place.below
     c.in-Some.ensures.taken.0 c.in-Some.ensures.taken.1 c.in-Some.ensures.lowest c.fill_table.ensures.filled.size
-    (rw c.rights.ensures at c.fill_table.ensures.filled.entries) c.fill_table.ensures.filled.others written in
+    (rw c.bits.ensures at c.fill_table.ensures.filled.entries) c.fill_table.ensures.filled.others written in
     record {
       split = record {
         same_area = c.set_word.ensures.area ∙ c.fill_table.ensures.area;
@@ -64,7 +64,7 @@ returns g c =
               (mapped_place c.large_entry-index.result.large) c.large_entry-index.ensures.bounded (omega arith) c.requires.standing.known
               c.requires.standing.tree c.large_entry-index.ensures.entry c.large_entry-index.ensures.place.below
               c.in-Some.ensures.taken.0 c.in-Some.ensures.taken.1 c.in-Some.ensures.lowest c.fill_table.ensures.filled.size
-              (rw c.rights.ensures at c.fill_table.ensures.filled.entries) c.fill_table.ensures.filled.others written);
+              (rw c.bits.ensures at c.fill_table.ensures.filled.entries) c.fill_table.ensures.filled.others written);
           known = known_moved (g.M.PhysicalMemory.area c.args.frames.now) (g.M.PhysicalMemory.area c.set_word.new.self)
               (g.P.TableFrames.free c.take_frame.new.self) (frame_count (g.M.PhysicalMemory.words c.set_word.new.self))
               (c.set_word.ensures.area ∙ c.fill_table.ensures.area)
@@ -75,7 +75,7 @@ returns g c =
               (mapped_place c.large_entry-index.result.large) c.large_entry-index.ensures.bounded (omega arith) c.requires.standing.known
               c.requires.standing.tree c.large_entry-index.ensures.entry c.large_entry-index.ensures.place.below
               c.in-Some.ensures.taken.0 c.in-Some.ensures.taken.1 c.in-Some.ensures.lowest c.fill_table.ensures.filled.size
-              (rw c.rights.ensures at c.fill_table.ensures.filled.entries) c.fill_table.ensures.filled.others written);
+              (rw c.bits.ensures at c.fill_table.ensures.filled.entries) c.fill_table.ensures.filled.others written);
         };
         split = split;
         walks = split_walk (g.M.PhysicalMemory.area c.args.frames.now) (g.M.PhysicalMemory.words c.args.frames.now)
@@ -85,7 +85,7 @@ returns g c =
             (mapped_place c.large_entry-index.result.large) c.large_entry-index.ensures.bounded (omega arith) c.requires.standing.known
             c.requires.standing.tree c.large_entry-index.ensures.entry c.large_entry-index.ensures.place.below
             c.in-Some.ensures.taken.0 c.in-Some.ensures.taken.1 c.in-Some.ensures.lowest c.fill_table.ensures.filled.size
-            (rw c.rights.ensures at c.fill_table.ensures.filled.entries) c.fill_table.ensures.filled.others written;
+            (rw c.bits.ensures at c.fill_table.ensures.filled.entries) c.fill_table.ensures.filled.others written;
         bytes = split_bytes (g.M.PhysicalMemory.area c.args.frames.now) (g.M.PhysicalMemory.words c.args.frames.now)
             (g.M.PhysicalMemory.words c.fill_table.new.frames) (g.M.PhysicalMemory.words c.set_word.new.self)
             (g.P.TableFrames.free c.args.pool.now) (g.P.TableFrames.free c.take_frame.new.self) c.args.root c.args.page
@@ -93,7 +93,7 @@ returns g c =
             (mapped_place c.large_entry-index.result.large) c.large_entry-index.ensures.bounded (omega arith) c.requires.standing.known
             c.requires.standing.tree c.large_entry-index.ensures.entry c.large_entry-index.ensures.place.below
             c.in-Some.ensures.taken.0 c.in-Some.ensures.taken.1 c.in-Some.ensures.lowest c.fill_table.ensures.filled.size
-            (rw c.rights.ensures at c.fill_table.ensures.filled.entries) c.fill_table.ensures.filled.others written;
+            (rw c.bits.ensures at c.fill_table.ensures.filled.entries) c.fill_table.ensures.filled.others written;
       };
     }
 
@@ -105,11 +105,11 @@ fill_table-requires-clause-seen g c = λ now only.
 pub set_word-requires-clause-seen : goal.set_word-requires-clause-seen
 set_word-requires-clause-seen g c =
     let now = set (g.M.PhysicalMemory.words c.fill_table.new.frames)
-    (512 * c.large_entry-index.result.table + c.large_entry-index.result.index) c.bits.result in
+    (512 * c.large_entry-index.result.table + c.large_entry-index.result.index) c.bits-2.result in
     let written : now ≡ set (g.M.PhysicalMemory.words c.fill_table.new.frames)
     (512 * c.large_entry-index.result.table + c.large_entry-index.result.index) (table_entry c.in-Some.made) =
     ap (set (g.M.PhysicalMemory.words c.fill_table.new.frames)
-    (512 * c.large_entry-index.result.table + c.large_entry-index.result.index)) (c.bits.ensures ∙ c.to_table.ensures)
+    (512 * c.large_entry-index.result.table + c.large_entry-index.result.index)) (c.bits-2.ensures ∙ c.to_table.ensures)
     in
     c.requires.seen now (record {
       tree = (
@@ -122,7 +122,7 @@ set_word-requires-clause-seen g c =
             c.requires.standing.known
             c.requires.standing.tree c.large_entry-index.ensures.entry c.large_entry-index.ensures.place.below
             c.in-Some.ensures.taken.0 c.in-Some.ensures.taken.1 c.in-Some.ensures.lowest c.fill_table.ensures.filled.size
-            (rw c.rights.ensures at c.fill_table.ensures.filled.entries) c.fill_table.ensures.filled.others written,
+            (rw c.bits.ensures at c.fill_table.ensures.filled.entries) c.fill_table.ensures.filled.others written,
       );
       leads =
           split_walk (g.M.PhysicalMemory.area c.args.frames.now) (g.M.PhysicalMemory.words c.args.frames.now)
@@ -132,5 +132,5 @@ set_word-requires-clause-seen g c =
           (mapped_place c.large_entry-index.result.large) c.large_entry-index.ensures.bounded (omega arith) c.requires.standing.known
           c.requires.standing.tree c.large_entry-index.ensures.entry c.large_entry-index.ensures.place.below
           c.in-Some.ensures.taken.0 c.in-Some.ensures.taken.1 c.in-Some.ensures.lowest c.fill_table.ensures.filled.size
-          (rw c.rights.ensures at c.fill_table.ensures.filled.entries) c.fill_table.ensures.filled.others written;
+          (rw c.bits.ensures at c.fill_table.ensures.filled.entries) c.fill_table.ensures.filled.others written;
     })
