@@ -113,7 +113,8 @@ size_t limzhur_tables_room(void);
 
 /*
  * Begins page tables with no page in a room, in the frames from `first` on, of which `count` words are at `words`: 512 for
- * each frame. The first frame is the root table, the others are left for further tables. Pages lie in frames below `limit`.
+ * each frame. The first frame is the root table and is cleared; the words of the others stay as they are, and are left for
+ * further tables. Pages lie in frames below `limit`.
  *
  * C keeps: `room` has limzhur_tables_room() bytes, at a multiple of 8. `words` has 8 * count bytes, at a multiple of 8, and
  * is not null; room and words are apart, and C gives them until it needs the tables no more. count is a multiple of 512,

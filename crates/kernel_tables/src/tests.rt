@@ -141,3 +141,21 @@ fn pages_keep_their_type(rt: HostRuntime) -> Result<(), Fail> {
     assert_eq!(rt; bits(tables.walk(inside)), Some(ALL.bits()));
     Ok(())
 }
+
+#[test]
+fn words_stay_where_no_tables_begin(rt: HostRuntime) -> Result<(), Fail> {
+    let mut words = vec![in rt.alloc(); 7u64; 1024]?;
+    let mut part = vec![in rt.alloc(); 7u64; 700]?;
+    let before = vec![in rt.alloc(); 7u64; 1024]?;
+    // the area ends past the limit, or has a part of a frame, or none
+    assert!(rt; Tables::new(&mut words, 16, 17).is_none());
+    assert!(rt; Tables::new(&mut part, 16, 1024).is_none());
+    assert!(rt; Tables::new(&mut words[..0], 16, 1024).is_none());
+    assert_eq!(rt; words.as_slice(), before.as_slice());
+    assert!(rt; part.iter().all(|word| *word == 7));
+    // where they begin, only the first frame is written
+    assert!(rt; Tables::new(&mut words, 16, 1024).is_some());
+    assert_eq!(rt; (words[0], words[511]), (0, 0));
+    assert!(rt; words[512..].iter().all(|word| *word == 7));
+    Ok(())
+}

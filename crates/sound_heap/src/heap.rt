@@ -145,23 +145,26 @@ impl<A: Allocator> Heap<A> {
 }
 
 impl<A: Allocator + Drop> Heap<A> {
-    ghost use Rattle.std.specs.Prelude.{◌≡◌, filter};
+    ghost use Rattle.std.specs.Prelude.{◌≡◌, [], filter};
     ghost use Rattle.dlmalloc.specs.Heap.{state_of};
     ghost use Rattle.dlmalloc.specs.GivenBack.{AreGivenBack};
     ghost use Rattle.dlmalloc.specs.Released.{is_own, taken_back};
     ghost use Rattle.sound_heap.specs.Heap.{fresh_heap};
 
     /// Gives all memory of the heap back, answers how many bytes the system took, and leaves a new heap over the system,
-    /// with the granularity and the rate in force. Another system stands in its place meanwhile.
-    pub fn reset(&mut self, other: A) -> u64
-        ensures ended { AreGivenBack A.regions A.word A.follows (taken_back (A.frees self.old.system) (filter is_own (state_of A.word self.old).segments)) self.old.system result self.new.system }
+    /// with the granularity and the rate in force. Another system stands in its place meanwhile, is asked for nothing, and comes
+    /// back.
+    pub fn reset(&mut self, other: A) -> (u64, A)
+        ensures ended { AreGivenBack A.regions A.word A.follows (taken_back (A.frees self.old.system) (filter is_own (state_of A.word self.old).segments)) self.old.system result.0 self.new.system }
+        ensures other { AreGivenBack A.regions A.word A.follows [] other 0 result.1 }
         ensures state { state_of A.word self.new ≡ fresh_heap self.old.granularity self.old.rate }
     {
         let granularity = self.granularity();
         let rate = self.release_rate();
         let gone = std::mem::replace(self, Heap::new(other));
         let (released, system) = gone.destroy();
-        *self = Heap::with_settings(system, granularity, rate);
-        released
+        let spare = std::mem::replace(self, Heap::with_settings(system, granularity, rate));
+        let (_, other) = spare.destroy();
+        (released, other)
     }
 }

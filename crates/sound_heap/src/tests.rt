@@ -89,7 +89,7 @@ fn a_reset_gives_all_memory_back(rt: HostRuntime) -> Result<(), Fail> {
     }
     assert_eq!(rt; places.as_slice(), [0, 0].as_slice());
     let (_, other) = flat_heap(rt.alloc())?.destroy();
-    assert_eq!(rt; heap.reset(other), 65536);
+    assert_eq!(rt; heap.reset(other).0, 65536);
     assert_eq!(rt; heap.extents(rt.alloc())?.len(), 0);
     assert_eq!(rt; heap.granularity(), 65536);
     assert_eq!(rt; heap.release_rate(), 7);

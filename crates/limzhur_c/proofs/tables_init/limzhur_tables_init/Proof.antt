@@ -32,7 +32,7 @@ use denote.Triple.Table.{framed}
 use denote.Triple.Walked.{Stays, walk_of, stay_dropped, Goes-dropped, ends_at}
 use Rattle.kernel_tables.specs.declared.tables.Tables.{Tables}
 use Rattle.kernel_tables.specs.contracts.tables.Tables as R-type
-use Rattle.kernel_tables.specs.Begun.{IsAreaGiven, AreBegun}
+use Rattle.kernel_tables.specs.Begun.{IsAreaGiven, AreBegun, AreOthersAsLent}
 use Rattle.limzhur_c.specs.contracts.tables_init.begin_tables as h
 use Rattle.limzhur_c.proofs.tables_init.begin_tables.Met.{met as begin_met}
 use Rattle.kernel_tables.proofs.tables.Tables.TheLaws.{the_row_laws}
@@ -97,6 +97,7 @@ limzhur_tables_init_spec 𝓤 𝓛 𝓜 𝓡 wired =
       ws,
     ) in
     let Few : Type 0 = n < 2 ^ 60 in let Given : Type 0 = IsAreaGiven n first limit in
+    let Begun : ℕ → List ℕ → Tables → Type 0 = λ count lent k. AreBegun count first limit k × AreOthersAsLent lent first limit k in
     let Lies : Fml = lies_at (Array u64 n) full_share w ws in
     qed 𝓛 ((‵ ftrue ⊛ ‵ (owns (RawPtr ∷ RawPtr ∷ usize ∷ u64 ∷ u64 ∷ []) a (y a.0).0.4)) ∷ (‵ (room_at R a.0) ⊛ ‵ Lies ⊛ raw
     (fact 𝓤 Few) ⊛ raw (fact 𝓤 Given)) ∷ []) ∵
@@ -146,9 +147,9 @@ limzhur_tables_init_spec 𝓤 𝓛 𝓜 𝓡 wired =
     (and_then ! (get ! refl) (and_then ! (get ! refl) (and_then ! (get ! refl) (no_more !)))) (λ u.
     use1 𝓛 (later (some (λ (made : Tables). (‵ ftrue ⊛ ‵ (R.own_val made (u ∷ []))) ⊛
     some (λ (us : Unit {0} × (Unit {0} × (Unit {0} × Unit {0}))). ‵ (lasts h.ended x.0.0 x.0.3 us) ⊛ raw
-    (fact 𝓤 (AreBegun (length r.now) first limit made)))))) (id⊢ 𝓤 _) $
+    (fact 𝓤 (Begun (length r.now) r.now made)))))) (id⊢ 𝓤 _) $
     await ! tt $ pick ! (λ made. split ! $ split ! $ drop ! $ move ! (1 ∷ []) $ pick !
-    (λ us'. split ! $ drop ! $ heard ! (AreBegun (length r.now) first limit made) (λ begun.
+    (λ us'. split ! $ drop ! $ heard ! (Begun (length r.now) r.now made) (λ begun.
     peeks ! R (Is R) (shows 𝓛 R) made (u ∷ []) (λ is'. let typed = (((the_row_laws static_lft).lawful 𝓛).typed made _ is').0 in lands_as ! refl refl typed $
     -- room.write(..)
     sets ! (of_opd ! (get ! refl)) refl (tt, tt) $ sets ! (of_opd ! (get ! refl)) refl typed $
@@ -156,9 +157,9 @@ limzhur_tables_init_spec 𝓤 𝓛 𝓜 𝓡 wired =
     sets ! (of_opd ! (unit_lit !)) refl (tt, tt) $ returns ! (look_at ! 0 refl) $ free_all ! refl $ move ! (1 ∷ 0 ∷ []) $ keep ! (0 ∷ 1 ∷ []) $
     use2 𝓛 (‵ (part_at R full_share made b o)) (part_in_at 𝓛 R refl full_share made b o δ refl u) $
     -- [the tables]
-    let Made : Tables → SProp 𝓤 = λ k. sep 𝓤 (sem 𝓛 (lies_at R full_share (block_ptr b o) k)) (fact 𝓤 (AreBegun n first limit k)) in
-    use0 𝓛 (raw (fact 𝓤 (AreBegun n first limit made))) (fact_i 𝓤 (AreBegun n first limit made) (emp 𝓤)
-    (subst (λ (k : ℕ). AreBegun k first limit made) lie.1 begun)) $ move ! (1 ∷ 0 ∷ []) $ join ! $
+    let Made : Tables → SProp 𝓤 = λ k. sep 𝓤 (sem 𝓛 (lies_at R full_share (block_ptr b o) k)) (fact 𝓤 (Begun n ws k)) in
+    use0 𝓛 (raw (fact 𝓤 (Begun n ws made))) (fact_i 𝓤 (Begun n ws made) (emp 𝓤)
+    (subst (λ (k : ℕ). AreBegun k first limit made) lie.1 begun.0, subst (λ (lent : List ℕ). AreOthersAsLent lent first limit made) lie.0 begun.1)) $ move ! (1 ∷ 0 ∷ []) $ join ! $
     use1 𝓛 (raw (ex 𝓤 Made)) (ex_i 𝓤 Made made) $
     suffices ! _ (ends_at 𝓛 f.ended stayed c (y (block_ptr b o)) vunit tt (tt, (tt, (tt, (tt, (tt, tt))))) (tt, (tt, (tt, (tt, (tt, tt)))))) $
     feq_i ! _ (vunit ∷ []) _ refl $ nothing ! $ nothing ! $ fjoin ! $ nothing ! $ fjoin ! $ nothing ! $ fjoin ! $ nothing !
