@@ -80,7 +80,7 @@ module _ {top : ℕ} (heap : Dlmalloc PagedSystem) (sound : IsSound regions word
   runs = subst (λ (regions : List Region). AreRuns regions true list) (sym (regions_are heap.system m refl s good stands))
       (heap_runs heap sound list listed.spans)
 
-  tiling : IsTiling s list
+  pub tiling : IsTiling s list
   tiling = record {
     extents_are = listed.tiled;
     bytes = λ address. listed.bytes address ∙ (segment_bytes heap sound laid.has address

@@ -77,7 +77,14 @@ impl Model for Machine {
 impl Machine {
     ghost use Rattle.sound_heap.specs.Heap.{IsIntact};
     ghost use Rattle.kernel_heap.specs.Heap.{regions, word};
-    ghost use Rattle.kernel_heap.specs.Machine.{system_of};
+    ghost use Rattle.kernel_heap.specs.Machine.{system_of, seen};
+    ghost use Rattle.std.specs.Prelude.{List};
+    ghost use Rattle.dlmalloc_chunks.specs.declared.extent.Extent.{Extent};
+    ghost use Rattle.dlmalloc.specs.Listed.{IsListed};
+    ghost use Rattle.heap_model.specs.State.{State};
+    ghost use Rattle.heap_model.specs.Run.{IsGood};
+    ghost use Rattle.heap_model.specs.Machine.{Stands};
+    ghost use Rattle.heap_model.specs.Extents.{IsTiling};
     ghost use Rattle.kernel_heap.specs.Kept.{is_always_answered};
     ghost use Rattle.kernel_heap.specs.Steps.{IsNewMachine, HasStepped, HasNotStepped};
 
@@ -122,6 +129,14 @@ impl Machine {
     /// begins with that.
     pub fn is_intact(&self)
         ensures { IsIntact regions word self.now.heap.heap }
+    {
+        self.heap.heap.is_intact();
+    }
+
+    /// In each good state for which the machine stands the extents of its heap tile the heap's regions, and those in use are those
+    /// of the live blocks, one to one.
+    pub fn extents_tile(&self)
+        ensures { (s : State) (list : List Extent) → IsGood s → Stands (seen self.now) s → IsListed word self.now.heap.heap list → IsTiling s list }
     {
         self.heap.heap.is_intact();
     }
