@@ -4,7 +4,7 @@ ghost use Rattle.bins.specs.Laws.{IndexStays, OneIndex, BitsLead};
 
 /// Stores outside the words of its chunks leave an index as it is. So do grants, and the end of grants that have none of
 /// these words.
-pub fn index_stays()
+pub fn law_index_stays()
     ensures { IndexStays }
 {}
 

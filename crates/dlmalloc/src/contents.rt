@@ -12,7 +12,7 @@ ghost use Rattle.dlmalloc.specs.Written.{words_in};
 
 use crate::heap::Dlmalloc;
 use crate::malloc_error::MallocError;
-use bins::laws::index_stays;
+use bins::laws::law_index_stays;
 use heap_memory::{Allocator, Steps};
 use std::sync::ledger::Ledger;
 
@@ -43,7 +43,7 @@ impl<A: Allocator> Dlmalloc<A> {
     {
         match self.malloc(size, align, steps) {
             Ok(address) => {
-                index_stays();
+                law_index_stays();
                 self.system.fill_counted(address, words_in(size), 0, steps);
                 Ok(address)
             }

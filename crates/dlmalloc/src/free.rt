@@ -16,7 +16,7 @@ ghost use Rattle.dlmalloc.specs.Order.{IsAdded, TurnsInOrder};
 
 use crate::heap::Dlmalloc;
 use crate::layout::{BLOCK, HEAD, PINUSE};
-use bins::laws::index_stays;
+use bins::laws::law_index_stays;
 use dlmalloc_chunks::chunk;
 use heap_memory::{Allocator, Links, Steps};
 use std::sync::ledger::Ledger;
@@ -85,7 +85,7 @@ impl<A: Allocator> Dlmalloc<A> {
         let to = self.free_end(at + size, steps);
         self.unbin_between(from, at, steps);
         self.unbin_between(at + size, to, steps);
-        index_stays();
+        law_index_stays();
         self.join_free(at, size, from, to, steps);
         self.bin_joined(from, to, steps);
         from

@@ -15,7 +15,7 @@ ghost use Rattle.dlmalloc.specs.Binned.{IsFreeAt, IsIntactBy};
 use crate::heap::{Dlmalloc, countdown_from};
 use crate::layout::{BLOCK, FOOT, HEAD, LEAST_CHUNK, OVERHEAD, PINUSE, TRIM_THRESHOLD};
 use crate::record::{SegmentRecord, put_record};
-use bins::laws::index_stays;
+use bins::laws::law_index_stays;
 use dlmalloc_chunks::chunk;
 use heap_memory::{Allocator, Grant, GrantFault, Steps};
 use std::sync::ledger::Ledger;
@@ -50,7 +50,7 @@ impl<A: Allocator> Dlmalloc<A> {
         ensures refused_counted { IfErr result (λ fault. steps.new ≡ steps.old) }
     {
         let asked = self.asked(n);
-        index_stays();
+        law_index_stays();
         let grant = self.system.alloc(asked)?;
         match self.segment_behind(&grant, steps) {
             Some(behind) => {
@@ -59,7 +59,7 @@ impl<A: Allocator> Dlmalloc<A> {
             }
             None => {
                 self.join(&grant, steps);
-                index_stays();
+                law_index_stays();
                 Ok(self.take_top(n, steps))
             }
         }
@@ -73,7 +73,7 @@ impl<A: Allocator> Dlmalloc<A> {
         ensures joined { IsGrantJoined A.regions A.word A.follows self.old grant.now self.new }
         ensures bins { KeepsBinsInOrder A.regions A.word self.old self.new }
     {
-        index_stays();
+        law_index_stays();
         if self.size == 0 {
             self.open(grant, steps);
         } else if self.is_behind(grant) {
@@ -127,7 +127,7 @@ impl<A: Allocator> Dlmalloc<A> {
     {
         let top = self.top;
         let top_size = self.top_size;
-        index_stays();
+        law_index_stays();
         self.change_head(grant, steps);
         if top_size < LEAST_CHUNK {
             return;

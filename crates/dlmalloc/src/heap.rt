@@ -133,7 +133,7 @@ impl<A: Allocator> Dlmalloc<A> {
     }
 
     /// The system, to be changed. The heap stays sound, and in its state, and its bins linked, if what is done leaves
-    /// as they are the regions of its segments, and every word of the segments outside of blocks: `rests_outside`.
+    /// as they are the regions of its segments, and every word of the segments outside of blocks: `law_rests_outside`.
     pub fn allocator_mut(&mut self) -> &mut A
         ensures* lends { sem 𝓛 (Lends (the_row A.row) A.row self.entry result (λ w. record self.old { system = w })) }
         ensures value { result.now ≡ self.old.system }

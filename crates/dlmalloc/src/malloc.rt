@@ -17,7 +17,7 @@ use crate::heap::Dlmalloc;
 use crate::layout::{BLOCK, LEAST_ALIGN};
 use crate::malloc_error::MallocError;
 use crate::walk::Choice;
-use bins::laws::index_stays;
+use bins::laws::law_index_stays;
 use dlmalloc_chunks::{max_request, request2size};
 use heap_memory::{Allocator, GrantFault, Steps};
 use std::sync::ledger::Ledger;
@@ -113,7 +113,7 @@ impl<A: Allocator> Dlmalloc<A> {
                     return Ok(place.at);
                 }
                 Some(Choice::Top) => {
-                    index_stays();
+                    law_index_stays();
                     return Ok(self.take_top(n, steps));
                 }
                 None => {}

@@ -14,7 +14,7 @@ ghost use Rattle.dlmalloc.specs.declared.prepend.Behind.TheVariants.{Head, Told}
 
 use crate::grow::may_join;
 use crate::heap::Dlmalloc;
-use bins::laws::index_stays;
+use bins::laws::law_index_stays;
 use dlmalloc_chunks::chunk;
 use heap_memory::{Allocator, Grant, Links, Steps};
 use std::sync::ledger::Ledger;
@@ -108,7 +108,7 @@ impl<A: Allocator> Dlmalloc<A> {
         ensures put { IsPutBefore A.regions A.word A.follows self.old grant.now n self.new }
         ensures bins { KeepsBinsInOrder A.regions A.word self.old self.new }
     {
-        index_stays();
+        law_index_stays();
         self.prepend(grant, n, behind, steps);
         self.dispose_chunk(grant.base + n, grant.size - n, steps);
     }

@@ -19,7 +19,7 @@ use crate::contents::words_in;
 use crate::heap::Dlmalloc;
 use crate::layout::{BLOCK, HEAD, LEAST_ALIGN};
 use crate::malloc_error::MallocError;
-use bins::laws::index_stays;
+use bins::laws::law_index_stays;
 use dlmalloc_chunks::{chunk, max_request, request2size};
 use heap_memory::{Allocator, Links, Steps};
 use std::sync::ledger::Ledger;
@@ -134,7 +134,7 @@ impl<A: Allocator> Dlmalloc<A> {
     {
         match self.malloc(size, align, steps) {
             Ok(address) => {
-                index_stays();
+                law_index_stays();
                 self.system
                     .copy_counted(ptr, address, words_in(held.min(size)), steps);
                 self.free_and_settle(ptr, steps);

@@ -18,7 +18,7 @@ ghost use Rattle.dlmalloc.specs.Counts.{pass_steps};
 use crate::heap::{Dlmalloc, countdown_from};
 use crate::layout::{FOOT, LEAST_LARGE};
 use crate::record::SegmentRecord;
-use bins::laws::index_stays;
+use bins::laws::law_index_stays;
 use dlmalloc_chunks::chunk;
 use heap_memory::{Allocator, Links, Steps};
 use std::sync::ledger::Ledger;
@@ -167,7 +167,7 @@ impl<A: Allocator> Dlmalloc<A> {
         }
         let size = told.size - FOOT;
         self.unbin(told.base, size, steps);
-        index_stays();
+        law_index_stays();
         if self.hand_out(before, told, steps) {
             return true;
         }

@@ -9,7 +9,7 @@ ghost use Rattle.dlmalloc.specs.Binned.{IsIntactBy};
 
 use crate::heap::Dlmalloc;
 use crate::layout::{HEAD, LEAST_CHUNK, PINUSE};
-use bins::laws::index_stays;
+use bins::laws::law_index_stays;
 use dlmalloc_chunks::chunk;
 use heap_memory::{Allocator, Links, Steps};
 use std::sync::ledger::Ledger;
@@ -42,7 +42,7 @@ impl<A: Allocator> Dlmalloc<A> {
             if more >= self.top_size {
                 return false;
             }
-            index_stays();
+            law_index_stays();
             self.grow_into_top(at, size, n, steps);
             return true;
         }
@@ -91,7 +91,7 @@ impl<A: Allocator> Dlmalloc<A> {
         let was_victim = at + size == self.victim;
         let rest = size + free - n;
         self.unbin(at + size, free, steps);
-        index_stays();
+        law_index_stays();
         self.join_part(at, size, free, n, steps);
         if was_victim {
             return;

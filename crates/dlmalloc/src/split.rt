@@ -9,7 +9,7 @@ ghost use Rattle.dlmalloc.specs.OneChunk.{IsUsedAt, IsSplit, LosesLead, ResizesO
 ghost use Rattle.dlmalloc.specs.Binned.{IsIntactBy};
 
 use crate::heap::Dlmalloc;
-use bins::laws::index_stays;
+use bins::laws::law_index_stays;
 use dlmalloc_chunks::chunk;
 use heap_memory::{Allocator, Steps};
 use std::sync::ledger::Ledger;
@@ -35,7 +35,7 @@ impl<A: Allocator> Dlmalloc<A> {
         ensures resized { ResizesOne A.Links self.old at self.new }
         ensures counted { steps.new ≤ steps.old + 534 }
     {
-        index_stays();
+        law_index_stays();
         self.split(at, size, n, steps);
         self.dispose_chunk(at + n, size - n, steps);
     }
@@ -50,7 +50,7 @@ impl<A: Allocator> Dlmalloc<A> {
         ensures words { (k : ℕ) → IsWordOf (A.regions self.old.system) k → k ≢ at + 8 → (IsInFree (state_of A.word self.old) k → ⊥) → (IsOwn (state_of A.word self.new) k → ⊥) → A.word self.new.system k ≡ A.word self.old.system k }
         ensures counted { steps.new ≤ steps.old + 534 }
     {
-        index_stays();
+        law_index_stays();
         self.split(at, size, n, steps);
         self.dispose_chunk(at, n, steps);
     }

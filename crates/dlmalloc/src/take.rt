@@ -7,7 +7,7 @@ ghost use Rattle.dlmalloc.specs.Binned.{IsIntactBy, IsMember};
 
 use crate::heap::Dlmalloc;
 use crate::layout::{LEAST_CHUNK, LEAST_LARGE};
-use bins::laws::index_stays;
+use bins::laws::law_index_stays;
 use dlmalloc_chunks::chunk;
 use heap_memory::{Allocator, Steps};
 use std::sync::ledger::Ledger;
@@ -24,7 +24,7 @@ impl<A: Allocator> Dlmalloc<A> {
         ensures counted { steps.new ≤ steps.old + 328 }
     {
         if at == self.victim {
-            index_stays();
+            law_index_stays();
             self.cut_chunk(at, size, n, steps);
             return;
         }
@@ -43,7 +43,7 @@ impl<A: Allocator> Dlmalloc<A> {
         let victim = self.victim;
         let victim_size = self.victim_size;
         self.unbin_fit(at, size, steps);
-        index_stays();
+        law_index_stays();
         self.cut_chunk(at, size, n, steps);
         let rest = size - n;
         if rest < LEAST_CHUNK {

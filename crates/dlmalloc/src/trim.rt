@@ -10,7 +10,7 @@ ghost use Rattle.dlmalloc.specs.Heap.{state_of, IsSoundBy};
 
 use crate::heap::Dlmalloc;
 use crate::layout::{FOOT, TRIM_THRESHOLD};
-use bins::laws::index_stays;
+use bins::laws::law_index_stays;
 use dlmalloc_chunks::max_request;
 use heap_memory::{Allocator, Steps};
 use std::sync::ledger::Ledger;
@@ -60,7 +60,7 @@ impl<A: Allocator> Dlmalloc<A> {
         ensures index { KeepsIndex A.regions A.word self.old self.new }
         ensures counted { steps.new ≤ steps.old + 2 }
     {
-        index_stays();
+        law_index_stays();
         let cut = self.spare(pad);
         self.may_cut(cut) && self.cut_top(cut, steps)
     }

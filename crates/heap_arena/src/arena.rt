@@ -85,7 +85,7 @@ impl<'a> Arena<'a> {
 
     /// Each granted byte is in the words, and the first word is at a multiple of 16.
     #[tactic(auto, using(crate::proofs::GrantLemmas::granted_between))]
-    pub fn grants_are_inside(&self)
+    pub fn law_grants_inside(&self)
         ensures inside { AreInside self.now }
         ensures aligned { self.now.base % 16 ≡ 0 }
     {}

@@ -46,7 +46,7 @@ fn mark<'a>(marks: &mut Marks<'a>, heap: &Heap<Arena<'a>>, address: u64)
     requires counted { AreCounted marks.old }
     ensures { IsMarkSet marks.old address true marks.new }
 {
-    heap.system().grants_are_inside();
+    heap.system().law_grants_inside();
     marks.set(address);
 }
 
@@ -227,7 +227,7 @@ impl<'a> CheckedHeap<'a> {
         ensures { IsResizeAnswered self.old from size result self.new }
     {
         if !self.has_block(from) {
-            self.heap.blocks_are_apart();
+            self.heap.law_blocks_apart();
             return Err(HeapError::NoBlock);
         }
         match self.heap.realloc(from, size) {
@@ -309,8 +309,8 @@ impl<'a> CheckedHeap<'a> {
         if !self.has_word(address, offset) {
             return false;
         }
-        self.heap.blocks_are_placed();
-        self.heap.system().grants_are_inside();
+        self.heap.law_blocks_placed();
+        self.heap.system().law_grants_inside();
         self.heap.store(address, offset, value);
         true
     }
@@ -319,7 +319,7 @@ impl<'a> CheckedHeap<'a> {
     pub fn blocks(&self) -> u64
         ensures { HasBlocks (arena_heap_state self.now) result }
     {
-        self.heap.is_intact();
+        self.heap.law_intact();
         self.marks.count()
     }
 
@@ -346,23 +346,23 @@ impl<'a> CheckedHeap<'a> {
     }
 
     /// The heap is sound, and its bins hold its free extents. With this the clauses about the order of free chunks begin.
-    pub fn is_intact(&self)
+    pub fn law_intact(&self)
         ensures { IsIntact regions_of word_of self.now }
     {
-        self.heap.is_intact();
+        self.heap.law_intact();
     }
 
     /// Each block is at a multiple of 16, and its bytes are granted; if it has none, one is.
-    pub fn blocks_are_placed(&self)
+    pub fn law_blocks_placed(&self)
         ensures { ArePlaced (regions_of self.now.system) (arena_heap_state self.now) }
     {
-        self.heap.blocks_are_placed();
+        self.heap.law_blocks_placed();
     }
 
     /// Two blocks have no byte in common, with one byte for a block that has none.
-    pub fn blocks_are_apart(&self)
+    pub fn law_blocks_apart(&self)
         ensures { BlocksAreApart (arena_heap_state self.now) }
     {
-        self.heap.blocks_are_apart();
+        self.heap.law_blocks_apart();
     }
 }

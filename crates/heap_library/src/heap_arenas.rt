@@ -19,7 +19,7 @@ fn add<'a, const N: usize>(
     ensures state { state_of (λ a at. word_among a.arenas.items at) heap.new ≡ state_of (λ a at. word_among a.arenas.items at) heap.old }
     ensures intact { IsIntact (λ a. regions_of_all a.arenas.items) (λ a at. word_among a.arenas.items at) heap.new }
 {
-    heap.rests_outside();
+    heap.law_rests_outside();
     heap.allocator_mut().add(arena)
 }
 

@@ -34,7 +34,7 @@ impl<'a> Marks<'a> {
             base,
             count: 0,
         };
-        marks.none_are_counted();
+        marks.law_none_counted();
         marks
     }
 
@@ -46,7 +46,7 @@ impl<'a> Marks<'a> {
     }
 
     /// Where no address is marked, there are 0.
-    fn none_are_counted(&self)
+    fn law_none_counted(&self)
         requires none { (address : ℕ) → is_marked self.now.base self.now.words.now address ≡ false }
         requires zero { self.now.count ≡ 0 }
         ensures { AreCounted self.now }

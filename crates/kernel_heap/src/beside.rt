@@ -24,8 +24,8 @@ pub(crate) fn map(
     ensures err { IfErr result (λ fault. IsMapDenied (paged heap.old.system) (paged heap.new.system) start pages fault) }
     ensures kept { IsKeptBeside heap.old heap.new }
 {
-    heap.heap.rests_outside();
-    heap.heap.order_rests_outside();
+    heap.heap.law_rests_outside();
+    heap.heap.law_order_rests_outside();
     heap.heap.allocator_mut().map(start, pages, rights)
 }
 
@@ -35,8 +35,8 @@ pub(crate) fn unmap(heap: &mut Heap<PagedSystem>, start: u64, pages: u64) -> Res
     ensures err { IfErr result (λ fault. IsUnmapDenied (paged heap.old.system) (paged heap.new.system) start pages fault) }
     ensures kept { IsKeptBeside heap.old heap.new }
 {
-    heap.heap.rests_outside();
-    heap.heap.order_rests_outside();
+    heap.heap.law_rests_outside();
+    heap.heap.law_order_rests_outside();
     heap.heap.allocator_mut().unmap(start, pages)
 }
 
@@ -46,8 +46,8 @@ pub(crate) fn take_slots(heap: &mut Heap<PagedSystem>) -> Option<SlotList>
     ensures others { paged heap.new.system ≡ record (paged heap.old.system) { slots = [] } }
     ensures kept { IsKeptBeside heap.old heap.new }
 {
-    heap.heap.rests_outside();
-    heap.heap.order_rests_outside();
+    heap.heap.law_rests_outside();
+    heap.heap.law_order_rests_outside();
     heap.heap.allocator_mut().take_slots()
 }
 
@@ -57,8 +57,8 @@ pub(crate) fn write_bytes(heap: &mut Heap<PagedSystem>, address: u64, bytes: &[u
     ensures written { AreBytesWritten (paged heap.old.system) (paged heap.new.system) address bytes.now (length bytes.now) }
     ensures kept { IsKeptBeside heap.old heap.new }
 {
-    heap.heap.blocks_are_placed();
-    heap.heap.rests_outside();
-    heap.heap.order_rests_outside();
+    heap.heap.law_blocks_placed();
+    heap.heap.law_rests_outside();
+    heap.heap.law_order_rests_outside();
     heap.heap.allocator_mut().write_bytes(address, bytes);
 }

@@ -20,7 +20,7 @@ impl NumberedHeap {
         ensures err { IfErr result (λ refusal. refuse_live (live_at self.now.blocks.items number) offset count ≡ Some refusal) }
         ensures placed { ArePlaced (regions (system_of self.now)) (heap_of self.now) }
     {
-        self.heap.blocks_are_placed();
+        self.heap.law_blocks_placed();
         let Some(live) = self.live(number) else {
             return Err(Refusal::UnknownBlock);
         };

@@ -99,7 +99,7 @@ impl Machine {
         let system = PagedSystem::new(alloc, config.base, config.pages, config.frames)?;
         let cpu = registers(system.root());
         let heap = Heap::with_settings(system, config.granularity, config.rate);
-        heap.is_intact();
+        heap.law_intact();
         Ok(Machine {
             heap: NumberedHeap {
                 alloc,
@@ -127,18 +127,18 @@ impl Machine {
 
     /// The heap is sound, and its bins hold its free extents. What [`Machine::step`] says of the order of free chunks
     /// begins with that.
-    pub fn is_intact(&self)
+    pub fn law_intact(&self)
         ensures { IsIntact regions word self.now.heap.heap }
     {
-        self.heap.heap.is_intact();
+        self.heap.heap.law_intact();
     }
 
     /// In each good state for which the machine stands the extents of its heap tile the heap's regions, and those in use are those
     /// of the live blocks, one to one.
-    pub fn extents_tile(&self)
+    pub fn law_extents_tile(&self)
         ensures { (s : State) (list : List Extent) → IsGood s → Stands (seen self.now) s → IsListed word self.now.heap.heap list → IsTiling s list }
     {
-        self.heap.heap.is_intact();
+        self.heap.heap.law_intact();
     }
 
     /// Serves a call. The answer is allowed in each good state for which the machine stands, the machine then stands for
@@ -151,7 +151,7 @@ impl Machine {
         ensures answered { IsTrue (is_always_answered call.now) → IsOk result }
     {
         let served = self.heap.serve(call);
-        self.heap.heap.is_intact();
+        self.heap.heap.law_intact();
         if let Ok(answer) = &served {
             note_fault(&mut self.cpu, call, &answer.reply);
         }

@@ -118,11 +118,11 @@ impl NumberedHeap {
         self.list.clear();
         self.list.reserve(count + 1)?;
         let before = self.marks();
-        self.heap.is_intact();
-        self.heap.blocks_are_placed();
+        self.heap.law_intact();
+        self.heap.law_blocks_placed();
         match self.heap.hand_out(size, align, cleared) {
             Ok(address) => {
-                self.heap.blocks_are_placed();
+                self.heap.law_blocks_placed();
                 Ok(Answer {
                     reply: self.add_block(address, size, align),
                     regions: self.changed_regions(before),
@@ -154,11 +154,11 @@ impl NumberedHeap {
         self.list.clear();
         self.list.reserve(count + 1)?;
         let before = self.marks();
-        self.heap.is_intact();
-        self.heap.blocks_are_placed();
+        self.heap.law_intact();
+        self.heap.law_blocks_placed();
         match resize_live(&mut self.heap, live, size, keeps_alignment) {
             Ok(address) => {
-                self.heap.blocks_are_placed();
+                self.heap.law_blocks_placed();
                 self.blocks.change(
                     number,
                     Live {
@@ -265,9 +265,9 @@ impl NumberedHeap {
         self.list.clear();
         self.list.reserve(count)?;
         let before = self.marks();
-        self.heap.blocks_are_placed();
+        self.heap.law_blocks_placed();
         self.heap.free(live.address);
-        self.heap.blocks_are_placed();
+        self.heap.law_blocks_placed();
         self.blocks.end(number);
         Ok(Answer {
             reply: Reply::Done,
@@ -281,7 +281,7 @@ impl NumberedHeap {
         requires sound { IsNumberedSound self.now }
         ensures ok { IfOk result (λ answer. HasServedCall self.now Call.Extents answer self.now) }
     {
-        self.heap.is_intact();
+        self.heap.law_intact();
         Ok(Answer {
             reply: Reply::Extents(self.heap.extents(self.alloc)?),
             regions: None,

@@ -19,9 +19,9 @@ impl NumberedHeap {
         self.list.clear();
         self.list.reserve(count)?;
         let before = self.marks();
-        self.heap.blocks_are_placed();
+        self.heap.law_blocks_placed();
         self.heap.trim(pad);
-        self.heap.blocks_are_placed();
+        self.heap.law_blocks_placed();
         let regions = self.changed_regions(before);
         Ok(Answer {
             reply: Reply::Trimmed(regions.is_some()),
@@ -39,7 +39,7 @@ impl NumberedHeap {
     {
         let other = PagedSystem::new(self.alloc, Size4KiB::SIZE, 1, 1)?;
         let free = self.heap.system().free_frames();
-        self.heap.is_intact();
+        self.heap.law_intact();
         self.heap.reset(other);
         self.blocks.end_all();
         let frames = self.heap.system().free_frames() - free;

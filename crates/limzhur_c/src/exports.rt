@@ -128,8 +128,8 @@ pub extern "C" fn limzhur_stats(handle: &mut Handle, stats: &mut Stats)
     ensures room { handle.new.room ≡ handle.old.room }
 {
     let heap = handle.open();
-    heap.is_intact();
-    heap.blocks_are_placed();
+    heap.law_intact();
+    heap.law_blocks_placed();
     *stats = Stats {
         used: 8 * heap.used() as u64,
         blocks: heap.blocks(),

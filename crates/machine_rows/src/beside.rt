@@ -155,8 +155,8 @@ fn map_beside(
 ) -> Result<(), MapFault>
     ensures kept { IsKeptBeside heap.old heap.new }
 {
-    heap.heap.rests_outside();
-    heap.heap.order_rests_outside();
+    heap.heap.law_rests_outside();
+    heap.heap.law_order_rests_outside();
     heap.heap.allocator_mut().map(start, pages, rights)
 }
 
@@ -164,8 +164,8 @@ fn map_beside(
 fn unmap_beside(heap: &mut Heap<PagedSystem>, start: u64, pages: u64) -> Result<(), UnmapFault>
     ensures kept { IsKeptBeside heap.old heap.new }
 {
-    heap.heap.rests_outside();
-    heap.heap.order_rests_outside();
+    heap.heap.law_rests_outside();
+    heap.heap.law_order_rests_outside();
     heap.heap.allocator_mut().unmap(start, pages)
 }
 

@@ -210,7 +210,7 @@ fn chunk_of<R: Abort>(
     ensures { IfOk result (λ size. (16 ≤ address) × (32 ≤ size)
         × (extent_at (address - 16) (extents_in (state_of ⟦<TwinSystem as Links>⟧.word heap.now)) ≡ Some (record { at = address - 16; size = size; kind = Used }))) }
 {
-    heap.is_intact();
+    heap.law_intact();
     let extents = heap.extents(alloc)?;
     assert!(rt; address >= 16);
     match chunk_at(extents.as_slice(), address - 16) {

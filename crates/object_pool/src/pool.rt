@@ -242,10 +242,10 @@ impl<A: Allocator + Memory> Pool<A> {
     }
 
     /// The objects of two slots have no byte in common (own).
-    pub fn places_are_apart(&self)
+    pub fn law_places_apart(&self)
         ensures { PlacesAreApart self.now.slabs self.now.size }
     {
-        self.slabs.heap.blocks_are_apart();
+        self.slabs.heap.law_blocks_apart();
     }
 
     /// Gives every slab back, the one taken last first, and answers the heap: the blocks that are no slabs stand in it with the

@@ -33,7 +33,7 @@ pub(crate) struct Slabs<A: Allocator> {
 }
 
 /// A slab is never too large for a heap (own).
-fn slabs_are_small(granularity: u64, size: u64)
+fn law_slabs_small(granularity: u64, size: u64)
     requires granularity { IsGranularity granularity }
     requires small { size ≤ 262144 }
     ensures { size < limit granularity }
@@ -45,9 +45,9 @@ fn put_bytes<A: Allocator + Memory>(heap: &mut Heap<A>, address: u64, bytes: &[u
     ensures written { IsWritten (A.regions heap.old.system) (A.word heap.old.system) address bytes.now (length bytes.now) (A.word heap.new.system) }
     ensures stays { StaysInState A.regions A.word A.follows heap.old heap.new }
 {
-    heap.heap.blocks_are_placed();
-    heap.heap.rests_outside();
-    heap.heap.order_rests_outside();
+    heap.heap.law_blocks_placed();
+    heap.heap.law_rests_outside();
+    heap.heap.law_order_rests_outside();
     write_bytes(heap.heap.allocator_mut(), address, bytes);
 }
 
@@ -58,9 +58,9 @@ fn free_slab<A: Allocator>(heap: &mut Heap<A>, address: u64)
     ensures linked { IsBinned A.regions A.word heap.new }
     ensures placed { ArePlaced (A.regions heap.old.system) (state_of A.word heap.old) }
 {
-    heap.blocks_are_placed();
+    heap.law_blocks_placed();
     heap.free(address);
-    heap.is_intact();
+    heap.law_intact();
 }
 
 impl<A: Allocator + Memory> Slabs<A> {
@@ -77,7 +77,7 @@ impl<A: Allocator + Memory> Slabs<A> {
         ensures place { result ≡ slot_address self.now.places.items self.now.size index }
         ensures granted { AreGranted (A.regions self.now.heap.system) result self.now.size }
     {
-        self.heap.blocks_are_placed();
+        self.heap.law_blocks_placed();
         let slot = index as u64;
         self.places[(slot / SLOTS) as usize] + self.size * (slot % SLOTS)
     }
@@ -102,8 +102,8 @@ impl<A: Allocator + Memory> Slabs<A> {
         ensures put { IsObjectPut A.regions A.word A.follows self.old.heap self.old.places.items self.old.size index bytes.now self.new.heap }
     {
         let place = self.place(index);
-        self.heap.blocks_are_placed();
-        self.heap.blocks_are_apart();
+        self.heap.law_blocks_placed();
+        self.heap.law_blocks_apart();
         put_bytes(&mut self.heap, place, bytes);
     }
 
@@ -119,9 +119,9 @@ impl<A: Allocator + Memory> Slabs<A> {
         ensures err { IfErr result (λ fault. IsAsItWas A.regions A.word A.follows A.refuses (refused_events (state_of A.word self.old.heap) (64 * self.old.size) (MallocError.System fault)) self.old.heap self.new.heap) }
         ensures denied { IfErr result (λ fault. IsDenied A.denies self.old.heap.system (state_of A.word self.old.heap) (padded (64 * self.old.size)) fault) }
     {
-        self.heap.is_intact();
-        slabs_are_small(self.heap.granularity(), SLOTS * self.size);
-        self.heap.blocks_are_placed();
+        self.heap.law_intact();
+        law_slabs_small(self.heap.granularity(), SLOTS * self.size);
+        self.heap.law_blocks_placed();
         match self.heap.hand_out(SLOTS * self.size, ALIGNMENT, false) {
             Ok(address) => {
                 self.places.push_reserved(address);
@@ -138,7 +138,7 @@ impl<A: Allocator + Memory> Slabs<A> {
         ensures { IsEmptied A.regions A.word A.follows (A.frees self.heap.system) (A.parts self.heap.system) (A.unit self.heap.system) self.heap self.places.items result }
     {
         let mut heap = self.heap;
-        heap.is_intact();
+        heap.law_intact();
         let mut places = self.places;
         while let Some(address) = places.pop() {
             free_slab(&mut heap, address);

@@ -53,7 +53,7 @@ impl TwinSystem {
 
     /// At every granted place the flat word is the word that the walk reaches. It does nothing: its clause is what a
     /// caller has by calling it.
-    pub fn words_agree(&self)
+    pub fn law_words_agree(&self)
         ensures { (at : ℕ) → IsWordOf (grants_of (paged_of self.now)) at → flat_word self.now.flat at ≡ word_reached (paged_of self.now) at }
     {}
 

@@ -50,7 +50,7 @@ pub(crate) fn hand_out<A: Allocator, L: Ledger>(
     } else {
         heap.malloc(size, align, &mut steps)
     };
-    heap.blocks_are_apart();
+    heap.law_blocks_apart();
     answer
 }
 
@@ -70,7 +70,7 @@ pub(crate) fn resize<A: Allocator, L: Ledger>(
     ensures apart { AreBlocksApart A.word heap.new }
 {
     let answer = heap.c_realloc(Some(address), size, &mut Steps::<L>::new(blank));
-    heap.blocks_are_apart();
+    heap.law_blocks_apart();
     answer
 }
 
@@ -93,7 +93,7 @@ pub(crate) fn resize_aligned<A: Allocator, L: Ledger>(
     ensures apart { AreBlocksApart A.word heap.new }
 {
     let answer = heap.realloc(address, held, align, size, &mut Steps::<L>::new(blank));
-    heap.blocks_are_apart();
+    heap.law_blocks_apart();
     answer
 }
 

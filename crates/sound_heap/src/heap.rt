@@ -123,24 +123,24 @@ impl<A: Allocator> Heap<A> {
     }
 
     /// The heap is sound, and its bins hold its free extents.
-    pub fn is_intact(&self)
+    pub fn law_intact(&self)
         ensures { IsIntact A.regions A.word self.now }
     {
         let _ = &self.heap;
     }
 
     /// Each block is at a multiple of 16, and its bytes are granted; if it has none, one is.
-    pub fn blocks_are_placed(&self)
+    pub fn law_blocks_placed(&self)
         ensures { ArePlaced (A.regions self.now.system) (state_of A.word self.now) }
     {
-        self.heap.blocks_are_placed();
+        self.heap.law_blocks_placed();
     }
 
     /// Two blocks have no byte in common, with one byte for a block that has none.
-    pub fn blocks_are_apart(&self)
+    pub fn law_blocks_apart(&self)
         ensures { BlocksAreApart (state_of A.word self.now) }
     {
-        self.heap.blocks_are_apart();
+        self.heap.law_blocks_apart();
     }
 }
 

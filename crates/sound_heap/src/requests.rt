@@ -43,7 +43,7 @@ impl<A: Allocator> Heap<A> {
         ensures apart { AreBlocksApart A.word self.new }
     {
         if !calls::is_alignment(align) {
-            self.blocks_are_apart();
+            self.law_blocks_apart();
             return Err(HeapError::BadAlign);
         }
         match self.hand_out(size, align, cleared) {

@@ -28,8 +28,8 @@ impl<A: Allocator + Memory> Heap<A> {
         ensures block { HasBlock (state_of A.word self.new) address }
         ensures usable { usable (state_of A.word self.new) address ≡ usable (state_of A.word self.old) address }
     {
-        self.heap.rests_outside();
-        self.heap.order_rests_outside();
+        self.heap.law_rests_outside();
+        self.heap.law_order_rests_outside();
         self.heap.allocator_mut().store(address + offset, value);
     }
 }

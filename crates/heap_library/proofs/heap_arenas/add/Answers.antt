@@ -7,7 +7,7 @@ use Rattle.heap_library.proofs.heap_arenas.add.Goals as goal
 pub returns-clause-intact : goal.returns-clause-intact
 returns-clause-intact g c =
     (added_intact (λ a. a.arenas.items) c.args.heap.now c.allocator_mut.result.now c.add.new.self c.add.result c.args.arena
-    c.rests_outside.ensures c.requires c.allocator_mut.ensures.value c.add.ensures.ok c.add.ensures.same).0
+    c.law_rests_outside.ensures c.requires c.allocator_mut.ensures.value c.add.ensures.ok c.add.ensures.same).0
 
 pub returns-clause-answered : goal.returns-clause-answered
 returns-clause-answered g c = record {
@@ -22,4 +22,4 @@ returns-clause-answered g c = record {
 
 pub returns-clause-state : goal.returns-clause-state
 returns-clause-state g c = (added_intact (λ a. a.arenas.items) c.args.heap.now c.allocator_mut.result.now c.add.new.self c.add.result c.args.arena
-    c.rests_outside.ensures c.requires c.allocator_mut.ensures.value c.add.ensures.ok c.add.ensures.same).1
+    c.law_rests_outside.ensures c.requires c.allocator_mut.ensures.value c.add.ensures.ok c.add.ensures.same).1

@@ -14,7 +14,7 @@ invariant_of-heap c =
     intact_beside c.heap.inside.heap c.heap.invariant c.map.new.self (subst
     (λ (s : PagedSystem). KeepsHeapWords (paged s) (paged c.map.new.self)) c.allocator_mut.ensures.value
     c.map.ensures.beside)
-    c.rests_outside.ensures
+    c.law_rests_outside.ensures
 
 pub returns-clause-ok : goal.returns-clause-ok
 returns-clause-ok c =
@@ -34,4 +34,4 @@ returns-clause-kept c =
     (kept_beside c.heap.inside.heap c.heap.invariant c.map.new.self (subst
     (λ (s : PagedSystem). KeepsHeapWords (paged s) (paged c.map.new.self)) c.allocator_mut.ensures.value
     c.map.ensures.beside)
-    c.rests_outside.ensures c.order_rests_outside.ensures)
+    c.law_rests_outside.ensures c.law_order_rests_outside.ensures)

@@ -12,7 +12,7 @@ pub invariant_of-heap : goal.invariant_of-heap
 invariant_of-heap c =
     intact_beside c.heap.inside.heap c.heap.invariant c.take_slots.new.self
     (subst (λ (s : PagedSystem). KeepsHeapWords (paged s) (paged c.take_slots.new.self)) c.allocator_mut.ensures.value
-    c.take_slots.ensures.beside) c.rests_outside.ensures
+    c.take_slots.ensures.beside) c.law_rests_outside.ensures
 
 pub returns-clause-slots : goal.returns-clause-slots
 returns-clause-slots c =
@@ -31,4 +31,4 @@ returns-clause-kept c =
     subst (λ (h : Dlmalloc PagedSystem). IsKeptBeside h (record c.heap.inside.heap { system = c.take_slots.new.self })) c.heap.view_is
     (kept_beside c.heap.inside.heap c.heap.invariant c.take_slots.new.self
     (subst (λ (s : PagedSystem). KeepsHeapWords (paged s) (paged c.take_slots.new.self)) c.allocator_mut.ensures.value
-    c.take_slots.ensures.beside) c.rests_outside.ensures c.order_rests_outside.ensures)
+    c.take_slots.ensures.beside) c.law_rests_outside.ensures c.law_order_rests_outside.ensures)

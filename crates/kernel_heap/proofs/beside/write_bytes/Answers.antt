@@ -16,7 +16,7 @@ write_bytes-requires c =
     let inside = subst (λ (h : Dlmalloc PagedSystem). AreInBlock (heap_state h) c.args.address (length c.args.bytes.now))
     (sym c.heap.view_is) c.requires.inside in
     subst (λ (s : PagedSystem). AreHeapBytes (paged s) c.args.address (length c.args.bytes.now)) (sym c.allocator_mut.ensures.value)
-    (block_inside c.heap.inside.heap c.blocks_are_placed.ensures c.args.address (length c.args.bytes.now) inside)
+    (block_inside c.heap.inside.heap c.law_blocks_placed.ensures c.args.address (length c.args.bytes.now) inside)
 
 pub invariant_of-heap : goal.invariant_of-heap
 invariant_of-heap c =
@@ -25,8 +25,8 @@ invariant_of-heap c =
     let written = subst (λ (s : PagedSystem). AreBytesWritten (paged s) (paged c.write_bytes.new.self) c.args.address
     c.args.bytes.now (length c.args.bytes.now)) c.allocator_mut.ensures.value c.write_bytes.ensures in
     intact_outside c.heap.inside.heap c.heap.invariant c.write_bytes.new.self (ap grants_of written.still.others)
-    (only_blocks c.heap.inside.heap c.blocks_are_placed.ensures c.args.address (length c.args.bytes.now) inside
-    c.write_bytes.new.self c.args.bytes.now refl written) c.rests_outside.ensures
+    (only_blocks c.heap.inside.heap c.law_blocks_placed.ensures c.args.address (length c.args.bytes.now) inside
+    c.write_bytes.new.self c.args.bytes.now refl written) c.law_rests_outside.ensures
 
 pub returns-clause-written : goal.returns-clause-written
 returns-clause-written c =
@@ -41,5 +41,5 @@ returns-clause-kept c =
     c.args.bytes.now (length c.args.bytes.now)) c.allocator_mut.ensures.value c.write_bytes.ensures in
     subst (λ (h : Dlmalloc PagedSystem). IsKeptBeside h (record c.heap.inside.heap { system = c.write_bytes.new.self })) c.heap.view_is
     (kept_outside c.heap.inside.heap c.heap.invariant c.write_bytes.new.self (ap grants_of written.still.others)
-    (only_blocks c.heap.inside.heap c.blocks_are_placed.ensures c.args.address (length c.args.bytes.now) inside
-    c.write_bytes.new.self c.args.bytes.now refl written) c.rests_outside.ensures c.order_rests_outside.ensures)
+    (only_blocks c.heap.inside.heap c.law_blocks_placed.ensures c.args.address (length c.args.bytes.now) inside
+    c.write_bytes.new.self c.args.bytes.now refl written) c.law_rests_outside.ensures c.law_order_rests_outside.ensures)

@@ -12,7 +12,7 @@ invariant_of-heap c =
     intact_beside c.heap.inside.heap c.heap.invariant c.map.new.self (subst
     (λ (s : PagedSystem). KeepsHeapWords (paged s) (paged c.map.new.self)) c.allocator_mut.ensures.value
     c.map.ensures.beside)
-    c.rests_outside.ensures
+    c.law_rests_outside.ensures
 
 pub returns : goal.returns
 returns c = record {
@@ -20,5 +20,5 @@ returns c = record {
       subst (λ (h : Dlmalloc PagedSystem). IsKeptBeside h (record c.heap.inside.heap { system = c.map.new.self })) c.heap.view_is
       (kept_beside c.heap.inside.heap c.heap.invariant c.map.new.self (subst
       (λ (s : PagedSystem). KeepsHeapWords (paged s) (paged c.map.new.self)) c.allocator_mut.ensures.value
-      c.map.ensures.beside) c.rests_outside.ensures c.order_rests_outside.ensures);
+      c.map.ensures.beside) c.law_rests_outside.ensures c.law_order_rests_outside.ensures);
 }

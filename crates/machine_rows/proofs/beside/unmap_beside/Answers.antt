@@ -11,7 +11,7 @@ pub invariant_of-heap : goal.invariant_of-heap
 invariant_of-heap c =
     intact_beside c.heap.inside.heap c.heap.invariant c.unmap.new.self
     (subst (λ (s : PagedSystem). KeepsHeapWords (paged s) (paged c.unmap.new.self)) c.allocator_mut.ensures.value
-    c.unmap.ensures.beside) c.rests_outside.ensures
+    c.unmap.ensures.beside) c.law_rests_outside.ensures
 
 pub returns : goal.returns
 returns c = record {
@@ -19,5 +19,5 @@ returns c = record {
       subst (λ (h : Dlmalloc PagedSystem). IsKeptBeside h (record c.heap.inside.heap { system = c.unmap.new.self })) c.heap.view_is
       (kept_beside c.heap.inside.heap c.heap.invariant c.unmap.new.self
       (subst (λ (s : PagedSystem). KeepsHeapWords (paged s) (paged c.unmap.new.self)) c.allocator_mut.ensures.value
-      c.unmap.ensures.beside) c.rests_outside.ensures c.order_rests_outside.ensures);
+      c.unmap.ensures.beside) c.law_rests_outside.ensures c.law_order_rests_outside.ensures);
 }

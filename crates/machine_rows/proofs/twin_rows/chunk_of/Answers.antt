@@ -21,4 +21,4 @@ returns g c =
     sym (ap (λ (l : List Extent). option_map told (extent_at at l)) c.as_slice.ensures ∙ ap (option_map told) (c.in_ok-extents.ensures.found at))
     ∙ (sym c.chunk_at.ensures ∙ (c.in-Some-Used-default.is ∙ (λ i. Some (c.in-Some-Used-default.field-0-0-is i, size)))) in
     let there = listed state at size is in
-    (low, (used_inside regions word heap c.is_intact.ensures.sound (extent at size Used) refl there).long, there)
+    (low, (used_inside regions word heap c.law_intact.ensures.sound (extent at size Used) refl there).long, there)

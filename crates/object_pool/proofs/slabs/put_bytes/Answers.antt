@@ -9,7 +9,7 @@ pub write_bytes-requires : goal.write_bytes-requires
 write_bytes-requires g c =
     let inside = subst (λ heap. AreInBlock (state_of g.A.Links.word heap) c.args.address (length c.args.bytes.now)) (sym c.heap.view_is) c.requires.inside in
     rw c.allocator_mut.ensures.value
-    (λ k from to. (c.blocks_are_placed.ensures inside.block inside.size inside.is).granted k
+    (λ k from to. (c.law_blocks_placed.ensures inside.block inside.size inside.is).granted k
     (omega (arith, from, inside.low)) (omega (arith, to, inside.within)))
 
 pub invariant_of-heap : goal.invariant_of-heap
@@ -22,8 +22,8 @@ invariant_of-heap g c =
     c.args.bytes.now (length c.args.bytes.now) (g.A.Links.word c.write_bytes.new.memory)) value
     c.write_bytes.ensures.written in
     let rest = written_rests g.A.Links.regions g.A.Links.word heap c.write_bytes.new.memory inside.block inside.size
-    inside.is c.blocks_are_placed.ensures c.args.address c.args.bytes.now (length c.args.bytes.now) inside.low
-    inside.within written c.rests_outside.ensures c.heap.invariant.sound same in
+    inside.is c.law_blocks_placed.ensures c.args.address c.args.bytes.now (length c.args.bytes.now) inside.low
+    inside.within written c.law_rests_outside.ensures c.heap.invariant.sound same in
     record { sound = rest.0; linked = rest.2 c.heap.invariant.linked }
 
 pub returns-clause-written : goal.returns-clause-written
@@ -44,14 +44,14 @@ returns-clause-stays g c =
     c.args.bytes.now (length c.args.bytes.now) (g.A.Links.word c.write_bytes.new.memory)) value
     c.write_bytes.ensures.written in
     let rest = written_rests g.A.Links.regions g.A.Links.word heap c.write_bytes.new.memory inside.block inside.size
-    inside.is c.blocks_are_placed.ensures c.args.address c.args.bytes.now (length c.args.bytes.now) inside.low
-    inside.within written c.rests_outside.ensures c.heap.invariant.sound same in
+    inside.is c.law_blocks_placed.ensures c.args.address c.args.bytes.now (length c.args.bytes.now) inside.low
+    inside.within written c.law_rests_outside.ensures c.heap.invariant.sound same in
     subst (λ heap. StaysInState g.A.Links.regions g.A.Links.word g.A.Links.follows heap
     (record c.heap.inside.heap { system = c.write_bytes.new.memory })) c.heap.view_is (record {
       state = rest.1;
       regions_same = same;
       followed = subst (λ system. g.A.Links.follows system [] c.write_bytes.new.memory) value c.write_bytes.ensures.followed;
       index = written_index g.A.Links.regions g.A.Links.word heap c.write_bytes.new.memory inside.block inside.size
-          inside.is c.blocks_are_placed.ensures c.args.address c.args.bytes.now (length c.args.bytes.now) inside.low
-          inside.within written c.order_rests_outside.ensures c.heap.invariant.sound same;
+          inside.is c.law_blocks_placed.ensures c.args.address c.args.bytes.now (length c.args.bytes.now) inside.low
+          inside.within written c.law_order_rests_outside.ensures c.heap.invariant.sound same;
     })

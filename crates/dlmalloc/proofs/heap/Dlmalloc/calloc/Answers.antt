@@ -36,7 +36,7 @@ returns-in-Ok-clause-allocated g c =
         cleared = cleared g now;
         same = same g now;
         index = λ b. (
-          same_binned handed.sound handed.block c.index_stays.ensures c.args.size (omega arith) c.fill_counted.new.self
+          same_binned handed.sound handed.block c.law_index_stays.ensures c.args.size (omega arith) c.fill_counted.new.self
               c.fill_counted.ensures.regions (cleared g now).elsewhere b,
           λ n. refl,
         );
@@ -50,6 +50,6 @@ returns-in-Ok-clause-intact g c =
     let now = (goal.at.returns-in-Ok-clause-intact g c).After-fill_counted in let handed = c.in-Ok.ensures.allocated.handed in
     record {
       sound = (same g now).sound;
-      linked = same_binned handed.sound handed.block c.index_stays.ensures c.args.size (omega arith) c.fill_counted.new.self
+      linked = same_binned handed.sound handed.block c.law_index_stays.ensures c.args.size (omega arith) c.fill_counted.new.self
           c.fill_counted.ensures.regions (cleared g now).elsewhere c.malloc.ensures.intact.linked;
     }

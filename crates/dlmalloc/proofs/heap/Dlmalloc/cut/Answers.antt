@@ -47,7 +47,7 @@ returns-in-Some-Top-clause-member g c = λ size is. absurd (top_no_bins size (c.
 pub returns-in-Some-Top-clause-bins : goal.returns-in-Some-Top-clause-bins
 returns-in-Some-Top-clause-bins g c =
     let e = c.take_top.ensures.cut in
-    bins_kept (λ b. (binned_beside c.index_stays.ensures c.requires.intact.sound e.moves (ap (λ s. s.victim) e.taken.state) b, order_same b.index))
+    bins_kept (λ b. (binned_beside c.law_index_stays.ensures c.requires.intact.sound e.moves (ap (λ s. s.victim) e.taken.state) b, order_same b.index))
     c.requires.intact.linked
 
 pub returns-clause-member : goal.returns-clause-member

@@ -22,7 +22,7 @@ returns-in_err-grant-clause-err g c =
     let followed = subst (λ bytes. g.A.Links.follows heap.system (events bytes c.in_err-grant.field-0.0) c.alloc.new.self)
     c.asked-asked.ensures.asked denied.err_follows in
     if_err c.from_residual.result _ c.from_residual.ensures.1
-    (as_it_was g.A.Links.regions g.A.Links.word heap c.requires.intact.sound c.index_stays.ensures denied.err denied.words followed denied.err_refuses)
+    (as_it_was g.A.Links.regions g.A.Links.word heap c.requires.intact.sound c.law_index_stays.ensures denied.err denied.words followed denied.err_refuses)
 
 -- ---- the heap is as it was, with a fresh grant beside it
 
@@ -44,7 +44,7 @@ abbrev binned : (g : _) (c : In_ok-grant g) → IsBinned g.A.Links.regions g.A.L
     IsBinned g.A.Links.regions g.A.Links.word (record c.args.self.now { system = c.alloc.new.self })
 binned g c =
     let given = c.in_ok-grant.ensures in
-    granted_binned c.requires.intact.sound c.alloc.new.self (long g c) given.good given.apart given.regions given.words c.index_stays.ensures
+    granted_binned c.requires.intact.sound c.alloc.new.self (long g c) given.good given.apart given.regions given.words c.law_index_stays.ensures
 
 fresh : (g : _) (c : In_ok-grant g) →
     IsFreshGrant (g.A.Links.regions c.alloc.new.self) (segments_of g.A.Links.word (record c.args.self.now { system = c.alloc.new.self })) c.in_ok-grant.grant
@@ -143,7 +143,7 @@ pub returns-in_err-grant-clause-bins : goal.returns-in_err-grant-clause-bins
 returns-in_err-grant-clause-bins g c =
     let denied = c.in_err-grant.ensures in
     bins_kept (λ b. (
-      as_binned g.A.Links.regions g.A.Links.word c.args.self.now c.requires.intact.sound c.index_stays.ensures c.alloc.new.self
+      as_binned g.A.Links.regions g.A.Links.word c.args.self.now c.requires.intact.sound c.law_index_stays.ensures c.alloc.new.self
           denied.err denied.words b,
       order_same b.index,
     )) c.requires.intact.linked
@@ -157,4 +157,4 @@ returns-in-None-clause-bins g c =
     let now = goal.at.returns-in-None-clause-bins g c in
     let grown = grown g now.After-join in let e = c.take_top.ensures.cut in
     bins_kept (λ b. (let after = c.join.ensures.bins.order (binned g now.In_ok-grant b) in
-    (binned_beside c.index_stays.ensures grown.sound e.moves (ap (λ s. s.victim) e.taken.state) after.0, after.1))) c.requires.intact.linked
+    (binned_beside c.law_index_stays.ensures grown.sound e.moves (ap (λ s. s.victim) e.taken.state) after.0, after.1))) c.requires.intact.linked

@@ -80,7 +80,7 @@ returns g c =
     let order : KeepsOrder g.A.Links.regions word old new = λ b.
     let one = c.unbin_between.ensures.bins.loose [] b (λ none. none) in
     let second = c.unbin_between-2.ensures.bins.loose (from ∷ []) one.0 (two c.requires.intact.sound c.requires.chunk begin end) in
-    let joined = joined_loose c.requires.intact.sound c.requires.chunk begin end left c.index_stays.ensures second.0
+    let joined = joined_loose c.requires.intact.sound c.requires.chunk begin end left c.law_index_stays.ensures second.0
     e.moves.moved e.moves.free e.victim e.moves.bins in
     let after = c.bin_joined.ensures.binned joined in (
       after.0,
@@ -110,4 +110,4 @@ bin_joined-requires-clause-loose g c =
     let left = rebinned_on g.A.Links.regions g.A.Links.word g.A.Links.follows g.A.Links.follows_on first.same second.same in
     let one = first.loose [] c.requires.intact.linked (λ none. none) in
     let loose = second.loose (c.free_begin-from.result ∷ []) one.0 (two c.requires.intact.sound c.requires.chunk begin end) in
-    joined_loose c.requires.intact.sound c.requires.chunk begin end left c.index_stays.ensures loose.0 e.moves.moved e.moves.free e.victim e.moves.bins
+    joined_loose c.requires.intact.sound c.requires.chunk begin end left c.law_index_stays.ensures loose.0 e.moves.moved e.moves.free e.victim e.moves.bins

@@ -10,7 +10,7 @@ dispose_chunk-requires-clause-intact g c =
     let e = c.split.ensures.split in
     record {
       sound = e.moves.moved.sound;
-      linked = binned_beside c.index_stays.ensures c.requires.intact.sound e.moves (ap (λ s. s.victim) e.state) c.requires.intact.linked;
+      linked = binned_beside c.law_index_stays.ensures c.requires.intact.sound e.moves (ap (λ s. s.victim) e.state) c.requires.intact.linked;
     }
 
 pub returns : goal.returns
@@ -24,7 +24,7 @@ returns g c =
         others = lead_others sound can e freed.turned.moved freed.freed.state freed.freed.less;
         kept = lead_kept sound can e freed.turned.moved freed.freed.state freed.freed.less;
         sound = freed.turned.moved.sound;
-        bins = bins_kept (λ b. freed.turned.bins.order (binned_beside c.index_stays.ensures sound e.moves (ap (λ s. s.victim) e.state) b))
+        bins = bins_kept (λ b. freed.turned.bins.order (binned_beside c.law_index_stays.ensures sound e.moves (ap (λ s. s.victim) e.state) b))
             c.requires.intact.linked;
         asks = asks_on (record { regions = e.moves.moved.regions_same; follows = e.moves.moved.followed })
             (record { regions = freed.turned.moved.regions_same; follows = freed.turned.moved.followed });

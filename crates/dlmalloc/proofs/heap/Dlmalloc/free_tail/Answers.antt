@@ -15,7 +15,7 @@ dispose_chunk-requires-clause-intact g c =
     let e = c.split.ensures.split in
     record {
       sound = e.moves.moved.sound;
-      linked = binned_beside c.index_stays.ensures c.requires.intact.sound e.moves (ap (λ s. s.victim) e.state) c.requires.intact.linked;
+      linked = binned_beside c.law_index_stays.ensures c.requires.intact.sound e.moves (ap (λ s. s.victim) e.state) c.requires.intact.linked;
     }
 
 pub returns : goal.returns
@@ -34,7 +34,7 @@ returns g c =
             regions_same = freed.turned.moved.regions_same ∙ e.moves.moved.regions_same;
             followed = g.A.Links.follows_on _ _ _ [] [] [] e.moves.moved.followed freed.turned.moved.followed refl;
           };
-          bins = bins_kept (λ b. freed.turned.bins.order (binned_beside c.index_stays.ensures sound e.moves (ap (λ s. s.victim) e.state) b))
+          bins = bins_kept (λ b. freed.turned.bins.order (binned_beside c.law_index_stays.ensures sound e.moves (ap (λ s. s.victim) e.state) b))
               c.requires.intact.linked;
         };
       };

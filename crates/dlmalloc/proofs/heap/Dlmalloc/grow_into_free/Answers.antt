@@ -51,7 +51,7 @@ returns-then-was_victim g c =
     let mine = c.if-was_victim.true ∙ sym (ap (λ h. h.victim) one.same.fields) in
     let order : KeepsOrder g.A.Links.regions g.A.Links.word c.args.self.now c.join_part.new.self = λ b.
     let left = one.loose [] b (λ none. none) in
-    let after = into_victim c.index_stays.ensures one.same.sound e mine (none_binned left.0 (λ n free. mine)) in
+    let after = into_victim c.law_index_stays.ensures one.same.sound e mine (none_binned left.0 (λ n free. mine)) in
     (after.0, order_left b.index left.0.index after.0.index (lessened_as c.args.free (c.args.at + c.args.size) b.index left.0.index left.1) after.1) in
     let bins = bins_kept order c.requires.intact.linked in
     record { state = state g now; held = e.held; grown = record { others = others g now; turned = record { moved = moved g now; bins = bins } }; counted = omega arith }
@@ -62,7 +62,7 @@ returns-then-rest-lt-LEAST_CHUNK g c =
     let one = c.unbin.ensures.bins in let e = c.join_part.ensures.joined in let little = c.if-rest-lt-LEAST_CHUNK.true in let room = c.requires.take.room in
     let order : KeepsOrder g.A.Links.regions g.A.Links.word c.args.self.now c.join_part.new.self = λ b.
     let left = one.loose [] b (λ none. none) in (
-      into_whole c.index_stays.ensures one.same.sound e (other g at.Else-was_victim) left.0 (omega arith),
+      into_whole c.law_index_stays.ensures one.same.sound e (other g at.Else-was_victim) left.0 (omega arith),
       order_less b.index left.0.index (lessened_as c.args.free (c.args.at + c.args.size) b.index left.0.index left.1),
     ) in
     let bins = bins_kept order c.requires.intact.linked in
@@ -75,11 +75,11 @@ bin-requires g c =
     record {
       sound = e.moves.moved.sound;
       free = e.rest (omega arith);
-      other = part_other c.index_stays.ensures one.same.sound e
+      other = part_other c.law_index_stays.ensures one.same.sound e
           (other g at.Else-was_victim) (omega arith) (omega arith);
       loose = (
         [],
-        into_part c.index_stays.ensures one.same.sound e
+        into_part c.law_index_stays.ensures one.same.sound e
             (other g at.Else-was_victim) (one.loose [] c.requires.intact.linked (λ none. none)).0 (omega arith),
       );
     }
@@ -93,11 +93,11 @@ returns g c =
     let order : KeepsOrder g.A.Links.regions g.A.Links.word old new = λ b.
     let left = one.loose [] b (λ none. none) in
     let after = last.binned []
-    (into_part c.index_stays.ensures one.same.sound e (other g at.Else-was_victim) left.0 (omega arith)) (λ none. none) in (
+    (into_part c.law_index_stays.ensures one.same.sound e (other g at.Else-was_victim) left.0 (omega arith)) (λ none. none) in (
       after.0,
       in_order rest_size rest b.index left.0.index after.0.index (lessened_as c.args.free (c.args.at + c.args.size) b.index left.0.index left.1)
           (added_as rest_size rest left.0.index after.0.index after.1)
-          (λ is. part_came c.index_stays.ensures one.same.sound e (other g at.Else-was_victim) (omega arith)
+          (λ is. part_came c.law_index_stays.ensures one.same.sound e (other g at.Else-was_victim) (omega arith)
           (let m = c.requires.take.more in omega arith) (subst (λ s. IsFreeAt s rest rest_size) (sym one.same.state) (b.holds.free rest rest_size is))),
     ) in
     record {

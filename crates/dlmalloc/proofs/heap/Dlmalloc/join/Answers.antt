@@ -8,7 +8,7 @@ returns-then-self-eq0 g c =
     let e = c.open.ensures.admitted in
     record {
       joined = as_joined g.A.Links.regions g.A.Links.word g.A.Links.follows c.args.self.now c.args.grant.now e.joined;
-      bins = bins_kept (λ b. (admitted_binned c.index_stays.ensures c.requires.intact.sound e.joined e.free e.same b, order_same b.index))
+      bins = bins_kept (λ b. (admitted_binned c.law_index_stays.ensures c.requires.intact.sound e.joined e.free e.same b, order_same b.index))
           c.requires.intact.linked;
     }
 
@@ -17,7 +17,7 @@ returns-then-is_behind g c =
     let e = c.extend.ensures.admitted in
     record {
       joined = as_joined g.A.Links.regions g.A.Links.word g.A.Links.follows c.args.self.now c.args.grant.now e.joined;
-      bins = bins_kept (λ b. (admitted_binned c.index_stays.ensures c.requires.intact.sound e.joined e.free e.same b, order_same b.index))
+      bins = bins_kept (λ b. (admitted_binned c.law_index_stays.ensures c.requires.intact.sound e.joined e.free e.same b, order_same b.index))
           c.requires.intact.linked;
     }
 

@@ -22,7 +22,7 @@ free_and_settle-requires g c =
       intact = record {
         sound = (copied_heap c.args.held sound block c.requires.held handed count e.regions e.follows e.copied).sound;
         linked = copied_binned c.args.held sound block c.requires.held handed count e.regions e.follows e.copied
-            c.index_stays.ensures c.malloc.ensures.intact.linked;
+            c.law_index_stays.ensures c.malloc.ensures.intact.linked;
       };
       block = (block.extent.size - 8, copied_block c.args.held sound block c.requires.held handed count e.regions e.follows e.copied);
     }
@@ -42,7 +42,7 @@ returns-in-Ok-clause-elsewhere g c =
       filled = filled;
       copied = copied c.args.held sound block c.requires.held handed count e.regions e.follows e.copied;
       same = copied_heap c.args.held sound block c.requires.held handed count e.regions e.follows e.copied;
-      index = λ b. (copied_binned c.args.held sound block c.requires.held handed count e.regions e.follows e.copied c.index_stays.ensures b, λ n. refl);
+      index = λ b. (copied_binned c.args.held sound block c.requires.held handed count e.regions e.follows e.copied c.law_index_stays.ensures b, λ n. refl);
       freed = freed;
       block = moved_block c.args.held sound block c.requires.held handed count e.regions e.follows e.copied freed;
       contents = moved_contents c.args.held sound block c.requires.held handed count e.regions e.follows e.copied freed;

@@ -8,7 +8,7 @@ dispose_chunk-requires-clause-intact g c =
     let first = c.prepend.ensures.put.prepended in
     record {
       sound = first.sound;
-      linked = prepended_binned first c.index_stays.ensures c.requires.intact.sound c.prepend.ensures.put.same c.requires.intact.linked;
+      linked = prepended_binned first c.law_index_stays.ensures c.requires.intact.sound c.prepend.ensures.put.same c.requires.intact.linked;
     }
 
 pub returns : goal.returns
@@ -18,6 +18,6 @@ returns g c =
     record {
       put = put_before_is c.requires.before.room.bytes.least first last.freed.state last.freed.less last.turned.moved last.freed.records
           (g.A.Links.follows_on heap.system middle.system new.system [] [] [] first.followed last.turned.moved.followed refl);
-      bins = bins_kept (λ b. last.turned.bins.order (prepended_binned first c.index_stays.ensures c.requires.intact.sound c.prepend.ensures.put.same b))
+      bins = bins_kept (λ b. last.turned.bins.order (prepended_binned first c.law_index_stays.ensures c.requires.intact.sound c.prepend.ensures.put.same b))
           c.requires.intact.linked;
     }

@@ -71,7 +71,7 @@ returns-then-hand_out g c =
     let moves = subst (λ left. FreeMoves (state_of g.A.Links.word middle) (state_of g.A.Links.word new)
     (if left then told.base ∷ [] else []) []) c.if-hand_out.true e.free in
     let after : (loose : IsBinnedBut (told.base ∷ []) g.A.Links.regions g.A.Links.word middle) → IsBinned g.A.Links.regions g.A.Links.word new = λ loose.
-    binned_without c.index_stays.ensures c.unbin.ensures.bins.same.sound (e.visited (chain c.requires.chained)) e.words e.bins moves loose in
+    binned_without c.law_index_stays.ensures c.unbin.ensures.bins.same.sound (e.visited (chain c.requires.chained)) e.words e.bins moves loose in
     record {
       answer = λ chained. (λ i. takes i && may chained i);
       visited = λ chained. subst (λ handed. IsVisited g.A.Links.regions g.A.Links.word g.A.Links.follows handed true heap
@@ -102,7 +102,7 @@ bin-requires g c =
       other = not_victim same.sound visited;
       loose = (
         [],
-        loose_still c.index_stays.ensures same.sound visited c.hand_out.ensures.words c.hand_out.ensures.bins moves
+        loose_still c.law_index_stays.ensures same.sound visited c.hand_out.ensures.words c.hand_out.ensures.bins moves
             (c.unbin.ensures.bins.loose [] c.requires.intact.linked (λ none. none)).0,
       );
     }
@@ -126,7 +126,7 @@ returns g c =
     (if left then told.base ∷ [] else []) []) c.if-hand_out.false e.free in
     let after : (loose : IsBinnedBut (told.base ∷ []) g.A.Links.regions g.A.Links.word middle) →
     IsBinnedBut (told.base ∷ []) g.A.Links.regions g.A.Links.word new = λ loose.
-    loose_still c.index_stays.ensures c.unbin.ensures.bins.same.sound (e.visited (chain c.requires.chained)) e.words e.bins moves loose in
+    loose_still c.law_index_stays.ensures c.unbin.ensures.bins.same.sound (e.visited (chain c.requires.chained)) e.words e.bins moves loose in
     record {
       answer = λ chained. (λ i. takes i && may chained i);
       visited = λ chained. subst (λ handed. IsVisited g.A.Links.regions g.A.Links.word g.A.Links.follows handed false heap

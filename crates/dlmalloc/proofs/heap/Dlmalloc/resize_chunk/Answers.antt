@@ -117,7 +117,7 @@ returns-then-next-self-clause-turned g c =
     let e = c.grow_into_top.ensures.grown in
     record {
       moved = as_turned e.moves.moved;
-      bins = bins_kept (λ b. (binned_beside c.index_stays.ensures c.requires.intact.sound e.moves (ap (λ s. s.victim) e.state) b, order_same b.index))
+      bins = bins_kept (λ b. (binned_beside c.law_index_stays.ensures c.requires.intact.sound e.moves (ap (λ s. s.victim) e.state) b, order_same b.index))
           c.requires.intact.linked;
     }
 

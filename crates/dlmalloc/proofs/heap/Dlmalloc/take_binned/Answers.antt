@@ -35,7 +35,7 @@ returns-then-rest-lt-LEAST_CHUNK g c =
     let less = c.if-rest-lt-LEAST_CHUNK.true in let fits = c.requires.cut.fits in
     let order : KeepsOrder regions word old new = λ b.
     let left = one.loose [] b (λ none. none) in
-    let after = whole_taken c.index_stays.ensures one.same.sound e (λ is. c.requires.other (is ∙ ap (λ h. h.victim) one.same.fields)) left.0 (omega arith) in
+    let after = whole_taken c.law_index_stays.ensures one.same.sound e (λ is. c.requires.other (is ∙ ap (λ h. h.victim) one.same.fields)) left.0 (omega arith) in
     (after, order_less b.index left.0.index (lessened_as c.args.size c.args.at b.index left.0.index left.1)) in
     record {
       took = record {
@@ -56,7 +56,7 @@ returns-then-rest-lt-LEAST_CHUNK g c =
 
 pub bin_some-requires : goal.bin_some-requires
 bin_some-requires g c =
-    let one = c.unbin_fit.ensures.bins in let e = c.cut_chunk.ensures.cut in let stays = c.index_stays.ensures in
+    let one = c.unbin_fit.ensures.bins in let e = c.cut_chunk.ensures.cut in let stays = c.law_index_stays.ensures in
     let at = ap (λ h. h.victim) one.same.fields in let size = ap (λ h. h.victim_size) one.same.fields in
     let more = c.if-rest-lt-LEAST_CHUNK.false in let fits = c.requires.cut.fits in let small = c.if-n-lt-LEAST_LARGE.true in
     let other : c.args.at ≢ c.unbin_fit.new.self.victim = λ is. c.requires.other (is ∙ at) in
@@ -78,7 +78,7 @@ returns-then-n-lt-LEAST_LARGE g c =
     let more = c.if-rest-lt-LEAST_CHUNK.false in let fits = c.requires.cut.fits in
     let order : KeepsOrder regions word old c.bin_some.new.self = λ b.
     let left = one.loose [] b (λ none. none) in
-    let loose = renamed at (small_taken c.index_stays.ensures one.same.sound e (λ is. c.requires.other (is ∙ at)) (omega arith) c.if-n-lt-LEAST_LARGE.true
+    let loose = renamed at (small_taken c.law_index_stays.ensures one.same.sound e (λ is. c.requires.other (is ∙ at)) (omega arith) c.if-n-lt-LEAST_LARGE.true
     left.0) in
     let after = last.binned [] loose (λ none. none) in (
       after.0,
@@ -109,7 +109,7 @@ overflow_add-at g c =
 
 pub bin-requires : goal.bin-requires
 bin-requires g c =
-    let one = c.unbin_fit.ensures.bins in let e = c.cut_chunk.ensures.cut in let stays = c.index_stays.ensures in
+    let one = c.unbin_fit.ensures.bins in let e = c.cut_chunk.ensures.cut in let stays = c.law_index_stays.ensures in
     let more = c.if-rest-lt-LEAST_CHUNK.false in let fits = c.requires.cut.fits in let many = c.if-n-lt-LEAST_LARGE.false in
     let other : c.args.at ≢ c.unbin_fit.new.self.victim = λ is. c.requires.other (is ∙ ap (λ h. h.victim) one.same.fields) in
     record {
@@ -127,9 +127,9 @@ returns g c =
     let other : c.args.at ≢ c.unbin_fit.new.self.victim = λ is. c.requires.other (is ∙ ap (λ h. h.victim) one.same.fields) in
     let order : KeepsOrder regions word old c.bin.new.self = λ b.
     let left = one.loose [] b (λ none. none) in
-    let loose = large_taken c.index_stays.ensures one.same.sound e other (omega arith) c.if-n-lt-LEAST_LARGE.false left.0 in
+    let loose = large_taken c.law_index_stays.ensures one.same.sound e other (omega arith) c.if-n-lt-LEAST_LARGE.false left.0 in
     let after = last.binned [] loose (λ none. none) in
-    let new_one = rest_came c.index_stays.ensures one.same.sound e other (omega arith) in (
+    let new_one = rest_came c.law_index_stays.ensures one.same.sound e other (omega arith) in (
       after.0,
       in_order (c.args.size - c.args.n) rest b.index left.0.index after.0.index (lessened_as c.args.size c.args.at b.index left.0.index left.1)
           (added_as (c.args.size - c.args.n) rest left.0.index after.0.index after.1) (λ is. new_one (c.args.size - c.args.n) (subst (λ s. IsFreeAt s rest

@@ -26,11 +26,11 @@ returns-else-may_cut-clause-cut g c = cut_back c.requires.intact.sound c.require
 
 pub returns-then-may_cut-clause-linked : goal.returns-then-may_cut-clause-linked
 returns-then-may_cut-clause-linked g c =
-    binned_but_top c.index_stays.ensures c.requires.intact.sound (returns-then-may_cut-clause-cut g c).stays c.cut_top.ensures.there c.requires.intact.linked
+    binned_but_top c.law_index_stays.ensures c.requires.intact.sound (returns-then-may_cut-clause-cut g c).stays c.cut_top.ensures.there c.requires.intact.linked
 
 pub returns-then-may_cut-clause-index : goal.returns-then-may_cut-clause-index
 returns-then-may_cut-clause-index g c = λ b.
-    (binned_but_top c.index_stays.ensures c.requires.intact.sound (returns-then-may_cut-clause-cut g c).stays c.cut_top.ensures.there b, λ n. refl)
+    (binned_but_top c.law_index_stays.ensures c.requires.intact.sound (returns-then-may_cut-clause-cut g c).stays c.cut_top.ensures.there b, λ n. refl)
 
 pub returns-else-may_cut-clause-index : goal.returns-else-may_cut-clause-index
 returns-else-may_cut-clause-index g c = λ b. (b, λ n. refl)

@@ -10,5 +10,5 @@ pub returns : goal.returns
 returns c =
     let marks = c.self.inside.marks in
     subst (λ heap. HasBlocks (arena_heap_state heap) c.count.result) c.self.view_is
-    (has_blocks regions_of word_of c.self.inside.heap c.is_intact.ensures.sound (is_marked marks.base marks.words.now) c.count.result
+    (has_blocks regions_of word_of c.self.inside.heap c.law_intact.ensures.sound (is_marked marks.base marks.words.now) c.count.result
     c.self.invariant.blocks c.self.invariant.marked (c.count.ensures ∙ c.self.invariant.count_is))

@@ -75,7 +75,7 @@ returns-then-not-has_block c =
       err = (λ block. let there = c.has_block.ensures.1 block in absurd (cc), refl);
       refused = (λ _. inl (λ block. let there = c.has_block.ensures.1 block in absurd (cc)), λ _. refl);
       same = λ _. refl;
-      apart = subst (λ heap. BlocksAreApart (arena_heap_state heap)) c.self.view_is c.blocks_are_apart.ensures;
+      apart = subst (λ heap. BlocksAreApart (arena_heap_state heap)) c.self.view_is c.law_blocks_apart.ensures;
     }
 
 pub returns-in-Ok : goal.returns-in-Ok

@@ -18,8 +18,8 @@ pub returns-clause-put : goal.returns-clause-put
 returns-clause-put c = λ is.
     let heap = c.self.inside.heap in
     let word = subst (λ (heap : Dlmalloc Arena). HasWord (arena_heap_state heap) c.args.address c.args.offset) (sym c.self.view_is) (c.has_word.ensures.0 c.if-not-has_word.false) in
-    let inside = subst (λ (arena : Arena). AreInside arena) c.system.ensures c.grants_are_inside.ensures.inside in
-    let above = block_above heap.system (arena_heap_state heap) c.args.address inside c.blocks_are_placed.ensures word.block in
+    let inside = subst (λ (arena : Arena). AreInside arena) c.system.ensures c.law_grants_inside.ensures.inside in
+    let above = block_above heap.system (arena_heap_state heap) c.args.address inside c.law_blocks_placed.ensures word.block in
     let low = above.0 in
     let multiple = above.1 in
     let whole = word.aligned in

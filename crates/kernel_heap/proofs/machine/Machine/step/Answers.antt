@@ -14,7 +14,7 @@ returns-in-Ok-clause-ok c =
     let call = c.args.call.now in
     let registers : IfOk c.serve-served.result (λ answer. new.cpu ≡ cpu_after old.cpu call answer.reply) = search rules in
     subst (λ (parts : Parts). IfOk c.serve-served.result (λ answer. HasStepped parts call answer new)) c.self.view_is
-    (stepped old new call c.serve-served.result c.note_fault.ensures.root c.is_intact.ensures c.serve-served.ensures.ok registers)
+    (stepped old new call c.serve-served.result c.note_fault.ensures.root c.law_intact.ensures c.serve-served.ensures.ok registers)
 
 pub returns-in_default-clause-err : goal.returns-in_default-clause-err
 returns-in_default-clause-err c =

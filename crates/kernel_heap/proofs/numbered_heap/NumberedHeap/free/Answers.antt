@@ -41,7 +41,7 @@ returns-clause-served c = answered (
     served tt tt
     (λ top s good stands. rw (c.changed_regions.ensures.heap, c.changed_regions.ensures.blocks, c.end.ensures)
     (step_ended c.args.self.now.heap c.free.new.self c.args.self.now.blocks.items c.args.number c.in-Some.live
-    c.requires.sound is c.free.ensures.freed c.blocks_are_placed.ensures c.blocks_are_placed-2.ensures s good stands
+    c.requires.sound is c.free.ensures.freed c.law_blocks_placed.ensures c.law_blocks_placed-2.ensures s good stands
     c.changed_regions.result told))
     (rw (is, c.changed_regions.ensures.heap) c.free.ensures.freed) (λ same. absurd (cc)))
 

@@ -92,7 +92,7 @@ returns-in-Ok-clause-served c = answered (
     let slots = slots_told c.changed_regions.new.self c.new_slots.new.self told c.args.self.now.heap c.hand_out.new.self c.marks-before.ensures heap in
     let step = λ (top : ℕ) (s : State) (good : IsGood s) (stands : Stands (seen_with top c.args.self.now) s).
     step_request c.args.self.now.heap c.hand_out.new.self c.args.self.now.blocks.items c.args.size c.args.align
-    c.in-Ok.address c.requires.sound out.handed c.blocks_are_placed.ensures c.blocks_are_placed-in-Ok.ensures
+    c.in-Ok.address c.requires.sound out.handed c.law_blocks_placed.ensures c.law_blocks_placed-in-Ok.ensures
     c.hand_out.ensures.apart s good stands power c.changed_regions.result c.new_slots.result regions slots
     c.args.cleared (λ asked. out.are_zero asked) in
     record {
@@ -131,7 +131,7 @@ returns-in-Err-clause-served c =
     record {
       ok = IfOk-weaker c.refused_by.result _ _ (λ answer given. served_refused given.0 given.2
           (λ top s good stands. rw c.in_ok-reserve.ensures.items
-          (step_denied c.args.self.now.heap c.hand_out.new.self c.is_intact.ensures.sound.granularity c.args.self.now.blocks.items
+          (step_denied c.args.self.now.heap c.hand_out.new.self c.law_intact.ensures.sound.granularity c.args.self.now.blocks.items
           c.requires.sound s good stands (request c.args.cleared c.args.size c.args.align) large
           (wanted c.args.size c.args.align)
           (wanted_asked c.args.size c.args.align power)

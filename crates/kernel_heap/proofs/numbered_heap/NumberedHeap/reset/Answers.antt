@@ -12,13 +12,13 @@ new-requires-clause-window c = spare_window
 pub returns-clause-sound : goal.returns-clause-sound
 returns-clause-sound c =
     rw c.end_all.ensures
-    (laid_reset c.args.self.now.heap c.reset.new.self c.is_intact.ensures.sound c.args.self.now.blocks.items c.reset.result.0
+    (laid_reset c.args.self.now.heap c.reset.new.self c.law_intact.ensures.sound c.args.self.now.blocks.items c.reset.result.0
     c.requires.sound c.reset.ensures.ended c.reset.ensures.state)
 
 -- frames are given back, and none is taken
 pub overflow_sub-frames : goal.overflow_sub-frames
 overflow_sub-frames c =
-    let more = more_free c.args.self.now.heap c.reset.new.self c.is_intact.ensures.sound c.args.self.now.blocks.items
+    let more = more_free c.args.self.now.heap c.reset.new.self c.law_intact.ensures.sound c.args.self.now.blocks.items
     c.reset.result.0 c.requires.sound c.reset.ensures.ended c.reset.ensures.state in
     let before : c.free_frames-free.result ≡ free_count (paged c.args.self.now.heap.system).free =
     c.free_frames-free.ensures ∙ ap (λ system. free_count (paged system).free) c.system.ensures in
@@ -33,7 +33,7 @@ returns-clause-served c = answered (
     let now : c.free_frames.result ≡ free_count (paged c.reset.new.self.system).free = c.free_frames.ensures
     ∙ ap (λ system. free_count (paged system).free) c.system-2.ensures in
     served tt tt (λ top s good stands. rw c.end_all.ensures
-    (step_reset c.args.self.now.heap c.reset.new.self c.is_intact.ensures.sound c.args.self.now.blocks.items c.reset.result.0
+    (step_reset c.args.self.now.heap c.reset.new.self c.law_intact.ensures.sound c.args.self.now.blocks.items c.reset.result.0
     c.requires.sound c.reset.ensures.ended c.reset.ensures.state
     s good stands (c.free_frames.result - c.free_frames-free.result) c.if-frames-eq0.result (λ i. now i - before i)
     (λ zero. elim c.if-frames-eq0.branch [

@@ -73,7 +73,7 @@ returns-in-Ok-clause-served c = answered (
     rw (heap, c.changed_regions.ensures.blocks, c.change.ensures, c.alignment_kept-align.ensures)
     (step_resized c.args.self.now.heap c.resize_live.new.heap c.args.self.now.blocks.items c.args.number
     c.in-Some.live c.args.keeps_alignment c.args.size c.in-Ok.address c.requires.sound is c.in-Ok.ensures.ok.given
-    c.blocks_are_placed.ensures c.blocks_are_placed-in-Ok.ensures c.resize_live.ensures.apart s good stands power
+    c.law_blocks_placed.ensures c.law_blocks_placed-in-Ok.ensures c.resize_live.ensures.apart s good stands power
     (λ grant some is. c.in-Ok.ensures.ok.given.still grant is) c.changed_regions.result c.new_slots.result regions slots) in
     step_told c.changed_regions.new.self c.new_slots.new.self told top s (resizing c.args.keeps_alignment c.args.number c.args.size) _ before)
     (moves_resizing c.args.keeps_alignment c.args.self.now c.args.number c.args.size c.in-Ok.address c.in-Some.live
@@ -95,7 +95,7 @@ returns-in-Err-clause-served c =
     let denied = c.in-Err.ensures.err.refused in
     record {
       ok = IfOk-weaker c.refused_by.result _ _ (λ answer given. served_refused given.0 given.2
-          (λ top s good stands. step_not_resized c.args.self.now.heap c.resize_live.new.heap c.is_intact.ensures.sound.granularity
+          (λ top s good stands. step_not_resized c.args.self.now.heap c.resize_live.new.heap c.law_intact.ensures.sound.granularity
           c.args.self.now.blocks.items c.args.number c.args.size c.args.keeps_alignment c.in-Some.live c.requires.sound is s
           good stands power c.in-Err.error denied given.0 given.1)
           (resizing_refused_moves c.args.keeps_alignment c.args.self.now c.args.number c.args.size given.0 None _ c.in-Some.live

@@ -27,7 +27,7 @@ returns-clause-served c = answered (
     served tt tt
     (λ top s good stands. rw (c.is_some.ensures, regions.ensures.heap, regions.ensures.blocks)
     (step_trimmed c.args.self.now.heap c.trim.new.self c.args.self.now.blocks.items c.args.pad c.trim.result
-    c.requires.sound c.trim.ensures.trimmed c.blocks_are_placed.ensures c.blocks_are_placed-2.ensures s good stands regions.result told))
+    c.requires.sound c.trim.ensures.trimmed c.law_blocks_placed.ensures c.law_blocks_placed-2.ensures s good stands regions.result told))
     (rw regions.ensures.heap (c.trim.result, c.trim.ensures.trimmed)) (λ same. absurd (cc)))
 
 pub returns-in_err-reserve-clause-served : goal.returns-in_err-reserve-clause-served

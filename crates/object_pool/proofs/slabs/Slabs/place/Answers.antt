@@ -9,4 +9,4 @@ returns-clause-granted g c =
     let s = c.args.self.now in
     subst (λ at. AreGranted (g.A.Links.regions s.heap.system) (at + s.size * (c.args.index % 64)) s.size)
     (sym (get_or_read s.places.items (c.args.index / 64) c.index.result.now (omega (arith, c.requires.there)) c.index.ensures 0))
-    (place_granted g.A.Links.regions g.A.Links.word s.heap s.size s.places.items c.requires.laid c.blocks_are_placed.ensures c.args.index c.requires.there)
+    (place_granted g.A.Links.regions g.A.Links.word s.heap s.size s.places.items c.requires.laid c.law_blocks_placed.ensures c.args.index c.requires.there)

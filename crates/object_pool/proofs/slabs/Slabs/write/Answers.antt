@@ -15,8 +15,8 @@ put_bytes-requires g c =
 pub returns-clause-laid : goal.returns-clause-laid
 returns-clause-laid g c =
     let s = c.args.self.now in
-    written_laid g.A.Links.regions g.A.Links.word s.heap s.size s.places.items c.requires.slot.laid c.blocks_are_placed.ensures
-    c.blocks_are_apart.ensures g.A.Links.follows c.args.index c.requires.slot.there c.put_bytes.new.heap
+    written_laid g.A.Links.regions g.A.Links.word s.heap s.size s.places.items c.requires.slot.laid c.law_blocks_placed.ensures
+    c.law_blocks_apart.ensures g.A.Links.follows c.args.index c.requires.slot.there c.put_bytes.new.heap
     c.put_bytes.ensures.stays c.args.bytes.now c.requires.many
     (subst (λ at. IsWritten (g.A.Links.regions s.heap.system) (g.A.Links.word s.heap.system) at c.args.bytes.now
     (length c.args.bytes.now) (g.A.Links.word c.put_bytes.new.heap.system)) c.place-place.ensures.place
@@ -30,13 +30,13 @@ returns-clause-put g c =
     c.put_bytes.ensures.written in
     record {
       stays = c.put_bytes.ensures.stays;
-      here = written_here g.A.Links.regions g.A.Links.word s.heap s.size s.places.items c.requires.slot.laid c.blocks_are_placed.ensures
-          c.blocks_are_apart.ensures g.A.Links.follows c.args.index c.requires.slot.there c.put_bytes.new.heap
+      here = written_here g.A.Links.regions g.A.Links.word s.heap s.size s.places.items c.requires.slot.laid c.law_blocks_placed.ensures
+          c.law_blocks_apart.ensures g.A.Links.follows c.args.index c.requires.slot.there c.put_bytes.new.heap
           c.put_bytes.ensures.stays c.args.bytes.now c.requires.many written;
-      others = written_others g.A.Links.regions g.A.Links.word s.heap s.size s.places.items c.requires.slot.laid c.blocks_are_placed.ensures
-          c.blocks_are_apart.ensures g.A.Links.follows c.args.index c.requires.slot.there c.put_bytes.new.heap
+      others = written_others g.A.Links.regions g.A.Links.word s.heap s.size s.places.items c.requires.slot.laid c.law_blocks_placed.ensures
+          c.law_blocks_apart.ensures g.A.Links.follows c.args.index c.requires.slot.there c.put_bytes.new.heap
           c.put_bytes.ensures.stays c.args.bytes.now c.requires.many written;
-      kept = written_kept g.A.Links.regions g.A.Links.word s.heap s.size s.places.items c.requires.slot.laid c.blocks_are_placed.ensures
-          c.blocks_are_apart.ensures g.A.Links.follows c.args.index c.requires.slot.there c.put_bytes.new.heap
+      kept = written_kept g.A.Links.regions g.A.Links.word s.heap s.size s.places.items c.requires.slot.laid c.law_blocks_placed.ensures
+          c.law_blocks_apart.ensures g.A.Links.follows c.args.index c.requires.slot.there c.put_bytes.new.heap
           c.put_bytes.ensures.stays c.args.bytes.now c.requires.many written;
     }

@@ -28,7 +28,7 @@ invariant_of-self g c =
     let stored = subst (λ system. IsStored (g.A.Links.regions system) (g.A.Links.word system)
     (c.args.address + c.args.offset) c.args.value (g.A.Links.word c.store.new.self)) value c.store.ensures.stored in
     (still_intact g.A.Links.regions g.A.Links.word c.self.inside.heap c.self.invariant.sound c.args.address block
-    c.rests_outside.ensures c.self.invariant.linked
+    c.law_rests_outside.ensures c.self.invariant.linked
     c.args.offset c.args.value c.store.new.self within c.requires.aligned (c.store.ensures.regions ∙ ap g.A.Links.regions value) stored).0
 
 -- the heap stays in its state
@@ -43,12 +43,12 @@ stays g c =
     subst (λ heap. StaysInState g.A.Links.regions g.A.Links.word g.A.Links.follows heap
     (record c.self.inside.heap { system = c.store.new.self })) c.self.view_is (record {
       state = (still_intact g.A.Links.regions g.A.Links.word c.self.inside.heap c.self.invariant.sound c.args.address
-          block c.rests_outside.ensures c.self.invariant.linked c.args.offset c.args.value c.store.new.self within
+          block c.law_rests_outside.ensures c.self.invariant.linked c.args.offset c.args.value c.store.new.self within
           c.requires.aligned same stored).1;
       regions_same = same;
       followed = subst (λ system. g.A.Links.follows system [] c.store.new.self) value c.store.ensures.follows;
       index = still_ordered g.A.Links.regions g.A.Links.word c.self.inside.heap c.self.invariant.sound c.args.address
-          block c.order_rests_outside.ensures c.args.offset c.args.value c.store.new.self within c.requires.aligned
+          block c.law_order_rests_outside.ensures c.args.offset c.args.value c.store.new.self within c.requires.aligned
           same stored;
     })
 

@@ -1,5 +1,0 @@
-use Rattle.dlmalloc.proofs.Blocks.Chunks.{blocks_apart}
-use Rattle.dlmalloc.proofs.heap.Dlmalloc.blocks_are_apart.Goals as goal
-
-pub returns : goal.returns
-returns g c = blocks_apart c.requires

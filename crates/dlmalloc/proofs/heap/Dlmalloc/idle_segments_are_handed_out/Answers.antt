@@ -1,5 +1,0 @@
-use Rattle.dlmalloc.proofs.Returns.Idle.{idle_handed_out}
-use Rattle.dlmalloc.proofs.heap.Dlmalloc.idle_segments_are_handed_out.Goals as goal
-
-pub returns : goal.returns
-returns g c = idle_handed_out c.requires (g.A.Allocator.parts c.args.self.now.system)

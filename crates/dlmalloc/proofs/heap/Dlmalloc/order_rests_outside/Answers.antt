@@ -1,9 +1,0 @@
-use Rattle.dlmalloc.proofs.Names.{refl}
-use Rattle.dlmalloc.proofs.Blocks.WordsOutside.{still_binned}
-use Rattle.dlmalloc.proofs.heap.Dlmalloc.order_rests_outside.Goals as goal
-
-pub returns : goal.returns
-returns g c = λ sound system stay outside before. (
-  still_binned sound system stay outside c.index_stays.ensures before,
-  λ n. refl,
-)

@@ -1,5 +1,0 @@
-use Rattle.dlmalloc.proofs.Extents.FreeParted.{each_free}
-use Rattle.dlmalloc.proofs.heap.Dlmalloc.unused_segments_are_free.Goals as goal
-
-pub returns : goal.returns
-returns g c = each_free c.requires.sound c.requires.unused
